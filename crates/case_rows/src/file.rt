@@ -3,9 +3,9 @@ use crate::row::Row;
 use std::rt::Files;
 use std::{fs, io};
 
-/// The rows of a file, in order.
+/// Returns the rows of a file, in order.
 ///
-/// The errors are those of reading it, as `NotFound`, `InvalidData` where it is not UTF-8, and `OutOfMemory`.
+/// The errors are those of reading it, such as `NotFound`, `InvalidData` if it is not UTF-8, and `OutOfMemory`.
 pub fn rows<R: Files + AllocGlobal>(rt: &R, path: &str) -> io::Result<Vec<Row>> {
     let text = fs::read_to_string(rt, path)?;
     let mut rows = Vec::new(rt.alloc());

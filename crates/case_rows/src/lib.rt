@@ -1,7 +1,7 @@
-//! Rows of cases, for the programs that call a crate on data and print what it answers.
+//! Rows of cases, for the programs that call a crate on data and print what it returns.
 //!
-//! A file of cases has one row a line, its fields cut at tabs. Empty lines and lines that begin with `#` are no rows. In a
-//! field `%` with two hexadecimal digits is a byte, so a field holds any bytes.
+//! A file of cases has one row per line, with its fields separated by tabs. Empty lines and lines that begin with `#`
+//! are not rows. In a field `%` with two hexadecimal digits is a byte, so a field can hold any bytes.
 #![tactic(auto)]
 
 mod file;

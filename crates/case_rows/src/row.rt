@@ -10,7 +10,7 @@ pub struct Row {
 }
 
 impl Row {
-    /// The row that is written in this line.
+    /// Reads the row from this line.
     pub(crate) fn new(alloc: Global, line: &str) -> Result<Row, AllocError> {
         let mut fields = Vec::new(alloc);
         for written in line.split('\t') {
@@ -21,12 +21,12 @@ impl Row {
         Ok(Row { fields })
     }
 
-    /// How many fields the row has, one at least.
+    /// Returns the number of fields in the row, at least one.
     pub fn field_count(&self) -> usize {
         self.fields.len()
     }
 
-    /// The bytes of a field, the first being 0. Where the row has no such field, the error is `UnexpectedEof`.
+    /// Returns the bytes of a field, counted from 0. The error is `UnexpectedEof` if the row has no such field.
     pub fn bytes(&self, field: usize) -> io::Result<&[u8]> {
         match self.fields.get(field) {
             Some(bytes) => Ok(bytes.as_slice()),
@@ -34,7 +34,7 @@ impl Row {
         }
     }
 
-    /// The text of a field, as `bytes`. Where it is not UTF-8, the error is `InvalidData`.
+    /// Returns the text of a field, as `bytes` does. The error is `InvalidData` if it is not UTF-8.
     pub fn text(&self, field: usize) -> io::Result<&str> {
         match str::from_utf8(self.bytes(field)?) {
             Ok(text) => Ok(text),

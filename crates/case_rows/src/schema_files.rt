@@ -3,8 +3,9 @@ use crate::row::Row;
 use std::alloc::Global;
 use std::io;
 
-/// The files from the second field on: a name, a text and how often it stands there, for each text. In a text `^` stands for a
-/// number, which is 0 at first and greater by one each time, and `^+` for the next one. Texts of one name in turn are one file.
+/// Returns the files from the second field on. Each text has a name, the text and how often it is repeated. In a text
+/// `^` is replaced by a number, which is 0 at first and increases by one with each repetition, and `^+` by the next
+/// number. Consecutive texts with the same name are one file.
 pub fn files_of(alloc: Global, row: &Row) -> io::Result<Vec<(String, Vec<u8>)>> {
     let mut files = Vec::new(alloc);
     for field in (1..row.field_count()).step_by(3) {
@@ -18,7 +19,7 @@ pub fn files_of(alloc: Global, row: &Row) -> io::Result<Vec<(String, Vec<u8>)>> 
     Ok(files)
 }
 
-/// Takes back what the last file has, if it is of this name.
+/// Removes and returns the bytes of the last file, if it has this name.
 fn contents_so_far(alloc: Global, files: &mut Vec<(String, Vec<u8>)>, name: &str) -> Vec<u8> {
     if let Some((last, _)) = files.last() {
         if last.as_str() == name {
@@ -30,7 +31,7 @@ fn contents_so_far(alloc: Global, files: &mut Vec<(String, Vec<u8>)>, name: &str
     Vec::new(alloc)
 }
 
-/// Adds a text this many times, each with its number.
+/// Adds a text this many times, each time with its number.
 fn append(alloc: Global, bytes: &mut Vec<u8>, text: &str, times: u32) -> io::Result<()> {
     for number in 0..times {
         append_numbered(alloc, bytes, text, number)?;

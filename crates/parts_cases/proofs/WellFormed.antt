@@ -1,4 +1,4 @@
--- Documents that are well formed, part by part.
+-- Well-formed documents, part by part.
 use Rattle.std.specs.Bool.{OnTrue}
 use Rattle.std.proofs.lemmas.List.{length-drop, take_all}
 use Rattle.std.proofs.Common.{◌≡◌, ◌≤◌, ◌-◌, ◌∙◌, drop, take, ℕ, suc, zero, ◌<◌, List, [], ◌∷◌, map, length, get_or, Bool, true, false, not, Vec, Global, refl}
@@ -67,7 +67,7 @@ pub not_same : {P Q : Type 0} (b : Bool) → (P → b ≡ true) → ((P → ⊥)
 not_same true f g = tt
 not_same false f g = g (λ p. let e = f p in absurd (cc))
 
--- an element whose attributes and children are so is well formed
+-- an element with well-formed attributes and children is well formed
 pub whole_well_formed : (item : source.Item) (name : Name) (attrs : Vec Attr Global) (children : Vec source.Item Global) → item ≡ Element name attrs children
     → Distinct (map attribute_of attrs.items) → Separate (map item_of children.items) →
     ((k : ℕ) (d : source.Item) → k < length children.items → IsWellFormed (item_of (get_or children.items k d))) → IsWellFormed (item_of item)
@@ -75,6 +75,6 @@ whole_well_formed item name attrs children e distinct separate all =
     subst IsWellFormed (sym (element_is item name attrs children e))
     (distinct, subst Separate (sym (list_of-items (map item_of children.items))) separate, all_well_formed item_of children.items all)
 
--- the list behind the first item, as a slice pattern gives it
+-- the list after the first item, as a slice pattern gives it
 pub rest_of : {X : Type 0} (xs : List X) → take (length xs - 1) (drop 1 xs) ≡ drop 1 xs
 rest_of {X} xs = take_all _ _ (omega (arith, length-drop 1 xs))

@@ -1,4 +1,4 @@
-// Grammars, built of what fits.
+// Grammars, built from what fits.
 ghost use Rattle.std.specs.Prelude.{All, IfSome};
 ghost use Rattle.std.specs.Bool.{OnTrue};
 ghost use Rattle.rng_model.specs.simple.Table.{AreChildrenBelow, IsClassPaired, IsDatatypeKnown, IsLeafListed, IsPaired};
@@ -8,7 +8,7 @@ use rng_model::{NameClass, PatternId, Simple, SimpleGrammar};
 use std::alloc::Global;
 use std::marker::Model;
 
-/// A grammar that is being built, with refs to this many elements; it notes what it could not take.
+/// A grammar that is being built, with refs to this many elements. It records whether something was rejected.
 #[derive(Drop)]
 pub struct GrammarBuilder {
     patterns: Vec<Simple>,
@@ -48,7 +48,7 @@ impl GrammarBuilder {
         }
     }
 
-    /// Adds a pattern whose children are there, of the kinds that documents are judged by.
+    /// Adds a pattern whose children are there, of the kinds that the matcher over trees supports, or rejects it.
     pub fn add(&mut self, pattern: Simple) {
         if !fits(&pattern, self.patterns.len(), self.count) {
             self.is_whole = false;
@@ -59,17 +59,17 @@ impl GrammarBuilder {
         }
     }
 
-    /// Notes that something was not taken.
+    /// Records that something was rejected.
     pub fn refuse(&mut self) {
         self.is_whole = false;
     }
 
-    /// The last pattern.
+    /// Returns the last pattern.
     pub fn last(&self) -> PatternId {
         PatternId(self.patterns.len().saturating_sub(1))
     }
 
-    /// Adds the next element, with any name class whose choices have two members each.
+    /// Adds the next element. The choices of its name class must have two members each.
     pub fn list(&mut self, class: NameClass, body: PatternId) {
         if body.0 >= self.patterns.len() || !is_paired(&class) {
             self.is_whole = false;
@@ -80,7 +80,7 @@ impl GrammarBuilder {
         }
     }
 
-    /// The grammar, where all was taken and all its elements are listed.
+    /// Returns the grammar, if nothing was rejected and all its elements are listed.
     pub fn finish(self, start: PatternId) -> Option<SimpleGrammar>
         ensures { IfSome result (λ g. All IsOfFirstKind g.patterns) }
     {
@@ -91,7 +91,7 @@ impl GrammarBuilder {
     }
 }
 
-/// Whether each choice in a class has two members.
+/// Returns true only if each choice in a class has two members.
 fn is_paired(class: &NameClass) -> bool
     ensures { OnTrue result (IsPaired class.now) }
 {
@@ -105,8 +105,8 @@ fn is_paired(class: &NameClass) -> bool
     }
 }
 
-/// Whether a pattern is of the kinds that documents are judged by, its children are below `next`, its ref below `count`,
-/// and its name class is paired.
+/// Returns true only if a pattern is of the kinds that the matcher over trees supports. Its children must be below
+/// `next`, its ref below `count`, and its name class must be paired.
 fn fits(pattern: &Simple, next: usize, count: usize) -> bool
     ensures inside { OnTrue result (AreChildrenBelow next pattern.now × IsLeafListed count pattern.now) }
     ensures paired { OnTrue result (IsClassPaired pattern.now) }

@@ -1,6 +1,7 @@
-//! Prints what calls answer for rows, a line a row: of texts of schema files, of names, of datatypes, and of what all crates share.
+//! Prints what calls return for rows, one line per row: calls on texts of schema files, on names, on datatypes, and on
+//! what all crates share.
 //!
-//! The rows of each stand in a file of their own, and what they are says the module that reads them.
+//! The rows of each are in a file of their own. The module that reads them describes them.
 #![tactic(auto)]
 
 mod grammar_builder;

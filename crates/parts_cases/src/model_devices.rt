@@ -1,9 +1,9 @@
-// Devices over readers and writers that work, and over ones that do not.
+// Devices over readers and writers that work, and over some that fail.
 use rng_model::{Device, DeviceFault};
 use std::io;
 use std::io::{Read, Write};
 
-/// A reader that fails at each call, as one that is interrupted.
+/// A reader that fails at each call, as if it were interrupted.
 #[derive(Drop)]
 struct Interrupted;
 
@@ -13,7 +13,7 @@ impl Read for Interrupted {
     }
 }
 
-/// A writer that takes this many bytes at most in a call.
+/// A writer that takes at most this many bytes in a call.
 #[derive(Drop)]
 struct Narrow(usize);
 
@@ -27,7 +27,7 @@ impl Write for Narrow {
     }
 }
 
-/// Prints what three reads of four bytes answer, of the text or, where that is empty, of a reader that fails.
+/// Prints what three reads of four bytes return: reads of the text or, if that is empty, of a reader that fails.
 pub fn print_reads(rt: &impl Print, text: &str) -> io::Result<()> {
     if text.is_empty() {
         return read_three(rt, Device::new(Interrupted));
@@ -45,7 +45,7 @@ fn read_three<R: Read + Drop>(rt: &impl Print, mut device: Device<R>) -> io::Res
     println!(rt; "{} failed", device.failures())
 }
 
-/// Prints what writes of the text and of nothing answer, where two bytes are taken in a call, and where none are.
+/// Prints what writes of the text and of nothing return, if two bytes are taken in a call, and if none are.
 pub fn print_writes(rt: &impl Print, text: &str) -> io::Result<()> {
     for most in [2, 0] {
         let mut device = Device::new(Narrow(most));

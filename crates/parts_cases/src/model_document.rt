@@ -2,7 +2,7 @@
 use rng_model::{Attr, Item, Name};
 use std::alloc::{AllocError, Global};
 
-/// An element that has begun and not ended.
+/// An element that has begun and has not ended.
 #[derive(Drop)]
 struct Open {
     name: Name,
@@ -10,9 +10,9 @@ struct Open {
     children: Vec<Item>,
 }
 
-/// The root of a document in lines that are parted by `/`, or `None` where there is none or no memory for it.
+/// Returns the root of a document in lines that are separated by `/`, or `None` if there is none or memory ran out.
 ///
-/// Of `N*LINE` the line stands N times.
+/// `N*LINE` is the line N times.
 pub fn read_document(alloc: Global, lines: &str) -> Option<Item> {
     let mut open = Vec::new(alloc);
     for written in lines.split('/') {
@@ -26,7 +26,7 @@ pub fn read_document(alloc: Global, lines: &str) -> Option<Item> {
     None
 }
 
-/// Adds a line, and answers the root where the line ends it.
+/// Adds a line, and returns the root if the line ends it.
 fn add_line(alloc: Global, open: &mut Vec<Open>, line: &str) -> Result<Option<Item>, AllocError> {
     if let Some(local) = line.strip_prefix('(') {
         let element = Open {
@@ -65,7 +65,7 @@ fn add_part(alloc: Global, element: &mut Open, line: &str) -> Result<(), AllocEr
     Ok(element.attrs.push(attr)?)
 }
 
-/// Puts an element into the open one, or answers it where none is open.
+/// Puts an element into the open one, or returns it if none is open.
 fn close(open: &mut Vec<Open>, ended: Open) -> Result<Option<Item>, AllocError> {
     let Open {
         name,
@@ -85,7 +85,7 @@ fn close(open: &mut Vec<Open>, ended: Open) -> Result<Option<Item>, AllocError> 
     Ok(None)
 }
 
-/// A name without a namespace.
+/// Returns a name without a namespace.
 fn named(alloc: Global, local: &str) -> Result<Name, AllocError> {
     Ok(Name {
         ns: String::new(alloc),

@@ -1,8 +1,8 @@
-// Prints what `rng_model` and `rng_tree_matcher` answer for each row of `model.txt`, a line a row.
+// Prints what `rng_model` and `rng_tree_matcher` return for each row of `model.txt`, one line per row.
 //
-// A row is a call and what it is of. `grammar` has the number of its elements and its tables, and prints nothing; `document`
-// has the lines of a document, parted by `/`, which is judged by the grammar before it. `reads` and `writes` count what fails
-// of working devices and of broken ones. The other calls are those of texts.
+// A row is a call and its argument. `grammar` has the number of its elements and its tables, and prints nothing.
+// `document` has the lines of a document, separated by `/`, which is judged by the grammar before it. `reads` and
+// `writes` count the failed calls of working devices and of broken ones. The other calls are calls on texts.
 ghost use Rattle.std.specs.Prelude.{All, IfSome};
 ghost use Rattle.rng_tree_matcher.specs.plain.FirstKind.{IsOfFirstKind};
 
@@ -16,7 +16,7 @@ use rng_tree_matcher::is_valid;
 use std::io;
 use std::rt::Files;
 
-/// Prints what is answered for each row of `model.txt`.
+/// Prints a line for each row of `model.txt`.
 pub fn print_all(rt: &(impl Files + Print + AllocGlobal)) -> io::Result<()> {
     let mut grammar = None;
     'rows: for row in rows(rt, "model.txt")? {
@@ -30,7 +30,7 @@ pub fn print_all(rt: &(impl Files + Print + AllocGlobal)) -> io::Result<()> {
     Ok(())
 }
 
-/// Prints what a call answers.
+/// Prints what a call returns.
 fn print_answer(
     rt: &(impl Print + AllocGlobal),
     grammar: &Option<SimpleGrammar>,

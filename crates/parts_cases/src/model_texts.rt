@@ -5,7 +5,7 @@ use rng_model::{
 };
 use std::io;
 
-/// Prints what a call answers of a text; of a test of characters an answer for each, `y` or `n`.
+/// Prints what a call returns for a text. A test of characters prints `y` or `n` for each.
 pub fn print_answer(rt: &(impl Print + AllocGlobal), call: &str, text: &str) -> io::Result<()> {
     match call {
         "collapse" => print_collapsed(rt, text),
@@ -37,7 +37,7 @@ fn print_collapsed(rt: &(impl Print + AllocGlobal), text: &str) -> io::Result<()
     }
 }
 
-/// Prints the pieces of a text as they are split off at once.
+/// Prints the pieces of a text, all split off at once.
 fn print_split(rt: &(impl Print + AllocGlobal), text: &str) -> io::Result<()> {
     match split_blanks(rt.alloc(), text) {
         Ok(pieces) => {

@@ -1,4 +1,4 @@
-// Name classes in the words of a row, each of which makes a class of those that stand before it:
+// Name classes in the words of a row. Each word makes a class, some of them from those before it:
 //
 //     *      every name
 //     -      every name but those of the class before it
@@ -11,7 +11,7 @@ use rng_model::{Name, NameClass};
 use std::alloc::Global;
 use std::io;
 
-/// The name that a word is: its namespace, a colon and its local name.
+/// Returns the name that a word is: its namespace, a colon and its local name.
 pub fn name_in(alloc: Global, word: &str) -> io::Result<Name> {
     let Some((ns, local)) = word.split_once(':') else {
         return Err(io::Error::from(io::ErrorKind::InvalidData));
@@ -22,7 +22,7 @@ pub fn name_in(alloc: Global, word: &str) -> io::Result<Name> {
     })
 }
 
-/// The class that is written in words.
+/// Returns the class that is written in words.
 pub fn class_in(alloc: Global, text: &str) -> io::Result<NameClass> {
     let mut made = Vec::new(alloc);
     for word in text.split(' ') {
@@ -31,14 +31,14 @@ pub fn class_in(alloc: Global, text: &str) -> io::Result<NameClass> {
     last(&mut made)
 }
 
-/// Adds the class that a word makes of those before it.
+/// Adds the class that a word makes from those before it.
 fn push_class(alloc: Global, word: &str, made: &mut Vec<NameClass>) -> io::Result<()> {
     let class = class_by(alloc, word, made)?;
     made.push(class)?;
     Ok(())
 }
 
-/// The class that a word makes of those before it, which are taken from them.
+/// Returns the class that a word makes from those before it, which are removed.
 fn class_by(alloc: Global, word: &str, made: &mut Vec<NameClass>) -> io::Result<NameClass> {
     match word {
         "*" => Ok(NameClass::Any),
@@ -49,7 +49,7 @@ fn class_by(alloc: Global, word: &str, made: &mut Vec<NameClass>) -> io::Result<
     }
 }
 
-/// The last of some classes, taken from them.
+/// Removes and returns the last class.
 fn last(made: &mut Vec<NameClass>) -> io::Result<NameClass> {
     match made.pop() {
         Some(class) => Ok(class),
@@ -57,14 +57,14 @@ fn last(made: &mut Vec<NameClass>) -> io::Result<NameClass> {
     }
 }
 
-/// The choice of the last two classes.
+/// Returns the choice of the last two classes.
 fn choice(alloc: Global, made: &mut Vec<NameClass>) -> io::Result<NameClass> {
     let second = last(made)?;
     let first = last(made)?;
     Ok(NameClass::Choice(vec![in alloc; first, second]?))
 }
 
-/// The class that a word with a colon makes.
+/// Returns the class that a word with a colon makes.
 fn in_namespace(alloc: Global, name: Name, made: &mut Vec<NameClass>) -> io::Result<NameClass> {
     match name.local.as_str() {
         "*" => Ok(NameClass::Ns(name.ns)),

@@ -1,6 +1,6 @@
-// Prints what `rng_names` answers for each row of `names.txt`, a line a row.
+// Prints what `rng_names` returns for each row of `names.txt`, one line per row.
 //
-// A row is `contains`, a class and a name, or `overlap` and two classes, which are tried either way round.
+// A row is `contains`, a class and a name, or `overlap` and two classes, which are tried in both orders.
 
 use crate::name_classes::{class_in, name_in};
 use case_rows::{Row, rows};
@@ -9,7 +9,7 @@ use rng_names::{contains, overlap};
 use std::io;
 use std::rt::Files;
 
-/// Prints what is answered for each row of `names.txt`.
+/// Prints a line for each row of `names.txt`.
 pub fn print_all(rt: &(impl Files + Print + AllocGlobal)) -> io::Result<()> {
     let rows = rows(rt, "names.txt")?;
     for row in rows.iter() {
@@ -18,7 +18,7 @@ pub fn print_all(rt: &(impl Files + Print + AllocGlobal)) -> io::Result<()> {
     Ok(())
 }
 
-/// Prints what is answered for a row.
+/// Prints the line of a row.
 fn print_answer(rt: &(impl Print + AllocGlobal), row: &Row) -> io::Result<()> {
     let call = row.text(0)?;
     let other = row.text(2)?;
@@ -29,7 +29,7 @@ fn print_answer(rt: &(impl Print + AllocGlobal), row: &Row) -> io::Result<()> {
     }
 }
 
-/// Prints whether a class holds the name that is written so.
+/// Prints whether a class holds the name that is written like this.
 fn print_contains(
     rt: &(impl Print + AllocGlobal),
     class: &NameClass,
@@ -40,8 +40,7 @@ fn print_contains(
     println!(rt; "{holds}")
 }
 
-/// Prints whether a class and the one that is written so overlap, by the first with the second and by the second with
-/// the first.
+/// Prints whether a class and the one that is written like this overlap, first in this order and then in the other.
 fn print_overlap(
     rt: &(impl Print + AllocGlobal),
     first: &NameClass,

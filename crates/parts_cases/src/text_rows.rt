@@ -1,13 +1,13 @@
-// Prints what `rnc_text` answers for each row of `texts.txt`, a line a row.
+// Prints what `rnc_text` returns for each row of `texts.txt`, one line per row.
 //
-// A row is a call and bytes: of `decode` the decoded text is printed, of `cut` the tokens of that text, and of either the
-// clause that is broken and its offset.
+// A row is a call and bytes. For `decode` the decoded text is printed, for `cut` the tokens of that text, and for both
+// the clause that is broken and its offset.
 use case_rows::rows;
 use rnc_text::{Text, TextFault, read_text, tokens};
 use std::io;
 use std::rt::Files;
 
-/// Prints what is answered for each row of `texts.txt`.
+/// Prints a line for each row of `texts.txt`.
 pub fn print_all(rt: &(impl Files + Print + AllocGlobal)) -> io::Result<()> {
     let rows = rows(rt, "texts.txt")?;
     for row in rows.iter() {
@@ -16,7 +16,7 @@ pub fn print_all(rt: &(impl Files + Print + AllocGlobal)) -> io::Result<()> {
     Ok(())
 }
 
-/// Prints what a call answers for bytes.
+/// Prints what a call returns for bytes.
 fn print_answer(rt: &(impl Print + AllocGlobal), call: &str, bytes: &[u8]) -> io::Result<()> {
     match read_text(rt.alloc(), bytes) {
         Ok(text) if call == "cut" => print_tokens(rt, &text),

@@ -1,15 +1,15 @@
-// Prints what `rng_types` answers for each row of `types.txt`, a line a row.
+// Prints what `rng_types` returns for each row of `types.txt`, one line per row.
 //
-// A row is a call, a library, a type, the texts of the call, and then parameters, each a name and a value. Of `find` the
-// datatype is printed, of `allows` of one text, `equal` of two and `all` of three whether it holds, and of each the fault
-// where there is no such datatype.
+// A row is a call, a library, a type, the texts of the call, and then parameters, each a name and a value. For `find`
+// the datatype is printed. For `allows` of one text, `equal` of two and `all` of three it is printed whether it holds.
+// For each call the fault is printed if there is no such datatype.
 use case_rows::{Row, rows};
 use rng_types::{Builtin, Datatype, TypeFault, are_all_equal};
 use std::alloc::{AllocError, Global};
 use std::io;
 use std::rt::Files;
 
-/// Prints what is answered for each row of `types.txt`.
+/// Prints a line for each row of `types.txt`.
 pub fn print_all(rt: &(impl Files + Print + AllocGlobal)) -> io::Result<()> {
     let rows = rows(rt, "types.txt")?;
     for row in rows.iter() {
@@ -18,7 +18,7 @@ pub fn print_all(rt: &(impl Files + Print + AllocGlobal)) -> io::Result<()> {
     Ok(())
 }
 
-/// Prints what is answered for a row.
+/// Prints the line of a row.
 fn print_row(rt: &(impl Print + AllocGlobal), row: &Row) -> io::Result<()> {
     match found(rt.alloc(), row)? {
         Ok(datatype) => print_answer(rt, row, datatype),
@@ -26,7 +26,7 @@ fn print_row(rt: &(impl Print + AllocGlobal), row: &Row) -> io::Result<()> {
     }
 }
 
-/// The datatype of a row, or the fault.
+/// Returns the datatype of a row, or the fault.
 fn found(alloc: Global, row: &Row) -> io::Result<Result<Builtin, TypeFault>> {
     let texts = text_count(row.text(0)?);
     let library = row.text(1)?;
@@ -35,7 +35,7 @@ fn found(alloc: Global, row: &Row) -> io::Result<Result<Builtin, TypeFault>> {
     Ok(Builtin::find(library, name, parameters.as_slice()))
 }
 
-/// How many texts a call takes.
+/// Returns the number of texts that a call takes.
 fn text_count(call: &str) -> usize {
     match call {
         "allows" => 1,
@@ -45,7 +45,7 @@ fn text_count(call: &str) -> usize {
     }
 }
 
-/// The parameters of a row, which stand from a field on.
+/// Returns the parameters of a row, which are the fields from this one on.
 fn parameters(alloc: Global, row: &Row, first: usize) -> io::Result<Vec<(String, String)>> {
     let mut all = Vec::new(alloc);
     for field in (first..row.field_count()).step_by(2) {
@@ -54,7 +54,7 @@ fn parameters(alloc: Global, row: &Row, first: usize) -> io::Result<Vec<(String,
     Ok(all)
 }
 
-/// A parameter of this name and value.
+/// Returns a parameter with this name and value.
 fn parameter(alloc: Global, name: &str, value: &str) -> Result<(String, String), AllocError> {
     Ok((
         String::from_str(alloc, name)?,
@@ -62,7 +62,7 @@ fn parameter(alloc: Global, name: &str, value: &str) -> Result<(String, String),
     ))
 }
 
-/// Prints what a datatype answers for the texts of a row.
+/// Prints what a datatype returns for the texts of a row.
 fn print_answer(rt: &impl Print, row: &Row, datatype: Builtin) -> io::Result<()> {
     let holds = match row.text(0)? {
         "allows" => datatype.allows(row.text(3)?),

@@ -1,4 +1,4 @@
-// What `is_valid` asks of a document.
+// What `is_valid` requires of a document.
 ghost use Rattle.std.specs.Prelude.{◌≡◌, IsTrue, map};
 ghost use Rattle.std.specs.Bool.{OnTrue};
 ghost use Rattle.rng_model.specs.matching.WellFormed.{Distinct, IsWellFormed};
@@ -7,7 +7,7 @@ ghost use Rattle.parts_cases.specs.plain.Separate.{StaysSeparate, is_text};
 
 use rng_model::{Attr, Item};
 
-/// Whether a document is well formed, of those with at most two attributes in each element.
+/// Returns true only if a document is well formed and has at most two attributes in each element.
 pub fn is_well_formed(item: &Item) -> bool
     ensures { OnTrue result (IsWellFormed (item_of item.now)) }
 {
@@ -51,7 +51,7 @@ fn same_local(first: &Attr, second: &Attr) -> bool
     first.name.local.as_str() == second.name.local.as_str()
 }
 
-/// Whether no two strings stand side by side, nor one behind a string before.
+/// Returns true only if no two strings are side by side, and none is first if `after_text` is true.
 fn are_separate(children: &[Item], after_text: bool) -> bool
     ensures { OnTrue result (StaysSeparate after_text (map item_of children.now)) }
 {

@@ -6,11 +6,12 @@ use crate::grammar_builder::GrammarBuilder;
 use rng_model::{ElementId, Name, NameClass, PatternId, Simple, SimpleGrammar};
 use std::alloc::{AllocError, Global};
 
-/// The grammar with this many elements whose tables are written so.
+/// Reads the grammar with this many elements and these tables.
 ///
-/// The patterns are `notAllowed`, `empty`, `text`, `eN` for the element N, `@CLASS N`, `N,M` and `N|M`; `twice K` stands for
-/// K groups, each of the pattern before it twice, and `groups K` and `choices K` for K groups or choices of the pattern
-/// before them with that pattern, with another choice before each. An element is its name class and its body, as `CLASS N`.
+/// The patterns are `notAllowed`, `empty`, `text`, `eN` for the element N, `@CLASS N`, `N,M` and `N|M`. `twice K` is K
+/// groups, each of the pattern before it twice. `groups K` and `choices K` are K groups or choices of the pattern
+/// before them with that pattern, with another choice before each. An element is its name class and its body, as `CLASS
+/// N`.
 pub fn read_grammar(alloc: Global, count: &str, tables: &str) -> Option<SimpleGrammar>
     ensures { IfSome result (λ g. All IsOfFirstKind g.patterns) }
 {
@@ -48,7 +49,7 @@ fn add_entry(alloc: Global, builder: &mut GrammarBuilder, word: &str, of: &str, 
     }
 }
 
-/// A pattern without a name class.
+/// Returns a pattern without a name class.
 fn pattern_of(word: &str) -> Simple {
     if let Some((first, second)) = word.split_once(',') {
         return Simple::Group(place(first), place(second));
@@ -73,13 +74,13 @@ fn place(number: &str) -> PatternId {
     PatternId(number.parse::<usize>().unwrap_or(0))
 }
 
-/// An attribute of names of this class.
+/// Returns an attribute with names of this class.
 fn attribute_of(alloc: Global, class: &str, body: PatternId) -> Result<Simple, AllocError> {
     let class = class_of(alloc, class)?;
     Ok(Simple::Attribute(Box::new(alloc, class)?, body))
 }
 
-/// A name class: `*`, `NS:*`, a name, or `*-A|B` for every name but two.
+/// Returns a name class: `*`, `NS:*`, a name, or `*-A|B` for every name but two.
 fn class_of(alloc: Global, written: &str) -> Result<NameClass, AllocError> {
     if let Some(two) = written.strip_prefix("*-") {
         let (first, second) = two.split_once('|').unwrap_or((two, two));
@@ -93,7 +94,7 @@ fn class_of(alloc: Global, written: &str) -> Result<NameClass, AllocError> {
     }
 }
 
-/// The class of a name without a namespace.
+/// Returns the class of a name without a namespace.
 fn named(alloc: Global, local: &str) -> Result<NameClass, AllocError> {
     Ok(NameClass::Name(Name {
         ns: String::new(alloc),
@@ -109,7 +110,7 @@ fn add_twice(builder: &mut GrammarBuilder, count: usize) {
     }
 }
 
-/// Adds groups or choices, each of the one before it and of the pattern at hand, with another choice before each.
+/// Adds groups or choices, each of the one before it and of the last pattern, with another choice before each.
 fn add_many(builder: &mut GrammarBuilder, group: bool, count: usize) {
     let member = builder.last();
     let mut last = member;

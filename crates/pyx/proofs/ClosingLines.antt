@@ -1,4 +1,4 @@
--- Lines that break nothing but P13 go on to a document: the end tags of what is open.
+-- Lines that break nothing except P13 can be continued to a document, by the end tags of the open elements.
 use Rattle.std.proofs.Common.{◌≡◌, ℕ, ◌+◌, Bool, true, false, cond, eqb, List, [], ◌∷◌, ◌++◌, length, None, Ok}
 use Rattle.std.proofs.Common.{refl, sym, ap, subst, ◌∙◌, arith, append_assoc, lit<, codes}
 use Rattle.std.specs.List.{All, AllByRecursion}
@@ -36,7 +36,7 @@ unfoldable unlines : List Line → List ℕ
 unlines [] = []
 unlines (l ∷ ls) = l.bytes ++ 10 ∷ unlines ls
 
--- the line is ended, and has no line feed
+-- the line is ended, and contains no line feed
 pub record IsWhole (l : Line) : Type 0 where
   pub ended : l.ended ≡ true
   pub no_feed : at_byte 10 l.bytes ≡ None
@@ -127,7 +127,7 @@ closing_whole (one_closed l g n c) = (record { ended = g.ended; no_feed = n }, c
 
 -- ---- from a state to the end
 
--- these lines end the document, and hand out these first
+-- these lines end the document, and hand out these events first
 pub record Finishes (s : State) (pending : List Event) : Type 0 where
   pub behind : List Line
   pub whole : AllByRecursion IsWhole behind
@@ -174,7 +174,7 @@ finishes_closing {ls = ls} c k = record {
   ends = ends_here k.last;
 }
 
--- inside elements a root has begun
+-- inside elements there is a root
 opened_root : {front : List Line} {tag : clauses.Tag} {outer : List clauses.Tag} → AreOpenTags front (tag ∷ outer) → has_root front ≡ true
 opened_root {front} {tag} {outer} d = go d refl where
   go : {tags : List clauses.Tag} → AreOpenTags front tags → tags ≡ tag ∷ outer → has_root front ≡ true
@@ -186,7 +186,7 @@ matched_root : {front : List Line} {tags : List clauses.Tag} {o : Open} {os : Li
     → has_root front ≡ true
 matched_root d (one_matched s p n m) = opened_root d
 
--- ---- where there is no root
+-- ---- without a root
 
 abbrev a_name : WrittenName
 a_name = record { prefix = None; local = codes "a" }
@@ -209,7 +209,7 @@ a_read : tag_read [] a_name [] [] ≡ Ok a_element
 unfolding tag_read element_name expanded namespace_of found_in any_forbidden is_written_twice is_named_twice
 a_read = refl
 
--- ---- each state that breaks nothing but P13
+-- ---- each state that breaks nothing except P13
 
 finishes_tag : {os : List Open} {ls : List Line} (t : Tag) (n : ℕ) (e : Element) → tag_read (declared_in os) t.name t.declared t.others ≡ Ok e
     → Closing (open_of t ∷ os) ls → Finishes (in_tag os t n) (start_event (n + 1) e)
@@ -294,7 +294,7 @@ at_lines bytes ls last es e d =
     let c = complete bytes t.0 t.1 in
     (t.0, t.1, events_same (sym c.is ∙ q))
 
--- lines that are read go on to a document
+-- lines that are read can be continued to a document
 pub goes_on : (front : List Line) (s : State) (es pending : List Event) → AllByRecursion IsWhole front → all_read front nothing_read ≡ good s es
     → Finishes s pending → BeginsDocument front (es ++ pending)
 goes_on front s es pending w e f =

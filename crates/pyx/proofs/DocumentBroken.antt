@@ -1,4 +1,4 @@
--- Each fault that is answered is a clause that is broken at that line.
+-- Each fault that is returned is a clause that is broken at that line.
 use Rattle.std.proofs.Common.{◌≡◌, ℕ, ◌+◌, ◌≤◌, ◌<◌, Bool, true, false, cond, ◌&&◌, List, [], ◌∷◌, ◌++◌, length, Option, Some, None, Result, Ok, Err}
 use Rattle.std.proofs.Common.{refl, sym, ap, subst, ◌∙◌, arith, append_assoc, ◌⊎◌, inl, inr, lit≤}
 use Rattle.std.specs.Prelude.{◌==◌, ◌≢◌, is_some}
@@ -36,7 +36,7 @@ at clause line = record { clause = clause; line = line }
 abbrev pub failed : {A : Type 0} → ℕ → ℕ → Result A Fault
 failed clause line = Err (at clause line)
 
--- the tag that these lines end in breaks this clause
+-- the tag at the end of these lines breaks this clause
 pub record TagBreaks (front : List Line) (clause : ℕ) : Type 0 where
   pub outer : Scope
   pub name : WrittenName
@@ -44,7 +44,7 @@ pub record TagBreaks (front : List Line) (clause : ℕ) : Type 0 where
   pub ends : EndsWithTag front outer name written
   pub breaks : ((clause ≡ 11) × BreaksNamespaces outer name written) ⊎ ((clause ≡ 12) × RepeatsName outer written)
 
--- what a line behind these is read as
+-- the result of reading a line after these
 pub data LineTells (front : List Line) (l : Line) (turn : Turn State) : Type 0 where
   goes_on : {u : State} → turn.0 ≡ Ok u → Place (front ++ l ∷ []) u → LineTells front l turn
   breaks_here : (clause : ℕ) → turn.0 ≡ failed clause (length front + 1) → clause ≤ 10 → ((behind : List Line) → BreaksHere front l behind clause)
@@ -61,7 +61,7 @@ retold e (tag_breaks k q b n) = tag_breaks k (e ∙ q) b n
 none_open_by : {front : List Line} {tags : List clauses.Tag} → AreOpenTags front tags → AreMatched tags [] → AreOpenTags front []
 none_open_by d none_matched = d
 
--- an end tag of another name
+-- an end tag with another name
 other_end : {front : List Line} {l : Line} {tags : List clauses.Tag} {o : Open} {os : List Open} {name : WrittenName} → IsGoodLine l (said.end name)
     → AreOpenTags front tags → AreMatched tags (o ∷ os) → o.name ≢ name → (behind : List Line) → BreaksHere front l behind 8
 other_end {front} {l} {o = o} {name = name} g d (one_matched {tag} s p n m) differs behind =
@@ -155,7 +155,7 @@ within_few (said.bad_end_name e n) = lit≤ tt
 within_few (said.bad_attribute_name e c n) = lit≤ tt
 within_few (said.no_space e n) = lit≤ tt
 
--- such a clause is at most 6, or the line is too long
+-- a clause that a line breaks by itself is at most 6, or the line is too long
 pub alone_few : {l : Line} {k : ℕ} → BreaksAlone l k → (k ≤ 6) ⊎ ((k ≡ 10) × (line_limit < length l.bytes))
 alone_few (within h b) = inl (within_few b)
 alone_few (too_long h) = inr (refl, h)
@@ -278,7 +278,7 @@ some_fault e = cc
 none_fault : {f : Fault} → None ≡ Some f → ⊥
 none_fault e = cc
 
--- what the end says
+-- the result at the end
 pub data EndTells (all : List Line) (o : Option Fault) : Type 0 where
   ends_well : o ≡ None → EndTells all o
   ends_open : o ≡ Some (at 13 (length all)) → Breaks all (at 13 (length all)) → EndTells all o
@@ -374,7 +374,7 @@ broken_from (l ∷ ls) front s f p e = go (to_end_cons l ls s f e) (λ u q. brok
   go (inl q) more = broken_first ls s (line_tells l p) q
   go (inr q) more = subst (λ (x : List Line). Breaks x f) (append_assoc front (l ∷ []) ls) (more q.0 (next_place s (line_tells l p) q.1) q.2)
 
--- what is answered is broken
+-- the fault that is returned is broken
 pub broken : (all : List Line) (f : Fault) → (document_read all).0 ≡ Err f → Breaks all f
 unfolding document_read
 broken all f e = broken_from all [] nothing_read f place_first e

@@ -46,7 +46,7 @@ attribute_longer front a t b s = go (declared_by a.name) refl where
   go None e = record { name = refl; split = split_other s a e }
   go (Some p) e = record { name = refl; split = split_declaration s a p e }
 
--- what the lines of a tag are read as
+-- the result of reading the lines of a tag
 record Gathered (bs : List ℕ) (xs : List Said) (os : List Open) (t : Tag) (all : List WrittenAttribute) (n m : ℕ) : Type 0 where
   tag : Tag
   name : tag.name ≡ t.name
@@ -110,7 +110,7 @@ instructions_read (another_instruction {more = xs} d) bs n m root e =
 
 -- ---- content
 
--- what content leaves: a joined text, whose event comes at the line behind it
+-- the state after content: a joined text, whose event comes at the line after it
 record Inner (bs : List ℕ) (xs : List Said) (kids : PlacedItems) (o : Open) (os : List Open) (n m : ℕ) : Type 0 where
   joined : List ℕ
   sent : List Event
@@ -144,7 +144,7 @@ more_content bs xs ys zs all t o os n i j m k tree more kids e d h f g parts p q
   events = rw (q, string_events k t (placed_and tree more), p, g.events, append_assoc, append_assoc) refl;
 }
 
--- ---- what follows a tag begins with no attribute
+-- ---- what follows a tag does not begin with an attribute
 
 abbrev BeginsPlain : List Said → Type 0
 BeginsPlain [] = Unit {0}
@@ -211,7 +211,7 @@ element_joins bs xs ys all name q attrs kids os t root ws n i j m fits h g u fir
     ∙ ap (after_events inner.sent) (end_all (skip ys (skip xs (rest_of bs))) (open_of g.tag) os inner.joined j name g.name))))
     ∙ rw (p, inner.events, append_assoc) refl
 
--- inside a tag its declarations come before those around it
+-- the declarations of a tag come before those around it
 inner_scope : (os : List Open) (o : Open) (ws others : List WrittenAttribute) (outer scope : Scope) (name : WrittenName) (xs : List Said) (q : Name)
     (attrs : List Attribute) → Declares os outer → (t : IsTag outer name xs q attrs scope) → IsSplit ws o.declared others → t.written ≡ ws
     → Declares (o ∷ os) scope
@@ -273,7 +273,7 @@ ends_here : (n : ℕ) → all_ended (inside [] [] n true) ≡ good (inside [] []
 unfolding all_ended at_end
 ends_here n = refl
 
--- how a whole document is read
+-- the result of reading a whole document
 pub record ReadsAll (ls : List Line) (events : List Event) : Type 0 where
   pub last : State
   pub is : document_read ls ≡ good last events

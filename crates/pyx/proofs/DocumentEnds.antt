@@ -26,7 +26,7 @@ ends_badly : (s : State) (f : Fault) → at_end s ≡ Some f → (all_ended s).0
 unfolding all_ended
 ends_badly s f e = rw e refl
 
--- a turn that went well, and then the end
+-- a turn without a fault, and then the end
 pub concludes : (A : Type 0) (handed : List Event → Type 0) (r : Result A PyxFault) (turn : Turn State) (s : State) → turn.0 ≡ Ok s → handed turn.1
     → EndsBy r (at_end s) → Concludes r handed (followed turn all_ended)
 concludes A handed (Ok x) turn s e h n = rw e ((s, ends_well s n), subst handed (sym (ap (λ es. turn.1 ++ es) (all_sends s) ∙ append-nil turn.1)) h)
@@ -34,7 +34,7 @@ concludes A handed (Err pyx.Memory) turn s e h n = tt
 concludes A handed (Err (pyx.At clause line)) turn s e h n =
     rw e (ends_badly s _ n, subst handed (sym (ap (λ es. turn.1 ++ es) (all_sends s) ∙ append-nil turn.1)) h)
 
--- one that went badly
+-- a turn with a fault
 pub refused : (A : Type 0) (handed : List Event → Type 0) (e : PyxFault) (new : State) (turn : Turn State) → Takes {A = A} (Err e) new handed turn
     → Concludes {A = A} (Err e) handed (followed turn all_ended)
 refused A handed pyx.Memory new turn t = tt

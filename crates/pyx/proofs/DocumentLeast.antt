@@ -1,4 +1,4 @@
--- No clause is broken before the fault that is answered.
+-- No clause is broken before the fault that is returned.
 use Rattle.std.proofs.Common.{◌≡◌, ℕ, ◌+◌, ◌≤◌, ◌<◌, Bool, true, false, cond, ◌&&◌, List, [], ◌∷◌, ◌++◌, length, Some, None, Result, Ok, Err}
 use Rattle.std.proofs.Common.{refl, sym, ap, subst, ◌∙◌, arith, append_assoc, ◌⊎◌, inl, inr, lit≤, rules}
 use Rattle.std.specs.Prelude.{◌==◌, ◌≢◌, nat_le}
@@ -39,7 +39,7 @@ use Rattle.pyx.proofs.DocumentBroken.{no_tag_ended, line_tells, next_place, EndT
 use Rattle.pyx.proofs.DocumentBroken.{to_end}
 use Rattle.pyx.proofs.DocumentBroken.{broken, ok_err}
 
--- a fault at this place or before is answered
+-- a fault at this place or before is returned
 pub record AtMost (g : Fault) {A : Type 0} (turn : Turn A) : Type 0 where
   pub answer : Fault
   pub is : turn.0 ≡ Err answer
@@ -94,7 +94,7 @@ module _ (front : List Line) where
   none_to_end c (end_of_other q e) d = refused_at 8 8 e c.count (lit≤ tt)
   none_to_end c (end_of_none e) d = refused_at 8 8 e c.count (lit≤ tt)
 
-  -- the innermost tag's name, as it is written
+  -- the name of the innermost tag, as it is written
   innermost : {o : Open} {os : List Open} {tags outer : List clauses.Tag} {tag : clauses.Tag} → AreOpenTags front tags → AreMatched tags (o ∷ os)
       → AreOpenTags front (tag ∷ outer) → (written : List ℕ) → tag.first.bytes ≡ 40 ∷ written → written_of written ≡ o.name
   innermost {o} {tag = tag} d (one_matched {tag = own} s p n m) e written q =
@@ -159,9 +159,9 @@ module _ (front : List Line) where
   too_long l x c (end_of_other q e) g t h = refused_at 8 10 e c.count (lit≤ tt)
   too_long l x c (end_of_none e) g t h = refused_at 8 10 e c.count (lit≤ tt)
 
-  -- ---- a good line, outside a tag or behind it
+  -- ---- a good line, outside a tag or after it
 
-  -- what holds of each content that the lines can be read as
+  -- what holds for each content as which the lines can be read
   abbrev AtContent : ℕ → Said → Type 0
   AtContent k x = (os : List Open) (w : List ℕ) (n b : ℕ) (root : Bool) (turn : Turn State) → Content front os w n root → Move w n b root os x turn
       → AtMost (at k (length front + 1)) turn
@@ -293,7 +293,7 @@ here_most {front} {l = l} p (clauses.repeated_name {outer} {name} {written} e n 
 rest_tags : {x y : clauses.Tag} {xs ys : List clauses.Tag} → x ∷ xs ≡ y ∷ ys → xs ≡ ys
 rest_tags e = cc
 
--- the clause that a tag is answered
+-- the clause that is returned for a tag
 record Answered (os : List Open) (t : Tag) (k : ℕ) : Type 0 where
   clause : ℕ
   is : tag_read (declared_in os) t.name t.declared t.others ≡ Err clause
@@ -383,7 +383,7 @@ all_append (l ∷ xs) ys s = followed_same (line_read l s) (all_read (xs ++ ys))
 ok_same : {x y : State} → ◌≡◌ {A = Result State Fault} (Ok x) (Ok y) → x ≡ y
 ok_same e = cc
 
--- how far some lines are read
+-- how far the lines are read
 pub data Reached (all : List Line) (turn : Turn State) : Type 0 where
   to_a_place : {s : State} → turn.0 ≡ Ok s → Place all s → Reached all turn
   to_a_fault : (f : Fault) → turn.0 ≡ Err f → f.line ≤ length all → f.clause ≤ 12 → Reached all turn
@@ -426,7 +426,7 @@ at_most_line f k n h c = go (nat_le n f.line) refl where
 failed_most : {A B : Type 0} {g : Fault} (turn : Turn A) (f : A → Turn B) (x : Fault) → turn.0 ≡ Err x → IsBefore x g → AtMost g (followed turn f)
 failed_most turn f x e b = followed_most f (record { answer = x; is = e; before = b })
 
--- after a line of which a tag that ends there breaks a clause
+-- after a line at which a tag ends that breaks a clause
 tag_then : {front behind : List Line} {l : Line} {k : ℕ} (s : State) → LineTells front l (line_read l s) → TagEnds front l behind k
     → AtMost (at k (length front + 1)) (followed (line_read l s) (to_end behind))
 tag_then {front} {behind} {l} {k} s (goes_on {u} e p) t = record { answer = m.answer; is = go (line_read l s).0 (line_read l s).1 e; before = m.before } where
@@ -487,7 +487,7 @@ all_most all n = go (reached all) where
   go (to_a_fault f e h c) = failed_most (reads all) all_ended f e (at_most_line f 13 (length all) h (omega (arith, c)))
   go (to_a_place {s} e p) = at_state e (end_most p (n s p))
 
--- where the end says nothing, nothing is open and a root was there
+-- if the end breaks nothing, nothing is open and there was a root
 end_none : {all : List Line} {s : State} → Place all s → at_end s ≡ None → AreOpenTags all [] × (has_root all ≡ true)
 end_none {all} (at_content {os} {w} {n} {root} c u) e = go os root c (sym (fault_open os w n root) ∙ e) where
   go : (os : List Open) (root : Bool) → Content all os w n root → cond (root && (length os == 0)) None (Some (at 13 n)) ≡ None
@@ -519,7 +519,7 @@ at_most {all} (at_line {before} {behind} {clause} {n} l parts q b) =
 at_most {all} (unfinished d) = all_most all (λ s p e. no_tags (open_same d (end_none p e).0))
 at_most {all} (rootless h) = all_most all (λ s p e. true_false (sym (end_none p e).1 ∙ root_not all h))
 
--- the fault that is answered is the least
+-- the fault that is returned is the least
 pub first_fault : (all : List Line) (f : Fault) → (document_read all).0 ≡ Err f → IsFirstFault all f
 unfolding document_read
 first_fault all f e = record {

@@ -1,4 +1,4 @@
--- What is read to the end is a document. The parts of a document are found from its end: what stands behind a line is read first.
+-- What is read to the end is a document. Its parts are found from its end: what is after a line comes first.
 use Rattle.std.proofs.Common.{◌≡◌, ℕ, suc, ◌+◌, ◌≤◌, ◌<◌, Bool, true, false, cond, ◌&&◌, List, [], ◌∷◌, ◌++◌, length, Option, Some, None, Result, Ok, Err}
 use Rattle.std.proofs.Common.{refl, sym, ap, subst, ◌∙◌, append_assoc, arith}
 use Rattle.std.specs.Prelude.{◌==◌, ◌-◌}
@@ -42,7 +42,7 @@ pub goes_first : {A B : Type 0} (r : Result A Fault) (es : List Event) (f : A �
 goes_first (Ok a) es f b e = (a, refl, e)
 goes_first (Err x) es f b e = absurd (err_ok e)
 
--- a line that is read well says something
+-- a line that is read without a fault has a content
 pub record LineGoes (l : Line) (s u : State) : Type 0 where
   pub says : Said
   pub is : IsGoodLine l says
@@ -56,7 +56,7 @@ line_goes l s u e = go (said_of l) refl (goes_first (tag_ended l.bytes s).0 (tag
   go (Ok x) q p = let g = good_line l x q in record { says = x; is = g; goes = ap (λ (t : Turn State). t.0) (sym (line_said g s)) ∙ e }
   go (Err k) q p = absurd (err_ok (ap (λ (r : Result Said ℕ). (judged (length l.bytes) r (record p.0 { count = p.0.count + 1 })).0) (sym q) ∙ p.2))
 
--- ---- content behind a text that was joined so far
+-- ---- content after a text that is joined so far
 
 data ContentAfter (room : ℕ) (scope : Scope) (n : ℕ) (w : List ℕ) (xs : List Said) (kids : PlacedItems) : Type 0 where
   only_text : {t : List ℕ} → IsRun xs t → length w + length t ≤ text_limit → kids ≡ string_before (n + length xs + 1) (w ++ t) none_placed
@@ -69,7 +69,7 @@ whole_content : {room n : ℕ} {scope : Scope} {xs : List Said} {kids : PlacedIt
 whole_content (only_text r h e) = last_run r (omega (arith, h)) e
 whole_content (and_element r h el c parts e) = run_and_element r (omega (arith, h)) el c parts e
 
--- one line more in front
+-- one more line in front
 next_count : (n : ℕ) (x : Said) (xs : List Said) (k : ℕ) → n + 1 + length xs + k ≡ n + length (x ∷ xs) + k
 next_count n x xs k = omega arith
 
@@ -93,12 +93,12 @@ content_instruction {room} {n} {scope} {w} {xs} (and_element {run} {inner} {more
     (subst (λ (m : ℕ). IsElement room scope m inner tree) i el) (subst (λ (m : ℕ). IsContent room scope (m + length inner) more rest) i c)
     (ap (λ (ys : List Said). said.instruction ∷ ys) parts) (e ∙ rw i refl)
 
--- ---- what stands behind a line
+-- ---- what is after a line
 
 abbrev scope_of : List Open → Scope
 scope_of os = scope_in (declared_in os)
 
--- behind a line inside these elements, with this text joined, come these lines to the end
+-- after a line inside these elements, with this text joined, these lines come to the end
 data Parse : ℕ → List ℕ → List Said → List Open → Bool → Type 0 where
   before_root : {n : ℕ} {w : List ℕ} {xs : List Said} (front root behind : List Said) (tree : Placed) → xs ≡ front ++ (root ++ behind)
       → AreInstructions front → IsElement open_limit [] (n + length front) root tree → AreInstructions behind → Parse n w xs [] false
@@ -107,7 +107,7 @@ data Parse : ℕ → List ℕ → List Said → List Open → Bool → Type 0 wh
       → room + length (o ∷ os) ≡ open_limit → ContentAfter room (scope_of (o ∷ os)) n w content kids → Parse (n + length content + 1) [] more os true
       → xs ≡ content ++ said.end o.name ∷ more → Parse n w xs (o ∷ os) true
 
--- and behind a line of a tag
+-- the same after a line of a tag
 record TagParse (os : List Open) (t : Tag) (front : List WrittenAttribute) (n : ℕ) (xs : List Said) : Type 0 where
   attributes : List Said
   behind : List Said
@@ -186,7 +186,7 @@ tag_ends {os} {t} {front} {n} {xs} e q s h p = record {
   parse = subst (λ (m : ℕ). Parse m [] xs (open_of t ∷ os) true) (omega arith) p;
 }
 
--- an element, and what stands behind it
+-- an element, and what is after it
 record Whole (os : List Open) (n : ℕ) (xs : List Said) : Type 0 where
   room : ℕ
   deep : room + length os ≡ open_limit
@@ -221,7 +221,7 @@ whole_tag {os} {n} {b} {name} {xs} all p =
     whole_by {q = p.e} p.name (is_tag (declared_in os) name p.written p.tag.declared p.tag.others p.is_split all p.attributes p.e p.are_written p.few
     (ap (λ (x : WrittenName). tag_read (declared_in os) x p.tag.declared p.tag.others) (sym p.name) ∙ p.is_read)) p.parts refl p.parse
 
--- an element in what it stands in
+-- an element inside its parent
 parse_root : {n : ℕ} {w : List ℕ} {xs : List Said} → Whole [] n xs → Parse n w xs [] false
 parse_root {n} {w} {xs} k = go k.behind where
   is : IsElement open_limit [] (n + 0) k.all k.tree
@@ -246,13 +246,13 @@ parse_child {n} {w} {xs} {o} {os} h k = go k.behind where
 
 -- ---- all lines
 
--- from this state the lines are read to an end
+-- from this state the lines are read to the end
 record Reads (ls : List Line) (s : State) : Type 0 where
   last : State
   goes : (all_read ls s).0 ≡ Ok last
   ends : at_end last ≡ None
 
--- inside an element a root has begun
+-- inside an element there is a root
 abbrev IsRooted : List Open → Bool → Type 0
 IsRooted [] root = Unit {0}
 IsRooted (o ∷ os) root = root ≡ true
@@ -273,7 +273,7 @@ record TagParsed (ls : List Line) (os : List Open) (t : Tag) (front : List Writt
   good : AreGoodLines ls says
   parse : TagParse os t front n says
 
--- each way to read the lines to an end
+-- each way to read the lines to the end
 record Parses (ls : List Line) : Type 0 where
   outside : (os : List Open) (w : List ℕ) (n : ℕ) (root : Bool) → Fits os w root → Reads ls (inside os w n root) → Parsed ls os w n root
   in_tags : (os : List Open) (t : Tag) (front : List WrittenAttribute) (n : ℕ) → AllDeclared (declared_in os) → length os < open_limit
@@ -312,7 +312,7 @@ parses_nil = record {
   nothing : (os : List Open) (w : List ℕ) (n : ℕ) (root : Bool) → os ≡ [] → root ≡ true → Parsed [] os w n root
   nothing os w n root e f = rw (e, f) (record { says = []; good = no_lines; parse = behind_root no_instructions })
 
--- the next line says this
+-- the next line has this content
 record Next (ls : List Line) (x : Said) (os : List Open) (w : List ℕ) (n : ℕ) (root : Bool) : Type 0 where
   says : List Said
   good : AreGoodLines ls says
@@ -329,7 +329,7 @@ start_parse [] w n false xs f fits k = parse_root k
 start_parse (o ∷ os) w n root xs f fits k = subst (λ (r : Bool). Parse n w xs (o ∷ os) r) (sym f.rooted) (parse_child f.within k)
 
 module _ (l : Line) (ls : List Line) (more : Parses ls) where
-  -- the lines behind are read to an end
+  -- the lines after it are read to the end
   record Behind (turn : Turn State) : Type 0 where
     here : State
     goes : turn.0 ≡ Ok here
@@ -394,7 +394,7 @@ module _ (l : Line) (ls : List Line) (more : Parses ls) where
       (record { here = r.here; goes = sym (ap (λ (y : Turn State). y.0) is) ∙ r.goes; last = r.last; reads = r.reads; ends = r.ends }) in
       (k.says, k.good, tag_ends e q s few k.parse)
 
-  -- what the first line says, and what is read behind it
+  -- the content of the first line, and the result of reading what is after it
   record Begins (s : State) : Type 0 where
     says : Said
     is : IsGoodLine l says

@@ -1,4 +1,4 @@
--- What a text with escapes stands for, as it is read and as it is defined.
+-- The characters of a text with escapes: reading agrees with the definition.
 use Rattle.std.proofs.Common.{◌≡◌, ℕ, Bool, true, false, cond, eqb, List, [], ◌∷◌, Option, Some, None, refl, sym, subst, ◌∙◌}
 use Rattle.std.proofs.lemmas.Bool.{eqb-true}
 use Rattle.rng_model.specs.documents.PyxLines.{StandsFor, at_end, itself, line_feed, tab, backslash, StandsForNothing}

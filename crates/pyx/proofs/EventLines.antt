@@ -1,4 +1,4 @@
--- Each event comes at the line at which it is told: which events come up to a line is a matter of the lines up to it.
+-- Each event is handed out at its line. The events up to a line depend only on the lines up to it.
 use Rattle.std.proofs.Common.{◌≡◌, ℕ, suc, ◌+◌, ◌≤◌, ◌<◌, Bool, true, false, cond, ◌&&◌, List, [], ◌∷◌, ◌++◌, length, take, drop, Option, Some, None}
 use Rattle.std.proofs.Common.{Result, Ok, Err}
 use Rattle.std.proofs.Common.{refl, ap, sym, ◌∙◌, subst, arith, All, zero, append_assoc}
@@ -102,7 +102,7 @@ line_at l s =
 
 -- ---- the events of some lines
 
--- they come behind so many lines, at one of so many
+-- these events come after this many lines, at one of the next lines
 abbrev AreBetween : ℕ → ℕ → List Event → Type 0
 AreBetween n m es = AllByRecursion (λ e. (n < e.line) × (e.line ≤ m)) es
 
@@ -139,7 +139,7 @@ all_counted (l ∷ ls) s u e = go (line_read l s).0 (line_read l s).1 refl e (λ
   go (Ok t) es h e more = let next = (line_keeps l s t h).0 in let rest = more t e in omega (arith, next, rest)
   go (Err f) es h e more = absurd (cc)
 
--- ---- the events of a document, up to a line and behind it
+-- ---- the events of a document, up to a line and after it
 
 ends_silent : (o : Option Fault) (s : State) → (at_last o s).1 ≡ []
 ends_silent None s = refl
@@ -221,7 +221,7 @@ not_before n [] ys before e behind h all lt = (before, h)
 not_before n (x ∷ xs) ys [] e behind h all lt = let same : x ≡ e = cc in let le = all.0.1 in let l = ap (λ y. y.line) same in absurd (omega (arith, le, l, lt))
 not_before n (x ∷ xs) ys (b ∷ before) e behind h all lt = let rest : xs ++ ys ≡ before ++ e ∷ behind = cc in not_before n xs ys before e behind rest all.1 lt
 
--- with no line before it, and with all of them
+-- no line before it, and all of them
 all_cut : (bytes : List ℕ) (d : Placed) → IsPyxDocument bytes d → AreBetween 0 (length (lines bytes)) (events_of d)
 all_cut bytes d is = let cut = cut_at bytes d 0 is (omega arith) in
     subst (AreBetween 0 (length (lines bytes))) (sym cut.parts) (between_both 0 (length (lines bytes))
@@ -245,7 +245,7 @@ late n m (e ∷ es) h = let first = h.0.0 in (omega (arith, first), late n m es 
 one_more : (n : ℕ) → n + 1 ≡ suc n
 one_more n = omega arith
 
--- those behind it do not come at a line before its own
+-- the events after it do not come at a line before its own
 pub lines_rise : (bytes : List ℕ) (d : Placed) (before : List Event) (e : Event) (after : List Event) → IsPyxDocument bytes d
     → events_of d ≡ before ++ e ∷ after → All (λ u. e.line ≤ u.line) after
 lines_rise bytes d before e after is parts = go e.line refl where

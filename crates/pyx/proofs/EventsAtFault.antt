@@ -1,4 +1,5 @@
--- The events that were handed out at a fault begin those of a document that begins with the longest front that breaks nothing but P13.
+-- The events that are handed out before a fault are the first events of a document. This document begins with the
+-- longest front that breaks nothing except P13.
 use Rattle.std.proofs.Common.{◌≡◌, ℕ, ◌+◌, ◌≤◌, ◌<◌, Bool, true, false, List, [], ◌∷◌, ◌++◌, length, Option, Some, None, Result, Ok, Err}
 use Rattle.std.proofs.Common.{refl, sym, ap, subst, ◌∙◌, arith, append_assoc, ◌⊎◌, inl, inr, lit≤, rules}
 use Rattle.std.specs.Prelude.{nat_le}
@@ -43,7 +44,7 @@ err_same e = cc
 ok_same : {x y : State} → ◌≡◌ {A = Result State Fault} (Ok x) (Ok y) → x ≡ y
 ok_same e = cc
 
--- ---- which lines are a front
+-- ---- fronts
 
 alone_bound : {k : ℕ} {P : Type 0} → (k ≤ 6) ⊎ ((k ≡ 10) × P) → k ≤ 12
 alone_bound (inl h) = omega (arith, h)
@@ -72,7 +73,7 @@ clause_of : (f g : Fault) → IsBefore f g → (n : ℕ) → f.line ≡ n → f.
 clause_of f g (inl b) n e c h k = absurd (omega (arith, b, e, h))
 clause_of f g (inr b) n e c h k = omega (arith, b.1, c, k)
 
--- lines are a front where all that is answered is P13
+-- lines are a front if the only fault that is returned is P13
 front_by : {ls : List Line} → ((f : Fault) → (to_end ls nothing_read).0 ≡ Err f → f ≡ at 13 (length ls)) → IsFront ls
 front_by {ls} h = λ g b.
     let m = at_most b in
@@ -104,7 +105,7 @@ some_same e = cc
 none_some : {f : Fault} → None ≡ Some f → ⊥
 none_some e = cc
 
--- a place whose end says nothing else than P13
+-- a place where the end breaks nothing except P13
 calm_front : {front : List Line} {s : State} {es : List Event} → all_read front nothing_read ≡ good s es
     → (at_end s ≡ None) ⊎ (at_end s ≡ Some (at 13 (length front))) → IsFront front
 calm_front {front} {s} {es} r o = front_by (λ f e. go f o (ended_of s f (ap (λ (t : Turn State). (followed t all_ended).0) (sym r) ∙ e))) where
@@ -114,7 +115,7 @@ calm_front {front} {s} {es} r o = front_by (λ f e. go f o (ended_of s f (ap (λ
 
 -- ---- what a line hands out
 
--- these lines are a front, which goes on so that these come first
+-- these lines are a front, which can be continued so that these events come first
 record Calm (front : List Line) (s : State) (pending : List Event) : Type 0 where
   is_front : IsFront front
   finishes : Finishes s pending
@@ -135,7 +136,7 @@ calm_within {front} {os} {t} {n} e c q r = record {
   finishes = finishes_within e c q;
 }
 
--- at a fault: nothing, or what comes next in any document
+-- at a fault: nothing, or the next events in any document
 abbrev Handed : List Line → State → Fault → List Event → Type 0
 Handed front s f es = (es ≡ []) ⊎ ((f.line ≡ length front + 1) × Calm front s es)
 
@@ -145,7 +146,7 @@ first_is e = ap (λ (t : Turn State). t.1) e
 refused : {turn : Turn State} {s : State} {f : Fault} {es : List Event} → turn ≡ good s es → turn.0 ≡ Err f → ⊥
 refused e g = ok_err (sym (ap (λ (t : Turn State). t.0) e) ∙ g)
 
--- a move that fails hands out nothing, and fails at its line
+-- a step that fails hands out nothing, and its fault is at its line
 move_fails : {w : List ℕ} {n b : ℕ} {root : Bool} {os : List Open} {x : Said} {turn : Turn State} {f : Fault} → Move w n b root os x turn → turn.0 ≡ Err f
     → (turn.1 ≡ []) × (f.line ≡ n + 1)
 move_fails (instruction_passes e) g = absurd (refused e g)
@@ -357,7 +358,7 @@ cons_first e = cc
 cons_same : {x y : Line} {xs ys : List Line} → x ≡ y → xs ≡ ys → x ∷ xs ≡ y ∷ ys
 cons_same e f = cc
 
--- of two fronts, the longer begins with the shorter
+-- the longer of two fronts begins with the shorter
 longer_front : (more others front behind : List Line) → more ++ others ≡ front ++ behind → length more ≤ length front → (x : List Line) × (front ≡ more ++ x)
 longer_front [] others front behind e h = (front, refl)
 longer_front (l ∷ more) others [] behind e h = absurd (omega (arith, h))
@@ -377,7 +378,7 @@ less_or n m = go (nat_le n m) refl where
   go true e = inl (search rules)
   go false e = inr (search rules)
 
--- a longest front stays so, where no longer lines are a front
+-- a longest front stays the longest one if no longer lines are a front
 stays : {front m all : List Line} (behind : List Line) → HasLongestFront front m → all ≡ front ++ behind
     → ((more others : List Line) → all ≡ more ++ others → length front < length more → IsFront more → ⊥) → HasLongestFront all m
 stays {front} {m} {all} behind h e none = record {
@@ -401,7 +402,7 @@ itself ls i = record {
 
 -- ---- line by line
 
--- what was handed out of these lines begins a document that begins with their longest front
+-- the events handed out at these lines begin a document that begins with their longest front
 record Sent (front : List Line) (sent : List Event) : Type 0 where
   longest_front : List Line
   longest : HasLongestFront front longest_front
@@ -423,7 +424,7 @@ no_more front more others l [] e f = f
 no_more front more others l (m ∷ x) e f =
     absurd (omega (arith, ap length e, ap length f, length-append front (l ∷ []), length-append more others, length-append front (l ∷ m ∷ x)))
 
--- the lines are a front, or the tag that they end in breaks something
+-- the lines are a front, or the tag at their end breaks something
 next_by : {S : Type 0} {all : List Line} {t : State} {es : List Event} → Place all t → ((pending : List Event) → Calm all t pending → S)
     → ((k : ℕ) → TagBreaks all k → S) → all_read all nothing_read ≡ good t es → S
 next_by (at_content {w} {n} c u) f g r = f (text_event (n + 1) w) (calm_content c u r)
@@ -432,7 +433,7 @@ next_by {S} {all} {es = es} (at_tag {os} {t} {n} c) f g r = go (tag_read (declar
   go (Ok e) q = f (start_event (n + 1) e) (calm_within e c q r)
   go (Err k) q = g k (tag_broken c q)
 
--- one line more
+-- one more line
 module _ (front : List Line) (l : Line) (s u : State) (es fs : List Event) (place : Place front s) (reads : all_read front nothing_read ≡ good s es)
     (whole : AllByRecursion IsWhole (front ++ l ∷ [])) (sent : Sent front es) (line : line_read l s ≡ good u fs) where
   goes : (line_read l s).0 ≡ Ok u
@@ -633,7 +634,7 @@ sent_none = record {
   calm : Calm [] nothing_read (text_event 1 [])
   calm = calm_content content_first marks_none (nothing_more nothing_read)
 
--- the events that were handed out where a fault is answered
+-- the events that are handed out if a fault is returned
 pub events_at_fault : (bytes : List ℕ) (f : Fault) → (document_read (lines bytes)).0 ≡ Err f
     → AreEventsBefore (lines bytes) f.line (document_read (lines bytes)).1
 unfolding document_read

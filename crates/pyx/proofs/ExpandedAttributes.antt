@@ -1,4 +1,4 @@
--- Attributes are expanded one after another.
+-- Attributes are expanded one after the other.
 use Rattle.std.proofs.Common.{◌≡◌, ℕ, List, [], ◌∷◌, ◌++◌, Option, Some, None, Result, Ok, Err, refl, sym, ap, ◌∙◌}
 use Rattle.rng_model.specs.plain.Answers.{Refuses}
 use Rattle.rng_model.specs.matching.Document.{Attribute}
@@ -27,7 +27,7 @@ first_behind (Some name) content (Some front) more ys attrs e h =
     let q : attrs ≡ record { name = name; content = content } ∷ front = cc in
     ap (and_more (Some name) content) (h front refl) ∙ first_and name content front ys ∙ ap (λ a. with_attributes a ys) (sym q)
 
--- what comes behind attributes that are expanded
+-- what comes after attributes that are expanded
 pub expanded_behind : (scope : Declared) (xs ys : List WrittenAttribute) (attrs : List Attribute) → expanded scope xs ≡ Some attrs
     → expanded scope (xs ++ ys) ≡ with_attributes attrs (expanded scope ys)
 unfolding expanded
@@ -59,7 +59,7 @@ no_name k r = cc
 some_name : {A : Type 0} (x : A) (k : ℕ) → ◌≡◌ {A = Result A ℕ} (resolved (Some x)) (Err k) → ⊥
 some_name x k r = cc
 
--- the fault of one name is that of all
+-- a fault of one name is a fault of all
 pub refuses_all : {A B : Type 0} (one : Option A) (all : Option B) (e : LineFault) → (one ≡ None → all ≡ None) → Refuses (clause_of e) (resolved one)
     → Refuses (clause_of e) (resolved all)
 refuses_all one all faults.Memory h r = tt

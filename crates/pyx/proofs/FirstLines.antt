@@ -30,7 +30,7 @@ line_cut (b ∷ bs) = go (eqb b 10) refl (line_cut bs) where
   go true q more = rw q refl
   go false q more = rw (q, one-add, more) (front_first b _ _)
 
--- as the code has it
+-- in the form of the code
 pub cut_some : (bytes front rest after : List ℕ) (c : ℕ) → front ≡ take (prefix_len is_within bytes) bytes → rest ≡ drop (prefix_len is_within bytes) bytes
     → rest ≡ c ∷ after → Some (front, after) ≡ at_byte 10 bytes
 cut_some bytes front rest after c e f g = sym (line_cut bytes ∙ rw (← e, ← f, g) refl)
@@ -39,7 +39,7 @@ pub cut_none : (bytes front rest : List ℕ) → front ≡ take (prefix_len is_w
     → rest ≡ [] → None ≡ at_byte 10 bytes
 cut_none bytes front rest e f g = sym (line_cut bytes ∙ rw (← e, ← f, g) refl)
 
--- ---- as a search for the line feed finds it
+-- ---- by a search for the line feed
 
 fails : (b : Bool) → (b ≡ true → ⊥) → b ≡ false
 fails true n = absurd (n refl)

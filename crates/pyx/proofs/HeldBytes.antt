@@ -1,4 +1,4 @@
--- What is counted as kept is what has to be kept, and it is bounded.
+-- The count of kept bytes is the number of bytes that must be kept, and it is bounded.
 use Rattle.std.proofs.Common.{◌≡◌, ℕ, ◌+◌, ◌*◌, ◌^◌, ◌≤◌, ◌<◌, Bool, true, false, eqb, List, [], ◌∷◌, ◌++◌, length, map, Option, Some, None}
 use Rattle.std.proofs.Common.{Result, Ok, Err}
 use Rattle.std.proofs.Common.{refl, sym, ap, subst, ◌∙◌, arith, append_assoc, ◌⊎◌, inl, inr}
@@ -40,7 +40,7 @@ use Rattle.pyx.proofs.StateAfterLines.{AreMatched, none_matched, one_matched, wr
 use Rattle.pyx.proofs.DocumentBroken.{line_tells, next_place}
 use Rattle.pyx.proofs.DocumentLeast.{all_cons}
 
--- ---- which lines have come, and what begins behind them
+-- ---- the lines so far, and what begins after them
 
 record IsCut (all whole : List Line) (begun : List ℕ) : Type 0 where
   ended : AllByRecursion (λ l. l.ended ≡ true) whole
@@ -207,7 +207,7 @@ opened_exact (o ∷ outer) h =
     rw (k, d, plus_is (name_length o.name) (declarations_size o.declared) (omega (arith, h)))
     (plus_is (name_length o.name + declarations_size o.declared) (opened_size outer) h)
 
--- ---- what has to be kept
+-- ---- what must be kept
 
 name_declared : {name : WrittenName} {p : Option (List ℕ)} → Declares name p → name_length name ≡ declared_length p
 name_declared default_namespace = refl

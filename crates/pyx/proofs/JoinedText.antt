@@ -1,4 +1,4 @@
--- What good lines say is the only thing; the text that is joined at their end; and whether a root has begun.
+-- Good lines have one content; the text that is joined at their end; and whether there is a root.
 use Rattle.std.proofs.Common.{◌≡◌, ℕ, ◌≤◌, Bool, true, false, ◌||◌, List, [], ◌∷◌, ◌++◌, length, Ok, refl, sym, ap, subst, ◌∙◌, append_assoc}
 use Rattle.std.proofs.Common.{arith}
 use Rattle.std.specs.List.{All, AllByRecursion}
@@ -103,7 +103,7 @@ says_kind (says_instruction {bytes}) = (bytes, refl)
 pub good_kind : {l : Line} {x : Said} → IsGoodLine l x → HasKind (kind_of x) l
 good_kind g = says_kind g.says
 
--- a good line of this kind says so
+-- a good line of this kind has such a content
 pub says_a_start : {l : Line} (x : Said) → IsGoodLine l x → HasKind 40 l → (name : WrittenName) × (x ≡ said.start name)
 says_a_start (said.start name) g h = (name, refl)
 says_a_start {l} (said.attribute a v) g h = absurd (other_kind 65 40 l (λ q. absurd (omega (arith, q))) (good_kind g) h)

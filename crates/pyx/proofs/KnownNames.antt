@@ -1,4 +1,4 @@
--- Names that are known stand for what they stood for when they were looked up.
+-- Known names have the expanded names that they had at their look-up.
 use Rattle.std.proofs.Common.{◌≡◌, ◌<◌, ◌∙◌, ℕ, List, [], ◌∷◌, ◌++◌, length, Option, Some, ap, sym, subst, arith, get_or, string_bytes}
 use Rattle.std.specs.List.{All}
 use Rattle.std.specs.Prelude.{slice_set}
@@ -11,7 +11,7 @@ use Rattle.pyx.specs.plain.LineReader.{written_of}
 use Rattle.pyx.specs.plain.TagReader.{Declared, namespace_of, in_namespace, element_name}
 use Rattle.pyx.specs.views.ElementView.{AreKnown, IsKnown, name_at, names_of}
 
--- what a place with a name of this round says
+-- a place with a name of this round
 pub known_there : (scope : Declared) (round : ℕ) (known : List KnownName) (at : ℕ) (k : KnownName) (written : List ℕ) → at < length known
     → k ≡ get_or known at k → k.round ≡ round → string_bytes k.written ≡ written → AreKnown scope round known
     → element_name scope (written_of written) ≡ Some (name_at (names_of known) at)
@@ -26,7 +26,7 @@ same_names : (old new : Declared) → ((p : Option (List ℕ)) → namespace_of 
 unfolding element_name
 same_names old new same written = ap (in_namespace (written_of written).local) (same (written_of written).prefix)
 
--- where every prefix stands for the same
+-- if every prefix has the same namespace
 pub known_alike : (old new : Declared) (round : ℕ) (known : List KnownName) → ((p : Option (List ℕ)) → namespace_of old p ≡ namespace_of new p)
     → AreKnown old round known → AreKnown new round known
 known_alike old new round known same all = (
@@ -34,7 +34,7 @@ known_alike old new round known same all = (
   All-weaker (IsKnown old round) (IsKnown new round) (λ k h. (h.0, λ e. sym (same_names old new same (string_bytes k.written)) ∙ h.1 e)) known all.1,
 )
 
--- one place more, in which nothing is known
+-- one more place, in which nothing is known
 pub known_more : (scope : Declared) (round : ℕ) (known more : List KnownName) (k : KnownName) → more ≡ known ++ k ∷ [] → k.round ≡ 0
     → AreKnown scope round known → AreKnown scope round more
 known_more scope round known more k e h all =

@@ -3,6 +3,8 @@ pub mod TextCuts
 pub mod ReplacedEscapes
 pub mod WrittenNames
 pub mod OpenStack
+pub mod OpenNames
+pub mod JudgedNames
 pub mod KnownNames
 pub mod ExpandedAttributes
 pub mod LineCounts
@@ -20,6 +22,7 @@ pub mod TagDeclarations
 pub mod TagNamespaces
 pub mod TagRepeats
 pub mod TagSlots
+pub mod DeclarationSlots
 pub mod TagParts
 pub mod TagAnswers
 pub mod TagUnique

@@ -1,4 +1,4 @@
--- What one line does in each state of a document: all its cases.
+-- The effect of one line in each state of a document: all cases.
 use Rattle.std.proofs.Common.{◌≡◌, ℕ, ◌+◌, ◌≤◌, ◌<◌, Bool, true, false, ◌&&◌, List, [], ◌∷◌, ◌++◌, length, Result, Ok, Err, refl, sym, ap}
 use Rattle.std.proofs.Common.{◌∙◌, rules}
 use Rattle.std.specs.Prelude.{◌==◌, ◌≢◌, nat_le}

@@ -1,4 +1,4 @@
--- What a line says, or the least clause that it breaks by itself.
+-- The content of a line, or the least clause that it breaks by itself.
 use Rattle.std.proofs.Common.{◌≡◌, ℕ, ◌≤◌, ◌<◌, Bool, true, false, cond, eqb, List, [], ◌∷◌, ◌++◌, length, Option, Some, None, Ok, Err, refl, sym, ap}
 use Rattle.std.proofs.Common.{subst, ◌∙◌, arith, rules, lit≤, lit<}
 use Rattle.std.specs.Prelude.{nat_le, ◌≢◌}
@@ -36,9 +36,9 @@ ok_err x k e = cc
 false_true : false ≡ true → ⊥
 false_true e = cc
 
--- ---- what the parts answer, and what that says
+-- ---- the results of the parts, and what they mean
 
--- an answer about this line
+-- the meaning of a result for this line
 abbrev Tells : List ℕ → Read Said → Type 0
 Tells bytes (Ok said) = Says bytes said
 Tells bytes (Err k) = (l : Line) → l.bytes ≡ bytes → BreaksWithin l k
@@ -76,7 +76,7 @@ attribute_tells rest u = go (at_byte 32 rest) (found 32 rest) where
   go (Some p) f = cut_tells rest p.0 p.1 (utf8_parts p.0 p.1 32 (lit< tt) (subst IsUtf8 f.0 u)).0
       (record { parts = f.0; first = All-from_recursion (λ c. c ≢ 32) p.0 f.1 })
 
--- a line whose first byte is none of the five
+-- a line whose first byte is not one of the five
 other_kind : (l : Line) (x : ℕ) (cs : List ℕ) (k : ℕ) → l.bytes ≡ x ∷ cs → x ≢ k → HasKind k l → ⊥
 other_kind l x cs k is n h = n (same x k cs h.0 (sym is ∙ h.1)) where
   same : (x k : ℕ) (cs rest : List ℕ) → x ∷ cs ≡ k ∷ rest → x ≡ k
@@ -129,7 +129,7 @@ kind_tells (x ∷ cs) u = chain_tells (eqb x 40) (eqb x 65) (eqb x 45) (eqb x 41
 
 -- ---- the line
 
--- an answer about all of a line
+-- the meaning of a result for a whole line
 abbrev IsTold : Line → Read Said → Type 0
 IsTold l (Ok said) = IsGoodLine l said
 IsTold l (Err k) = BreaksAlone l k
@@ -161,14 +161,14 @@ line_told l = go (nat_le (length l.bytes) line_limit) l.ended refl refl where
   go true false q e = within (search rules) (unended e)
   go false c q e = too_long (search rules)
 
--- what a line is read as, it says, and else it breaks that clause
+-- what is read from a line is its content, or a clause that it breaks
 pub good_line : (l : Line) (said : Said) → said_of l ≡ Ok said → IsGoodLine l said
 good_line l said e = subst (IsTold l) e (line_told l)
 
 pub broken_line : (l : Line) (k : ℕ) → said_of l ≡ Err k → BreaksAlone l k
 broken_line l k e = subst (IsTold l) e (line_told l)
 
--- ---- a broken clause: one at most it is answered
+-- ---- the fault of a line is at most each clause that it breaks
 
 pub record AtMost (l : Line) (k : ℕ) : Type 0 where
   pub answer : ℕ
@@ -186,7 +186,7 @@ pub said_ended : (l : Line) → length l.bytes ≤ line_limit → l.ended ≡ tr
 unfolding said_of
 said_ended l h e = rw (few (length l.bytes) line_limit h, e) refl
 
--- where the line is ended, such an answer
+-- the same for a line that is ended
 ended_most : (l : Line) (k : ℕ) → length l.bytes ≤ line_limit → 1 ≤ k → (j : ℕ) → j ≤ k → (l.ended ≡ true → bytes_of l.bytes ≡ Err j) → AtMost l k
 ended_most l k h one j le f = go l.ended refl where
   go : (b : Bool) → l.ended ≡ b → AtMost l k
@@ -215,7 +215,7 @@ is_xml : (bytes : List ℕ) → All (λ c. is_xml_char c ≡ true) (chars bytes)
 unfolding characters_of
 is_xml bytes a = rw (list_all-from_AllPass is_xml_char (chars bytes) a) refl
 
--- of bytes whose kind answers so, another answer is at most 3
+-- the clause that is returned for these bytes is at most k
 record Answers (bytes : List ℕ) (k : ℕ) : Type 0 where
   answer : ℕ
   is : bytes_of bytes ≡ Err answer
@@ -249,7 +249,7 @@ bad_name name u n = go (is_name name) refl where
   go true e = absurd (n (written_of name) (good_name name u e))
   go false e = e
 
--- of a line that is not UTF-8 a name may be read as good; then the answer is 2
+-- a line that is not UTF-8 may have a name that is read as good; then the result is 2
 line_most_text : (l : Line) (bytes : List ℕ) (k : ℕ) → length l.bytes ≤ line_limit → l.bytes ≡ bytes → 3 ≤ k
     → (IsUtf8 bytes → (j : ℕ) × (j ≤ k) × (kind_of bytes ≡ Err j)) → AtMost l k
 line_most_text l bytes k h is three f = go (is_utf8 bytes) refl where
@@ -327,14 +327,14 @@ pub alone_most : {l : Line} {k : ℕ} → BreaksAlone l k → AtMost l k
 alone_most (within h b) = within_most h b
 alone_most {l} (too_long h) = record { answer = 10; is = said_of_long l h; le = lit≤ tt }
 
--- so the clause that is answered is the least that the line breaks by itself
+-- the clause that is returned is the least that the line breaks by itself
 pub least_line : (l : Line) (k : ℕ) → said_of l ≡ Err k → IsLeast (BreaksAlone l) k
 least_line l k e = record {
   broken = broken_line l k e;
   least = λ other b. let a = alone_most b in let q : a.answer ≡ k = err_same a.answer k (sym a.is ∙ e) in rw (← q) a.le;
 }
 
--- ---- a good line is read as what it says
+-- ---- a good line is read as its content
 
 kind_is : {bytes : List ℕ} {said : Said} → Says bytes said → kind_of bytes ≡ Ok said
 unfolding kind_of named text_of attribute_of

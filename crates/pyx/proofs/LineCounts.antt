@@ -1,4 +1,4 @@
--- How the count of lines, and that of a tag's bytes, grow.
+-- Bounds on the counts of lines and of the bytes of a tag.
 use Rattle.std.proofs.Common.{◌≡◌, ℕ, ◌+◌, ◌≤◌, Bool, true, false, cond, ◌&&◌, List, [], ◌∷◌, ◌++◌, length, Option, Some, None, Result, Ok, Err, refl, ap, ◌∙◌}
 use Rattle.std.proofs.Common.{arith, lit≤}
 use Rattle.std.specs.Prelude.{nat_le, is_some}
@@ -14,7 +14,7 @@ use Rattle.pyx.specs.plain.TagReader.{Element, declared_by, tag_read}
 use Rattle.pyx.specs.plain.DocumentReader.{State, Tag, Open, Turn, fault, silent, go_on, followed, tag_bytes, tag_closed, close_tag, tag_ended, text_ended, begin_tag}
 use Rattle.pyx.specs.plain.DocumentReader.{is_outside, started, add_attribute, attributed, joined_by, end_in, ended, said_read, judged, line_read, declared_in}
 
--- where a turn goes well, so many lines are counted after it, and the tag has at most so many bytes
+-- if a turn has no fault, this many lines are counted after it, and the tag has at most this many bytes
 pub record Within (n m : ℕ) (turn : Turn State) : Type 0 where
   pub at : (t : State) → turn.0 ≡ Ok t → (t.count ≡ n) × (tag_bytes t.tag ≤ m)
 
@@ -58,7 +58,7 @@ pub text_within : (s : State) → Within s.count (tag_bytes s.tag) (text_ended s
 unfolding text_ended
 text_within s = if_within _ _ _ _ _ (ok_within s.count _ s _ refl (omega arith)) (ok_within s.count _ _ _ refl (omega arith))
 
--- after this many bytes more
+-- after this many more bytes
 abbrev More : ℕ → State → Turn State → Type 0
 More bytes s turn = Within s.count (tag_bytes s.tag + bytes) turn
 

@@ -1,4 +1,4 @@
--- Turns, one after another, and how a piece is read line by line.
+-- Turns, one after the other, and how a piece is read line by line.
 use Rattle.std.proofs.Common.{◌≡◌, ℕ, List, [], ◌∷◌, ◌++◌, Result, Ok, Err, refl, ap, sym, ◌∙◌, append_assoc}
 use Rattle.std.proofs.lemmas.List.{append-nil}
 use Rattle.rng_model.specs.documents.PyxFaults.{Fault}
@@ -42,7 +42,7 @@ read_append [] ys p = refl
 read_append (c ∷ xs) ys p = followed_same (byte_read c p) (read (xs ++ ys)) (λ t. followed (read xs t) (read ys)) (read_append xs ys)
     ∙ sym (followed_twice (byte_read c p) (read xs) (read ys))
 
--- ---- what a taker of events stands for
+-- ---- the events that are handed out
 
 pub hands_nothing : {E : Type 0} (stands : E → E → List Event → Type 0) (e : E) → Hands stands e e []
 hands_nothing stands e first sent h = rw append-nil h
@@ -62,7 +62,7 @@ pub record Goes (handed : List Event → Type 0) (whole : Turn Progress) (rest :
 pub starts : {E : Type 0} (stands : E → E → List Event → Type 0) (e : E) (piece : List ℕ) (p : Progress) → Goes (Hands stands e e) (read piece p) piece p
 starts stands e piece p = record { sent = []; handed_out = hands_nothing stands e; on = refl }
 
--- one turn takes the front of the rest, and goes well
+-- one turn reads the front of the rest, without a fault
 pub goes_on : {E : Type 0} (stands : E → E → List Event → Type 0) (a b d : E) (whole turn : Turn Progress) (bytes rest : List ℕ) (p q : Progress) →
     read bytes p ≡ followed turn (read rest) → Goes (Hands stands a b) whole bytes p → (turn.0 ≡ Ok q) × Hands stands b d turn.1 →
     Goes (Hands stands a d) whole rest q
@@ -72,7 +72,7 @@ goes_on stands a b d whole turn bytes rest p q step g t = record {
   on = g.on ∙ ap (after_events g.sent) (step ∙ followed_ok turn q (read rest) t.0) ∙ after_twice g.sent turn.1 (read rest q);
 }
 
--- or badly
+-- or with a fault
 pub fails : (A : Type 0) {E : Type 0} (stands : E → E → List Event → Type 0) (a b d : E) (whole turn : Turn Progress) (bytes rest : List ℕ) (p new : Progress)
     (e : PyxFault) → read bytes p ≡ followed turn (read rest) → Goes (Hands stands a b) whole bytes p → Takes {A = A} (Err e) new (Hands stands b d) turn →
     Takes {A = A} (Err e) new (Hands stands a d) whole
@@ -82,7 +82,7 @@ fails A stands a b d whole turn bytes rest p new (pyx.At clause line) step g t =
     let k : whole ≡ (Err x, g.sent ++ turn.1) = g.on ∙ ap (after_events g.sent) (step ∙ followed_err turn x (read rest) t.0) in
     rw k (refl, hands_more stands a b d g.sent turn.1 g.handed_out t.1)
 
--- one turn takes the rest
+-- one turn reads the rest
 pub ends : (A : Type 0) {E : Type 0} (stands : E → E → List Event → Type 0) (a b d : E) (whole turn : Turn Progress) (bytes : List ℕ) (p new : Progress)
     (r : Result A PyxFault) → read bytes p ≡ turn → Goes (Hands stands a b) whole bytes p → Takes r new (Hands stands b d) turn →
     Takes r new (Hands stands a d) whole

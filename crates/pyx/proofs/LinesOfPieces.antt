@@ -1,4 +1,4 @@
--- Bytes read one by one are read line by line.
+-- Reading bytes one by one is reading them line by line.
 use Rattle.std.proofs.Common.{◌≡◌, ℕ, suc, ◌+◌, ◌-◌, ◌≤◌, ◌<◌, Bool, true, false, cond, eqb, List, [], ◌∷◌, ◌++◌, length, take, Option, Some, None, Result, Ok}
 use Rattle.std.proofs.Common.{Err, refl, ap, sym, ◌∙◌, arith, append_assoc, rules, ◌⊎◌, inl, inr}
 use Rattle.std.specs.Prelude.{nat_le}
@@ -43,7 +43,7 @@ fails_first turn f h = record { fault = h.fault; is = rw (h.is) refl }
 stops : {A B : Type 0} (turn : Turn A) (f : A → Turn B) (g : B → Turn B) → Fails turn → followed (followed turn f) g ≡ followed turn f
 stops turn f g h = rw (h.is) refl
 
--- a line with these bytes, which is no whole one
+-- a line with these bytes that is not complete
 abbrev pub with_open : Progress → List ℕ → Turn Progress
 with_open p all = followed (line_read (open_line all) p.state) (λ s. silent (with_begun all s))
 
@@ -147,7 +147,7 @@ dichotomy n m = go (nat_le m n) refl where
 silent_first : {A B : Type 0} (a : A) (f : A → Turn B) → followed (silent a) f ≡ f a
 silent_first a f = refl
 
--- a byte that ends no line, and then the rest
+-- a byte that does not end a line, and then the rest
 pub read_other : (c : ℕ) (cs : List ℕ) (p : Progress) (r : Turn Progress) → eqb c 10 ≡ false → length p.begun ≤ line_limit →
     (length p.begun < line_limit → read cs (grown c p) ≡ r) → (line_limit ≤ length p.begun → with_open p (p.begun ++ c ∷ []) ≡ r) → read (c ∷ cs) p ≡ r
 read_other c cs p r e h more full = go (dichotomy (length p.begun) line_limit) where
@@ -179,7 +179,7 @@ read_line (c ∷ cs) front after p e h = go (eqb c 10) (at_byte 10 cs) refl refl
       (λ full. sym (ap (λ (t : Turn Progress). followed t (read x.1)) (line_full c x.0 p h full) ∙
       open_stops p (p.begun ++ c ∷ []) (read x.1) (omega (arith, full, length-push p.begun c)))))
 
--- where there is none
+-- if there is none
 pub read_rest : (bytes : List ℕ) (p : Progress) → None ≡ at_byte 10 bytes → length p.begun ≤ line_limit → read bytes p ≡ rest_taken bytes p
 read_rest [] p e h = read_nil p ∙ sym (rest_none p h)
 read_rest (c ∷ cs) p e h = go (eqb c 10) (at_byte 10 cs) refl refl (e ∙ at_cons c cs) (read_rest cs (grown c p)) where

@@ -1,4 +1,4 @@
--- Names as they stand in lines: they are cut at their first colon, and hold no space.
+-- Names in lines: they are cut at their first colon, and contain no space.
 use Rattle.std.proofs.Common.{◌≡◌, ℕ, suc, ◌+◌, ◌<◌, Bool, true, false, cond, not, ◌&&◌, eqb, List, [], ◌∷◌, ◌++◌, length, drop, get_or, Option, Some, None}
 use Rattle.std.proofs.Common.{refl, sym, ap, subst, ◌∙◌, arith, add-one, lit<, rules}
 use Rattle.std.specs.Prelude.{◌≢◌}
@@ -31,7 +31,7 @@ differs a b q p = absurd (true_false (sym (same b) ∙ subst (λ (x : ℕ). eqb 
   same : (b : ℕ) → eqb b b ≡ true
   same b = search rules
 
--- where a byte stands first, or that it stands nowhere
+-- where a byte is first, or that it is nowhere
 abbrev pub Found : ℕ → List ℕ → Option (List ℕ × List ℕ) → Type 0
 Found k bytes None = AllByRecursion (λ c. c ≢ k) bytes
 Found k bytes (Some p) = (bytes ≡ p.0 ++ k ∷ p.1) × AllByRecursion (λ c. c ≢ k) p.0
@@ -64,7 +64,7 @@ pub all_append : (k : ℕ) (xs ys : List ℕ) → AllByRecursion (λ c. c ≢ k)
 all_append k [] ys h i = i
 all_append k (x ∷ xs) ys h i = (h.0, all_append k xs ys h.1 i)
 
--- ---- the parts of a text about an ASCII byte
+-- ---- the parts of a text on both sides of an ASCII byte
 
 at_length : (a b : List ℕ) (k : ℕ) → get_or (a ++ k ∷ b) (length a) 0 ≡ k
 at_length [] b k = refl
@@ -86,7 +86,7 @@ utf8_parts a b k small u =
 pub ascii_first : (k : ℕ) (b : List ℕ) → k < 128 → IsUtf8 b → IsUtf8 (k ∷ b)
 ascii_first k b small u = IsUtf8-append (k ∷ []) b (IsUtf8-from_ascii (k ∷ []) (IsAscii-cons k [] small IsAscii-nil)) u
 
--- an ASCII character in front
+-- an ASCII character at the front
 pub char_first : (k : ℕ) (b : List ℕ) → k < 128 → IsUtf8 b → chars (k ∷ b) ≡ k ∷ chars b
 char_first k b small u = chars_past_char (k ∷ b) b k (ascii_first k b small u) (sym (ap (λ x. x ++ b) (encode_ascii k small)))
 
@@ -109,7 +109,7 @@ all_fails : (f : ℕ → Bool) (xs ys : List ℕ) (k : ℕ) → f k ≡ false �
 all_fails f [] ys k e = rw e refl
 all_fails f (x ∷ xs) ys k e = rw (all_fails f xs ys k e) (and_false (f x))
 
--- no NCName has this character
+-- no NCName contains this character
 ncname_fails : (xs ys : List ℕ) (k : ℕ) → (is_name_start k && not (is_colon k)) ≡ false → InName k ≡ false → is_ncname (xs ++ k ∷ ys) ≡ false
 ncname_fails [] ys k e f = rw e refl
 ncname_fails (x ∷ xs) ys k e f = rw (all_fails InName xs ys k f) (and_false (is_name_start x && not (is_colon x)))

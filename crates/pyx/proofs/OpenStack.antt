@@ -4,14 +4,17 @@ use Rattle.rng_model.specs.documents.PyxNamespaces.{WrittenAttribute}
 use Rattle.pyx.specs.plain.DocumentReader.{Open, declared_in}
 use Rattle.pyx.specs.plain.TagReader.{namespace_of, found_in, or_else}
 use Rattle.std.proofs.lemmas.List.{reverse-append}
-use Rattle.std.proofs.lemmas.List.{length-map, map-append}
+use Rattle.std.proofs.lemmas.List.{length-map, length-reverse, map-append}
 use Rattle.pyx.specs.declared.scope.OpenElement.{OpenElement}
 use Rattle.pyx.specs.views.ElementView.{open_of, scope_of, stack_of, written_attribute}
 
 pub stack_push : (xs : List OpenElement) (x : OpenElement) → stack_of (xs ++ x ∷ []) ≡ open_of x ∷ stack_of xs
 stack_push xs x = ap reverse (map-append open_of xs (x ∷ [])) ∙ reverse-append (map open_of xs) (open_of x ∷ [])
 
--- an element that declares nothing, in front
+pub stack_length : (xs : List OpenElement) → length (stack_of xs) ≡ length xs
+stack_length xs = length-reverse (map open_of xs) ∙ length-map xs open_of
+
+-- an element that declares nothing, at the front
 pub passed_over : (stack outer : List Open) (element : Open) (prefix : Option (List ℕ)) → stack ≡ element ∷ outer → length element.declared ≡ 0
     → namespace_of (declared_in outer) prefix ≡ namespace_of (declared_in stack) prefix
 unfolding namespace_of found_in

@@ -1,4 +1,4 @@
--- Which tags are open, and which tag the lines end in, is a function of the lines' first bytes.
+-- The first bytes of the lines determine which tags are open, and the tag at the end of the lines.
 use Rattle.std.proofs.Common.{◌≡◌, ℕ, Bool, true, false, eqb, List, [], ◌∷◌, ◌++◌, refl, sym, ap, subst, ◌∙◌, append_assoc, eq-eqb, arith}
 use Rattle.std.specs.List.{All}
 use Rattle.std.proofs.lemmas.Bool.{eqb-true}
@@ -104,7 +104,7 @@ mark_end l b tags h = rw (h.1) refl
 mark_none : (l : Line) (b : Bool) (tags : List Tag) → (HasKind 40 l → ⊥) → (HasKind 65 l → ⊥) → (HasKind 41 l → ⊥) → mark l b tags ≡ marks_of false tags
 mark_none l b tags n m o = rw (kind_not 40 l n, kind_not 65 l m, kind_not 41 l o) refl
 
--- a line that is neither a start tag nor an end tag, behind a line that is in no tag
+-- a line that is not a start tag or an end tag, after a line that is in no tag
 mark_other : (l : Line) (tags : List Tag) → (HasKind 40 l → ⊥) → (HasKind 41 l → ⊥) → mark l false tags ≡ marks_of false tags
 mark_other l tags n o = go (is_kind 65 l.bytes) where
   go : (x : Bool) → mark_by (is_kind 40 l.bytes) x (is_kind 41 l.bytes) l false tags ≡ marks_of false tags
@@ -113,7 +113,7 @@ mark_other l tags n o = go (is_kind 65 l.bytes) where
 
 -- ---- balanced lines
 
--- the marks of the inner lines of a pair: the tag may have grown
+-- the marks of the inner lines of a pair, where the tag may have grown
 record Grown (ls : List Line) (t : Tag) (tags : List Tag) : Type 0 where
   within : Bool
   now : Tag
@@ -139,7 +139,7 @@ mutual
       ap (λ (x : List Line). marked x false tags) parts ∙ marked_cons l (ls ++ r ∷ ms) false tags ∙ ap (marked_after (ls ++ r ∷ ms)) (mark_start l false tags h)
       ∙ inner_marks d (begun l) tags r ms g ∙ balanced_marks c tags
 
-  -- and the end tag behind them
+  -- followed by the end tag
   inner_marks : {ls : List Line} → IsBalanced ls → (t : Tag) (tags : List Tag) (r : Line) (ms : List Line) → HasKind 41 r
       → marked (ls ++ r ∷ ms) true (t ∷ tags) ≡ marked ms false tags
   inner_marks nothing t tags r ms g = marked_cons r ms true (t ∷ tags) ∙ ap (marked_after ms) (mark_end r true (t ∷ tags) g)
@@ -152,7 +152,7 @@ mutual
       ∙ inner_marks d (begun l) (t ∷ tags) q (ns ++ r ∷ ms) k ∙ marked_append ns (r ∷ ms) false (t ∷ tags)
       ∙ ap (marked_after (r ∷ ms)) (balanced_marks c (t ∷ tags)) ∙ marked_cons r ms false (t ∷ tags) ∙ ap (marked_after ms) (mark_end r false (t ∷ tags) g)
 
--- behind a tag
+-- after a tag
 behind_marks : {ls : List Line} → IsBalanced ls → BeginsOtherwise 65 ls → (t : Tag) (tags : List Tag) → (marked ls true (t ∷ tags)).tags ≡ t ∷ tags
 behind_marks nothing n t tags = ap (λ (m : Marks). m.tags) (marked_nil true (t ∷ tags))
 behind_marks (other {l} {ls} m o d) n t tags = ap (λ (m : Marks). m.tags) (marked_cons l ls true (t ∷ tags)
@@ -196,7 +196,7 @@ ends_marks {ls} e = ap marks e.parts ∙ tag_marks e.front e.tag e.others false 
 pub open_same : {ls : List Line} {xs ys : List Tag} → AreOpenTags ls xs → AreOpenTags ls ys → xs ≡ ys
 open_same d e = sym (open_marks d) ∙ open_marks e
 
--- the last line belongs to no tag
+-- the last line does not belong to a tag
 pub no_tag : {ls : List Line} → (marks ls).within ≡ false → EndsInTag ls → ⊥
 no_tag e t = true_false (sym (ap (λ (m : Marks). m.within) (ends_marks t)) ∙ e) where
   true_false : true ≡ false → ⊥
@@ -238,7 +238,7 @@ attributes_balanced : (ls : List Line) → All (HasKind 65) ls → IsBalanced ls
 attributes_balanced [] h = nothing
 attributes_balanced (l ∷ ls) h = no_bracket l (All-head (HasKind 65) l ls h) (attributes_balanced ls (All-tail (HasKind 65) l ls h))
 
--- a line that is no bracket and no `A` line
+-- a line that is not a start tag, an `A` line or an end tag
 pub open_other : {ls : List Line} {tags : List Tag} (l : Line) → AreOpenTags ls tags → (HasKind 40 l → ⊥) → (HasKind 65 l → ⊥) → (HasKind 41 l → ⊥)
     → AreOpenTags (ls ++ l ∷ []) tags
 open_other l d n m o = open_append d (other n o nothing) (begins_line l [] m)
@@ -256,13 +256,13 @@ open_end {ls} {tag} {outer} r d g = go d refl where
         rest_same : (x y : Tag) (xs ys : List Tag) → x ∷ xs ≡ y ∷ ys → xs ≡ ys
         rest_same x y xs ys e = cc
 
--- the tag that the lines end in
+-- the tag at the end of the lines
 pub open_tag : {ls : List Line} {outer : List Tag} (e : EndsInTag ls) → AreOpenTags e.front outer
     → AreOpenTags ls (record { first = e.tag; attributes = e.others } ∷ outer)
 open_tag e d = one_open {rest = []} e.tag d e.opens e.each begins_none nothing (e.parts
     ∙ ap (λ (x : List Line). e.front ++ e.tag ∷ x) (sym (append-nil e.others)))
 
--- marks after one line more
+-- marks after one more line
 pub untagged : (ls : List Line) (l : Line) → (HasKind 40 l → ⊥) → (HasKind 65 l → ⊥) → (marks (ls ++ l ∷ [])).within ≡ false
 untagged ls l n m = ap (λ (x : Marks). x.within) (marked_append ls (l ∷ []) false [] ∙ marked_cons l [] (marks ls).within (marks ls).tags
     ∙ marked_nil (mark l (marks ls).within (marks ls).tags).within (mark l (marks ls).within (marks ls).tags).tags)

@@ -1,4 +1,4 @@
--- What a reader stands for after a piece.
+-- The bytes and events that a reader represents after a piece.
 use Rattle.std.proofs.Common.{◌≡◌, ℕ, List, [], ◌++◌, Option, Some, None, Result, Ok, Err, refl, ap, sym, ◌∙◌, subst}
 use Rattle.std.proofs.lemmas.List.{append-nil}
 use Rattle.rng_model.specs.documents.PyxFaults.{Fault}

@@ -1,4 +1,4 @@
--- What a reader's outcome is, of all bytes that it stands for.
+-- The outcome of a reader, for all bytes that it represents.
 use Rattle.std.proofs.Common.{◌≡◌, ℕ, List, [], ◌++◌, Some, None, Result, Ok, Err, refl, ap, sym, subst, ◌∙◌}
 use Rattle.std.proofs.lemmas.List.{append-nil}
 use Rattle.rng_model.specs.documents.Lines.{lines}
@@ -24,7 +24,7 @@ whole k p bytes sent e f st =
     let q : (read bytes nothing_fed).0 ≡ Ok p = at_fault k None (read bytes nothing_fed).0 f st.result ∙ ap ok_progress (sym e) in
     in_pieces bytes ∙ followed_ok (read bytes nothing_fed) p finished q ∙ ap (λ (es : List Event). after_events es (finished p)) st.events
 
--- of bytes that are read so
+-- the verdict on bytes with this result
 verdict_at : (bytes : List ℕ) (sent : List Event) (p : Progress) (s : State) → document_read (lines bytes) ≡ after_events sent (finished p)
     → (finished p).0 ≡ Ok s → IsTheDocument bytes (sent ++ (finished p).1)
 verdict_at bytes sent p s e f = is_document bytes s (sent ++ (finished p).1) (ap (λ (t : Turn State). t.0) e ∙ f) (ap (λ (t : Turn State). t.1) e)

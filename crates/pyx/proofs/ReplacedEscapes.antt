@@ -11,7 +11,7 @@ pub in_front_twice : (a b : List ℕ) (o : Option (List ℕ)) → in_front a (in
 in_front_twice a b None = refl
 in_front_twice a b (Some x) = ap Some (sym (append_assoc a b x))
 
--- no backslash: as it is
+-- without a backslash the text is unchanged
 pub unescaped_plain : (bs : List ℕ) → at_byte 92 bs ≡ None → unescaped bs ≡ Some bs
 unfolding unescaped at_byte
 unescaped_plain [] e = refl
@@ -73,7 +73,7 @@ escape_small (d ∷ cs) c rest e = go (eqb d 110) (eqb d 116) (eqb d 92) e where
   go false false true e = end 92 (lit< tt) e
   go false false false e = absurd cc
 
--- one escape, and on
+-- one escape, and the next
 pub unescape_step : (value rest front after next : List ℕ) (c : ℕ) → Some (front, after) ≡ at_byte 92 rest → Some (c, next) ≡ escape_of after
     → in_front value (unescaped rest) ≡ in_front ((value ++ front) ++ c ∷ []) (unescaped next)
 unescape_step value rest front after next c e f =

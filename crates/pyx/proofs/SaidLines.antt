@@ -1,4 +1,4 @@
--- Lines that break nothing by themselves are read as what they say.
+-- Lines that break nothing by themselves are read as their content.
 use Rattle.std.proofs.Common.{◌≡◌, ℕ, ◌+◌, Bool, true, false, cond, List, [], ◌∷◌, ◌++◌, length, Ok, refl, sym, ap, ◌∙◌}
 use Rattle.std.specs.Prelude.{is_some}
 use Rattle.rng_model.specs.documents.Lines.{Line}
@@ -18,7 +18,7 @@ is_attribute (lines.text value) = false
 is_attribute (lines.end name) = false
 is_attribute lines.instruction = false
 
--- a line of so many bytes that says this
+-- a line of this many bytes with this content
 unfoldable pub said_line : ℕ → Said → State → Turn State
 said_line bytes x s = followed (cond (is_attribute x) (silent s) (close_tag s.tag s)) (λ s. said_read bytes x (record s { count = s.count + 1 }))
 
@@ -37,7 +37,7 @@ pub line_said : {l : Line} {x : Said} → IsGoodLine l x → (s : State) → lin
 unfolding line_read said_line
 line_said g s = rw (line_is g, ended_said g s) refl
 
--- ---- several lines, of these lengths
+-- ---- several lines, with these lengths
 
 abbrev pub first_of : List ℕ → ℕ
 first_of [] = 0
@@ -72,7 +72,7 @@ lines_said no_lines s = refl
 lines_said (line_and {l} {ls} {said} {more} g m) s = ap (λ (t : Turn State). followed t (all_read ls)) (line_said g s)
     ∙ followed_same (said_line (length l.bytes) said s) (all_read ls) (said_lines (sizes ls) more) (lines_said m)
 
--- ---- turns that go well
+-- ---- turns without a fault
 
 abbrev pub good : State → List Event → Turn State
 good s es = (Ok s, es)

@@ -1,4 +1,4 @@
--- Where good lines lead to: the state after them, in the words of the clauses.
+-- The state after good lines, in the words of the clauses.
 use Rattle.std.proofs.Common.{◌≡◌, ℕ, ◌+◌, ◌≤◌, Bool, true, false, List, [], ◌∷◌, ◌++◌, length, map, Ok, ◌<◌, cond, arith}
 use Rattle.std.proofs.Common.{refl, sym, ap, subst, ◌∙◌}
 use Rattle.std.proofs.lemmas.List.{length-append}
@@ -28,7 +28,7 @@ use Rattle.pyx.proofs.OpenTags.{tag_begins}
 use Rattle.pyx.proofs.OpenTags.{tag_grows}
 use Rattle.pyx.proofs.JoinedText.{said_same, good_same, good_line_more, good_kind, texts, texts_nil, texts_more, has_root, root_in, root_other}
 
--- ---- what a tag says is the only thing
+-- ---- the content of a tag is unique
 
 start_same : {a b : WrittenName} → said.start a ≡ said.start b → a ≡ b
 start_same e = cc
@@ -57,7 +57,7 @@ written_length (written_and d) = omega (arith, written_length d)
 
 -- ---- open tags and open elements
 
--- no prefix is declared twice, and the tag has so many `A` lines at most
+-- no prefix is declared twice, and the tag has at most this many `A` lines
 pub record IsSmall (declared written : List WrittenAttribute) : Type 0 where
   pub once : HasTwice (prefixes_of (map declaration_of declared)) → ⊥
   pub few : length written ≤ attribute_limit
@@ -89,7 +89,7 @@ matched_length (one_matched s p n m) = omega (arith, matched_length m)
 
 -- ---- places
 
--- after these lines, with the tag that they end in closed
+-- after these lines, where the tag at their end is closed
 pub record Content (front : List Line) (os : List Open) (w : List ℕ) (n : ℕ) (root : Bool) : Type 0 where
   pub says : List Said
   pub good : AreGoodLines front says
@@ -103,7 +103,7 @@ pub record Content (front : List Line) (os : List Open) (w : List ℕ) (n : ℕ)
   pub outside : os ≡ [] → w ≡ []
   pub deep : length os ≤ open_limit
 
--- and in a tag
+-- inside a tag
 pub record Within (front : List Line) (os : List Open) (t : Tag) (n : ℕ) : Type 0 where
   pub says : List Said
   pub good : AreGoodLines front says
@@ -152,7 +152,7 @@ content_first = record {
 pub place_first : Place [] nothing_read
 place_first = at_content content_first marks_none
 
--- ---- one line more
+-- ---- one more line
 
 module _ (front : List Line) (l : Line) where
   abbrev after : List Line

@@ -1,4 +1,4 @@
--- What one line does in each state of a document.
+-- The effect of one line in each state of a document.
 use Rattle.std.proofs.Common.{◌≡◌, ℕ, suc, ◌+◌, ◌≤◌, ◌<◌, Bool, true, false, ◌&&◌, List, [], ◌∷◌, ◌++◌, length, Some, None, Ok, refl}
 use Rattle.std.proofs.Common.{rules}
 use Rattle.std.specs.Prelude.{◌==◌, nat_le}
@@ -14,7 +14,7 @@ use Rattle.pyx.specs.plain.DocumentReader.{joined_by, ended, said_read}
 use Rattle.pyx.proofs.WrittenNames.{written_itself}
 use Rattle.pyx.proofs.SaidLines.{is_attribute, said_line, good}
 
--- inside these elements, with this text joined, after so many lines
+-- inside these elements, with this text joined, after this many lines
 abbrev pub inside : List Open → List ℕ → ℕ → Bool → State
 inside os t n root = record { tag = None; opened = os; joined = t; root = root; count = n }
 
@@ -83,7 +83,7 @@ end_step o os t n root b name e = rw (same, text_out (o ∷ os) t (n + 1) root) 
   same : same_written o.name name ≡ true
   same = rw e (written_itself name)
 
--- the start of a tag is handed out at the next line, whatever it is
+-- the start of a tag is handed out at the next line, whatever that is
 pub early : (os : List Open) (t : Tag) (e : Element) (n b : ℕ) (x : Said) → tag_read (declared_in os) t.name t.declared t.others ≡ Ok e
     → is_attribute x ≡ false
     → said_line b x (in_tag os t n) ≡ after_events (start_event (n + 1) e) (said_line b x (inside (open_of t ∷ os) [] n true))

@@ -1,4 +1,4 @@
--- What is read of a tag: its element, or a clause that it breaks.
+-- The result of reading a tag: its element, or a clause that it breaks.
 use Rattle.std.proofs.Common.{◌≡◌, ℕ, Bool, true, false, cond, ◌||◌, List, [], ◌∷◌, map, Option, Some, None, Result, Ok, Err, refl, sym, ◌∙◌, ◌⊎◌, inl, inr}
 use Rattle.std.specs.Prelude.{is_some}
 use Rattle.std.specs.List.{AllByRecursion}
@@ -79,20 +79,20 @@ expanded_tells scope (a ∷ more) all = go (attribute_name scope a.name) (expand
 
 -- ---- the tag
 
--- the tag breaks no rule about namespaces, and its names are these
+-- the tag breaks no rule about namespaces, and these are its names
 pub record HasNames (outer : Declared) (name : WrittenName) (declared others : List WrittenAttribute) (q : Name) (attrs : List Attribute) : Type 0 where
   pub allowed : AllByRecursion (λ d. IsForbidden d → ⊥) (map declaration_of declared)
   pub is_named : NamesElement (scope_in (declared ∷ outer)) name q
   pub are_expanded : AreExpanded (scope_in (declared ∷ outer)) others attrs
   pub is_expanded : expanded (declared ∷ outer) others ≡ Some attrs
 
--- what an element that was read of a tag is
+-- the element that is read from a tag
 pub record IsRead (outer : Declared) (name : WrittenName) (declared others : List WrittenAttribute) (e : Element) : Type 0 where
   pub names : HasNames outer name declared others e.name e.attrs
   pub distinct : Distinct e.attrs
   pub once : is_written_twice declared ≡ false
 
--- a name stands twice in the tag, which has names
+-- a name occurs twice in the tag, which has names
 pub record Repeats (outer : Declared) (name : WrittenName) (written declared others : List WrittenAttribute) : Type 0 where
   pub q : Name
   pub attrs : List Attribute

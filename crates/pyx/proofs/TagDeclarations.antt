@@ -1,4 +1,4 @@
--- What the `A` lines of a tag declare, as it is read and as it is defined.
+-- The declarations in the `A` lines of a tag: reading agrees with the definition.
 use Rattle.std.proofs.Common.{◌≡◌, ℕ, Bool, true, false, cond, not, ◌||◌, List, [], ◌∷◌, ◌++◌, length, codes, Option, Some, None, refl, sym, ap, subst, ◌∙◌}
 use Rattle.std.proofs.Common.{rules}
 use Rattle.std.specs.Prelude.{◌==◌, ◌≢◌, is_some}
@@ -44,7 +44,7 @@ is_declared (prefix_declared {p}) = refl
 pub declares_nothing : (name : WrittenName) → declared_by name ≡ None → DeclaresNothing name
 declares_nothing name e = λ p d. none_some p (sym e ∙ is_declared d)
 
--- ---- parting
+-- ---- declarations and others
 
 abbrev pub prefix_of : Option (Option (List ℕ)) → Option (List ℕ)
 prefix_of None = None
@@ -56,7 +56,7 @@ declaration_of a = record { prefix = prefix_of (declared_by a.name); uri = a.con
 abbrev pub AreDeclared : List WrittenAttribute → Type 0
 AreDeclared ds = AllByRecursion (λ a. is_some (declared_by a.name) ≡ true) ds
 
--- a line that follows
+-- one more line
 pub parted_declaration : {all others : List WrittenAttribute} {ds : List Declaration} → AreParted all ds others → (a : WrittenAttribute) (p : Option (List ℕ))
     → declared_by a.name ≡ Some p → AreParted (all ++ a ∷ []) (ds ++ record { prefix = p; uri = a.content } ∷ []) others
 parted_declaration nothing a p e = declaration (declares_it a.name p e) nothing

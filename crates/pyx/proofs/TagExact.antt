@@ -1,4 +1,5 @@
--- What is read of a tag is exact: a clause that it breaks is answered, and else its element, the only one.
+-- The result of reading a tag is exact: a clause that it breaks is returned, and otherwise its element, which is
+-- unique.
 use Rattle.std.proofs.Common.{◌≡◌, ℕ, ◌≤◌, Bool, true, false, ◌||◌, List, [], ◌∷◌, length, map, Option, Some, None, Result, Ok, Err, refl, sym, ap}
 use Rattle.std.proofs.Common.{subst, ◌∙◌, ◌⊎◌, inl, inr}
 use Rattle.std.specs.Prelude.{is_some}
@@ -40,7 +41,7 @@ or_second : (a : Bool) → (a || true) ≡ true
 or_second true = refl
 or_second false = refl
 
--- ---- names that stand twice are found
+-- ---- names that occur twice are found
 
 nowhere : {A : Type 0} {x : A} {xs : List A} → Among x xs → xs ≡ [] → ⊥
 nowhere here e = cc
@@ -104,7 +105,7 @@ found_twice (a ∷ more) (at_first {x} {xs} m) e =
     rw (written_in more (subst (λ (y : WrittenName). Among y xs) (first_same e) m) (rest_same e)) refl
 found_twice (a ∷ more) (later t) e = rw (found_twice more t (rest_same e)) (or_second (is_written_in a.name more))
 
--- ---- among the others: two that are written alike have one expanded name
+-- ---- among the others: two that are written in the same way have one expanded name
 
 record Parts (scope : Declared) (a : WrittenAttribute) (more : List WrittenAttribute) (attrs : List Attribute) : Type 0 where
   name : Name
@@ -153,7 +154,7 @@ named_twice scope names (a ∷ more) attrs (later {xs} t) e x =
     rw (p.is) (ap (λ (b : Bool). is_named_in p.name p.rest || b) (named_twice scope xs more p.rest t (rest_same e) p.others)
     ∙ or_second (is_named_in p.name p.rest))
 
--- ---- what a tag with names breaks
+-- ---- the clauses that a tag with names breaks
 
 not_among : {d : Declaration} {ds : List Declaration} → Among d ds → AllByRecursion (λ d. IsForbidden d → ⊥) ds → IsForbidden d → ⊥
 not_among here all f = all.0 f
@@ -173,7 +174,7 @@ with_name_of none_left m = absurd (nowhere m refl)
 with_name_of (expanded_and {name} n more) here = (name, n)
 with_name_of (expanded_and n more) (there m) = with_name_of more m
 
--- a tag whose names are these breaks no rule about namespaces
+-- a tag with these names breaks no rule about namespaces
 no_breach : {outer : Scope} {name : WrittenName} {written os : List WrittenAttribute} {ds : List Declaration} {q : Name} {attrs : List Attribute}
     → AreParted written ds os → AllByRecursion (λ d. IsForbidden d → ⊥) ds → NamesElement (ds ∷ outer) name q → AreExpanded (ds ∷ outer) os attrs
     → BreaksNamespaces outer name written → ⊥
@@ -213,7 +214,7 @@ once_declared (declaration {a} {p} c r) (at_first {x} {xs} m) e =
 once_declared (declaration c r) (later t) e = later (once_declared r t (rest_same e))
 once_declared (other n r) t e = later (once_declared r t e)
 
--- ---- the answers
+-- ---- the results
 
 module _ (outer : Declared) (name : WrittenName) (written declared others : List WrittenAttribute) (split : IsSplit written declared others) where
   parts : {ds : List Declaration} {os : List WrittenAttribute} → AreParted written ds os → (ds ≡ map declaration_of declared) × (os ≡ others)
@@ -222,7 +223,7 @@ module _ (outer : Declared) (name : WrittenName) (written declared others : List
   breaks_none : (q : Name) (attrs : List Attribute) → HasNames outer name declared others q attrs → BreaksNamespaces (scope_in outer) name written → ⊥
   breaks_none q attrs n b = no_breach (split_parted split) n.allowed n.is_named n.are_expanded b
 
-  -- a broken P11 is answered
+  -- a broken P11 is returned
   pub tag_namespaces : AllDeclared outer → BreaksNamespaces (scope_in outer) name written → tag_read outer name declared others ≡ Err 11
   tag_namespaces all b = go (tag_read outer name declared others) (tag_tells outer name written declared others split all) where
     go : (r : Result Element ℕ) → TagTells outer name written declared others r → r ≡ Err 11
@@ -248,7 +249,7 @@ module _ (outer : Declared) (name : WrittenName) (written declared others : List
       (subst (λ (z : List Declaration). AreExpanded (z ∷ scope_in outer) os attrs) k.0 x) in
       n (subst Distinct (expanded_same (read_once e r, once) r.names.are_expanded y) r.distinct)
 
-  -- a broken P12 is, or P11
+  -- if P12 is broken, it or P11 is returned
   pub tag_repeats : AllDeclared outer → IsScopeOnce (scope_in outer) → RepeatsName (scope_in outer) written
       → (tag_read outer name declared others ≡ Err 11) ⊎ (tag_read outer name declared others ≡ Err 12)
   tag_repeats all once b = go (tag_read outer name declared others) (tag_tells outer name written declared others split all) where
@@ -257,7 +258,7 @@ module _ (outer : Declared) (name : WrittenName) (written declared others : List
     go (Err k) (inl t) = inl (ap Err t.0)
     go (Err k) (inr t) = inr (ap Err t.0)
 
-  -- an element that is read is the tag's
+  -- an element that is read is that of the tag
   pub is_tag : AllDeclared outer → (said : List Said) (e : Element) → AreWritten said written → length written ≤ attribute_limit
       → tag_read outer name declared others ≡ Ok e → IsTag (scope_in outer) name said e.name e.attrs (scope_in (declared ∷ outer))
   is_tag all said e w h q = go (subst (TagTells outer name written declared others) q (tag_tells outer name written declared others split all)) where

@@ -1,4 +1,4 @@
--- What names stand for inside tags, as it is read and as it is defined.
+-- Names and namespaces inside tags: reading agrees with the definition.
 use Rattle.std.proofs.Common.{◌≡◌, ℕ, Bool, true, false, cond, List, [], ◌∷◌, map, codes, Option, Some, None, refl, sym, ap, subst, ◌∙◌, ◌⊎◌, inl, inr}
 use Rattle.std.specs.Prelude.{◌≢◌, is_some}
 use Rattle.std.specs.List.{AllByRecursion}
@@ -40,7 +40,7 @@ declares_not : (o : Option (Option (List ℕ))) (p : Option (List ℕ)) → decl
 declares_not None p e s = absurd (false_true s)
 declares_not (Some q) p e s = λ k. false_true (sym e ∙ ap (same_prefix q) (sym k) ∙ prefix_itself q)
 
--- what a search in a tag's declarations says
+-- the meaning of a search in the declarations of a tag
 abbrev Lookup : Option (List ℕ) → List WrittenAttribute → Option (List ℕ) → Type 0
 Lookup p ds None = AllByRecursion (λ d. d.prefix ≢ p) (map declaration_of ds)
 Lookup p ds (Some uri) = IsDeclared p uri (map declaration_of ds)
@@ -115,7 +115,7 @@ namespace_tells (ds ∷ outer) p all = go (found_in p ds) (found_tells p ds all.
   go (Some uri) l s = declared_here l
   go None l s = behind ds outer p (namespace_of outer p) l s
 
--- without a prefix there always is one
+-- without a prefix there is always one
 pub default_found : (scope : Declared) → is_some (namespace_of scope None) ≡ true
 unfolding namespace_of
 default_found [] = refl
@@ -126,13 +126,13 @@ default_found (ds ∷ outer) = go (found_in None ds) (default_found outer) where
 
 -- ---- names
 
--- the name has a prefix, which stands for no namespace
+-- the name has a prefix that is not declared
 pub record UndeclaredPrefix (scope : Declared) (name : WrittenName) : Type 0 where
   pub prefix : List ℕ
   pub is : name.prefix ≡ Some prefix
   pub undeclared : IsUndeclared (scope_in scope) prefix
 
--- what is read of an element's name
+-- the result for the name of an element
 abbrev pub NameTells : Declared → WrittenName → Option Name → Type 0
 NameTells scope name None = UndeclaredPrefix scope name
 NameTells scope name (Some q) = NamesElement (scope_in scope) name q
@@ -146,7 +146,7 @@ element_tells scope name all = go name.prefix (namespace_of scope name.prefix) r
   go None None e f s = absurd (false_true (ap is_some (sym f) ∙ ap (λ (x : Option (List ℕ)). is_some (namespace_of scope x)) e ∙ default_found scope))
   go (Some p) None e f s = record { prefix = p; is = e; undeclared = subst (λ (x : Option (List ℕ)). Space scope x None) e s }
 
--- and of an attribute's
+-- the result for the name of an attribute
 abbrev pub AttributeTells : Declared → WrittenName → Option Name → Type 0
 AttributeTells scope name None = UndeclaredPrefix scope name
 AttributeTells scope name (Some q) = NamesAttribute (scope_in scope) name q

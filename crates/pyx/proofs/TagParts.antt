@@ -1,4 +1,4 @@
--- The `A` lines of a tag, parted into declarations and others.
+-- The `A` lines of a tag, split into declarations and others.
 use Rattle.std.proofs.Common.{◌≡◌, ℕ, List, [], ◌∷◌, ◌++◌, map, Option, Some, None, sym, ap, subst}
 use Rattle.std.specs.Prelude.{is_some}
 use Rattle.rng_model.specs.names.Lists.{Among, here, there, HasTwice, at_first, later}
@@ -27,7 +27,7 @@ split_declared no_lines = tt
 split_declared (declares e s) = (ap is_some e, split_declared s)
 split_declared (declares_none e s) = split_declared s
 
--- a line that follows
+-- one more line
 pub split_declaration : {all ds os : List WrittenAttribute} → IsSplit all ds os → (a : WrittenAttribute) (p : Option (List ℕ)) → declared_by a.name ≡ Some p
     → IsSplit (all ++ a ∷ []) (ds ++ a ∷ []) os
 split_declaration no_lines a p e = declares e no_lines
@@ -40,7 +40,7 @@ split_other no_lines a e = declares_none e no_lines
 split_other (declares d s) a e = declares d (split_other s a e)
 split_other (declares_none d s) a e = declares_none d (split_other s a e)
 
--- what stands among the declarations stands among all
+-- what is among the declarations is among all lines
 among_all : {all ds os : List WrittenAttribute} {name : WrittenName} {names : List WrittenName} → IsSplit all ds os → Among name names → names ≡ names_of ds
     → Among name (names_of all)
 among_all no_lines m e = absurd (nowhere m e) where

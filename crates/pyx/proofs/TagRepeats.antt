@@ -1,4 +1,4 @@
--- Names that stand twice in a tag, as they are looked for and as they are defined.
+-- Names that occur twice in a tag: the search agrees with the definition.
 use Rattle.std.proofs.Common.{◌≡◌, ℕ, Bool, true, false, ◌&&◌, ◌||◌, List, [], ◌∷◌, map, refl, sym, ap, subst, ◌∙◌, ◌⊎◌, inl, inr}
 use Rattle.std.specs.Str.{bytes_eq}
 use Rattle.rng_model.specs.matching.Document.{Attribute}
@@ -13,7 +13,7 @@ use Rattle.pyx.proofs.WrittenNames.{same_bytes, bytes_same, written_same}
 pub true_false : true ≡ false → ⊥
 true_false e = cc
 
-both : (a b : Bool) → (a && b) ≡ true → (a ≡ true) × (b ≡ true)
+pub both : (a b : Bool) → (a && b) ≡ true → (a ≡ true) × (b ≡ true)
 both true b e = (refl, e)
 both false b e = absurd cc
 
@@ -62,7 +62,7 @@ names_same a b e = let p = both (bytes_eq a.local b.local) (bytes_eq a.ns b.ns) 
 name_itself : (a : Name) → same_name a a ≡ true
 name_itself a = rw (same_bytes a.local, same_bytes a.ns) refl
 
--- which answer the search gives
+-- the result of the search
 pub named_nowhere : (name : Name) (all : List Attribute) → is_named_in name all ≡ false → HasNoName name all
 unfolding is_named_in
 named_nowhere name [] e = nothing_named
@@ -93,6 +93,6 @@ unfolding is_named_twice
 distinct_all none = refl
 distinct_all (one_more {a} {attrs} h d) = rw (nowhere_named h) (distinct_all d)
 
--- so two that are one
+-- if a name occurs twice, the names are not distinct
 pub not_distinct : (all : List Attribute) → is_named_twice all ≡ true → Distinct all → ⊥
 not_distinct all e d = true_false (sym e ∙ distinct_all d)

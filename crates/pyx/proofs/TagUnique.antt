@@ -1,4 +1,4 @@
--- What is parted and what is named is the only one, where no declaration is written twice.
+-- The declarations and the names of a tag are unique, if no declaration is written twice.
 use Rattle.std.proofs.Common.{◌≡◌, ℕ, List, [], ◌∷◌, map, Option, Some, None, refl, sym, ap, subst, ◌∙◌, ◌⊎◌, inl, inr}
 use Rattle.std.specs.Prelude.{◌≢◌}
 use Rattle.std.specs.List.{AllByRecursion}
@@ -32,7 +32,7 @@ among_prefix : {d : Declaration} {ds : List Declaration} → Among d ds → Amon
 among_prefix here = here
 among_prefix (there m) = there (among_prefix m)
 
--- two declarations of one prefix in a tag are one
+-- two declarations of the same prefix in a tag are equal
 one_declared : {d e : Declaration} {ds : List Declaration} → (HasTwice (prefixes_of ds) → ⊥) → Among d ds → Among e ds → d.prefix ≡ e.prefix → d.uri ≡ e.uri
 one_declared once here here p = refl
 one_declared {e = e} once (here {xs}) (there m) p = absurd (once (at_first (subst (λ (x : Option (List ℕ)). Among x (prefixes_of xs)) (sym p)

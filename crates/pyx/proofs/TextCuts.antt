@@ -1,4 +1,4 @@
--- What the cuts of a text are.
+-- The cuts of a text.
 use Rattle.std.proofs.Common.{◌≡◌, ℕ, ◌<◌, ◌+◌, List, [], ◌∷◌, length, drop, Option, Some, None, Err, refl, cond, eqb, ap, sym, arith, rules, suc, one-add}
 use Rattle.std.proofs.Common.{Bool, true, false, add-one}
 use Rattle.std.specs.Prelude.{◌≢◌, MatchOption}
@@ -92,7 +92,7 @@ no_mark : (k : ℕ) (bs : List ℕ) → Nowhere (Passes (is_byte k) bs) 0 (lengt
 no_mark k bs none = at_byte_none k bs (position_or_len_is (is_byte k) bs (length bs) 0 (omega arith)
     (λ j l. fails _ (none j (omega arith) l)) (λ l. absurd (omega (arith, l))))
 
--- as the code has it: in the bytes of the text
+-- in the form of the code: in the bytes of the text
 pub cut_here : (k : ℕ) (bs text front after : List ℕ) (i : ℕ) → bs ≡ text → NoneBefore (Passes (is_byte k) bs) 0 (length bs) i → Passes (is_byte k) bs i
     → front ≡ take i text → after ≡ drop (i + 1) text → Some (front, after) ≡ at_byte k text
 cut_here k bs text front after i e none here f g =
@@ -107,7 +107,7 @@ mark_is k x e h = subst (λ y. y < 128) (sym (eqb-true x k e)) h
 pub mark_low : (k : ℕ) (bs text : List ℕ) (i : ℕ) → bs ≡ text → Passes (is_byte k) bs i → k < 128 → get_or text i 0 < 128
 mark_low k bs text i e here h = subst (λ b. get_or b i 0 < 128) e (mark_is k (get_or bs i 0) here h)
 
--- an escape, by what stands in front
+-- an escape, by its first byte
 abbrev Escape : Type 0
 Escape = Option (ℕ × List ℕ)
 

@@ -1,4 +1,4 @@
--- What is read of bytes, in whatever pieces, is what is read of their lines.
+-- Reading bytes, in any pieces, gives the result of reading their lines.
 use Rattle.std.proofs.Common.{◌≡◌, ℕ, suc, ◌+◌, ◌≤◌, ◌<◌, Bool, true, false, cond, eqb, List, [], ◌∷◌, ◌++◌, length, Option, Some, None, Err, refl, ap, sym}
 use Rattle.std.proofs.Common.{◌∙◌, arith, append_assoc, rules, ◌⊎◌, inl, inr}
 use Rattle.std.specs.Prelude.{is_some, ◌==◌}
@@ -86,7 +86,7 @@ lines_begin [] c cs f e = at_all _ _ _ (lines_other c cs e) (begins_one c (lines
 lines_begin (d ∷ b) c cs f e = let k = no_feed_cons d b f in
     at_all _ _ _ (lines_other d (b ++ c ∷ cs) k.0) (begins_more d (b ++ c ∷ []) (lines (b ++ c ∷ cs)) (lines_begin b c cs k.1 e))
 
--- ---- a line that is too long, by its beginning
+-- ---- a line that is too long, from its beginning
 
 same_kind : (c : ℕ) (cs ds : List ℕ) → is_some (behind 65 (c ∷ cs)) ≡ is_some (behind 65 (c ∷ ds))
 same_kind c cs ds = go (eqb c 65) where
@@ -120,7 +120,7 @@ all_nil : (s : State) → all_read [] s ≡ silent s
 unfolding all_read
 all_nil s = refl
 
--- what is read of these lines, to the end
+-- the result of reading these lines to the end
 abbrev to_end : List Line → State → Turn State
 to_end ls s = followed (all_read ls s) all_ended
 
@@ -189,7 +189,7 @@ joined (c ∷ cs) p f h = go (eqb c 10) refl (dichotomy (length p.begun) line_li
           more (push_no_feed p.begun c f e) (omega (arith, small, length-push p.begun c))
           ∙ ap (λ b. to_end (lines b) p.state) (append_assoc p.begun (c ∷ []) cs)
 
--- a document is read in pieces as it is read as a whole
+-- reading a document in pieces gives the same result as reading it at once
 pub in_pieces : (bytes : List ℕ) → document_read (lines bytes) ≡ followed (read bytes nothing_fed) finished
 unfolding document_read
 in_pieces bytes = sym (joined bytes nothing_fed at_nil (omega arith))

@@ -1,4 +1,4 @@
--- What is answered of whole bytes is the verdict on them.
+-- The result for whole bytes is the verdict on them.
 use Rattle.std.proofs.Common.{◌≡◌, ℕ, List, Result, Ok, Err, sym, ap, subst, ◌∙◌}
 use Rattle.rng_model.specs.documents.Lines.{lines}
 use Rattle.rng_model.specs.documents.PyxFaults.{Fault}

@@ -1,4 +1,4 @@
--- Names are written alike where their bytes are the same.
+-- Names are written in the same way if their bytes are the same.
 use Rattle.std.proofs.Common.{◌≡◌, ℕ, Bool, true, false, cond, ◌&&◌, List, [], ◌∷◌, ◌++◌, Option, Some, None, refl, sym, ap, ◌∙◌, ◌+◌, length, eqb, rules}
 use Rattle.std.proofs.Common.{arith}
 use Rattle.std.proofs.Common.{drop, append_assoc, ◌-◌}
@@ -15,7 +15,7 @@ use Rattle.pyx.specs.plain.Cuts.{at_byte, at_front}
 use Rattle.pyx.specs.plain.LineReader.{written_of, cut_name}
 use Rattle.pyx.specs.plain.TagReader.{same_prefix, same_written, declares, declared_by, declared_prefix}
 
--- a name as it stands in a line
+-- the bytes of a name in a line
 abbrev pub bytes_of_prefix : Option (List ℕ) → List ℕ → List ℕ
 bytes_of_prefix None local = local
 bytes_of_prefix (Some p) local = p ++ 58 ∷ local
@@ -23,7 +23,7 @@ bytes_of_prefix (Some p) local = p ++ 58 ∷ local
 abbrev pub written_bytes : WrittenName → List ℕ
 written_bytes name = bytes_of_prefix name.prefix name.local
 
--- what stands before the first of a byte, the byte, and what stands after it, are all
+-- the part before the first of a byte, the byte, and the part after it are the whole
 abbrev pub joins : ℕ → Option (List ℕ × List ℕ) → List ℕ → Type 0
 joins k None bytes = Unit {0}
 joins k (Some p) bytes = p.0 ++ k ∷ p.1 ≡ bytes
@@ -84,7 +84,7 @@ written_alike x y = go (bytes_eq x y) (same_written (written_of x) (written_of y
     same : x ≡ y
     same = sym (written_back x) ∙ ap written_bytes (written_same (written_of x) (written_of y) f) ∙ written_back y
 
--- the bytes of a name as it is written
+-- the number of bytes in a name as it is written
 prefix_size : (p : Option (List ℕ)) (local : List ℕ) → length (bytes_of_prefix p local) ≡ prefix_length p + length local
 prefix_size None local = omega arith
 prefix_size (Some p) local = omega (arith, length-append p (58 ∷ local))

@@ -1,11 +1,11 @@
-// Where a text is cut.
+// Cuts of texts.
 ghost use Rattle.std.specs.Prelude.{◌≡◌, ◌<◌};
 ghost use Rattle.std.specs.Option.{option_map};
 ghost use Rattle.pyx.specs.plain.Cuts.{behind, at_byte};
 
 use memchr::memchr;
 
-/// What stands after this character in front.
+/// Returns the text after its first character, if that is `kind`.
 #[inline(always)]
 pub fn behind(kind: u8, text: &str) -> Option<&str>
     requires { kind < 128 }
@@ -17,7 +17,7 @@ pub fn behind(kind: u8, text: &str) -> Option<&str>
     }
 }
 
-/// What stands before the first of this character, and after it.
+/// Returns the texts before and after the first `mark`.
 #[inline(always)]
 pub fn cut_at(mark: u8, text: &str) -> Option<(&str, &str)>
     requires { mark < 128 }

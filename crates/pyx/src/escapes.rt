@@ -6,7 +6,7 @@ ghost use Rattle.pyx.specs.plain.Cuts.{escape_of, in_front, unescaped};
 use crate::cuts::{behind, cut_at};
 use rng_model::OutOfMemory;
 
-/// After a backslash: what the escape stands for, and the rest.
+/// Returns the character that the escape after a backslash represents, and the rest.
 #[tactic(auto, using(crate::proofs::TextCuts::escape_by_front))]
 fn escape(text: &str) -> Option<(char, &str)>
     ensures { option_map (λ x. (x.0, x.1.now)) result ≡ escape_of text.now }
@@ -23,8 +23,8 @@ fn escape(text: &str) -> Option<(char, &str)>
     None
 }
 
-/// Adds what a text of a line stands for, where `\n`, `\t` and `\\` are a line feed, a tab and a backslash, and tells whether it stands for
-/// something: another escape, or a backslash at the end, breaks P5.
+/// Appends a text of a line with its escapes replaced: `\n`, `\t` and `\\` represent a line feed, a tab and a
+/// backslash. Returns false on another escape or a backslash at the end, which break P5.
 #[inline(always)]
 pub fn append(value: &mut String, text: &str) -> Result<bool, OutOfMemory>
     ensures { IfOk result (λ good. in_front (string_bytes value.old) (unescaped text.now) ≡ (if good then Some (string_bytes value.new) else None)) }

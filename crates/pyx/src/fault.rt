@@ -4,10 +4,10 @@ ghost use Rattle.pyx.specs.declared.fault.LineFault.TheVariants as lines;
 
 use rng_model::OutOfMemory;
 
-/// What is wrong with one line, or with one tag.
+/// A fault of one line or of one tag.
 #[derive(Clone, Copy)]
 pub enum LineFault {
-    /// There was no memory for what the call had to keep.
+    /// Out of memory.
     Memory,
     /// The clause that is broken.
     Clause(u8),

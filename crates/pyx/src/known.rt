@@ -1,4 +1,4 @@
-// Names that were looked up.
+// Names that have been looked up.
 ghost use Rattle.std.specs.Prelude.{◌≡◌, ◌<◌, ◌≤◌, ℕ, length, IfOk, IfSome, OnOk, Some};
 ghost use Rattle.rng_model.specs.names.NameViews.{name_of};
 ghost use Rattle.pyx.specs.plain.LineReader.{written_of};
@@ -9,23 +9,23 @@ use crate::slots::hash_of;
 use rng_model::{Name, OutOfMemory};
 use std::alloc::Global;
 
-/// How many names are kept, a power of two.
+/// The number of names that are kept, a power of two.
 const COUNT: usize = 256;
 
-/// How many bytes a name may have, and its namespace, to be kept in a place of its own.
+/// The most bytes that a name, and its namespace, may have to be kept in a place of its own.
 const SIZE_LIMIT: usize = 1_024;
 
-/// A name as it is written, and what it stood for when it was looked up.
+/// A name as it is written, and the expanded name that the lookup found.
 #[derive(Drop)]
 pub struct KnownName {
-    /// The round in which it was looked up; before the first, nothing was.
+    /// The round of the lookup. Rounds start at 1; 0 means that nothing was looked up.
     pub round: u64,
     pub written: String,
     pub name: Name,
 }
 
 impl KnownName {
-    /// Makes it this name, looked up in this round, in the buffers that it has.
+    /// Replaces the name by this one, looked up in this round. Uses the buffers that are there.
     fn learn(
         &mut self,
         round: u64,
@@ -52,7 +52,7 @@ impl KnownName {
     }
 }
 
-/// No name that is known stays so: the next round begins.
+/// Makes every known name unknown: the next round begins.
 pub fn forget(round: &mut u64, known: &mut Vec<KnownName>)
     ensures { (old new : Declared) → AreKnown old round.old known.old.items → AreKnown new round.new known.new.items }
 {
@@ -62,7 +62,7 @@ pub fn forget(round: &mut u64, known: &mut Vec<KnownName>)
     }
 }
 
-/// A place is there for each name.
+/// Makes sure that there is a place for each name.
 fn make_places(alloc: Global, known: &mut Vec<KnownName>) -> Result<(), OutOfMemory>
     ensures known { (scope : Declared) (round : ℕ) → AreKnown scope round known.old.items → AreKnown scope round known.new.items }
     ensures places { OnOk result (256 ≤ length known.new.items) }
@@ -80,7 +80,7 @@ fn make_places(alloc: Global, known: &mut Vec<KnownName>) -> Result<(), OutOfMem
     Ok(())
 }
 
-/// The place of a name that was looked up in this round, if it is kept there.
+/// Returns the place of a name that was looked up in this round, if it is kept there.
 #[inline(always)]
 pub fn find(known: &[KnownName], round: u64, written: &str) -> Option<usize>
     ensures { IfSome result (λ at. (at < length known.now) × ((scope : Declared) → AreKnown scope round known.now
@@ -93,7 +93,8 @@ pub fn find(known: &[KnownName], round: u64, written: &str) -> Option<usize>
     }
 }
 
-/// Keeps what a name stands for, looked up in this round, and tells its place. One with many bytes goes to the first place.
+/// Keeps the expanded name of a written name, looked up in this round, and returns its place. A long name or one with a
+/// long namespace goes to the first place.
 pub fn learn(
     alloc: Global,
     known: &mut Vec<KnownName>,

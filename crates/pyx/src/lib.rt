@@ -1,4 +1,4 @@
-//! PYX documents to events, however the bytes are cut.
+//! Reads documents in PYX, in pieces of any sizes, and hands out their events.
 #![tactic(auto)]
 
 mod cuts;

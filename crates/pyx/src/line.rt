@@ -11,18 +11,18 @@ use crate::cuts::cut_at;
 use crate::plain::{all_plain, is_plain_name};
 use rng_model::{is_ncname, is_xml_char};
 
-/// How many bytes a line may have without its line feed.
+/// The most bytes that a line may have without its line feed.
 pub const LINE_LIMIT: usize = 65_536;
 
 /// The bytes of a line without its line feed.
 #[derive(Clone, Copy)]
 pub struct Line<'a> {
     pub bytes: &'a [u8],
-    /// A line feed ends it.
+    /// Whether a line feed ends it.
     pub ended: bool,
 }
 
-/// An NCName.
+/// Returns whether the text is an NCName.
 #[tactic(auto, using(crate::proofs::PlainTexts::plain_part))]
 fn is_part(text: &str) -> bool
     ensures { result ≡ is_ncname (chars text.now) }
@@ -30,7 +30,7 @@ fn is_part(text: &str) -> bool
     is_plain_name(text.as_bytes()) || is_ncname(text)
 }
 
-/// An NCName, or two with a colon between.
+/// Returns whether the text is an NCName, or two NCNames with a colon between.
 #[tactic(auto, unfolding(crate::specs::plain::LineReader::is_name))]
 fn is_any_name(text: &str) -> bool
     ensures { result ≡ is_name text.now }
@@ -41,7 +41,7 @@ fn is_any_name(text: &str) -> bool
     }
 }
 
-/// The same, told quickly of a name of letters of ASCII.
+/// The same as `is_any_name`, fast for names of ASCII letters.
 #[tactic(auto, using(crate::proofs::PlainTexts::plain_name))]
 #[inline(always)]
 pub fn is_name(text: &str) -> bool
@@ -56,7 +56,8 @@ fn all_xml_chars(text: &str) -> bool
     all_plain(text.as_bytes()) || text.chars().all(|c| is_xml_char(c))
 }
 
-/// The line as a text, or the least clause that it breaks whatever it says: P10, P1, P2 and P3, in this order.
+/// Returns the line as a text, or the first clause that it breaks whatever its content: P10, P1, P2 and P3, in this
+/// order.
 #[tactic(auto, unfolding(crate::specs::plain::LineReader::said_of, crate::specs::plain::LineReader::characters_of))]
 pub fn line_text(line: Line<'_>) -> Result<&str, u8>
     ensures { MatchResult result (λ text. (line_of line.entry ≡ ended_line text.now) × (said_of (ended_line text.now) ≡ kind_of text.now))

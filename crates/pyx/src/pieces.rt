@@ -1,4 +1,4 @@
-// A document in pieces.
+// Documents in pieces.
 ghost use Rattle.std.specs.Prelude.{◌≡◌, ◌+◌, ◌<◌, ◌≤◌, ◌^◌, ◌++◌, true, length, take, [], ◌∷◌, IfSome, MatchOption};
 ghost use Rattle.std.specs.Option.{option_map};
 ghost use Rattle.std.specs.List.{list_all, prefix_len};
@@ -20,15 +20,15 @@ use memchr::{memchr, memrchr};
 use rng_model::{Events, PyxFault};
 use std::alloc::Global;
 
-/// What is kept from one piece to the next.
+/// The state between two pieces.
 #[derive(Drop)]
 pub struct Pieces {
     state: State,
-    /// The bytes behind the last line feed.
+    /// The bytes after the last line feed.
     begun: Vec<u8>,
 }
 
-/// The bytes before the first line feed, and those behind it.
+/// Returns the bytes before the first line feed, and those after it.
 fn first_line(bytes: &[u8]) -> Option<(&[u8], &[u8])>
     ensures parts { option_map (λ x. (x.0.now, x.1.now)) result ≡ at_byte 10 bytes.now }
     ensures shorter { IfSome result (λ x. length x.0.now + length x.1.now < length bytes.now) }
@@ -39,7 +39,8 @@ fn first_line(bytes: &[u8]) -> Option<(&[u8], &[u8])>
     }
 }
 
-/// The bytes up to and with the first line feed, those behind it up to and with the last, and the rest.
+/// Returns the bytes up to and including the first line feed, those after it up to and including the last one, and the
+/// rest.
 fn parts(piece: &[u8]) -> (&[u8], &[u8], &[u8])
     ensures { piece.now ≡ result.0.now ++ (result.1.now ++ result.2.now) }
 {
@@ -56,7 +57,7 @@ fn parts(piece: &[u8]) -> (&[u8], &[u8], &[u8])
     (head, body, tail)
 }
 
-/// The bytes in front, at most so many.
+/// Returns the first `limit` bytes, or all if there are fewer.
 fn at_most(limit: usize, bytes: &[u8]) -> &[u8]
     ensures { result.now ≡ take limit bytes.now }
 {
@@ -68,7 +69,7 @@ fn at_most(limit: usize, bytes: &[u8]) -> &[u8]
 }
 
 impl Pieces {
-    /// Nothing came. Takes no memory.
+    /// Creates the state of a document that has had no bytes. Allocates nothing.
     pub fn new(alloc: Global) -> Self
         ensures { progress_of result ≡ pieces.nothing_fed }
     {
@@ -78,14 +79,14 @@ impl Pieces {
         }
     }
 
-    /// How many bytes are kept.
+    /// Returns the number of bytes that are kept.
     pub fn held(&self) -> u64
         ensures { result ≡ held (progress_of self.now) }
     {
         (self.begun.len() as u64).saturating_add(self.state.held())
     }
 
-    /// With these bytes the line is too long.
+    /// Rejects the line, which is too long with these bytes.
     #[tactic(auto, unfolding(crate::specs::plain::Pieces::overlong))]
     fn refuse<E: Events>(&mut self, more: &[u8], events: &mut E) -> Result<(), PyxFault>
         requires begun { length self.old.begun.items ≤ 65536 }
@@ -101,7 +102,7 @@ impl Pieces {
         self.state.line(line, events)
     }
 
-    /// The line ends behind these bytes.
+    /// Reads the line that ends after these bytes.
     #[tactic(auto, unfolding(crate::specs::plain::Pieces::line_taken))]
     fn line<E: Events>(&mut self, front: &[u8], events: &mut E) -> Result<(), PyxFault>
         requires begun { length self.old.begun.items ≤ 65536 }
@@ -128,7 +129,7 @@ impl Pieces {
         Ok(())
     }
 
-    /// The line ends behind this text of plain bytes.
+    /// Reads the line that ends after this text of plain bytes.
     #[tactic(auto, unfolding(crate::specs::plain::Pieces::line_taken))]
     #[inline(always)]
     fn text_line<E: Events>(&mut self, text: &str, events: &mut E) -> Result<(), PyxFault>
@@ -143,7 +144,7 @@ impl Pieces {
         self.line(text.as_bytes(), events)
     }
 
-    /// The line does not end in these bytes.
+    /// Keeps bytes in which the line does not end.
     #[tactic(auto, unfolding(crate::specs::plain::Pieces::rest_taken))]
     fn keep<E: Events>(&mut self, rest: &[u8], events: &mut E) -> Result<(), PyxFault>
         requires begun { length self.old.begun.items ≤ 65536 }
@@ -157,7 +158,7 @@ impl Pieces {
         Ok(())
     }
 
-    /// Takes bytes, line by line.
+    /// Reads bytes line by line.
     fn read_bytes<E: Events>(&mut self, bytes: &[u8], events: &mut E) -> Result<(), PyxFault>
         requires begun { length self.old.begun.items ≤ 65536 }
         requires weight { weight (progress_of self.old) + length bytes.now < 2 ^ 63 }
@@ -171,7 +172,7 @@ impl Pieces {
         self.keep(rest, events)
     }
 
-    /// Takes a text of plain bytes, line by line.
+    /// Reads a text of plain bytes line by line.
     fn read_text<E: Events>(&mut self, text: &str, events: &mut E) -> Result<(), PyxFault>
         requires plain { list_all is_plain text.now ≡ true }
         requires begun { length self.old.begun.items ≤ 65536 }
@@ -186,7 +187,7 @@ impl Pieces {
         self.keep(rest.as_bytes(), events)
     }
 
-    /// Takes bytes.
+    /// Reads bytes line by line, as a text if all are plain.
     fn read_lines<E: Events>(&mut self, bytes: &[u8], events: &mut E) -> Result<(), PyxFault>
         requires begun { length self.old.begun.items ≤ 65536 }
         requires weight { weight (progress_of self.old) + length bytes.now < 2 ^ 63 }
@@ -198,7 +199,7 @@ impl Pieces {
         }
     }
 
-    /// Takes a piece.
+    /// Reads a piece.
     pub fn read<E: Events>(&mut self, piece: &[u8], events: &mut E) -> Result<(), PyxFault>
         requires begun { length self.old.begun.items ≤ 65536 }
         requires weight { weight (progress_of self.old) + length piece.now < 2 ^ 63 }
@@ -210,7 +211,7 @@ impl Pieces {
         self.read_bytes(tail, events)
     }
 
-    /// Nothing comes behind: what has begun is a line, unless it is empty.
+    /// Ends the document. The line that has begun is read, unless it is empty.
     #[tactic(auto, unfolding(crate::specs::plain::Pieces::finished, crate::specs::plain::DocumentReader::all_ended))]
     pub fn finish<E: Events>(self, events: &mut E) -> Result<(), PyxFault>
         requires begun { length self.begun.items ≤ 65536 }

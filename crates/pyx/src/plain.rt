@@ -1,9 +1,10 @@
-// Bytes that tell without a look at characters that a text or a name is a good one.
+// Bytes that show without decoding that a text or a name is good.
 ghost use Rattle.std.specs.Prelude.{◌≡◌, IfSome, true};
 ghost use Rattle.std.specs.List.{list_all};
 ghost use Rattle.pyx.specs.plain.PlainBytes.{flaw, is_plain, is_plain_name, may_begin, may_follow};
 
-/// 1 for a byte that is not plain. A plain one stands only in characters that XML has: U+FFFE and U+FFFF begin with the byte 0xEF.
+/// Returns 1 for a byte that is not plain. A plain byte is only in characters that XML has: U+FFFE and U+FFFF begin
+/// with the byte 0xEF.
 fn flaw(byte: u8) -> u8
     ensures { result ≡ flaw (is_plain byte) }
 {
@@ -14,7 +15,8 @@ fn flaw(byte: u8) -> u8
     }
 }
 
-/// All bytes are plain. It looks at each of them, whatever the others are, so that many are looked at at once.
+/// Returns whether all bytes are plain. It looks at all of them without an early exit, so many can be looked at
+/// together.
 pub fn all_plain(bytes: &[u8]) -> bool
     ensures { result ≡ list_all is_plain bytes.now }
 {
@@ -25,7 +27,7 @@ pub fn all_plain(bytes: &[u8]) -> bool
     flaws == 0
 }
 
-/// The bytes as a text, where all are plain.
+/// Returns the bytes as a text if all are plain.
 pub fn plain_text(bytes: &[u8]) -> Option<&str>
     ensures { IfSome result (λ t. (t.now ≡ bytes.now) × (list_all is_plain t.now ≡ true)) }
 {
@@ -38,7 +40,7 @@ pub fn plain_text(bytes: &[u8]) -> Option<&str>
     }
 }
 
-/// A letter of ASCII, or `_`.
+/// Returns whether the byte is an ASCII letter or `_`.
 fn may_begin(byte: u8) -> bool
     ensures { result ≡ may_begin byte }
 {
@@ -57,14 +59,14 @@ fn may_follow(byte: u8) -> bool
     matches!(byte, b'-'..=b'.' | b'0'..=b'9' | b'A'..=b'Z' | b'_')
 }
 
-/// They may all stand in a name after its first.
+/// Returns whether all bytes may be in a name after its first one.
 fn all_follow(bytes: &[u8]) -> bool
     ensures { result ≡ list_all may_follow bytes.now }
 {
     bytes.iter().all(|byte| may_follow(*byte))
 }
 
-/// A name without a colon, of characters of ASCII.
+/// Returns whether the bytes are a name without a colon, of ASCII characters.
 #[inline(always)]
 pub fn is_plain_name(bytes: &[u8]) -> bool
     ensures { result ≡ is_plain_name bytes.now }

@@ -12,7 +12,7 @@ use rng_model::{Events, PyxFault};
 use std::alloc::Global;
 use std::marker::Model;
 
-/// Reads a document in pieces, and hands out its events.
+/// Reads a document in pieces and hands out its events.
 #[derive(Drop)]
 pub struct Reader {
     pieces: Pieces,
@@ -29,7 +29,7 @@ impl Model for Reader {
 }
 
 impl Reader {
-    /// A reader that was fed nothing. Takes no memory.
+    /// Creates a reader that has been fed nothing. Allocates nothing.
     pub fn new(alloc: Global) -> Self
         ensures stands { Stands result [] [] }
         ensures fed { result.fed ≡ 0 }
@@ -42,18 +42,18 @@ impl Reader {
         }
     }
 
-    /// How many bytes all calls of `feed` took that answered `Ok`. Takes no memory.
+    /// Returns the number of bytes taken by the calls of `feed` that returned `Ok`. Allocates nothing.
     pub fn fed(&self) -> u64
         ensures { result ≡ self.now.fed }
     {
         self.fed
     }
 
-    /// How many bytes are kept: of the line that has begun, of the lines of the tag that is being read, of the name and
-    /// the declarations of each open element, and of the text that is joined so far.
+    /// Returns how many bytes are kept. They are the line that has begun, the lines of the tag that is being read, the
+    /// name and the declarations of each open element, and the text that is joined so far.
     ///
-    /// It is at most 8,641,445,888; after a fault it is 0. Buffers that are used again and at most 256 names that were looked
-    /// up are not counted. Takes no memory. It goes over what is open.
+    /// It is at most 8,641,445,888. After a fault it is 0. Buffers for reuse and the at most 256 names that have been
+    /// looked up are not counted. Allocates nothing. The cost is linear in the open elements and their declarations.
     pub fn held(&self) -> u64
         ensures held { IsHeld self.now result }
         ensures fault { IfSome self.now.fault (λ f. result ≡ 0) }
@@ -64,11 +64,12 @@ impl Reader {
         self.pieces.held()
     }
 
-    /// Takes the next piece of the document, and hands out the events of the lines that it ends.
+    /// Reads the next piece of the document, and hands out the events of the lines that it ends. All pieces together
+    /// must have fewer than 2^63 bytes.
     ///
-    /// A line is judged when its line feed comes or when it passes 65,536 bytes, a tag at the line behind it. An error is
-    /// `PyxFault::At`, the broken clause of least line and of least number there, whatever comes behind, or
-    /// `PyxFault::Memory`. After it every call answers the same. One pass over the piece.
+    /// A line is judged when its line feed comes or when it exceeds 65,536 bytes. A tag is judged at the line after it.
+    /// An error is `PyxFault::At`, the broken clause with the least line, and there the least number, whatever comes
+    /// after. Or it is `PyxFault::Memory`. After an error every call returns the same error. One pass over the piece.
     ///
     /// XML 1.0, sections 2.2 and 3.1; Namespaces in XML 1.0, sections 3 to 6.
     pub fn feed<E: Events>(&mut self, piece: &[u8], events: &mut E) -> Result<(), PyxFault>
@@ -93,11 +94,11 @@ impl Reader {
         }
     }
 
-    /// Nothing comes behind the pieces: hands out the events of a last line that no line feed ends.
+    /// Ends the document after the pieces, and hands out the events of a last line without a line feed.
     ///
-    /// It is `Ok` exactly where all bytes are a document, and the events that were handed out are then its events. An error
-    /// is `PyxFault::At`, the broken clause of least line and of least number there, or `PyxFault::Memory`; after an error
-    /// of `feed` that one.
+    /// Returns `Ok` exactly if all bytes are a document. The events that were handed out are then its events. An error
+    /// is `PyxFault::At`, the broken clause with the least line, and there the least number, or `PyxFault::Memory`.
+    /// After an error of `feed` it is the same error. The cost is at most that of one line and one tag.
     pub fn finish<E: Events>(self, events: &mut E) -> Result<(), PyxFault>
         ensures document { UnlessMemory result (Ends (Hands E.stands events.old events.new) self result) }
         ensures sticky { IfSome self.fault (λ f. result ≡ Err f) }

@@ -1,5 +1,5 @@
-// What names stand for inside the elements that are open.
-ghost use Rattle.std.specs.Prelude.{◌≡◌, ◌<◌, ◌≤◌, ℕ, List, Option, [], ◌∷◌, MatchOption, IfSome, map, length, string_bytes};
+// Names looked up inside the open elements.
+ghost use Rattle.std.specs.Prelude.{◌≡◌, ◌++◌, ◌<◌, ◌≤◌, ℕ, List, Option, [], ◌∷◌, MatchOption, IfSome, map, length, string_bytes};
 ghost use Rattle.std.specs.Option.{option_map};
 ghost use Rattle.rng_model.specs.plain.Answers.{Gives};
 ghost use Rattle.rng_model.specs.names.NameViews.{name_of};
@@ -17,24 +17,25 @@ use rng_model::{Attr, Name};
 use std::alloc::Global;
 use std::mem;
 
-/// An element whose end was not read.
+/// An element whose end has not been read.
 #[derive(Drop)]
 pub struct OpenElement {
-    /// As it is written.
+    /// The name as it is written.
     pub name: String,
     /// The declarations of its tag, in order.
     pub declarations: Vec<WrittenAttribute>,
 }
 
-/// The innermost of the elements, and those around it.
+/// Returns the innermost of the elements, and those around it.
 pub fn innermost(opened: &[OpenElement]) -> Option<(&OpenElement, &[OpenElement])>
     ensures stack { MatchOption result (stack_of opened.now ≡ []) (λ x. stack_of opened.now ≡ open_of x.0.now ∷ stack_of x.1.now) }
     ensures shorter { IfSome result (λ x. length x.1.now < length opened.now) }
+    ensures parts { IfSome result (λ x. opened.now ≡ x.1.now ++ x.0.now ∷ []) }
 {
     opened.split_last()
 }
 
-/// How many bytes are kept of these elements: their names and their declarations.
+/// Returns how many bytes are kept of these elements: their names and their declarations.
 #[tactic(auto, unfolding(crate::specs::views::Held::opened_held))]
 pub fn opened_len(opened: &[OpenElement]) -> u64
     ensures { result ≡ opened_held (stack_of opened.now) }
@@ -50,7 +51,7 @@ pub fn opened_len(opened: &[OpenElement]) -> u64
     }
 }
 
-/// These elements without the innermost ones that declare nothing.
+/// Returns these elements without the innermost ones that declare nothing.
 #[inline(always)]
 fn declaring(opened: &[OpenElement]) -> &[OpenElement]
     ensures same { (prefix : Option (List ℕ)) → namespace_of (scope_of result.now) prefix ≡ namespace_of (scope_of opened.now) prefix }
@@ -66,7 +67,7 @@ fn declaring(opened: &[OpenElement]) -> &[OpenElement]
     rest
 }
 
-/// The namespace of a prefix, or the default one, inside these elements.
+/// Returns the namespace of a prefix, or the default one, inside these elements.
 #[tactic(auto, unfolding(crate::specs::plain::TagReader::namespace_of))]
 #[inline(always)]
 pub fn namespace<'a>(opened: &'a [OpenElement], prefix: Option<&str>) -> Option<&'a str>
@@ -79,7 +80,7 @@ pub fn namespace<'a>(opened: &'a [OpenElement], prefix: Option<&str>) -> Option<
         }
         rest = declaring(outer);
     }
-    // what is declared beforehand
+    // The declarations that hold before any other.
     match prefix {
         None => Some(""),
         Some("xml") => Some(XML_URI),
@@ -87,7 +88,7 @@ pub fn namespace<'a>(opened: &'a [OpenElement], prefix: Option<&str>) -> Option<
     }
 }
 
-/// The expanded name of an attribute inside these elements. A prefix that is not declared breaks P11.
+/// Returns the expanded name of an attribute inside these elements. A prefix that is not declared breaks P11.
 #[tactic(auto, unfolding(crate::specs::plain::TagReader::attribute_name, crate::specs::plain::LineReader::written_of))]
 fn attribute_name(
     alloc: Global,
@@ -116,7 +117,7 @@ fn attribute_name(
     }
 }
 
-/// Puts the attributes with their expanded names where none are.
+/// Appends the attributes with their expanded names to an empty list.
 #[inline(never)]
 fn fill(
     alloc: Global,
@@ -139,7 +140,7 @@ fn fill(
     Ok(())
 }
 
-/// The attributes of the innermost element with their expanded names, in place of those before.
+/// Replaces the list of attributes by those of the innermost element, with their expanded names.
 #[inline(always)]
 pub fn expand_attributes(
     alloc: Global,

@@ -1,4 +1,4 @@
-// Attributes of one name in a tag.
+// Attributes with the same name in a tag.
 ghost use Rattle.std.specs.Prelude.{◌≡◌, ℕ, List, map, false, true};
 ghost use Rattle.rng_model.specs.names.NameViews.{name_of};
 ghost use Rattle.rng_model.specs.documents.DocumentViews.{attribute_of};
@@ -7,13 +7,13 @@ ghost use Rattle.pyx.specs.plain.TagReader.{is_named_in, is_named_twice};
 
 use rng_model::{Attr, Name};
 
-/// How many names are compared in pairs, at most, without a look at their slots.
+/// The most names that are compared in pairs, without slots.
 const PAIRED_LIMIT: usize = 8;
 
-/// How many slots there are.
-const SLOT_COUNT: usize = 4_096;
+/// The number of slots.
+pub const SLOT_COUNT: usize = 4_096;
 
-/// A number that is made of the bytes of a text.
+/// Returns a hash of the bytes of a text.
 #[tactic(auto, unfolding(crate::specs::plain::Slots::hash_of))]
 #[inline(always)]
 pub fn hash_of(text: &str) -> usize
@@ -26,7 +26,7 @@ pub fn hash_of(text: &str) -> usize
     (sum >> 8) as usize
 }
 
-/// One of these attributes has this name.
+/// Returns whether one of these attributes has this name.
 #[tactic(auto, unfolding(crate::specs::plain::TagReader::is_named_in))]
 fn is_named_in(name: &Name, attrs: &[Attr]) -> bool
     ensures { result ≡ is_named_in (name_of name.now) (map attribute_of attrs.now) }
@@ -39,21 +39,21 @@ fn is_named_in(name: &Name, attrs: &[Attr]) -> bool
     }
 }
 
-/// Tells whether the slot of a local name is set, and sets it.
+/// Sets the slot of a name, and returns whether it was set already.
 #[inline(always)]
-fn mark(slots: &mut [bool; SLOT_COUNT], local: &str) -> bool
-    ensures met { result ≡ is_met slots.old local.now }
-    ensures set { is_met slots.new local.now ≡ true }
+pub fn mark(slots: &mut [bool; SLOT_COUNT], name: &str) -> bool
+    ensures met { result ≡ is_met slots.old name.now }
+    ensures set { is_met slots.new name.now ≡ true }
     ensures kept { (other : List ℕ) → is_met slots.old other ≡ true → is_met slots.new other ≡ true }
 {
-    let at = hash_of(local) % SLOT_COUNT;
+    let at = hash_of(name) % SLOT_COUNT;
     let met = slots[at];
     slots[at] = true;
     met
 }
 
-/// Two of these attributes have one name. Where none have, the slots of all are set; a name is compared with those behind it only where one of
-/// them has set its slot.
+/// Returns whether two of these attributes have the same name. If none have, the slots of all are set. A name is
+/// compared with those after it only if one of them has set its slot.
 #[tactic(auto, unfolding(crate::specs::plain::TagReader::is_named_twice))]
 fn is_repeated(attrs: &[Attr], slots: &mut [bool; SLOT_COUNT]) -> bool
     ensures twice { result ≡ is_named_twice (map attribute_of attrs.now) }
@@ -70,7 +70,7 @@ fn is_repeated(attrs: &[Attr], slots: &mut [bool; SLOT_COUNT]) -> bool
     }
 }
 
-/// Two of these attributes have one name. No other function holds the slots, so that a tag of few attributes does not clear them.
+/// The same with slots. Only this function holds the slots, so a tag with few attributes does not clear them.
 #[inline(never)]
 fn is_named_twice_by_slots(attrs: &[Attr]) -> bool
     ensures { result ≡ is_named_twice (map attribute_of attrs.now) }
@@ -78,7 +78,7 @@ fn is_named_twice_by_slots(attrs: &[Attr]) -> bool
     is_repeated(attrs, &mut [false; SLOT_COUNT])
 }
 
-/// Two of these attributes have one name.
+/// Returns whether two of these attributes have the same name.
 #[tactic(auto, unfolding(crate::specs::plain::TagReader::is_named_twice))]
 pub fn is_named_twice(attrs: &[Attr]) -> bool
     ensures { result ≡ is_named_twice (map attribute_of attrs.now) }

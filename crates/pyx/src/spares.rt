@@ -4,26 +4,26 @@ ghost use Rattle.std.specs.Prelude.{◌≡◌, [], IfOk, string_bytes};
 use rng_model::{Attr, OutOfMemory};
 use std::alloc::Global;
 
-/// How many buffers are kept, and how many bytes each may hold.
+/// The most buffers that are kept, and the most bytes that each may hold.
 const COUNT_LIMIT: usize = 256;
 
 const SIZE_LIMIT: usize = 1_024;
 
-/// Buffers of names and values that are no longer in use. What they hold means nothing.
+/// Buffers of names and values for reuse. Their contents mean nothing.
 #[derive(Drop)]
 pub struct Spares {
     texts: Vec<String>,
 }
 
 impl Spares {
-    /// No buffers. Takes no memory.
+    /// Creates a value without buffers. Allocates nothing.
     pub fn new(alloc: Global) -> Self {
         Spares {
             texts: Vec::new(alloc),
         }
     }
 
-    /// An empty text, in a spare buffer where there is one. Takes no memory.
+    /// Returns an empty text, in a spare buffer if there is one. Allocates nothing.
     #[inline(always)]
     pub fn take(&mut self, alloc: Global) -> String
         ensures { string_bytes result ≡ [] }
@@ -37,7 +37,7 @@ impl Spares {
         }
     }
 
-    /// The text as one's own, in a spare buffer where there is one.
+    /// Returns a copy of the text, in a spare buffer if there is one.
     #[inline(always)]
     pub fn copy(&mut self, alloc: Global, text: &str) -> Result<String, OutOfMemory>
         ensures { IfOk result (λ s. string_bytes s ≡ text.now) }
@@ -47,7 +47,7 @@ impl Spares {
         Ok(copy)
     }
 
-    /// Keeps a buffer for later, unless it is none or large or there are enough.
+    /// Keeps a buffer for reuse, unless it has no capacity, is too large or there are enough.
     pub fn keep(&mut self, text: String) {
         let size = text.capacity();
         if self.texts.len() < COUNT_LIMIT && 0 < size && size <= SIZE_LIMIT {
@@ -55,7 +55,7 @@ impl Spares {
         }
     }
 
-    /// Takes all attributes away, and keeps their buffers.
+    /// Removes all attributes and keeps their buffers.
     pub fn keep_all(&mut self, attrs: &mut Vec<Attr>)
         ensures { attrs.new.items ≡ [] }
     {

@@ -1,5 +1,5 @@
-// A document line by line.
-ghost use Rattle.std.specs.Prelude.{◌≡◌, ◌+◌, ◌<◌, ◌^◌, length, is_some, IfOk, OnOk, string_bytes, true};
+// Documents line by line.
+ghost use Rattle.std.specs.Prelude.{◌≡◌, ◌+◌, ◌<◌, ◌^◌, ℕ, List, length, map, is_some, IfOk, OnOk, string_bytes, true};
 ghost use Rattle.rng_model.specs.plain.Answers.{Gives};
 ghost use Rattle.rng_model.specs.documents.PyxLines as lines;
 ghost use Rattle.pyx.specs.plain.DocumentReader as reader;
@@ -17,56 +17,55 @@ use crate::escapes::append;
 use crate::fault::LineFault;
 use crate::line::{Line, is_name, line_text};
 use crate::opened::OpenElements;
-use crate::scope::{OpenElement, expand_attributes, innermost, opened_len};
+use crate::scope::{expand_attributes, opened_len};
 use crate::slots::is_named_twice;
 use crate::spares::Spares;
-use crate::written::{WrittenAttribute, any_forbidden, declared_by, is_same, is_written_twice};
+use crate::written::{WrittenAttribute, any_forbidden, declared_by, is_written_twice};
 use rng_model::{Attr, Event, EventKind, Events, OutOfMemory, PyxFault};
 use std::alloc::Global;
 use std::mem;
 
-/// How many `A` lines a tag may have.
+/// The most `A` lines that a tag may have.
 const ATTRIBUTE_LIMIT: usize = 256;
 
-/// How many elements may be open at once.
+/// The most elements that may be open at once.
 const OPEN_LIMIT: usize = 512;
 
-/// How many bytes a joined text may have.
+/// The most bytes that a joined text may have.
 const TEXT_LIMIT: usize = 1_048_576;
 
-/// A tag whose lines are being read. Names are as they are written.
+/// What the lines of a tag say behind its name. Names are as they are written.
 #[derive(Drop)]
 pub struct Tag {
-    name: String,
     declarations: Vec<WrittenAttribute>,
     /// The `A` lines that declare nothing.
     others: Vec<WrittenAttribute>,
-    /// How many bytes its lines have, without their line feeds.
+    /// The number of bytes in its lines, without their line feeds.
     bytes: u64,
 }
 
-/// What is kept from one line to the next.
+/// The state between two lines.
 #[derive(Drop)]
 pub struct State {
     alloc: Global,
-    /// The last line belongs to a tag.
+    /// Whether the last line belongs to a tag.
     in_tag: bool,
-    /// This tag, or buffers for the next.
+    /// That tag, or buffers for the next one.
     tag: Tag,
-    /// The attributes of the start that a tag is, or room for them.
+    /// The attributes of the start event of a tag, or space for them.
     attrs: Vec<Attr>,
-    /// The elements that are open, without that of the tag.
+    /// The open elements, without the element of the tag.
     elements: OpenElements,
     /// The text since the last tag.
     joined: String,
-    /// A root has begun.
+    /// Whether a root has begun.
     root: bool,
     lines: u64,
     spares: Spares,
 }
 
 impl Tag {
-    /// One more `A` line, of so many bytes, which declares something or does not.
+    /// Adds an `A` line of this many bytes, which is a declaration or not.
     fn add(
         &mut self,
         bytes: u64,
@@ -75,7 +74,7 @@ impl Tag {
     ) -> Result<(), OutOfMemory>
         requires room { self.old.bytes + bytes < 2 ^ 64 }
         requires declares { declares ≡ is_some (declared_by (written_attribute attribute).name) }
-        ensures { OnOk result (tag_of self.new ≡ reader.with_attribute bytes (written_attribute attribute) (tag_of self.old)) }
+        ensures { OnOk result ((name : List ℕ) → tag_of name self.new ≡ reader.with_attribute bytes (written_attribute attribute) (tag_of name self.old)) }
     {
         self.bytes += bytes;
         if declares {
@@ -88,7 +87,7 @@ impl Tag {
 }
 
 impl State {
-    /// Nothing was read. Takes no memory.
+    /// Creates the state of a document that has had no line. Allocates nothing.
     pub fn new(alloc: Global) -> Self
         ensures { state_of result ≡ reader.nothing_read }
     {
@@ -96,7 +95,6 @@ impl State {
             alloc,
             in_tag: false,
             tag: Tag {
-                name: String::new(alloc),
                 declarations: Vec::new(alloc),
                 others: Vec::new(alloc),
                 bytes: 0,
@@ -110,7 +108,7 @@ impl State {
         }
     }
 
-    /// How many bytes are kept.
+    /// Returns the number of bytes that are kept.
     pub fn held(&self) -> u64
         ensures { result ≡ state_held (state_of self.now) }
     {
@@ -120,7 +118,7 @@ impl State {
             .saturating_add(self.joined.len() as u64)
     }
 
-    /// A fault at the last line.
+    /// Returns a fault at the last line.
     fn fault(&self, clause: u8) -> PyxFault
         ensures { result ≡ PyxFault.At clause self.now.lines }
     {
@@ -130,29 +128,27 @@ impl State {
         }
     }
 
-    /// The tag is whole: its element is open, with its attributes, and its name stands in the place that is told.
+    /// Opens the element of the tag, which is complete, with its attributes. Returns the place of its name.
     ///
-    /// P11 is broken where a declaration is not allowed or a prefix is not declared, else P12 where two of the `A` lines
-    /// have one name or two attributes one expanded name. Namespaces in XML 1.0, sections 3 to 6.
+    /// P11 is broken if a declaration is not allowed or a prefix is not declared. Otherwise P12 is broken if two of the
+    /// `A` lines have the same name or two attributes the same expanded name. Namespaces in XML 1.0, sections 3 to 6.
     #[tactic(auto, unfolding(crate::specs::plain::TagReader::tag_read))]
     #[inline(always)]
     fn open_tag(&mut self) -> Result<usize, LineFault>
         ensures element { Gives clause_of (element_at self.new.elements.names self.new.attrs.items) result
-            (tag_read (declared_in self.old.elements.opened) (tag_of self.old.tag).name (tag_of self.old.tag).declared (tag_of self.old.tag).others) }
+            (tag_read (declared_in self.old.elements.opened) (written_of self.old.elements.begun) (map written_attribute self.old.tag.declarations.items)
+            (map written_attribute self.old.tag.others.items)) }
         ensures inside { IfOk result (λ at. at < length self.new.elements.names) }
-        ensures opened { OnOk result (state_of self.new ≡ reader.opened_by (tag_of self.old.tag) (state_of self.old)) }
+        ensures opened { OnOk result (state_of self.new ≡ reader.opened_by (tag_of self.old.elements.begun self.old.tag) (state_of self.old)) }
         ensures lines { self.new.lines ≡ self.old.lines }
     {
-        let name = mem::replace(&mut self.tag.name, String::new(self.alloc));
         let declarations = mem::replace(&mut self.tag.declarations, Vec::new(self.alloc));
         if any_forbidden(declarations.as_slice()) {
             return Err(LineFault::Clause(11));
         }
-        let twice = is_written_twice(declarations.as_slice());
+        let twice = declarations.len() > 1 && is_written_twice(declarations.as_slice());
         self.in_tag = false;
-        let at = self
-            .elements
-            .open(self.alloc, OpenElement { name, declarations })?;
+        let at = self.elements.open(self.alloc, declarations)?;
         expand_attributes(
             self.alloc,
             self.elements.elements(),
@@ -166,7 +162,7 @@ impl State {
         Ok(at)
     }
 
-    /// Hands out the start of the tag that was read.
+    /// Hands out the start event of the tag that has been read.
     fn close_tag<E: Events>(&mut self, events: &mut E) -> Result<(), PyxFault>
         requires lines { self.old.lines + 1 < 2 ^ 64 }
         requires tag { self.old.in_tag ≡ true }
@@ -190,7 +186,7 @@ impl State {
         }
     }
 
-    /// A line with these bytes comes next: unless it belongs to the tag, the tag is whole.
+    /// Completes the tag if the next line, which has these bytes, does not belong to it.
     #[tactic(auto, unfolding(crate::specs::plain::DocumentReader::tag_ended))]
     #[inline(always)]
     fn end_tag<E: Events>(&mut self, bytes: &[u8], events: &mut E) -> Result<(), PyxFault>
@@ -210,7 +206,8 @@ impl State {
     #[tactic(auto, unfolding(crate::specs::plain::DocumentReader::text_ended))]
     #[inline(always)]
     fn end_text<E: Events>(&mut self, events: &mut E) -> Result<(), PyxFault>
-        ensures { Takes result (state_of self.new) (Hands E.stands events.old events.new) (reader.text_ended (state_of self.old)) }
+        ensures text { Takes result (state_of self.new) (Hands E.stands events.old events.new) (reader.text_ended (state_of self.old)) }
+        ensures begun { self.new.elements.begun ≡ self.old.elements.begun }
     {
         if !self.joined.is_empty() {
             let kind = EventKind::Text(self.joined.as_str());
@@ -223,14 +220,14 @@ impl State {
         Ok(())
     }
 
-    /// A start tag begins, in a line of so many bytes.
+    /// Begins a start tag, in a line of this many bytes.
     #[tactic(auto, unfolding(crate::specs::plain::LineReader::named, crate::specs::plain::DocumentReader::said_read, crate::specs::plain::DocumentReader::started))]
     #[inline(always)]
     fn start<E: Events>(&mut self, bytes: u64, name: &str, events: &mut E) -> Result<(), PyxFault>
         ensures { Takes result (state_of self.new) (Hands E.stands events.old events.new)
             (reader.judged bytes (named lines.start name.now) (state_of self.old)) }
     {
-        if !is_name(name) {
+        if !self.elements.begin(self.alloc, &mut self.spares, name)? {
             return Err(self.fault(6));
         }
         if self.root && self.elements.elements().is_empty() {
@@ -240,7 +237,6 @@ impl State {
             return Err(self.fault(10));
         }
         self.end_text(events)?;
-        self.tag.name = self.spares.copy(self.alloc, name)?;
         self.tag.declarations.clear();
         self.tag.others.clear();
         self.tag.bytes = bytes;
@@ -249,7 +245,7 @@ impl State {
         Ok(())
     }
 
-    /// One more `A` line of the tag, of so many bytes.
+    /// Adds an `A` line of this many bytes to the tag.
     #[tactic(auto, unfolding(crate::specs::plain::DocumentReader::attributed))]
     fn add(&mut self, bytes: u64, name: &str, value: String) -> Result<(), PyxFault>
         requires { reader.tag_bytes (state_of self.old).tag + bytes < 2 ^ 64 }
@@ -270,7 +266,7 @@ impl State {
         Ok(())
     }
 
-    /// An `A` line of so many bytes, without its first.
+    /// Reads an `A` line of this many bytes, given without its first byte.
     #[tactic(auto, unfolding(crate::specs::plain::LineReader::attribute_of, crate::specs::plain::DocumentReader::said_read))]
     #[inline(always)]
     fn attribute(&mut self, bytes: u64, line: &str) -> Result<(), PyxFault>
@@ -290,7 +286,7 @@ impl State {
         self.add(bytes, name, content)
     }
 
-    /// A text in a line of so many bytes, joined to the one before.
+    /// Joins a text, in a line of this many bytes, to the text before it.
     #[tactic(auto, unfolding(crate::specs::plain::LineReader::text_of, crate::specs::plain::DocumentReader::said_read, crate::specs::plain::DocumentReader::joined_by))]
     #[inline(always)]
     fn text(&mut self, bytes: u64, text: &str) -> Result<(), PyxFault>
@@ -308,21 +304,16 @@ impl State {
         Ok(())
     }
 
-    /// An end tag, in a line of so many bytes.
+    /// Reads an end tag, in a line of this many bytes.
     #[tactic(auto, unfolding(crate::specs::plain::LineReader::named, crate::specs::plain::DocumentReader::said_read, crate::specs::plain::DocumentReader::ended))]
     #[inline(always)]
     fn end<E: Events>(&mut self, bytes: u64, name: &str, events: &mut E) -> Result<(), PyxFault>
         ensures { Takes result (state_of self.new) (Hands E.stands events.old events.new)
             (reader.judged bytes (named lines.end name.now) (state_of self.old)) }
     {
-        if !is_name(name) {
-            return Err(self.fault(6));
-        }
-        let Some((element, _)) = innermost(self.elements.elements()) else {
-            return Err(self.fault(8));
-        };
-        if !is_same(element.name.as_str(), name) {
-            return Err(self.fault(8));
+        if !self.elements.is_innermost(name) {
+            let clause = if is_name(name) { 8 } else { 6 };
+            return Err(self.fault(clause));
         }
         self.end_text(events)?;
         let kind = EventKind::End;
@@ -334,7 +325,7 @@ impl State {
         Ok(())
     }
 
-    /// A line that says what this text does.
+    /// Reads a line whose content is this text.
     #[tactic(auto, unfolding(crate::specs::plain::LineReader::kind_of, crate::specs::plain::DocumentReader::said_read))]
     #[inline(always)]
     fn said<E: Events>(&mut self, text: &str, events: &mut E) -> Result<(), PyxFault>
@@ -361,7 +352,7 @@ impl State {
         Err(self.fault(4))
     }
 
-    /// Takes the next line, which breaks nothing but what comes of what this text says.
+    /// Reads the next line. It can break only clauses that follow from the content of this text.
     #[tactic(auto, unfolding(crate::specs::plain::DocumentReader::line_read))]
     #[inline(always)]
     pub fn text_line<E: Events>(&mut self, text: &str, events: &mut E) -> Result<(), PyxFault>
@@ -375,7 +366,7 @@ impl State {
         self.said(text, events)
     }
 
-    /// Takes the next line.
+    /// Reads the next line.
     #[tactic(auto, unfolding(crate::specs::plain::DocumentReader::line_read))]
     pub fn line<E: Events>(&mut self, line: Line<'_>, events: &mut E) -> Result<(), PyxFault>
         requires lines { self.old.lines + 1 < 2 ^ 64 }
@@ -392,7 +383,7 @@ impl State {
         }
     }
 
-    /// Nothing comes behind these lines. A tag that nothing follows is judged, and its element is not ended.
+    /// Ends the document after these lines. A tag at the end is judged, and its element is not ended.
     #[tactic(auto, unfolding(crate::specs::plain::DocumentReader::at_end))]
     pub fn finish(mut self) -> Result<(), PyxFault>
         ensures { EndsBy result (reader.at_end (state_of self)) }

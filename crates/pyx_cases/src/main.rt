@@ -1,9 +1,9 @@
-//! Prints what `pyx` answers for each document of `cases.txt`, a line a row, fed in pieces of 1, 2, 3 and 4,096 bytes.
+//! Prints what `pyx` returns for each document of `cases.txt`, one line per row, fed in pieces of 1, 2, 3 and 4,096
+//! bytes.
 //!
-//! A row is a document; or a front, a count, a part that is repeated so often, and an end, where the part may itself be a
-//! front, a count, a part that is repeated so often, and an end. The events are printed with their lines, how many
-//! bytes were held before the end where some were, and then the outcome; of pieces of other sizes only that they answer
-//! otherwise.
+//! A row is a document. Or it is a front, a count, a part that is repeated so often, and an end, where the part may
+//! have the same form. It prints the events with their lines, then the number of bytes held before the end if there are
+//! some, and then the outcome. For pieces of other sizes it only prints whether the result differs.
 #![tactic(auto)]
 
 ghost use Rattle.std.specs.Prelude.{◌<◌};
@@ -14,7 +14,7 @@ use rng_model::{Attr, Event, EventKind, Events, Name, OutOfMemory};
 use std::alloc::{AllocError, Global};
 use std::io;
 
-/// Writes down each event.
+/// Records each event.
 #[derive(Drop)]
 struct Log {
     alloc: Global,
@@ -71,7 +71,7 @@ impl Events for Log {
     }
 }
 
-/// How many bytes all documents have together at most, and how many a piece has.
+/// The most bytes that a document and a piece may have.
 const DOCUMENT_LIMIT: u64 = 1 << 40;
 
 const PIECE_LIMIT: usize = 1 << 20;
@@ -96,7 +96,7 @@ fn read(
     reader.finish(log)
 }
 
-/// What the reader hands out and answers.
+/// What the reader hands out and returns.
 #[derive(Drop, PartialEq, Eq)]
 struct Answer {
     events: String,
@@ -104,7 +104,7 @@ struct Answer {
     outcome: String,
 }
 
-/// The answer to a document, fed in pieces of this size.
+/// Returns the result for a document, fed in pieces of this size.
 fn answer_to(alloc: Global, document: &[u8], size: usize) -> io::Result<Answer>
     requires { 0 < size }
 {
@@ -125,7 +125,7 @@ fn answer_to(alloc: Global, document: &[u8], size: usize) -> io::Result<Answer>
     })
 }
 
-/// The number in a field of a row.
+/// Returns the number in a field of a row.
 fn count_in(row: &Row, field: usize) -> io::Result<u32> {
     let Ok(count) = row.text(field)?.parse::<u32>() else {
         return Err(io::Error::from(io::ErrorKind::InvalidData));
@@ -133,7 +133,7 @@ fn count_in(row: &Row, field: usize) -> io::Result<u32> {
     Ok(count)
 }
 
-/// Puts a part behind the bytes so often.
+/// Appends a part to the bytes this many times.
 fn repeat(bytes: &mut Vec<u8>, count: u32, part: &[u8]) -> io::Result<()> {
     for _ in 0..count {
         bytes.extend_from_slice(part)?;
@@ -141,7 +141,7 @@ fn repeat(bytes: &mut Vec<u8>, count: u32, part: &[u8]) -> io::Result<()> {
     Ok(())
 }
 
-/// The part that a row repeats, and its end: of a row of seven fields the part has a part that is repeated itself.
+/// Returns the part that a row repeats, and its end. If the row has seven fields, the part itself has a repeated part.
 fn part_of<'a>(alloc: Global, row: &'a Row) -> io::Result<(Vec<u8>, &'a [u8])> {
     let mut part = Vec::new(alloc);
     part.extend_from_slice(row.bytes(2)?)?;
@@ -153,7 +153,7 @@ fn part_of<'a>(alloc: Global, row: &'a Row) -> io::Result<(Vec<u8>, &'a [u8])> {
     Ok((part, row.bytes(6)?))
 }
 
-/// The document of a row.
+/// Returns the document of a row.
 fn document_of(alloc: Global, row: &Row) -> io::Result<Vec<u8>> {
     let mut document = Vec::new(alloc);
     document.extend_from_slice(row.bytes(0)?)?;

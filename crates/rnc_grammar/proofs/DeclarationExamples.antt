@@ -67,7 +67,7 @@ of_another_table = namespace_prefix_undeclared here p_is_not_xml none where
   none : IsUndeclared (namespace_prefix p) datatypes_p
   none u (there a) = elim a [ ]
 
--- `namespace p = "u"`, and `p:integer`: nor is a namespace prefix a datatype prefix
+-- `namespace p = "u"`, and `p:integer`: a namespace prefix is no datatype prefix
 pub of_a_datatype : BreaksDeclarationRule (file declaring_p (data_of (prefixed_type p (codes "integer")) []))
 of_a_datatype = datatype_prefix_undeclared here differs none where
   differs : p ≢ codes "xsd"

@@ -18,14 +18,14 @@ use Rattle.rnc_model.specs.declarations.DeclarationRules.{datatype_prefix_undecl
 use Rattle.rnc_model.specs.declarations.FileTree.{FileTree, Namespace, given}
 use Rattle.rnc_grammar.proofs.UsedPrefixes.{is_known, no_body, stands_unknown}
 
--- ---- one table for all that can be declared
+-- ---- one table for everything that can be declared
 
 abbrev is_declared : Scope → Declarable → Bool
 is_declared s (namespace_prefix p) = is_some (s.namespaces p)
 is_declared s (datatype_prefix p) = is_some (s.datatypes p)
 is_declared s default_namespace = is_some s.default
 
--- a datatype prefix is declared as a literal only
+-- a datatype prefix is declared only as a literal
 abbrev text_of : syntax.Uri → List ℕ
 text_of syntax.inherit = []
 text_of (syntax.literal u) = u
@@ -35,7 +35,7 @@ may_be (namespace_prefix p) u = may_stand_for p (uri_of u)
 may_be (datatype_prefix p) u = may_stand_for_types p (text_of u)
 may_be default_namespace u = true
 
--- the scope with this more, as this uri
+-- the scope with this declared in addition, as this uri
 abbrev with_another : Scope → Declarable → syntax.Uri → Option Scope
 with_another s (namespace_prefix p) u = with_prefix p (uri_of u) s
 with_another s (datatype_prefix p) u = with_datatypes p (text_of u) s
@@ -54,7 +54,7 @@ same_after_two : {A B C : Type 0} (o : Option A) (h : A → Option B) (f g : B �
 same_after_two None h f g e = refl
 same_after_two (Some x) h f g e = same_after (h x) f g e
 
--- declarations declare what they declare, one after another
+-- a list of declarations declares what each declares, in order
 all_declared : (ds : List syntax.Declaration) (s : Scope) → declare_all s ds ≡ with_all s (declared_in ds)
 all_declared [] s = refl
 all_declared (syntax.namespace p u ∷ ds) s = same_after (with_prefix p (uri_of u) s) _ _ (λ s. all_declared ds s)
@@ -63,7 +63,7 @@ all_declared (syntax.default_namespace (Some p) u ∷ ds) s =
     same_after_two (with_default (uri_of u) s) (λ s. with_prefix p (uri_of u) s) _ _ (λ s. all_declared ds s)
 all_declared (syntax.datatypes p u ∷ ds) s = same_after (with_datatypes p u s) _ _ (λ s. all_declared ds s)
 
--- ---- one more
+-- ---- one declaration more
 
 abbrev same : Declarable → Declarable → Bool
 same (namespace_prefix p) (namespace_prefix q) = bytes_eq p q
@@ -92,7 +92,7 @@ same_is default_namespace (namespace_prefix q) e = absurd (true≢false (sym e))
 same_is default_namespace (datatype_prefix q) e = absurd (true≢false (sym e))
 same_is default_namespace default_namespace e = refl
 
--- what comes of one more: it may not be this, it is there, or it is there now
+-- the result of one declaration more: it is not allowed, it is declared already, or it is declared then
 data AfterOne (s : Scope) (x : Declarable) (u : syntax.Uri) : Option Scope → Type 0 where
   may_not : may_be x u ≡ false → AfterOne s x u None
   was_there : is_declared s x ≡ true → AfterOne s x u None
@@ -103,7 +103,7 @@ some_either : {A : Type 0} (b : Bool) (a : A) (o : Option A) → is_some (if b t
 some_either true a o = refl
 some_either false a o = refl
 
--- the same of one table
+-- the same for one table
 data InTable {A : Type 0} (p : List ℕ) (a : A) (table : List ℕ → Option A) : Option (List ℕ → Option A) → Type 0 where
   was_in : is_some (table p) ≡ true → InTable p a table None
   is_in : is_some (table p) ≡ false → InTable p a table (Some (λ q. if bytes_eq p q then Some a else table q))
@@ -158,9 +158,9 @@ after_one s (namespace_prefix p) u = prefix_after s p u
 after_one s (datatype_prefix p) u = datatypes_after s p u
 after_one s default_namespace u = default_after s u
 
--- ---- many more
+-- ---- many declarations more
 
--- all of these may be what they are, none was there, no two are one, and then they are there, and nothing else is
+-- all of these are allowed, none is declared before, all are distinct, and then exactly they are declared in addition
 record AreThere (s t : Scope) (es : List (Declarable × syntax.Uri)) : Type 0 where
   may : (x : Declarable) (u : syntax.Uri) → Among (x, u) es → may_be x u ≡ true
   new : (x : Declarable) (u : syntax.Uri) → Among (x, u) es → is_declared s x ≡ false
@@ -247,7 +247,7 @@ after_all [] s = are_there (record {
 })
 after_all ((x, u) ∷ es) s = all_after_one s x u es (λ t. after_all es t) (with_another s x u) (after_one s x u)
 
--- ---- what may be what, and what is known
+-- ---- what may be declared, and what is declared
 
 apart : (v w : List ℕ) → v ≢ w → bytes_eq v w ≡ false
 apart v w n = false_from_ne_true (bytes_eq v w) (λ e. n ((bytes_eq-Decides v w).0 e))

@@ -1,4 +1,4 @@
--- File trees, a datatype's pattern as it is seen.
+-- Views of file trees: the pattern of a datatype.
 use Rattle.std.proofs.Common.{◌≡◌, map, rules, Vec, Global, Some, None, Box}
 use Rattle.rnc_grammar.specs.declared.file_tree.Datatype.{Datatype}
 use Rattle.rnc_grammar.specs.declared.file_tree.Pattern.{Pattern}

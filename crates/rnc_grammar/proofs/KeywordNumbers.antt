@@ -1,4 +1,4 @@
--- The numbers of keywords among tokens, in order: of the tokens of a file they increase.
+-- The numbers of keywords among tokens, in order. They increase for the tokens of a file.
 use Rattle.std.proofs.Common.{◌≡◌, ℕ, ◌+◌, ◌<◌, ◌≤◌, zero, suc, List, [], ◌∷◌, ◌++◌, slice_index, Option, Some, None, arith, add-one}
 use Rattle.std.specs.List.Sorted.{IsStrictlyIncreasing}
 use Rattle.rnc_model.specs.tokens.Lexeme.{Lexeme, keyword, identifier, cname, ns_name, segment, sign, lexeme_at, numbered}
@@ -21,14 +21,14 @@ pub data AreNumbersIn : List ℕ → List Lexeme → Type 0 where
   number_here : {n : ℕ} {ns : List ℕ} {x : Lexeme} {ts : List Lexeme} → number_of x ≡ Some n → AreNumbersIn ns ts → AreNumbersIn (n ∷ ns) (x ∷ ts)
   numbers_later : {ns : List ℕ} {x : Lexeme} {ts : List Lexeme} → AreNumbersIn ns ts → AreNumbersIn ns (x ∷ ts)
 
--- ---- tokens one after another
+-- ---- concatenated tokens
 
 -- after these tokens
 pub numbers_after : {ns : List ℕ} {ts : List Lexeme} (front : List Lexeme) → AreNumbersIn ns ts → AreNumbersIn ns (front ++ ts)
 numbers_after [] are = are
 numbers_after (x ∷ front) are = numbers_later (numbers_after front are)
 
--- the numbers of these tokens, and then of those
+-- the numbers of both lists of tokens
 pub numbers_of_both : {ns ms : List ℕ} {ts us : List Lexeme} → AreNumbersIn ns ts → AreNumbersIn ms us → AreNumbersIn (ns ++ ms) (ts ++ us)
 numbers_of_both (no_numbers {ts}) more = numbers_after ts more
 numbers_of_both (number_here is are) more = number_here is (numbers_of_both are more)
@@ -42,7 +42,7 @@ numbers_before rest (numbers_later are) = numbers_later (numbers_before rest are
 
 -- ---- in order
 
--- each of them is at least this, and greater than the one before
+-- each is at least this, and greater than the one before
 abbrev AreFrom : ℕ → List ℕ → Type 0
 AreFrom n [] = Unit {0}
 AreFrom n (m ∷ ms) = (n ≤ m) × AreFrom (m + 1) ms
@@ -61,7 +61,7 @@ number_at kinds.Segment w n m is = cc
 number_at kinds.TripleSegment w n m is = cc
 number_at (kinds.Sign s) w n m is = cc
 
--- of tokens that are numbered from this on
+-- numbers of tokens that are numbered from n on
 numbers_from : (ts : List Token) (n : ℕ) (ns : List ℕ) → AreNumbersIn ns (numbered n ts) → AreFrom n ns
 numbers_from ts n [] are = tt
 numbers_from [] n (m ∷ ms) are = elim are [ ]

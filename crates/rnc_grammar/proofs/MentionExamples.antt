@@ -6,7 +6,7 @@ use Rattle.rnc_model.specs.declarations.FileTree.{Mention, inherited, any_name, 
 use Rattle.rnc_model.specs.declarations.FileTree.{define, div, include, components_of, pattern_file, grammar_file}
 use Rattle.rnc_model.specs.loading.Mentions.{external_file, included_file, mentions_of}
 
--- the file of this name, mentioned by the word with this number
+-- a mention of the file of this name, by the word with this number
 abbrev mention : List ℕ → ℕ → Mention
 mention name number = record { href = name; namespace = inherited; token = number }
 
@@ -14,7 +14,7 @@ mention name number = record { href = name; namespace = inherited; token = numbe
 pub in_an_element : mentions_of (pattern_file (element any_name (external (mention (codes "x") 4)))) ≡ external_file (mention (codes "x") 4) ∷ []
 in_an_element = refl
 
--- `include "g" { start = external "x" }`: the file that is included, and then the external in its braces
+-- `include "g" { start = external "x" }`: the file of the include, and then the external in its braces
 abbrev in_braces : List Component
 in_braces = start methods.Plain (external (mention (codes "x") 6)) ∷ []
 
@@ -22,7 +22,8 @@ pub in_the_braces : mentions_of (grammar_file (components_of (include (mention (
     included_file (mention (codes "g") 1) (components_of in_braces) ∷ external_file (mention (codes "x") 6) ∷ []
 in_the_braces = refl
 
--- `start = a, external "x"`, `div { include "g" }` and `a = grammar { include "g" }`: a file that is mentioned twice, in a `div` and in a nested grammar
+-- `start = a, external "x"`, `div { include "g" }` and `a = grammar { include "g" }`: a file that is mentioned twice,
+-- in a `div` and in a nested grammar
 pub in_order : mentions_of (grammar_file (components_of (start methods.Plain (members group (ref (codes "a") ∷ external (mention (codes "x") 5) ∷ []))
     ∷ div (components_of (include (mention (codes "g") 9) (components_of []) ∷ []))
     ∷ define (codes "a") methods.Plain (grammar (components_of (include (mention (codes "g") 16) (components_of []) ∷ []))) ∷ []))) ≡

@@ -1,5 +1,5 @@
--- The mentions of a file stand in the order of their tokens: those of a syntax tree are numbers of keywords among its tokens, in order, and a file tree
--- has those of its syntax tree.
+-- The mentions of a file are in the order of their tokens. The mentions of a syntax tree have the numbers of keywords
+-- among its tokens, in order, and a file tree has the mentions of its syntax tree.
 use Rattle.std.proofs.Common.{◌≡◌, ◌∙◌, ap₂, refl, ℕ, List, [], ◌∷◌, ◌++◌, map, Option, Some, None}
 use Rattle.std.proofs.lemmas.List.{append-nil, map-append}
 use Rattle.std.specs.List.Sorted.{IsStrictlyIncreasing}
@@ -133,23 +133,23 @@ file_within (grammar.file ds b parts) = rw parts (numbers_after _ (body_within b
 abbrev tokens_of : List MentionedFile → List ℕ
 tokens_of ms = map (λ m. (mention_of m).token) ms
 
--- what there is has these tokens
+-- the value has these tokens, if there is one
 data Has {A : Type 0} (tokens : A → List ℕ) : Option A → List ℕ → Type 0 where
   is_none : {ns : List ℕ} → Has tokens None ns
   has_these : {x : A} {ns : List ℕ} → tokens x ≡ ns → Has tokens (Some x) ns
 
--- what is made of one part has its tokens
+-- what is made of one part has the tokens of this part
 one : {A B : Type 0} {tokens : A → List ℕ} {all : B → List ℕ} {ns : List ℕ} (o : Option A) (f : A → B) → ((x : A) → all (f x) ≡ tokens x)
     → Has tokens o ns → Has all (o >>= λ x. Some (f x)) ns
 one None f same has = is_none
 one (Some x) f same (has_these has) = has_these (same x ∙ has)
 
--- what comes after a part that has none
+-- what follows a part without tokens
 then : {A B : Type 0} {all : B → List ℕ} {ns : List ℕ} (o : Option A) (f : A → Option B) → ((x : A) → Has all (f x) ns) → Has all (o >>= f) ns
 then None f has = is_none
 then (Some x) f has = has x
 
--- what is made of two has theirs
+-- what is made of two parts has the tokens of both
 two : {A B C : Type 0} {first : A → List ℕ} {second : B → List ℕ} {all : C → List ℕ} {ns ms : List ℕ} (o : Option A) (q : Option B) (f : A → B → C)
     → ((x : A) (y : B) → all (f x y) ≡ first x ++ second y) → Has first o ns → Has second q ms → Has all (o >>= λ x. q >>= λ y. Some (f x y)) (ns ++ ms)
 two None q f same has more = is_none
@@ -225,7 +225,7 @@ file_has : (f : syntax.File) → Has tokens_of_file (file_tree f) (tokens_in_bod
 unfolding file_tree
 file_has f = then (declare_all nothing_declared f.declarations) _ (λ s. body_has s f.body)
 
--- ---- so they stand in the order of their tokens
+-- ---- so they are in the order of their tokens
 
 found : {A : Type 0} {tokens : A → List ℕ} {ns : List ℕ} (x : A) → Has tokens (Some x) ns → tokens x ≡ ns
 found x (has_these has) = has

@@ -1,4 +1,4 @@
--- Which patterns are no grammar.
+-- Patterns that are no grammar.
 use Rattle.std.proofs.Common.{◌≡◌, List, Option, Some, None, refl}
 use Rattle.rng_model.specs.simple.Tree.{Connector}
 use Rattle.rnc_model.specs.declarations.FileTree.{Pattern, members, pattern_file, grammar_of}

@@ -1,4 +1,4 @@
--- What is told of tokens is what they are by the definitions: their file tree, or the clause that they break.
+-- The result for tokens agrees with the definitions: their file tree, or the clause that they break.
 use Rattle.std.proofs.Common.{◌≡◌, ℕ, List, map, Option, Some, None, Result, Ok, Err, IfOk, IfErr, inl, inr, refl, sym, ap, subst, ◌∙◌}
 use Rattle.std.specs.List.Sorted.{IsStrictlyIncreasing}
 use Rattle.rnc_syntax.specs.declared.fault.SyntaxFault.{SyntaxFault}
@@ -27,7 +27,7 @@ use Rattle.rnc_model.specs.declarations.Parsing.{BreaksDeclarations, IsFileTree}
 use Rattle.rnc_grammar.specs.views.ParsingFaults.{IsFaultOf, IsFaultOfTree, IsResolved, unless_memory}
 use Rattle.rng_model.specs.plain.Answers.{Gives}
 
--- tokens have one file tree at most, as they have one syntax tree
+-- tokens have at most one file tree, since they have at most one syntax tree
 pub one_tree : (ts : List Lexeme) → ((f g : File) → IsFile ts f → IsFile ts g → f ≡ g) → (t u : FileTree) → IsFileTree ts t → IsFileTree ts u → t ≡ u
 one_tree ts one t u a b =
     let file : a.file ≡ b.file = one a.file b.file a.sentence b.sentence in
@@ -35,17 +35,17 @@ one_tree ts one t u a b =
     let same : t ≡ u = cc in
     same
 
--- what read_syntax returned is this
+-- read_syntax returns this
 abbrev pub GivesFile : Result written.File SyntaxFault → Result File SyntaxFault → Type 0
 GivesFile r answer = Gives syntax_fault.unless_memory syntax.file_of r answer
 
--- what parse returned is this
+-- parse returns this
 abbrev pub GivesTree : Result declared.FileTree ParseFault → Result FileTree ParseFault → Type 0
 GivesTree r answer = Gives unless_memory file_of r answer
 
 -- ---- tokens that have no syntax tree
 
--- the fault that is told
+-- the fault that is reported
 pub fault_told : (ts : List Lexeme) (e : SyntaxFault) → sentence_faults.IsFaultOf ts e → IsFaultOf ts (fault_of e)
 fault_told ts syntax_faults.Memory is = tt
 fault_told ts syntax_faults.TooDeep is = inl (refl, is)
@@ -83,35 +83,35 @@ module _ (f : File) where
   fault_from None e none told = let same : faults.Clause 8 ≡ e = cc in subst (IsFaultOfTree f) same (refl, broken_where_none f none)
   fault_from (Some u) e tree told = absurd (cc)
 
-  -- a tree that was returned
+  -- a tree that is returned
   pub resolved_given : (r : Result declared.FileTree ParseFault) → GivesTree r answer → IfOk r (λ t. IsResolved f (file_of t))
   resolved_given (Ok t) given = tree_from (file_tree f) (file_of t) refl given
   resolved_given (Err e) given = tt
 
-  -- a fault that was returned
+  -- a fault that is returned
   pub broken_given : (r : Result declared.FileTree ParseFault) → GivesTree r answer → IfErr r (IsFaultOfTree f)
   broken_given (Ok t) given = tt
   broken_given (Err faults.Memory) given = tt
   broken_given (Err (faults.At clause number)) given = fault_from (file_tree f) (faults.At clause number) refl given
   broken_given (Err (faults.Clause clause)) given = fault_from (file_tree f) (faults.Clause clause) refl given
 
-  -- no other tree
+  -- the tree is unique
   pub only_resolved : (r : Result declared.FileTree ParseFault) (t : FileTree) → IsResolved f t → GivesTree r answer → GivesTree r (Ok t)
   only_resolved r t is given = subst (GivesTree r) (ap tree_or_fault is.tree) given
 
-  -- no other clause
+  -- the clause is unique
   pub only_broken : (r : Result declared.FileTree ParseFault) → BreaksDeclarationRule f → GivesTree r answer → GivesTree r (Err (faults.Clause 8))
   only_broken r broken given = subst (GivesTree r) (ap tree_or_fault (none_where_broken f broken)) given
 
 -- ---- tokens that have this syntax tree
 
 module _ (ts : List Lexeme) (f : File) (is : IsSyntaxTree ts f) where
-  -- a tree that was returned
+  -- a tree that is returned
   pub tree_given : (r : Result declared.FileTree ParseFault) → IfOk r (λ t. IsResolved f (file_of t)) → IfOk r (λ t. IsFileTree ts (file_of t))
   tree_given (Ok t) given = record { nesting = is.nesting; file = f; sentence = is.sentence; kept = given.kept; tree = given.tree }
   tree_given (Err e) given = tt
 
-  -- a fault that was returned
+  -- a fault that is returned
   pub fault_given : (r : Result declared.FileTree ParseFault) → IfErr r (IsFaultOfTree f) → IfErr r (IsFaultOf ts)
   fault_given (Ok t) given = tt
   fault_given (Err faults.Memory) given = tt
@@ -119,7 +119,7 @@ module _ (ts : List Lexeme) (f : File) (is : IsSyntaxTree ts f) where
   fault_given (Err (faults.Clause clause)) given =
       inr (given.0, record { nesting = is.nesting; file = f; sentence = is.sentence; broken = given.1 })
 
--- the mentions of a tree that was returned
+-- the mentions of a tree that is returned
 pub mentions_given : (ts : List Token) (r : Result declared.FileTree ParseFault) → IfOk r (λ t. IsFileTree (lexemes ts) (file_of t))
     → IfOk r (λ t. IsStrictlyIncreasing (map (λ m. (mention_of m).token) (mentions_of (file_of t))))
 mentions_given ts (Ok t) is = mentions_in_order ts (file_of t) is
@@ -129,19 +129,19 @@ module _ (ts : List Lexeme) (file : written.File) (only : (g : File) → IsSynta
   same_tree : (g : File) → IsSyntaxTree ts g → g ≡ syntax.file_of file
   same_tree g is = let reads = only g is in cc
 
-  -- no other tree
+  -- the tree is unique
   pub only_tree : (r : Result declared.FileTree ParseFault) → ((t : FileTree) → IsResolved (syntax.file_of file) t → GivesTree r (Ok t)) → (t : FileTree)
       → IsFileTree ts t → GivesTree r (Ok t)
   only_tree r gives t is =
       let same = same_tree is.file (record { nesting = is.nesting; sentence = is.sentence }) in
       gives t (subst (λ f. IsResolved f t) same (record { kept = is.kept; tree = is.tree }))
 
-  -- no other clause, where declarations break a rule
+  -- the clause is unique if declarations break a rule
   pub only_declarations : (r : Result declared.FileTree ParseFault) → (BreaksDeclarationRule (syntax.file_of file) → GivesTree r (Err (faults.Clause 8)))
       → BreaksDeclarations ts → GivesTree r (Err (faults.Clause 8))
   only_declarations r gives is =
       gives (subst BreaksDeclarationRule (same_tree is.file (record { nesting = is.nesting; sentence = is.sentence })) is.broken)
 
--- tokens with a syntax tree break neither the nesting nor the grammar
+-- tokens with a syntax tree break neither clause 7 nor clause 6
 pub no_fault : (file : written.File) (e : SyntaxFault) → GivesFile (Ok file) (Err e) → ⊥
 no_fault file e reads = absurd (cc)

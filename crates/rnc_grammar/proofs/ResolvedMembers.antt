@@ -1,4 +1,4 @@
--- Parts answered one by one, as the code has them, and rows of parts as the trees have them.
+-- Members resolved one by one, as the code does it, and lists of members as the trees have them.
 use Rattle.std.proofs.Common.{◌≡◌, ◌∙◌, sym, ap, ℕ, ◌+◌, ◌<◌, ◌≤◌, List, [], ◌∷◌, ◌++◌, map, length, drop, get_or, Option, Some, None, Err, refl}
 use Rattle.std.proofs.lemmas.List.{append-nil, append_assoc, drop_all, drop_more}
 use Rattle.rng_model.specs.simple.Tree.{Connector}
@@ -9,12 +9,12 @@ use Rattle.rnc_model.specs.declarations.FileTree as tree
 use Rattle.rnc_model.specs.grammar.Syntax as syntax
 use Rattle.rnc_grammar.specs.views.Resolved.{Resolves, each}
 
--- these answers, and then those
+-- these results, and then those
 abbrev pub after : {B : Type 0} → List B → Option (List B) → Option (List B)
 after front None = None
 after front (Some rest) = Some (front ++ rest)
 
--- where one of the parts has no answer for this reason, they have none together
+-- if one member has no result for this reason, the list has none
 pub stops_at : {A B E X Y : Type 0} (f : A → Option B) (view : E → A) (part : X → B) (parts : Y → List B) (xs : List E) (i : ℕ) (x : E) (front : List B)
     (reason : ScopeFault) → i < length xs → x ≡ get_or xs i x → each f (map view xs) ≡ after front (each f (map view (drop i xs)))
     → Resolves part (Err reason) (f (view x)) → Resolves parts (Err reason) (each f (map view xs))
@@ -27,7 +27,7 @@ after_one : {B : Type 0} (front : List B) (y : B) (rest : Option (List B)) → a
 after_one front y None = refl
 after_one front y (Some ys) = ap Some (sym (append_assoc front (y ∷ []) ys))
 
--- the loop over the parts goes on
+-- the loop over the members continues
 pub goes_on : {A B E : Type 0} (f : A → Option B) (view : E → A) (xs : List E) (i : ℕ) (x : E) (front more : List B) (y : B) → i < length xs → x ≡ get_or xs i x
     → each f (map view xs) ≡ after front (each f (map view (drop i xs))) → f (view x) ≡ Some y → more ≡ front ++ y ∷ []
     → each f (map view xs) ≡ after more (each f (map view (drop (i + 1) xs)))
@@ -38,12 +38,12 @@ goes_on f view xs i x front more y inside is goes g grown =
     goes ∙ ap (after front) first ∙ ap (λ q. after front (q >>= λ y. each f (map view (drop (i + 1) xs)) >>= λ ys. Some (y ∷ ys))) g
     ∙ after_one front y (each f (map view (drop (i + 1) xs))) ∙ ap (λ m. after m (each f (map view (drop (i + 1) xs)))) (sym grown)
 
--- the answers so far are all, where no part is left
+-- the results so far are all, if no member is left
 pub is_through : {A B E : Type 0} (f : A → Option B) (view : E → A) (xs : List E) (i : ℕ) (front : List B) → length xs ≤ i
     → each f (map view xs) ≡ after front (each f (map view (drop i xs))) → each f (map view xs) ≡ Some front
 is_through f view xs i front end goes = goes ∙ ap (λ r. after front (each f (map view r))) (drop_all i xs end) ∙ ap Some (append-nil front)
 
--- a row's answer is the answer of its first and the row of the others
+-- the result of a list is made of the results of its first member and of the others
 row : {B R : Type 0} (and : B → R → R) (rows : List B → R) → ((y : B) (ys : List B) → rows (y ∷ ys) ≡ and y (rows ys))
     → (q : Option B) (others : Option R) (rest : Option (List B)) → others ≡ (rest >>= λ ys. Some (rows ys)) →
     (q >>= λ y. others >>= λ ys. Some (and y ys)) ≡ ((q >>= λ y. rest >>= λ ys. Some (y ∷ ys)) >>= λ ys. Some (rows ys))
@@ -65,7 +65,7 @@ pub components_row : (s : Scope) (cs : List syntax.Component) → components_in 
 components_row s [] = refl
 components_row s (c ∷ cs) = row tree.component_and tree.components_of (λ y ys. refl) (component_in s c) _ (each (component_in s) cs) (components_row s cs)
 
--- what is made of a row
+-- what is made of a list
 made : {B R T : Type 0} (rows : List B → R) (make : R → T) (others : Option R) (rest : Option (List B)) → others ≡ (rest >>= λ ys. Some (rows ys))
     → (others >>= λ ys. Some (make ys)) ≡ (rest >>= λ ys. Some (make (rows ys)))
 made rows make others None e = rw e refl
@@ -79,13 +79,13 @@ pub members_in : (k : Connector) (s : Scope) (ps : List syntax.Pattern) → patt
     >>= λ ps. Some (tree.members k ps))
 members_in k s ps = made tree.patterns_of (tree.joined k) _ (each (pattern_in s) ps) (patterns_row s ps)
 
--- where the parts have no answer for this reason, the whole has none
+-- if the members have no result for this reason, the whole has none
 pub fails : {X Y A B : Type 0} (parts : X → A) (view : Y → B) (whole : A → B) (x : ScopeFault) (all : Option A) (answer : Option B)
     → answer ≡ (all >>= λ all. Some (whole all)) → Resolves parts (Err x) all → Resolves view (Err x) answer
 fails parts view whole Memory all answer e g = tt
 fails parts view whole Broken all answer e g = rw (e, g) refl
 
--- where the parts have these answers, the whole has theirs
+-- if the members have these results, the whole has the result that is made of them
 pub found : {Y A B : Type 0} (view : Y → B) (whole : A → B) (parts : A) (all : Option A) (answer : Option B) (y : Y)
     → answer ≡ (all >>= λ all. Some (whole all)) → all ≡ Some parts → view y ≡ whole parts → answer ≡ Some (view y)
 found view whole parts all answer y e g is = rw (e, g, is) refl

@@ -1,4 +1,4 @@
--- Syntax trees and file trees, the kinds with members or parts of their own as they are seen.
+-- Views of syntax trees and file trees: the kinds with members or parts.
 use Rattle.std.proofs.Common.{◌≡◌, ℕ, map, rules, Vec, Global, List, Option, Some, None, option_map, sym, ap, ◌∙◌, Box}
 use Rattle.rng_model.specs.simple.Tree.{group, choice, interleave}
 use Rattle.rnc_syntax.specs.declared.syntax_tree.NameClass.{NameClass}
@@ -66,7 +66,7 @@ except_in : (s : Scope) (d : written.DatatypeName) (ps values : List (List ℕ �
     → type_in s d ≡ Some u → Some ps ≡ Some values → pattern_in s p ≡ Some q → pattern_in s (written.data_except d ps p) ≡ Some (tree.data_except u values q)
 except_in s d ps values p u q type same except = rw (type, except) (ap (option_map (λ ps. tree.data_except u ps q)) same)
 
--- a name that was found, with parameters beside it
+-- a name that is found, together with parameters
 pub typed_with : {A B : Type 0} (found : Option A) (ps values : B) (u : A) → option_map {U = A × B} (λ d. (d, ps)) found ≡ Some (u, values)
     → (found ≡ Some u) × (ps ≡ values)
 typed_with None ps values u e = absurd cc

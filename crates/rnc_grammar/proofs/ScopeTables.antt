@@ -1,4 +1,4 @@
--- What is declared, as the code has it and as it is seen.
+-- What is declared, in the code and as it is viewed.
 use Rattle.std.proofs.Common.{◌≡◌, ◌∙◌, ap, sym, ℕ, List, Bool, true, false, cond, not, Option, Some, None, is_some, is_none, option_map, refl, Bor}
 use Rattle.std.proofs.Math.Path.{fun_ext}
 use Rattle.std.proofs.lemmas.Map.Text.{hash_map_updates_str}
@@ -16,7 +16,7 @@ none_seen : {A B : Type 0} (view : A → B) (found : Option A) → is_none (opti
 none_seen view None = refl
 none_seen view (Some found) = refl
 
--- one more, of a prefix that is not there
+-- one prefix more, if it is not declared yet
 pub one_is_new : {A B Z : Type 0} (view : A → B) (p : List ℕ) (a : A) (old new : HashMap (Bor (List ℕ)) A Z) (before : Option A)
     → before ≡ get_by (λ k. bytes_eq p k.now) old → is_some before ≡ false →
     UpdatesBy (λ x y. bytes_eq x.now y.now) (λ k. bytes_eq p k.now) old new (Some a) → with_one p (view a) (table_view view old) ≡ Some (table_view view new)

@@ -1,4 +1,4 @@
--- A body has a file tree exactly if each prefix that stands in it is declared.
+-- A body has a file tree exactly if each prefix in it is declared.
 use Rattle.std.proofs.Common.{◌≡◌, ◌∙◌, ap, ap₂, sym, refl, ℕ, List, [], ◌∷◌, ◌++◌, Bool, true, false, ◌&&◌, Option, Some, None, is_some, inl, inr}
 use Rattle.std.proofs.lemmas.Bool.{and_cases, and_left, and_right, true≢false}
 use Rattle.std.proofs.lemmas.List.Folds.{list_all-append}
@@ -14,7 +14,7 @@ use Rattle.rnc_model.specs.declarations.DeclarationRules.{prefixes_of_pattern, p
 use Rattle.rnc_model.specs.declarations.FileTree as tree
 use Rattle.rnc_model.specs.declarations.FileTree.{Namespace, given}
 
--- ---- parts that there may be
+-- ---- optional parts
 
 one : {A B : Type 0} (o : Option A) (f : A → B) → is_some (o >>= λ x. Some (f x)) ≡ is_some o
 one None f = refl
@@ -26,7 +26,7 @@ two (Some x) q f = one q (f x)
 
 -- ---- each prefix is declared
 
--- it is declared, or it is beforehand
+-- it is declared or predeclared
 abbrev pub is_known : Scope → Declarable → Bool
 is_known s (namespace_prefix p) = is_some (namespace_in s p)
 is_known s (datatype_prefix p) = is_some (library_in s p)
@@ -135,10 +135,10 @@ none_is : {A : Type 0} (o : Option A) → is_some o ≡ false → o ≡ None
 none_is None e = refl
 none_is (Some x) e = absurd (true≢false e)
 
--- a body in which a prefix stands that is not declared has no tree
+-- a body with a prefix that is not declared has no tree
 pub no_body : (s : Scope) (b : syntax.Body) (x : Declarable) → IsPrefixIn x b → is_known s x ≡ false → body_in s b ≡ None
 no_body s b x a e = none_is (body_in s b) (body_known s b ∙ one_fails (is_known s) x (prefixes_of_body b) a e)
 
--- in a body that has no tree such a prefix stands
+-- a body without a tree has such a prefix
 pub stands_unknown : (s : Scope) (b : syntax.Body) → body_in s b ≡ None → (x : Declarable) × IsPrefixIn x b × (is_known s x ≡ false)
 stands_unknown s b e = fails_at (is_known s) (prefixes_of_body b) (sym (body_known s b) ∙ ap is_some e)

@@ -6,14 +6,14 @@ use rnc_syntax::SyntaxFault;
 
 /// Why tokens have no file tree.
 ///
-/// Clause 6 comes with the number of a token, from 1; clauses 7 and 8 have none.
+/// Clause 6 is reported with the number of a token, from 1; clauses 7 and 8 are reported without a number.
 #[derive(Clone, Copy)]
 pub enum ParseFault {
-    /// This clause is broken, at the token with this number.
+    /// The tokens break this clause at the token with this number.
     At { clause: u8, number: u64 },
-    /// This clause is broken.
+    /// The tokens break this clause.
     Clause(u8),
-    /// Memory ran out, which says nothing about the tokens.
+    /// Out of memory. Says nothing about the tokens.
     Memory,
 }
 

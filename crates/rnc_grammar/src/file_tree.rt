@@ -5,8 +5,10 @@ ghost use Rattle.rnc_grammar.specs.views.View.{component_of, file_of};
 
 use rng_model::Method;
 
-/// The namespace of a name: a given one, empty where the name has none, or the one that the file inherits from the file
-/// that mentions it.
+/// The namespace of a name.
+///
+/// It is given, and then empty for a name without one, or it is the namespace that the file inherits from the file that
+/// mentions it.
 ///
 /// RELAX NG Compact Syntax, "Syntax" (`namespaceURILiteral`).
 #[derive(Debug, Drop)]
@@ -42,7 +44,7 @@ pub enum NameClass {
     Choice(Vec<NameClass>),
 }
 
-/// The name of a datatype: the uri of its library, empty for the one built in, and its name there.
+/// The name of a datatype: the uri of its library, which is empty for the built-in one, and its name there.
 ///
 /// RELAX NG Specification, section 3 (`data`, `value`).
 #[derive(Debug, Drop)]
@@ -51,7 +53,7 @@ pub struct DatatypeName {
     pub name: String,
 }
 
-/// A datatype: its name, and its parameters as name and text in the order in which they are written.
+/// A datatype: its name, and its parameters as pairs of name and text, in the order of the file.
 ///
 /// RELAX NG Specification, section 3 (`data`).
 #[derive(Debug, Drop)]
@@ -60,7 +62,7 @@ pub struct Datatype {
     pub parameters: Vec<(String, String)>,
 }
 
-/// A text of a datatype; one without a type is a `token` of the library built in.
+/// A text of a datatype. One without a type is a `token` of the built-in library.
 ///
 /// RELAX NG Specification, section 3 (`value`).
 #[derive(Debug, Drop)]
@@ -71,8 +73,8 @@ pub struct DatatypeValue {
 
 /// A mention of another file.
 ///
-/// `href` is that file's name as it is written, `namespace` what the file inherits, and `token` the number, from 1, of
-/// the word `include` or `external` among the tokens of the file that mentions.
+/// `href` is the name of that file as it is written. `namespace` is what that file inherits. `token` is the number,
+/// from 1, of the word `include` or `external` among the tokens of the file that contains the mention.
 #[derive(Debug, Drop)]
 pub struct Mention {
     pub href: String,
@@ -102,7 +104,7 @@ pub enum Pattern {
     Text,
     NotAllowed,
     Value(Box<DatatypeValue>),
-    /// A datatype, and what it excepts.
+    /// A datatype, and the pattern that it excludes, if there is one.
     Data {
         datatype: Box<Datatype>,
         except: Option<Box<Pattern>>,
@@ -126,11 +128,11 @@ pub enum Component {
     Start(Method, Pattern),
     Define(String, Method, Pattern),
     Div(Vec<Component>),
-    /// A grammar of another file, and the components that stand in its braces.
+    /// A grammar of another file, and the components in the braces.
     Include(Box<Mention>, Vec<Component>),
 }
 
-/// What a schema file holds: a pattern, or the components of a grammar.
+/// The content of a schema file: a pattern, or the components of a grammar.
 ///
 /// RELAX NG Compact Syntax, "Syntax" (`topLevel`).
 #[derive(Debug, Drop)]
@@ -140,8 +142,10 @@ pub enum FileTree {
 }
 
 impl FileTree {
-    /// The components of the grammar that the file is, also where its whole pattern is `grammar { .. }`, with parentheses
-    /// about it or without; `None` of another file. Takes no memory.
+    /// Returns the components of the grammar that the file is, or `None` if the file is not a grammar.
+    ///
+    /// A file whose whole pattern is `grammar { .. }` is also a grammar, with or without parentheses around it.
+    /// Allocates nothing.
     ///
     /// RELAX NG Specification, section 4.7.
     #[tactic(auto, using(crate::proofs::NoGrammar::joined_is_none, crate::proofs::NoGrammar::data_is_none))]
@@ -174,7 +178,7 @@ impl FileTree {
         }
     }
 
-    /// Whether the file is a grammar. Takes no memory.
+    /// Whether the file is a grammar. Allocates nothing.
     pub fn is_grammar(&self) -> bool
         ensures { result ≡ is_grammar_tree (file_of self.now) }
     {

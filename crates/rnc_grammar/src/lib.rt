@@ -1,10 +1,10 @@
 //! From the tokens of a schema file to its tree, with its declarations applied.
 //!
-//! `parse` answers the tree exactly where the tokens are a sentence of the grammar of the compact syntax, nest within 128
-//! brackets, and declare and use their prefixes by the rules; such tokens have one tree. Of other tokens it names the
-//! clause that they break, 7 before 6 before 8, and of 6 the token. `resolve` answers the tree of a syntax tree that was
-//! read before. `FileTree::grammar` tells which files are grammars, `FileTree::mentioned_files` which other files a file
-//! mentions, in the order of their tokens. Only want of memory keeps an answer back.
+//! `parse` returns the tree exactly if the tokens are a sentence of the grammar, nest within 128 brackets, and declare
+//! and use their prefixes by the rules. Such tokens have one tree. For other tokens it reports the clause that they
+//! break: 7 before 6 before 8, and the token for clause 6. `resolve` returns the file tree of a syntax tree.
+//! `FileTree::grammar` returns the components of a file that is a grammar. `FileTree::mentioned_files` returns which
+//! other files a file mentions, in the order of their tokens. The only other failure is out of memory.
 #![tactic(auto)]
 
 mod fault;

@@ -13,19 +13,22 @@ use std::alloc::Global;
 /// RELAX NG Specification, sections 4.6 and 4.7.
 #[derive(Clone, Copy)]
 pub enum MentionedFile<'a> {
-    /// `external ".."`: the pattern of the file stands there.
+    /// `external ".."`: it is replaced by the pattern of the file.
     External(&'a Mention),
-    /// `include ".." { .. }`: the components of the file's grammar stand there, with those in the braces.
+    /// `include ".." { .. }`: it is replaced by the components of the file's grammar, together with those in the
+    /// braces.
     Included(&'a Mention, &'a [Component]),
 }
 
 impl FileTree {
-    /// The files that this one mentions, wherever they stand, in the order of their tokens: in a file that `parse` answers,
-    /// the token of each mention has a greater number than that of the one before. The mentions in the braces of an include
-    /// come after it. A file that is mentioned twice is there twice.
+    /// Returns the files that this file mentions, in the order of their tokens.
     ///
-    /// `OutOfMemory` is answered where there was no memory for the list. Takes time in proportion to the tree, and memory in
-    /// proportion to the mentions; recurses as deep as the tree nests.
+    /// All mentions are listed, at any depth. In a file that `parse` returns, the token of each mention has a greater
+    /// number than that of the one before. The mentions in the braces of an include come after it. A file that is
+    /// mentioned twice is listed twice.
+    ///
+    /// Fails only when out of memory. Takes time linear in the tree, and memory linear in the mentions. Recurses as
+    /// deep as the tree nests.
     ///
     /// RELAX NG Specification, sections 4.6 and 4.7.
     pub fn mentioned_files(&self, alloc: Global) -> Result<Vec<MentionedFile<'_>>, OutOfMemory>
@@ -40,7 +43,7 @@ impl FileTree {
     }
 }
 
-/// Adds the files that a pattern mentions.
+/// Appends the files that a pattern mentions.
 #[cycle(mentions)]
 fn push_from_pattern<'a>(
     all: &mut Vec<MentionedFile<'a>>,
@@ -74,7 +77,7 @@ fn push_from_pattern<'a>(
     }
 }
 
-/// Adds the files that patterns mention.
+/// Appends the files that patterns mention.
 #[cycle(mentions)]
 fn push_from_patterns<'a>(
     all: &mut Vec<MentionedFile<'a>>,
@@ -88,7 +91,7 @@ fn push_from_patterns<'a>(
     Ok(())
 }
 
-/// Adds the files that a component mentions, those in the braces of an include after the file that it includes.
+/// Appends the files that a component mentions. The file of an include comes before those in its braces.
 #[cycle(mentions)]
 fn push_from_component<'a>(
     all: &mut Vec<MentionedFile<'a>>,
@@ -106,7 +109,7 @@ fn push_from_component<'a>(
     }
 }
 
-/// Adds the files that components mention.
+/// Appends the files that components mention.
 #[cycle(mentions)]
 fn push_from_components<'a>(
     all: &mut Vec<MentionedFile<'a>>,

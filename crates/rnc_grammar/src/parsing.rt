@@ -1,4 +1,4 @@
-// From the tokens of a schema file, or from its syntax tree, to its tree.
+// From the tokens of a schema file, or from its syntax tree, to its file tree.
 ghost use Rattle.std.specs.Prelude.{◌≡◌, ℕ, Err, IfErr, IfOk, Ok, map};
 ghost use Rattle.std.specs.List.Sorted.{IsStrictlyIncreasing};
 ghost use Rattle.rnc_model.specs.declarations.DeclarationRules.{BreaksDeclarationRule};
@@ -24,7 +24,7 @@ use rnc_syntax::{File, read_syntax};
 use rnc_text::Token;
 use std::alloc::Global;
 
-/// The tree of the file with this syntax tree, or the fault where its declarations or prefixes break a rule.
+/// The file tree of a syntax tree. Fails if its declarations or prefixes break a rule.
 fn resolved(alloc: Global, file: &File<'_>) -> Result<FileTree, ParseFault>
     ensures { Gives unless_memory file_of result (tree_or_fault (declarations.file_tree (syntax.file_of file.now))) }
 {
@@ -35,20 +35,20 @@ fn resolved(alloc: Global, file: &File<'_>) -> Result<FileTree, ParseFault>
     }
 }
 
-/// The tree of the schema file that has this syntax tree, with its declarations applied.
+/// Returns the file tree of a syntax tree, with its declarations applied.
 ///
-/// A syntax tree that keeps the rules about declarations has one file tree, and it is answered. Of one that breaks a rule,
-/// since a prefix or the default namespace is declared twice, `xml`, `xmlns` or `xsd` is declared as what it may not stand
-/// for, or a prefix is not declared, clause 8 is told, with no number. No other clause is told, and clause 8 of no other.
+/// A syntax tree that keeps the rules about declarations has one file tree, and the call returns it.
 ///
-/// `parse` is `read_syntax` and this call. Who makes the two calls can let the tokens go between them, so that they do not
-/// lie beside the file tree.
+/// Fails with clause 8, without a number, exactly if a rule is broken: a prefix or the default namespace is declared
+/// twice, a prefix is not declared, or `xml`, `xmlns` or `xsd` is declared as what it must not represent. No other
+/// clause is reported. Fails with `Memory` only when out of memory, which says nothing about the syntax tree.
 ///
-/// `Memory` answers that there was no memory for the tree, and says nothing about the syntax tree.
+/// `parse` is `read_syntax` followed by this call. A caller that makes the two calls can free the tokens between them,
+/// so that tokens and file tree are not in memory at once.
 ///
-/// Takes time and memory in proportion to the syntax tree and its texts, but that each name, mention and datatype holds a
-/// copy of its uri. Prefixes are looked up by a hash whose seed is fixed: of n that are chosen to share one, each look-up
-/// takes n steps. Recurses as deep as the syntax tree.
+/// Takes time and memory linear in the syntax tree and its texts, except that each name, mention and datatype has its
+/// own copy of its uri. Prefixes are looked up by a hash with a fixed seed: if n prefixes are chosen to have equal
+/// hashes, each look-up takes n steps. Recurses as deep as the syntax tree.
 ///
 /// RELAX NG Compact Syntax, "Syntax" (`decl`).
 pub fn resolve(alloc: Global, file: &File<'_>) -> Result<FileTree, ParseFault>
@@ -60,26 +60,26 @@ pub fn resolve(alloc: Global, file: &File<'_>) -> Result<FileTree, ParseFault>
     resolved(alloc, file)
 }
 
-/// The tree of the schema file that has these tokens, with its declarations applied.
+/// Returns the tree of the schema file that has these tokens, with its declarations applied.
 ///
-/// The tokens are all of the file's, in order, and numbered from 1. Of each its kind and its text count, and of the word
-/// `include` or `external` its number too, which the tree tells; where a token lies in the text does not matter. Tokens
-/// that break no clause have one tree, and it is answered; of those that break one, the clause is told:
+/// `tokens` are all tokens of the file, in order, and are numbered from 1. Their kinds and texts matter, but not their
+/// positions in the text. The tree has the numbers of the words `include` and `external`. Tokens that break no clause
+/// have one tree, and the call returns it. Otherwise it fails with the clause that they break:
 ///
-/// - 7, with no number, where at some token the `{` and `(` up to it exceed the `}` and `)` up to it by more than 128;
-/// - 6, where the tokens break not 7 and are no sentence of the grammar, with the number of the first token such that no
-///   sentence begins with the tokens up to and with it, or with one more than there are tokens;
-/// - 8, with no number, where they break neither and a prefix or the default namespace is declared twice, `xml`, `xmlns`
-///   or `xsd` is declared as what it may not stand for, or a prefix is not declared.
+/// - 7, without a number, if at some token the `{` and `(` up to it exceed the `}` and `)` up to it by more than 128;
+/// - 6, if the tokens do not break 7 and are no sentence of the grammar. The number is that of the first token such
+///   that no sentence begins with the tokens up to and including it, or the number of tokens plus one;
+/// - 8, without a number, if they break neither, and a prefix or the default namespace is declared twice, a prefix is
+///   not declared, or `xml`, `xmlns` or `xsd` is declared as what it must not represent.
 ///
-/// The mentions of other files in a tree that is answered stand in the order of their tokens, no two with one token
-/// (`FileTree::mentioned_files`). The tree owns its texts, and borrows nothing of the tokens.
+/// Fails with `Memory` only when out of memory, which says nothing about the tokens.
 ///
-/// `Memory` answers that there was no memory for the tree, and says nothing about the tokens.
+/// The mentions of other files in the tree are in the order of their tokens, and no two have the same token
+/// (`FileTree::mentioned_files`). The tree owns its texts, and does not borrow from the tokens.
 ///
-/// Takes time and memory in proportion to the tokens and their texts, but that each name, mention and datatype holds a
-/// copy of its uri. Prefixes are looked up by a hash whose seed is fixed: of n that are chosen to share one, each look-up
-/// takes n steps. Recurses as deep as `{` and `(` nest, at most 128.
+/// Takes time and memory linear in the tokens and their texts, except that each name, mention and datatype has its own
+/// copy of its uri. Prefixes are looked up by a hash with a fixed seed: if n prefixes are chosen to have equal hashes,
+/// each look-up takes n steps. Recurses as deep as `{` and `(` nest, at most 128.
 ///
 /// RELAX NG Compact Syntax, "Syntax".
 pub fn parse(alloc: Global, tokens: &[Token<'_>]) -> Result<FileTree, ParseFault>

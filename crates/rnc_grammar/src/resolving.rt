@@ -15,14 +15,14 @@ use crate::file_tree::{
 use crate::scope::{Scope, ScopeFault, literal_text};
 use std::alloc::Global;
 
-/// What names without a prefix have as their namespace: the default one in elements, none in attributes.
+/// The namespace of names without a prefix: the default one in elements, and none in attributes.
 #[derive(Clone, Copy)]
 enum Unprefixed {
     Default,
     None,
 }
 
-/// A syntax tree's declarations, applied to its parts.
+/// Applies the declarations of a file to the parts of its syntax tree.
 #[derive(Clone, Copy)]
 struct Resolver<'s, 'a> {
     alloc: Global,
@@ -299,7 +299,7 @@ impl<'s, 'a> Resolver<'s, 'a> {
     }
 }
 
-/// What the declarations of a file declare, all together.
+/// The scope of all declarations of a file.
 fn scope_of<'a>(
     alloc: Global,
     declarations: &[rnc_syntax::Declaration<'a>],

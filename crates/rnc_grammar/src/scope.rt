@@ -1,4 +1,4 @@
-// What the declarations of a file declare.
+// The scope of a file: what its declarations declare.
 ghost use Rattle.std.specs.Prelude.{◌≡◌, Some, string_bytes};
 ghost use Rattle.rnc_model.specs.declarations.Declarations as declarations;
 ghost use Rattle.rnc_grammar.specs.views.Resolved.{Resolves, scope_view};
@@ -18,7 +18,7 @@ const XML_URI: &str = "http://www.w3.org/XML/1998/namespace";
 /// The uri of the datatype prefix `xsd`.
 const XSD_URI: &str = "http://www.w3.org/2001/XMLSchema-datatypes";
 
-/// Why declarations were not applied.
+/// Why declarations cannot be applied.
 #[derive(Clone, Copy)]
 pub enum ScopeFault {
     /// A declaration or a prefix breaks a rule.
@@ -37,7 +37,7 @@ where
     }
 }
 
-/// What the declarations so far declare.
+/// What the declarations declare that have been applied so far.
 #[derive(Drop)]
 pub struct Scope<'a> {
     default: Option<Namespace>,
@@ -66,7 +66,7 @@ fn uri_of(alloc: Global, uri: &Uri<'_>) -> Result<Namespace, ScopeFault>
     }
 }
 
-/// Whether a namespace prefix may stand for this: `xml` only for its own uri, and `xmlns` for none.
+/// Whether a namespace prefix may be declared as this namespace: `xml` only as its own uri, and `xmlns` as none.
 fn may_stand_for(prefix: &str, namespace: &Namespace) -> bool
     ensures { result ≡ declarations.may_stand_for prefix.now (namespace_of namespace.now) }
 {
@@ -80,7 +80,7 @@ fn may_stand_for(prefix: &str, namespace: &Namespace) -> bool
     }
 }
 
-/// Whether a datatype prefix may stand for this: `xsd` only for its own uri.
+/// Whether a datatype prefix may be declared as this uri: `xsd` only as its own uri.
 fn may_stand_for_types(prefix: &str, uri: &str) -> bool
     ensures { result ≡ declarations.may_stand_for_types prefix.now uri.now }
 {
@@ -101,7 +101,7 @@ fn copied(alloc: Global, namespace: &Namespace) -> Result<Namespace, ScopeFault>
 }
 
 impl<'a> Scope<'a> {
-    /// Nothing is declared.
+    /// Creates a scope in which nothing is declared.
     pub fn new(alloc: Global) -> Self
         ensures { scope_view result ≡ declarations.nothing_declared }
     {
@@ -112,7 +112,7 @@ impl<'a> Scope<'a> {
         }
     }
 
-    /// One namespace prefix more.
+    /// Declares a namespace prefix.
     fn declare_prefix(&mut self, prefix: &'a str, namespace: Namespace) -> Result<(), ScopeFault>
         ensures { Resolves (λ _. scope_view self.new) result (declarations.with_prefix prefix.now (namespace_of namespace) (scope_view self.old)) }
     {
@@ -125,7 +125,7 @@ impl<'a> Scope<'a> {
         Ok(())
     }
 
-    /// The default namespace.
+    /// Declares the default namespace.
     fn declare_default(&mut self, namespace: Namespace) -> Result<(), ScopeFault>
         ensures { Resolves (λ _. scope_view self.new) result (declarations.with_default (namespace_of namespace) (scope_view self.old)) }
     {
@@ -136,7 +136,7 @@ impl<'a> Scope<'a> {
         Ok(())
     }
 
-    /// One datatype prefix more.
+    /// Declares a datatype prefix.
     fn declare_datatypes(&mut self, prefix: &'a str, uri: String) -> Result<(), ScopeFault>
         ensures { Resolves (λ _. scope_view self.new) result (declarations.with_datatypes prefix.now (string_bytes uri) (scope_view self.old)) }
     {
@@ -149,7 +149,7 @@ impl<'a> Scope<'a> {
         Ok(())
     }
 
-    /// One declaration more.
+    /// Applies a declaration.
     pub fn declare(
         &mut self,
         alloc: Global,
@@ -175,7 +175,7 @@ impl<'a> Scope<'a> {
         }
     }
 
-    /// The namespace of names without a prefix in elements, and of mentions that name none.
+    /// The namespace of names without a prefix in elements, and of mentions that name no prefix.
     pub fn default_namespace(&self, alloc: Global) -> Result<Namespace, ScopeFault>
         ensures { Resolves namespace_of result (Some (declarations.default_of (scope_view self.now))) }
     {
@@ -185,7 +185,7 @@ impl<'a> Scope<'a> {
         }
     }
 
-    /// The namespace of a prefix; `xml` is declared beforehand.
+    /// The namespace of a prefix. `xml` is predeclared.
     pub fn namespace(&self, alloc: Global, prefix: &str) -> Result<Namespace, ScopeFault>
         ensures { Resolves namespace_of result (declarations.namespace_in (scope_view self.now) prefix.now) }
     {
@@ -198,7 +198,7 @@ impl<'a> Scope<'a> {
         }
     }
 
-    /// The uri of a datatype prefix; `xsd` is declared beforehand.
+    /// The uri of a datatype prefix. `xsd` is predeclared.
     pub fn library(&self, alloc: Global, prefix: &str) -> Result<String, ScopeFault>
         ensures { Resolves string_bytes result (declarations.library_in (scope_view self.now) prefix.now) }
     {

@@ -1,8 +1,8 @@
-//! Prints what `rnc_grammar` answers for the texts in the rows of its data.
+//! Prints what `rnc_grammar` returns for the texts in the rows of its data.
 //!
-//! Of `worked.txt` and `sentences.txt` it prints the tree, with what it is a grammar of and which files it mentions, or the
-//! broken clause; of `neighbors.txt`, whose texts may declare anything, only whether they are sentences.
-//! `tools/grammar_cases` writes the rows and what is to be printed.
+//! For `worked.txt` and `sentences.txt` it prints the tree, the number of components if the file is a grammar, and the
+//! files that it mentions, or the broken clause. For `neighbors.txt`, whose texts may declare anything, it only prints
+//! whether they are sentences. `tools/grammar_cases` writes the rows and the expected output.
 #![tactic(auto)]
 
 use case_rows::rows;
@@ -12,7 +12,7 @@ use std::alloc::{AllocError, Global};
 use std::io;
 use std::rt::Files;
 
-/// The fault of a file whose text has this one.
+/// Returns the fault of a file whose text has this one.
 fn fault_of(fault: TextFault) -> ParseFault {
     match fault {
         TextFault::At { clause, .. } => ParseFault::Clause(clause),
@@ -20,14 +20,14 @@ fn fault_of(fault: TextFault) -> ParseFault {
     }
 }
 
-/// The tree of a file, or why it has none.
+/// Returns the tree of a file, or why it has none.
 fn tree_of(alloc: Global, bytes: &[u8]) -> Result<FileTree, ParseFault> {
     let text = read_text(alloc, bytes).map_err(fault_of)?;
     let tokens = tokens(alloc, &text).map_err(fault_of)?;
     parse(alloc, tokens.as_slice())
 }
 
-/// A fault as it is printed.
+/// Returns a fault as it is printed.
 fn fault_line(alloc: Global, fault: ParseFault) -> Result<String, AllocError> {
     match fault {
         ParseFault::At { clause, number } => format!(in alloc; "clause {clause} at token {number}"),
@@ -36,7 +36,7 @@ fn fault_line(alloc: Global, fault: ParseFault) -> Result<String, AllocError> {
     }
 }
 
-/// Of how many components a file is a grammar, as it is printed, if it is one.
+/// Returns the number of components, as it is printed, if the file is a grammar.
 fn grammar_note(alloc: Global, tree: &FileTree) -> Result<String, AllocError> {
     match tree.grammar() {
         Some(components) => format!(in alloc; " is a grammar of {}", components.len()),
@@ -44,7 +44,7 @@ fn grammar_note(alloc: Global, tree: &FileTree) -> Result<String, AllocError> {
     }
 }
 
-/// A file that another one mentions, as it is printed: an include with how many components stand in its braces.
+/// Returns a file that another one mentions, as it is printed: an include with the number of components in its braces.
 fn mention_note(alloc: Global, file: MentionedFile<'_>) -> Result<String, AllocError> {
     match file {
         MentionedFile::External(mention) => {
@@ -61,7 +61,7 @@ fn mention_note(alloc: Global, file: MentionedFile<'_>) -> Result<String, AllocE
     }
 }
 
-/// The files that a file mentions, as they are printed.
+/// Returns the files that a file mentions, as they are printed.
 fn mentions_note(alloc: Global, tree: &FileTree) -> Result<String, AllocError> {
     let Ok(files) = tree.mentioned_files(alloc) else {
         return String::from_str(alloc, " out of memory");
@@ -73,7 +73,7 @@ fn mentions_note(alloc: Global, tree: &FileTree) -> Result<String, AllocError> {
     Ok(note)
 }
 
-/// A tree as it is printed.
+/// Returns a tree as it is printed.
 fn tree_line(alloc: Global, tree: &FileTree) -> Result<String, AllocError> {
     let mut line = format!(in alloc; "{tree:?}")?;
     line.push_str(grammar_note(alloc, tree)?.as_str())?;
@@ -81,7 +81,7 @@ fn tree_line(alloc: Global, tree: &FileTree) -> Result<String, AllocError> {
     Ok(line)
 }
 
-/// What is printed of a file.
+/// Returns what is printed for a file.
 fn answer_line(alloc: Global, bytes: &[u8]) -> Result<String, AllocError> {
     match tree_of(alloc, bytes) {
         Ok(tree) => tree_line(alloc, &tree),
@@ -89,7 +89,7 @@ fn answer_line(alloc: Global, bytes: &[u8]) -> Result<String, AllocError> {
     }
 }
 
-/// What is printed of a file that may declare anything.
+/// Returns what is printed for a file that may declare anything.
 fn sentence_line(alloc: Global, bytes: &[u8]) -> Result<String, AllocError> {
     match tree_of(alloc, bytes).map(|_| ()) {
         Ok(()) | Err(ParseFault::Clause(8)) => String::from_str(alloc, "sentence"),

@@ -3,8 +3,8 @@
 /// A character of a decoded text.
 #[derive(Clone, Copy, PartialEq, Eq)]
 pub enum Character {
-    /// A line end that stands in the file as CR LF, CR or LF. It is one LF in the decoded text.
+    /// A line end that is in the file as CR LF, CR or LF. It is one LF in the decoded text.
     LineEnd,
-    /// Any other character, also a CR or LF that came of an escape.
+    /// Any other character, also a CR or LF that an escape writes.
     Ordinary(char),
 }

@@ -1,7 +1,7 @@
-//! What is to be believed of the compact syntax and of loading: definitions, and the types that they speak of.
+//! What a reader has to believe about the compact syntax and about loading: definitions, and the types that they use.
 //!
-//! The definitions stand in `specs/`: characters, tokens, productions, declarations, and which schema some files are. The contracts of
-//! `rng_load` and of the crates below it are written in them.
+//! The definitions are in `specs/`: characters, tokens, productions, declarations, and which schema some files are. The
+//! contracts of `rng_load` and of the crates that it uses are written in them.
 #![tactic(auto)]
 
 mod character;

@@ -1,6 +1,6 @@
 // Tokens of the compact syntax.
 
-/// A word that the grammar gives a meaning of its own.
+/// A word that has its own meaning in the grammar.
 ///
 /// RELAX NG Compact Syntax, "Lexical structure".
 #[derive(Clone, Copy, Debug, PartialEq, Eq)]
@@ -65,32 +65,34 @@ pub enum Sign {
     Tilde,
 }
 
-/// What a token is.
+/// The kind of a token.
 ///
 /// RELAX NG Compact Syntax, "Lexical structure".
 #[derive(Clone, Copy, Debug, PartialEq, Eq)]
 pub enum TokenKind {
-    /// An NCName that is no keyword.
+    /// An NCName that is not a keyword.
     Identifier,
     /// An NCName that is a keyword.
     Keyword(Keyword),
-    /// A backslash and an NCName, which is its name.
+    /// A backslash and an NCName. The NCName is the name.
     QuotedIdentifier,
-    /// Two NCNames with a colon between.
+    /// Two NCNames with a colon between them.
     CName,
     /// An NCName, a colon and a star.
     NsName,
     /// A text between two quotation marks or two apostrophes.
     Segment,
-    /// A text between three quotation marks and three more, or three apostrophes and three more.
+    /// A text between three quotation marks and three quotation marks, or between three apostrophes and three
+    /// apostrophes.
     TripleSegment,
     Sign(Sign),
 }
 
-/// A token, with what it says and where it stands.
+/// A token: its kind, its text, and its position.
 ///
-/// `text` is the name of a quoted identifier without its backslash, what a segment holds between its quotes, and all of
-/// any other token. `start` and `end` are the byte offsets in the decoded text at which the whole token begins and ends.
+/// `text` is: for a quoted identifier, its name without the backslash; for a segment, the text between its quotes; for
+/// any other token, the whole token. `start` and `end` are the byte offsets in the decoded text where the whole token
+/// begins and ends.
 #[derive(Clone, Copy)]
 pub struct Token<'a> {
     pub kind: TokenKind,

@@ -1,4 +1,4 @@
--- What is in front of a token, and of a place at which nothing begins.
+-- The characters before a token, and before a place at which nothing begins.
 use Rattle.std.proofs.Common.{◌≡◌, ℕ, zero, suc, ◌+◌, List, [], ◌∷◌, ◌++◌, length, Some, refl, sym, ap, ◌∙◌, arith}
 use Rattle.std.specs.List.{slice_get}
 use Rattle.std.proofs.lemmas.List.{length-append, append_assoc, map-append}
@@ -30,7 +30,7 @@ before_rest (cut.next_is {rest = rest} {piece = p} n c e) =
     let f = before_rest c in
     (characters_in p ++ f.0, n.parts ∙ ap (λ (x : List Character). characters_in p ++ x) f.1 ∙ sym (append_assoc (characters_in p) f.0 rest))
 
--- where nothing begins
+-- before a place at which nothing begins
 pub stuck_front : (cs : List Character) (offset : ℕ) → BreaksTokensAt cs offset → Front cs offset
 stuck_front cs offset b =
     let f = before_rest b.cut in
@@ -41,7 +41,7 @@ stuck_front cs offset b =
       size_is = omega (arith, b.offset_is, ap byte_length f.1, length_of_both f.0 b.rest);
     }
 
--- in front of a token, where the first piece starts at an offset
+-- before a token, if the first piece starts at an offset
 record Starts (start : ℕ) (cs : List Character) (t : Token) : Type 0 where
   pub front : List Character
   pub rest : List Character
@@ -76,7 +76,7 @@ token_front cs ts i t h is =
     let s = starts 0 h.cut i t (ap (λ (x : List Token). slice_get x i) (sym h.are) ∙ is) in
     record { front = s.front; rest = s.rest; is = s.is; size_is = omega (arith, s.size_is) }
 
--- the first of decoded characters are decoded
+-- the first of the decoded characters are decoded from the first numbers
 pub decodes_front : {ns : List ℕ} {cs : List Character} {end : List ℕ} → Decodes ns cs end → (front rest : List Character) → cs ≡ front ++ rest
     → (mid : List ℕ) × Decodes ns front mid
 decodes_front {ns} d [] rest e = (ns, here refl)

@@ -5,7 +5,8 @@ use Rattle.rnc_model.specs.loading.FaultPlaces.{IsTooDeepAt}
 use Rattle.rnc_model.specs.tokens.Lexeme.{Lexeme}
 use Rattle.rnc_syntax.proofs.NestingSteps.{IsFirst}
 
--- so many tokens are before these, and the first of these that is too deep is the first of all
+-- `before` tokens come before `rest`; if the k-th token of `rest` is the first that is too deep there, it is the first
+-- of all
 abbrev pub Leads : List Lexeme → ℕ → ℕ → ℕ → List Lexeme → Type 0
 Leads all opened closed before rest = (k : ℕ) → IsFirst opened closed rest k → IsTooDeepAt all (before + k)
 

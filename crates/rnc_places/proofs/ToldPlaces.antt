@@ -1,4 +1,4 @@
--- The places that are told are those of the clauses.
+-- The places that are returned are those of the clauses.
 use Rattle.std.proofs.Common.{◌≡◌, ◌⊎◌, ℕ, ◌-◌, List, [], ◌++◌, Option, Some, None, Ok, Err, IfSome, take, inl, inr, refl, sym, ap, subst, ◌∙◌}
 use Rattle.std.proofs.lemmas.Option.{none-some}
 use Rattle.std.specs.List.{slice_get}
@@ -37,7 +37,7 @@ behind_front bytes cs front rest offset p d is size told =
     let m = decodes_front d.decoded front rest is in
     told front d.numbers m.0 d.spelling m.1 size
 
--- a place of the text
+-- the place of a fault of the bytes or characters
 pub place_of_text : (bytes : List ℕ) (k offset : ℕ) (p : FilePlace) → BreaksTextAt bytes k offset
     → (BreaksUtf8At bytes offset → (front : List ℕ) × IsSpelling (take offset bytes) front × IsPlaceBetween front [] p)
     → (BreaksCharactersAt bytes offset → (front : List Character) × IsPlaceBehind bytes front p)
@@ -59,7 +59,7 @@ place_of_cut bytes cs k offset p d b told =
     let f = stuck_front cs offset b.1 in
     places.bad_tokens cs f.front d (subst (BreaksTokensAt cs) (sym f.size_is) b.1) (behind_front bytes cs f.front f.rest offset p d f.is f.size_is told) b.0
 
--- a place of a token
+-- the place of a token
 pub place_of_some : (bytes : List ℕ) (cs : List Character) (ts : List Token) (number : ℕ) (t : Token) (p : FilePlace) → IsDecoded bytes cs → HasTokens cs ts
     → slice_get ts (number - 1) ≡ Some t
     → ((front : List Character) (numbers after : List ℕ) → IsSpelling bytes numbers → Decodes numbers front after → byte_length front ≡ t.starts
@@ -77,14 +77,14 @@ pub place_of_none : (bytes : List ℕ) (cs : List Character) (ts : List Token) (
     → IsPlaceOfToken bytes ts number p
 place_of_none bytes cs ts number p d is told = places.of_end cs is d (told cs d.numbers [] d.spelling d.decoded refl)
 
--- a fault of the tokens
+-- the place of a fault of the tokens
 pub place_of_fault : (bytes : List ℕ) (ts : List Token) (k number : ℕ) (p : FilePlace) → AreTokensOf bytes ts → BreaksAtToken (lexemes ts) k number
     → IsPlaceOfToken bytes ts number p → BreaksClauseAt bytes k p
 place_of_fault bytes ts k number p are (unexpected b e) at = places.no_sentence ts number are b at e
 place_of_fault bytes ts k number p are (too_deep b e) at = places.too_deep ts number are b at e
 place_of_fault bytes ts k number p are (unruly b e) at = places.bad_declarations ts number are b at e
 
--- ---- what is told
+-- ---- what is returned
 
 pub told_of_text : (bytes : List ℕ) (x : TextFault) (k offset : ℕ) (p : FilePlace) (o : ℕ) → offset ≡ o → x ≡ texts.At k offset → IfBroken (BreaksTextAt bytes) x
     → ((cs : List Character) → IsDecoded bytes cs → GivesOk {X = List Character} (λ t. t) (Err x) cs)
@@ -126,7 +126,7 @@ pub told_of_tokens : (bytes : List ℕ) (ts : List Token) (x : ParseFault) (k nu
 told_of_tokens bytes ts x k number p l fault only n at =
     (place_of_fault bytes ts k number p l.is n.1 at, verdict_at bytes x k n.0 (parse_fault bytes ts x l fault only))
 
--- ---- of a clause that is asked for
+-- ---- a clause that is asked for
 
 pub is_asked : (bytes : List ℕ) (o : Option (ℕ × FilePlace)) (k j : ℕ) (p : FilePlace) → o ≡ Some (j, p) → j ≡ k → IsTold bytes o → BreaksClauseAt bytes k p
 is_asked bytes None k j p e f told = absurd (none-some _ e)

@@ -1,2 +1,2 @@
--- What is told of a file.
+-- What is reported for a file.
 pub mod Told

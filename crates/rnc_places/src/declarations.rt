@@ -1,4 +1,4 @@
-// The declaration that breaks a rule.
+// Finding the declaration that breaks a rule.
 ghost use Rattle.std.specs.Prelude.{◌+◌, ◌≤◌, ◌<◌, IfOk, IfSome, length};
 
 use crate::literals::{behind_literal, says};
@@ -14,7 +14,7 @@ const XML_URI: &str = "http://www.w3.org/XML/1998/namespace";
 /// The uri of the datatype prefix `xsd`.
 const XSD_URI: &str = "http://www.w3.org/2001/XMLSchema-datatypes";
 
-/// What the declarations so far declare.
+/// What the declarations declare that have been checked so far.
 #[derive(Drop)]
 pub struct Declared<'a> {
     default: bool,
@@ -22,16 +22,16 @@ pub struct Declared<'a> {
     datatypes: HashSet<&'a str>,
 }
 
-/// A declaration, as its tokens are.
+/// The tokens of a declaration.
 #[derive(Clone, Copy)]
 struct Declaration<'t, 'a> {
-    /// Whether the default namespace is declared.
+    /// Whether it declares the default namespace.
     is_default: bool,
     /// Whether it declares a datatype prefix.
     is_of_datatypes: bool,
-    /// The prefix that is declared.
+    /// The prefix that it declares.
     prefix: Option<&'a str>,
-    /// What is behind the `=`.
+    /// The tokens after the `=`.
     value: &'t [Token<'a>],
 }
 
@@ -45,7 +45,7 @@ pub fn is_sign(token: &Token<'_>, sign: Sign) -> bool {
     token.kind == TokenKind::Sign(sign)
 }
 
-/// The declaration in front.
+/// The declaration that begins here.
 fn declaration_at<'t, 'a>(tokens: &'t [Token<'a>]) -> Option<Declaration<'t, 'a>>
     ensures { IfSome result (λ d. length d.value.now < length tokens.now) }
 {
@@ -84,7 +84,7 @@ fn declaration_at<'t, 'a>(tokens: &'t [Token<'a>]) -> Option<Declaration<'t, 'a>
     }
 }
 
-/// What is behind a declaration's value: `inherit`, or a literal.
+/// The tokens after the value of a declaration, which is `inherit` or a literal.
 fn behind_value<'t, 'a>(value: &'t [Token<'a>]) -> &'t [Token<'a>]
     ensures { length result.now ≤ length value.now }
 {
@@ -95,23 +95,23 @@ fn behind_value<'t, 'a>(value: &'t [Token<'a>]) -> &'t [Token<'a>]
 }
 
 impl<'a> Declared<'a> {
-    /// Whether a namespace prefix is declared; `xml` is beforehand.
+    /// Whether a namespace prefix is declared. `xml` is predeclared.
     pub fn has_namespace(&self, prefix: &str) -> bool {
         prefix == "xml" || self.namespaces.contains(prefix)
     }
 
-    /// Whether a datatype prefix is declared; `xsd` is beforehand.
+    /// Whether a datatype prefix is declared. `xsd` is predeclared.
     pub fn has_datatypes(&self, prefix: &str) -> bool {
         prefix == "xsd" || self.datatypes.contains(prefix)
     }
 
-    /// One datatype prefix more; whether the rules allow it.
+    /// Declares a datatype prefix. Returns whether the rules allow it.
     fn add_datatypes(&mut self, prefix: &'a str, value: &[Token<'a>]) -> Result<bool, OutOfMemory> {
         let is_new = self.datatypes.insert(prefix)?;
         Ok(is_new && (prefix != "xsd" || says(value, XSD_URI)))
     }
 
-    /// One namespace prefix more; whether the rules allow it.
+    /// Declares a namespace prefix. Returns whether the rules allow it.
     fn add_namespace(&mut self, prefix: &'a str, value: &[Token<'a>]) -> Result<bool, OutOfMemory> {
         let is_new = self.namespaces.insert(prefix)?;
         let may_be = match prefix {
@@ -122,7 +122,7 @@ impl<'a> Declared<'a> {
         Ok(is_new && may_be)
     }
 
-    /// One declaration more; whether the rules allow it.
+    /// Applies a declaration. Returns whether the rules allow it.
     fn add(&mut self, declaration: Declaration<'_, 'a>) -> Result<bool, OutOfMemory> {
         if declaration.is_default && self.default {
             return Ok(false);
@@ -138,9 +138,10 @@ impl<'a> Declared<'a> {
     }
 }
 
-/// The number, from 1, of the first token of the first declaration that breaks a rule, or else of the first prefix that is not declared.
+/// The number, from 1, of the first token of the first declaration that breaks a rule, or otherwise of the first token
+/// with a prefix that is not declared.
 ///
-/// The tokens are a sentence of the grammar.
+/// The tokens must be a sentence of the grammar.
 pub fn unruly_number(alloc: Global, tokens: &[Token<'_>]) -> Result<usize, OutOfMemory>
     ensures { IfOk result (λ number. number ≤ length tokens.now + 1) }
 {

@@ -1,7 +1,7 @@
 //! Where a schema file breaks a clause.
 //!
-//! `place_of` reads a file that breaks a clause from 3 to 8 again, and tells the offset, the line and the column at which it does. RELAX NG Compact
-//! Syntax, "Lexical structure" and "Syntax".
+//! `place_of` reads a file again that breaks a clause from 3 to 8. It returns the offset, the line and the column where
+//! the file breaks it. RELAX NG Compact Syntax, "Lexical structure" and "Syntax".
 #![tactic(auto)]
 
 mod declarations;

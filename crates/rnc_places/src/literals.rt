@@ -11,7 +11,7 @@ pub fn is_segment(kind: TokenKind) -> bool {
     }
 }
 
-/// What is behind a literal in front: segments with `~` between them.
+/// The tokens after a literal: segments with `~` between them.
 pub fn behind_literal<'t, 'a>(tokens: &'t [Token<'a>]) -> &'t [Token<'a>]
     ensures { length result.now ≤ length tokens.now }
 {
@@ -28,7 +28,7 @@ pub fn behind_literal<'t, 'a>(tokens: &'t [Token<'a>]) -> &'t [Token<'a>]
     rest
 }
 
-/// Whether a literal in front says this text.
+/// Whether the literal that begins here has this text.
 pub fn says(tokens: &[Token<'_>], text: &str) -> bool {
     let mut rest = tokens;
     let mut left = text;

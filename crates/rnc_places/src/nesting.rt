@@ -1,4 +1,4 @@
-// The bracket that is one too many.
+// Finding the bracket that is one too many.
 ghost use Rattle.std.specs.Prelude.{◌≡◌, []};
 ghost use Rattle.rnc_model.specs.grammar.Sentence.{BreaksNesting, is_closing, is_opening};
 ghost use Rattle.rnc_model.specs.loading.FaultPlaces.{IsTooDeepAt};
@@ -7,7 +7,7 @@ ghost use Rattle.rnc_model.specs.tokens.Lexeme.{lexeme_at, lexemes};
 
 use rnc_model::{Sign, Token, TokenKind};
 
-/// How many brackets may be open.
+/// The largest number of brackets that may be open at once.
 const NESTING_LIMIT: usize = 128;
 
 /// Whether a token of this kind opens a bracket.
@@ -30,7 +30,8 @@ fn closes(kind: TokenKind) -> bool
     }
 }
 
-/// The number, from 1, of the first token up to which the opening brackets exceed the closing ones by more than the limit; 0 where there is none.
+/// The number, from 1, of the first token up to which the opening brackets exceed the closing ones by more than the
+/// limit, or 0 if there is none.
 pub fn too_deep_number(tokens: &[Token<'_>]) -> usize
     ensures { BreaksNesting (lexemes (tokens_of tokens.now)) → IsTooDeepAt (lexemes (tokens_of tokens.now)) result }
 {

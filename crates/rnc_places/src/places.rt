@@ -18,22 +18,25 @@ use rnc_text::{TextFault, place_at, place_of_decoded, read_text, tokens};
 use rng_model::OutOfMemory;
 use std::alloc::Global;
 
-/// The place at which a schema file breaks this clause, if it is the one from 3 to 8 that the file breaks by itself; else none.
+/// Returns the place at which a schema file breaks this clause, or `None` if it does not break it by itself.
 ///
-/// - 3: the first byte that is not UTF-8;
-/// - 4: the first character that is none of XML's, or the first bad escape;
-/// - 5: the first place at which neither a blank, a comment nor a token begins;
-/// - 6: the first token with which no sentence goes on; the end of the file where none goes on with that;
-/// - 7: the first bracket that is one too many;
-/// - 8: the first declaration that breaks a rule, or else the first prefix that is not declared.
+/// A file by itself breaks at most one of the clauses 3 to 8. The place is
 ///
-/// The error is want of memory. Takes the time and the memory that it takes to read the file.
+/// - for 3, the first byte that is not UTF-8;
+/// - for 4, the first character that XML does not allow, or the first bad escape;
+/// - for 5, the first place at which neither a blank, a comment nor a token begins;
+/// - for 6, the first token such that no sentence begins with the tokens up to and including it, or the end of the file
+///   if there is none;
+/// - for 7, the first bracket that is one too many;
+/// - for 8, the first declaration that breaks a rule, or otherwise the first prefix that is not declared.
+///
+/// Fails only when out of memory. Takes the time and the memory that it takes to read the file.
 ///
 /// RELAX NG Compact Syntax, "Lexical structure", "Syntax" and "Declarations".
 pub fn place_of(alloc: Global, file: &[u8], clause: u8) -> Result<Option<FilePlace>, OutOfMemory>
-    // A place that is told is that of the clause.
+    // A place that is returned is a place of the clause.
     ensures place { IfOk result (λ found. IfSome found (BreaksClauseAt file.now clause)) }
-    // A clause that is broken has its place told.
+    // If the file breaks the clause, a place is returned.
     ensures found { BreaksFileClause file.now clause → IfOk result IsSome }
 {
     match told(alloc, file)? {
@@ -43,7 +46,7 @@ pub fn place_of(alloc: Global, file: &[u8], clause: u8) -> Result<Option<FilePla
     }
 }
 
-/// The clause from 3 to 8 that a file breaks, and where; none where it breaks none.
+/// The clause from 3 to 8 that a file breaks, with its place, or `None` if it breaks none.
 fn told(alloc: Global, file: &[u8]) -> Result<Option<(u8, FilePlace)>, OutOfMemory>
     ensures { IfOk result (IsTold file.now) }
 {
@@ -73,7 +76,7 @@ fn told(alloc: Global, file: &[u8]) -> Result<Option<(u8, FilePlace)>, OutOfMemo
     Ok(Some((clause, place_of_token(file, end, tokens.as_slice(), number))))
 }
 
-/// The clause that tokens break by this fault, and the number of the token at which they do.
+/// The clause of a fault of tokens, and the number of the token at which they break it.
 fn numbered(
     alloc: Global,
     tokens: &[Token<'_>],
@@ -89,7 +92,8 @@ fn numbered(
     }
 }
 
-/// The place of the token with this number in a file whose decoded text has so many bytes; where the number is past the last, the end of the file.
+/// The place of the token with this number, in a file whose decoded text has `end` bytes. A number after the last token
+/// refers to the end of the file.
 fn place_of_token(file: &[u8], end: usize, tokens: &[Token<'_>], number: usize) -> FilePlace
     ensures { (cs : List Character) → IsDecoded file.now cs → HasTokens cs (tokens_of tokens.now) → byte_length cs ≡ end
         → IsPlaceOfToken file.now (tokens_of tokens.now) number result }

@@ -1,30 +1,30 @@
-// The prefix that is not declared.
+// Finding the prefix that is not declared.
 ghost use Rattle.std.specs.Prelude.{◌≤◌, ◌+◌, length};
 
 use crate::declarations::Declared;
 use rnc_model::{Keyword, Sign, Token, TokenKind};
 
-/// What may follow.
+/// What the next token may be.
 #[derive(Clone, Copy, PartialEq, Eq)]
 enum Expected {
     Anything,
-    /// Behind `inherit`, the `=` of a mention.
+    /// After `inherit`: the `=` of a mention.
     Equal,
-    /// Behind this, the prefix of a mention.
+    /// After this `=`: the prefix of a mention.
     Prefix,
 }
 
-/// Where in a body a token is.
+/// The position of a token in a body.
 #[derive(Clone, Copy)]
 struct Position {
-    /// How many annotations are open.
+    /// The number of open annotations.
     annotations: usize,
     /// Whether it is in the name class of an element or an attribute.
     is_in_class: bool,
     expected: Expected,
 }
 
-/// The prefix of a name, which is before its colon.
+/// The prefix of a name, which is the part before its colon.
 fn prefix_in(name: &str) -> &str {
     match name.split_once(':') {
         Some((prefix, _)) => prefix,
@@ -32,7 +32,7 @@ fn prefix_in(name: &str) -> &str {
     }
 }
 
-/// Whether a prefix that is not declared is at a token.
+/// Whether the token at a position has a prefix that is not declared.
 fn is_undeclared(declared: &Declared<'_>, position: Position, token: &Token<'_>) -> bool {
     if position.annotations > 0 {
         return false;
@@ -50,7 +50,7 @@ fn is_undeclared(declared: &Declared<'_>, position: Position, token: &Token<'_>)
     }
 }
 
-/// Where the token behind this one is.
+/// The position of the token after one of this kind.
 fn behind(position: Position, kind: TokenKind) -> Position {
     let annotations = match kind {
         TokenKind::Sign(Sign::OpenBracket) => position.annotations.saturating_add(1),
@@ -74,7 +74,8 @@ fn behind(position: Position, kind: TokenKind) -> Position {
     }
 }
 
-/// The number, from 1, of the first token of a body that has a prefix that is not declared; one more than there are tokens where none has.
+/// The number, from 1, of the first token of a body that has a prefix that is not declared, or the number of tokens
+/// plus one if there is none.
 pub fn unruly_prefix(declared: &Declared<'_>, tokens: &[Token<'_>]) -> usize
     ensures { result ≤ length tokens.now + 1 }
 {

@@ -1,4 +1,4 @@
--- How an annotation goes on, by the role of the token in front.
+-- The steps of reading an annotation, by the role of the first token.
 use Rattle.std.proofs.Common.{◌≡◌, ℕ, zero, suc, ◌+◌, ◌-◌, List, [], ◌∷◌, length, Some, None, Ok, refl, sym, ap, ◌∙◌, add-one, sub-one}
 use Rattle.rnc_syntax.specs.declared.annotations.Role.{Role}
 use Rattle.rnc_syntax.specs.declared.annotations.Role.TheVariants as roles
@@ -12,7 +12,7 @@ use Rattle.rnc_syntax.specs.views.Fault.{stop_of}
 use Rattle.rnc_syntax.proofs.Soundness.{some_is}
 use Rattle.rnc_syntax.specs.plain.Productions.{role_of, role_front, by_role, one_less, annotation_end}
 
--- what follows a token of this role, with so many annotations open
+-- what follows a token of this role, with n annotations open
 abbrev pub onwards : Role → ℕ → List Lexeme → List Lexeme → Outcome (Unit {0})
 onwards r n ts us = by_role r (annotation_end (suc n) us) (one_less n (Ok (tt, us)) (λ m. annotation_end m us)) (annotation_end n us) (unexpected ts)
 
@@ -54,7 +54,7 @@ unfolding annotation_end
 ends n [] e = refl
 ends n (x ∷ ts) e = absurd cc
 
--- the fault of the code is that of tokens that are stuck
+-- the fault of the code is that of stuck tokens
 pub stuck : (fault : ReadFault) (ts : List Lexeme) (r : Outcome (Unit {0})) → fault ≡ read_faults.Stop (Unexpected (length ts)) → r ≡ unexpected ts
     → Refuses (stop_of fault) r
 stuck fault ts r e f = rw (e, f) refl

@@ -1,4 +1,4 @@
--- Brackets counted over tokens that stand side by side, and that each production closes all that it opens.
+-- Brackets counted over concatenated tokens: each production closes all brackets that it opens.
 use Rattle.std.proofs.Common.{◌≡◌, ℕ, zero, suc, ◌+◌, ◌≤◌, min, Bool, true, false, cond, List, [], ◌∷◌, ◌++◌, length, take, Option, Some, refl, sym, ap, subst}
 use Rattle.std.proofs.Common.{◌∙◌, arith}
 use Rattle.std.proofs.lemmas.List.{take-append-le, take_min}
@@ -44,12 +44,12 @@ openings-cons x b = sum_by-cons counts x b
 pub closings-cons : (x : Lexeme) (b : List Lexeme) → closings (x ∷ b) ≡ discounts x + closings b
 closings-cons x b = sum_by-cons discounts x b
 
--- a token that is no bracket
+-- a token that is not a bracket
 pub record Plain (x : Lexeme) : Type 0 where
   pub no_opening : is_opening x ≡ false
   pub no_closing : is_closing x ≡ false
 
--- a bracket, and the bracket that closes it
+-- an opening bracket and its closing one
 pub record ArePair (x y : Lexeme) : Type 0 where
   pub opens : is_opening x ≡ true
   pub opens_only : is_closing x ≡ false
@@ -65,7 +65,7 @@ parens = record { opens = refl; opens_only = refl; closes = refl; closes_only = 
 abbrev AreWithin : ℕ → List Lexeme → Type 0
 AreWithin n ts = openings ts ≤ closings ts + n
 
--- ---- parts of what nests within a limit
+-- ---- parts of tokens that nest within a limit
 
 front_within : (n : ℕ) (a b : List Lexeme) → NestsWithin n (a ++ b) → NestsWithin n a
 front_within n a b h k =
@@ -100,7 +100,7 @@ pub inside_within : (n : ℕ) (ts : List Lexeme) (x y : Lexeme) (a : List Lexeme
     → NestsWithin n a
 inside_within n ts x y a pair e h = front_within n a (y ∷ []) (opened_within n x (a ++ y ∷ []) pair.opens pair.opens_only (subst (NestsWithin (suc n)) e h))
 
--- a bracket is not within none
+-- a bracket does not nest within zero
 pub none_within : (ts : List Lexeme) (x : Lexeme) (a : List Lexeme) → is_opening x ≡ true → is_closing x ≡ false → ts ≡ x ∷ a → NestsWithin 0 ts → ⊥
 none_within ts x a o c e h =
     let q : AreWithin 0 (x ∷ []) = subst (NestsWithin 0) e h 1 in

@@ -1,4 +1,4 @@
--- What is in the grammar is read, whatever follows: items one after another, literals, parameters and mentions.
+-- Whatever is in the grammar is read, independent of what follows: lists of items, literals, parameters and mentions.
 use Rattle.std.proofs.Common.{◌≡◌, ℕ, zero, suc, ◌<◌, ◌≤◌, List, [], ◌∷◌, ◌++◌, length, Option, Some, None, Ok, refl, sym, ap, subst, ◌∙◌, append_assoc, arith}
 use Rattle.std.proofs.lemmas.List.{append-nil, length-append}
 use Rattle.rnc_model.specs.declared.token.Keyword.TheVariants as keywords
@@ -16,7 +16,7 @@ use Rattle.rnc_syntax.proofs.CompletenessAnnotations.{StandsAlone, annotated_beh
 -- ---- items one after another
 
 module _ {A : Type 0} (next : List Lexeme → Option (List Lexeme)) (item : List Lexeme → Outcome A) where
-  -- these items are read, with any number of steps that is as great as the number of tokens
+  -- these items are read with any number of steps that is at least the number of tokens
   abbrev pub Manys : List Lexeme → List A → List Lexeme → Type 0
   Manys ts xs rest = (k : ℕ) → length ts ≤ k → many_with next item k ts ≡ Ok (xs, rest)
 
@@ -156,7 +156,7 @@ parameters_are {ts} (grammar.and_parameter {ps = ps} {a = a} {b = b} {w = w} {v 
     parameters_more x w v ts a b (sign CloseBrace ∷ r) (sign CloseBrace ∷ r) ps may is e (literal_complete p (b ++ sign CloseBrace ∷ r) (no_tilde q r))
     (parameters_are q r)
 
--- what stands in braces
+-- the text in braces
 pub braces_read : {A : Type 0} (read : List Lexeme → Outcome A) (a rest : List Lexeme) (x : A) → read (a ++ (sign CloseBrace ∷ rest)) ≡ Ok
     (x, sign CloseBrace ∷ rest) → in_braces_at read ((a ++ sign CloseBrace ∷ []) ++ rest) ≡ Ok (x, rest)
 unfolding in_braces_at after

@@ -1,4 +1,4 @@
--- What is in the grammar is read, whatever follows: annotations, and what is read behind them.
+-- Whatever is in the grammar is read, independent of what follows: annotations, and what is read after them.
 use Rattle.std.proofs.Common.{◌≡◌, ℕ, suc, List, [], ◌∷◌, ◌++◌, None, Ok, refl, ap, ◌∙◌, append_assoc}
 use Rattle.rnc_model.specs.declared.token.Sign.TheVariants.{OpenBracket, CloseBracket}
 use Rattle.rnc_syntax.specs.declared.annotations.Role.TheVariants as roles
@@ -10,7 +10,7 @@ use Rattle.rnc_syntax.specs.plain.Productions.{annotation_end, annotation_at, an
 use Rattle.rnc_syntax.proofs.AnnotationSteps.{by_front}
 use Rattle.rnc_syntax.proofs.SoundnessAnnotations.{no_bracket_is}
 
--- content changes nothing about how many annotations are open
+-- content does not change the number of open annotations
 content_passed : {ts : List Lexeme} → IsAnnotationContent ts → (n : ℕ) (rest : List Lexeme) → annotation_end n (ts ++ rest) ≡ annotation_end n rest
 content_passed (grammar.no_content e) n rest = rw e refl
 content_passed (grammar.and_token {a = a} {x = x} is p e) n rest = ap (λ (ts : List Lexeme). annotation_end n (ts ++ rest)) e
@@ -31,7 +31,7 @@ unfolding annotation_at
 annotation_read (grammar.without_annotation e) rest is = rw (e, is) refl
 annotation_read (grammar.with_annotation p e) rest is = rw e (end_read p rest)
 
--- what is read begins with no annotation
+-- what is read does not begin with an annotation
 abbrev pub StandsAlone : {A : Type 0} → (List Lexeme → Outcome A) → Type 0
 StandsAlone {A} read = (us : List Lexeme) (x : A × List Lexeme) → read (sign OpenBracket ∷ us) ≡ Ok x → ⊥
 

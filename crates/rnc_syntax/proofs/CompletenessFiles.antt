@@ -1,4 +1,4 @@
--- Each sentence that nests within a limit is read, so that it has one tree.
+-- Each sentence that nests within a limit is read. So it has one tree.
 use Rattle.std.proofs.Common.{◌≡◌, ℕ, ◌<◌, Bool, true, false, List, [], ◌∷◌, ◌++◌, length, Option, Some, None, Result, Ok, refl, sym, ap, subst, ◌∙◌}
 use Rattle.std.proofs.Common.{append_assoc, arith}
 use Rattle.std.proofs.lemmas.List.{length-append, append-nil}
@@ -157,7 +157,7 @@ declarations_complete {ts} (grammar.and_declaration {ds = ds} {a = a} {b = b} {d
 
 -- ---- bodies
 
--- what a body begins with, which is no declaration
+-- how a body begins: not with a declaration
 record NoDeclaration (ts : List Lexeme) : Type 0 where
   pub no_tilde : follow Tilde ts ≡ None
   pub none : declaration_front ts ≡ None
@@ -229,7 +229,7 @@ body_begins (grammar.grammar_body p e) = components_body p
 left_over : (t u : Pattern) (x : Lexeme) (ts : List Lexeme) → ◌≡◌ {A = Outcome Pattern} (Ok (t, x ∷ ts)) (Ok (u, [])) → ⊥
 left_over t u x ts e = let q : x ∷ ts ≡ [] = ap (λ (y : Pattern × List Lexeme). y.1) (ok_is (t, x ∷ ts) (u, []) e) in absurd cc
 
--- what is read as one pattern to the end begins as no grammar
+-- tokens that are read as one pattern to their end do not begin a grammar
 pattern_no_grammar : (n : ℕ) (us : List Lexeme) (t : Pattern) (b : Bool) → bare_pattern_with (inside_at n) us ≡ Ok (t, []) → is_grammar_body b us ≡ false
 unfolding bare_pattern_with bare_primary_with atom_at other_at rest_with
 pattern_no_grammar n [] t b e = absurd cc
@@ -282,7 +282,7 @@ module _ (n : ℕ) where
   unfolding annotated_body_with
   annotated_grammar_read us vs c cs is one others = rw (is, one, others) refl
 
-  -- a body without an annotation in front, and one with it
+  -- a body without an annotation at the front, and one with it
   alone_body_read : (us : List Lexeme) (b : Body) → follow OpenBracket us ≡ None → bare_body_with (inside_at n) us ≡ Ok (b, [])
       → body_with (inside_at n) us ≡ Ok (b, [])
   unfolding body_with
@@ -318,7 +318,7 @@ module _ (n : ℕ) where
   empty_body_read ts e others = alone_body_read (ts ++ []) (syntax.grammar_body (syntax.components_of [])) (rw e refl)
       (bare_grammar_read (ts ++ []) [] (rw e refl) others)
 
-  -- the first component has an annotation, or none
+  -- the first component with or without an annotation
   grammar_body_read : {note : List Lexeme} → MayBeAnnotation note → (us vs : List Lexeme) (c : Component) (cs : List Component)
       → ((b : Bool) → is_grammar_body b us ≡ true) → follow OpenBracket us ≡ None → components_with (inside_at n) content (note ++ us) ≡ Ok (c ∷ cs, [])
       → bare_component_with (inside_at n) content us ≡ Ok (c, vs) → components_with (inside_at n) content vs ≡ Ok (cs, [])

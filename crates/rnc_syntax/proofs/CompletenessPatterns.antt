@@ -1,4 +1,4 @@
--- What is in the grammar and nests within a limit is read, whatever follows that may: patterns and components.
+-- Whatever is in the grammar and nests within a limit is read, if what follows may follow it: patterns and components.
 use Rattle.std.proofs.Common.{◌≡◌, ℕ, zero, suc, ◌<◌, Bool, true, false, List, [], ◌∷◌, ◌++◌, length, Some, None, Ok, refl, sym, ap, subst, ◌∙◌, append_assoc}
 use Rattle.std.proofs.Common.{arith, ◌⊎◌, inl, inr}
 use Rattle.std.proofs.lemmas.List.{length-append}
@@ -101,7 +101,7 @@ follows_star r = record { tilde = refl; brace = refl; inherits = refl; no_segmen
 follows_plus : (r : List Lexeme) → FollowsPrimary (sign Plus ∷ r)
 follows_plus r = record { tilde = refl; brace = refl; inherits = refl; no_segment = refl }
 
--- a component's first token may follow a pattern
+-- the first token of a component may follow a pattern
 abbrev starts_component : Lexeme → Bool
 starts_component (identifier n) = true
 starts_component (keyword keywords.Start s) = true
@@ -141,7 +141,7 @@ follows_start (sign OpenBracket) r e =
     }
 follows_start _ r e = absurd cc
 
--- the first token is one of a component
+-- a component begins with this token
 abbrev Starts : List Lexeme → Type 0
 Starts ts = (x : Lexeme) × (r : List Lexeme) × (ts ≡ x ∷ r) × (starts_component x ≡ true)
 
@@ -209,7 +209,7 @@ typed_read n (keyword keywords.String s) d ts rest t is e = let q : syntax.strin
 typed_read n (keyword keywords.Token s) d ts rest t is e = let q : syntax.token_type ≡ d = cc in ap (λ (d : DatatypeName). typed_at d ts) q ∙ e
 typed_read n _ d ts rest t is e = absurd cc
 
--- a datatype's name in front
+-- the name of a datatype at the front
 type_fronts : (x : Lexeme) (d : DatatypeName) (ts : List Lexeme) → type_of x ≡ Some d → type_front (x ∷ ts) ≡ Some (d, ts)
 type_fronts (cname p l) d ts is = let q : syntax.prefixed_type p l ≡ d = cc in ap (λ (d : DatatypeName). Some (d, ts)) q
 type_fronts (keyword keywords.String s) d ts is = let q : syntax.string_type ≡ d = cc in ap (λ (d : DatatypeName). Some (d, ts)) q
@@ -234,7 +234,7 @@ front_value x d w ts us is e = rw (type_fronts x d ts is, e) refl
 front_segment : (w : List ℕ) (ts us : List Lexeme) → ts ≡ segment w ∷ us → data_front ts ≡ None
 front_segment w ts us e = rw e (front_other (segment w) us refl)
 
--- whether a primary is a datatype, read so
+-- these tokens are the name and the parameters of this datatype, and then `rest`
 abbrev IsDataRead : Pattern → List Lexeme → List Lexeme → Type 0
 IsDataRead t ts rest = (d : DatatypeName) × (ps : List (List ℕ × List ℕ)) × (us : List Lexeme) × (data_front ts ≡ Some (d, us))
     × (parameters_at us ≡ Ok (ps, rest)) × (t ≡ syntax.data_of d ps)
@@ -530,7 +530,7 @@ minus_parts note x ts a b rest e = annotated_parts ts note (x ∷ (a ++ sign Min
 sign_parts : (s : Sign) (ts a rest : List Lexeme) → ts ≡ a ++ sign s ∷ [] → ts ++ rest ≡ a ++ sign s ∷ rest
 sign_parts s ts a rest e = ap (λ (ts : List Lexeme). ts ++ rest) e ∙ append_assoc a (sign s ∷ []) rest
 
--- a particle that a sign ends, first in a pattern
+-- a particle with a sign of repetition, first in a pattern
 from_repeated : (n : ℕ) (ts us rest : List Lexeme) (t u : Pattern) → pattern_with (inside_at n) ts ≡ pattern_from (inside_at n) t us
     → repeated t us ≡ (u, rest) → pattern_with (inside_at n) ts ≡ rest_with (inside_at n) u (separator_of rest) rest
 from_repeated n ts us rest t u first is = first ∙ ap (λ (x : Pattern × List Lexeme). rest_with (inside_at n) x.0 (separator_of x.1) x.1) is

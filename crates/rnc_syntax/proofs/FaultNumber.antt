@@ -1,4 +1,5 @@
--- Where reading stops no sentence goes on, if what the reader answers depends on what it took and on the token after it.
+-- No sentence continues where reading stops, if the result of the reader depends only on the tokens it read and on the
+-- next one.
 use Rattle.std.proofs.Common.{◌≡◌, ℕ, zero, suc, ◌+◌, ◌-◌, ◌≤◌, List, [], ◌∷◌, ◌++◌, length, take, drop, Result, Ok, Err, refl, ap, subst, ◌∙◌, append_assoc}
 use Rattle.std.proofs.Common.{arith}
 use Rattle.std.proofs.lemmas.List.{length-append, append-nil}
@@ -12,7 +13,7 @@ use Rattle.rnc_syntax.proofs.Balance.{length_within}
 use Rattle.rnc_syntax.proofs.CompletenessFiles.{file_complete}
 use Rattle.rnc_syntax.proofs.Locality.{SameHead}
 
--- at this depth, every list is stuck that begins with the same tokens up to and with the one where these are stuck
+-- at this depth, a list is stuck if it begins with the same tokens up to and including the one where `ts` is stuck
 pub record IsStuckBehind (depth : ℕ) (ts : List Lexeme) (left : ℕ) : Type 0 where
   pub front : List Lexeme
   pub rest : List Lexeme
@@ -45,7 +46,7 @@ goes_on : (k : ℕ) (us front : List Lexeme) (x : Lexeme) → take k us ≡ fron
 goes_on k us front x e = split k us ∙ ap (λ (r : List Lexeme). r ++ drop k us) e ∙ append_assoc front (x ∷ []) (drop k us)
 
 module _ (depth : ℕ) (front us : List Lexeme) (nest : NestsWithin depth us) (number : ℕ) (e : number ≡ suc (length front)) where
-  -- wherever the same token stands behind the front, the file is stuck there
+  -- the file is stuck wherever the same token follows the front
   abbrev StuckAlike : List Lexeme → Type 0
   StuckAlike rest = (other : List Lexeme) → SameHead rest other → file_with (inside_at depth) (front ++ other) ≡ Err (Unexpected (length other))
 
@@ -75,7 +76,7 @@ alike_behind depth ts us left nest b alike s =
 before : (k : ℕ) → k ≡ k + 1 - 1
 before k = omega arith
 
--- the number of the token at the fault
+-- the number of the token of the fault
 pub stuck_at : (n : ℕ) (ts : List Lexeme) (left : ℕ) → BeginsSentence (length ts - left) ts → ((m : ℕ) → n ≤ m → IsStuckBehind m ts left)
     → IsStuckAt ts (length ts - left + 1)
 stuck_at n ts left begins behind = record {

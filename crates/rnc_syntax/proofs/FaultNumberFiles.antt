@@ -1,4 +1,5 @@
--- Where the reading of a file stops at a token, some sentence begins with the tokens before it, and none with those up to and with it.
+-- Where the reading of a file stops at a token, some sentence begins with the tokens before it, and none with those up
+-- to and including it.
 use Rattle.std.proofs.Common.{◌≡◌, ℕ, ◌+◌, ◌-◌, List, [], ◌∷◌, ◌++◌, length, Ok, Err, refl, sym, ap, ◌∙◌}
 use Rattle.rnc_syntax.specs.declared.fault.Stop.TheVariants.{Unexpected, TooDeep}
 use Rattle.rnc_model.specs.tokens.Lexeme.{Lexeme}
@@ -15,7 +16,7 @@ use Rattle.rnc_syntax.proofs.LocalityFiles.{declarations_local, body_local}
 use Rattle.rnc_syntax.proofs.FaultNumber.{IsStuckBehind, stuck_at}
 use Rattle.rnc_syntax.proofs.ViabilityFiles.{file_of, viable}
 
--- a file, whatever comes after it
+-- a file, with any tokens after it
 abbrev body_read : Inside → List Declaration → List Lexeme → Outcome File
 body_read inside declarations us = body_with inside us >>= λ body. Ok (file_of declarations body.0, body.1)
 

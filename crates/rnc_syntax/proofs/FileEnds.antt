@@ -1,4 +1,4 @@
--- A file that is read to its end, and one with tokens left.
+-- A file that is read to its end, and one that leaves tokens unread.
 use Rattle.std.proofs.Common.{◌≡◌, ◌==◌, ℕ, true, false, List, [], ◌∷◌, length, Ok, refl, arith}
 use Rattle.std.proofs.lemmas.Bool.{eqb-true}
 use Rattle.rnc_model.specs.declared.token.Token.{Token}

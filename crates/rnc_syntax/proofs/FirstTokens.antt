@@ -1,4 +1,4 @@
--- Where components and declarations begin.
+-- First tokens of components and of declarations.
 use Rattle.std.proofs.Common.{◌≡◌, Bool, true, false, List, Some, None, refl, sym, ◌∙◌}
 use Rattle.rnc_model.specs.grammar.Grammar.{Setting}
 use Rattle.rnc_model.specs.tokens.Lexeme.{Lexeme}

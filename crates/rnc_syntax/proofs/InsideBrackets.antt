@@ -1,4 +1,4 @@
--- How what is inside brackets is read, by how many may still be opened.
+-- Reading inside brackets, by how many more brackets may be open.
 use Rattle.std.proofs.Common.{◌≡◌, ℕ, zero, suc, ◌-◌, ◌<◌, List, Err, refl, arith, sub-one}
 use Rattle.rnc_syntax.specs.declared.fault.Stop.TheVariants.{TooDeep}
 use Rattle.rnc_model.specs.grammar.Grammar.{Setting}

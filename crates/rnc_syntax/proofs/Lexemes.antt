@@ -1,11 +1,11 @@
--- The tokens that a reader has, against all tokens of a file.
+-- The tokens that a reader has not read yet, compared to all tokens of a file.
 use Rattle.std.proofs.Common.{◌≡◌, ℕ, suc, ◌+◌, ◌-◌, List, [], ◌∷◌, length, refl, ap, ◌∙◌, arith}
 use Rattle.rnc_model.specs.tokens.Cut.{tokens_of}
 use Rattle.rnc_model.specs.declared.token.Token.{Token}
 use Rattle.rnc_model.specs.tokens.Lexeme.{Lexeme, lexeme_at, lexemes, numbered}
 use Rattle.rnc_syntax.specs.plain.Reading.{lexemes_in}
 
--- how many there are
+-- the number of tokens
 pub length_of_lexemes : (n : ℕ) (ts : List Token) → length (lexemes_in n ts) ≡ length ts
 length_of_lexemes n [] = refl
 length_of_lexemes n (t ∷ ts) = ap suc (length_of_lexemes n ts)
@@ -17,7 +17,7 @@ numbered_in n total (t ∷ ts) e =
     ap (λ (k : ℕ). lexeme_at t.kind t.text.now k ∷ numbered (n + 1) (tokens_of ts)) number
     ∙ ap (λ (x : List Lexeme). lexeme_at t.kind t.text.now (total - length ts) ∷ x) (numbered_in (n + 1) total ts (omega (arith, e)))
 
--- numbers from the first token upward are those from the last token downward
+-- numbering from the first token up agrees with numbering from the last token down
 pub all_lexemes : (ts : List Token) → lexemes (tokens_of ts) ≡ lexemes_in (length ts) ts
 all_lexemes ts = numbered_in 1 (length ts) ts (omega arith)
 

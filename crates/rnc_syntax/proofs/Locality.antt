@@ -1,11 +1,11 @@
--- What a reader answers depends on what it took and on the one token after it: the steps from which readers are made.
+-- The result of a reader depends only on the tokens it read and on the next one: the steps of which readers consist.
 use Rattle.std.proofs.Common.{◌≡◌, Bool, true, false, List, [], ◌∷◌, ◌++◌, length, Option, None, Ok, Err, refl, sym, ap, subst, ◌∙◌, append_assoc}
 use Rattle.rnc_model.specs.declared.token.Sign.{Sign}
 use Rattle.rnc_syntax.specs.declared.fault.Stop.TheVariants.{Unexpected, TooDeep}
 use Rattle.rnc_model.specs.tokens.Lexeme.{Lexeme, keyword, identifier, cname, ns_name, segment, sign}
 use Rattle.rnc_syntax.specs.plain.Combinators.{Outcome, ◌>>=◌, unexpected, same_sign, after, word_at, identifier_at, segment_at, either_way}
 
--- both are at the end, or have the same token in front
+-- both are empty, or have the same first token
 abbrev pub SameHead : List Lexeme → List Lexeme → Type 0
 SameHead [] [] = Unit {0}
 SameHead (x ∷ xs) (y ∷ ys) = x ≡ y
@@ -19,8 +19,8 @@ pub SameHead-behind : (front a b : List Lexeme) → SameHead a b → SameHead (f
 SameHead-behind [] a b h = h
 SameHead-behind (x ∷ xs) a b h = refl
 
--- What the one reader answers here the other answers wherever the tokens that it took stand before the same token:
--- the same value, or that the same token is stuck. Nothing is said where the one finds the tokens too deep.
+-- What `read` returns for `ts`, `deeper` returns wherever the tokens that were read come before the same token: the
+-- same value, or the same stuck token. If `read` finds the tokens too deep, nothing is claimed.
 pub data LocalAt {A : Type 0} (read deeper : List Lexeme → Outcome A) (ts : List Lexeme) : Type 0 where
   reads : (x : A) (front rest : List Lexeme) → ts ≡ front ++ rest → read ts ≡ Ok (x, rest)
       → ((other : List Lexeme) → SameHead rest other → deeper (front ++ other) ≡ Ok (x, other)) → LocalAt read deeper ts
@@ -51,7 +51,7 @@ module _ {A : Type 0} (read deeper : List Lexeme → Outcome A) where
     the_front [] h = absurd h
     the_front (y ∷ ys) h = subst (λ (y : Lexeme). deeper (y ∷ ys) ≡ Err (Unexpected (length (y ∷ ys)))) h (f ys)
 
-  -- behind a token that is taken
+  -- after a token that is read
   pub cons_local : (then then_deeper : List Lexeme → Outcome A) (t : Lexeme) (ts : List Lexeme) → ((us : List Lexeme) → read (t ∷ us) ≡ then us)
       → ((us : List Lexeme) → deeper (t ∷ us) ≡ then_deeper us) → LocalAt then then_deeper ts → LocalAt read deeper (t ∷ ts)
   cons_local then then_deeper t ts e f (reads x front rest parts is same) = reads x (t ∷ front) rest (ap (λ (r : List Lexeme). t ∷ r) parts) (e ts ∙ is)
@@ -154,7 +154,7 @@ module _ {A X : Type 0} (next : List Lexeme → Option X) (heads : (a b : List L
   there : (front rest other : List Lexeme) → ts ≡ front ++ rest → SameHead rest other → tested_deeper (front ++ other) ≡ deeper (front ++ other)
   there front rest other e h = rw (still front rest other e h) refl
 
-  -- where it fails, what is read then
+  -- what is read if the test fails
   pub none_local : LocalAt read deeper ts → LocalAt tested tested_deeper ts
   none_local (reads x front rest parts is same) = reads x front rest parts (here ∙ is) (λ other h. there front rest other parts h ∙ same other h)
   none_local (stuck front rest parts is same) = stuck front rest parts (here ∙ is) (λ other h. there front rest other parts h ∙ same other h)

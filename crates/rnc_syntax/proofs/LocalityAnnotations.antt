@@ -1,4 +1,5 @@
--- What a reader answers depends on what it took and on the one token after it: annotations, and what is read behind them.
+-- The result of a reader depends only on the tokens it read and on the next one: annotations, and what is read after
+-- them.
 use Rattle.std.proofs.Common.{◌≡◌, ℕ, zero, suc, List, [], ◌∷◌, Ok, refl}
 use Rattle.rnc_model.specs.declared.token.Sign.TheVariants.{OpenBracket}
 use Rattle.rnc_syntax.specs.declared.annotations.Role.{Role}
@@ -37,6 +38,6 @@ module _ {A : Type 0} (read deeper : List Lexeme → Outcome A) (l : IsLocal rea
   pub annotated_local : IsLocal (annotated read) (annotated deeper)
   annotated_local ts = bind_local annotation_at annotation_at (λ x us. read us) (λ x us. deeper us) ts (annotation_local ts) (λ x rest e. l rest)
 
-  -- behind the sign that opens the annotation
+  -- after the sign that opens the annotation
   pub opened_local : IsLocal (λ us. annotation_end 0 us >>= λ x. read x.1) (λ us. annotation_end 0 us >>= λ x. deeper x.1)
   opened_local ts = bind_local (annotation_end 0) (annotation_end 0) (λ x us. read us) (λ x us. deeper us) ts (end_local 0 ts) (λ x rest e. l rest)

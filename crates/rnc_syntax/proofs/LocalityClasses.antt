@@ -1,4 +1,4 @@
--- What a reader answers depends on what it took and on the one token after it: name classes.
+-- The result of a reader depends only on the tokens it read and on the next one: name classes.
 use Rattle.std.proofs.Common.{ℕ, List, [], ◌∷◌, Option, Some, None, Ok, refl}
 use Rattle.rnc_model.specs.declared.token.Sign.TheVariants.{Bar, Star, Minus, OpenParenthesis, CloseParenthesis}
 use Rattle.rnc_model.specs.tokens.Lexeme.{Lexeme, keyword, identifier, cname, ns_name, sign}
@@ -12,7 +12,7 @@ use Rattle.rnc_syntax.proofs.LocalityItems.{many_local}
 use Rattle.rnc_syntax.proofs.LocalityAnnotations.{annotated_local}
 use Rattle.rnc_syntax.proofs.LocalityLiterals.{made_local, ended_local}
 
--- `-` in front, and a value beside the tokens after it
+-- `-` at the front, and a value with the tokens after it
 abbrev minus_after : Option (List ℕ) → List Lexeme → Option (Option (List ℕ) × List Lexeme)
 minus_after p us = either_way (follow Minus us) None (λ vs. Some (p, vs))
 
@@ -61,11 +61,11 @@ module _ (basic deeper : List Lexeme → Outcome NameClass) (l : IsLocal basic d
       >>= λ x. Ok (syntax.choice_of (c ∷ x.0), x.1)) (λ us. many (follow Bar) deeper us >>= λ x. Ok (syntax.choice_of (c ∷ x.0), x.1)) ts
       (ok_local c ts) (made_local (many (follow Bar) basic) (many (follow Bar) deeper) (λ cs. syntax.choice_of (c ∷ cs)) others ts)
 
-  -- what is left out of `*` or `p:*`
+  -- what is excluded from `*` or `p:*`
   left_out : (p : Option (List ℕ)) → IsLocal (λ us. basic us >>= λ c. Ok (excepted p c.0, c.1)) (λ us. deeper us >>= λ c. Ok (excepted p c.0, c.1))
   left_out p = made_local basic deeper (excepted p) l
 
-  -- behind `*` or `p:*`
+  -- after `*` or `p:*`
   wide_local : (p : Option (List ℕ)) (c : NameClass)
       → IsLocal (λ us. either_way (minus_after p us) (choice_with basic c us) (λ x. basic x.1 >>= λ c. Ok (excepted x.0 c.0, c.1)))
       (λ us. either_way (minus_after p us) (choice_with deeper c us) (λ x. deeper x.1 >>= λ c. Ok (excepted x.0 c.0, c.1)))

@@ -1,4 +1,5 @@
--- What a reader answers depends on what it took and on the one token after it: components, and what is inside brackets at any depth.
+-- The result of a reader depends only on the tokens it read and on the next one: components, and the inside of brackets
+-- at any depth.
 use Rattle.std.proofs.Common.{ℕ, zero, suc, ◌≤◌, List, [], ◌∷◌, Option, Some, None, Ok, refl, arith}
 use Rattle.rnc_model.specs.declared.token.Keyword.TheVariants as keywords
 use Rattle.rnc_model.specs.declared.token.Sign.TheVariants.{Equal, BarEqual, AndEqual, OpenBrace, OpenBracket}
@@ -28,12 +29,12 @@ method_local (sign BarEqual ∷ ts) = cons_local method_at method_at _ _ (sign B
 method_local (sign AndEqual ∷ ts) = cons_local method_at method_at _ _ (sign AndEqual) ts (λ us. refl) (λ us. refl) (ok_local methods.Interleave ts)
 method_local (t ∷ ts) = stuck_front method_at method_at t ts (λ us. refl) (λ us. refl)
 
--- a start or a define, behind its name
+-- a start or a define, after its name
 abbrev behind_name : Inside → Option (List ℕ) → List Lexeme → Outcome Component
 behind_name inner n us = ◌>>=◌ {A = (Option (List ℕ) × Method) × List Lexeme} (method_at us >>= λ m. Ok ((n, m.0), m.1)) (λ x. pattern_with inner x.1
     >>= λ t. Ok (assigned x.0.0 x.0.1 t.0, t.1))
 
--- an include, behind its keyword
+-- an include, after its keyword
 abbrev behind_include : Inside → ℕ → List Lexeme → Outcome Component
 behind_include inner number us = mention_at number us >>= λ m. overrides_with inner m.1 >>= λ cs. Ok (syntax.include m.0 (syntax.components_of cs.0), cs.1)
 
@@ -77,7 +78,7 @@ module _ (inside deeper : Inside) (l : Locals inside deeper) (self : Locals deep
       (keyword keywords.Include s) ts (λ us. refl) (λ us. refl) (include_local s.number ts)
   bare_component_local w (t ∷ ts) = stuck_front (bare_component_with inside w) (bare_component_with deeper w) t ts (λ us. refl) (λ us. refl)
 
-  -- the same behind an identifier
+  -- the same after an identifier
   pub bare_component_named : (w : Setting) (n : List ℕ) → IsLocal (λ us. bare_component_with inside w (identifier n ∷ us))
       (λ us. bare_component_with deeper w (identifier n ∷ us))
   unfolding bare_component_with assigned_at
@@ -100,7 +101,7 @@ module _ (inside deeper : Inside) (l : Locals inside deeper) (self : Locals deep
   components_local w = many_local (component_front w) refl (component_with inside w) (component_with deeper w) (component_part inside deeper l self w)
       (component_part deeper deeper self self w)
 
-  -- the same behind an identifier
+  -- the same after an identifier
   pub components_behind : (w : Setting) (n : List ℕ) → IsLocal (λ us. components_with inside w (identifier n ∷ us))
       (λ us. components_with deeper w (identifier n ∷ us))
   unfolding components_with component_with annotation_at bare_component_with assigned_at
@@ -124,13 +125,13 @@ nothing_local : (deeper : Inside) → Locals (inside_at zero) deeper
 unfolding inside_at
 nothing_local deeper = record { class = deep_local deeper.class; pattern = deep_local deeper.pattern; components = λ w. deep_local (deeper.components w) }
 
--- what is inside brackets is read alike at one depth
+-- the inside of brackets is read alike at one depth
 pub self_local : (n : ℕ) → Locals (inside_at n) (inside_at n)
 unfolding inside_at
 self_local zero = nothing_local (inside_at zero)
 self_local (suc n) = level_local (inside_at n) (inside_at n) (self_local n) (self_local n)
 
--- and at a greater depth, where it is not too deep
+-- and at a greater depth, if it is not too deep
 pub inside_local : (n m : ℕ) → n ≤ m → Locals (inside_at n) (inside_at m)
 unfolding inside_at
 inside_local zero m le = nothing_local (inside_at m)

@@ -1,4 +1,4 @@
--- What a reader answers depends on what it took and on the one token after it: declarations and files.
+-- The result of a reader depends only on the tokens it read and on the next one: declarations and files.
 use Rattle.std.proofs.Common.{◌≡◌, ℕ, List, [], ◌∷◌, Some, None, Ok, refl, if◌then◌else◌}
 use Rattle.rnc_model.specs.declared.token.Keyword.TheVariants as keywords
 use Rattle.rnc_model.specs.declared.token.Sign.TheVariants.{Equal, BarEqual, AndEqual, OpenBracket}
@@ -112,7 +112,7 @@ module _ (inside deeper : Inside) (l : Locals inside deeper) (self : Locals deep
   first_local ts = bind_local (bare_component_with inside content) (bare_component_with deeper content) (others_read inside) (others_read deeper) ts
       (bare_component_local inside deeper l self content ts) (λ c rest e. others_local c rest)
 
-  -- the same behind an identifier
+  -- the same after an identifier
   first_named : (n : List ℕ) → IsLocal (λ us. first_read inside (identifier n ∷ us)) (λ us. first_read deeper (identifier n ∷ us))
   first_named n ts =
       bind_local (λ us. bare_component_with inside content (identifier n ∷ us)) (λ us. bare_component_with deeper content (identifier n ∷ us))
@@ -121,7 +121,7 @@ module _ (inside deeper : Inside) (l : Locals inside deeper) (self : Locals deep
   one_pattern_local : IsLocal (pattern_body_with inside) (pattern_body_with deeper)
   one_pattern_local = made_local (bare_pattern_with inside) (bare_pattern_with deeper) syntax.pattern_body (bare_pattern_local inside deeper l self)
 
-  -- behind an identifier
+  -- after an identifier
   abbrev named_read : (Inside → List Lexeme → Outcome Body) → Inside → List ℕ → List Lexeme → Outcome Body
   named_read read inner n us = if begins_method us then read inner (identifier n ∷ us) else pattern_body_with inner (identifier n ∷ us)
 

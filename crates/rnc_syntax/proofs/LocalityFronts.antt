@@ -1,4 +1,4 @@
--- What a reader answers depends on what it took and on the one token after it: tests of the first token.
+-- The result of a reader depends only on the tokens it read and on the next one: tests of the first token.
 use Rattle.std.proofs.Common.{◌≡◌, ◌≤◌, Bool, true, false, List, [], ◌∷◌, ◌++◌, length, Option, Some, None, Ok, refl, sym, ap, subst, ◌∙◌, arith, if◌then◌else◌}
 use Rattle.std.proofs.lemmas.List.{length-append}
 use Rattle.rnc_model.specs.declared.token.Keyword.{Keyword}
@@ -13,14 +13,14 @@ module _ {A : Type 0} (read deeper by deeper_by : List Lexeme → Outcome A) (ts
   moved front rest other f parts h = f (front ++ other) (subst (λ (r : List Lexeme). SameHead r (front ++ other)) (sym parts)
       (SameHead-behind front rest other h))
 
-  -- a reader that is another one wherever the same token stands in front
+  -- a reader that equals another one wherever the same token is first
   pub same_local : read ts ≡ by ts → ((other : List Lexeme) → SameHead ts other → deeper other ≡ deeper_by other) → LocalAt by deeper_by ts
       → LocalAt read deeper ts
   same_local e f (reads x front rest parts is same) = reads x front rest parts (e ∙ is) (λ other h. moved front rest other f parts h ∙ same other h)
   same_local e f (stuck front rest parts is same) = stuck front rest parts (e ∙ is) (λ other h. moved front rest other f parts h ∙ same other h)
   same_local e f (deep is) = deep (e ∙ is)
 
--- a reader that is another one where no token is left
+-- a reader that equals another one if no token is left
 pub end_local : {A : Type 0} (read deeper by deeper_by : List Lexeme → Outcome A) → read [] ≡ by [] → deeper [] ≡ deeper_by [] → LocalAt by deeper_by []
     → LocalAt read deeper []
 end_local read deeper by deeper_by e f = same_local read deeper by deeper_by [] e (λ other h. at_end other h) where
@@ -29,7 +29,7 @@ end_local read deeper by deeper_by e f = same_local read deeper by deeper_by [] 
   at_end (y ∷ ys) h = absurd h
 
 module _ {A : Type 0} (read deeper by deeper_by : List Lexeme → Outcome A) (t : Lexeme) (ts : List Lexeme) where
-  -- a reader that is another one wherever this token stands in front
+  -- a reader that equals another one wherever this token is first
   pub token_local : ((us : List Lexeme) → read (t ∷ us) ≡ by (t ∷ us)) → ((us : List Lexeme) → deeper (t ∷ us) ≡ deeper_by (t ∷ us))
       → LocalAt by deeper_by (t ∷ ts) → LocalAt read deeper (t ∷ ts)
   token_local e f = same_local read deeper by deeper_by (t ∷ ts) (e ts) (λ other h. by_token other h) where
@@ -63,7 +63,7 @@ module _ {A : Type 0} (test : List Lexeme → Bool) (heads : (a b : List Lexeme)
       (λ ts. if test ts then yes_deeper ts else no_deeper ts) ts
   if_local yes_local no_local = by_test (test ts) refl yes_local no_local
 
--- what a test of the first token gives for lists that begin alike
+-- what a test of the first token returns for lists with equal beginnings
 pub test_heads : {X : Type 0} (test : List Lexeme → X) → ((t : Lexeme) (us vs : List Lexeme) → test (t ∷ us) ≡ test (t ∷ vs)) → (a b : List Lexeme)
     → SameHead a b → test a ≡ test b
 test_heads test same [] [] h = refl
@@ -102,7 +102,7 @@ module _ {A X : Type 0} (next : List Lexeme → Option X) (heads : (a b : List L
   pub kept_local : LocalAt read deeper ts → LocalAt other deeper_other ts → LocalAt kept kept_deeper ts
   kept_local l k = by_option (next ts) refl l k
 
--- with this token in front a test fails, or it gives what is made of the tokens after it, which are read alike
+-- with this first token a test fails, or returns what is made of the tokens after it, which are read alike
 pub data FrontAt {A X : Type 0} (next : List Lexeme → Option X) (f g : X → Outcome A) (t : Lexeme) : Type 0 where
   closes : ((us : List Lexeme) → next (t ∷ us) ≡ None) → FrontAt next f g t
   opens : (part : List Lexeme → X) → ((us : List Lexeme) → next (t ∷ us) ≡ Some (part us)) → IsLocal (λ us. f (part us)) (λ us. g (part us))
@@ -126,13 +126,13 @@ module _ {A X : Type 0} (next : List Lexeme → Option X) (nothing : next [] ≡
     front_local t ts (opens part e l) other = cons_local (λ ts. either_way (next ts) (read ts) f) (λ ts. either_way (next ts) (deeper ts) g) (λ us. f (part us))
         (λ us. g (part us)) t ts (λ us. rw (e us) refl) (λ us. rw (e us) refl) (l ts)
 
-    -- what is read where the test fails, or the function of what it gives
+    -- what is read if the test fails, or the function of what it returns
     pub either_local : (ts : List Lexeme) → LocalAt read deeper ts → LocalAt (λ ts. either_way (next ts) (read ts) f) (λ ts. either_way (next ts) (deeper ts) g)
         ts
     either_local [] l = none_local next heads_closed read deeper f g [] nothing l
     either_local (t ∷ ts) l = front_local t ts (fronts t) l
 
--- ---- a sign or a keyword in front
+-- ---- a sign or a keyword at the front
 
 module _ {A : Type 0} (f g : List Lexeme → Outcome A) (l : IsLocal f g) where
   sign_front : (s r : Sign) (b : Bool) → same_sign r s ≡ b → FrontAt (follow s) f g (sign r)
@@ -151,7 +151,7 @@ module _ {A : Type 0} (f g : List Lexeme → Outcome A) (l : IsLocal f g) where
   follow_keyword_front k (keyword j s) = keyword_front k j (same_keyword j k) refl s
   follow_keyword_front k t = closes (λ us. refl)
 
--- a sign is not in front of lists that begin alike, or in front of both
+-- a sign is first in both of two lists with equal beginnings, or in neither
 pub follow_heads : (s : Sign) (a b : List Lexeme) → SameHead a b → follow s a ≡ None → follow s b ≡ None
 follow_heads s = heads_closed (follow s) refl (λ us. Ok (true, us)) (λ us. Ok (true, us))
     (follow_front (λ us. Ok (true, us)) (λ us. Ok (true, us)) (ok_local true) s)

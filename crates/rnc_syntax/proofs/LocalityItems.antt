@@ -1,4 +1,4 @@
--- Items one after another depend on what they took and on the one token after it, if each of them does.
+-- The result for a list of items depends only on the tokens read and on the next one, if this is so for each item.
 use Rattle.std.proofs.Common.{◌≡◌, ℕ, zero, suc, ◌<◌, ◌≤◌, List, [], ◌∷◌, length, Option, Some, None, Result, Ok, Err, refl, sym, ap, ◌∙◌, arith}
 use Rattle.rnc_syntax.specs.declared.fault.Stop.{Stop}
 use Rattle.rnc_model.specs.tokens.Lexeme.{Lexeme}
@@ -24,7 +24,7 @@ module _ {A : Type 0} (next : List Lexeme → Option (List Lexeme)) (item : List
       ap (λ (r : Outcome (List A)). r >>= λ rest. Ok (x.0 ∷ rest.0, rest.1)) (same x.1 (omega (arith, a, t)) (omega (arith, b, t))))
       ∙ sym (opened next item l ts us is)
 
-  -- enough steps are enough
+  -- enough steps give one result
   enough : (k l : ℕ) (ts : List Lexeme) → length ts ≤ k → length ts ≤ l → many_with next item k ts ≡ many_with next item l ts
   enough zero l [] a b = closed next item zero [] nothing ∙ sym (closed next item l [] nothing)
   enough zero l (t ∷ ts) a b = absurd (omega (arith, a))
@@ -50,7 +50,7 @@ module _ {A : Type 0} (next : List Lexeme → Option (List Lexeme)) (nothing : n
       let short = shortens (λ us. item (part us)) (λ us. deeper (part us)) ts x (l ts) (ap item (sym same) ∙ read) in
       omega (arith, short)
 
-  -- an item takes a token
+  -- an item reads at least one token
   pub takes : (ts us : List Lexeme) (x : A × List Lexeme) → next ts ≡ Some us → item us ≡ Ok x → length x.1 < length ts
   takes [] us x is read = absurd cc
   takes (t ∷ ts) us x is read = takes_behind t ts us x (fronts t) is read
@@ -106,7 +106,7 @@ module _ {A : Type 0} (next : List Lexeme → Option (List Lexeme)) (nothing : n
   pub many_local : IsLocal (many next item) (many next deeper)
   many_local ts = many_within (length ts) ts (omega arith)
 
-  -- the same behind the token with which the first one begins
+  -- the same after the token with which the first one begins
   pub many_behind : (t : Lexeme) (part : List Lexeme → List Lexeme) → ((us : List Lexeme) → next (t ∷ us) ≡ Some (part us))
       → IsLocal (λ us. item (part us)) (λ us. deeper (part us))
       → IsLocal (λ us. many next item (t ∷ us)) (λ us. many next deeper (t ∷ us))

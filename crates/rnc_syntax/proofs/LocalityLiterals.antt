@@ -1,4 +1,4 @@
--- What a reader answers depends on what it took and on the one token after it: literals, parameters and mentions.
+-- The result of a reader depends only on the tokens it read and on the next one: literals, parameters and mentions.
 use Rattle.std.proofs.Common.{ℕ, List, [], ◌∷◌, Some, None, Ok, refl}
 use Rattle.rnc_model.specs.declared.token.Keyword.TheVariants as keywords
 use Rattle.rnc_model.specs.declared.token.Sign.{Sign}
@@ -46,7 +46,7 @@ in_braces_local read deeper l = ended_local CloseBrace read deeper l
 
 -- ---- parameters and mentions
 
--- what follows a parameter's name
+-- what follows the name of a parameter
 value_local : (name : List ℕ) → IsLocal {A = List ℕ × List ℕ} (λ us. after Equal us >>= λ equal. literal_at equal.1 >>= λ value. Ok ((name, value.0), value.1))
     (λ us. after Equal us >>= λ equal. literal_at equal.1 >>= λ value. Ok ((name, value.0), value.1))
 value_local name ts =

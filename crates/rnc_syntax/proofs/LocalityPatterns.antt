@@ -1,4 +1,4 @@
--- What a reader answers depends on what it took and on the one token after it: particles and patterns.
+-- The result of a reader depends only on the tokens it read and on the next one: particles and patterns.
 use Rattle.std.proofs.Common.{◌≡◌, ℕ, Bool, true, false, List, [], ◌∷◌, Option, Some, None, Ok, refl, sym, ◌∙◌, if◌then◌else◌}
 use Rattle.rnc_model.specs.declared.token.Keyword.TheVariants as keywords
 use Rattle.rnc_model.specs.declared.token.Sign.{Sign}
@@ -45,7 +45,7 @@ same_separator (sign And) us vs = refl
 same_separator (sign Bar) us vs = refl
 same_separator t us vs = refl
 
--- either there is a part, or another way
+-- a part if there is one, or another way
 way_of : {A X : Type 0} (b : Bool) (x : X) (a : A) (f : X → A) → either_way (if b then None else Some x) a f ≡ (if b then a else f x)
 way_of true x a f = refl
 way_of false x a f = refl
@@ -82,7 +82,7 @@ module _ (inside deeper : Inside) (l : Locals inside deeper) (self : Locals deep
       either_local (follow Minus) refl _ _ (follow_front _ _ except Minus) (pattern_from inside (syntax.data_of d ps))
       (pattern_from deeper (syntax.data_of d ps)) ts (from_local (syntax.data_of d ps) ts)
 
-  -- a pattern behind a datatype's name
+  -- a pattern after the name of a datatype
   abbrev after_type : Inside → DatatypeName → List Lexeme → Outcome Pattern
   after_type inner d us = if begins_segment us then (typed_at d us >>= λ t. pattern_from inner t.0 t.1) else
       (parameters_at us >>= λ ps. data_with inner d ps.0 ps.1)
@@ -117,7 +117,7 @@ module _ (inside deeper : Inside) (l : Locals inside deeper) (self : Locals deep
       (keyword keywords.Token s) ts (data_way inside d) (data_way deeper d) (after_type_local d ts)
   bare_pattern_local (t ∷ ts) = token_local (bare_pattern_with inside) (bare_pattern_with deeper) _ _ t ts (λ us. refl) (λ us. refl) (any_local (t ∷ ts))
 
-  -- the same behind an identifier
+  -- the same after an identifier
   pub pattern_behind : (n : List ℕ) → IsLocal (λ us. bare_pattern_with inside (identifier n ∷ us)) (λ us. bare_pattern_with deeper (identifier n ∷ us))
   unfolding bare_pattern_with bare_primary_with atom_at
   pattern_behind n = from_local (syntax.ref n)

@@ -1,4 +1,4 @@
--- What a reader answers depends on what it took and on the one token after it: primaries.
+-- The result of a reader depends only on the tokens it read and on the next one: primaries.
 use Rattle.std.proofs.Common.{◌≡◌, List, [], ◌∷◌, Ok, refl}
 use Rattle.rnc_model.specs.declared.token.Keyword.TheVariants as keywords
 use Rattle.rnc_model.specs.declared.token.Sign.TheVariants.{OpenBrace, OpenParenthesis, CloseParenthesis}
@@ -18,13 +18,13 @@ use Rattle.rnc_syntax.proofs.LocalityAnnotations.{annotated_local}
 use Rattle.rnc_syntax.proofs.LocalityLiterals.{made_local, ended_local, in_braces_local, literal_local, parameters_local, mention_local}
 use Rattle.rnc_syntax.proofs.LocalityClasses.{class_local}
 
--- what is inside brackets is read alike
+-- the inside of brackets is read alike
 pub record Locals (inside deeper : Inside) : Type 0 where
   pub class : IsLocal inside.class deeper.class
   pub pattern : IsLocal inside.pattern deeper.pattern
   pub components : (w : Setting) → IsLocal (inside.components w) (deeper.components w)
 
--- ---- primaries that hold no other pattern
+-- ---- primaries that contain no other pattern
 
 pub same_segment : (t : Lexeme) (us vs : List Lexeme) → begins_segment (t ∷ us) ≡ begins_segment (t ∷ vs)
 same_segment (segment w) us vs = refl
@@ -72,7 +72,7 @@ atom_local ts =
     either_local type_front refl typed_after typed_after type_part lone lone ts (either_local lone_front refl (λ x. Ok x) (λ x. Ok x) lone_part other_at
     other_at ts (other_local ts))
 
--- ---- primaries that hold others
+-- ---- primaries that contain others
 
 module _ (inside deeper : Inside) (l : Locals inside deeper) (self : Locals deeper deeper) where
   braced_local : IsLocal (braced_with inside) (braced_with deeper)

@@ -181,7 +181,7 @@ mention_calm number ts = bind_calm (literal_at ts) _ (literal_calm ts) (λ x _. 
 none : MayBeAnnotation []
 none = grammar.without_annotation refl
 
--- fewer than so many brackets are open at each token
+-- fewer than n brackets are open at each token
 abbrev NestsBelow : ℕ → List Lexeme → Type 0
 NestsBelow n ts = (k : ℕ) → openings (take k ts) < closings (take k ts) + n
 
@@ -212,13 +212,13 @@ after_reads : {A : Type 0} (n : ℕ) (P : List Lexeme → A → Type 0) (ts : Li
     → ((front : List Lexeme) (a : A) → P front a → Balanced front) → NestsWithin n ts → NestsWithin n x.1
 after_reads n P ts x r even nest = second_within n ts r.front x.1 r.parts (even r.front x.0 r.is) nest
 
--- behind an annotation
+-- after an annotation
 annotated_calm : {A : Type 0} (n : ℕ) (read : List Lexeme → Outcome A) → ((ts : List Lexeme) → NestsWithin n ts → NotDeep (read ts)) → (ts : List Lexeme)
     → NestsWithin n ts → NotDeep (annotated read ts)
 annotated_calm n read calm ts nest = bind_calm (annotation_at ts) _ (annotation_calm ts)
     (λ x e. calm x.1 (after_reads n IsSkipped ts x (annotation_sound ts x e) (λ front u p. annotation_even p) nest))
 
--- what is inside brackets is not too deep
+-- the inside of brackets is not too deep
 record InsideCalm (n : ℕ) : Type 0 where
   pub class : (ts : List Lexeme) → NestsBelow n ts → NotDeep ((inside_at n).class ts)
   pub pattern : (ts : List Lexeme) → NestsBelow n ts → NotDeep ((inside_at n).pattern ts)
@@ -404,7 +404,7 @@ module _ (n : ℕ) (inner : InsideCalm n) where
     method_alone (sign AndEqual) m e = refl
     method_alone _ m e = absurd cc
 
-  -- a method and a pattern, behind what is assigned to
+  -- a method and a pattern, after the name or `start`
   assigned_calm : (o : Option (List ℕ)) (ts : List Lexeme) → NestsWithin n ts → NotDeep (assignment_with (inside_at n) o ts)
   assigned_calm o ts nest e =
       bind_calm (method_at ts) (λ m. pattern_with (inside_at n) m.1 >>= λ t. Ok (assigned o m.0 t.0, t.1)) (method_calm ts)
@@ -501,7 +501,7 @@ annotated_body_calm n ts nest = if_calm (is_grammar_body false ts) _ _
     (λ y _. ok_calm _)))
     (pattern_body_calm n ts nest)
 
--- behind the sign that opens an annotation
+-- after the sign that opens an annotation
 opened_within : (n : ℕ) (ts us : List Lexeme) (x : Unit {0} × List Lexeme) → follow OpenBracket ts ≡ Some us → annotation_end 0 us ≡ Ok x → NestsWithin n ts
     → NestsWithin n x.1
 opened_within n ts us x is e nest =

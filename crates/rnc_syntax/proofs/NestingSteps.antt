@@ -11,11 +11,11 @@ use Rattle.rnc_syntax.specs.plain.Reading.{lexemes_in}
 use Rattle.rnc_model.specs.grammar.Sentence.{is_opening, is_closing, openings, closings, nesting_limit, NestsWithin, BreaksNesting}
 use Rattle.rnc_syntax.proofs.Balance.{counts, discounts, openings-cons, closings-cons}
 
--- after so many opening brackets and so many closing ones, these tokens keep the limit
+-- these tokens keep the limit, after o opening brackets and c closing ones
 abbrev pub Within : ℕ → ℕ → List Lexeme → Type 0
 Within opened closed ts = (k : ℕ) → opened + openings (take k ts) ≤ closed + closings (take k ts) + nesting_limit
 
--- after so many opening brackets and so many closing ones, these tokens break the limit
+-- these tokens break the limit, after o opening brackets and c closing ones
 abbrev pub Exceeds : ℕ → ℕ → List Lexeme → Type 0
 Exceeds opened closed ts = (k : ℕ) × (closed + closings (take k ts) + nesting_limit < opened + openings (take k ts))
 
@@ -43,7 +43,7 @@ ends o c small (suc k) = let q : o + 0 ≤ c + 0 + nesting_limit = omega (arith,
 pub exceeds_now : (o c : ℕ) (ts : List Lexeme) → c + nesting_limit < o → Exceeds o c ts
 exceeds_now o c ts large = let q : c + 0 + nesting_limit < o + 0 = omega (arith, large) in (zero, q)
 
--- after so many opening brackets and so many closing ones, these tokens exceed the limit with so many of them, and with no fewer
+-- after these opening and closing brackets, the first `count` tokens exceed the limit, and no fewer do
 pub record IsFirst (opened closed : ℕ) (ts : List Lexeme) (count : ℕ) : Type 0 where
   pub exceeds : closed + closings (take count ts) + nesting_limit < opened + openings (take count ts)
   pub first : (k : ℕ) → k < count → opened + openings (take k ts) ≤ closed + closings (take k ts) + nesting_limit
@@ -61,7 +61,7 @@ first_behind o c x ts count small h =
         let q : o + openings (x ∷ take k ts) ≤ c + closings (x ∷ take k ts) + nesting_limit =
         omega (arith, h.first k (omega (arith, less)), openings-cons x (take k ts), closings-cons x (take k ts)) in q
 
--- whether a token opens or closes a bracket is in its kind
+-- whether a token opens or closes a bracket depends only on its kind
 opens_alike : (k : TokenKind) (w : List ℕ) (n : ℕ) → is_opening (lexeme_at k w n) ≡ is_opening (lexeme_at k [] 0)
 opens_alike kinds.Identifier w n = refl
 opens_alike (kinds.Keyword k) w n = refl
@@ -99,11 +99,11 @@ weighs_one : (b : Bool) → bool_byte b ≤ 1
 weighs_one true = omega arith
 weighs_one false = omega arith
 
--- no more brackets than tokens
+-- there are no more brackets than tokens
 pub stays_few : (b : Bool) (o i m : ℕ) → m ≡ bool_byte b → o ≤ i → o + m ≤ i + 1
 stays_few b o i m e few = let one = weighs_one b in omega (arith, e, few, one)
 
--- a token at its index, so many opening and closing brackets before it, and what the token adds to each
+-- a token at its index, the opening and closing brackets before it, and what the token adds to each
 module _ (ts : List Token) (i : ℕ) (d : Token) (inside : i < length ts) (o c : ℕ) (opens closes : Bool) (m n : ℕ)
     (e : opens ≡ is_opening (lexeme_at (get_or ts i d).kind [] 0)) (f : closes ≡ is_closing (lexeme_at (get_or ts i d).kind [] 0)) (g : m ≡ bool_byte opens)
     (h : n ≡ bool_byte closes) where

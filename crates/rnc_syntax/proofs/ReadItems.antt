@@ -1,4 +1,4 @@
--- Steps one after another, and items one after another: what a loop over them keeps.
+-- Sequences of steps and of items: the invariant of a loop over them.
 use Rattle.std.proofs.Common.{◌≡◌, ℕ, zero, suc, ◌≤◌, ◌<◌, List, [], ◌∷◌, ◌++◌, length, Option, Some, None, Result, Ok, Err, refl, sym, ap, ◌∙◌, append_assoc}
 use Rattle.std.proofs.Common.{arith}
 use Rattle.rnc_syntax.specs.declared.fault.Stop.{Stop}
@@ -9,7 +9,7 @@ use Rattle.rnc_syntax.specs.plain.Combinators.{Outcome, ◌>>=◌, many_with, ma
 use Rattle.rng_model.specs.plain.Answers.{Refuses}
 use Rattle.rnc_syntax.specs.views.Fault.{stop_of}
 
--- brackets about steps are moved
+-- steps are associative
 pub bind_bind : {A B C : Type 0} (r : Result A Stop) (f : A → Result B Stop) (g : B → Result C Stop) → ((r >>= f) >>= g) ≡ (r >>= λ x. f x >>= g)
 bind_bind (Ok x) f g = refl
 bind_bind (Err e) f g = refl
@@ -25,7 +25,7 @@ module _ {A : Type 0} (next : List Lexeme → Option (List Lexeme)) (item : List
   closed zero ts is = refl
   closed (suc k) ts is = rw is refl
 
--- With these items read before, and as many steps left as there are tokens, the whole is this.
+-- The items before and those that are read from these tokens are `total`; enough steps are left for all tokens.
 pub record Goes {A : Type 0} (next : List Lexeme → Option (List Lexeme)) (item : List Lexeme → Outcome A) (front : List A) (ts : List Lexeme)
     (total : Outcome (List A)) : Type 0 where
   pub most : ℕ
@@ -74,7 +74,7 @@ module _ {A : Type 0} (next : List Lexeme → Option (List Lexeme)) (item : List
       ∙ ap (with_front front) (opened next item k ts us is ∙ ap (λ (r : Outcome A). r >>= λ x. many_with next item k x.1 >>= λ rest. Ok (x.0 ∷ rest.0, rest.1))
       read)
 
-  -- an item that is not read
+  -- an item that cannot be read
   pub ends : (front : List A) (ts us : List Lexeme) (e : Stop) (total : Outcome (List A)) → next ts ≡ Some us → item us ≡ Err e → 0 < length ts
       → Goes next item front ts total → total ≡ Err e
   ends front ts us e total is read some goes = ends_at goes.most front ts us e total is read some goes.enough goes.whole

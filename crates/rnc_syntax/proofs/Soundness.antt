@@ -1,4 +1,4 @@
--- What is read is in the grammar: steps of reading, and items one after another.
+-- Whatever is read is in the grammar: steps of reading, and lists of items.
 use Rattle.std.proofs.Common.{◌≡◌, ℕ, zero, suc, true, List, [], ◌∷◌, ◌++◌, length, Option, Some, None, Result, Ok, Err, refl, sym, ap}
 use Rattle.std.proofs.Common.{subst, ◌∙◌, append_assoc, inl, inr}
 use Rattle.rnc_model.specs.declared.token.Keyword.{Keyword}
@@ -19,7 +19,7 @@ pub bind_ok : {A B : Type 0} (r : Result A Stop) (f : A → Result B Stop) (y : 
 bind_ok (Ok x) f y e = (x, refl, e)
 bind_ok (Err d) f y e = absurd cc
 
--- the values from which a front is made
+-- the values of which a front is made
 pub front_some : {A B : Type 0} (o : Option A) (f : A → Option B) (y : B) → either_way o None f ≡ Some y → (x : A) × (o ≡ Some x) × (f x ≡ Some y)
 front_some None f y e = absurd cc
 front_some (Some x) f y e = (x, refl, e)
@@ -102,7 +102,7 @@ module _ (k : Keyword) (same : (j : Keyword) → same_keyword j k ≡ true → j
 
 -- ---- what was read
 
--- the front that was read, and what is left
+-- the front that was read, and the tokens left
 pub record TakesFront {A : Type 0} (P : List Lexeme → A → Type 0) (ts : List Lexeme) (x : A × List Lexeme) : Type 0 where
   pub front : List Lexeme
   pub is : P front x.0
@@ -215,7 +215,7 @@ module _ {A : Type 0} (P : List Lexeme → A → Type 0) (next : List Lexeme →
   pub many_sound : ItemSound → Sound (many next item) (Each P)
   many_sound items ts x e = many_with_sound items (length ts) ts x e
 
-  -- where one begins there is one
+  -- if one begins, there is one
   some_with : (k : ℕ) (ts us : List Lexeme) (x : List A × List Lexeme) → next ts ≡ Some us → many_with next item (suc k) ts ≡ Ok x → (y : A) × (ys : List A)
       × (y ∷ ys ≡ x.0)
   unfolding many_with
@@ -243,13 +243,13 @@ preceded_sound P s item sound ts us x is e =
       parts = let q = p.parts in let f = follow_is s ts us is in cc;
     }
 
--- no items have no tokens
+-- a list without items has no tokens
 pub nothing_left : {A : Type 0} {P : List Lexeme → A → Type 0} {ts : List Lexeme} → Each P ts [] → ts ≡ []
 nothing_left (no_items e) = e
 
 -- ---- steps one after another
 
--- behind a token that stands in front
+-- after a token that is first
 abbrev pub Behind : {A : Type 0} → Lexeme → (List Lexeme → A → Type 0) → List Lexeme → A → Type 0
 Behind t P ts x = P (t ∷ ts) x
 
@@ -282,7 +282,7 @@ both_sound P Q R f read then_read first second joins ts x e =
     let b = bind_ok (then_read a.0.1) _ x a.2 in
     subst (TakesFront R ts) (ok_is (f a.0.0 b.0.0, b.0.1) x b.2) (both_reads P Q R f joins ts a.0 b.0 (first ts a.0 a.1) (second a.0.1 b.0 b.1))
 
--- a sign, and then
+-- a sign, and then a reader
 pub open_sound : {A : Type 0} (P : List Lexeme → A → Type 0) (s : Sign) (read : List Lexeme → Outcome A) → Sound read P
     → Sound (λ ts. after s ts >>= λ x. read x.1) (Preceded P s)
 open_sound P s read sound ts x e =

@@ -1,4 +1,4 @@
--- What is read is in the grammar: annotations, and what is read behind them.
+-- Whatever is read is in the grammar: annotations, and what is read after them.
 use Rattle.std.proofs.Common.{◌≡◌, ℕ, zero, suc, false, List, [], ◌∷◌, ◌++◌, Option, Some, None, Ok, refl, sym, ap, subst, ◌∙◌, append_assoc}
 use Rattle.rnc_model.specs.declared.token.Sign.TheVariants.{OpenBracket, CloseBracket, OpenBrace, CloseBrace, OpenParenthesis, CloseParenthesis}
 use Rattle.rnc_syntax.specs.declared.annotations.Role.{Role}
@@ -41,7 +41,7 @@ no_bracket_is _ e = refl
 
 -- ---- the rest of an annotation
 
--- what closes an annotation inside which so many others are open
+-- what closes an annotation inside which n others are open
 pub data Ends : ℕ → List Lexeme → Type 0 where
   ends_last : {n : ℕ} {ts : List Lexeme} {a : List Lexeme} → n ≡ zero → IsAnnotationContent a → ts ≡ a ++ sign CloseBracket ∷ [] → Ends n ts
   ends_inner : {n : ℕ} {ts : List Lexeme} {m : ℕ} {a b : List Lexeme} → n ≡ suc m → IsAnnotationContent a → Ends m b → ts ≡ a ++ sign CloseBracket ∷ b
@@ -61,7 +61,7 @@ annotation_before : {n : ℕ} {ts : List Lexeme} (a : List Lexeme) → IsAnnotat
 annotation_before a p q = before_end (λ (r : List Lexeme). sign OpenBracket ∷ (a ++ sign CloseBracket ∷ r)) (λ b q. grammar.and_annotation p q refl)
     (λ b c. ap (λ (r : List Lexeme). sign OpenBracket ∷ r) (sym (append_assoc a (sign CloseBracket ∷ b) c))) q
 
--- an annotation that is opened is one more that is open
+-- an annotation that opens is one more open annotation
 pub opened_before : {n : ℕ} {ts : List Lexeme} → Ends (suc n) ts → Ends n (sign OpenBracket ∷ ts)
 opened_before (ends_last none p e) = absurd cc
 opened_before {n} (ends_inner {m = m} {a = a} {b = b} some p q e) =
@@ -72,7 +72,7 @@ opened_before {n} (ends_inner {m = m} {a = a} {b = b} some p q e) =
 abbrev pub IsEnd : ℕ → List Lexeme → Unit {0} → Type 0
 IsEnd n ts u = Ends n ts
 
--- behind a token
+-- after a token
 token_taken : (n m : ℕ) (x : Lexeme) (ts : List Lexeme) (r : Unit {0} × List Lexeme) → ((front : List Lexeme) → Ends m front → Ends n (x ∷ front))
     → TakesFront (IsEnd m) ts r → TakesFront (IsEnd n) (x ∷ ts) r
 token_taken n m x ts r goes p = record { front = x ∷ p.front; is = goes p.front p.is; parts = ap (λ (r : List Lexeme). x ∷ r) p.parts }
@@ -106,7 +106,7 @@ unfolding annotation_end
 end_sound n [] x e = absurd cc
 end_sound n (t ∷ ts) x e = end_by t ts (λ m y f. end_sound m ts y f) (role_of t) n x refl e
 
--- ---- an annotation, if one stands in front
+-- ---- an annotation, if there is one
 
 abbrev pub IsSkipped : List Lexeme → Unit {0} → Type 0
 IsSkipped ts u = MayBeAnnotation ts
@@ -131,7 +131,7 @@ pub annotation_sound : Sound annotation_at IsSkipped
 unfolding annotation_at
 annotation_sound ts x e = annotation_step ts x (follow OpenBracket ts) refl e
 
--- behind any annotation there may be
+-- after any annotation, or none
 abbrev pub SoundBehind : {A : Type 0} → (List Lexeme → Outcome A) → (List Lexeme → A → Type 0) → Type 0
 SoundBehind {A} read P = (n : List Lexeme) → MayBeAnnotation n → (ts : List Lexeme) (x : A × List Lexeme) → read ts ≡ Ok x → TakesFront P (n ++ ts) x
 
@@ -149,14 +149,14 @@ module _ {A : Type 0} (P : List Lexeme → A → Type 0) (read : List Lexeme →
     parts = ap (λ (r : List Lexeme). n ++ r) p.parts ∙ sym (append_assoc n p.front x.1);
   }
 
-  -- what is read behind an annotation makes the whole with it
+  -- what is read after an annotation is, with the annotation, the whole
   pub bare_sound : (Q : List Lexeme → A → Type 0) → Sound read Q → ((n ts : List Lexeme) (x : A) → MayBeAnnotation n → Q ts x → P (n ++ ts) x)
       → SoundBehind read P
   bare_sound Q sound makes n is ts x e =
       let p = sound ts x e in
       taken_behind n ts x (record { front = p.front; is = makes n p.front x.0 is p.is; parts = p.parts })
 
-  -- the same, where an annotation has to stand in front
+  -- the same, if an annotation must be first
   pub opened_sound : SoundBehind read P → (ts us : List Lexeme) (x : A × List Lexeme) → follow OpenBracket ts ≡ Some us
       → (annotation_end 0 us >>= λ x. read x.1) ≡ Ok x → TakesFront P ts x
   opened_sound sound ts us x is e =

@@ -1,4 +1,4 @@
--- What is read is in the grammar: name classes.
+-- Whatever is read is in the grammar: name classes.
 use Rattle.std.proofs.Common.{◌≡◌, ℕ, List, [], ◌∷◌, ◌++◌, Option, Some, None, Ok, refl, sym, ap, subst, ◌∙◌, append_assoc}
 use Rattle.std.proofs.lemmas.List.{append-nil}
 use Rattle.rnc_model.specs.declared.token.Sign.TheVariants.{Bar, Star, Minus, OpenParenthesis, CloseParenthesis}
@@ -92,7 +92,7 @@ except_is ts y e =
     subst (λ (y : Option (List ℕ) × List Lexeme). ts ≡ except_tokens y.0 y.1) (some_is (w.0.0, m.0) y m.2)
     (wide_is ts w.0 w.1 ∙ wide_minus w.0.0 w.0.1 m.0 (follow_is Minus w.0.1 m.0 m.1))
 
--- behind an annotation
+-- after an annotation
 excepted_reads : (n : List Lexeme) (o : Option (List ℕ)) (ts rest : List Lexeme) (c : NameClass × List Lexeme) → MayBeAnnotation n → ts ≡ except_tokens o rest
     → TakesFront IsBasic rest c → TakesFront IsClass (n ++ ts) (excepted o c.0, c.1)
 excepted_reads n None ts rest c may f p = record {

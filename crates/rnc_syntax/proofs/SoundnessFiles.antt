@@ -1,4 +1,4 @@
--- What is read is in the grammar: files.
+-- Whatever is read is in the grammar: files.
 use Rattle.std.proofs.Common.{◌≡◌, ℕ, true, false, List, [], ◌∷◌, ◌++◌, Option, Some, None, Ok, refl, ap, subst, ◌∙◌, inl, inr}
 use Rattle.std.proofs.lemmas.List.{append-nil}
 use Rattle.rnc_model.specs.declared.token.Keyword.TheVariants as keywords
@@ -33,7 +33,7 @@ prefix_sound : Sound prefix_at (IsSetting IsUri)
 unfolding prefix_at
 prefix_sound ts x e = setting_sound IsUri uri_at uri_sound ts x e
 
--- behind `default namespace`
+-- after `default namespace`
 abbrev pub IsDefault : List Lexeme → Declaration → Type 0
 IsDefault ts d = (r s : Spelling) → IsDeclaration (keyword keywords.Default r ∷ keyword keywords.Namespace s ∷ ts) d
 

@@ -1,4 +1,4 @@
--- What is read is in the grammar: literals, parameters, and what mentions hand on.
+-- Whatever is read is in the grammar: literals, parameters, and what mentions inherit.
 use Rattle.std.proofs.Common.{◌≡◌, ℕ, List, [], ◌∷◌, ◌++◌, Option, Some, None, Ok, refl, sym, ap, subst, ◌∙◌, append_assoc}
 use Rattle.std.proofs.lemmas.List.{append-nil}
 use Rattle.rnc_model.specs.declared.token.Keyword.TheVariants as keywords
@@ -119,7 +119,7 @@ pub inherit_sound : Sound inherit_at MayInherit
 unfolding inherit_at
 inherit_sound ts x e = inherit_step ts x (follow_keyword keywords.Inherit ts) refl e
 
--- a literal, and what is handed on
+-- a literal, and the prefix that is inherited
 pub record IsMention (number : ℕ) (ts : List Lexeme) (m : Mention) : Type 0 where
   pub first : List Lexeme
   pub second : List Lexeme

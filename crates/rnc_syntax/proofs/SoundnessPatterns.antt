@@ -1,4 +1,4 @@
--- What is read is in the grammar: patterns and components.
+-- Whatever is read is in the grammar: patterns and components.
 use Rattle.std.proofs.Common.{◌≡◌, ℕ, zero, suc, List, [], ◌∷◌, ◌++◌, Option, Some, None, Ok, refl, sym, ap, subst, ◌∙◌, append_assoc, inl, inr, if◌then◌else◌}
 use Rattle.std.proofs.lemmas.List.{append-nil}
 use Rattle.rng_model.specs.simple.Tree.{Connector, choice, group, interleave}
@@ -70,7 +70,7 @@ no_segment_front x d e =
       | inr h ↦ some_is x d h.1
     ]
 
--- where a datatype's name stands in front
+-- if the name of a datatype is first
 pub data_front_is : (ts : List Lexeme) (d : DatatypeName × List Lexeme) → data_front ts ≡ Some d → (t : Lexeme) × (type_of t ≡ Some d.0) × (ts ≡ t ∷ d.1)
 data_front_is ts d e =
     let f = front_some (type_front ts) (λ x. if begins_segment x.1 then None else Some x) d e in
@@ -106,7 +106,7 @@ repeated_by ts us rest front r t u makes one parts is = record {
   parts = let q = append_assoc front (sign r ∷ []) rest in cc;
 }
 
--- what a sign after a primary makes of it
+-- a primary with the sign of repetition after it
 pub repeated_reads : (ts rest front : List Lexeme) (t : Pattern) → IsPrimary front t → ts ≡ front ++ rest → TakesFront IsParticle ts (repeated t rest)
 repeated_reads ts (sign Question ∷ us) front t one parts = repeated_by ts (sign Question ∷ us) us front Question t (syntax.optional t)
     (λ a p. grammar.optional p refl) one parts refl
@@ -147,7 +147,7 @@ component_front_is w ts us e =
       | inr h ↦ absurd (let q = h.1 in cc)
     ]
 
--- a method and a pattern, behind what is assigned to
+-- a method and a pattern, after the name or `start`
 abbrev pub assignment_with : Inside → Option (List ℕ) → List Lexeme → Outcome Component
 assignment_with inside o ts = ◌>>=◌ {A = (Option (List ℕ) × Method) × List Lexeme} (method_at ts >>= λ m. Ok ((o, m.0), m.1)) (λ x. pattern_with inside x.1
     >>= λ t. Ok (assigned x.0.0 x.0.1 t.0, t.1))
@@ -166,17 +166,17 @@ include_is s first second m cs p q =
     ∙ append_assoc p.first p.second second))
     (ap (λ (m : Mention). syntax.include m (syntax.components_of cs)) p.standing)
 
--- a method and a pattern, behind `start`
+-- a method and a pattern, after `start`
 pub start_is : (w : Setting) (s : Spelling) (first second : List Lexeme) (m : Method) (t : Pattern) → IsMethod first m → IsPattern second t
     → IsBareComponent w (keyword keywords.Start s ∷ (first ++ second)) (syntax.start m t)
 start_is w s first second m t p q = grammar.start p.method q (ap (λ (r : List Lexeme). keyword keywords.Start s ∷ (r ++ second)) p.parts)
 
--- a method and a pattern, behind a name
+-- a method and a pattern, after a name
 pub define_is : (w : Setting) (n : List ℕ) (first second : List Lexeme) (m : Method) (t : Pattern) → IsMethod first m → IsPattern second t
     → IsBareComponent w (identifier n ∷ (first ++ second)) (syntax.define n m t)
 define_is w n first second m t p q = grammar.define p.method q (ap (λ (r : List Lexeme). identifier n ∷ (r ++ second)) p.parts)
 
--- what stands behind an annotation makes the whole with it
+-- what follows an annotation is, with the annotation, the whole
 pub primary_is : (n ts : List Lexeme) (t : Pattern) → MayBeAnnotation n → IsBarePrimary ts t → IsPrimary (n ++ ts) t
 primary_is n ts t may is = grammar.annotated_primary may is refl
 
@@ -199,7 +199,7 @@ module _ (inside : Inside) (sound : InsideSound inside) where
       (in_braces_sound (AreComponents w) (inside.components w) (sound.components w)) ts x e in
       record { front = p.front; is = bracketed (AreComponents w) OpenBrace CloseBrace p.front x.0 p.is; parts = p.parts }
 
-  -- a name class and a pattern in braces, behind a token
+  -- a name class and a pattern in braces, after a token
   named_sound : (make : NameClass → Pattern → Pattern) (t : Lexeme) → ((first second : List Lexeme) (c : NameClass) (u : Pattern) → IsClass first c
       → IsBraced second u → IsBarePrimary (t ∷ (first ++ second)) (make c u))
       → (ts : List Lexeme) (x : Pattern × List Lexeme) → named_with inside make ts ≡ Ok x → TakesFront IsBarePrimary (t ∷ ts) x
@@ -292,7 +292,7 @@ module _ (inside : Inside) (sound : InsideSound inside) where
       → TakesFront IsPattern ts x
   pattern_from_sound ts t x p e = rest_sound ts (repeated t.0 t.1) x (separator_of (repeated t.0 t.1).1) (repeated_reads ts t.1 p.front t.0 p.is p.parts) refl e
 
-  -- behind an annotation
+  -- after an annotation
   data_reads : (n : List Lexeme) (t : Lexeme) (d : DatatypeName) (ts us vs front : List Lexeme) (ps : List (List ℕ × List ℕ)) (x : Pattern × List Lexeme)
       → MayBeAnnotation n → type_of t ≡ Some d → MayBeParameters front ps → ts ≡ front ++ us → us ≡ sign Minus ∷ vs → TakesFront IsPrimary vs x
       → TakesFront IsPattern (n ++ t ∷ ts) (syntax.data_except d ps x.0, x.1)
@@ -351,7 +351,7 @@ module _ (inside : Inside) (sound : InsideSound inside) where
   unfolding pattern_with
   pattern_sound = annotated_sound IsPattern (bare_pattern_with inside) bare_pattern_behind
 
-  -- a method and a pattern, behind what is assigned to
+  -- a method and a pattern, after the name or `start`
   assigned_sound : (w : Setting) (o : Option (List ℕ)) (t : Lexeme) → ((first second : List Lexeme) (m : Method) (u : Pattern) → IsMethod first m
       → IsPattern second u → IsBareComponent w (t ∷ (first ++ second)) (assigned o m u))
       → (ts : List Lexeme) (x : Component × List Lexeme) → assignment_with inside o ts ≡ Ok x → TakesFront (IsBareComponent w) (t ∷ ts) x

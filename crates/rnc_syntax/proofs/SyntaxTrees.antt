@@ -1,4 +1,4 @@
--- What is told of tokens is what they are by the definitions: their syntax tree, or their fault.
+-- The result for tokens agrees with the definitions: their syntax tree, or their fault.
 use Rattle.std.proofs.Common.{◌≡◌, ℕ, ◌+◌, ◌-◌, List, length, Result, Ok, Err, IfOk, IfErr, refl, ap, subst}
 use Rattle.rnc_syntax.specs.declared.fault.Stop.{Stop}
 use Rattle.rnc_syntax.specs.declared.fault.Stop.TheVariants.{Unexpected, TooDeep}
@@ -28,11 +28,11 @@ module _ (ts : List Lexeme) (nests : NestsWithin nesting_limit ts) where
   tree_read (Err (Unexpected left)) f read is = absurd (cc)
   tree_read (Ok g) f read is = let same : g ≡ f = cc in subst (IsSyntaxTree ts) same (record { nesting = nests; sentence = file_sound nesting_limit ts g read })
 
-  -- what is told is the syntax tree
+  -- a tree that is returned is the syntax tree
   pub is_tree : (f : File) → answer ≡ Ok f → IsSyntaxTree ts f
   is_tree f is = tree_read (file_with (inside_at nesting_limit) ts) f refl is
 
-  -- the syntax tree is what is told
+  -- the syntax tree is the one that is returned
   pub only_tree : (f : File) → IsSyntaxTree ts f → answer ≡ Ok f
   only_tree f is = ap (told (length ts)) (file_complete nesting_limit is.sentence nests)
 
@@ -42,7 +42,7 @@ module _ (ts : List Lexeme) (nests : NestsWithin nesting_limit ts) where
   no_sentence_read (Err (Unexpected left)) read is = (length ts - left + 1, refl)
   no_sentence_read (Ok f) read is = absurd (is.1 (f, file_sound nesting_limit ts f read))
 
-  -- of tokens that are no sentence this is told, with a number
+  -- if the tokens are no sentence, this fault is returned, with a number
   pub only_grammar : BreaksGrammar ts → (number : ℕ) × (answer ≡ Err (faults.Unexpected number))
   only_grammar is = no_sentence_read (file_with (inside_at nesting_limit) ts) refl is
 
@@ -54,7 +54,7 @@ module _ (ts : List Lexeme) (nests : NestsWithin nesting_limit ts) where
         subst (IsFaultOf ts) same (record { nesting = nests; stuck = stuck left read })
     fault_read (Ok f) e read is = absurd (cc)
 
-    -- a fault that is told is one of the tokens
+    -- a fault that is returned is a fault of the tokens
     pub is_fault : (e : SyntaxFault) → answer ≡ Err e → IsFaultOf ts e
     is_fault e is = fault_read (file_with (inside_at nesting_limit) ts) e refl is
 
@@ -64,17 +64,17 @@ refused : (n : ℕ) (stop : Stop) → Refuses (unless_memory (fault_at n stop)) 
 refused n TooDeep = refl
 refused n (Unexpected left) = refl
 
--- the fault of a reading that stopped
+-- the fault if reading stopped
 pub stop_told : (n : ℕ) (stop : Stop) (r : Result File Stop) (e : SyntaxFault) → r ≡ Err stop → e ≡ fault_at n stop → Refuses (unless_memory e) (told n r)
 stop_told n stop r e is fault = rw (is, fault) (refused n stop)
 
--- a tree
+-- a tree that is returned
 pub tree_given : (ts : List Lexeme) (r : Result declared.File SyntaxFault) (w : Result File SyntaxFault) → ((f : File) → w ≡ Ok f → IsSyntaxTree ts f)
     → Gives unless_memory file_of r w → IfOk r (λ f. IsSyntaxTree ts (file_of f))
 tree_given ts (Ok f) w is given = is (file_of f) given
 tree_given ts (Err e) w is given = tt
 
--- a fault
+-- a fault that is returned
 pub fault_given : (ts : List Lexeme) (r : Result declared.File SyntaxFault) (w : Result File SyntaxFault) → ((e : SyntaxFault) → w ≡ Err e → IsFaultOf ts e)
     → Gives unless_memory file_of r w → IfErr r (IsFaultOf ts)
 fault_given ts (Ok f) w is given = tt

@@ -1,4 +1,4 @@
--- What was taken where the reading stops can be completed: the steps from which readers are made, and items one after another.
+-- The tokens read before reading stops can be completed: the steps of which readers consist, and lists of items.
 use Rattle.std.proofs.Common.{◌≡◌, ℕ, zero, suc, List, [], ◌∷◌, ◌++◌, length, Option, Some, None, Result, Ok, Err, refl, sym, ap, subst, ◌∙◌, append_assoc, ◌⊎◌}
 use Rattle.std.proofs.Common.{inl, inr}
 use Rattle.std.proofs.lemmas.List.{append-nil}
@@ -11,23 +11,23 @@ use Rattle.rnc_syntax.specs.plain.Combinators.{Outcome, ◌>>=◌, unexpected, f
 use Rattle.rnc_syntax.specs.plain.Productions.{in_braces_at}
 use Rattle.rnc_syntax.proofs.Soundness.{follow_is, after_is, TakesFront, Sound, Closed, Preceded, Each, no_items, and_item, Behind}
 
--- what stopped: the first step, or the next one
+-- either the first step stopped, or the next one
 pub bind_err : {A B : Type 0} (r : Result A Stop) (f : A → Result B Stop) (s : Stop) → (r >>= f) ≡ Err s → (r ≡ Err s) ⊎ ((x : A) × (r ≡ Ok x) × (f x ≡ Err s))
 bind_err (Ok x) f s e = inr (x, refl, e)
 bind_err (Err d) f s e = inl (let q : d ≡ s = cc in ap (λ (d : Stop). Err d) q)
 
--- the first step stopped, where the next one does not stop
+-- the first step stopped if the next one cannot
 pub first_stopped : {A B : Type 0} (r : Result A Stop) (g : A → B) (s : Stop) → (r >>= λ x. Ok (g x)) ≡ Err s → r ≡ Err s
 first_stopped (Ok x) g s e = absurd cc
 first_stopped (Err d) g s e = let q : d ≡ s = cc in ap (λ (d : Stop). Err d) q
 
--- something there is begins with these tokens
+-- some member of P begins with these tokens
 pub record Begins {A : Type 0} (P : List Lexeme → A → Type 0) (front : List Lexeme) : Type 0 where
   pub behind : List Lexeme
   pub value : A
   pub is : P (front ++ behind) value
 
--- the tokens before the last ones, which are so many, begin something there is
+-- the tokens without the last `left` ones begin some member of P
 pub record Viable {A : Type 0} (P : List Lexeme → A → Type 0) (ts : List Lexeme) (left : ℕ) : Type 0 where
   pub front : List Lexeme
   pub rest : List Lexeme
@@ -38,11 +38,11 @@ pub record Viable {A : Type 0} (P : List Lexeme → A → Type 0) (ts : List Lex
 abbrev pub IsViable : {A : Type 0} → (List Lexeme → Outcome A) → (List Lexeme → A → Type 0) → Type 0
 IsViable read P = (ts : List Lexeme) (left : ℕ) → read ts ≡ Err (Unexpected left) → Viable P ts left
 
--- whatever is the one begins the other
+-- each member of P begins a member of Q
 abbrev pub Completes : {A B : Type 0} → (List Lexeme → A → Type 0) → (List Lexeme → B → Type 0) → Type 0
 Completes {A} P Q = (ts : List Lexeme) (a : A) → P ts a → Begins Q ts
 
--- behind tokens that stand in front
+-- after tokens that are first
 abbrev pub Behinds : {A : Type 0} → List Lexeme → (List Lexeme → A → Type 0) → List Lexeme → A → Type 0
 Behinds front P ts x = P (front ++ ts) x
 
@@ -56,7 +56,7 @@ module _ {A : Type 0} (P : List Lexeme → A → Type 0) where
   pub moved : (ts us : List Lexeme) (left : ℕ) → ts ≡ us → Viable P us left → Viable P ts left
   moved ts us left e v = subst (λ (r : List Lexeme). Viable P r left) (sym e) v
 
-  -- behind a token that was taken
+  -- after a token that was read
   pub behind_token : (t : Lexeme) (ts : List Lexeme) (left : ℕ) → Viable (Behind t P) ts left → Viable P (t ∷ ts) left
   behind_token t ts left v = record {
     front = t ∷ v.front;
@@ -66,7 +66,7 @@ module _ {A : Type 0} (P : List Lexeme → A → Type 0) where
     begins = record { behind = v.begins.behind; value = v.begins.value; is = v.begins.is };
   }
 
-  -- behind tokens that were taken
+  -- after tokens that were read
   pub behind_tokens : (front ts rest : List Lexeme) (left : ℕ) → ts ≡ front ++ rest → Viable (Behinds front P) rest left → Viable P ts left
   behind_tokens front ts rest left e v = record {
     front = front ++ v.front;
@@ -116,7 +116,7 @@ both_viable P Q R f read then_read sound first second some joins =
     (λ front x left p e. made_viable Q (Behinds front R) then_read (f x.0) second (λ ts b q. exactly (Behinds front R) ts (f x.0 b) (joins front ts x.0 b p q))
     x.1 left e)
 
--- ---- tokens that have to stand here
+-- ---- tokens that are required here
 
 pub left_is : {A : Type 0} (ts : List Lexeme) (left : ℕ) → unexpected {A = A} ts ≡ Err (Unexpected left) → left ≡ length ts
 left_is ts left e = cc
@@ -156,7 +156,7 @@ module _ {A : Type 0} (P : List Lexeme → A → Type 0) (s : Sign) where
       (completed P (Behind (sign s) (Preceded P s)) ts left
       (λ us a p. exactly (Behind (sign s) (Preceded P s)) us a (record { rest = us; is = p; parts = refl })) v)
 
-  -- a sign, and then
+  -- a sign, and then a reader
   pub open_viable : (read : List Lexeme → Outcome A) → IsViable read P → Begins P [] → IsViable (λ ts. after s ts >>= λ x. read x.1) (Preceded P s)
   open_viable read viable some ts left e =
       elim (bind_err (after s ts) (λ x. read x.1) (Unexpected left) e) [

@@ -1,4 +1,4 @@
--- What was taken where the reading stops can be completed: annotations, and what is read behind them.
+-- The tokens read before reading stops can be completed: annotations, and what is read after them.
 use Rattle.std.proofs.Common.{◌≡◌, ℕ, zero, suc, List, [], ◌∷◌, ◌++◌, Option, Some, None, Ok, Err, refl, ap, inl, inr}
 use Rattle.rnc_model.specs.declared.token.Sign.TheVariants.{OpenBracket, CloseBracket}
 use Rattle.rnc_syntax.specs.declared.annotations.Role.{Role}
@@ -24,7 +24,7 @@ end_some (suc n) =
     let b = end_some n in
     record { behind = sign CloseBracket ∷ b.behind; value = tt; is = ends_inner refl (grammar.no_content refl) b.is refl }
 
--- behind a token
+-- after a token
 token_viable : (n m : ℕ) (t : Lexeme) (ts : List Lexeme) (left : ℕ) → ((front : List Lexeme) → Ends m front → Ends n (t ∷ front)) → Viable (IsEnd m) ts left
     → Viable (IsEnd n) (t ∷ ts) left
 token_viable n m t ts left goes v = behind_token (IsEnd n) t ts left
@@ -43,7 +43,7 @@ unfolding annotation_end
 end_viable n [] left e = nothing_taken (IsEnd n) [] left (left_is [] left e) (end_some n)
 end_viable n (t ∷ ts) left e = end_by t ts (λ m k f. end_viable m ts k f) (role_of t) n left refl e
 
--- ---- an annotation, if one stands in front
+-- ---- an annotation, if there is one
 
 annotation_step : (ts : List Lexeme) (left : ℕ) (o : Option (List Lexeme)) → follow OpenBracket ts ≡ o
     → either_way {B = Outcome (Unit {0})} o (Ok (tt, ts)) (annotation_end 0) ≡ Err (Unexpected left) → Viable IsSkipped ts left
@@ -57,11 +57,11 @@ annotation_viable : IsViable annotation_at IsSkipped
 unfolding annotation_at
 annotation_viable ts left e = annotation_step ts left (follow OpenBracket ts) refl e
 
--- behind any annotation there may be
+-- after any annotation, or none
 abbrev pub ViableBehind : {A : Type 0} → (List Lexeme → Outcome A) → (List Lexeme → A → Type 0) → Type 0
 ViableBehind read P = (n : List Lexeme) → MayBeAnnotation n → (ts : List Lexeme) (left : ℕ) → read ts ≡ Err (Unexpected left) → Viable P (n ++ ts) left
 
--- with any annotation something there is begins
+-- some member of P begins with any given annotation
 abbrev pub BeginsBehind : {A : Type 0} → (List Lexeme → A → Type 0) → Type 0
 BeginsBehind P = (n : List Lexeme) → MayBeAnnotation n → Begins P n
 
@@ -78,7 +78,7 @@ module _ {A : Type 0} (P : List Lexeme → A → Type 0) (read : List Lexeme →
       let b = begins (sign OpenBracket ∷ ts) (whole_annotation refl p) in
       record { behind = b.behind; value = b.value; is = b.is }
 
-  -- the same, where an annotation has to stand in front
+  -- the same, if an annotation must be first
   pub opened_viable : (ts us : List Lexeme) (left : ℕ) → follow OpenBracket ts ≡ Some us → (annotation_end 0 us >>= λ x. read x.1) ≡ Err (Unexpected left)
       → Viable P ts left
   opened_viable ts us left is e =
@@ -92,7 +92,7 @@ module _ {A : Type 0} (P : List Lexeme → A → Type 0) (read : List Lexeme →
             (viable (t ∷ p.front) (whole_annotation refl p.is) h.0.1 left h.2)
       ])
 
--- what is read behind an annotation makes the whole with it
+-- what is read after an annotation is, with the annotation, the whole
 module _ {A : Type 0} (P Q : List Lexeme → A → Type 0) (makes : (n ts : List Lexeme) (x : A) → MayBeAnnotation n → Q ts x → P (n ++ ts) x) where
   pub bare_begins : Begins Q [] → BeginsBehind P
   bare_begins some n may = record { behind = some.behind; value = some.value; is = makes n some.behind some.value may some.is }

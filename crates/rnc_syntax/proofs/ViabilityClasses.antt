@@ -1,4 +1,4 @@
--- What was taken where the reading stops can be completed: name classes.
+-- The tokens read before reading stops can be completed: name classes.
 use Rattle.std.proofs.Common.{◌≡◌, ℕ, List, [], ◌∷◌, ◌++◌, Option, Some, None, Ok, Err, refl, sym, ap, subst, ◌∙◌, inl, inr}
 use Rattle.std.proofs.lemmas.List.{append-nil}
 use Rattle.rnc_model.specs.declared.token.Sign.TheVariants.{Bar, Star, Minus, OpenParenthesis, CloseParenthesis}
@@ -49,14 +49,14 @@ module _ (class : List Lexeme → Outcome NameClass) (sound : Sound class IsClas
 one_class : Completes IsBasic IsClass
 one_class ts c p = exactly IsClass ts c (grammar.basic_class p)
 
--- classes with `|` before each, behind the first one
+-- classes with a `|` before each, after the first one
 classes_begin : (front : List Lexeme) (c : NameClass) → IsBasic front c → Completes (Each (Preceded IsBasic Bar)) (Behinds front IsClass)
 classes_begin front c p ts [] q = exactly (Behinds front IsClass) ts c
     (grammar.basic_class (subst (λ (r : List Lexeme). IsBasic r c) (sym (append-nil front) ∙ ap (λ (r : List Lexeme). front ++ r) (sym (nothing_left q))) p))
 classes_begin front c p ts (d ∷ ds) q = exactly (Behinds front IsClass) ts (syntax.choice_of (c ∷ d ∷ ds))
     (grammar.choice_class p (more_classes_are q d ds refl) refl refl)
 
--- behind an annotation, `*` or `p:*`, and `-`
+-- after an annotation, `*` or `p:*`, and `-`
 excepted_viable : (n : List Lexeme) (o : Option (List ℕ)) (ts : List Lexeme) (left : ℕ) → MayBeAnnotation n → Viable IsBasic ts left
     → Viable (Behinds n IsClass) (except_tokens o ts) left
 excepted_viable n None ts left may v =

@@ -1,4 +1,4 @@
--- What was taken where the reading stops can be completed: components, and what is inside brackets at any depth.
+-- The tokens read before reading stops can be completed: components, and the inside of brackets at any depth.
 use Rattle.std.proofs.Common.{◌≡◌, ℕ, zero, suc, List, [], ◌∷◌, ◌++◌, Option, Some, None, Ok, Err, refl, ap, ◌∙◌}
 use Rattle.rnc_model.specs.declared.token.Keyword.TheVariants as keywords
 use Rattle.rnc_model.specs.declared.token.Sign.TheVariants.{Equal, BarEqual, AndEqual, OpenBrace, CloseBrace}
@@ -47,7 +47,7 @@ component_some w = record {
   is = grammar.start {x = sign Equal} refl pattern_some.is refl;
 }
 
--- behind a token, what is made of a value
+-- after a token, what is made of a value
 module _ {A : Type 0} (P : List Lexeme → A → Type 0) (w : Setting) (t : Lexeme) (f : A → Component) (read : List Lexeme → Outcome A) (viable : IsViable read P)
     (maps : (ts : List Lexeme) (a : A) → P ts a → IsBareComponent w (t ∷ ts) (f a)) where
   component_behind : (ts : List Lexeme) (left : ℕ) → ◌≡◌ {A = Outcome Component} (read ts >>= λ x. Ok (f x.0, x.1)) (Err (Unexpected left))
@@ -56,7 +56,7 @@ module _ {A : Type 0} (P : List Lexeme → A → Type 0) (w : Setting) (t : Lexe
       (made_viable P (Behind t (IsBareComponent w)) read f viable (λ us a p. exactly (Behind t (IsBareComponent w)) us (f a) (maps us a p)) ts left e)
 
 module _ (inside : Inside) (sound : InsideSound inside) (viable : InsideViable inside) where
-  -- a method and a pattern, behind what is assigned to
+  -- a method and a pattern, after the name or `start`
   assigned_viable : (w : Setting) (o : Option (List ℕ)) (t : Lexeme) → ((first second : List Lexeme) (m : Method) (u : Pattern) → IsMethod first m
       → IsPattern second u → IsBareComponent w (t ∷ (first ++ second)) (assigned o m u))
       → (ts : List Lexeme) (left : ℕ) → assignment_with inside o ts ≡ Err (Unexpected left) → Viable (IsBareComponent w) (t ∷ ts) left

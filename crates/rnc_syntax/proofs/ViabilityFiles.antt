@@ -1,4 +1,4 @@
--- What was taken where the reading stops can be completed: declarations and files.
+-- The tokens read before reading stops can be completed: declarations and files.
 use Rattle.std.proofs.Common.{◌≡◌, ℕ, ◌-◌, true, false, List, [], ◌∷◌, ◌++◌, length, take, Option, Some, None, Ok, Err, refl, sym, ap, ◌∙◌, append_assoc}
 use Rattle.std.proofs.Common.{inl, inr, arith}
 use Rattle.std.proofs.lemmas.List.{append-nil, length-append}
@@ -60,7 +60,7 @@ default_viable (sign Equal ∷ ts) left e =
     (λ us a p. exactly (Behind (sign Equal) IsDefault) us (syntax.default_namespace None a) (λ r s. grammar.default_alone p refl)) ts left e)
 default_viable ts left e = prefixed_default ts left e
 
--- behind a token, what is made of a value
+-- after a token, what is made of a value
 module _ {A : Type 0} (P : List Lexeme → A → Type 0) (t : Lexeme) (f : A → Declaration) (read : List Lexeme → Outcome A) (viable : IsViable read P)
     (maps : (ts : List Lexeme) (a : A) → P ts a → IsDeclaration (t ∷ ts) (f a)) where
   declaration_behind : (ts : List Lexeme) (left : ℕ) → ◌≡◌ {A = Outcome Declaration} (read ts >>= λ x. Ok (f x.0, x.1)) (Err (Unexpected left))
@@ -72,7 +72,7 @@ module _ {A : Type 0} (P : List Lexeme → A → Type 0) (t : Lexeme) (f : A →
 abbrev plain : Spelling
 plain = record { text = []; number = 0 }
 
--- behind `default`
+-- after `default`
 defaults_some : (r : Spelling) → Begins (Behind (keyword keywords.Default r) IsDeclaration) []
 defaults_some r = record {
   behind = keyword keywords.Namespace plain ∷ sign Equal ∷ uri_some.behind;
@@ -135,7 +135,7 @@ alone : Completes (Each IsDeclaration) IsFile
 alone ts ds p = exactly IsFile ts (file_of ds (syntax.grammar_body (syntax.components_of [])))
     (grammar.file (declarations_are p) (grammar.grammar_body (grammar.no_components refl) refl) (sym (append-nil ts)))
 
--- a body behind declarations
+-- a body after declarations
 body_begins : (front : List Lexeme) (ds : List Declaration) → Each IsDeclaration front ds → Completes IsBody (Behinds front IsFile)
 body_begins front ds p ts b q = exactly (Behinds front IsFile) ts (file_of ds b) (grammar.file (declarations_are p) q refl)
 
@@ -143,7 +143,7 @@ ended_left : {A : Type 0} (a : A) (ts : List Lexeme) (left : ℕ) → if_ended a
 ended_left a [] left e = absurd cc
 ended_left a (t ∷ ts) left e = cc
 
--- a whole file, with tokens left
+-- a whole file that leaves tokens unread
 surplus : (ts rest : List Lexeme) (ds : List Declaration) (b : Body) (over : List Lexeme) (left : ℕ) → TakesFront (Each IsDeclaration) ts (ds, rest)
     → TakesFront IsBody rest (b, over) → left ≡ length over → Viable IsFile ts left
 surplus ts rest ds b over left p q count = record {
@@ -226,7 +226,7 @@ module _ (inside : Inside) (sound : InsideSound inside) (viable : InsideViable i
   unfolding body_with
   body_viable ts left e = body_step ts left (follow OpenBracket ts) refl e
 
-  -- behind declarations
+  -- after declarations
   file_behind : (ts rest : List Lexeme) (ds : List Declaration) (left : ℕ) → TakesFront (Each IsDeclaration) ts (ds, rest)
       → (body_with inside rest >>= λ body. if_ended (file_of ds body.0) body.1) ≡ Err (Unexpected left) → Viable IsFile ts left
   file_behind ts rest ds left p e =

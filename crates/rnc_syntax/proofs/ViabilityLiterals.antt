@@ -1,4 +1,4 @@
--- What was taken where the reading stops can be completed: words, literals, parameters, and what mentions hand on.
+-- The tokens read before reading stops can be completed: words, literals, parameters, and what mentions inherit.
 use Rattle.std.proofs.Common.{◌≡◌, ℕ, List, [], ◌∷◌, ◌++◌, Option, Some, None, Ok, Err, refl, sym, ap, subst, ◌∙◌}
 use Rattle.rnc_model.specs.declared.token.Keyword.TheVariants as keywords
 use Rattle.rnc_model.specs.declared.token.Sign.TheVariants.{Equal, OpenBrace, CloseBrace, Tilde}
@@ -66,7 +66,7 @@ literal_viable =
 -- ---- a word, `=` and a value
 
 module _ {A : Type 0} (P : List Lexeme → A → Type 0) (read : List Lexeme → Outcome A) (viable : IsViable read P) (some : Begins P []) where
-  -- the value, beside what is known before
+  -- the value, with what is known before
   abbrev IsBeside : List Lexeme → List ℕ × A → Type 0
   IsBeside ts x = P ts x.1
 
@@ -155,9 +155,9 @@ pub parameters_viable : IsViable parameters_at MayBeParameters
 unfolding parameters_at
 parameters_viable ts left e = parameters_step ts left (follow OpenBrace ts) refl e
 
--- ---- what mentions hand on
+-- ---- what mentions inherit
 
--- a word that is handed on
+-- a word that is inherited
 record IsHandedOn (ts : List Lexeme) (o : Option (List ℕ)) : Type 0 where
   pub word : List ℕ
   pub is : IsWord ts word

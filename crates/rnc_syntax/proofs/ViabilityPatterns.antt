@@ -1,4 +1,4 @@
--- What was taken where the reading stops can be completed: patterns.
+-- The tokens read before reading stops can be completed: patterns.
 use Rattle.std.proofs.Common.{◌≡◌, ℕ, List, [], ◌∷◌, ◌++◌, Option, Some, None, Ok, Err, refl, sym, ap, subst, ◌∙◌, inl, inr}
 use Rattle.std.proofs.lemmas.List.{append-nil}
 use Rattle.rng_model.specs.simple.Tree.{Connector}
@@ -26,7 +26,7 @@ use Rattle.rnc_syntax.proofs.ViabilityPrimaries.{InsideViable, primary_some, pat
 one_primary : Completes IsPrimary IsPattern
 one_primary ts t p = exactly IsPattern ts t (grammar.one_particle (grammar.once p))
 
--- particles with a connector before each, behind the first one
+-- particles with a connector before each, after the first one
 particles_begin : (front : List Lexeme) (s : Sign) (k : Connector) (t : Pattern) → connector_of s ≡ Some k → IsParticle front t
     → Completes (Each (Preceded IsParticle s)) (Behinds front IsPattern)
 particles_begin front s k t connects p ts [] q =
@@ -35,13 +35,13 @@ particles_begin front s k t connects p ts [] q =
 particles_begin front s k t connects p ts (u ∷ us) q = exactly (Behinds front IsPattern) ts (syntax.members k (t ∷ u ∷ us))
     (grammar.particles connects p (more_are q u us refl) refl refl)
 
--- a datatype and its parameters, behind an annotation and its name
+-- a datatype and its parameters, after an annotation and its name
 data_begins : (n : List Lexeme) (t : Lexeme) (d : DatatypeName) → MayBeAnnotation n → type_of t ≡ Some d
     → Completes MayBeParameters (Behind t (Behinds n IsPattern))
 data_begins n t d may is ts ps p = exactly (Behind t (Behinds n IsPattern)) ts (syntax.data_of d ps) (pattern_is n (t ∷ ts) (syntax.data_of d ps) may
     (grammar.data_of is p refl))
 
--- what is left out of a datatype, behind its parameters
+-- what is excluded from a datatype, after its parameters
 except_begins : (n : List Lexeme) (t : Lexeme) (d : DatatypeName) (front : List Lexeme) (ps : List (List ℕ × List ℕ)) → MayBeAnnotation n → type_of t ≡ Some d
     → MayBeParameters front ps → Completes IsPrimary (Behind (sign Minus) (Behinds front (Behind t (Behinds n IsPattern))))
 except_begins n t d front ps may is params ts u p = exactly (Behind (sign Minus) (Behinds front (Behind t (Behinds n IsPattern)))) ts

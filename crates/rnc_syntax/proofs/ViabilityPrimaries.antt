@@ -1,4 +1,4 @@
--- What was taken where the reading stops can be completed: primaries and particles.
+-- The tokens read before reading stops can be completed: primaries and particles.
 use Rattle.std.proofs.Common.{◌≡◌, ℕ, List, [], ◌∷◌, ◌++◌, Some, Ok, Err, refl, ap, inl, inr}
 use Rattle.rnc_model.specs.declared.token.Keyword.TheVariants as keywords
 use Rattle.rnc_model.specs.declared.token.Sign.TheVariants.{OpenBrace, CloseBrace, OpenParenthesis, CloseParenthesis}
@@ -23,7 +23,7 @@ use Rattle.rnc_syntax.proofs.ViabilityAnnotations.{ViableBehind, annotated_viabl
 use Rattle.rnc_syntax.proofs.ViabilityLiterals.{IsIdentifier, identifier_viable, literal_viable, parameters_viable, mention_viable}
 use Rattle.rnc_syntax.proofs.ViabilityClasses.{class_viable}
 
--- what was taken inside brackets where the reading stops can be completed
+-- the tokens read inside brackets before reading stops can be completed
 pub record InsideViable (inside : Inside) : Type 0 where
   pub class : IsViable inside.class IsClass
   pub pattern : IsViable inside.pattern IsPattern
@@ -42,7 +42,7 @@ pattern_some = record {
   is = pattern_is [] primary_some.behind primary_some.value (grammar.without_annotation refl) primary_some.is;
 }
 
--- behind a token, what is made of a value
+-- after a token, what is made of a value
 module _ {A : Type 0} (P : List Lexeme → A → Type 0) (t : Lexeme) (f : A → Pattern) (read : List Lexeme → Outcome A) (viable : IsViable read P)
     (maps : (ts : List Lexeme) (a : A) → P ts a → IsBarePrimary (t ∷ ts) (f a)) where
   primary_behind : (ts : List Lexeme) (left : ℕ) → ◌≡◌ {A = Outcome Pattern} (read ts >>= λ x. Ok (f x.0, x.1)) (Err (Unexpected left))
@@ -100,7 +100,7 @@ module _ (inside : Inside) (sound : InsideSound inside) (viable : InsideViable i
       (open_viable (Closed (AreComponents w) CloseBrace) OpenBrace (in_braces_at (inside.components w))
       (in_braces_viable (AreComponents w) (inside.components w) (sound.components w) (viable.components w)) (closed_contents w) ts left e)
 
-  -- a name class and a pattern in braces, behind a token
+  -- a name class and a pattern in braces, after a token
   named_viable : (make : NameClass → Pattern → Pattern) (t : Lexeme) → ((first second : List Lexeme) (c : NameClass) (u : Pattern) → IsClass first c
       → IsBraced second u → IsBarePrimary (t ∷ (first ++ second)) (make c u))
       → (ts : List Lexeme) (left : ℕ) → named_with inside make ts ≡ Err (Unexpected left) → Viable IsBarePrimary (t ∷ ts) left

@@ -1,4 +1,4 @@
-// Reading annotations, which leave no trace in the tree.
+// Reading annotations, which are not in the tree.
 ghost use Rattle.std.specs.Prelude.{◌≡◌, ◌<◌, ◌≤◌, option_map, length, IfOk, IfSome};
 ghost use Rattle.rnc_syntax.specs.plain.Reading.{lexemes_in};
 ghost use Rattle.rng_model.specs.plain.Answers.{Gives};
@@ -9,22 +9,22 @@ use crate::fault::ReadFault;
 use crate::reading::{Reader, onward};
 use rnc_text::{Sign, Token, TokenKind};
 
-/// What a token is in an annotation.
+/// The role of a token in an annotation.
 ///
 /// RELAX NG Compact Syntax, "Annotations".
 pub enum Role {
     /// `[` opens an annotation inside it.
     Opens,
-    /// `]` closes it, or the last one inside it.
+    /// `]` closes it, or the last one that is open inside it.
     Closes,
-    /// Content, whatever it says.
+    /// Content: any token without another role.
     Content,
-    /// A brace or a parenthesis, which no annotation holds.
+    /// A brace or a parenthesis, which is not allowed in an annotation.
     Foreign,
 }
 
 impl Reader {
-    /// What the token in front is in an annotation, and the tokens after it.
+    /// The role of the first token in an annotation, and the tokens after it.
     fn find_role<'t, 'a>(self, tokens: &'t [Token<'a>]) -> Option<(Role, &'t [Token<'a>])>
         ensures reads { option_map (λ x. (x.0, lexemes_in self.count x.1.now)) result ≡ role_front (lexemes_in self.count tokens.now) }
         ensures shorter { IfSome result (λ x. length x.1.now < length tokens.now) }
@@ -43,7 +43,7 @@ impl Reader {
         }
     }
 
-    /// The tokens behind an annotation whose `[` has been read.
+    /// Reads an annotation whose `[` has been read. Returns the tokens after it.
     pub fn annotation_end<'t, 'a>(
         self,
         tokens: &'t [Token<'a>],
@@ -66,7 +66,7 @@ impl Reader {
         Err(self.unexpected(rest))
     }
 
-    /// The tokens behind an annotation, if one stands in front.
+    /// Reads an annotation, if there is one. Returns the tokens after it.
     #[tactic(auto, unfolding(crate::specs::plain::Productions::annotation_at))]
     pub fn annotation<'t, 'a>(self, tokens: &'t [Token<'a>]) -> Result<&'t [Token<'a>], ReadFault>
         ensures reads { Gives stop_of (λ x. (tt, lexemes_in self.count x.now)) result (annotation_at (lexemes_in self.count tokens.now)) }

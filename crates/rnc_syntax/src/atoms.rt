@@ -1,4 +1,4 @@
-// Reading the parts of patterns and components that hold no other pattern.
+// Reading the parts of patterns and components that contain no other pattern.
 ghost use Rattle.std.specs.Prelude.{
   ◌≡◌,
   [],
@@ -29,14 +29,14 @@ use crate::syntax_tree::{Component, DatatypeName, Pattern};
 use rnc_text::{Keyword, Sign, Token, TokenKind};
 use rng_model::Method;
 
-/// Where a component stands: in a grammar, or in the braces of an include.
+/// Where a component is: in a grammar, or in the braces of an include.
 #[derive(Clone, Copy)]
 pub enum Setting {
     Content,
     Override,
 }
 
-/// What a primary that holds other patterns begins with.
+/// How a primary begins that contains other patterns.
 #[derive(Clone, Copy)]
 pub enum Opening {
     Element,
@@ -55,7 +55,7 @@ fn prefixed_type(text: &str) -> DatatypeName<'_>
     DatatypeName::Prefixed { prefix, local }
 }
 
-/// Two patterns or more about their connector.
+/// Two patterns or more with this connector between them.
 pub fn join<'a>(sign: Sign, all: Vec<Pattern<'a>>) -> Pattern<'a>
     ensures { pattern_of result ≡ joined sign (map pattern_of all.entry.items) }
 {
@@ -66,7 +66,7 @@ pub fn join<'a>(sign: Sign, all: Vec<Pattern<'a>>) -> Pattern<'a>
     }
 }
 
-/// A define of the name, or a start.
+/// A define of the name, or a start if there is no name.
 pub fn component<'a>(name: Option<&'a str>, method: Method, body: Pattern<'a>) -> Component<'a>
     ensures { component_of result ≡ assigned_of (option_map (λ n. n.now) name.entry) method (pattern_of body.entry) }
 {
@@ -77,7 +77,7 @@ pub fn component<'a>(name: Option<&'a str>, method: Method, body: Pattern<'a>) -
 }
 
 impl Reader {
-    /// Whether a segment stands in front.
+    /// Whether the first token is a segment.
     fn begins_with_segment(self, tokens: &[Token<'_>]) -> bool
         ensures { result ≡ begins_segment (lexemes_in self.count tokens.now) }
     {
@@ -90,7 +90,7 @@ impl Reader {
         }
     }
 
-    /// Whether a component begins here, or its annotation.
+    /// Whether a component or its annotation begins here.
     pub fn begins_component(self, setting: Setting, tokens: &[Token<'_>]) -> bool
         ensures { result ≡ is_component_front (setting_of setting) (lexemes_in self.count tokens.now) }
     {
@@ -110,7 +110,7 @@ impl Reader {
         }
     }
 
-    /// The keyword or the parenthesis of a primary that holds other patterns, and the tokens after it.
+    /// The keyword or the parenthesis of a primary that contains other patterns, and the tokens after it.
     pub fn find_opening<'t, 'a>(self, tokens: &'t [Token<'a>]) -> Option<(Opening, &'t [Token<'a>])>
         ensures reads { option_map (λ x. (x.0, lexemes_in self.count x.1.now)) result ≡ opening_front (lexemes_in self.count tokens.now) }
         ensures shorter { IfSome result (λ x. length x.1.now < length tokens.now) }
@@ -129,7 +129,7 @@ impl Reader {
         }
     }
 
-    /// A define's name, or nothing for a start, with its method.
+    /// Reads the name of a define, or `start` as no name, and then the method.
     #[tactic(auto, unfolding(crate::specs::plain::Productions::assigned_at))]
     pub fn assigned<'t, 'a>(
         self,
@@ -154,7 +154,7 @@ impl Reader {
         }
     }
 
-    /// The number of `include`, if it stands in front and may, and the tokens after it.
+    /// The number of `include`, if it is first and allowed here, and the tokens after it.
     pub fn find_include<'t, 'a>(
         self,
         setting: Setting,
@@ -175,7 +175,7 @@ impl Reader {
         }
     }
 
-    /// One pattern in a list of its own.
+    /// A list of one pattern.
     pub fn alone<'a>(self, pattern: Pattern<'a>) -> Result<Vec<Pattern<'a>>, ReadFault>
         ensures { Gives stop_of (λ all. map pattern_of all.items) result (Ok (pattern_of pattern.entry ∷ [])) }
     {
@@ -184,7 +184,7 @@ impl Reader {
         Ok(all)
     }
 
-    /// The connector in front.
+    /// The connector that is first, if there is one.
     pub fn separator(self, tokens: &[Token<'_>]) -> Option<Sign>
         ensures { result ≡ separator_of (lexemes_in self.count tokens.now) }
     {
@@ -199,7 +199,7 @@ impl Reader {
         }
     }
 
-    /// The name of a datatype in front, and the tokens after it.
+    /// The name of a datatype at the front, and the tokens after it.
     fn find_type<'t, 'a>(
         self,
         tokens: &'t [Token<'a>],
@@ -218,7 +218,7 @@ impl Reader {
         }
     }
 
-    /// The name of a datatype in front, and the tokens after it, where no segment follows.
+    /// The name of a datatype at the front, and the tokens after it, unless a segment follows.
     pub fn find_data<'t, 'a>(
         self,
         tokens: &'t [Token<'a>],
@@ -233,7 +233,7 @@ impl Reader {
         Some((type_name, rest))
     }
 
-    /// A value or a datatype after its name: `literal` or `[params]`.
+    /// Reads a value or a datatype after its name: `literal` or `[params]`.
     #[tactic(auto, unfolding(crate::specs::plain::Productions::typed_at))]
     fn typed<'t, 'a>(
         self,
@@ -251,7 +251,7 @@ impl Reader {
         Ok((Pattern::Data(type_name, parameters), rest))
     }
 
-    /// A pattern that one token is, and the tokens after it.
+    /// A pattern that is a single token, and the tokens after it.
     fn find_lone<'t, 'a>(self, tokens: &'t [Token<'a>]) -> Option<(Pattern<'a>, &'t [Token<'a>])>
         ensures reads { option_map (λ x. (pattern_of x.0, lexemes_in self.count x.1.now)) result ≡ lone_front (lexemes_in self.count tokens.now) }
         ensures shorter { IfSome result (λ x. length x.1.now < length tokens.now) }
@@ -270,7 +270,7 @@ impl Reader {
         }
     }
 
-    /// A primary of more tokens that begins with no datatype and holds no other pattern.
+    /// Reads a primary of more than one token that does not begin with a datatype and contains no other pattern.
     #[tactic(auto, unfolding(crate::specs::plain::Productions::other_at))]
     fn other<'t, 'a>(
         self,
@@ -300,7 +300,7 @@ impl Reader {
         }
     }
 
-    /// A primary that holds no other pattern.
+    /// Reads a primary that contains no other pattern.
     #[tactic(auto, unfolding(crate::specs::plain::Productions::atom_at))]
     pub fn atom<'t, 'a>(
         self,
@@ -318,7 +318,7 @@ impl Reader {
         }
     }
 
-    /// How a component is joined with others: `"=" | "|=" | "&="`.
+    /// Reads how a component is combined with others: `"=" | "|=" | "&="`.
     #[tactic(auto, unfolding(crate::specs::plain::Productions::method_at))]
     pub fn method<'t, 'a>(
         self,
@@ -338,7 +338,7 @@ impl Reader {
         }
     }
 
-    /// What `?`, `*` or `+` in front makes of a pattern.
+    /// Reads `?`, `*` or `+` after a pattern, if there is one, and returns the repeated pattern.
     pub fn repeated<'t, 'a>(
         self,
         pattern: Pattern<'a>,

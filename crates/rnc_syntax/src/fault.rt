@@ -7,24 +7,24 @@ use rng_model::OutOfMemory;
 /// Why tokens have no syntax tree.
 #[derive(Clone, Copy)]
 pub enum SyntaxFault {
-    /// At some token the brackets open up to it are more than 128.
+    /// More than 128 brackets are open at some token.
     TooDeep,
-    /// The tokens, which are numbered from 1, are no sentence: some sentence begins with those before the one with this
-    /// number, and none with those up to and with it. One more than there are tokens stands for their end.
+    /// The tokens, which are numbered from 1, are no sentence. Some sentence begins with the tokens before the one with
+    /// this number, and none with those up to and including it. The number of tokens plus one refers to their end.
     Unexpected { number: u64 },
-    /// Memory ran out, which says nothing about the tokens.
+    /// Out of memory. Says nothing about the tokens.
     Memory,
 }
 
-/// What stops the reading of tokens: a token that no production allows where it stands, counted with those after it,
-/// or the end of the tokens, which counts 0; or too many open brackets.
+/// Why reading stops: a token that no production allows here, too many open brackets, or the end of the tokens. A token
+/// is counted from the end: the last one is 1, and the end is 0.
 #[derive(Clone, Copy)]
 pub enum Stop {
     Unexpected(usize),
     TooDeep,
 }
 
-/// Why nothing was read.
+/// Why nothing could be read.
 #[derive(Clone, Copy)]
 pub enum ReadFault {
     Stop(Stop),

@@ -1,4 +1,4 @@
-// Reading files: declarations, and what follows them.
+// Reading files: declarations, and the body after them.
 ghost use Rattle.std.specs.Prelude.{◌≡◌, ◌<◌, ◌≤◌, map, length, IfOk};
 ghost use Rattle.rnc_syntax.specs.plain.Reading.{lexemes_in};
 ghost use Rattle.rng_model.specs.plain.Answers.{Gives};
@@ -28,7 +28,7 @@ impl Reader {
         }
     }
 
-    /// Whether a method stands in front.
+    /// Whether the first token is a method.
     fn begins_with_method(self, tokens: &[Token<'_>]) -> bool
         ensures { result ≡ is_method_front (lexemes_in self.count tokens.now) }
     {
@@ -43,8 +43,8 @@ impl Reader {
         }
     }
 
-    /// Whether what follows the declarations is a grammar: a component's keyword, or an identifier and a method; or no
-    /// tokens, where it may have none.
+    /// Whether the body is a grammar: it begins with a component's keyword, or with an identifier and a method, or it
+    /// has no tokens where that is allowed.
     fn begins_grammar(self, may_be_empty: bool, tokens: &[Token<'_>]) -> bool
         ensures { result ≡ is_grammar_body may_be_empty (lexemes_in self.count tokens.now) }
     {
@@ -62,7 +62,7 @@ impl Reader {
         }
     }
 
-    /// `literal | "inherit"`.
+    /// Reads `literal | "inherit"`.
     #[tactic(auto, unfolding(crate::specs::plain::Productions::uri_at))]
     fn uri<'t, 'a>(self, tokens: &'t [Token<'a>]) -> Result<(Uri<'a>, &'t [Token<'a>]), ReadFault>
         ensures reads { Gives stop_of (λ x. (uri_of x.0, lexemes_in self.count x.1.now)) result (uri_at (lexemes_in self.count tokens.now)) }
@@ -77,7 +77,7 @@ impl Reader {
         }
     }
 
-    /// `word "=" uri`.
+    /// Reads `word "=" uri`.
     #[tactic(auto, unfolding(crate::specs::plain::Productions::prefix_at))]
     fn prefix<'t, 'a>(
         self,
@@ -92,7 +92,7 @@ impl Reader {
         Ok((prefix, uri, rest))
     }
 
-    /// What follows `default namespace`: `[word] "=" uri`.
+    /// Reads what follows `default namespace`: `[word] "=" uri`.
     #[tactic(auto, unfolding(crate::specs::plain::Productions::default_at))]
     fn default_namespace<'t, 'a>(
         self,
@@ -119,7 +119,7 @@ impl Reader {
         }
     }
 
-    /// One declaration.
+    /// Reads one declaration.
     #[tactic(auto, unfolding(crate::specs::plain::Productions::declaration_at))]
     fn declaration<'t, 'a>(
         self,
@@ -148,7 +148,7 @@ impl Reader {
         }
     }
 
-    /// The declarations at the start of a file.
+    /// Reads the declarations at the start of a file.
     #[tactic(auto, unfolding(crate::specs::plain::Productions::declarations_at))]
     fn declarations<'t, 'a>(
         self,
@@ -167,7 +167,7 @@ impl Reader {
         Ok((all, rest))
     }
 
-    /// What follows the declarations.
+    /// Reads the body of a file.
     #[tactic(auto, unfolding(crate::specs::plain::Productions::body_with, crate::specs::plain::Productions::bare_body_with))]
     fn body<'t, 'a>(
         self,
@@ -190,7 +190,7 @@ impl Reader {
         }
     }
 
-    /// What follows the declarations, behind the annotation of its pattern or its first component.
+    /// Reads the body of a file after the annotation of its pattern or of its first component.
     #[tactic(auto, unfolding(crate::specs::plain::Productions::annotated_body_with))]
     fn annotated_body<'t, 'a>(
         self,
@@ -211,7 +211,7 @@ impl Reader {
         }
     }
 
-    /// A whole file, inside which so many brackets may be open.
+    /// Reads a whole file in which at most `levels` brackets may be open.
     #[tactic(auto, unfolding(crate::specs::plain::Productions::file_with))]
     pub fn file<'a>(self, levels: u8, tokens: &[Token<'a>]) -> Result<File<'a>, ReadFault>
         ensures { Gives stop_of file_of result (file_with (inside_at levels) (lexemes_in self.count tokens.now)) }

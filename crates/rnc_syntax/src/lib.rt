@@ -1,9 +1,9 @@
 //! From the tokens of a schema file to its syntax tree, as it is written.
 //!
-//! `read_syntax` answers the tree exactly where the tokens are a sentence of the grammar of the compact syntax that nests
-//! within 128 brackets, and a sentence has one tree. Other tokens get the fault that they have, and where they are no
-//! sentence the number of a token: some sentence begins with the tokens before it, and none with those up to and with it.
-//! Declarations and prefixes are not looked at, annotations are skipped, and only want of memory keeps the answer back.
+//! `read_syntax` returns the tree exactly if the tokens are a sentence of the grammar of the compact syntax and nest
+//! within 128 brackets. A sentence has one tree. For other tokens the call fails. If they are no sentence, the fault has
+//! the number of a token: some sentence begins with the tokens before it, and none with those up to and including it.
+//! Declarations and prefixes are not checked, and annotations are skipped. The only other failure is out of memory.
 #![tactic(auto)]
 
 mod annotations;

@@ -14,7 +14,7 @@ use crate::syntax_tree::{Literal, Mention, Parameter};
 use rnc_text::{Keyword, Sign, Token, TokenKind};
 
 impl Reader {
-    /// The segments of a literal: `segment ("~" segment)*`.
+    /// Reads the segments of a literal: `segment ("~" segment)*`.
     #[tactic(auto, unfolding(crate::specs::plain::Productions::literal_at))]
     pub fn literal<'t, 'a>(
         self,
@@ -30,7 +30,7 @@ impl Reader {
         Ok((Literal { segments }, rest))
     }
 
-    /// The segments so far and those that follow, each with `~` before it.
+    /// Reads the segments that follow, each after a `~`, and appends them.
     fn more_segments<'t, 'a>(
         self,
         mut segments: Vec<&'a str>,
@@ -48,7 +48,7 @@ impl Reader {
         Ok((segments, rest))
     }
 
-    /// A parameter without its annotation, or what `datatypes` declares: `word "=" literal`.
+    /// Reads a parameter without its annotation, or what `datatypes` declares: `word "=" literal`.
     #[tactic(auto, unfolding(crate::specs::plain::Productions::parameter_at))]
     pub fn parameter<'t, 'a>(
         self,
@@ -63,7 +63,7 @@ impl Reader {
         Ok((Parameter { name, value }, rest))
     }
 
-    /// A parameter of a datatype: `[annotation] word "=" literal`.
+    /// Reads a parameter of a datatype: `[annotation] word "=" literal`.
     #[tactic(auto, unfolding(crate::specs::plain::Productions::annotated_parameter_at))]
     fn annotated_parameter<'t, 'a>(
         self,
@@ -76,7 +76,7 @@ impl Reader {
         self.parameter(rest)
     }
 
-    /// The parameters of a datatype, in braces, if a brace opens: `["{" param* "}"]`.
+    /// Reads the parameters of a datatype in braces, if there are any: `["{" param* "}"]`.
     #[tactic(auto, unfolding(crate::specs::plain::Productions::parameters_at, crate::specs::plain::Productions::in_braces_at))]
     pub fn parameters<'t, 'a>(
         self,
@@ -95,7 +95,7 @@ impl Reader {
         }
     }
 
-    /// Parameters one after another.
+    /// Reads parameters up to the first token that begins none.
     fn parameter_list<'t, 'a>(
         self,
         tokens: &'t [Token<'a>],
@@ -113,7 +113,7 @@ impl Reader {
         Ok((parameters, rest))
     }
 
-    /// The prefix that a mention names: `["inherit" "=" word]`.
+    /// Reads the prefix that a mention names: `["inherit" "=" word]`.
     #[tactic(auto, unfolding(crate::specs::plain::Productions::inherit_at, crate::specs::plain::Productions::word_after_equal))]
     pub fn inherit<'t, 'a>(
         self,
@@ -132,7 +132,7 @@ impl Reader {
         }
     }
 
-    /// A mention, after its keyword, which has this number: `literal [inherit]`.
+    /// Reads a mention after its keyword, which has this number: `literal [inherit]`.
     #[tactic(auto, unfolding(crate::specs::plain::Productions::mention_at))]
     pub fn mention<'t, 'a>(
         self,
@@ -155,7 +155,7 @@ impl Reader {
     }
 }
 
-/// Whether a parameter begins here, or its annotation.
+/// Whether a parameter or its annotation begins here.
 fn begins_parameter(tokens: &[Token<'_>]) -> bool
     ensures { (count : ℕ) → parameter_front (lexemes_in count tokens.now) ≡ (if result then Some (lexemes_in count tokens.now) else None) }
 {

@@ -36,7 +36,7 @@ fn prefixed(text: &str) -> NameClass<'_>
     })
 }
 
-/// All names, or those of a prefix, without those of a class.
+/// All names, or those of a prefix, except those of a class.
 fn except<'a>(prefix: Option<&'a str>, class: Box<NameClass<'a>>) -> NameClass<'a>
     ensures { class_of result ≡ excepted (option_map (λ p. p.now) prefix.entry) (class_of class.entry.value) }
 {
@@ -47,7 +47,7 @@ fn except<'a>(prefix: Option<&'a str>, class: Box<NameClass<'a>>) -> NameClass<'
 }
 
 impl Reader {
-    /// `*` or `p:*` in front, and the tokens after it.
+    /// `*` or `p:*` at the front, and the tokens after it.
     fn find_wide<'t, 'a>(
         self,
         tokens: &'t [Token<'a>],
@@ -65,7 +65,7 @@ impl Reader {
         }
     }
 
-    /// `*` or `p:*` in front, with `-` after it, and the tokens after that.
+    /// `*` or `p:*` and then `-` at the front, and the tokens after them.
     fn find_except<'t, 'a>(
         self,
         tokens: &'t [Token<'a>],
@@ -78,7 +78,7 @@ impl Reader {
         Some((prefix, rest))
     }
 
-    /// A name class that stands in so many brackets less than may be open:
+    /// Reads a name class inside which at most `levels` brackets may be open:
     /// `basic | basic ("|" basic)+ | [annotation] (nsName | "*") "-" basic`.
     #[cycle(classes)]
     #[tactic(auto, unfolding(crate::specs::plain::Productions::class_with))]
@@ -94,7 +94,7 @@ impl Reader {
         self.bare_class(levels, rest)
     }
 
-    /// A name class behind an annotation.
+    /// Reads a name class after an annotation.
     #[cycle(classes)]
     #[tactic(auto, unfolding(crate::specs::plain::Productions::bare_class_with))]
     fn bare_class<'t, 'a>(
@@ -118,7 +118,7 @@ impl Reader {
         }
     }
 
-    /// A class and those that follow, each with `|` before it.
+    /// Reads the classes that follow the first one, each after a `|`.
     #[cycle(classes)]
     #[tactic(auto, unfolding(crate::specs::plain::Productions::choice_with))]
     fn choice<'t, 'a>(
@@ -141,7 +141,7 @@ impl Reader {
         }
     }
 
-    /// The classes so far and those that follow, each with `|` before it.
+    /// Reads the classes that follow, each after a `|`, and appends them.
     #[cycle(classes)]
     fn more_classes<'t, 'a>(
         self,
@@ -161,7 +161,7 @@ impl Reader {
         Ok((all, rest))
     }
 
-    /// `[annotation] ( word | CName | nsName | "*" | "(" class ")" )`.
+    /// Reads `[annotation] ( word | CName | nsName | "*" | "(" class ")" )`.
     #[cycle(classes)]
     #[tactic(auto, unfolding(crate::specs::plain::Productions::basic_with))]
     fn basic<'t, 'a>(
@@ -176,7 +176,7 @@ impl Reader {
         self.bare_basic(levels, rest)
     }
 
-    /// `word | CName | nsName | "*" | "(" class ")"`.
+    /// Reads `word | CName | nsName | "*" | "(" class ")"`.
     #[cycle(classes)]
     #[tactic(auto, unfolding(crate::specs::plain::Productions::bare_basic_with, crate::specs::plain::Productions::class_in_parens))]
     fn bare_basic<'t, 'a>(
@@ -206,7 +206,7 @@ impl Reader {
         }
     }
 
-    /// A name class in one bracket more.
+    /// Reads a name class one bracket deeper.
     #[cycle(classes)]
     #[tactic(auto, using(crate::proofs::InsideBrackets::class_step, crate::proofs::InsideBrackets::class_too_deep))]
     fn inner_class<'t, 'a>(

@@ -6,7 +6,7 @@ ghost use Rattle.rnc_model.specs.tokens.Cut.{tokens_of};
 
 use rnc_text::{Sign, Token, TokenKind};
 
-/// How many brackets may be open.
+/// The largest number of brackets that may be open at once.
 pub const NESTING_LIMIT: u8 = 128;
 
 /// Whether a token of this kind opens a bracket.
@@ -29,7 +29,7 @@ fn closes(kind: TokenKind) -> bool
     }
 }
 
-/// Whether at no token the opening brackets up to it exceed the closing ones up to it by more than the limit.
+/// Whether at each token the opening brackets up to it exceed the closing ones by at most the limit.
 pub fn nests_within_limit(tokens: &[Token<'_>]) -> bool
     ensures { MatchBool result (NestsWithin nesting_limit (lexemes (tokens_of tokens.now))) (BreaksNesting (lexemes (tokens_of tokens.now))) }
 {

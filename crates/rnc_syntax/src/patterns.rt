@@ -14,7 +14,7 @@ use crate::syntax_tree::{Component, DatatypeName, Parameter, Pattern};
 use rnc_text::{Keyword, Sign, Token};
 
 impl Reader {
-    /// A pattern in one bracket more.
+    /// Reads a pattern one bracket deeper.
     #[cycle(patterns)]
     #[tactic(auto, using(crate::proofs::InsideBrackets::pattern_step, crate::proofs::InsideBrackets::pattern_too_deep))]
     fn inner_pattern<'t, 'a>(
@@ -31,7 +31,7 @@ impl Reader {
         self.pattern(levels - 1, tokens)
     }
 
-    /// Components in one bracket more.
+    /// Reads components one bracket deeper.
     #[cycle(patterns)]
     #[tactic(auto, using(crate::proofs::InsideBrackets::components_step, crate::proofs::InsideBrackets::components_too_deep))]
     fn inner_components<'t, 'a>(
@@ -49,7 +49,7 @@ impl Reader {
         self.components(levels - 1, setting, tokens)
     }
 
-    /// `"{" pattern "}"`.
+    /// Reads `"{" pattern "}"`.
     #[cycle(patterns)]
     #[tactic(auto, unfolding(crate::specs::plain::Productions::braced_with, crate::specs::plain::Productions::in_braces_at))]
     fn braced<'t, 'a>(
@@ -66,7 +66,7 @@ impl Reader {
         Ok((Box::new(self.alloc, body)?, rest))
     }
 
-    /// `"{" content* "}"` or `"{" over* "}"`.
+    /// Reads `"{" content* "}"` or `"{" over* "}"`.
     #[cycle(patterns)]
     #[tactic(auto, unfolding(crate::specs::plain::Productions::contents_with, crate::specs::plain::Productions::in_braces_at))]
     fn contents<'t, 'a>(
@@ -84,7 +84,7 @@ impl Reader {
         Ok((components, rest))
     }
 
-    /// How a primary that holds other patterns goes on after its keyword or its parenthesis.
+    /// Reads a primary that contains other patterns, after its keyword or its parenthesis.
     #[cycle(patterns)]
     #[tactic(auto, unfolding(crate::specs::plain::Productions::opened_with, crate::specs::plain::Productions::named_with, crate::specs::plain::Productions::parens_with))]
     fn opened<'t, 'a>(
@@ -127,7 +127,7 @@ impl Reader {
         }
     }
 
-    /// A pattern that no connector and no repetition splits.
+    /// Reads a primary: a pattern without a connector or a repetition outside brackets.
     #[cycle(patterns)]
     #[tactic(auto, unfolding(crate::specs::plain::Productions::primary_with))]
     fn primary<'t, 'a>(
@@ -142,7 +142,7 @@ impl Reader {
         self.bare_primary(levels, rest)
     }
 
-    /// The same, behind its annotation.
+    /// Reads a primary after its annotation.
     #[cycle(patterns)]
     #[tactic(auto, unfolding(crate::specs::plain::Productions::bare_primary_with))]
     fn bare_primary<'t, 'a>(
@@ -159,7 +159,7 @@ impl Reader {
         }
     }
 
-    /// `primary | primary "?" | primary "*" | primary "+"`.
+    /// Reads `primary | primary "?" | primary "*" | primary "+"`.
     #[cycle(patterns)]
     #[tactic(auto, unfolding(crate::specs::plain::Productions::particle_with))]
     fn particle<'t, 'a>(
@@ -174,7 +174,7 @@ impl Reader {
         self.repeated(primary, rest)
     }
 
-    /// The patterns so far and those that follow, each with this connector before it.
+    /// Reads the patterns that follow, each after this connector, and appends them.
     #[cycle(patterns)]
     fn more<'t, 'a>(
         self,
@@ -195,7 +195,7 @@ impl Reader {
         Ok((all, rest))
     }
 
-    /// A pattern whose first primary has been read.
+    /// Reads the rest of a pattern after its first primary.
     #[cycle(patterns)]
     fn pattern_from<'t, 'a>(
         self,
@@ -210,7 +210,7 @@ impl Reader {
         self.members(levels, first, rest)
     }
 
-    /// A pattern whose first particle has been read.
+    /// Reads the rest of a pattern after its first particle.
     #[cycle(patterns)]
     #[tactic(auto, unfolding(crate::specs::plain::Productions::rest_with))]
     fn members<'t, 'a>(
@@ -232,7 +232,7 @@ impl Reader {
         }
     }
 
-    /// A pattern that begins with a datatype and its parameters.
+    /// Reads a pattern that begins with a datatype and its parameters.
     #[cycle(patterns)]
     #[tactic(auto, unfolding(crate::specs::plain::Productions::data_with))]
     fn data<'t, 'a>(
@@ -255,7 +255,7 @@ impl Reader {
         }
     }
 
-    /// A pattern, inside which so many brackets may be open.
+    /// Reads a pattern inside which at most `levels` brackets may be open.
     #[cycle(patterns)]
     #[tactic(auto, unfolding(crate::specs::plain::Productions::pattern_with))]
     pub fn pattern<'t, 'a>(
@@ -270,7 +270,7 @@ impl Reader {
         self.bare_pattern(levels, rest)
     }
 
-    /// The same, behind an annotation.
+    /// Reads a pattern after an annotation.
     #[cycle(patterns)]
     #[tactic(auto, unfolding(crate::specs::plain::Productions::bare_pattern_with))]
     pub fn bare_pattern<'t, 'a>(
@@ -293,7 +293,7 @@ impl Reader {
         }
     }
 
-    /// The components in the braces of an include, if there are braces.
+    /// Reads the components in the braces of an include, if there are braces.
     #[cycle(patterns)]
     #[tactic(auto, unfolding(crate::specs::plain::Productions::overrides_with))]
     fn overrides<'t, 'a>(
@@ -310,7 +310,7 @@ impl Reader {
         }
     }
 
-    /// One component.
+    /// Reads one component.
     #[cycle(patterns)]
     #[tactic(auto, unfolding(crate::specs::plain::Productions::component_with))]
     fn component<'t, 'a>(
@@ -326,7 +326,7 @@ impl Reader {
         self.bare_component(levels, setting, rest)
     }
 
-    /// One component, behind its annotation.
+    /// Reads one component after its annotation.
     #[cycle(patterns)]
     #[tactic(auto, unfolding(crate::specs::plain::Productions::bare_component_with))]
     pub fn bare_component<'t, 'a>(
@@ -352,7 +352,7 @@ impl Reader {
         Ok((component(name, method, body), rest))
     }
 
-    /// Components one after another, inside which so many brackets may be open.
+    /// Reads a list of components inside which at most `levels` brackets may be open.
     #[cycle(patterns)]
     #[tactic(auto, unfolding(crate::specs::plain::Productions::components_with))]
     pub fn components<'t, 'a>(

@@ -12,15 +12,15 @@ use crate::fault::{ReadFault, Stop};
 use rnc_text::{Keyword, Sign, Token, TokenKind};
 use std::alloc::Global;
 
-/// The same tokens. A loop that goes on with tokens out of an answer takes them through this call, by which the check
-/// knows how long they live.
+/// Returns the same tokens. A loop that continues with tokens out of a result takes them through this call. So the
+/// check knows how long they live.
 pub fn onward<'t, 'a>(tokens: &'t [Token<'a>]) -> &'t [Token<'a>]
     ensures { result.now ≡ tokens.now }
 {
     tokens
 }
 
-/// The prefix of a name, which is all before its first colon, and the local part, which is all after it.
+/// Splits a name at its first colon into prefix and local part.
 pub fn split_name(text: &str) -> (&str, &str)
     ensures prefix { result.0.now ≡ prefix_in text.now }
     ensures local { result.1.now ≡ local_in text.now }
@@ -31,7 +31,7 @@ pub fn split_name(text: &str) -> (&str, &str)
     }
 }
 
-/// A reader of the tokens of a file, which are so many.
+/// A reader of the tokens of a file. `count` is the number of all its tokens.
 #[derive(Clone, Copy)]
 pub struct Reader {
     pub alloc: Global,
@@ -39,7 +39,7 @@ pub struct Reader {
 }
 
 impl Reader {
-    /// The fault where no production allows the first of these tokens, or their end.
+    /// The fault if no production allows the first of these tokens, or their end.
     #[tactic(auto, using(crate::proofs::Lexemes::length_of_lexemes))]
     pub fn unexpected(self, tokens: &[Token<'_>]) -> ReadFault
         ensures { result ≡ read_faults.Stop (Unexpected (length (lexemes_in self.count tokens.now))) }
@@ -47,7 +47,7 @@ impl Reader {
         ReadFault::Stop(Stop::Unexpected(tokens.len()))
     }
 
-    /// The tokens after this sign, where it stands in front.
+    /// The tokens after this sign, if it is first.
     pub fn find_after<'t, 'a>(self, sign: Sign, tokens: &'t [Token<'a>]) -> Option<&'t [Token<'a>]>
         ensures reads { option_map (λ x. lexemes_in self.count x.now) result ≡ follow sign (lexemes_in self.count tokens.now) }
         ensures shorter { IfSome result (λ x. length x.now < length tokens.now) }
@@ -58,7 +58,7 @@ impl Reader {
         }
     }
 
-    /// The tokens after this sign, which has to stand in front.
+    /// Skips this sign. Fails if it is not first.
     #[tactic(auto, unfolding(crate::specs::plain::Combinators::after))]
     pub fn skip<'t, 'a>(
         self,
@@ -74,7 +74,7 @@ impl Reader {
         }
     }
 
-    /// The tokens after this keyword, where it stands in front.
+    /// The tokens after this keyword, if it is first.
     pub fn find_after_keyword<'t, 'a>(
         self,
         keyword: Keyword,
@@ -89,7 +89,7 @@ impl Reader {
         }
     }
 
-    /// The tokens after this keyword, which has to stand in front.
+    /// Skips this keyword. Fails if it is not first.
     #[tactic(auto, unfolding(crate::specs::plain::Combinators::after_keyword))]
     pub fn skip_keyword<'t, 'a>(
         self,
@@ -105,7 +105,7 @@ impl Reader {
         }
     }
 
-    /// The name that a word in front says: an identifier or a keyword.
+    /// Reads a word, which is an identifier or a keyword, and returns its name.
     #[tactic(auto, unfolding(crate::specs::plain::Combinators::word_at))]
     pub fn word<'t, 'a>(
         self,
@@ -125,7 +125,7 @@ impl Reader {
         }
     }
 
-    /// The name that an identifier in front says.
+    /// Reads an identifier and returns its name.
     #[tactic(auto, unfolding(crate::specs::plain::Combinators::identifier_at))]
     pub fn identifier<'t, 'a>(
         self,
@@ -143,7 +143,7 @@ impl Reader {
         }
     }
 
-    /// What a segment in front holds.
+    /// Reads a segment and returns its text.
     #[tactic(auto, unfolding(crate::specs::plain::Combinators::segment_at))]
     pub fn segment<'t, 'a>(
         self,

@@ -19,7 +19,7 @@ use crate::syntax_tree::File;
 use rnc_text::Token;
 use std::alloc::Global;
 
-/// The fault of tokens whose reading stopped so.
+/// The fault of tokens for which reading stops so.
 #[tactic(auto, using(crate::proofs::Lexemes::count_of_lexemes))]
 fn fault_of(tokens: &[Token<'_>], stop: Stop) -> SyntaxFault
     ensures { result ≡ fault_at (length (lexemes (tokens_of tokens.now))) stop }
@@ -32,7 +32,7 @@ fn fault_of(tokens: &[Token<'_>], stop: Stop) -> SyntaxFault
     }
 }
 
-/// The syntax tree of these tokens, or the fault where their reading stops.
+/// Reads the tokens of a file that nest within the limit. Fails where reading stops.
 fn read<'a>(alloc: Global, tokens: &[Token<'a>]) -> Result<File<'a>, SyntaxFault>
     ensures { Gives unless_memory file_of result (told (length (lexemes (tokens_of tokens.now))) (file_with (inside_at nesting_limit) (lexemes (tokens_of tokens.now)))) }
 {
@@ -47,21 +47,23 @@ fn read<'a>(alloc: Global, tokens: &[Token<'a>]) -> Result<File<'a>, SyntaxFault
     }
 }
 
-/// The syntax tree of the schema file that has these tokens.
+/// Reads the syntax tree of the schema file that has these tokens.
 ///
-/// The tokens are all of the file's, in order, and numbered from 1. Of each its kind and its text count, and of the word
-/// `include` or `external` its number too, which the tree tells; where a token lies in the text does not matter. A sentence
-/// of the grammar has one syntax tree, and it is answered where `{` and `(` nest within the limit; else the fault is
+/// `tokens` are all tokens of the file, in order, and are numbered from 1. Their kinds and texts matter, but not their
+/// positions in the text. The tree has the numbers of the words `include` and `external`.
 ///
-/// - `TooDeep`, where at some token the `{` and `(` up to it exceed the `}` and `)` up to it by more than 128;
-/// - `Unexpected`, where they do so at none and the tokens are no sentence, with the number of the first token such that
-///   no sentence begins with the tokens up to and with it, or with one more than there are tokens.
+/// A sentence of the grammar has one syntax tree. The call returns it if `{` and `(` nest within the limit. Otherwise
+/// it fails with
 ///
-/// `Memory` answers that there was no memory for the tree, and says nothing about the tokens.
+/// - `TooDeep` if at some token the `{` and `(` up to it exceed the `}` and `)` up to it by more than 128;
+/// - `Unexpected` if this holds at no token and the tokens are no sentence. The number is that of the first token such
+///   that no sentence begins with the tokens up to and including it, or the number of tokens plus one.
 ///
-/// Annotations are skipped, however deep they nest, and leave no trace in the tree; their tokens are numbered as all are.
+/// Fails with `Memory` only when out of memory, which says nothing about the tokens.
 ///
-/// Takes time and memory in proportion to the tokens; the tree borrows their texts. Recurses as deep as `{` and `(` nest.
+/// Annotations are skipped, at any depth, and are not in the tree. Their tokens are numbered like all others.
+///
+/// Takes time and memory linear in the tokens. The tree borrows their texts. Recurses as deep as `{` and `(` nest.
 ///
 /// RELAX NG Compact Syntax, "Syntax", "Annotations".
 #[tactic(auto, using(crate::proofs::CompletenessFiles::unique))]

@@ -1,4 +1,4 @@
-// The syntax tree of a schema file: as it is written, with prefixes and the segments of its literals.
+// The syntax tree of a schema file as it is written, with prefixes and the segments of its literals.
 use rng_model::Method;
 
 /// A name, with its prefix if it is written with one.
@@ -10,7 +10,7 @@ pub struct QualifiedName<'a> {
     pub local: &'a str,
 }
 
-/// A literal by its segments, without their quotes and the `~` between them.
+/// A literal as its segments, without their quotes and without the `~` between them.
 ///
 /// RELAX NG Compact Syntax, "Syntax" (`literal`).
 #[derive(Drop)]
@@ -27,7 +27,7 @@ pub enum NameClass<'a> {
     Any,
     /// `* - ..`
     AnyExcept(Box<NameClass<'a>>),
-    /// `p:*`, by its prefix.
+    /// `p:*`, with its prefix.
     Ns(&'a str),
     /// `p:* - ..`
     NsExcept(&'a str, Box<NameClass<'a>>),
@@ -46,7 +46,7 @@ pub enum DatatypeName<'a> {
     Prefixed { prefix: &'a str, local: &'a str },
 }
 
-/// A word and the literal that is given to it: a parameter of a datatype, or a datatype prefix and its uri.
+/// A word and its literal: a parameter of a datatype, or a datatype prefix and its uri.
 ///
 /// RELAX NG Compact Syntax, "Syntax" (`param`).
 #[derive(Drop)]
@@ -55,8 +55,10 @@ pub struct Parameter<'a> {
     pub value: Literal<'a>,
 }
 
-/// A mention of another file: its name as it is written, the prefix of the namespace that it inherits, if one is named,
-/// and the number, from 1, of the word `include` or `external` among the tokens.
+/// A mention of another file.
+///
+/// It has the file name as it is written. It has the prefix of the namespace that the file inherits, if one is named. It
+/// has the number, from 1, of the word `include` or `external` among the tokens.
 ///
 /// RELAX NG Compact Syntax, "Syntax" (`include`, `external`).
 #[derive(Drop)]
@@ -66,7 +68,7 @@ pub struct Mention<'a> {
     pub token: usize,
 }
 
-/// A pattern. Parentheses leave no trace.
+/// A pattern. Parentheses are not in the tree.
 ///
 /// RELAX NG Compact Syntax, "Syntax" (`pattern`).
 #[cycle(syntax_tree)]
@@ -87,11 +89,11 @@ pub enum Pattern<'a> {
     Empty,
     Text,
     NotAllowed,
-    /// A literal of a datatype; one without a datatype is a `token`.
+    /// A literal of a datatype. One without a datatype is a `token`.
     Value(DatatypeName<'a>, Literal<'a>),
-    /// A datatype with its parameters, in the order in which they are written.
+    /// A datatype with its parameters, in the order of the file.
     Data(DatatypeName<'a>, Vec<Parameter<'a>>),
-    /// The same, and what it excepts.
+    /// A datatype with its parameters, and the pattern that it excludes.
     DataExcept(DatatypeName<'a>, Vec<Parameter<'a>>, Box<Pattern<'a>>),
     External(Mention<'a>),
     Grammar(Vec<Component<'a>>),
@@ -112,7 +114,7 @@ pub enum Component<'a> {
     Start(Method, Pattern<'a>),
     Define(&'a str, Method, Pattern<'a>),
     Div(Vec<Component<'a>>),
-    /// A grammar of another file, and the components that stand in its braces.
+    /// A grammar of another file, and the components in the braces.
     Include(Mention<'a>, Vec<Component<'a>>),
 }
 

@@ -60,7 +60,7 @@ pub after_out : (class : Class) (c : Character) (cs : List Character) → is_in 
 unfolding after
 after_out class c cs e = rw e refl
 
--- the front of characters that begin with some of the class
+-- the front of a list that begins with characters of the class
 pub front_append : (class : Class) (w rest : List Character) → AllIn class w → front class (w ++ rest) ≡ w ++ front class rest
 front_append class [] rest h = refl
 front_append class (c ∷ w) rest h = let p = and_parts (is_in class c) (list_all (is_in class) w) h in front_in class c (w ++ rest) p.0
@@ -107,7 +107,7 @@ first_in c e = let p = and_parts (is_name_start c) (not (is_colon c)) e in rw (p
 pub name_all : (name : List Character) → IsNcname name → AllIn classes.Ncname name
 name_all name h = let n = name_of name h in subst (AllIn classes.Ncname) (sym n.is) (rw (first_in n.first n.starts) n.goes_on)
 
--- where an NCName begins, the front is one
+-- where an NCName begins, the front of name characters is one
 pub front_name : (cs : List Character) → begins_ncname cs ≡ true → IsNcname (front classes.Ncname cs)
 front_name [] e = absurd (false≢true e)
 front_name (LineEnd ∷ cs) e = absurd (false≢true e)

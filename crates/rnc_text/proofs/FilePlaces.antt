@@ -1,4 +1,4 @@
--- From offsets to lines and columns: what the loops keep, and the places that they come to.
+-- From offsets to lines and columns: the invariants of the loops, and the places that they reach.
 use Rattle.std.proofs.Common.{◌≡◌, ℕ, suc, ◌+◌, ◌-◌, ◌<◌, ◌≤◌, Bool, true, false, List, [], ◌∷◌, ◌++◌, length, take, Some, None}
 use Rattle.std.proofs.Common.{refl, sym, ap, subst, ◌∙◌, arith}
 use Rattle.std.specs.Char.{encode_utf8}
@@ -19,8 +19,8 @@ use Rattle.rnc_text.proofs.OneDecoding.{parts}
 
 -- ---- lines and columns
 
--- Where the characters after a place take so many bytes, the place has the line and the column that it has from here, where this is left and the line
--- and the column are these.
+-- If the characters after a place have `left` bytes, the place has the line and the column that are counted from `line`
+-- and `column` over `rest`.
 abbrev pub Reaches : List ℕ → ℕ → ℕ → ℕ → List ℕ → Type 0
 Reaches all left line column rest = (before after : List ℕ) → all ≡ before ++ after → length (encode_utf8_all after) ≡ left
     → (more : List ℕ) × (rest ≡ more ++ after) × (position 1 1 before after ≡ position line column more after)
@@ -28,7 +28,7 @@ Reaches all left line column rest = (before after : List ℕ) → all ≡ before
 pub reaches_from : (all : List ℕ) (left : ℕ) → Reaches all left 1 1 all
 reaches_from all left before after is size = (before, is, refl)
 
--- where more than what is after the place is left, a character is before it
+-- if more bytes remain than are after the place, a character is before it
 one_before : (c : ℕ) (tail more after : List ℕ) (left : ℕ) → c ∷ tail ≡ more ++ after → length (encode_utf8_all after) ≡ left
     → left < length (encode_utf8_all (c ∷ tail)) → (rest : List ℕ) × (more ≡ c ∷ rest) × (tail ≡ rest ++ after)
 one_before c tail [] after left is size large = absurd (omega (arith, large, size, ap (λ (x : List ℕ). length (encode_utf8_all x)) is))
@@ -85,7 +85,7 @@ position_here : (line column : ℕ) (after : List ℕ) → position line column 
 unfolding position
 position_here line column after = refl
 
--- the place, once no more is left than what is after it
+-- the place, once no more bytes remain than are after it
 pub reached : (text rest : List ℕ) (left line column offset : ℕ) → IsUtf8 text → IsUtf8 rest → Reaches (chars text) left line column (chars rest)
     → length rest ≤ left → offset ≡ length text - length rest → (before after : List ℕ) → chars text ≡ before ++ after
     → length (encode_utf8_all after) ≡ left → IsPlaceBetween before after (record { offset = offset; line = line; column = column })
@@ -100,9 +100,10 @@ reached text rest left line column offset u v reaches small offset-is before aft
       position_is = r.2 ∙ ap (λ (x : List ℕ). position line column x after) none ∙ position_here line column after;
     }
 
--- ---- behind decoded characters
+-- ---- after decoded characters
 
--- where the first characters take so many bytes once they are decoded, so many of these are left from here on, and what is behind them is the same
+-- if the first characters of `all` decode to `count` bytes, those that remain decode to `more` bytes, with the same
+-- rest after them
 abbrev pub Leaves : List ℕ → ℕ → ℕ → List ℕ → Type 0
 Leaves all count more rest = (front : List Character) (after : List ℕ) → Decodes all front after → byte_length front ≡ count
     → (ds : List Character) × Decodes rest ds after × (byte_length ds ≡ more)
@@ -141,7 +142,7 @@ left_is all count more rest front after u leaves none d size =
     let l = leaves front after d size in
     ap length (sym (encodes-chars rest u)) ∙ ap (λ (x : List ℕ). length (encode_utf8_all x)) (none_left l.0 (chars rest) after l.1 (omega (arith, l.2, none)))
 
--- no character begins, so nothing is left
+-- no character begins, so nothing remains
 pub no_left : (all : List ℕ) (count more : ℕ) (whole : List ℕ) (front : List Character) (after : List ℕ) → Leaves all count more whole → None ≡ front_of whole
     → 0 < more → Decodes all front after → byte_length front ≡ count → ⊥
 no_left all count more numbers front after leaves none some d size =
@@ -152,7 +153,7 @@ no_left all count more numbers front after leaves none some d size =
     go ds (here e) is = absurd (omega (arith, is, some))
     go ds (next_is {c = c} {after = mid} p q f) is = nothing_begins numbers none c mid p
 
--- ---- the places that are told
+-- ---- the places that are returned
 
 utf8_parts : (bs : List ℕ) → IsUtf8 bs → IsSpelling bs (chars bs)
 utf8_parts bs u = record { scalars = scalars-chars bs u; spelled = encodes-chars bs u }
@@ -163,7 +164,7 @@ spelled_by bytes text numbers u s e = encodes_same (chars text) numbers (encodes
 pub spelling_utf8 : (bytes numbers : List ℕ) → IsSpelling bytes numbers → IsUtf8 bytes
 spelling_utf8 bytes numbers s = (numbers, (s.scalars, s.spelled))
 
--- what is behind decoded characters, and what is before it
+-- what follows decoded characters, and what comes before
 record Split (all after : List ℕ) : Type 0 where
   pub before : List ℕ
   pub is : all ≡ before ++ after
@@ -178,7 +179,7 @@ decodes_split (next_is {rest = after} p q e) =
     let d = decodes_split q in
     record { before = b.before ++ d.before; is = b.is ∙ ap (λ (x : List ℕ). b.before ++ x) d.is ∙ sym (append_assoc b.before d.before after) }
 
--- this is the place in a text wherever so many bytes are after it
+-- this is the place in a text wherever `left` bytes are after it
 abbrev IsPlaceIn : List ℕ → ℕ → FilePlace → Type 0
 IsPlaceIn text left p = (before after : List ℕ) → chars text ≡ before ++ after → length (encode_utf8_all after) ≡ left → IsPlaceBetween before after p
 
@@ -188,7 +189,7 @@ pub record IsAtFront (bytes : List ℕ) (offset : ℕ) (p : FilePlace) : Type 0 
   pub is : IsPlaceBetween front [] p
   pub offset_is : p.offset ≡ offset
 
--- behind the longest front that is UTF-8
+-- after the longest front that is UTF-8
 pub at_bad_byte : (bytes text : List ℕ) (offset left : ℕ) (p : FilePlace) → IsUtf8 text → (¬ (IsUtf8 bytes) → IsValidUpTo bytes offset → text ≡ take offset bytes)
     → left ≡ length text - offset → IsPlaceIn text left p → BreaksUtf8At bytes offset → IsAtFront bytes offset p
 at_bad_byte bytes text offset left p u front left-is places broken =
@@ -202,7 +203,7 @@ at_bad_byte bytes text offset left p u front left-is places broken =
       offset_is = is.offset_is ∙ ap length (encodes-chars text u) ∙ size;
     }
 
--- behind the characters of a front
+-- after the characters of a front
 pub behind : (bytes text numbers rest : List ℕ) (front : List Character) (left : ℕ) (p : FilePlace) → IsUtf8 text → (IsUtf8 bytes → text ≡ bytes)
     → IsPlaceIn text left p → IsSpelling bytes numbers → Decodes numbers front rest → length (encode_utf8_all rest) ≡ left → IsPlaceBehind bytes front p
 behind bytes text numbers rest front left p u whole places s d size =

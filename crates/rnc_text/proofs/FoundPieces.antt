@@ -1,4 +1,4 @@
--- What is found in front is a piece, and no longer front is one.
+-- What is found at the front is a piece, and no longer front is one.
 use Rattle.std.proofs.Common.{◌≡◌, ℕ, true, eqb, inl, inr, List, [], ◌∷◌, ◌++◌, Option, Some, None, refl, sym, ap, subst, ◌∙◌, append_assoc}
 use Rattle.std.proofs.lemmas.Bool.{eqb-true}
 use Rattle.std.proofs.lemmas.Option.{none-some, some_pair_parts}

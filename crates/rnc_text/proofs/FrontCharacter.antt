@@ -1,4 +1,4 @@
--- The character in front, step by step and by its cases.
+-- The first character, step by step and by its cases.
 use Rattle.std.proofs.Common.{◌≡◌, ◌≢◌, ℕ, true, false, eqb, inl, inr, List, [], ◌∷◌, ◌++◌, Option, Some, None, refl, sym, ap, subst, ◌∙◌, arith}
 use Rattle.std.specs.Prelude.{◌&&◌}
 use Rattle.std.specs.List.{slice_get}
@@ -130,7 +130,7 @@ begins_found (escape {numbers = cs} {c} {rest} {digits} are c-is h is) = ap fron
     ∙ escape_found digits rest are (subst (λ (c : ℕ). is_xml_char c ≡ true) c-is h) ∙ ap (λ (c : ℕ). found (Ordinary c) rest) (sym c-is)
 begins_found (other {numbers = cs} {c} {rest} h1 h2 h3 h4 is) = ap front_of is ∙ other_found c rest h1 h2 h3 (λ o. h4 (subst OpensEscape (sym is) o))
 
--- there is one character in front
+-- the first character is unique
 pub begins_one : {cs : List ℕ} (c d : Character) (rest end : List ℕ) → Begins cs c rest → Begins cs d end → (c ≡ d) × (rest ≡ end)
 begins_one c d rest end p q = some_pair_parts c d rest end (sym (begins_found p) ∙ begins_found q)
 

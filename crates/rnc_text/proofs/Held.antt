@@ -1,4 +1,4 @@
--- What a text keeps, as it grows by one character.
+-- What a text keeps when one character is appended.
 use Rattle.std.proofs.Common.{◌≡◌, ℕ, ◌+◌, ◌-◌, ◌≤◌, Bool, true, false, cond, eqb, Result, Ok, Err, List, [], ◌∷◌, ◌++◌, length, refl, sym, ap, subst, ◌∙◌}
 use Rattle.std.proofs.Common.{arith}
 use Rattle.std.specs.Prelude.{IfOk, is_ok}
@@ -136,7 +136,7 @@ chars_push old new c u v e =
     ∙ sym (encodes-append (chars old) (c ∷ []) ∙ ap (λ (x : List ℕ). x ++ (encode_utf8 c ++ [])) (encodes-chars old u)
     ∙ ap (λ (x : List ℕ). old ++ x) (append-nil (encode_utf8 c))))
 
--- the bytes after and before, with the marks, have the character more and leave no mark
+-- the new bytes and marks represent one character more, and no mark is unused
 pub record Grows (old new : List ℕ) (before after : List ℕ) (c : Character) : Type 0 where
   pub is : with_marks new after ≡ with_marks old before ++ c ∷ []
   pub are : AreMarks new after
@@ -166,7 +166,7 @@ pub if_ok : {X E P : Type 0} (r : Result X E) → (is_ok r ≡ true → P) → I
 if_ok (Ok x) f = f refl
 if_ok (Err e) f = tt
 
--- a character that was pushed, unless memory ran out, where no mark is put
+-- an appended character without a mark, unless the call runs out of memory
 pub pushed : {X E : Type 0} (r : Result X E) (old new ms : List ℕ) (c : ℕ) (d : Character) (cs : List Character)
     → new ≡ cond (is_ok r) (old ++ encode_utf8 c) old → IsUtf8 old → IsUtf8 new → AreMarks old ms → unmarked c ≡ d → with_marks old ms ≡ cs
     → IfOk r (λ _. with_marks new ms ≡ cs ++ d ∷ [])

@@ -21,7 +21,7 @@ pub is_out : (count n : ℕ) (cs : List ℕ) → 7 ≤ count → hexadecimal_end
 unfolding hexadecimal_end
 is_out count n cs le = let e : 7 - count ≡ 0 = omega arith in rw e refl
 
--- the most that so many digits can be
+-- numbers of n digits are less than this
 abbrev pub most : ℕ → ℕ
 most zero = 1
 most (suc n) = 16 * most n
@@ -47,7 +47,7 @@ closes count n c cs rest all lt brace some first same =
     let below : ltb (6 - count) 6 ≡ true = lt-ltb _ _ (omega arith) in
     sym (sym same ∙ step count n cs lt ∙ rw (← first, brace, below) refl)
 
--- the tests by which a brace is told
+-- the tests that recognize a closing brace
 abbrev pub IsNoEnd : ℕ → ℕ → Type 0
 IsNoEnd c count = (c ≡ 0x7D → ⊥) ⊎ (count ≡ 0)
 

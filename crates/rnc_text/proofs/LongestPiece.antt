@@ -1,4 +1,4 @@
--- A piece that is in front is no longer than what is found there, and the same if it is as long.
+-- A piece at the front is no longer than what is found there, and is the same if it is as long.
 use Rattle.std.proofs.Common.{◌≡◌, ℕ, ◌<◌, ◌≤◌, Bool, true, false, eqb, ◌⊎◌, inl, inr, List, [], ◌∷◌, ◌++◌, length, Option, Some, None, refl, sym, ap, subst}
 use Rattle.std.proofs.Common.{◌∙◌, append_assoc, arith}
 use Rattle.std.specs.Prelude.{not, ◌||◌}
@@ -42,7 +42,7 @@ shorter q p rest found e lt = covered_by q found (Some (p, rest)) e (inl lt)
 
 -- ---- names
 
--- a word in front of more characters of names
+-- a word before more name characters
 word_more : (name more rest : List Character) (found : Found) → found ≡ Some (token (word_kind (name ++ more)) (name ++ more) (name ++ more), rest)
     → Covered (token (word_kind name) name name) found
 word_more name [] rest found e = exact _ rest found (e ∙ ap (λ (x : List Character). Some (token (word_kind x) x x, rest)) (append-nil name))
@@ -189,7 +189,7 @@ segment_found c content rest h =
     segment_some c (content ++ tail) tail rest (sym a) (behind_is c rest)
     ∙ ap (λ (x : List Character). Some (token kinds.Segment x (Ordinary c ∷ (x ++ Ordinary c ∷ [])), rest)) f
 
--- content in front of a quote that begins with the quote is none
+-- content before a quote, if the text begins with that quote, is empty
 no_content : (c : ℕ) (content rest inside : List Character) → AllIn (classes.Segment c) content → content ++ Ordinary c ∷ rest ≡ Ordinary c ∷ inside
     → content ≡ []
 no_content c [] rest inside h e = refl
@@ -200,7 +200,7 @@ no_content c (Ordinary d ∷ content) rest inside h e =
     let p = and_parts (is_in (classes.Segment c) (Ordinary d)) (list_all (is_in (classes.Segment c)) content) h in
     absurd (false≢true (sym (rw (eqb_same c) refl) ∙ subst (λ (d : ℕ). not (eqb d c) ≡ true) d-is p.0))
 
--- what is found behind a quote as a triple segment begins with two more and is long
+-- a triple segment found after a quote begins with two more quotes and is long
 record IsLong (c : ℕ) (cs : List Character) (x : Piece × List Character) : Type 0 where
   pub inside : List Character
   pub opened : cs ≡ Ordinary c ∷ inside
@@ -246,7 +246,7 @@ triple_covers c content rest q h =
 
 -- ---- signs
 
--- a character with which a sign begins
+-- a character that begins a sign
 abbrev other_number : ℕ → Bool
 other_number n = not (starts_ncname n || (eqb n 0x20 || (eqb n 0x9 || (eqb n 0x23 || (eqb n 0x5C || (eqb n 0x22 || (eqb n 0x27 || eqb n 0xA)))))))
 
@@ -276,7 +276,7 @@ number_parts n e =
       no_line = p7.1;
     }
 
--- the numbers of a sign: one or two, of which the first begins nothing else
+-- the numbers of a sign: one or two; the first begins nothing else
 abbrev is_sign_like : List ℕ → Bool
 is_sign_like [] = false
 is_sign_like (n ∷ []) = other_number n

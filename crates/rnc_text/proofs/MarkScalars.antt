@@ -1,4 +1,4 @@
--- The numbers of marks are scalar values, so that their text has an UTF-8 form, which stands for their characters.
+-- The numbers of marks are scalar values. So their text has a UTF-8 form, which decodes to their characters.
 use Rattle.std.proofs.Common.{◌≡◌, inl, inr, ℕ, ◌≤◌, ◌<◌, Bool, true, false, cond, List, [], ◌∷◌, ◌++◌, flat_map, refl, sym, subst, arith}
 use Rattle.std.specs.Prelude.{◌&&◌, ◌||◌, ◌==◌, not, nat_lt, nat_le}
 use Rattle.std.specs.List.{list_all}

@@ -25,7 +25,7 @@ use Rattle.rnc_text.proofs.ScanResults.{piece_line, piece_name, piece_blank, pie
 use Rattle.rnc_text.proofs.ScanResults.{triple_no_third, or_right}
 use Rattle.rnc_text.proofs.OneCut.{found_next}
 
--- ---- what may stand behind anything
+-- ---- what may follow any mark
 
 record Apart (rest : List Character) : Type 0 where
   front_is : front classes.Ncname rest ≡ []
@@ -60,7 +60,7 @@ numbers_ordinary (c ∷ w) = ap (λ (x : List ℕ). c ∷ x) (numbers_ordinary w
 pub ncname_is : (w : List ℕ) → is_ncname w ≡ true → IsNcname (ordinary w)
 ncname_is w h = ap is_ncname (numbers_ordinary w) ∙ h
 
--- the NCName in front, where no more of it follows
+-- the NCName at the front, if no more name characters follow
 front_word : (w rest : List Character) → IsNcname w → front classes.Ncname rest ≡ [] → front classes.Ncname (w ++ rest) ≡ w
 front_word w rest h e = front_append classes.Ncname w rest (name_all w h) ∙ ap (λ (x : List Character). w ++ x) e ∙ append-nil w
 
@@ -79,7 +79,7 @@ word_piece w rest h a =
     ∙ name_word (w ++ rest) rest (sym (after_word w rest h a.after_is)) a.no_colon
     ∙ ap (λ (x : List Character). Some (token (word_kind x) x x, rest)) (front_word w rest h a.front_is)
 
--- behind a prefix
+-- after a prefix
 colon_front : (rest : List Character) → front classes.Ncname (Ordinary 0x3A ∷ rest) ≡ []
 colon_front rest = front_out classes.Ncname (Ordinary 0x3A) rest refl
 
@@ -123,7 +123,7 @@ within_class q (c ∷ w) h =
     let r = and_parts (is_xml_char c) (not (c == q)) p.0 in
     rw r.1 (within_class q w p.1)
 
--- a quote ends what stands between two
+-- a quote ends the text between two quotes
 quote_out : (q : ℕ) → is_in (classes.Segment q) (Ordinary q) ≡ false
 quote_out q = rw (eqb_same q) refl
 
@@ -131,7 +131,7 @@ quote_out q = rw (eqb_same q) refl
 one_quote : (q : ℕ) → is_quote q ≡ true → (q ≡ 0x22) ⊎ (q ≡ 0x27)
 one_quote q h = elim (or_cases (q == 0x22) (q == 0x27) h) [ inl e ↦ inl (eqb-true q 0x22 e) | inr e ↦ inr (eqb-true q 0x27 e) ]
 
--- behind the first quote of a segment there are no two more
+-- no two quotes follow the first quote of a segment
 no_triple : (q : ℕ) (w : List ℕ) (rest : List Character) → list_all (is_within q) w ≡ true → behind q rest ≡ None
     → triple_at q (ordinary w ++ Ordinary q ∷ rest) ≡ None
 no_triple q [] rest h e = triple_no_third q (Ordinary q ∷ rest) rest (behind_is q rest) e
@@ -200,11 +200,11 @@ piece_is (segment q w) rest h (inr a) =
     no_quote q rest (inr e) a = subst (λ (x : ℕ). behind x rest ≡ None) (sym e) a.no_apostrophe
 piece_is (sign s) rest h a = sign_piece s rest a
 
--- what stands behind a mark may stand there
+-- what follows a mark may follow it
 stands_behind : (m : Mark) (ms : List Mark) → (is_open m || begins_apart ms) ≡ true → (is_open m ≡ true) ⊎ Apart (characters_of_marks ms)
 stands_behind m ms e = elim (or_cases (is_open m) (begins_apart ms) e) [ inl o ↦ inl o | inr b ↦ inr (apart ms b) ]
 
--- marks are cut into their pieces, each the longest at its place
+-- marks are cut into their pieces, each the longest at its offset
 pub marks_cut : MarksAreCut
 marks_cut [] h = here refl
 marks_cut (m ∷ ms) h =

@@ -1,4 +1,4 @@
--- Marks decode to exactly their characters: no escape is read but those printed.
+-- Marks decode to exactly their characters: the only escapes that are read are the printed ones.
 use Rattle.std.proofs.Common.{◌≡◌, ◌∙◌, ◌≢◌, ℕ, Bool, true, false, inl, inr, List, [], ◌∷◌, ◌++◌, flat_map, refl, sym, subst, append_assoc, arith}
 use Rattle.std.specs.Prelude.{◌&&◌, not, ◌==◌, nat_le}
 use Rattle.std.specs.List.{list_all, list_any}
@@ -15,7 +15,7 @@ use Rattle.rnc_text.specs.plain.Marks.{Mark, space, line_end, word, cname, ns_na
 use Rattle.rnc_text.specs.plain.Marks.{characters_of_mark, characters_of_marks, is_within, IsMark, AreParted}
 use Rattle.std.proofs.lemmas.Bool.{false≢true}
 
--- ---- what is neither a line end nor a backslash stands for itself
+-- ---- a character other than a line end and a backslash decodes to itself
 
 abbrev pub is_plain : ℕ → Bool
 is_plain c = is_xml_char c && (not (c == 0xD) && (not (c == 0xA) && not (c == 0x5C)))
@@ -53,7 +53,7 @@ plain_decodes (c ∷ w) rest cs h d =
 
 -- ---- names are plain
 
--- each range lies within one of these
+-- each range is within one of these
 abbrev covers : List (ℕ × ℕ) → ℕ × ℕ → Bool
 covers wide r = list_any (λ x. nat_le x.0 r.0 && nat_le r.1 x.1) wide
 
@@ -93,7 +93,7 @@ names_are_plain (c ∷ w) h =
     let q = and_parts (is_name_char c) (not (is_colon c)) p.0 in
     rw (name_is_plain c q.0) (names_are_plain w p.1)
 
--- what may begin a name may stand in one
+-- a character that may begin a name may occur in one
 start_in_name : (c : ℕ) → is_name_start c ≡ true → is_name_char c ≡ true
 start_in_name c h = rw h refl
 
@@ -104,7 +104,7 @@ ncname_plain (c ∷ w) h =
     let q = and_parts (is_name_start c) (not (is_colon c)) p.0 in
     rw (name_is_plain c (start_in_name c q.0)) (names_are_plain w p.1)
 
--- ---- what stands between quotes
+-- ---- the text between quotes
 
 within_decodes : (written : ℕ → List ℕ) → IsReadBack written → (q : ℕ) (w rest : List ℕ) (cs : List Character) → list_all (is_within q) w ≡ true
     → Decodes rest cs [] → Decodes (flat_map written w ++ rest) (ordinary w ++ cs) []

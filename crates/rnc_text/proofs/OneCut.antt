@@ -1,4 +1,4 @@
--- Pieces one after the other, that there is one cut, and where it stops.
+-- A sequence of pieces: the cut is unique, and so is where it stops.
 use Rattle.std.proofs.Common.{◌≡◌, ℕ, ◌+◌, ◌-◌, ◌<◌, ◌≤◌, ◌⊎◌, inl, inr, List, [], ◌∷◌, ◌++◌, length, Option, Some, None, Result, Ok, Err, refl, sym, ap, subst}
 use Rattle.std.proofs.Common.{◌∙◌, arith}
 use Rattle.std.specs.Prelude.{IfOk, IfErr}
@@ -65,7 +65,7 @@ next_found cs p q rest after e n = go (longest_at cs p rest e q after n.is n.par
           (ap (λ (x : Piece). characters_in x ++ after) (sym same) ∙ sym n.parts ∙ (piece_front cs p rest e).parts),
     )
 
--- there is one next piece
+-- the next piece is unique
 one_at : (cs : List Character) (o : Found) (p q : Piece) (rest after : List Character) → piece_of cs ≡ o → IsNext cs p rest → IsNext cs q after
     → (p ≡ q) × (rest ≡ after)
 one_at cs None p q rest after e m n = absurd (none_begins cs e p rest m.is m.parts)
@@ -88,7 +88,7 @@ pub cuts_then : {cs : List Character} {ps : List Piece} {mid : List Character} �
 cuts_then (here {cs} {rest = mid} e) p rest n = subst (λ (cs : List Character). Cuts cs (p ∷ []) rest) (sym e) (next_is n (here refl) refl)
 cuts_then (next_is {piece = q} {pieces = ps} m c e) p rest n = next_is m (cuts_then c p rest n) (ap (λ (x : List Piece). x ++ p ∷ []) e)
 
--- two cuts that go as far as they can are one
+-- two cuts that go as far as possible are equal
 pub one_cut : {cs : List Character} {ps : List Piece} {rest : List Character} → Cuts cs ps rest → NothingBegins rest → (qs : List Piece) (end : List Character)
     → Cuts cs qs end → NothingBegins end → (ps ≡ qs) × (rest ≡ end)
 one_cut (here {cs} {rest} e) stops qs end (here f) ends = (refl, sym e ∙ f)
@@ -203,7 +203,7 @@ cut_on cs ts us from to part h f e =
       whole = f.past.whole ∙ h.whole;
     }
 
--- what a gap leaves, and what a token gives
+-- a gap adds no token, and a token adds itself
 gap_gives : (p : Piece) (start : ℕ) → None ≡ said p → tokens_at start (p ∷ []) ≡ []
 gap_gives (gap all) start e = refl
 gap_gives (token kind says all) start e = absurd (none-some _ e)

@@ -1,4 +1,4 @@
--- Characters one after the other, that there is one decoding, and one offset at which it stops.
+-- A sequence of characters: the decoding is unique, and so is the offset where it stops.
 use Rattle.std.proofs.Common.{◌≡◌, ℕ, ◌+◌, ◌<◌, false, eqb, inl, inr, List, [], ◌∷◌, ◌++◌, length, Result, Ok, Err, refl, sym, ap, subst, ◌∙◌, arith}
 use Rattle.std.proofs.Common.{append_assoc}
 use Rattle.std.specs.Prelude.{IfOk, IfErr}
@@ -23,7 +23,7 @@ decodes_then (next_is {c = d} {cs = cs} p q e) c all rest is all-is =
 abbrev Stops : List ℕ → Type 0
 Stops ns = (c : Character) (rest : List ℕ) → Begins ns c rest → ⊥
 
--- two decodings that go as far as they can are one
+-- two decodings that go as far as possible are equal
 pub one_decoding : {ns : List ℕ} {cs : List Character} {rest : List ℕ} → Decodes ns cs rest → Stops rest → (ds : List Character) (end : List ℕ)
     → Decodes ns ds end → Stops end → (cs ≡ ds) × (rest ≡ end)
 one_decoding (here {numbers = ns} {rest = rest} e) stops ds end (here f) ends = (refl, sym e ∙ f)
@@ -68,7 +68,7 @@ fault_one bytes c p d q (inl a) (inr b) = absurd (a.1.0 (spelling_utf8 bytes b.1
 fault_one bytes c p d q (inr a) (inl b) = absurd (b.1.0 (spelling_utf8 bytes a.1.numbers a.1.spelling))
 fault_one bytes c p d q (inr a) (inr b) = (a.0 ∙ sym b.0, one_offset bytes p q a.1 b.1)
 
--- what a call answers, by what it found
+-- what a call returns, by what it found
 pub gives_text : (bytes : List ℕ) (r : Result (List Character) TextFault) → IfOk r (IsDecoded bytes) → IfErr r (IfBroken (BreaksTextAt bytes))
     → (cs : List Character) → IsDecoded bytes cs → GivesOk (λ t. t) r cs
 gives_text bytes (Ok t) found fault cs is = decoded_one bytes t cs found is
@@ -119,7 +119,7 @@ no_chars bs u e = go (chars bs) (encodes-chars bs u)
 
 -- ---- a character takes something
 
--- what a character is made of
+-- the numbers that a character consists of
 pub record Parts (ns rest : List ℕ) : Type 0 where
   pub front : List ℕ
   pub is : ns ≡ front ++ rest

@@ -1,4 +1,4 @@
--- Quotes one after the other, and the first three of them.
+-- Runs of quotes, and the first three quotes.
 use Rattle.std.proofs.Common.{◌≡◌, ℕ, ◌≤◌, eqb, inl, inr, List, [], ◌∷◌, ◌++◌, length, Option, Some, None, refl, sym, ap, subst, ◌∙◌, append_assoc, arith}
 use Rattle.std.proofs.lemmas.Bool.{eqb-true}
 use Rattle.std.proofs.lemmas.List.{length-append}
@@ -72,7 +72,7 @@ starts_three n cs (c ∷ d ∷ e ∷ content) rest is first tail parts =
 first_tail : (n : ℕ) (c : Character) (content : List Character) → IsUpToThree n (c ∷ content) → IsUpToThree n content
 first_tail n c content first front rest e = first (c ∷ front) rest (ap (λ (x : List Character). c ∷ x) e)
 
--- up to three quotes behind a character that does not begin three
+-- up to three quotes after a character that does not begin three
 first_more : (n : ℕ) (c : Character) (content rest : List Character) → behind_three n (c ∷ (content ++ three n rest)) ≡ None → IsUpToThree n content
     → IsUpToThree n (c ∷ content)
 first_more n c content rest none first [] more e =

@@ -22,7 +22,7 @@ use Rattle.rnc_text.proofs.QuoteRuns.{until_at, until_none}
 
 -- ---- the loop over a class
 
--- the loop stands at `to`, and what is left of the front begins there
+-- the loop is at `to`, where the remaining part of the front begins
 pub record Walks (class : Class) (from to : Cursor) : Type 0 where
   pub taken : List Character
   pub past : IsPast from taken to
@@ -42,7 +42,7 @@ walks_on class from to next c w p h = record {
   after = w.after ∙ ap (after class) p.rest ∙ after_in class c (remaining next) h;
 }
 
--- the front is past
+-- the loop is past the front
 pub record Passed (class : Class) (from to : Cursor) : Type 0 where
   pub past : IsPast from (front class (remaining from)) to
   pub rest : remaining to ≡ after class (remaining from)
@@ -73,7 +73,7 @@ walks_end class from to w e = passed class from to w (ap (front class) e ∙ non
 
 -- ---- the loop for three quotes
 
--- what stands before is put in front
+-- puts the characters before in front of the content
 pub with_before : List Character → Option (List Character × List Character) → Option (List Character × List Character)
 with_before xs None = None
 with_before xs (Some x) = Some (xs ++ x.0, x.1)
@@ -130,7 +130,7 @@ looks_end quote from end w e = w.found ∙ ap (with_before w.before) (ap (until_
 
 -- ---- the pieces
 
--- a token with what it says, between two cursors
+-- a token with its text, between two cursors
 pub finds_token : (from to : Cursor) (part : Part) (found : Found) (kind : TokenKind) (says all : List Character)
     → found ≡ Some (token kind says all, remaining to) → IsPast from all to → told part ≡ Some (kind, bytes_of says) → FindsPart from part to found
 finds_token from to part found kind says all is past told = record { piece = token kind says all; is = is; past = past; says = told }
@@ -139,7 +139,7 @@ pub finds_gap : (from to : Cursor) (part : Part) (found : Found) (all : List Cha
     → told part ≡ None → FindsPart from part to found
 finds_gap from to part found all is past told = record { piece = gap all; is = is; past = past; says = told }
 
--- the cursor that a piece ends at, another by the same name
+-- the end of a piece, under an equal name
 pub finds_at : (from to end : Cursor) (part : Part) (found : Found) → end ≡ to → FindsPart from part to found → FindsPart from part end found
 finds_at from to end part found e f = subst (λ (x : Cursor). FindsPart from part x found) (sym e) f
 
@@ -262,7 +262,7 @@ pub piece_quote : (c : ℕ) (cs rest : List Character) → cs ≡ Ordinary c ∷
 piece_quote c cs rest e (inl h) = piece_ordinary c cs rest e ∙ subst (λ (c : ℕ). piece_by c rest ≡ or_else (triple_at c rest) (segment_at c rest)) (sym h) refl
 piece_quote c cs rest e (inr h) = piece_ordinary c cs rest e ∙ subst (λ (c : ℕ). piece_by c rest ≡ or_else (triple_at c rest) (segment_at c rest)) (sym h) refl
 
--- the character begins no piece but a sign
+-- the character begins no piece except a sign
 pub record IsOther (c : ℕ) : Type 0 where
   pub no_name : starts_ncname c ≡ false
   pub no_space : c ≡ 0x20 → ⊥
@@ -290,7 +290,7 @@ or_left a b x e = ap (λ (a : Found). or_else a b) e
 pub or_right : (a b : Found) → a ≡ None → or_else a b ≡ b
 or_right a b e = ap (λ (a : Found). or_else a b) e
 
--- what was found of another list of characters that is the same
+-- what is found in an equal list of characters
 pub finds_same : (from to : Cursor) (part : Part) (found other : Found) → other ≡ found → FindsPart from part to found → FindsPart from part to other
 finds_same from to part found other e f = subst (λ (x : Found). FindsPart from part to x) (sym e) f
 

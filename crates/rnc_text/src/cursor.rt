@@ -9,7 +9,7 @@ use crate::character::split_first;
 use crate::text::Text;
 use rnc_model::Character;
 
-/// The character of a decoded text that did not come of an escape.
+/// The character of the decoded text that is not written as an escape.
 fn unmarked(first: char) -> Character
     ensures { result ≡ unmarked first }
 {
@@ -20,19 +20,19 @@ fn unmarked(first: char) -> Character
     }
 }
 
-/// An offset in a decoded text, with what stands from there on.
+/// An offset in a decoded text, with the text from there on.
 #[derive(Clone, Copy)]
 pub struct Cursor<'a> {
-    /// How many bytes the whole text has.
+    /// Length of the whole text in bytes.
     length: usize,
-    /// What stands from here on.
+    /// The text from the cursor on.
     rest: &'a str,
-    /// The offsets of the LFs that came of escapes, from here on.
+    /// Offsets in bytes of the LFs from the cursor on that are written as escapes.
     escaped: &'a [usize],
 }
 
 impl<'a> Cursor<'a> {
-    /// The beginning of a text.
+    /// Creates a cursor at the start of the text.
     pub fn new(text: &'a Text) -> Cursor<'a>
         ensures characters { remaining result ≡ text.now }
         ensures bytes { result.rest.now ≡ bytes_of text.now }
@@ -47,22 +47,22 @@ impl<'a> Cursor<'a> {
         }
     }
 
-    /// Whether nothing stands here.
+    /// Whether the cursor is at the end of the text.
     pub fn is_at_end(self) -> bool
         ensures { result ≡ (length self.entry.rest.now == 0) }
     {
         self.rest.is_empty()
     }
 
-    /// The offset of the cursor in the text, in bytes.
+    /// Offset of the cursor in the text, in bytes.
     pub fn offset(self) -> usize
         ensures { result ≡ self.entry.length - length self.entry.rest.now }
     {
-        // What is left is part of the text, so this is no less than their difference.
+        // The rest is a part of the text, so the subtraction never saturates.
         self.length.saturating_sub(self.rest.len())
     }
 
-    /// The offsets behind the cursor, if the LF here came of an escape.
+    /// Returns the remaining offsets after the cursor, if the LF at the cursor is written as an escape.
     fn marks_behind(self) -> Option<&'a [usize]>
         ensures { option_map (λ x. x.now) result ≡ next_marks (self.entry.length - length self.entry.rest.now) self.entry.escaped.now }
     {
@@ -72,7 +72,7 @@ impl<'a> Cursor<'a> {
         }
     }
 
-    /// The character here, and the cursor behind it.
+    /// Returns the character at the cursor and the cursor after it, or `None` at the end.
     pub fn step(self) -> Option<(Character, Cursor<'a>)>
         ensures { MatchOption result (remaining self.entry ≡ []) (λ x. IsPast self.entry (x.0 ∷ []) x.1) }
     {
@@ -94,7 +94,7 @@ impl<'a> Cursor<'a> {
         }
     }
 
-    /// The text from here to a later cursor.
+    /// Returns the text between this cursor and a later one.
     pub fn text_to(self, end: Cursor<'a>) -> &'a str
         requires { IsBefore self end }
         ensures { (taken : List Character) → IsPast self.entry taken end.entry → result.now ≡ bytes_of taken }

@@ -12,7 +12,7 @@ use crate::text::Text;
 use rnc_model::Token;
 use std::alloc::Global;
 
-/// The tokens of a text, each the longest that begins at its offset.
+/// Cuts a text into tokens. Each piece is the longest that begins at its offset.
 fn cut(alloc: Global, text: &Text) -> Result<Vec<Token<'_>>, TextFault>
     ensures found { IfOk result (λ v. HasTokens text.now (tokens_of v.items)) }
     ensures fault { IfErr result (IfBroken (λ clause offset. (clause ≡ 5) × BreaksTokensAt text.now offset)) }
@@ -39,23 +39,25 @@ fn cut(alloc: Global, text: &Text) -> Result<Vec<Token<'_>>, TextFault>
     Ok(tokens)
 }
 
-/// The tokens of a text, in order.
+/// Returns the tokens of a text, in order.
 ///
-/// Where at some offset neither a blank, a comment nor a token begins, clause 5 is broken, and the fault tells the first
-/// such offset in the decoded text, in bytes. `Memory` answers that there was no memory for the tokens. Linear.
+/// Each token is the longest piece at its offset. Blanks and comments give no token.
+///
+/// Fails with clause 5 if neither a blank, a comment nor a token begins at some offset. The offset of the fault is the
+/// first such offset of the decoded text, in bytes. Fails with `Memory` only when out of memory. Takes linear time.
 /// RELAX NG Compact Syntax, "Lexical structure".
 pub fn tokens(alloc: Global, text: &Text) -> Result<Vec<Token<'_>>, TextFault>
-    // What is answered are the tokens of a cut of the whole text.
+    // The result is the tokens of a cut of the whole text.
     ensures found { IfOk result (λ v. HasTokens text.now (tokens_of v.items)) }
-    // The spans are in order and share no byte.
+    // The spans are in order and do not overlap.
     ensures order { IfOk result (λ v. AreInOrder 0 (tokens_of v.items)) }
-    // The tokens of a cut are answered, so there are no others.
+    // If a cut of the text has these tokens, the call returns them, unless it is out of memory.
     ensures only { (ts : List cut.Token) → HasTokens text.now ts → GivesOk (λ v. tokens_of v.items) result ts }
-    // There is no other cut.
+    // The cut is unique.
     ensures one { (pieces others : List Piece) → Cuts text.now pieces [] → Cuts text.now others [] → pieces ≡ others }
-    // A fault has its clause broken at its offset.
+    // A fault reports a clause that is broken at its offset.
     ensures fault { IfErr result (IfBroken (λ clause offset. (clause ≡ 5) × BreaksTokensAt text.now offset)) }
-    // A broken clause is answered, with its offset.
+    // If the clause is broken, the call reports it with its offset, unless it is out of memory.
     ensures broken { (offset : ℕ) → BreaksTokensAt text.now offset → GivesFault result 5 offset }
 {
     cut(alloc, text)

@@ -15,7 +15,7 @@ use rnc_model::Character;
 use rng_model::is_xml_char;
 use std::alloc::Global;
 
-/// What follows a CR, without an LF that belongs to its line end.
+/// The text after a CR, without the LF that belongs to the same line end.
 #[tactic(auto, unfolding(crate::specs::plain::DecodingSteps::without_line_feed))]
 fn skip_line_feed(text: &str) -> &str
     ensures { chars result.now ≡ without_line_feed (chars text.now) }
@@ -26,7 +26,7 @@ fn skip_line_feed(text: &str) -> &str
     }
 }
 
-/// Whether one `x` or more and an opening brace are in front.
+/// Whether the text begins with one `x` or more and an opening brace.
 fn opens_escape(text: &str) -> bool
     ensures { result ≡ opens_from false (chars text.now) }
 {
@@ -43,7 +43,7 @@ fn opens_escape(text: &str) -> bool
     false
 }
 
-/// The character of an escape whose backslash is gone, and what follows it.
+/// Reads an escape after its backslash. Returns its character and the text after it.
 #[tactic(auto, unfolding(crate::specs::plain::DecodingSteps::escape_front))]
 fn escape(text: &str) -> Option<(Character, &str)>
     ensures { option_map (λ x. (x.0, chars x.1.now)) result ≡ escape_front (chars text.now) }
@@ -63,7 +63,7 @@ fn escape(text: &str) -> Option<(Character, &str)>
     }
 }
 
-/// The character that the text begins with, and what follows it.
+/// Returns the first character of the text, its escape replaced, and the text after it.
 #[tactic(auto, unfolding(crate::specs::plain::DecodingSteps::front_of))]
 pub fn front(text: &str) -> Option<(Character, &str)>
     ensures { option_map (λ x. (x.0, chars x.1.now)) result ≡ front_of (chars text.now) }
@@ -78,7 +78,7 @@ pub fn front(text: &str) -> Option<(Character, &str)>
     }
 }
 
-/// The characters of a text in which escapes are not yet replaced.
+/// Decodes a text whose escapes are not replaced yet.
 fn decode(alloc: Global, text: &str) -> Result<Text, TextFault>
     ensures found { IfOk result (λ t. IsDecoded text.now t) }
     ensures fault { IfErr result (IfBroken (λ clause offset. (clause ≡ 4) × BreaksCharactersAt text.now offset)) }
@@ -98,21 +98,23 @@ fn decode(alloc: Global, text: &str) -> Result<Text, TextFault>
     Ok(decoded)
 }
 
-/// The characters that the bytes of a file stand for.
+/// Decodes the bytes of a file.
 ///
-/// A file that is not UTF-8 breaks clause 3, and else one with a character that is none of XML's or with a bad escape
-/// breaks clause 4; the fault tells the first offset in the file, in bytes. `Memory` answers that there was no memory for
-/// the text. Linear. RELAX NG Compact Syntax, "Lexical structure".
+/// Replaces escapes, and makes each line end one LF.
+///
+/// Fails with clause 3 if the bytes are not UTF-8. Otherwise fails with clause 4 at a character that XML does not allow
+/// or at a bad escape. The offset of a fault is the first such offset in the file, in bytes. Fails with `Memory` only
+/// when out of memory. Takes linear time. RELAX NG Compact Syntax, "Lexical structure".
 pub fn read_text(alloc: Global, bytes: &[u8]) -> Result<Text, TextFault>
-    // What is answered is what the bytes stand for.
+    // The result is the decoded text of the bytes.
     ensures found { IfOk result (λ t. IsDecoded bytes.now t) }
-    // What the bytes stand for is answered, so there is no other.
+    // If the bytes have a decoded text, the call returns it, unless it is out of memory.
     ensures only { (cs : List Character) → IsDecoded bytes.now cs → GivesOk (λ t. t) result cs }
-    // There is no other decoding.
+    // The decoding is unique.
     ensures one { (cs ds : List Character) → IsDecoded bytes.now cs → IsDecoded bytes.now ds → cs ≡ ds }
-    // A fault has its clause broken at its offset.
+    // A fault reports a clause that is broken at its offset.
     ensures fault { IfErr result (IfBroken (BreaksTextAt bytes.now)) }
-    // A broken clause is answered, with its offset.
+    // If a clause is broken, the call reports it with its offset, unless it is out of memory.
     ensures broken { (clause offset : ℕ) → BreaksTextAt bytes.now clause offset → GivesFault result clause offset }
 {
     match simdutf8::compat::from_utf8(bytes) {

@@ -1,14 +1,14 @@
-// The number in an escape.
+// The number of an escape.
 ghost use Rattle.std.specs.Prelude.{◌≡◌, option_map};
 ghost use Rattle.std.specs.Str.{chars};
 ghost use Rattle.rnc_text.specs.plain.DecodingSteps.{hexadecimal_end};
 
 use crate::character::split_first;
 
-/// The most digits that an escape has.
+/// The largest number of digits in an escape.
 const DIGITS: u32 = 6;
 
-/// The number of the one to six hexadecimal digits in front of a closing brace, and what follows the brace.
+/// Reads one to six hexadecimal digits and a closing brace. Returns their number and the text after the brace.
 #[tactic(auto, using(crate::proofs::HexadecimalSteps::step, crate::proofs::HexadecimalSteps::is_out, crate::proofs::HexadecimalSteps::most_next, crate::proofs::HexadecimalSteps::most_fits))]
 pub fn hexadecimal(text: &str) -> Option<(u32, &str)>
     ensures { option_map (λ x. (x.0, chars x.1.now)) result ≡ hexadecimal_end 7 0 (chars text.now) }

@@ -1,14 +1,14 @@
-// The laws of texts that are made of marks.
+// Laws of texts that are made of marks.
 ghost use Rattle.rnc_text.specs.plain.Marks.{MarksAreCut, MarksAreDecoded};
 
-/// The laws of marks. It does nothing: its contract is what it is for.
+/// The laws of marks. The call does nothing; its contract is the theorem.
 ///
-/// A text that is made of words, names, segments, signs, single spaces and line ends, each parted from the next, is cut into
-/// these and nothing else, and its UTF-8 stands for their characters, however the characters within quotes are written, so
-/// long as each is read back. RELAX NG Compact Syntax, "Lexical structure".
+/// A text is made of marks: words, names, segments, signs, single spaces and line ends. If each is separated from the
+/// next, the text is cut into exactly these marks. Its UTF-8 decodes to their characters, however the characters within
+/// quotes are written, provided that each is read back. RELAX NG Compact Syntax, "Lexical structure".
 pub fn marks_laws()
-    // Each mark is the longest piece at its place.
+    // Each mark is the longest piece at its offset.
     ensures cut { MarksAreCut }
-    // What is read of the bytes are the characters of the marks.
+    // The bytes decode to the characters of the marks.
     ensures decoded { MarksAreDecoded }
 {}

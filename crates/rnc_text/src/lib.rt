@@ -1,13 +1,14 @@
-//! From the bytes of a schema in compact syntax to its characters, and from these to its tokens.
+//! From the bytes of a schema in compact syntax to characters and tokens.
 //!
-//! `read_text` answers the characters that the bytes stand for, escapes replaced, or the first offset at which they are
-//! not UTF-8 or no characters of XML. `tokens` answers the tokens of these characters, each the longest that begins at
-//! its offset, or the first offset at which nothing begins. `marks_laws` does nothing: its contract says of texts that are
-//! made of words, names, segments, signs, spaces and line ends which tokens they have. `place_at` and `place_of_decoded` answer the
-//! line and the column of an offset.
+//! `read_text` decodes the bytes and replaces escapes. It fails at the first offset where the bytes are not UTF-8 or
+//! not characters that XML allows. `tokens` cuts the decoded text into tokens, each the longest that begins at its
+//! offset. It fails at the first offset where no piece begins. `place_at` and `place_of_decoded` return the line and
+//! the column of an offset. `marks_laws` does nothing: its contract is a theorem about which tokens a text has that is
+//! made of words, names, segments, signs, spaces and line ends.
 //!
-//! Order of reading, in `specs/`: `Characters` and `Decoding` (what bytes stand for), `Tokens` and `Cut` (which tokens these
-//! are), `Answers` (what a call answers), `Marks` (texts that are made of tokens). The others are for the proofs.
+//! Order of reading: in `rnc_model/specs`, `Characters` and `Decoding` (the decoded text of bytes), `Tokens` and `Cut`
+//! (its tokens); in `specs/`, `Answers` (what a call returns) and `Marks` (texts that are made of tokens). The others
+//! are for the proofs.
 #![tactic(auto)]
 
 mod character;

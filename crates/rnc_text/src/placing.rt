@@ -11,7 +11,7 @@ use crate::character::split_first;
 use crate::decoding::front;
 use rnc_model::{Character, FilePlace};
 
-/// Whether an LF is in front.
+/// Whether the text begins with an LF.
 fn starts_with_line_feed(text: &str) -> bool
     ensures { result ≡ places.starts_with_line_feed (chars text.now) }
 {
@@ -21,7 +21,7 @@ fn starts_with_line_feed(text: &str) -> bool
     }
 }
 
-/// Whether a line ends behind a character that this text follows.
+/// Whether a line ends after the character, which this text follows.
 fn ends_line(character: char, rest: &str) -> bool
     ensures { result ≡ places.ends_line character (chars rest.now) }
 {
@@ -32,7 +32,7 @@ fn ends_line(character: char, rest: &str) -> bool
     }
 }
 
-/// The place in front of the last bytes of a text, of which there are so many.
+/// The place in a text before its last `left` bytes.
 fn place_before(text: &str, left: usize) -> FilePlace
     ensures { (before after : List ℕ) → chars text.now ≡ before ++ after → length (encode_utf8_all after) ≡ left → IsPlaceBetween before after result }
 {
@@ -58,7 +58,7 @@ fn place_before(text: &str, left: usize) -> FilePlace
     }
 }
 
-/// How many bytes the character has in the decoded text.
+/// Length of the character in the decoded text, in bytes.
 fn decoded_length(character: Character) -> usize
     ensures { result ≡ byte_length (character ∷ []) }
 {
@@ -68,7 +68,7 @@ fn decoded_length(character: Character) -> usize
     }
 }
 
-/// How many bytes of a text are behind its first characters, which have so many bytes in the decoded text.
+/// Length in bytes of the text after its first characters, whose decoded text has `count` bytes.
 fn left_behind(text: &str, count: usize) -> usize
     ensures { (front : List Character) (after : List ℕ) → Decodes (chars text.now) front after → byte_length front ≡ count
         → result ≡ length (encode_utf8_all after) }
@@ -102,27 +102,27 @@ fn valid_front(bytes: &[u8]) -> &str
     }
 }
 
-/// The place in a file of an offset that `read_text` tells.
+/// Returns the place in a file of an offset that a fault of `read_text` reports.
 ///
-/// Of another offset a place in the file is told, and nothing is said of it. Linear.
+/// For any other offset it returns some place in the file, and the contract does not say which. Takes linear time.
 pub fn place_at(file: &[u8], offset: u64) -> FilePlace
-    // Where the bytes are not UTF-8 from the offset on, it is behind the characters before it.
+    // If the bytes from the offset on are not UTF-8, the place is after the characters before the offset.
     ensures utf8 { BreaksUtf8At file.now offset → (front : List ℕ) × IsSpelling (take offset file.now) front × IsPlaceBetween front [] result }
-    // Where no character begins at the offset, it is behind the characters before it.
+    // If no character begins at the offset, the place is after the characters before the offset.
     ensures characters { BreaksCharactersAt file.now offset → (front : List Character) × IsPlaceBehind file.now front result }
-    // Both are at this offset.
+    // In both cases the place has this offset.
     ensures offset { BreaksUtf8At file.now offset ⊎ BreaksCharactersAt file.now offset → result.offset ≡ offset }
 {
     let text = valid_front(file);
     place_before(text, text.len().saturating_sub(offset as usize))
 }
 
-/// The place in a file of an offset of its decoded text, in bytes.
+/// Returns the place in a file of an offset in bytes of its decoded text.
 ///
-/// Of a file that has no decoded text, and of an offset at which none of its characters begins, a place in the file is told, and nothing is said
-/// of it. Linear.
+/// If the file has no decoded text, or no character begins at the offset, it returns some place in the file, and the
+/// contract does not say which. Takes linear time.
 pub fn place_of_decoded(file: &[u8], offset: usize) -> FilePlace
-    // It is behind the characters that take so many bytes in the decoded text.
+    // The place is after the characters that have `offset` bytes in the decoded text.
     ensures { (front : List Character) (numbers after : List ℕ) → IsSpelling file.now numbers → Decodes numbers front after → byte_length front ≡ offset
         → IsPlaceBehind file.now front result }
 {

@@ -14,27 +14,27 @@ use crate::table::{double_sign, single_sign, word_kind};
 use rnc_model::{Character, TokenKind};
 use rng_model::{is_name_char, is_name_start};
 
-/// Characters that may follow one another in a piece.
+/// A set of characters. A piece contains a longest run of them.
 #[derive(Clone, Copy)]
 pub enum Class {
-    /// Those of an NCName after its first.
+    /// The characters of an NCName after its first one.
     Ncname,
-    /// All but a line end.
+    /// All characters except a line end.
     Line,
-    /// All but a line end and this quote.
+    /// All characters except a line end and this quote.
     Segment(char),
 }
 
-/// What begins at an offset.
+/// The piece that begins at an offset.
 #[derive(Clone, Copy)]
 pub enum Part<'a> {
     /// A blank or a comment.
     Gap,
-    /// A token of a kind, with what it says.
+    /// A token with its kind and its text, without quotes and backslash.
     Token(TokenKind, &'a str),
 }
 
-/// The character in the decoded text.
+/// The Unicode character of a decoded character.
 fn plain(character: Character) -> char
     ensures { result ≡ number_of character }
 {
@@ -63,7 +63,7 @@ fn is_in(class: Class, character: Character) -> bool
     }
 }
 
-/// Whether an NCName begins here.
+/// Whether an NCName begins at the cursor.
 fn begins_ncname(from: Cursor<'_>) -> bool
     ensures { result ≡ begins_ncname (remaining from.entry) }
 {
@@ -73,7 +73,7 @@ fn begins_ncname(from: Cursor<'_>) -> bool
     }
 }
 
-/// The cursor behind the characters of the class that stand here.
+/// Moves past all characters of the class at the cursor.
 fn past(from: Cursor<'_>, class: Class) -> Cursor<'_>
     ensures past { IsPast from.entry (front class (remaining from.entry)) result }
     ensures rest { remaining result ≡ after class (remaining from.entry) }
@@ -88,7 +88,7 @@ fn past(from: Cursor<'_>, class: Class) -> Cursor<'_>
     to
 }
 
-/// The cursor behind this character, if it stands here.
+/// Moves past this character, if it is at the cursor.
 fn behind(from: Cursor<'_>, wanted: char) -> Option<Cursor<'_>>
     ensures { FindsBehind from.entry result (Ordinary wanted ∷ []) (behind wanted (remaining from.entry)) }
 {
@@ -98,7 +98,7 @@ fn behind(from: Cursor<'_>, wanted: char) -> Option<Cursor<'_>>
     }
 }
 
-/// The cursor behind three quotes, if they stand here.
+/// Moves past three quotes, if they are at the cursor.
 fn behind_three(from: Cursor<'_>, quote: char) -> Option<Cursor<'_>>
     ensures { FindsBehind from.entry result (three quote []) (behind_three quote (remaining from.entry)) }
 {
@@ -107,7 +107,7 @@ fn behind_three(from: Cursor<'_>, quote: char) -> Option<Cursor<'_>>
     behind(third, quote)
 }
 
-/// The cursors before and behind the first three quotes from here on.
+/// Returns the cursors before and after the first three quotes from the cursor on.
 fn until_three(from: Cursor<'_>, quote: char) -> Option<(Cursor<'_>, Cursor<'_>)>
     ensures { FindsContent from.entry result quote (until_three quote (remaining from.entry)) }
 {
@@ -121,7 +121,7 @@ fn until_three(from: Cursor<'_>, quote: char) -> Option<(Cursor<'_>, Cursor<'_>)
     None
 }
 
-/// The word between two cursors, and the second of them.
+/// Returns the word between two cursors, and the second cursor.
 fn word<'a>(from: Cursor<'a>, end: Cursor<'a>) -> (Part<'a>, Cursor<'a>)
     requires { IsBefore from end }
     ensures part { (taken : List Character) → IsPast from.entry taken end.entry → told result.0 ≡ Some (word_kind taken, bytes_of taken) }
@@ -131,7 +131,8 @@ fn word<'a>(from: Cursor<'a>, end: Cursor<'a>) -> (Part<'a>, Cursor<'a>)
     (Part::Token(word_kind(word), word), end)
 }
 
-/// The CName or nsName whose first NCName ends at `end`, where a colon is, and goes on at `local`, or else that NCName.
+/// Returns the CName or nsName whose first NCName ends at `end`, or that NCName alone as a word. A colon is at `end`,
+/// and `local` is after it.
 fn qualified<'a>(from: Cursor<'a>, end: Cursor<'a>, local: Cursor<'a>) -> (Part<'a>, Cursor<'a>)
     requires name { IsBefore from end }
     requires colon { IsPast end (Ordinary 0x3A ∷ []) local }
@@ -147,7 +148,7 @@ fn qualified<'a>(from: Cursor<'a>, end: Cursor<'a>, local: Cursor<'a>) -> (Part<
     word(from, end)
 }
 
-/// The word, CName or nsName whose first NCName begins here, and the cursor behind it.
+/// Returns the word, CName or nsName whose first NCName begins at the cursor, and the cursor after it.
 fn name(from: Cursor<'_>) -> (Part<'_>, Cursor<'_>)
     ensures { FindsPart from.entry result.0 result.1 (name_at (remaining from.entry)) }
 {
@@ -158,7 +159,7 @@ fn name(from: Cursor<'_>) -> (Part<'_>, Cursor<'_>)
     }
 }
 
-/// The quoted identifier whose name begins here, behind its backslash.
+/// Returns the quoted identifier whose name begins at the cursor, after its backslash.
 fn quoted_identifier(name: Cursor<'_>) -> Option<(Part<'_>, Cursor<'_>)>
     ensures { (from : Cursor) → IsPast from (Ordinary 0x5C ∷ []) name.entry → Finds from result (quoted_at (remaining name.entry)) }
 {
@@ -172,7 +173,7 @@ fn quoted_identifier(name: Cursor<'_>) -> Option<(Part<'_>, Cursor<'_>)>
     ))
 }
 
-/// The segment whose content begins here, behind its first quote.
+/// Returns the segment whose content begins at the cursor, after its first quote.
 fn segment(content: Cursor<'_>, quote: char) -> Option<(Part<'_>, Cursor<'_>)>
     ensures { (from : Cursor) → IsPast from (Ordinary quote ∷ []) content.entry → Finds from result (segment_at quote (remaining content.entry)) }
 {
@@ -181,7 +182,7 @@ fn segment(content: Cursor<'_>, quote: char) -> Option<(Part<'_>, Cursor<'_>)>
     Some((Part::Token(TokenKind::Segment, content.text_to(end)), after))
 }
 
-/// The triple segment of which two more quotes stand here, behind its first.
+/// Returns the triple segment whose second quote is at the cursor.
 fn triple_segment(second: Cursor<'_>, quote: char) -> Option<(Part<'_>, Cursor<'_>)>
     ensures { (from : Cursor) → IsPast from (Ordinary quote ∷ []) second.entry → Finds from result (triple_at quote (remaining second.entry)) }
 {
@@ -194,7 +195,7 @@ fn triple_segment(second: Cursor<'_>, quote: char) -> Option<(Part<'_>, Cursor<'
     ))
 }
 
-/// The sign of two characters that begins with this one, behind which is `after`.
+/// Returns the sign of two characters that begins with this one. `after` is the cursor after the first character.
 fn long_sign<'a>(from: Cursor<'a>, first: char, after: Cursor<'a>) -> Option<(Part<'a>, Cursor<'a>)>
     requires { IsPast from (Ordinary first ∷ []) after }
     ensures { Finds from.entry result (long_sign (Ordinary first) (first_of (remaining after.entry))) }
@@ -204,7 +205,7 @@ fn long_sign<'a>(from: Cursor<'a>, first: char, after: Cursor<'a>) -> Option<(Pa
     Some((Part::Token(TokenKind::Sign(sign), from.text_to(end)), end))
 }
 
-/// The sign that begins with this character, behind which is `after`.
+/// Returns the sign that begins with this character. `after` is the cursor after it.
 fn sign<'a>(from: Cursor<'a>, first: char, after: Cursor<'a>) -> Option<(Part<'a>, Cursor<'a>)>
     requires { IsPast from (Ordinary first ∷ []) after }
     ensures { Finds from.entry result (sign_at (Ordinary first) (remaining after.entry)) }
@@ -221,7 +222,7 @@ fn sign<'a>(from: Cursor<'a>, first: char, after: Cursor<'a>) -> Option<(Part<'a
     }
 }
 
-/// The blank, comment or token that begins here, and the cursor behind it.
+/// Returns the blank, comment or token that begins at the cursor, and the cursor after it.
 pub fn piece(from: Cursor<'_>) -> Option<(Part<'_>, Cursor<'_>)>
     ensures { Finds from.entry result (piece_of (remaining from.entry)) }
 {

@@ -1,10 +1,10 @@
-// The keywords and the signs.
+// Keywords and signs.
 ghost use Rattle.std.specs.Prelude.{◌≡◌, ◌∷◌, []};
 ghost use Rattle.rnc_model.specs.tokens.Tokens.{keyword_of, sign_of, keyword_or_identifier};
 
 use rnc_model::{Keyword, Sign, TokenKind};
 
-/// The keyword that is written so.
+/// Returns the keyword that is written so.
 #[tactic(auto, unfolding(rnc_model::specs::tokens::Tokens::keyword_of))]
 pub fn find_keyword(word: &str) -> Option<Keyword>
     ensures { result ≡ keyword_of word.now }
@@ -43,7 +43,7 @@ pub fn word_kind(word: &str) -> TokenKind
     }
 }
 
-/// The sign that is this character.
+/// Returns the sign that is this character.
 #[tactic(auto, unfolding(rnc_model::specs::tokens::Tokens::sign_of))]
 pub fn single_sign(character: char) -> Option<Sign>
     ensures { result ≡ sign_of (character ∷ []) }
@@ -68,7 +68,7 @@ pub fn single_sign(character: char) -> Option<Sign>
     }
 }
 
-/// The sign that is these two characters.
+/// Returns the sign that is these two characters.
 #[tactic(auto, unfolding(rnc_model::specs::tokens::Tokens::sign_of))]
 pub fn double_sign(first: char, second: char) -> Option<Sign>
     ensures { result ≡ sign_of (first ∷ second ∷ []) }

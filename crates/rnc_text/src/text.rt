@@ -9,13 +9,13 @@ use rnc_model::Character;
 use std::alloc::{AllocError, Global};
 use std::marker::Model;
 
-/// The characters of a schema in compact syntax, with its escapes replaced and each line end one LF.
+/// The decoded text of a schema in compact syntax: escapes are replaced, and each line end is one LF.
 ///
-/// It also keeps which of its LFs came of escapes, since these end no line.
+/// It also keeps which LFs are written as escapes, since these end no line.
 #[derive(Debug, Drop)]
 pub struct Text {
     text: String,
-    /// The offsets in bytes of the LFs that came of escapes, in order.
+    /// Offsets in bytes of the LFs that are written as escapes, in order.
     escaped: Vec<usize>,
 }
 
@@ -28,7 +28,7 @@ impl Model for Text {
 }
 
 impl Text {
-    /// No characters.
+    /// Creates an empty text. Allocates nothing.
     pub(crate) fn new(alloc: Global) -> Text
         ensures { result ≡ [] }
     {
@@ -38,7 +38,7 @@ impl Text {
         }
     }
 
-    /// One more character at the end.
+    /// Appends a character. Fails only when out of memory.
     pub(crate) fn push(&mut self, character: Character) -> Result<(), AllocError>
         ensures { IfOk result (λ _. self.new ≡ self.old ++ character ∷ []) }
     {
@@ -54,14 +54,14 @@ impl Text {
         }
     }
 
-    /// The decoded text.
+    /// Returns the decoded text.
     pub fn as_str(&self) -> &str
         ensures { result.now ≡ bytes_of self.now }
     {
         self.text.as_str()
     }
 
-    /// The offsets in bytes of the LFs that came of escapes, in order.
+    /// Returns the offsets in bytes of the LFs that are written as escapes, in order.
     pub(crate) fn escaped(&self) -> &[usize]
         ensures { with_marks (bytes_of self.now) result.now ≡ self.now }
     {

@@ -3,7 +3,7 @@ use rnc_text::Character;
 use rng_model::is_xml_char;
 use std::alloc::{AllocError, Global};
 
-/// One `x` or more and an opening brace are in front.
+/// Returns whether the bytes begin with one `x` or more and an opening brace.
 fn opens(bytes: &[u8]) -> bool {
     for (at, byte) in bytes.iter().enumerate() {
         if *byte != b'x' {
@@ -13,7 +13,7 @@ fn opens(bytes: &[u8]) -> bool {
     false
 }
 
-/// The number of some hexadecimal digits.
+/// Returns the number that some hexadecimal digits write.
 fn number(digits: &[u8]) -> Option<u32> {
     let mut number = 0u32;
     for digit in digits {
@@ -24,7 +24,7 @@ fn number(digits: &[u8]) -> Option<u32> {
     Some(number)
 }
 
-/// The escape in front, and how many bytes it has.
+/// Returns the escape at the front, and the number of its bytes.
 fn plain_escape(bytes: &[u8]) -> Option<(Character, usize)> {
     for n in 1..7usize {
         let Some(end) = bytes.get(n + 3) else {
@@ -42,7 +42,7 @@ fn plain_escape(bytes: &[u8]) -> Option<(Character, usize)> {
     None
 }
 
-/// The character in front, and how many bytes it has.
+/// Returns the character at the front, and the number of its bytes.
 fn plain_front(bytes: &[u8]) -> Option<(Character, usize)> {
     match bytes {
         [b'\r', b'\n', ..] => Some((Character::LineEnd, 2)),
@@ -53,7 +53,7 @@ fn plain_front(bytes: &[u8]) -> Option<(Character, usize)> {
     }
 }
 
-/// The characters of ASCII bytes, and the offset where they end too early.
+/// Returns the characters of ASCII bytes, and the offset where they end too early, if they do.
 pub fn plain_characters(
     alloc: Global,
     bytes: &[u8],
@@ -74,7 +74,7 @@ pub fn plain_characters(
     Ok((all, None))
 }
 
-/// Whether a text is these characters, each of ASCII. Which of its LFs end a line is seen in its tokens.
+/// Returns whether a text consists of these characters, all of them ASCII. Its tokens show which of its LFs end a line.
 pub fn is_text_of(text: &str, cs: &[Character]) -> bool {
     for (byte, character) in text.as_bytes().iter().zip(cs.iter()) {
         let wanted = match character {

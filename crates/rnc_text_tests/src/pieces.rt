@@ -1,4 +1,4 @@
-// The tokens of characters, by a plain program that follows the definitions: each front is tried, the longest first.
+// The tokens of characters, by a plain program that follows the definitions: it tries each front, the longest first.
 use crate::characters::is_text_of;
 use rnc_text::{Character, Sign, TokenKind};
 use rng_model::{is_name_char, is_name_start};
@@ -25,7 +25,7 @@ const SIGNS: [(&str, Sign); 17] = [
     ("~", Sign::Tilde),
 ];
 
-/// The character is none of these.
+/// Returns whether the character is none of these.
 fn lacks(cs: &[Character], character: Character) -> bool {
     for c in cs {
         if *c == character {
@@ -49,7 +49,7 @@ fn is_name(cs: &[Character]) -> bool {
     !cs.is_empty()
 }
 
-/// The kind of a word, a name with a colon, a segment or a sign.
+/// Returns the kind of a word, a name with a colon, a segment or a sign.
 fn plain_kind(cs: &[Character]) -> Option<TokenKind> {
     if is_name(cs) {
         return Some(TokenKind::Identifier);
@@ -76,7 +76,7 @@ fn plain_kind(cs: &[Character]) -> Option<TokenKind> {
     }
 }
 
-/// The sign that is written so.
+/// Returns the sign that is written like this.
 fn plain_sign(cs: &[Character]) -> Option<Sign> {
     for (written, sign) in &SIGNS {
         if is_text_of(written, cs) {
@@ -86,7 +86,7 @@ fn plain_sign(cs: &[Character]) -> Option<Sign> {
     None
 }
 
-/// The kind of a segment or a triple segment.
+/// Returns the kind of a segment or a triple segment.
 fn plain_segment(cs: &[Character], quote: Character) -> Option<TokenKind> {
     let n = cs.len();
     if n >= 2
@@ -116,7 +116,7 @@ fn is_gap(cs: &[Character]) -> bool {
     }
 }
 
-/// The longest blank, comment or token in front: its length, and its kind.
+/// Returns the length and the kind of the longest blank, comment or token at the front.
 fn plain_piece(cs: &[Character]) -> Option<(usize, Option<TokenKind>)> {
     for less in 0..cs.len() {
         let n = cs.len() - less;
@@ -130,7 +130,7 @@ fn plain_piece(cs: &[Character]) -> Option<(usize, Option<TokenKind>)> {
     None
 }
 
-/// The kinds, starts and ends of the tokens, and the offset where they end too early.
+/// Returns the kinds, starts and ends of the tokens, and the offset where they end too early, if they do.
 pub fn plain_tokens(
     alloc: Global,
     cs: &[Character],

@@ -4,13 +4,13 @@ use crate::pieces::plain_tokens;
 use rnc_text::{Character, Text, TextFault, Token, TokenKind, read_text, tokens};
 use std::alloc::{AllocError, Global};
 
-/// What the texts are made of.
+/// The parts of the texts.
 const LETTERS: [&str; 19] = [
     "\\", "x", "{", "}", "\\x{A}", "\\x{5c}", "\\x{22}", "\"", "'", "#", " ", "\n", "\r", ":", "*",
     "|", "=", "-", "[",
 ];
 
-/// Whether the tokens are these.
+/// Returns whether the tokens are these.
 fn are_tokens(got: &[Token<'_>], wanted: &[(TokenKind, usize, usize)]) -> bool {
     for (token, (kind, start, end)) in got.iter().zip(wanted.iter()) {
         if token.kind != *kind || token.start != *start || token.end != *end {
@@ -20,7 +20,7 @@ fn are_tokens(got: &[Token<'_>], wanted: &[(TokenKind, usize, usize)]) -> bool {
     got.len() == wanted.len()
 }
 
-/// Whether the tokens of a text are those of the plain program.
+/// Returns whether the tokens of a text are those of the plain program.
 fn tokens_agree(alloc: Global, text: &Text, cs: &[Character]) -> Result<bool, AllocError> {
     let (wanted, stop) = plain_tokens(alloc, cs)?;
     Ok(match (tokens(alloc, text), stop) {
@@ -30,7 +30,7 @@ fn tokens_agree(alloc: Global, text: &Text, cs: &[Character]) -> Result<bool, Al
     })
 }
 
-/// Whether both calls answer what the plain program does, for bytes that are ASCII.
+/// Returns whether both calls return what the plain program does, for ASCII bytes.
 fn agrees(alloc: Global, bytes: &[u8]) -> Result<bool, AllocError> {
     let (cs, stop) = plain_characters(alloc, bytes)?;
     match (read_text(alloc, bytes), stop) {
@@ -50,7 +50,7 @@ fn single_bytes(rt: HostRuntime) {
     }
 }
 
-/// Whether they agree on these letters, one after the other.
+/// Returns whether they agree on these letters, one after the other.
 fn letters_agree(alloc: Global, letters: &[&str]) -> Result<bool, AllocError> {
     let mut text = String::new(alloc);
     for letter in letters {
@@ -71,7 +71,7 @@ fn texts_of_three_letters(rt: HostRuntime) {
     }
 }
 
-/// Whether they agree on nine letters, each a quotation mark or an `a`.
+/// Returns whether they agree on nine letters, each a quotation mark or an `a`.
 fn quotes_agree(alloc: Global, bits: u32) -> Result<bool, AllocError> {
     let mut text = String::new(alloc);
     for at in 0..9u32 {
@@ -90,7 +90,7 @@ fn quotes_in_a_row(rt: HostRuntime) {
     }
 }
 
-/// How many tokens a text of a mebibyte has, whose lines each have six.
+/// Returns the number of tokens in a text of a mebibyte, whose lines have six tokens each.
 fn many_tokens(alloc: Global) -> Result<usize, TextFault> {
     let line = b"element a:b { \"c\\x{64}\" } | # e\n";
     let mut schema = Vec::new(alloc);

@@ -1,9 +1,8 @@
-//! `rncv valid FILES..` says whether the document on standard input is valid against a RELAX NG schema,
-//! `rncv check FILES..` names the first clause of the compact syntax that the schema breaks, and `rncv simple FILES..`
-//! prints its simple form.
+//! `rncv valid FILES..` reports whether the document on standard input is valid against a RELAX NG schema. `rncv check
+//! FILES..` names the first clause that the schema breaks. `rncv simple FILES..` prints the simple form of the schema.
 //!
-//! The words are judged first, then the files are read in order, then the document is judged. The first fault ends
-//! the program: it prints one line on standard error, and gives the exit status.
+//! The words are judged first, then the files are read in order, then the document is judged. The first fault ends the
+//! program: it prints one line on standard error, and returns the exit status.
 #![tactic(auto)]
 
 use rncv_cli::{answer_command_line, exit_of};
@@ -21,7 +20,7 @@ fn main(rt: HostRuntime) -> ExitCode {
         io::writer(&rt),
     );
     if let Err(fault) = &answer {
-        // Where standard error takes no line either, the exit status is all that is left to say.
+        // If standard error fails too, only the exit status reports the fault.
         let _ = eprintln!(rt; "{fault}");
     }
     exit_of(&answer)

@@ -1,4 +1,4 @@
--- A handle that is not null owns what a box of the same value owns, and so do its parts.
+-- A handle that is not null owns the same as a box of the same value, and so do its parts.
 use mathlib.Core.List.{[]}
 use mir.Syntax.{impl, tnil, dnil}
 use denote.Signature.{Slot, plain}

@@ -1,4 +1,5 @@
--- What a handle holds may go to another thread, and be shared there: a schema's tables hold texts, numbers and name classes.
+-- What a handle holds may move to another thread and be shared there: the tables of a schema hold texts, numbers and
+-- name classes.
 use denote.Param.Send.{IsSend, IsSync, recorded_send, recorded_sync, sendable}
 use Rattle.std.proofs.Crossing.{Box-send, Box-sync, Vec-send, Vec-sync, crosses, frees, send, sync}
 use Rattle.std_heap.specs.contracts.Global as Heap

@@ -1,4 +1,4 @@
--- The machine value of a handle at any pointer, and what a handle owns beside it.
+-- The machine value of a handle at any pointer, and what a handle owns besides it.
 use Rattle.std.proofs.Common.{◌≡◌, List, [], ◌∷◌, ◌++◌, refl, subst, lit<}
 use seplogic.Ra.Ura.{Ura}
 use mir.Syntax.{Ty}

@@ -1,4 +1,4 @@
--- What handles hold, and what calls answer by it.
+-- What handles hold, and what calls on them return.
 pub mod Calls
 pub mod Files
 pub mod Handles

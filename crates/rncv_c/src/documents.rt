@@ -1,4 +1,4 @@
-// The work over a handle that holds a document.
+// Calls on a handle with a document.
 ghost use Rattle.std.specs.Prelude.{◌≡◌, ◌≢◌, ◌↔◌, [], IfErr, IfNone, IfOk, IfSome, IsSomeAnd, OnSome};
 ghost use Rattle.std.specs.declared.option.Option.TheVariants.{None, Some};
 ghost use Rattle.rncv_c.specs.views.Calls.{HasBegun, HasEnded, HasTaken, IsEndOf, IsInvalidSince, status_of_end, told_at_end};
@@ -13,10 +13,10 @@ use rncv_validator::{Document, DocumentFault, Validator};
 use rng_model::OutOfMemory;
 use std::alloc::Global;
 
-/// Begins a document by the schema of the handle. One that was begun before is let go of.
+/// Begins a document by the schema of the handle. If one is begun already, it is dropped.
 ///
-/// `Misuse` exactly if the handle holds no schema; or `Memory`, and then no document is begun. Costs what `Validator::document` takes, and where a
-/// document is let go of what `Document::finish` takes.
+/// Returns `Misuse` exactly if the handle holds no schema. Returns `Memory` when out of memory, and then no document is
+/// begun. Costs what `Validator::document` costs, and if a document is dropped what `Document::finish` costs.
 pub fn begin(alloc: Global, schema: &mut Handle) -> Status
     ensures done { result ≡ Status.Done → IsSomeAnd (document_in schema.new.held) HasBegun }
     ensures memory { result ≡ Status.Memory → schema_in schema.new.held ≡ grammar_in schema.old.held }
@@ -32,14 +32,14 @@ pub fn begin(alloc: Global, schema: &mut Handle) -> Status
     status
 }
 
-/// A document by the schema that was held, or the schema where there is no memory for one.
+/// Returns a document by the schema that is held, or the schema when out of memory.
 fn begun(held: Held, alloc: Global) -> (Held, Status)
     ensures done { result.1 ≡ Status.Done → IsSomeAnd (document_in (Some result.0)) HasBegun }
     ensures memory { result.1 ≢ Status.Done → (result.1 ≡ Status.Memory) × (schema_in (Some result.0) ≡ grammar_in (Some held)) }
     ensures kept { grammar_in (Some result.0) ≡ grammar_in (Some held) }
 {
     let mut document = validator_in(held).document(alloc);
-    // no bytes: it answers whether there was memory
+    // a piece without bytes fails only if the document is out of memory
     match document.feed(&[]) {
         Ok(()) => (Held::Document(document), Status::Done),
         Err(_) => {
@@ -49,7 +49,7 @@ fn begun(held: Held, alloc: Global) -> (Held, Status)
     }
 }
 
-/// The validator of a schema, or of a document that is let go of.
+/// Returns the validator of a schema, or of a document that is dropped.
 fn validator_in(held: Held) -> Validator
     ensures { grammar_in (Some held) ≡ Some result }
 {
@@ -62,9 +62,9 @@ fn validator_in(held: Held) -> Validator
     }
 }
 
-/// Hands the next piece to the document.
+/// Passes the next piece to the document.
 ///
-/// `Misuse` exactly if no document is begun; else as `Document::feed`. One pass over the piece.
+/// Returns `Misuse` exactly if no document is begun; otherwise the status of `Document::feed`. One pass over the piece.
 pub fn feed(alloc: Global, schema: &mut Handle, bytes: &[u8]) -> Status
     ensures taken { IfSome (document_in schema.old.held) (λ d. IsSomeAnd (document_in schema.new.held) (HasTaken bytes.now (code_of result) d)) }
     ensures misuse { (result ≡ Status.Misuse) ↔ (document_in schema.old.held ≡ None) }
@@ -85,9 +85,9 @@ pub fn feed(alloc: Global, schema: &mut Handle, bytes: &[u8]) -> Status
     status
 }
 
-/// The line from which on nothing valid can begin, 0 while it is not known.
+/// Returns the line after which no continuation is valid, or 0 as long as it is not known.
 ///
-/// `Misuse` exactly if no document is begun. Takes no memory.
+/// Fails with `Misuse` exactly if no document is begun. Allocates nothing.
 pub fn invalid_since(alloc: Global, schema: &mut Handle) -> Result<u64, Status>
     ensures value { IfOk result (λ line. IsSomeAnd (document_in schema.old.held) (IsInvalidSince line)) }
     ensures misuse { IfErr result (λ status. (status ≡ Status.Misuse) × (document_in schema.old.held ≡ None)) }
@@ -104,16 +104,17 @@ pub fn invalid_since(alloc: Global, schema: &mut Handle) -> Result<u64, Status>
     line
 }
 
-/// The line from which on nothing valid can begin, 0 while it is not known. Takes no memory.
+/// Returns the line after which no continuation is valid, or 0 as long as it is not known. Allocates nothing.
 fn hopeless_line(document: &Document) -> u64
     ensures { IsInvalidSince result document.now }
 {
     document.invalid_since().unwrap_or(0)
 }
 
-/// Ends the document, and tells the verdict on it. The handle holds the schema from then on.
+/// Ends the document, and reports the verdict on it in `told`. Then the handle holds the schema.
 ///
-/// `Misuse` exactly if no document is begun; or `Memory`, and then the document has ended too. Costs what `Document::finish` takes.
+/// Returns `Misuse` exactly if no document is begun. Returns `Memory` when out of memory, and then the document has
+/// ended too. Costs what `Document::finish` costs.
 pub fn end(alloc: Global, schema: &mut Handle, told: &mut Judgement) -> Status
     ensures ended { IfSome (document_in schema.old.held) (λ d. HasEnded d (code_of result) told.old told.new) }
     ensures misuse { (result ≡ Status.Misuse) ↔ (document_in schema.old.held ≡ None) }
@@ -131,7 +132,8 @@ pub fn end(alloc: Global, schema: &mut Handle, told: &mut Judgement) -> Status
     }
 }
 
-/// The schema in place of a document that has ended, and what `Document::finish` answers; or what was held, where that was no document.
+/// Returns the schema of a document that has ended, and what `Document::finish` returns. If what is held is no
+/// document, returns it.
 fn ended(held: Held, _nothing: ()) -> (Held, Option<Result<Verdict, OutOfMemory>>)
     ensures ended { IfSome (document_in (Some held)) (λ d. IsSomeAnd result.1 (IsEndOf d)) }
     ensures none { IfNone result.1 ((document_in (Some held) ≡ None) × (result.0 ≡ held)) }
@@ -147,7 +149,7 @@ fn ended(held: Held, _nothing: ()) -> (Held, Option<Result<Verdict, OutOfMemory>
     }
 }
 
-/// Tells a verdict, if there is one.
+/// Reports a verdict, if there is one.
 fn tell(answer: Result<Verdict, OutOfMemory>, told: &mut Judgement) -> Status
     ensures status { result ≡ status_of_end answer }
     ensures told { told.new ≡ told_at_end told.old answer }

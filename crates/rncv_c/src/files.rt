@@ -1,4 +1,4 @@
-// The files of a schema, as C hands them in.
+// The files of a schema as C passes them.
 ghost use Rattle.std.specs.Prelude.{◌≡◌, ◌<◌, ◌^◌, ◌↔◌, IfOk, IfSome, IsTrue, bytes_eq, option_map, position};
 ghost use Rattle.rnc_model.specs.loading.Files.{named_files};
 ghost use Rattle.rncv_model.specs.answers.Run.{main_name};
@@ -6,7 +6,7 @@ ghost use Rattle.rncv_c.specs.views.Files.{AreNamed, file_at, files_of, index_fo
 
 use std::alloc::{AllocError, Global};
 
-/// A file of a schema as C sees it: two pointers, each with a length. No pointer is null.
+/// A file of a schema as C passes it: two pointers, each with a length. No pointer is null.
 #[repr(C)]
 #[derive(Clone, Copy)]
 pub struct SchemaFile<'a> {
@@ -14,7 +14,7 @@ pub struct SchemaFile<'a> {
     pub bytes: &'a [u8],
 }
 
-/// Whether there is a file, and each name is UTF-8. One pass over the names.
+/// Returns whether there is a file, and each name is UTF-8. One pass over the names.
 pub fn are_named(files: &[SchemaFile<'_>]) -> bool
     ensures { IsTrue result ↔ AreNamed files.now }
 {
@@ -26,7 +26,7 @@ pub fn are_named(files: &[SchemaFile<'_>]) -> bool
     !files.is_empty()
 }
 
-/// The files, copied. The error is want of memory.
+/// Copies the files. Fails only when out of memory.
 pub fn copied_files(
     alloc: Global,
     files: &[SchemaFile<'_>],
@@ -48,7 +48,7 @@ pub fn copied_files(
     Ok(copy)
 }
 
-/// The index of the first file of this name. One pass over the names.
+/// Returns the index of the first file of this name. One pass over the names.
 pub fn position_of(files: &[SchemaFile<'_>], name: &[u8]) -> Option<usize>
     ensures position { result ≡ position (λ f. bytes_eq f.name.now name.now) files.now }
     ensures small { IfSome result (λ index. index < 2 ^ 63) }
@@ -56,7 +56,7 @@ pub fn position_of(files: &[SchemaFile<'_>], name: &[u8]) -> Option<usize>
     files.iter().position(|file| file.name == name)
 }
 
-/// An index as C sees it; none is -1.
+/// Returns an index as C reads it; `None` is -1.
 pub fn index_to_tell(index: Option<usize>) -> i64
     requires { IfSome index (λ i. i < 2 ^ 63) }
     ensures { result ≡ index_for_c index }
@@ -67,7 +67,7 @@ pub fn index_to_tell(index: Option<usize>) -> i64
     }
 }
 
-/// The file at an index.
+/// Returns the file at an index.
 pub fn file_at<'t, 'a>(
     files: &'t [SchemaFile<'a>],
     index: Option<usize>,

@@ -1,4 +1,4 @@
-// A handle as C sees it, and what it may hold.
+// Handles as C has them, and what they hold.
 ghost use Rattle.std.specs.Prelude.{◌≡◌, option_map};
 ghost use Rattle.std.specs.declared.option.Option.{Option};
 ghost use Rattle.std.specs.declared.option.Option.TheVariants.{None, Some};
@@ -14,16 +14,16 @@ use std::marker::Model;
 use std::mem::replace;
 use std::ptr::null_mut;
 
-/// What a handle may hold.
+/// What a handle holds, unless it is empty.
 #[derive(Drop)]
 pub enum Held {
     /// A schema, with no document begun.
     Schema(Validator),
-    /// A document that was begun.
+    /// A document that is begun.
     Document(Document),
 }
 
-/// A handle as C sees it: a struct of one pointer, which is null where the handle holds nothing.
+/// A handle as C has it: a struct with one pointer, which is null if the handle holds nothing.
 #[repr(C)]
 pub struct Handle {
     at: *mut u8,
@@ -35,11 +35,11 @@ impl Model for Handle {
     ghost also_owns = { λ h. handle_owns h.alloc h.at h.held };
 }
 
-// What a handle holds is its own or an `Arc` of plain data, so C may pass it to another thread.
+// What a handle holds belongs to it alone or is an `Arc` of plain data, so C may pass it to another thread.
 unsafe impl Send for Handle {}
 
 impl Handle {
-    /// A handle that holds nothing. Takes no memory.
+    /// Creates a handle that holds nothing. Allocates nothing.
     pub fn empty(alloc: Global) -> Handle
         ensures { result.held ≡ None }
     {
@@ -72,7 +72,7 @@ impl Handle {
         })
     }
 
-    /// Takes out what the handle holds. It holds nothing from then on. Takes no memory.
+    /// Takes out what the handle holds. Then it holds nothing. Allocates nothing.
     pub fn take(&mut self, alloc: Global) -> Option<Box<Held>>
         ensures value { option_map (λ b. b.value) result ≡ self.old.held }
         ensures empty { self.new.held ≡ None }
@@ -81,7 +81,7 @@ impl Handle {
         Some(parts.into_box())
     }
 
-    /// Puts a value in place of what the handle held, which is freed. Takes no memory.
+    /// Puts a value into the handle. What it held is freed. Allocates nothing.
     pub fn put(&mut self, value: Box<Held>)
         ensures { self.new.held ≡ Some value.value }
     {

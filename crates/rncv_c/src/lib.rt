@@ -1,7 +1,8 @@
 //! The validator for C, as `rncv.h` declares it.
 //!
-//! A handle of C holds nothing, or a schema, or a document in progress. Each function here is one call and its status as a number; a call on a
-//! handle that does not hold what it needs is answered by a status too. The numbers are those of `code_of`.
+//! A handle of C holds nothing, or a schema, or a document in progress. Each function here is one call, and returns its
+//! status as a number. A call on a handle that does not hold what the call needs returns a status too. The numbers are
+//! those of `code_of`.
 #![tactic(auto)]
 
 ghost use Rattle.std.specs.Prelude.{◌≡◌, ◌≢◌, ◌↔◌, [], pos, IfSome, IsSomeAnd};
@@ -26,10 +27,11 @@ use status::Status;
 use std::alloc::Global;
 use told::{Judgement, Refusal};
 
-/// Compiles the schema of these files, of which the first is the main one, and puts it into the handle. What it held is freed.
+/// Compiles the schema of these files, the first of which is the main one, and puts it into the handle. What the handle
+/// held is freed.
 ///
-/// 0; 1 where the files break a clause, which is told; 3 for want of memory; 4 exactly if there is no file or a name is not UTF-8. Costs
-/// what `Validator::compile` takes, and a copy of the files.
+/// Returns 0 on success; 1 if the files break a clause, which `fault` reports; 3 when out of memory; 4 exactly if there
+/// is no file or a name is not UTF-8. Costs what `Validator::compile` costs, and a copy of the files.
 #[unsafe(no_mangle)]
 pub extern "C" fn rncv_compile(
     alloc: Global,
@@ -48,9 +50,10 @@ pub extern "C" fn rncv_compile(
     schemas::compile(alloc, files, schema, fault).code()
 }
 
-/// Makes a second handle on the same schema, for another thread. What `other` held is freed.
+/// Makes `other` a second handle on the same schema, for another thread. What `other` held is freed.
 ///
-/// 0; 3 for want of memory; 4 exactly if `schema` holds no schema or a document is begun. Takes a few bytes.
+/// Returns 0 on success; 3 when out of memory; 4 exactly if `schema` holds no schema or a document is begun. Allocates
+/// a few bytes.
 #[unsafe(no_mangle)]
 pub extern "C" fn rncv_schema_share(alloc: Global, schema: &mut Handle, other: &mut Handle) -> i32
     ensures done { result ≡ pos 0 → schema_in other.new.held ≡ schema_in schema.old.held }
@@ -62,7 +65,7 @@ pub extern "C" fn rncv_schema_share(alloc: Global, schema: &mut Handle, other: &
     schemas::share(alloc, schema, other).code()
 }
 
-/// Frees what the handle holds, if it holds anything. It holds nothing from then on, so a second call does nothing.
+/// Frees what the handle holds, if it holds anything. Then it holds nothing, so a second call does nothing.
 #[unsafe(no_mangle)]
 pub extern "C" fn rncv_schema_free(alloc: Global, schema: &mut Handle)
     ensures { schema.new.held ≡ None }
@@ -70,10 +73,11 @@ pub extern "C" fn rncv_schema_free(alloc: Global, schema: &mut Handle)
     drop(schema.take(alloc));
 }
 
-/// Begins a document by the schema of the handle. One that was begun before is let go of, and what was worked out of the schema is kept.
+/// Begins a document by the schema of the handle. If one is begun already, it is dropped, and what is known of the
+/// schema is kept.
 ///
-/// 0; 3 for want of memory, and then no document is begun; 4 exactly if the handle holds no schema. Costs what `Validator::document` takes, and
-/// where a document is let go of what `Document::finish` takes.
+/// Returns 0 on success; 3 when out of memory, and then no document is begun; 4 exactly if the handle holds no schema.
+/// Costs what `Validator::document` costs, and if a document is dropped what `Document::finish` costs.
 #[unsafe(no_mangle)]
 pub extern "C" fn rncv_document_begin(alloc: Global, schema: &mut Handle) -> i32
     ensures done { result ≡ pos 0 → IsSomeAnd (document_in schema.new.held) HasBegun }
@@ -85,10 +89,10 @@ pub extern "C" fn rncv_document_begin(alloc: Global, schema: &mut Handle) -> i32
     documents::begin(alloc, schema).code()
 }
 
-/// Hands the document's next piece to it, of any length.
+/// Passes the next piece of the document, of any length.
 ///
-/// 0; 2 where the document breaks a clause, and 3 for want of memory, which every later call for it answers too; 4 exactly if no document is
-/// begun. One pass over the piece.
+/// Returns 0 on success; 2 if the document breaks a clause; 3 when out of memory; 4 exactly if no document is begun.
+/// After 2 or 3, every later call of this function for the document returns the same. One pass over the piece.
 #[unsafe(no_mangle)]
 pub extern "C" fn rncv_document_feed(alloc: Global, schema: &mut Handle, bytes: &[u8]) -> i32
     ensures taken { IfSome (document_in schema.old.held) (λ d. IsSomeAnd (document_in schema.new.held) (HasTaken bytes.now result d)) }
@@ -98,9 +102,9 @@ pub extern "C" fn rncv_document_feed(alloc: Global, schema: &mut Handle, bytes: 
     documents::feed(alloc, schema, bytes).code()
 }
 
-/// Tells the line from which on nothing valid can begin, from 1, and 0 while it is not known.
+/// Reports in `line` the line after which no continuation is valid, counted from 1, or 0 as long as it is not known.
 ///
-/// 0; 4 exactly if no document is begun. Takes no memory.
+/// Returns 0 on success; 4 exactly if no document is begun. Allocates nothing.
 #[unsafe(no_mangle)]
 pub extern "C" fn rncv_document_invalid_since(
     alloc: Global,
@@ -122,10 +126,11 @@ pub extern "C" fn rncv_document_invalid_since(
     }
 }
 
-/// Ends the document, and tells the verdict on it. The handle holds the schema from then on, with what was worked out of it.
+/// Ends the document, and reports the verdict on it in `verdict`. Then the handle holds the schema, with what is known
+/// of it.
 ///
-/// 0; 3 for want of memory, and then the document has ended too, with no verdict; 4 exactly if no document is begun. Costs what
-/// `Document::finish` takes.
+/// Returns 0 on success; 3 when out of memory, and then the document has ended without a verdict; 4 exactly if no
+/// document is begun. Costs what `Document::finish` costs.
 #[unsafe(no_mangle)]
 pub extern "C" fn rncv_document_end(
     alloc: Global,
@@ -140,10 +145,10 @@ pub extern "C" fn rncv_document_end(
     documents::end(alloc, schema, verdict).code()
 }
 
-/// Writes the printed simple form of the schema to the buffer, if it fits, and tells its length.
+/// Writes the printed simple form of the schema to the buffer if it fits, and reports its length in `count`.
 ///
-/// 0; 3 for want of memory; 4 exactly if the handle holds no schema or a document is begun; 5 where the form does not fit, and then nothing
-/// is written. Costs what `Validator::simple_text` takes, and a copy.
+/// Returns 0 on success; 3 when out of memory; 4 exactly if the handle holds no schema or a document is begun; 5 if the
+/// form does not fit, and then nothing is written to the buffer. Costs what `Validator::simple_text` costs, and a copy.
 #[unsafe(no_mangle)]
 pub extern "C" fn rncv_simple(
     alloc: Global,

@@ -1,4 +1,4 @@
-// The work over a handle that holds a schema.
+// Calls on a handle with a schema.
 ghost use Rattle.std.specs.Prelude.{◌≡◌, ◌≢◌, ◌↔◌, ◌<◌, ◌++◌, length, drop, IfErr, IfOk, IfSome, IsErrOf, IsSomeAnd};
 ghost use Rattle.std.specs.declared.option.Option.TheVariants.{None, Some};
 ghost use Rattle.rncv_model.specs.answers.Compiled.{IsRefusal};
@@ -16,10 +16,11 @@ use rncv_validator::Validator;
 use rng_model::SchemaFault;
 use std::alloc::Global;
 
-/// Compiles the schema of these files, of which the first is the main one, and puts it into the handle.
+/// Compiles the schema of these files, the first of which is the main one, and puts it into the handle.
 ///
-/// `Misuse` exactly if there is no file or a name is not UTF-8; `Refused` where the files break a clause, which is told with its place; or
-/// `Memory`. Costs what `Validator::compile` and `place_of` take, and a copy of the files.
+/// Returns `Misuse` exactly if there is no file or a name is not UTF-8; `Refused` if the files break a clause, which is
+/// reported with its place; `Memory` when out of memory. Costs what `Validator::compile` and `place_of` cost, and a
+/// copy of the files.
 pub fn compile(
     alloc: Global,
     files: &[SchemaFile<'_>],
@@ -49,7 +50,7 @@ pub fn compile(
     }
 }
 
-/// The schema of a copy of the files.
+/// Returns the compiled schema of a copy of the files.
 fn compiled(alloc: Global, files: &[SchemaFile<'_>]) -> Result<Validator, SchemaFault>
     requires { AreNamed files.now }
     ensures compiled { IfOk result (IsOneFor (files_of files.now) (main_of files.now)) }
@@ -61,9 +62,10 @@ fn compiled(alloc: Global, files: &[SchemaFile<'_>]) -> Result<Validator, Schema
     Validator::compile(alloc, copy.as_slice())
 }
 
-/// A second handle on the same schema, for another thread. What `other` held is freed.
+/// Makes `other` a second handle on the same schema, for another thread. What `other` held is freed.
 ///
-/// `Misuse` exactly if `schema` holds no schema or a document is begun; or `Memory`. Takes a few bytes.
+/// Returns `Misuse` exactly if `schema` holds no schema or a document is begun; `Memory` when out of memory. Allocates
+/// a few bytes.
 pub fn share(alloc: Global, schema: &mut Handle, other: &mut Handle) -> Status
     ensures done { result ≡ Status.Done → schema_in other.new.held ≡ schema_in schema.old.held }
     ensures misuse { (result ≡ Status.Misuse) ↔ (schema_in schema.old.held ≡ None) }
@@ -77,7 +79,7 @@ pub fn share(alloc: Global, schema: &mut Handle, other: &mut Handle) -> Status
     }
 }
 
-/// Another validator by the schema that the handle holds, and goes on to hold.
+/// Returns another validator for the schema that the handle holds, and still holds after the call.
 fn shared(alloc: Global, schema: &mut Handle) -> Result<Validator, Status>
     ensures value { IfOk result (λ v. schema_in schema.old.held ≡ Some v) }
     ensures kept { schema.new.held ≡ schema.old.held }
@@ -95,10 +97,10 @@ fn shared(alloc: Global, schema: &mut Handle) -> Result<Validator, Status>
     found
 }
 
-/// Writes the printed simple form to the buffer, if it fits, and its length.
+/// Writes the printed simple form to the buffer if it fits, and its length to `count`.
 ///
-/// `Misuse` exactly if the handle holds no schema or a document is begun; `Space` where the form does not fit; or `Memory`. Costs what
-/// `Validator::simple_text` takes, and a copy.
+/// Returns `Misuse` exactly if the handle holds no schema or a document is begun; `Space` if the form does not fit;
+/// `Memory` when out of memory. Costs what `Validator::simple_text` costs, and a copy.
 pub fn simple(alloc: Global, schema: &mut Handle, buffer: &mut [u8], count: &mut usize) -> Status
     ensures done { result ≡ Status.Done → IsSomeAnd (schema_in schema.old.held) (λ g. IsWritten g count.new buffer.old buffer.new) }
     ensures space { result ≡ Status.Space → IsSomeAnd (schema_in schema.old.held) (λ g. IsTooLong g count.new buffer.old) }
@@ -114,7 +116,7 @@ pub fn simple(alloc: Global, schema: &mut Handle, buffer: &mut [u8], count: &mut
     }
 }
 
-/// The printed simple form of the schema that the handle holds, and goes on to hold.
+/// Returns the printed simple form of the schema that the handle holds, and still holds after the call.
 fn simple_text(alloc: Global, schema: &mut Handle) -> Result<Vec<u8>, Status>
     ensures value { IfOk result (λ text. IsSomeAnd (schema_in schema.old.held) (λ g. IsTextOf g text.items)) }
     ensures kept { schema.new.held ≡ schema.old.held }
@@ -132,7 +134,7 @@ fn simple_text(alloc: Global, schema: &mut Handle) -> Result<Vec<u8>, Status>
     text
 }
 
-/// Copies the text to the front of the buffer, if it fits, and tells its length.
+/// Copies the text to the front of the buffer if it fits, and reports its length.
 fn copied(text: &[u8], buffer: &mut [u8], count: &mut usize) -> Status
     ensures done { result ≡ Status.Done → buffer.new ≡ text.now ++ drop (length text.now) buffer.old }
     ensures space { result ≢ Status.Done → (result ≡ Status.Space) × (length buffer.old < length text.now) × (buffer.new ≡ buffer.old) }

@@ -1,8 +1,8 @@
-// What a call answers.
+// The status of a call.
 ghost use Rattle.std.specs.Prelude.{◌≡◌};
 ghost use Rattle.rncv_c.specs.views.Held.{code_of};
 
-/// What a call answers.
+/// The status of a call.
 #[derive(Clone, Copy)]
 pub enum Status {
     Done,
@@ -10,16 +10,16 @@ pub enum Status {
     Refused,
     /// A document breaks a clause.
     Malformed,
-    /// There was no memory.
+    /// The call ran out of memory.
     Memory,
-    /// A handle does not hold what the call needs, or an argument is none that the call takes.
+    /// A handle does not hold what the call needs, or the call does not take an argument.
     Misuse,
     /// The text does not fit the buffer.
     Space,
 }
 
 impl Status {
-    /// The number of the header. Takes no memory.
+    /// Returns the number of the status in the header. Allocates nothing.
     pub fn code(self) -> i32
         ensures { result ≡ code_of self }
     {

@@ -1,4 +1,4 @@
-// What C is told of files that are refused, and of a document.
+// What is reported to C of refused files, and of a document.
 ghost use Rattle.std.specs.Prelude.{◌≡◌, ◌<◌, ◌^◌, IfOk, IfSome, Some, option_map};
 ghost use Rattle.rncv_validator.specs.views.Places.{file_clause};
 ghost use Rattle.rncv_c.specs.views.Files.{index_for_c};
@@ -11,7 +11,8 @@ use rncv_validator::{FilePlace, place_of};
 use rng_model::{OutOfMemory, SchemaFault};
 use std::alloc::Global;
 
-/// Why files are no schema, as C sees it: a clause, the index of the file that breaks it, and the place in it. What is not known is -1.
+/// Why files are refused, as C reads it: a clause, the index of the file that breaks it, and the place in the file. A
+/// value that is not known is -1.
 #[repr(C)]
 #[derive(Clone, Copy)]
 pub struct Refusal {
@@ -22,7 +23,8 @@ pub struct Refusal {
     pub column: i64,
 }
 
-/// What a document is, as C sees it: 0 for valid, 1 for invalid, 2 for malformed. The clause and the line are 0 where the kind has none.
+/// The verdict on a document, as C reads it: 0 for valid, 1 for invalid, 2 for malformed. The clause and the line are 0
+/// if the kind has none.
 #[repr(C)]
 #[derive(Clone, Copy)]
 pub struct Judgement {
@@ -31,8 +33,8 @@ pub struct Judgement {
     pub line: u64,
 }
 
-/// Why the files are refused. The error is want of memory, which is also told where the cause is one. One pass over the names, and what
-/// `place_of` takes.
+/// Returns why the files are refused. Fails only when out of memory, also if that is the cause itself. Costs one pass
+/// over the names, and what `place_of` costs.
 pub fn refusal_to_tell(
     alloc: Global,
     files: &[SchemaFile<'_>],
@@ -51,7 +53,7 @@ pub fn refusal_to_tell(
     }
 }
 
-/// The place at which a file breaks the clause of its fault, if there is a file, and it breaks the clause by what is in it.
+/// Returns the place where a file breaks the clause of its fault, if there is a file and its content breaks the clause.
 fn place_in(
     alloc: Global,
     file: Option<&SchemaFile<'_>>,
@@ -67,14 +69,14 @@ fn place_in(
     }
 }
 
-/// A number as C sees it; -1 where it has none that is so large.
+/// Returns a number as C reads it, or -1 if it is too large.
 fn number_to_tell(number: u64) -> i64
     ensures { result ≡ number_for_c number }
 {
     if number < 1 << 63 { number as i64 } else { -1 }
 }
 
-/// The refusal by this clause, in the file of this index, at this place.
+/// Returns the refusal by this clause, in the file of this index, at this place.
 fn refusal_at(index: Option<usize>, clause: u8, place: Option<FilePlace>) -> Refusal
     requires { IfSome index (λ i. i < 2 ^ 63) }
     ensures { result ≡ told.refusal_at (index_for_c index) clause place }
@@ -96,7 +98,7 @@ fn refusal_at(index: Option<usize>, clause: u8, place: Option<FilePlace>) -> Ref
     }
 }
 
-/// The numbers of a verdict. Takes no memory.
+/// Returns the numbers of a verdict. Allocates nothing.
 pub fn judgement_to_tell(verdict: Verdict) -> Judgement
     ensures { result ≡ judgement_of verdict }
 {

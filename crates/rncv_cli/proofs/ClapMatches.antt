@@ -1,4 +1,4 @@
--- What a caller reads of matches, by their rows.
+-- What the caller gets from clap's matches, given their rows.
 use Rattle.std.proofs.Common.{◌≡◌, ◌∙◌, ap, refl, Bool, true, false, List, [], ◌∷◌, map, Option, Some, None, option_map, option_and_then, find, slice_get}
 use Rattle.std.proofs.Common.{if◌then◌else◌}
 use Rattle.std.specs.Str.{bytes_eq}
@@ -8,7 +8,7 @@ use Rattle.clap.specs.Facts.{Entry}
 use Rattle.clap.specs.Walk.{row_of}
 use Rattle.clap.specs.declared.parser.matches.Found.{Found}
 
--- what is found in the rows is what is found in the entries
+-- what is found in the rows is found in the entries
 module _ (id : Text) where
   one_more : (b : Bool) (e : Entry) (found : Option Entry) (rows : Option Row) → rows ≡ option_map row_of found →
       (if b then Some (row_of e) else rows) ≡ option_map row_of (if b then Some e else found)

@@ -1,4 +1,4 @@
--- Clap's walk over the words, by the form of a command line.
+-- Clap's walk over the words, with the form of a command line.
 use Rattle.std.proofs.Common.{◌≡◌, ◌∙◌, ◌<◌, ◌≤◌, ℕ, Bool, true, false, List, [], ◌∷◌, ◌++◌, length, Some, None, codes}
 use Rattle.std.proofs.Common.{ap, ap₂, refl, sym, subst, arith, append-nil, append_assoc, le-ltb, ne_eqb}
 use Rattle.std.specs.Prelude.{◌==◌, nat_lt}
@@ -20,7 +20,7 @@ use Rattle.rncv_cli.specs.plain.CommandLine.{Text, WithoutDashes, none, dashes, 
 use Rattle.rncv_cli.specs.plain.CommandLineForm.{form}
 use Rattle.rncv_cli.proofs.WordKinds.{HasFirst, IsLong, IsPlain, IsShort, Kind, is_dashes, is_long, is_plain, is_short, kind_of, plain_of, short_has_first}
 
--- the form, as clap builds it
+-- the form as clap builds it
 abbrev shape : Shape
 shape = (built form).top
 
@@ -54,7 +54,7 @@ position_at start = 1
 position_at (named command) = 2
 position_at (filed command first more) = 2
 
--- the walk there, behind the first `--` or before it
+-- the walk there, either after the first `--` or not
 abbrev walk_at : Bool → Place → Walk
 walk_at behind p = record { held = held_at p; waiting = waiting_at p; position = position_at p; is_trailing = behind; stopped = None }
 
@@ -88,7 +88,7 @@ value_moves behind p word fits met = record {
   there = ap (λ (m : Held × Step). after_step shape.rules word (walk_at behind p) m.0 m.1) met ∙ after_value behind p word;
 }
 
--- so is any word behind the first `--`, and before it each that is neither `--` nor an option
+-- so is any word after the first `--`, and before it each word that is neither `--` nor an option
 behind_moves : (p : Place) (word : Text) → Moves (walk_at true p) word (walk_at true (next_at p word))
 behind_moves p word = value_moves true p word refl refl
 
@@ -187,7 +187,7 @@ abbrev after : Held → Kinds
 after end = or_else (settle_fault shape.rules false end)
     (or_else (defaults_fault (settled shape.rules end).rows shape.rules) (check_fault shape (finished shape.rules end) false))
 
--- a command is missing, or a file
+-- the command is missing, or there is no file
 nothing_wants : after (held_at start) ≡ MissingRequiredArgument ∷ []
 unfolding defaults_fault
 nothing_wants = refl
@@ -196,7 +196,7 @@ named_wants : (command : Text) → after (held_at (named command)) ≡ MissingRe
 unfolding defaults_fault
 named_wants command = refl
 
--- any number of files passes that fits a machine's word, and any name
+-- any positive number of files that fits a machine word passes, and any name
 range_fits : (n : ℕ) → 0 < n → n ≤ usize_max → range_kinds 1 usize_max n ≡ []
 range_fits n some few =
     let one : (n == 0) ≡ false = ne_eqb n 0 (λ e. omega arith) in
@@ -222,7 +222,7 @@ filed_more command first some [] = ap (filed command first) (sym (append-nil som
 filed_more command first some (word ∷ more) =
     filed_more command first (some ++ word ∷ []) more ∙ ap (filed command first) (append_assoc some (word ∷ []) more)
 
--- the faults of the words, and then of what is held
+-- the faults of the words, followed by those of what is held
 fault_is : (words : List Text) → fault_of form words
     ≡ or_else (walk_fault shape [] (walk_at false start) words) (after (fold (walked shape.rules []) (walk_at false start) words).held)
 fault_is words = leaf_fault (built form) nothing_held words refl
@@ -241,7 +241,7 @@ finds_filed words command first more is = record {
   files_are = ap (λ (h : Held). all_of (codes "files") (finished shape.rules h)) is;
 }
 
--- there are no more arguments than words
+-- there are at most as many arguments as words
 shorter : {words arguments : List Text} → WithoutDashes words arguments → length arguments ≤ length words
 shorter none = omega arith
 shorter (dashes is) = omega arith
@@ -251,7 +251,7 @@ few_files : {words : List Text} (command : Text) (files : List Text) → Without
     → length files ≤ usize_max
 few_files command files parts few = let h = shorter parts in omega arith
 
--- clap has no fault to find with the words, and finds this command and these files
+-- clap finds no fault in the words, and finds this command and these files
 pub record IsRead (words : List Text) (command : Text) (files : List Text) : Type 0 where
   pub fits : fault_of form words ≡ []
   pub finds : Finds words command files
@@ -267,7 +267,7 @@ is_read words command (first ∷ more) parts some few =
       finds = finds_filed words command first more held;
     }
 
--- the words are a command and one file or more, and clap finds these
+-- the words are a command and one or more files, and clap finds them
 pub record AreFound (words : List Text) : Type 0 where
   pub command : Text
   pub files : List Text

@@ -1,4 +1,4 @@
--- What clap finds in the words, against the command lines.
+-- What clap finds in the words, compared with the command lines.
 use Rattle.std.proofs.Common.{◌≡◌, ◌∙◌, ◌<◌, ◌≤◌, Bool, true, false, List, [], ◌∷◌, length, map, Some, None, String, string_bytes}
 use Rattle.std.proofs.Common.{ap, refl, sym, subst}
 use Rattle.std.specs.Prelude.{if◌then◌else◌, option_and_then}
@@ -18,7 +18,7 @@ pub all_utf8 : {Z : Type 0} (texts : List (String Z)) → AllByRecursion IsUtf8 
 all_utf8 [] = tt
 all_utf8 (text ∷ texts) = (IsUtf8-string_bytes text, all_utf8 texts)
 
--- the command of a name is the one with that name
+-- the command found by a name is the one with that name
 named_by : (name : Text) (command : Command) (valid check simple : Bool) → bytes_eq name (name_of Valid) ≡ valid → bytes_eq name (name_of Check) ≡ check
     → bytes_eq name (name_of Simple) ≡ simple
     → (if valid then Some Valid else (if check then Some Check else (if simple then Some Simple else None))) ≡ Some command → name ≡ name_of command
@@ -44,7 +44,7 @@ has_name Simple = refl
 same_in_some : {A : Type 0} (x y : A) → Some x ≡ Some y → x ≡ y
 same_in_some x y e = cc
 
--- what clap finds in words that it takes is their command line
+-- what clap finds in words that it accepts is their command line
 pub is_command_line : (words : List Text) → AllByRecursion IsUtf8 words → fault_of form words ≡ [] → (command : Command) (files : List Text)
     → command_in (matches_of form words) ≡ Some command → files_in (matches_of form words) ≡ Some files → IsCommandLine words command files
 is_command_line words utf8 fits command files command_is files_is =
@@ -57,7 +57,7 @@ is_command_line words utf8 fits command files command_is files_is =
       some = subst (λ (all : List Text). 0 < length all) same found.some;
     }
 
--- clap takes a command line, and finds its command and its files
+-- clap accepts a command line, and finds its command and its files
 pub record IsAccepted (words : List Text) (command : Command) (files : List Text) : Type 0 where
   pub fits : fault_of form words ≡ []
   pub command_is : command_in (matches_of form words) ≡ Some command

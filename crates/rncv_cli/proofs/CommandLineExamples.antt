@@ -1,4 +1,4 @@
--- Words, and what they ask for.
+-- Examples of words that are a command line, and of words that are none.
 use Rattle.std.proofs.Common.{◌≡◌, ◌∙◌, ◌<◌, ◌≤◌, false, Bool, List, [], ◌∷◌, length, Some, None, codes, refl, sym, ap, arith, true≢false}
 use Rattle.std.specs.Prelude.{◌==◌}
 use Rattle.clap.specs.Lexer.{usize_max}
@@ -49,7 +49,7 @@ hyphen_is_name = line Valid _ _ (name _ refl (name _ refl none))
 empty_is_name : IsCommandLine (codes "valid" ∷ [] ∷ []) Valid ([] ∷ [])
 empty_is_name = line Valid _ _ (name _ refl (name _ refl none))
 
--- ---- no command lines
+-- ---- words that are no command line
 
 abbrev IsNone : List Text → Type 0
 IsNone words = (command : Command) (files : List Text) → IsCommandLine words command files → ⊥

@@ -9,7 +9,7 @@ use Rattle.rncv_cli.specs.declared.fault.Fault.{Fault}
 use Rattle.rncv_cli.specs.declared.fault.Fault.TheVariants.{Memory, File}
 
 module _ (reads : Text → List ℕ → Type 0) where
-  -- one more file was read
+  -- one more file is read
   pub one_more : (names : List (String Global)) (files : List (String Global × Vec ℕ Global)) (name : String Global) (bytes : Vec ℕ Global) →
       AreRead reads names files → reads (string_bytes name) bytes.items → AreRead reads (names ++ name ∷ []) (files ++ (name, bytes) ∷ [])
   one_more names files name bytes are is = record {
@@ -28,7 +28,7 @@ module _ (reads : Text → List ℕ → Type 0) where
     are_read = are;
   }
 
-  -- a fault that is told at the first file that is not read
+  -- a fault that is reported at the first file that is not read
   pub is_unreadable : (names : List (String Global)) (name : String Global) (fault : Fault) → IsFirstUnread reads names name →
       (fault ≡ Memory) ⊎ (fault ≡ File name) → IsUnreadable reads names fault
   is_unreadable names name fault first (inl memory) = rw memory tt

@@ -86,7 +86,7 @@ plain_by word (is_plain seen alike) never = seen
 pub plain_of : (word : Text) → (IsOption word → ⊥) → IsPlain word
 plain_of word never = plain_by word (kind_of word) never
 
--- the characters of a text that has a byte: a first, and more
+-- a text with a byte has a first character, and more
 pub record HasFirst (text : Text) : Type 0 where
   pub first : ℕ
   pub more : List ℕ

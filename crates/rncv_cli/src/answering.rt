@@ -1,4 +1,4 @@
-// From the words of a command line to one line.
+// From the words of a command line to one answer.
 ghost use Rattle.std.specs.Prelude.{◌≡◌, ◌≢◌, ◌<◌, vec_len, Err, IfOk, IfErr};
 ghost use Rattle.std.specs.IoError.{error_kind};
 ghost use Rattle.std.specs.Vec.Iter.{into_iter_items};
@@ -18,13 +18,14 @@ use std::env::Args;
 use std::io;
 use std::io::{ErrorKind, Read, Write};
 
-/// Does what the words after the program's name ask for, as `answer_words` says. The words are given as `std::env::args`
-/// answers them, the program's name first; `open_file` opens the file of a name, as `std::fs::open` does; `reader` has the
-/// document; the answer is written to `writer`, which is given back.
+/// Runs the command that the words after the program's name ask for, as `answer_words` does, and returns the writer.
+/// The words are those that `std::env::args` returns, the program's name first. `open_file` opens the file with a name,
+/// as `std::fs::open` does. `reader` has the document. The answer is written to `writer`.
 ///
-/// Words that are no command line are answered as `Usage`, and so is an error in their place, as for a word that is not
-/// UTF-8, but `Memory` where it tells want of memory. Nothing is written but the answer to the words that were given, or
-/// after a failed write or flush a beginning of it. Takes what `answer_words` takes, and copies of the words.
+/// Fails with `Usage` if the words are no command line, or if `args` returned an error in their place, as for a word
+/// that is not UTF-8. Fails with `Memory` if such an error is out of memory. Only the answer for the given words is
+/// written, or a beginning of it after a failed write or flush. Costs what `answer_words` costs, and copies of the
+/// words.
 pub fn answer_command_line<O: Fn(&str) -> io::Result<T>, T: Read + Drop, R: Read + Drop, W: Write>(
     alloc: Global,
     given: io::Result<Args>,
@@ -53,14 +54,14 @@ pub fn answer_command_line<O: Fn(&str) -> io::Result<T>, T: Read + Drop, R: Read
     }
 }
 
-/// Reads the files that the words name, does what they ask for with a reader that has the document, writes the answer's line
-/// and flushes the writer, which is given back. `open_file` opens the file of a name.
+/// Reads the files that the words name, and runs the command with a reader that has the document. Writes the answer,
+/// flushes the writer, and returns it. `open_file` opens the file with a name.
 ///
-/// The line and the status are those that `run` says for the words' command and for what was read of the files, the first
-/// being the main one. The first file that cannot be read is answered as `File`, before the document is looked at. A failed
-/// read of the document is `Read`, a failed write or flush `Write`, and want of memory `Memory`. Where a write or the flush
-/// failed, a beginning of the line was written, or all of it; after another fault nothing was. Takes what `read_files` and
-/// `run` take.
+/// The answer and the status are those of `run` for the command and for what is read of the files. The first file is
+/// the main one. Fails with `File` and the first file that cannot be read, before the document is read. Fails with
+/// `Read` if a read of the document failed, with `Write` if a write or flush failed, and with `Memory` when out of
+/// memory. After `Write`, a beginning of the answer is written, or all of it; after any other fault nothing is. Costs
+/// what `read_files` and `run` cost.
 pub fn answer_words<O: Fn(&str) -> io::Result<T>, T: Read + Drop, R: Read + Drop, W: Write>(
     alloc: Global,
     words: Words,

@@ -1,4 +1,4 @@
-// Reads the words of the command line.
+// Reading the words of the command line.
 ghost use Rattle.std.specs.Prelude.{◌≡◌, List, drop, map, string_bytes, option_map, IfOk, IfErr, IsErrOf};
 ghost use Rattle.std.specs.Vec.Iter.{into_iter_items};
 ghost use Rattle.clap.specs.Words.{FailsBy, fault_of, found_of, matches_of, rows_of};
@@ -14,7 +14,7 @@ use rncv_run::Command;
 use std::alloc::{AllocError, Global};
 use std::env::Args;
 
-/// Reads the words behind the first of these, which is the program's name, as `words` does, with its faults and cost.
+/// Reads the words after the first one, which is the program's name, as `words` does, with the same faults and cost.
 pub fn words_given(alloc: Global, given: Args) -> Result<Words, Fault>
     ensures ok { IfOk result (λ w. IsCommandLine (words_behind_name (into_iter_items given)) w.command (map string_bytes w.files.items)) }
     ensures usage { IsErrOf result Fault.Usage → (command : Command) (files : List Text) →
@@ -27,7 +27,7 @@ pub fn words_given(alloc: Global, given: Args) -> Result<Words, Fault>
     words(alloc, all.as_slice())
 }
 
-/// All words but the first, in order.
+/// Returns all words except the first, in order.
 fn all_but_first(alloc: Global, mut given: Args) -> Result<Vec<String>, AllocError>
     ensures { IfOk result (λ all. all.items ≡ drop 1 (into_iter_items given)) }
 {
@@ -39,12 +39,13 @@ fn all_but_first(alloc: Global, mut given: Args) -> Result<Vec<String>, AllocErr
     Ok(all)
 }
 
-/// Reads the words after the program's name as a command line: a command, `valid`, `check` or `simple`, and then one file or
-/// more.
+/// Reads the words after the program's name as a command line: a command, `valid`, `check` or `simple`, followed by one
+/// or more files.
 ///
-/// The first `--`, wherever it stands, is dropped. Before it, and anywhere where there is none, no word is an option: a
-/// word that begins with `-` and is longer. The command and the files of a command line are answered, `Usage` only for
-/// words that are none, and `Memory` where there was no memory. Takes time and memory in the order of the words' bytes.
+/// The first `--` is dropped. Before it, or everywhere if there is none, no word may be an option: a word that begins
+/// with `-` and is longer. Returns the command and the files of a command line. Fails with `Usage` only for words that
+/// are no command line, and with `Memory` when out of memory. Costs time and memory in the order of the bytes of the
+/// words.
 pub fn words(alloc: Global, words: &[String]) -> Result<Words, Fault>
     ensures ok { IfOk result (λ w. IsCommandLine (map string_bytes words.now) w.command (map string_bytes w.files.items)) }
     ensures usage { IsErrOf result Fault.Usage → (command : Command) (files : List Text) → IsCommandLine (map string_bytes words.now) command files → ⊥ }
@@ -64,7 +65,7 @@ pub fn words(alloc: Global, words: &[String]) -> Result<Words, Fault>
     Ok(Words { command, files })
 }
 
-/// The command that was found, if it is one.
+/// Returns the command that was found, if it is one.
 fn command_of(matches: &ArgMatches<'_>) -> Option<Command>
     ensures { result ≡ command_in (rows_of (found_of matches.now)) }
 {
@@ -76,16 +77,17 @@ fn command_of(matches: &ArgMatches<'_>) -> Option<Command>
     }
 }
 
-/// The names of files that were found, if there are some.
+/// Returns the names of files that were found, if there are any.
 fn names_of<'m, 'a>(matches: &'m ArgMatches<'a>) -> Option<&'m [&'a str]>
     ensures { option_map (λ names. map (λ name. name.now) names.now) result ≡ files_in (rows_of (found_of matches.now)) }
 {
     matches.get_strs("files")
 }
 
-/// Parses the words by the form `COMMAND FILES..`, in which nothing is an option.
+/// Parses the words by the form `COMMAND FILES..`, which has no options.
 ///
-/// The command is a positional argument and no subcommand, so that a `--` may stand before it, and `help` is none.
+/// The command is a positional argument and not a subcommand, so that a `--` may come before it, and `help` is not a
+/// command.
 fn parsed<'a>(alloc: Global, words: &'a [String]) -> Result<ArgMatches<'a>, Error>
     ensures fails { FailsBy (fault_of form (map string_bytes words.now)) result }
     ensures matches { IfOk result (λ m. rows_of (found_of m) ≡ matches_of form (map string_bytes words.now)) }
@@ -102,7 +104,7 @@ fn parsed<'a>(alloc: Global, words: &'a [String]) -> Result<ArgMatches<'a>, Erro
         .try_get_matches_from(words)
 }
 
-/// A copy of each text, in order.
+/// Returns a copy of each text, in order.
 fn copies(alloc: Global, texts: &[&str]) -> Result<Vec<String>, AllocError>
     ensures { IfOk result (λ all. map string_bytes all.items ≡ map (λ t. t.now) texts.now) }
 {

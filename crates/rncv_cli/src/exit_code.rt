@@ -7,7 +7,8 @@ use crate::fault::Fault;
 use rncv_run::Status;
 use std::process::ExitCode;
 
-/// The exit status: 0 to 3 by the status of a run that found an answer, else that of the fault (`Fault::status`). Takes no memory.
+/// Returns the exit status: 0 to 3 by the status of a run that succeeded, otherwise the one of the fault
+/// (`Fault::status`). Allocates nothing.
 pub fn exit_of(answer: &Result<Status, Fault>) -> ExitCode
     ensures { exit_status result ≡ exit_status_of answer.now }
 {

@@ -10,23 +10,25 @@ use std::fmt::{Display, Formatter, Write};
 use std::io::ErrorKind;
 use std::{fmt, io};
 
-/// Why the program ends without an answer. It prints as its line on standard error, without the LF (`fault_text` of `specs/`).
+/// Why the program ends without an answer. It is printed as a line on standard error, here without the LF (`fault_text`
+/// of `specs/`).
 #[derive(Debug, Drop)]
 pub enum Fault {
-    /// There was no memory for what had to be kept.
+    /// The program ran out of memory.
     Memory,
     /// A read of the document failed.
     Read,
     /// A write of the answer failed.
     Write,
-    /// The file of this name cannot be read. The name prints as it is, an LF in it too.
+    /// The file of this name cannot be read. The name is printed as it is, also an LF in it.
     File(String),
     /// The words are no command line of the program.
     Usage,
 }
 
 impl Fault {
-    /// The exit status of a program that ends with the fault: 5 where the words are no command line, else 4. Takes no memory.
+    /// Returns the exit status of a program that ends with the fault: 5 if the words are no command line, otherwise 4.
+    /// Allocates nothing.
     pub fn status(&self) -> u8
         ensures { result ≡ fault_status self.now }
     {
@@ -65,7 +67,7 @@ impl From<RunFault> for Fault {
     }
 }
 
-/// Why there are no words: `Memory` where the call failed for want of memory, else `Usage`.
+/// Returns why there are no words: `Memory` if the error is out of memory, otherwise `Usage`.
 pub fn fault_of_words(error: &io::Error) -> Fault
     ensures memory { error_kind error.now ≡ ErrorKind.OutOfMemory → result ≡ Fault.Memory }
     ensures usage { error_kind error.now ≢ ErrorKind.OutOfMemory → result ≡ Fault.Usage }
@@ -76,7 +78,7 @@ pub fn fault_of_words(error: &io::Error) -> Fault
     Fault::Usage
 }
 
-/// Whether a call failed for want of memory.
+/// Returns whether a call failed because it ran out of memory.
 pub fn is_want_of_memory(error: &io::Error) -> bool
     ensures { IsTrue result ↔ (error_kind error.now ≡ ErrorKind.OutOfMemory) }
 {

@@ -7,6 +7,6 @@ use rncv_run::Command;
 pub struct Words {
     /// What to do with the files.
     pub command: Command,
-    /// The names of the files, as they were given: the main file first, then the others in order, repeats kept.
+    /// The names of the files as they were given: the main file first, then the others in order, with repeats.
     pub files: Vec<String>,
 }

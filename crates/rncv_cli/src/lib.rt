@@ -1,9 +1,9 @@
-//! What stands around `run` in the program `rncv`: its words, its files, its faults and its exit status.
+//! What is around `run` in the program `rncv`: its words, its files, its faults and its exit status.
 //!
-//! `answer_command_line` writes the one answer that `run` gives to the words of the command line and to what was read of their
-//! files, the first of them being the main one; after a fault no more than a beginning of that answer was written.
-//! `words` accepts the words of a command line and no others, a `Fault` prints as its line on standard error, and `exit_of`
-//! gives each answer its exit status.
+//! `answer_command_line` writes the answer of `run` for the words of the command line and for what is read of their
+//! files. The first file is the main one. After a fault, at most a beginning of that answer is written. `words` accepts
+//! exactly the words of a command line. A `Fault` is printed as its line on standard error. `exit_of` returns the exit
+//! status of each answer.
 #![tactic(auto)]
 
 mod answering;

@@ -1,4 +1,4 @@
-// Reads the files that the command line names.
+// Reading the files that the command line names.
 ghost use Rattle.std.specs.Prelude.{◌≡◌, ◌≢◌, ◌≤◌, ◌⊎◌, take, length, IfOk, IfErr, IfSome};
 ghost use Rattle.std.specs.IoError.{error_kind};
 ghost use Rattle.rncv_cli.specs.plain.Answering.{AreRead, IsReadBy, IsReadOf, read_limit};
@@ -9,14 +9,15 @@ use std::alloc::Global;
 use std::io;
 use std::io::{ErrorKind, Read};
 
-/// At most this many bytes of a file are read: one more than a file of a schema may have.
+/// The greatest number of bytes that is read of a file: one more than a file of a schema may have.
 const READ_LIMIT: usize = 1_048_577;
 
-/// Reads the files of these names, in order, and answers each name with the beginning of its file: at most 1,048,577 bytes.
-/// `open_file` opens the file of a name, and is called once for each.
+/// Reads the files of these names, in order, and returns each name with the beginning of its file: at most 1,048,577
+/// bytes. `open_file` opens the file with a name, and is called once for each.
 ///
-/// The first file that cannot be opened or read is answered as `File`, with its name, and no file behind it is opened. Want of
-/// memory is `Memory`, that of `open_file` and of the readers too. Takes time and memory in the order of the bytes that are read.
+/// Fails with `File` and the name of the first file that cannot be opened or read, and opens no file after it. Fails
+/// with `Memory` when this call, `open_file` or a reader is out of memory. Costs time and memory in the order of the
+/// bytes that are read.
 pub fn read_files<O: Fn(&str) -> io::Result<T>, T: Read + Drop>(
     alloc: Global,
     names: Vec<String>,
@@ -36,7 +37,7 @@ pub fn read_files<O: Fn(&str) -> io::Result<T>, T: Read + Drop>(
     Ok(files)
 }
 
-/// Why there are no bytes of the file of this name: `Memory` where the call failed for want of memory, else `File`.
+/// Returns why there are no bytes of the file of this name: `Memory` if the error is out of memory, otherwise `File`.
 fn fault_of(error: &io::Error, name: String) -> Fault
     ensures memory { error_kind error.now ≡ ErrorKind.OutOfMemory → result ≡ Fault.Memory }
     ensures file { error_kind error.now ≢ ErrorKind.OutOfMemory → result ≡ Fault.File name }
@@ -48,21 +49,21 @@ fn fault_of(error: &io::Error, name: String) -> Fault
     Fault::File(name)
 }
 
-/// The beginning of the file that was opened.
+/// Returns the beginning of the file that was opened.
 fn bytes_of<T: Read + Drop>(alloc: Global, opened: io::Result<T>) -> io::Result<Vec<u8>>
     ensures { IfOk result (λ bytes. IsReadOf T.remaining opened bytes.items) }
 {
     beginning_of(alloc, opened?)
 }
 
-/// As many bytes of a reader as are read of a file.
+/// Returns the beginning of a reader, with at most as many bytes as are read of a file.
 fn beginning_of<T: Read + Drop>(alloc: Global, reader: T) -> io::Result<Vec<u8>>
     ensures bytes { IfOk result (λ bytes. IfSome (T.remaining reader) (λ all. bytes.items ≡ take read_limit all)) }
     ensures within { IfOk result (λ bytes. length bytes.items ≤ read_limit) }
 {
     let mut bytes = Vec::new(alloc);
     reader.take(READ_LIMIT as u64).read_to_end(&mut bytes)?;
-    // A reader of which nothing is known might give more than it is asked for.
+    // A reader without a contract might return more bytes than the limit.
     bytes.truncate(READ_LIMIT);
     Ok(bytes)
 }

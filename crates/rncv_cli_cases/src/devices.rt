@@ -1,4 +1,4 @@
-// A reader and a writer that fail where a row tells them to.
+// A reader and a writer that fail if a row says so.
 use std::alloc::Global;
 use std::io;
 use std::io::{Read, Write};
@@ -10,7 +10,7 @@ fn unless(fails: bool) -> io::Result<()> {
     Ok(())
 }
 
-/// A reader that gives a document, or fails.
+/// A reader that returns a document, or fails.
 #[derive(Drop)]
 pub struct Source<'a> {
     bytes: &'a [u8],
@@ -18,7 +18,7 @@ pub struct Source<'a> {
 }
 
 impl<'a> Source<'a> {
-    /// A reader of these bytes, which fails where the device is `read`.
+    /// Creates a reader of these bytes, which fails if the device is `read`.
     pub fn new(bytes: &'a [u8], device: &str) -> Source<'a> {
         Source {
             bytes,
@@ -43,7 +43,7 @@ pub struct Sink {
 }
 
 impl Sink {
-    /// A writer that fails to write where the device is `write`, and to flush where it is `flush`.
+    /// Creates a writer that fails to write if the device is `write`, and to flush if it is `flush`.
     pub fn new(alloc: Global, device: &str) -> Sink {
         Sink {
             bytes: Vec::new(alloc),
@@ -52,7 +52,7 @@ impl Sink {
         }
     }
 
-    /// What was written.
+    /// Returns what was written.
     pub fn text(&self) -> io::Result<&str> {
         match str::from_utf8(self.bytes.as_slice()) {
             Ok(text) => Ok(text),

@@ -1,6 +1,7 @@
-//! Prints for each row of `data/runs.txt` the exit status of a run of the program, what it wrote, and the line of its fault.
+//! Prints for each row of `data/runs.txt` the exit status of a run of the program, what it wrote, and the line of its
+//! fault.
 //!
-//! The files that the words name lie in `data/` too.
+//! The files that the words name are in `data/` too.
 #![tactic(auto)]
 
 mod devices;
@@ -20,7 +21,7 @@ fn main(rt: HostRuntime) -> io::Result<()> {
     Ok(())
 }
 
-/// Prints what a run over the devices and with the words of a row answers and writes.
+/// Prints the exit status of a run over the devices and with the words of a row, and what it writes.
 fn print_run(rt: &(impl Files + Print + AllocGlobal), row: &Row) -> io::Result<()> {
     let device = row.text(0)?;
     let source = Source::new(row.bytes(1)?, device);

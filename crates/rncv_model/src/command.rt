@@ -5,7 +5,7 @@
 pub enum Command {
     /// Judge a document by the schema.
     Valid,
-    /// Judge the schema alone. The document is not read.
+    /// Judge only the schema. The document is not read.
     Check,
     /// Print the simple form of the schema. The document is not read.
     Simple,

@@ -1,7 +1,7 @@
-//! What is to be believed of the program: definitions, and the types that they speak of.
+//! What a reader has to believe about the program: definitions, and the types that they use.
 //!
-//! The definitions stand in `specs/`: the text of a simple grammar, and what is answered. The contracts of `rng_print` and of `run` are
-//! written in them.
+//! The definitions are in `specs/`: the text of a simple grammar, and the answers. The contracts of `rng_print` and of
+//! `run` are written in them.
 #![tactic(auto)]
 
 mod command;

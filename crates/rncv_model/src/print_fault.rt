@@ -1,10 +1,10 @@
-// Why a grammar was not printed.
+// Why printing a grammar fails.
 
-/// Why a grammar was not printed.
+/// Why printing a grammar fails.
 #[derive(Clone, Copy, Debug, PartialEq, Eq)]
 pub enum PrintFault {
-    /// A write failed, and the device counted it.
+    /// A write failed, and the device counted the failure.
     Write,
-    /// There was no memory for the text.
+    /// The call ran out of memory.
     Memory,
 }

@@ -1,12 +1,12 @@
-// Why a run gave no answer.
+// Why a run fails.
 
-/// Why a run gave no answer.
+/// Why a run fails.
 #[derive(Clone, Copy, Debug, PartialEq, Eq)]
 pub enum RunFault {
-    /// A read failed, and the device counted it.
+    /// A read failed, and the device counted the failure.
     Read,
-    /// A write failed, and the device counted it.
+    /// A write failed, and the device counted the failure.
     Write,
-    /// There was no memory for what the run had to keep.
+    /// The run ran out of memory.
     Memory,
 }

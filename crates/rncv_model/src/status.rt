@@ -1,6 +1,6 @@
-// What a run found.
+// The status of a run.
 
-/// What a run found. The exit status of the program is 0, 1, 2 or 3, in this order.
+/// The status of a run. In this order, the exit status of the program is 0, 1, 2 or 3.
 #[derive(Clone, Copy, Debug, PartialEq, Eq)]
 pub enum Status {
     Good,

@@ -10,7 +10,7 @@ use Rattle.rncv_validator.specs.views.Documents.{HasBeenFed, IsFaultOfFed, Judgi
 use Rattle.rncv_run.specs.views.DocumentInput.{IsFaultOfInput, IsFedWhole}
 use Rattle.rncv_run.specs.declared.document_input.InputFault.TheVariants as faults
 
--- so far these bytes were read and fed
+-- so far these bytes are read and fed
 pub record IsBegun (IsFed : List ℕ → Type 0) (input_old input_new : Option (List ℕ)) : Type 0 where
   pub bytes : List ℕ
   pub consumed : Consumes input_old input_new bytes
@@ -43,7 +43,7 @@ module _ (d e : Judging) (input_old input_mid input_new : Option (List ℕ)) (be
   pub piece_read : ((bytes : List ℕ) → HasBeenFed d bytes → HasBeenFed e (bytes ++ piece)) → IsBegun (HasBeenFed e) input_old input_new
   piece_read fed = record { bytes = bytes; consumed = consumed; fed = fed begun.bytes begun.fed }
 
-  -- a piece was not taken
+  -- the document returned an error for a piece
   pub piece_refused : (A : Type 0) (f : DocumentFault)
       → UnlessMemory {A = A} (Err f) ((bytes : List ℕ) → HasBeenFed d bytes → HasBeenFed e (bytes ++ piece)) → IsFaultOfFed e f
       → IsFaultOfInput input_old input_new (faults.Document f)
@@ -55,7 +55,7 @@ module _ (d e : Judging) (input_old input_mid input_new : Option (List ℕ)) (be
     fault bytes (rest_of input_new) (fed begun.bytes begun.fed),
   )
 
--- all was read
+-- everything is read
 pub whole_read : (d : Judging) (input_old input_mid input_new : Option (List ℕ)) → IsBegun (HasBeenFed d) input_old input_mid
     → Consumes input_mid input_new [] → IsAtEnd input_new → IsFedWhole (HasBeenFed d) input_old input_new
 whole_read d input_old input_mid input_new begun read end = record {

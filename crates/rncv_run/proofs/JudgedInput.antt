@@ -21,7 +21,7 @@ pub in_each_case : {A E : Type 0} (r : Result A E) (P : Type 0) → P → OnOk r
 in_each_case (Ok x) P p = p
 in_each_case (Err e) P p = tt
 
--- what breaks a clause is no failure of the input
+-- a broken clause is not a failure of the input
 pub no_failed_read : (f : DocumentFault) → IsErrOf (malformed_by f) judging.Read → ⊥
 no_failed_read document.Memory e = cc
 no_failed_read (document.Malformed clause line) e = cc
@@ -44,7 +44,7 @@ module _ (g : Table) (old new : Option (List ℕ)) where
   fault_judged f r e fault =
       subst (λ (r : Result Verdict JudgeFault). IfOk r (λ v. (s : Schema) → Judges g s → IsJudged s v old new)) (sym e) (by_fault f fault)
 
-  -- the verdict on all that was left
+  -- the verdict on everything that was left
   pub whole_judged : (d : Judging) → d.grammar ≡ g → IsFedWhole (HasBeenFed d) old new → (v : Verdict)
       → ((s : Schema) (bytes : List ℕ) → Judges d.grammar s → HasBeenFed d bytes → IsVerdictOn s bytes v) → (s : Schema) → Judges g s → IsJudged s v old new
   whole_judged d same whole v is s judges =

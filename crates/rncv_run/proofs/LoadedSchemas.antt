@@ -1,4 +1,4 @@
--- What is answered of the one schema that files are.
+-- The answer by the only schema that the files are.
 use Rattle.std.proofs.Common.{◌≡◌, ◌≢◌, List, ℕ, Option, Some, Result, Ok, Err, IfOk, sym, subst, ap, ◌∙◌}
 use Rattle.std.proofs.Math.Path.{fun_ext}
 use Rattle.rng_model.specs.schema.Schema.{Schema}
@@ -25,7 +25,7 @@ same_parts s t e f g =
     ∙ ap (λ x. record { main = t.main; components = x; outer = s.outer }) f
     ∙ ap (λ x. record { main = t.main; components = t.components; outer = x }) g
 
--- files are one schema
+-- the files are at most one schema
 pub same_schema : (read : TakenFiles) (main : Name) (s t : Schema) → AreSchema read main s → AreSchema read main t → s ≡ t
 same_schema read main s t a b =
     let same = one_schema (tree_in read) a.tree s t a.is (subst (λ tree. IsSchemaOf (tree_in read) tree t) (same_value b.main_file a.main_file) b.is) in
@@ -35,13 +35,13 @@ judges_none_of : (command : Command) (main : Name) (read : TakenFiles) (s : Sche
     → JudgesDocuments command s → ⊥
 judges_none_of command main read s a none judges = none.2 (subst (JudgesDocuments command) (same_schema read main s none.0 a none.1) judges)
 
--- where no document is judged by the files, none is by the schema that was loaded
+-- if the files say that no document is judged, so does the schema that was loaded
 pub judges_none : (command : Command) (main : Name) (read : TakenFiles) (s : Schema) (verdict : FilesVerdict) → AreSchema read main s
     → are_taken read ≡ verdict → JudgesNone command main verdict → JudgesDocuments command s → ⊥
 judges_none command main read s verdict a e none = judges_none_of command main read s a (subst (JudgesNone command main) (sym e) none)
 
 module _ (command : Command) (files : List NamedFile) (main : Name) (g : Table) (one : IsOneFor files main g) where
-  -- where no document is judged by the files, the command judges none
+  -- if the files say that no document is judged, the command judges none
   pub judges_no_document : (verdict : FilesVerdict) → FilesHaveOnlyVerdict files main verdict → JudgesNone command main verdict → command ≢ Valid
   judges_no_document verdict is none = λ e.
       let taken = one.are.are in

@@ -1,4 +1,4 @@
--- A run has one answer, but for the line of what is invalid.
+-- A run has at most one answer, except for the line of an invalid document.
 use Rattle.std.proofs.Common.{◌≡◌, ◌∙◌, ◌++◌, ℕ, List, Option, Some, None, refl, sym, ap, subst, arith}
 use Rattle.rng_model.specs.schema.Schema.{Schema}
 use Rattle.rnc_model.specs.loading.Loading.{FilesVerdict, file_breaks, together_break, are_taken}
@@ -25,7 +25,7 @@ check_or_valid e f = cc
 simple_or_valid : {command : Command} → command ≡ Simple → command ≡ Valid → ⊥
 simple_or_valid e f = cc
 
--- all that an input had left was the document, where it is known what that was
+-- the document is everything that an input had left, if it is known what that was
 whole : (bytes : List ℕ) (left : Option (List ℕ)) (document rest : List ℕ) → IsRead (Some bytes) left document rest → document ≡ bytes
 whole bytes None document rest r = absurd r.consumed
 whole bytes (Some left) document rest r = r.parts ∙ ap (λ x. r.read ++ x) (sym r.left) ∙ sym r.consumed

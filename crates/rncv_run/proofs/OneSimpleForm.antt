@@ -1,4 +1,4 @@
--- A schema has one simple form but for the order of its elements.
+-- A schema has one simple form except for the order of its elements.
 use Rattle.std.proofs.Common.{subst, slice_index_or, All, Contains, ◌≡◌}
 use Rattle.std.proofs.lemmas.List.Elements.{All-contains}
 use Rattle.rng_model.specs.names.Names.{In, Name}
@@ -24,7 +24,7 @@ one_simple_form s f h is other = record {
       subst (Contains h.elements) (same_element r.0.name e.name r.0.class e.class r.0.body e.body r.2 class body) r.1;
 }
 
--- a name that is unknown is so in each simple form
+-- a name that is unknown is unknown in each simple form
 pub unknown_in_each : (s : Schema) (name : Name) → IsUnknownIn s name → (f : SimpleForm) → IsSimpleFormOfSchema s f → All (λ e. ¬ (In e.class name)) f.elements
 unknown_in_each s name unknown f is k d l =
     let e = slice_index_or f.elements k d in

@@ -1,4 +1,4 @@
--- What refused files are answered with.
+-- The answers for refused files.
 use Rattle.std.proofs.Common.{◌≡◌, ℕ, List, Option, Some, None, sym, subst, string_bytes, inl, inr}
 use Rattle.rng_model.specs.declared.fault.SchemaFault.{SchemaFault}
 use Rattle.rng_model.specs.declared.fault.SchemaFault.TheVariants as faults
@@ -16,7 +16,7 @@ some_is e = cc
 none_is : {a : Answer} → None ≡ Some a → ⊥
 none_is e = cc
 
--- what is told of the files is the answer
+-- what is reported of the files is the answer
 pub refused_files : (command : Command) (old new : Option (List ℕ)) (files : List NamedFile) (main : Name) (fault : SchemaFault) (a : Answer)
     → IsRefusal files main fault → refusal_of fault ≡ Some a → IsAnswer command files main old new a
 refused_files command old new files main (faults.File clause name) a h e =

@@ -1,4 +1,4 @@
-// What a run answers.
+// The answer of a run.
 ghost use Rattle.std.specs.Prelude.{◌≡◌, IfOk, string_bytes};
 ghost use Rattle.rncv_model.specs.answers.Answer as answer;
 ghost use Rattle.rncv_model.specs.answers.Answer.{output_of, status_of};
@@ -7,7 +7,7 @@ ghost use Rattle.rncv_run.specs.views.AnswerView.{answer_of};
 use rncv_model::{Status, Verdict};
 use std::alloc::{AllocError, Global};
 
-/// What a run answers.
+/// The answer of a run.
 #[derive(Drop)]
 pub enum Answer {
     /// The schema breaks this clause.
@@ -22,7 +22,7 @@ pub enum Answer {
 }
 
 impl Answer {
-    /// The status that goes with the answer. Takes no memory.
+    /// Returns the status of the answer. Allocates nothing.
     pub fn status(&self) -> Status
         ensures { result ≡ status_of (answer_of self.now) }
     {
@@ -34,7 +34,7 @@ impl Answer {
         }
     }
 
-    /// What is written: one line, ended by a line feed, or what is printed.
+    /// Returns what is written: one line, ended by a line feed, or the printed text. Fails only when out of memory.
     pub fn into_output(self, alloc: Global) -> Result<Vec<u8>, AllocError>
         ensures { IfOk result (λ output. output.items ≡ output_of (answer_of self)) }
     {

@@ -14,15 +14,15 @@ use rng_model::{Device, OutOfMemory};
 use std::alloc::Global;
 use std::io::Read;
 
-/// How many bytes are read at once, at most.
+/// The greatest number of bytes that one call reads.
 const PIECE: usize = 32768;
 
-/// Why a document was not judged.
+/// Why judging a document fails.
 #[derive(Clone, Copy)]
 pub(crate) enum JudgeFault {
     /// A read failed.
     Read,
-    /// There was no memory.
+    /// The call ran out of memory.
     Memory,
 }
 
@@ -45,18 +45,19 @@ impl From<JudgeFault> for RunFault {
     }
 }
 
-/// Why a document was not fed to its end.
+/// Why feeding a document to its end fails.
 #[derive(Clone, Copy)]
 pub enum InputFault {
     /// A read failed.
     Read,
-    /// A piece was not taken.
+    /// The document returned an error for a piece.
     Document(DocumentFault),
 }
 
-/// What the document that an input has left is by the schema of a validator: the verdict of `Document::finish`.
+/// Returns the verdict on the document that an input has left, by the schema of a validator: the verdict of
+/// `Document::finish`.
 ///
-/// It is read to its end, or in pieces of 32,768 bytes to the one with the first fault.
+/// Reads the input to its end, or in pieces of 32,768 bytes up to the piece with the first fault.
 pub(crate) fn judge<R: Read>(
     alloc: Global,
     validator: Validator,
@@ -85,7 +86,7 @@ pub(crate) fn judge<R: Read>(
     Ok(verdict?)
 }
 
-/// The verdict of a fault.
+/// Returns the verdict that reports a fault.
 fn malformed(fault: DocumentFault) -> Result<Verdict, JudgeFault>
     ensures { result ≡ malformed_by fault }
 {
@@ -97,7 +98,7 @@ fn malformed(fault: DocumentFault) -> Result<Verdict, JudgeFault>
 
 /// Feeds a document with what an input has left.
 ///
-/// It reads to the end, or to the piece with the first line that breaks a clause.
+/// Reads to the end, or to the piece with the first line that breaks a clause.
 fn feed_whole<R: Read>(document: &mut Document, input: &mut Device<R>) -> Result<(), InputFault>
     requires begun { HasBeenFed document.old [] }
     requires input { device_failures input.old < 2 ^ 64 - 1 }

@@ -1,4 +1,4 @@
-// What is promised of answers themselves.
+// Laws of answers.
 ghost use Rattle.std.specs.Prelude.{◌≡◌, ℕ, List, All, Option, Some};
 ghost use Rattle.rng_model.specs.names.Names.{In, Name};
 ghost use Rattle.rng_model.specs.schema.Schema.{Schema};
@@ -11,11 +11,12 @@ ghost use Rattle.rncv_model.specs.answers.Run.{IsAnswer, IsUnknownIn};
 ghost use Rattle.rncv_model.specs.declared.command.Command.{Command};
 ghost use Rattle.rncv_run.specs.plain.SameAnswers.{AreSameAnswer, HasPartsOf};
 
-/// The laws of the definition of answers. It does nothing: its contract is what it is for.
+/// States the laws of the definition of answers. The function does nothing: its contract is the laws.
 ///
-/// Files are one schema at most (`AreSchema`). A schema has one simple form at most, but for the order of its elements, so a
-/// name that no element of it may have (`IsUnknownIn`) is one whichever form is taken. For one command, the same files and the
-/// same bytes of a document there is one answer at most (`IsAnswer`), but for the line that `invalid` tells.
+/// Files are at most one schema (`AreSchema`). A schema has at most one simple form, except for the order of its
+/// elements. So the names that no element may have (`IsUnknownIn`) are the same for every simple form of a schema. For
+/// one command, the same files and the same bytes of a document there is at most one answer (`IsAnswer`), except for
+/// the line in `invalid`.
 pub fn answer_laws()
     ensures schema { (read : TakenFiles) (main : List ℕ) (s t : Schema) → AreSchema read main s → AreSchema read main t → s ≡ t }
     ensures form { (s : Schema) (f h : SimpleForm) → IsSimpleFormOfSchema s f → IsSimpleFormOfSchema s h → HasPartsOf h f }

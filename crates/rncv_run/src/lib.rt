@@ -1,13 +1,13 @@
 //! From schema files and a document to one line: `valid`, `invalid line N`, `malformed Pk line N`, `refused Sk file
 //! NAME` or `refused Sk`.
 //!
-//! `run` reads the files that the first one reaches and the document, names the first clause that the files break or
-//! judges the document by the schema that they are, and writes the line, whatever the bytes are and however the
-//! reader cuts them. It answers only where no device failed, and after a fault no more than a beginning of a line was
+//! `run` reads the document and the files that the first file reaches. It reports the first clause that the files
+//! break, or judges the document by the schema that they are, and writes the line. This holds for all bytes, however
+//! the reader splits them. `run` succeeds only if no device failed. After a fault, at most a beginning of a line is
 //! written.
 //!
-//! `answer_laws` does nothing, and its contract is laws of what is answered: files are one schema at most, a schema has one
-//! simple form at most, and a run has one answer but for the line of what is invalid.
+//! `answer_laws` does nothing. Its contract is the laws of answers: files are at most one schema, a schema has at most
+//! one simple form, and a run has at most one answer, except for the line of an invalid document.
 #![tactic(auto)]
 
 mod answer;

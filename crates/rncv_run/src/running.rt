@@ -18,24 +18,33 @@ use rng_model::{Device, OutOfMemory, write_whole};
 use std::alloc::Global;
 use std::io::{Read, Write};
 
-/// Does what the command asks for with the schema of these files, of which the first is the main one, writes what it
-/// answers, one line or a simple form, and flushes the output.
+/// Runs the command on the schema of these files, the first of which is the main one, writes the answer, and flushes
+/// the output. The answer is one line, or a simple form.
 ///
-/// The line is `refused Sk file NAME` where a file breaks a clause by itself, with the first such file in load order
-/// and the clause that it breaks first, 1 to 8; else `refused S9` or `refused S10` where the files break that together,
-/// S9 before S10; else `refused Sk` with the least clause that their schema breaks, 11 to 27; else `schema ok` for
-/// `Check`; for `Simple` the simple form of the schema, printed as `printed_text` of `rng_print` says; and for `Valid` what the
-/// document is that `input` has left: `malformed Pk line N` with its first fault where it
-/// is no document; else `valid` exactly if it matches the schema by the rules of section 6 of the RELAX NG Specification, read
-/// over the files as they are written; else `invalid line N`, where nothing that begins with its lines up to line N is valid,
-/// and the start of no element with a name that no element of the schema's simple form may have is told before. A line feed ends it. A
-/// refused schema leaves the input unread; the bytes of files that are not reached from the main one are not looked at.
-/// `RunFault::Read` and `RunFault::Write` come only where that device counted a failed call, `RunFault::Memory` only where
-/// neither did; after `Read` and `Memory` nothing was written, after `Write` a beginning of the answer was, or all of it where
-/// the flush failed. A document is read
-/// to its end, or in pieces of 32,768 bytes to the one with the first fault, and judged as it goes by: no more of it is kept
-/// than a tag, a text, the open elements, and what the matcher keeps. The files are kept whole; time is what `load` takes,
-/// and then what `simplify` and `restrict` take, and `Matcher` for each event.
+/// The line is one of these, the first that applies:
+///
+/// - `refused Sk file NAME`: a file breaks a clause by itself. NAME is the first such file in load order, and Sk the
+///   first clause that it breaks, 1 to 8.
+/// - `refused S9` or `refused S10`: the files together break that clause, S9 before S10.
+/// - `refused Sk`: the least clause that their schema breaks, 11 to 27.
+/// - For `Check`, `schema ok`. For `Simple`, the simple form of the schema instead of a line, as `printed_text` of
+///   `rng_print` prints it.
+/// - For `Valid`, the verdict on the document that `input` has left: `malformed Pk line N` with its first fault if it
+///   is no document. Otherwise `valid` exactly if it matches the schema by the rules of section 6 of the RELAX NG
+///   Specification, applied to the files as they are written. Otherwise `invalid line N`: no document that begins with
+///   its lines up to line N is valid. No start that is reported before line N has a name that no element of the
+///   schema's simple form may have.
+///
+/// A line feed ends the line. If the schema is refused, the input is not read. The bytes of files that the main one
+/// does not reach are ignored.
+///
+/// Fails with `RunFault::Read` or `RunFault::Write` only if that device counted a failed call, and with
+/// `RunFault::Memory` only if neither did. After `Read` and `Memory` nothing is written. After `Write` a beginning of
+/// the answer is written, or all of it if the flush failed.
+///
+/// The document is read to its end, or in pieces of 32,768 bytes up to the piece with the first fault. Only a tag, a
+/// text, the open elements, and what the matcher keeps are held of it. The files are held whole. Costs the time of
+/// `load`, then of `simplify` and `restrict`, and of `Matcher` for each event.
 pub fn run<R: Read, W: Write>(
     alloc: Global,
     command: Command,
@@ -47,7 +56,7 @@ pub fn run<R: Read, W: Write>(
     requires input { device_failures input.old < 2 ^ 64 - 1 }
     requires output { device_failures output.old < 2 ^ 64 - 1 }
 
-    // Where it answers, no call failed, and the answer is all that was written.
+    // If the run succeeds, no call failed, and exactly the answer is written.
     ensures calm_input { OnOk result (device_failures input.new ≡ device_failures input.old) }
     ensures calm_output { OnOk result (device_failures output.new ≡ device_failures output.old) }
     ensures answer { IfOk result (λ status. WritesAnswer
@@ -56,10 +65,10 @@ pub fn run<R: Read, W: Write>(
 
     ensures flushed { OnOk result (device_flushed output.new ≡ true) }
 
-    // Where no document is judged by the files, none is read.
+    // If the files say that no document is judged, no document is read.
     ensures unread { (verdict : FilesVerdict) → FilesHaveOnlyVerdict (named_files files.now) (main_name files.now) verdict → JudgesNone command (main_name files.now) verdict → input.new ≡ input.old }
 
-    // A fault of a device is answered only where that device counted one.
+    // The run fails with a fault of a device only if that device counted one.
     ensures read { IsErrOf result RunFault.Read → device_failures input.old < device_failures input.new }
     ensures write { IsErrOf result RunFault.Write → device_failures output.old < device_failures output.new }
     ensures memory { IsErrOf result RunFault.Memory →
@@ -82,7 +91,7 @@ pub fn run<R: Read, W: Write>(
     Ok(status)
 }
 
-/// What is to be said of the files, of which the first is the main one, and of the document by them.
+/// Returns the answer for the files, the first of which is the main one, and for the document.
 fn answer_for<R: Read>(
     alloc: Global,
     command: Command,
@@ -103,7 +112,7 @@ fn answer_for<R: Read>(
     }
 }
 
-/// What is to be said of a schema that breaks no clause, and of the document by it.
+/// Returns the answer for a schema that breaks no clause, and for the document.
 fn answer_by<R: Read>(
     alloc: Global,
     command: Command,
@@ -125,7 +134,7 @@ fn answer_by<R: Read>(
     }
 }
 
-/// The answer that tells a fault of a schema.
+/// Returns the answer that reports a fault of a schema.
 fn refusal(fault: CompileFault) -> Result<Answer, OutOfMemory>
     ensures { IfOk result (λ answer. refusal_of fault ≡ Some (answer_of answer)) }
 {

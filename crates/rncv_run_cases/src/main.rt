@@ -1,7 +1,8 @@
-//! Prints what `run` answers and writes for each row of `data/cases.txt`, `data/sizes.txt` and `data/files.txt`, by a reader
-//! that gives all that it has at once, and after it each other answer by readers that give 1, 2, 3 and 4,096 bytes at
-//! most, which there is not to be; then for each document of `data/documents.txt` a line with a letter for each schema of `data/schemas.txt`, V for valid
-//! and I for invalid, and after it the letters of validators that judge all these documents one after the other, in pieces, where they differ.
+//! Prints the status that `run` returns and what it writes for each row of `data/cases.txt`, `data/sizes.txt` and
+//! `data/files.txt`, with a reader that returns everything at once. Readers that return at most 1, 2, 3 and 4,096 bytes
+//! at a time must give the same; any other result is printed after it. Then it prints a line for each document of
+//! `data/documents.txt`, with a letter for each schema of `data/schemas.txt`: V for valid and I for invalid. If
+//! validators that judge all these documents one after the other, in pieces, differ, their letters follow.
 //!
 //! The documents, the schemas and their letters come from a second program, `tools/all_splits`.
 #![tactic(auto)]
@@ -14,7 +15,7 @@ use std::alloc::Global;
 use std::io;
 use std::io::Read;
 
-/// A reader that gives a few bytes a call.
+/// A reader that returns a few bytes in each call.
 #[derive(Drop)]
 struct Pieces<'a> {
     bytes: &'a [u8],
@@ -57,7 +58,7 @@ fn main(rt: HostRuntime) -> io::Result<()> {
     Ok(())
 }
 
-/// The status of a run, and what it writes.
+/// Returns the status of a run, and what it writes.
 fn outcome(
     alloc: Global,
     command: Command,
@@ -80,7 +81,7 @@ fn outcome(
     }
 }
 
-/// A file of this name.
+/// Returns a file with this name.
 fn file_of(alloc: Global, name: &str, schema: &[u8]) -> io::Result<(String, Vec<u8>)> {
     Ok((
         String::from_str(alloc, name)?,
@@ -88,7 +89,7 @@ fn file_of(alloc: Global, name: &str, schema: &[u8]) -> io::Result<(String, Vec<
     ))
 }
 
-/// The files from the third field on.
+/// Returns the files from the third field on.
 fn files_of(alloc: Global, row: &Row) -> io::Result<Vec<(String, Vec<u8>)>> {
     let mut files = Vec::new(alloc);
     for field in (2..row.field_count()).step_by(3) {
@@ -101,13 +102,14 @@ fn files_of(alloc: Global, row: &Row) -> io::Result<Vec<(String, Vec<u8>)>> {
     Ok(files)
 }
 
-/// What a run over one file answers and writes, by the command and the file's name that a row begins with.
+/// Returns the status and the output of a run over one file, with the command and the file's name at the start of a
+/// row.
 fn line_of(alloc: Global, row: &Row, schema: &[u8], document: &[u8]) -> io::Result<String> {
     let file = file_of(alloc, row.text(1)?, schema)?;
     line_over(alloc, row, &[file], document)
 }
 
-/// What a run answers and writes, by the command that a row begins with.
+/// Returns the status and the output of a run, with the command at the start of a row.
 fn line_over(
     alloc: Global,
     row: &Row,
@@ -129,7 +131,7 @@ fn line_over(
     Ok(lines)
 }
 
-/// What a run answers and writes, by a reader that gives so many bytes a call at most.
+/// Returns the status and the output of a run, with a reader that returns at most this many bytes in a call.
 fn line_by(
     alloc: Global,
     command: Command,
@@ -144,7 +146,7 @@ fn line_by(
     }
 }
 
-/// The pieces from the fourth field on, each followed by how often it stands there.
+/// Returns the pieces from the fourth field on, each repeated as often as the field after it says.
 fn joined(alloc: Global, row: &Row) -> io::Result<Vec<u8>> {
     let mut all = Vec::new(alloc);
     for field in (3..row.field_count()).step_by(2) {
@@ -156,7 +158,7 @@ fn joined(alloc: Global, row: &Row) -> io::Result<Vec<u8>> {
     Ok(all)
 }
 
-/// How often a piece stands there: once where that is not said.
+/// Returns how often a piece is repeated: once if there is no number.
 fn times_of(row: &Row, field: usize) -> u32 {
     match row.text(field) {
         Ok(number) => number.parse().unwrap_or(1),
@@ -164,7 +166,7 @@ fn times_of(row: &Row, field: usize) -> u32 {
     }
 }
 
-/// A letter for each schema.
+/// Returns a letter for each schema.
 fn letters_of(alloc: Global, schemas: &[Row], document: &[u8]) -> io::Result<String> {
     let mut letters = String::new(alloc);
     for schema in schemas {
@@ -180,7 +182,7 @@ fn letters_of(alloc: Global, schemas: &[Row], document: &[u8]) -> io::Result<Str
     Ok(letters)
 }
 
-/// A validator for each schema, or none where the schema is refused.
+/// Returns a validator for each schema, or none if the schema is rejected.
 fn validators_of(alloc: Global, schemas: &[Row]) -> io::Result<Vec<Option<Validator>>> {
     let mut validators = Vec::new(alloc);
     for schema in schemas {
@@ -190,7 +192,7 @@ fn validators_of(alloc: Global, schemas: &[Row]) -> io::Result<Vec<Option<Valida
     Ok(validators)
 }
 
-/// A letter for each validator.
+/// Returns a letter for each validator.
 fn letters_by(
     alloc: Global,
     validators: &mut Vec<Option<Validator>>,
@@ -211,7 +213,7 @@ fn letters_by(
     Ok(letters)
 }
 
-/// The validator, and a letter for what it says of a document, in pieces of three bytes.
+/// Returns the validator, and a letter for its verdict on a document, in pieces of three bytes.
 fn judged(alloc: Global, validator: Validator, bytes: &[u8]) -> io::Result<(Validator, char)> {
     let mut document = validator.document(alloc);
     for piece in bytes.chunks(3) {

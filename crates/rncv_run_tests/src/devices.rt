@@ -1,4 +1,4 @@
-// Devices that give and take in pieces, and fail; and refused growths.
+// Devices that read and write in pieces, and fail; and allocations that fail.
 use crate::streams::{Outcome, Source, file, run_over, run_well};
 use rncv_run::{Command, RunFault, Status};
 use std::alloc::{AllocError, Global};
@@ -26,7 +26,7 @@ fn pieces_of_any_length(rt: HostRuntime) -> Result<(), Fail> {
     Ok(())
 }
 
-/// An element of this name with 800 lines of text, each of 1,024 bytes.
+/// Appends an element with this name and 800 lines of text, each of 1,024 bytes.
 fn push_long_text(document: &mut Vec<u8>, name: u8) -> Result<(), AllocError> {
     document.extend_from_slice(&[b'(', name, b'\n'])?;
     for _line in 0..800 {
@@ -37,7 +37,7 @@ fn push_long_text(document: &mut Vec<u8>, name: u8) -> Result<(), AllocError> {
     document.extend_from_slice(&[b')', name, b'\n'])
 }
 
-/// A document of more than 3 MiB.
+/// Returns a document of more than 3 MiB.
 fn long_document(alloc: Global) -> Result<Vec<u8>, AllocError> {
     let mut document = Vec::from_slice(alloc, b"(a\n")?;
     for name in [b'b', b'c', b'd', b'e'] {
@@ -81,7 +81,7 @@ fn is_as_wanted(got: &Outcome, reads: u64, writes: u64) -> bool {
         }
 }
 
-// The second file is no schema, and is not judged.
+// The second file is not a schema, and is not judged.
 #[test]
 fn devices_fail_at_each_call(rt: HostRuntime) -> Result<(), Fail> {
     let files = [
@@ -102,7 +102,7 @@ fn devices_fail_at_each_call(rt: HostRuntime) -> Result<(), Fail> {
     Ok(())
 }
 
-/// Holds with ample memory, and where any one growth is refused: then nothing was written, or the answer was.
+/// Runs with enough memory, and with each single growth refused. Then either nothing was written, or the whole answer.
 #[test]
 fn a_refused_growth_is_told(rt: HostRuntime) -> Result<(), Fail> {
     let Ok(got) = run_well(rt.alloc(), Command::Valid, SMALL, DOCUMENT, 4096) else {

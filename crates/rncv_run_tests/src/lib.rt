@@ -1,7 +1,7 @@
-//! Tests of `rncv_run`: devices that fail and give and take in pieces, and want of memory.
+//! Tests of `rncv_run`: devices that fail, or read and write in pieces, and out of memory.
 //!
-//! They are a crate of their own, since the tests of a crate are proved together with all of it once more. What is written
-//! for which schema and document is data of `rncv_run_cases`.
+//! They are in a crate of their own, because the tests of a crate are proved with the whole crate once more. What is
+//! written for which schema and document is in the data of `rncv_run_cases`.
 #![tactic(auto)]
 
 #[cfg(test)]

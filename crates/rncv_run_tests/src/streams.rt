@@ -1,11 +1,11 @@
-// A reader and a writer that give and take in pieces, and fail, and one run over them.
+// A reader and a writer that work in pieces, and fail, and one run over them.
 use rncv_run::{Command, RunFault, Status, run};
 use rng_model::Device;
 use std::alloc::{AllocError, Global};
 use std::io;
 use std::io::{Read, Write};
 
-/// A reader that gives a few bytes a call, and fails at its call of a number, counted from 0.
+/// A reader that returns a few bytes in each call, and fails at the call with a given number, counted from 0.
 #[derive(Drop)]
 pub struct Source<'a> {
     pub bytes: &'a [u8],
@@ -24,7 +24,7 @@ impl Read for Source<'_> {
     }
 }
 
-/// A writer that takes one byte a call, and fails at its call of a number, counted from 0.
+/// A writer that takes one byte in each call, and fails at the call with a given number, counted from 0.
 #[derive(Drop)]
 struct Sink {
     bytes: Vec<u8>,
@@ -51,7 +51,7 @@ impl Write for Sink {
     }
 }
 
-/// What a run answered, what it wrote, and what its devices counted.
+/// What a run returned, what it wrote, and what its devices counted.
 #[derive(Drop)]
 pub struct Outcome {
     pub answer: Result<Status, RunFault>,
@@ -61,7 +61,7 @@ pub struct Outcome {
     pub unread: usize,
 }
 
-/// A file of this name and these bytes.
+/// Returns a file with this name and these bytes.
 pub fn file(alloc: Global, name: &str, bytes: &[u8]) -> Result<(String, Vec<u8>), AllocError> {
     Ok((
         String::from_str(alloc, name)?,
@@ -69,7 +69,7 @@ pub fn file(alloc: Global, name: &str, bytes: &[u8]) -> Result<(String, Vec<u8>)
     ))
 }
 
-/// One run over devices that give and take as the arguments say.
+/// Runs once over devices that work as the arguments say.
 pub fn run_over(
     alloc: Global,
     command: Command,
@@ -97,7 +97,7 @@ pub fn run_over(
     }
 }
 
-/// One run with one file, `s.rnc`, in which no device fails.
+/// Runs once with one file, `s.rnc`, and no failing device.
 pub fn run_well(
     alloc: Global,
     command: Command,

@@ -1,4 +1,5 @@
--- A document has one verdict but for the line of what is invalid, and the same one wherever the same documents are valid.
+-- The verdict on a document is unique, except for the line of an invalid document. It depends only on which documents
+-- are valid.
 use Rattle.std.proofs.Common.{◌≡◌, ◌↔◌, ◌≤◌, ℕ, zero, suc, List, [], ◌∷◌, Result, Ok, Err, All, length, take}
 use Rattle.std.proofs.Common.{sym, ap, subst, refl, ap₂, ◌∙◌, arith, inl, inr}
 use Rattle.std.proofs.lemmas.List.Elements.{All-append, All-cons, All-weaker}
@@ -28,14 +29,14 @@ use Rattle.rncv_model.specs.declared.verdict.Verdict.TheVariants.{Valid, Malform
 ok_err : {A B : Type 0} {x : A} {y : B} → ◌≡◌ {A = Result A B} (Ok x) (Err y) → ⊥
 ok_err e = cc
 
--- a document breaks no clause
+-- the bytes of a document break no clause
 nothing_broken : (bytes : List ℕ) (d : Placed) (f : Fault) → IsPyxDocument bytes d → Breaks (lines bytes) f → ⊥
 unfolding document_read
 nothing_broken bytes d f is b =
     let m = at_most b in
     ok_err (sym (ap (λ (t : Turn State). t.0) (complete bytes d is).is) ∙ m.is)
 
--- two faults, neither of which comes after the other
+-- two faults that are each not after the other are equal
 same_fault : (j m k n : ℕ) → IsBefore (record { clause = j; line = m }) (record { clause = k; line = n }) →
     IsBefore (record { clause = k; line = n }) (record { clause = j; line = m }) → (j ≡ k) × (m ≡ n)
 same_fault j m k n (inl a) (inl b) = absurd (omega arith)
@@ -58,7 +59,7 @@ module _ (IsValid : Item → Type 0) (IsUnknown : Name → Type 0) (bytes : List
 
 -- ---- the verdict of an outcome
 
--- where the first n are the same, one list is as long as the other, up to n
+-- if the first n members are the same, and one list has at least n members, so has the other
 as_long : (n : ℕ) (xs ys : List Line) → take n xs ≡ take n ys → n ≤ length ys → n ≤ length xs
 as_long zero xs ys e le = omega arith
 as_long (suc n) [] [] e le = le
@@ -112,7 +113,7 @@ module _ (g : Reading) (bytes : List ℕ) (d : Placed) (is : IsPyxDocument bytes
   outcome_verdict outcome.Valid valid = (d, is, valid)
   outcome_verdict (outcome.Invalid line) fails = invalid_from line fails.1
 
--- ---- where the same documents are valid, and no more names unknown
+-- ---- two notions of validity with the same valid documents, the second with no more unknown names
 
 module _ (IsValid IsAlsoValid : Item → Type 0) (IsUnknown IsAlsoUnknown : Name → Type 0) (same : (root : Item) → IsValid root ↔ IsAlsoValid root)
     (less : (name : Name) → IsAlsoUnknown name → IsUnknown name) where

@@ -1,5 +1,5 @@
--- What is known of the bytes that were fed of a document, and of the verdict on it.
-use Rattle.std.proofs.Common.{◌≡◌, ◌⊎◌, inl, inr, ℕ, List, [], ◌∷◌, ◌++◌, Option, Some, None, Result, Ok, Err, IfOk, IfSome, refl, ap, sym, subst, ◌∙◌, append_assoc}
+-- What is known of the bytes that were fed, and of the verdict on the document.
+use Rattle.std.proofs.Common.{◌≡◌, ◌⊎◌, inl, inr, ℕ, List, [], ◌∷◌, ◌++◌, All, Option, Some, None, Result, Ok, Err, IfOk, IfSome, refl, ap, sym, subst, ◌∙◌, append_assoc}
 use Rattle.std.proofs.lemmas.List.{append-nil}
 use Rattle.rng_model.specs.documents.Lines.{lines}
 use Rattle.rng_model.specs.datatypes.DatatypeTests.{text_tests}
@@ -15,7 +15,7 @@ use Rattle.rng_model.specs.documents.PyxClauses.{IsFirstFault}
 use Rattle.rng_model.specs.documents.PyxFaults.{Fault}
 use Rattle.rng_model.specs.documents.PyxTrees.{Event, Placed, IsPyxDocument, events_of, item_of}
 use Rattle.rng_model.specs.matching.GrammarReading.{reading_of}
-use Rattle.rng_model.specs.matching.Outcomes.{FailsAt, IsOutcome}
+use Rattle.rng_model.specs.matching.Outcomes.{FailsAt, IsOutcome, KnowsName}
 use Rattle.rng_model.specs.matching.SchemaMatching.{IsValidBySchema}
 use Rattle.rng_model.specs.schema.Schema.{Schema}
 use Rattle.rng_model.specs.simple.Table.{IsValidBy, Table, grammar_of}
@@ -38,16 +38,16 @@ use Rattle.rng_deriv.specs.declared.progress.Progress.{Progress}
 use Rattle.rng_deriv.specs.declared.progress.Progress.TheVariants as progress
 use Rattle.rng_deriv.specs.views.Positions.{IsKnown}
 use Rattle.rng_pattern_table.specs.views.Trees.{trees}
-use Rattle.rng_deriv.specs.views.Matchers.{HasFailedAt, HasGoneOn, IsStateBy, Knows, Matching, failed_line, judges_by, matching_in}
+use Rattle.rng_deriv.specs.views.Matchers.{HasFailedAt, HasGoneOn, HasRunOut, IsStateBy, Knows, Matching, failed_line, judges_by, matching_in}
 use Rattle.rncv_validator.specs.plain.Judging.{IsUnknownTo, verdict_of}
 use Rattle.rncv_validator.specs.declared.fault.DocumentFault.{DocumentFault}
 use Rattle.rncv_validator.specs.declared.fault.DocumentFault.TheVariants as faults
-use Rattle.rncv_validator.specs.views.Documents.{HasBeenFed, IsFaultOfFed, IsFaultOfReader, IsKeptFault, Judging, UnlessMemory, failed_since, matching_of, told_by, verdict_by}
+use Rattle.rncv_validator.specs.views.Documents.{HasBeenFed, HasNotRunOut, IsFaultOfFed, IsFaultOfReader, IsKeptFault, Judging, KnowsAllNames, UnlessMemory, failed_since, matching_of, told_by, verdict_by}
 use Rattle.rncv_validator.specs.views.Validators.{Judges}
 use Rattle.rncv_validator.proofs.DocumentVerdict.{one_verdict, outcome_verdict, same_verdict}
 use Rattle.rncv_validator.proofs.UnknownNames.{unknown_to_grammar}
 
--- ---- the events of a beginning
+-- ---- the events of a beginning of a document
 
 -- what comes next adds to the events
 followed_begins : {A B : Type 0} (t : Turn A) (f : A → Turn B) → (more : List Event) × ((followed t f).1 ≡ t.1 ++ more)
@@ -56,7 +56,7 @@ followed_begins {A = A} {B = B} t f = by_result t.0 t.1 where
   by_result (Ok s) es = ((f s).1, refl)
   by_result (Err e) es = ([], sym (append-nil es))
 
--- the events of a document that begins with what was read begin with those that were handed out
+-- the events of a document that begins with the bytes that were read begin with those that were reported
 pub events_begin : (k : Kept) (bytes rest : List ℕ) (es : List Event) (d : Placed) → Stands k bytes es → IsPyxDocument (bytes ++ rest) d
     → (more : List Event) × (events_of d ≡ es ++ more)
 events_begin k bytes rest es d stands is =
@@ -72,22 +72,22 @@ events_begin k bytes rest es d stands is =
 -- ---- the verdict
 
 module _ (s : Schema) (bytes : List ℕ) where
-  -- it is the only one
+  -- the verdict is the only one
   on_schema : (v : Verdict) → IsVerdict (IsValidBySchema s) (IsUnknownIn s) bytes v → IsVerdictOn s bytes v
   on_schema v is = record { is = is; only = λ w. one_verdict (IsValidBySchema s) (IsUnknownIn s) bytes v w is }
 
-  -- one by the grammar is one by the schema
+  -- a verdict by the grammar is one by the schema
   by_grammar : (g : Table) → Judges g s → (v : Verdict) → IsVerdict (IsValidBy (grammar_of g) (texts_of text_tests)) (IsUnknownTo (grammar_of g)) bytes v
       → IsVerdictOn s bytes v
   by_grammar g judges v is = on_schema v (same_verdict _ _ _ _ judges.documents (unknown_to_grammar s (grammar_of g) judges.only) bytes v is)
 
--- what a matcher says of each document whose events were told
+-- the outcome of a matcher is right for each document with the events that it has had
 abbrev pub Says : Matching → Outcome → Type 0
 Says m o = (bytes : List ℕ) (t : Placed) → IsPyxDocument bytes t → Knows m (events_of t) → IsOutcome (judges_by m) t o
 
--- what was handed the events has gone on by them
+-- a taker that was given the events has taken them
 pub gone : (a b : Matching) (es : List Event) → Hands HasGoneOn a b es → HasGoneOn a b es
-gone a b es h = h a [] (record { grammar = refl; knows = λ before k. subst (Knows a) (sym (append-nil before)) k; failed = λ line f. f })
+gone a b es h = h a [] (record { grammar = refl; knows = λ before k. subst (Knows a) (sym (append-nil before)) k; failed = λ line f. f; kept = λ lost. lost })
 
 module _ (d : Judging) (old new : Matching) (there : old ≡ d.matching) (s : Schema) (judges : Judges d.grammar s) (bytes : List ℕ)
     (fed : HasBeenFed d bytes) where
@@ -114,16 +114,16 @@ ended_verdict d old new there (Err pyx.Memory) o ends says = tt
 ended_verdict d old new there (Err (pyx.At clause line)) o ends says = λ s bytes judges fed.
     on_schema s bytes (Malformed clause line) (ends.2 bytes fed.events fed.reads).first
 
--- where there is a verdict, the matcher has gone on
+-- if there is a verdict, the matcher keeps its grammar
 pub ended_grammar : {A : Type 0} (k : Kept) (old new : Matching) (ended : Result A PyxFault) (outcome : Result Outcome OutOfMemory) (v : Verdict)
     → calls.UnlessMemory ended (calls.Ends (Hands HasGoneOn old new) k ended) → verdict_by ended outcome ≡ Ok v → new.grammar ≡ old.grammar
 ended_grammar k old new (Ok x) o v ends e = (gone old new ends.0 ends.1).grammar
 ended_grammar k old new (Err pyx.Memory) o v ends e = absurd (cc)
 ended_grammar k old new (Err (pyx.At clause line)) o v ends e = (gone old new ends.0 ends.1).grammar
 
--- ---- one piece more
+-- ---- one more piece
 
--- what holds of what is there, if it is
+-- a claim about the value of an option, if it has one
 pub of_some : {A : Type 0} {P : A → Type 0} (o : Option A) → ((x : A) → o ≡ Some x → P x) → IfSome o P
 of_some None h = tt
 of_some (Some x) h = h x refl
@@ -146,7 +146,7 @@ module _ (d e : Judging) (old new : Matching) (there : old ≡ d.matching) (now 
             (on.knows fed.events (subst (λ (m : Matching). Knows m fed.events) (sym there) fed.knows));
       }
 
-  -- where nothing valid can begin any more, it stays so
+  -- once no continuation is valid, this stays so
   pub stays_failed : (line : ℕ) → failed_since d ≡ Some line → failed_since e ≡ Some line
   stays_failed line f =
       let on = gone old new longer.0 longer.1 in
@@ -156,14 +156,18 @@ module _ (d e : Judging) (old new : Matching) (there : old ≡ d.matching) (now 
   pub since_kept : IfSome (failed_since d) (λ line. failed_since e ≡ Some line)
   since_kept = of_some (failed_since d) stays_failed
 
--- the matcher that a document goes on with is what is known of it
+-- the matcher that continues a document has the state that is kept for it
 pub resumed : (g now : Table) (o : Option MatcherState) (s : MatcherState) (m : Matching) (k : Kept) (f : Option DocumentFault) (d : Judging)
     → ◌≡◌ {A = Judging} (record { grammar = g; reader = k; matching = matching_of g o; fault = f }) d → o ≡ Some s → now ≡ g → m ≡ matching_in now s
     → m ≡ d.matching
 resumed g now o s m k f d view there same is =
     is ∙ ap (λ t. matching_in t s) same ∙ ap (matching_of g) (sym there) ∙ ap (λ (d : Judging). d.matching) view
 
--- what it leaves is kept for the grammar
+-- what holds of the state that there is
+pub state_there : (o : Option MatcherState) (s : MatcherState) (P : MatcherState → Type 0) → o ≡ Some s → IfSome o P → P s
+state_there o s P there is = subst (λ o. IfSome o P) there is
+
+-- what the matcher leaves is a state for the grammar
 module _ (g now : Table) (s kept : MatcherState) (old new : Matching) (same : now ≡ g) (is : old ≡ matching_in now s) (on : new.grammar ≡ old.grammar) where
   grammar_kept : new.grammar ≡ g
   grammar_kept = on ∙ ap (λ (m : Matching). m.grammar) is ∙ same
@@ -178,13 +182,20 @@ module _ (g now : Table) (s kept : MatcherState) (old new : Matching) (same : no
     pub known_put : matching_in new.grammar kept ≡ new → new ≡ matching_of g place
     known_put e = sym e ∙ ap (λ t. matching_in t kept) grammar_kept ∙ ap (matching_of g) (sym put)
 
+    pub kept_put : matching_in new.grammar kept ≡ new → (HasRunOut new → HasRunOut old) → HasNotRunOut g s → IfSome place (HasNotRunOut g)
+    kept_put e lost had =
+        let there : matching_in g kept ≡ new = ap (λ t. matching_in t kept) (sym grammar_kept) ∙ e in
+        let was : old ≡ matching_in g s = is ∙ ap (λ t. matching_in t s) same in
+        subst (λ o. IfSome o (HasNotRunOut g)) (sym put)
+        (λ out. had (subst (λ (m : Matching). HasRunOut m) was (lost (subst (λ (m : Matching). HasRunOut m) there out))))
+
     pub grammar_put : (matching_of g place).grammar ≡ g
     grammar_put = ap (λ o. (matching_of g o).grammar) put
 
     pub fault_put : (k : Kept) (f : Option DocumentFault) → IfSome f (IsFaultOfReader k) → IsKeptFault k place f
     fault_put k f is = subst (λ o. IsKeptFault k o f) (sym put) is
 
--- a reader that has a fault stays as it is
+-- a reader that has a fault stays unchanged
 pub stuck_fed : (d : Judging) (f : DocumentFault) → IsFaultOfReader d.reader f → (piece : List ℕ)
     → UnlessMemory {A = Unit {0}} (Err f) ((bytes : List ℕ) → HasBeenFed d bytes → HasBeenFed d (bytes ++ piece))
 stuck_fed d faults.Memory of piece = tt
@@ -194,13 +205,13 @@ stuck_fed d (faults.Malformed clause line) of piece = λ bytes fed.
 
 -- ---- the fault
 
--- a fault of the reader is that of all bytes that begin with those that were fed
+-- a fault of the reader is one of all bytes that begin with those that were fed
 pub fault_of_fed : (d : Judging) (f : DocumentFault) → IsFaultOfReader d.reader f → IsFaultOfFed d f
 fault_of_fed d faults.Memory of = tt
 fault_of_fed d (faults.Malformed clause line) of = λ bytes rest fed.
     (is_fault_after d.reader (pyx.At clause line) of bytes fed.events fed.reads rest).first
 
--- ---- the line from which on nothing valid can begin
+-- ---- the line after which no continuation is valid
 
 -- no document that begins with the bytes is valid
 pub none_begins : (d : Judging) (line : ℕ) (s : Schema) (bytes rest : List ℕ) → failed_since d ≡ Some line → Judges d.grammar s → HasBeenFed d bytes
@@ -218,13 +229,27 @@ none_begins d line s bytes rest f judges fed valid =
     fails.cannot (fails.behind ++ begins.0) (bytes ++ rest) t valid.1 parts
     (subst (λ (g : Table). IsValidBy (grammar_of g) (texts_of text_tests) (item_of t)) (sym fed.by_grammar) by_grammar)
 
+-- where none is known and memory was there, the grammar has all names of the starts
+pub names_known : (d : Judging) (bytes : List ℕ) (fed : HasBeenFed d bytes) → failed_since d ≡ None → ¬ (HasRunOut d.matching) → KnowsAllNames d bytes fed
+names_known d bytes fed none kept = subst (λ (t : Table). All (λ (e : Event). KnowsName (grammar_of t) e.kind) fed.events) fed.by_grammar
+    (by_progress d.matching.progress refl none)
+  where
+    by_progress : (p : Progress) → d.matching.progress ≡ p → failed_line p ≡ None → All (λ (e : Event). KnowsName (grammar_of d.matching.grammar) e.kind) fed.events
+    by_progress (progress.Going q line) e none =
+        let m = d.matching in
+        let come : IsKnown (judges_by m) (trees m.grammar m.patterns) (progress.Going q line) fed.events =
+        subst (λ p. IsKnown (judges_by m) (trees m.grammar m.patterns) p fed.events) e fed.knows in
+        come.known
+    by_progress (progress.Failed line) e none = absurd (cc)
+    by_progress progress.Lost e none = absurd (kept e)
+
 -- ---- what a document keeps
 
 pub if_none : (o : Option DocumentFault) (P : DocumentFault → Type 0) → o ≡ None → IfSome o P
 if_none None P e = tt
 if_none (Some f) P e = absurd (cc)
 
--- a fault that is kept is the reader's, or want of memory
+-- a fault that is kept is the reader's, or out of memory
 pub fault_there : (k : Kept) (o : Option MatcherState) (kept : Option DocumentFault) (f : DocumentFault) → kept ≡ Some f → IsKeptFault k o kept
     → IsFaultOfReader k f
 fault_there k None kept f e is = subst (IsFaultOfReader k) (same (sym is ∙ e)) tt where
@@ -232,9 +257,9 @@ fault_there k None kept f e is = subst (IsFaultOfReader k) (same (sym is ∙ e))
   same e = cc
 fault_there k (Some s) kept f e is = subst (λ o. IfSome o (IsFaultOfReader k)) e is
 
--- ---- what is told at the end
+-- ---- the verdict at the end
 
--- the verdict that a fault is told by is that on the bytes
+-- the verdict that reports a fault is the verdict on the bytes
 pub fault_verdict : (d : Judging) (f : DocumentFault) → IsFaultOfReader d.reader f
     → IfOk (told_by f) (λ v. (s : Schema) (bytes : List ℕ) → Judges d.grammar s → HasBeenFed d bytes → IsVerdictOn s bytes v)
 fault_verdict d faults.Memory of = tt

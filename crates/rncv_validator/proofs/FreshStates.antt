@@ -1,4 +1,4 @@
--- The state of a matcher to which nothing was told.
+-- The state of a matcher that has had no event yet.
 use Rattle.std.proofs.Common.{◌≡◌, ◌∙◌, [], ap, sym, subst}
 use Rattle.rng_model.specs.simple.Table.{Table}
 use Rattle.rng_deriv.specs.views.Matchers.{HasRunOut, IsStateBy, Knows, Matching, matching_in}

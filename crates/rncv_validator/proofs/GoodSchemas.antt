@@ -1,4 +1,4 @@
--- The clauses of a schema together: those that come before its simple form, and the restrictions on this.
+-- The clauses of a schema together: S11 to S17, and the restrictions on its simple form.
 use Rattle.std.proofs.Common.{ℕ, ◌≤◌, arith}
 use Rattle.rng_model.specs.schema.Least.{IsLeast}
 use Rattle.rng_model.specs.restrictions.Restrictions as r
@@ -40,7 +40,7 @@ not_less : (s : Schema) (clause : ℕ) → IsLeast (BreaksSchemaClause s) clause
 not_less s clause b other (in_schema o) = b.least other o
 not_less s clause b other (in_restriction is o) = omega (arith, at_most b.broken, at_least o)
 
--- the least of the first is the least of all
+-- the least of S11 to S17 that is broken is the least of all
 least_before : (s : Schema) (clause : ℕ) → IsLeast (BreaksSchemaClause s) clause → IsLeastClause s clause
 least_before s clause b = record { broken = in_schema b.broken; least = not_less s clause b }
 
@@ -54,7 +54,7 @@ module _ (s : Schema) (kept : (clause : ℕ) → ¬ (BreaksSchemaClause s clause
   restriction_of clause (in_schema b) = absurd (kept clause b)
   restriction_of clause (in_restriction {g = h} other b) = same_restrictions s h g other is clause b
 
-  -- where none of the first is broken, the restrictions on one simple grammar decide
+  -- if none of S11 to S17 is broken, the restrictions on one simple grammar decide
   least_restriction : (clause : ℕ) → IsLeastRestriction g clause → IsLeastClause s clause
   least_restriction clause b = record { broken = in_restriction is b.broken; least = λ other o. b.least other (restriction_of other o) }
 

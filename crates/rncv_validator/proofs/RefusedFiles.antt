@@ -1,4 +1,4 @@
--- What is told of files that are compiled.
+-- What is reported of files that are compiled.
 use Rattle.std.proofs.Common.{List, IfSome, inl, inr}
 use Rattle.rng_model.specs.schema.Schema.{Schema}
 use Rattle.rng_model.specs.declared.fault.SchemaFault.{SchemaFault}
@@ -9,14 +9,14 @@ use Rattle.rnc_model.specs.loading.SchemaFile.{Name, NamedFile}
 use Rattle.rncv_model.specs.answers.Compiled.{AreTakenAs, IsRefusal}
 use Rattle.rncv_validator.specs.views.Validators.{IsLeastFault}
 
--- the verdict on the files is told
+-- the fault reports the verdict on the files
 pub refused_files : (files : List NamedFile) (main : Name) (fault : SchemaFault) → IfSome (verdict_of_fault fault) (FilesHaveOnlyVerdict files main)
     → IsRefusal files main fault
 refused_files files main (faults.File clause name) is = is
 refused_files files main (faults.Clause clause) is = inl is
 refused_files files main faults.Memory is = tt
 
--- the least clause that their schema breaks is told
+-- the fault reports the least clause that their schema breaks
 pub refused_schema : (files : List NamedFile) (main : Name) (s : Schema) (fault : SchemaFault) → AreTakenAs files main s → IsLeastFault s fault
     → IsRefusal files main fault
 refused_schema files main s (faults.File clause name) are is = absurd is

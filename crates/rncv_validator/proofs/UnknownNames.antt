@@ -7,7 +7,7 @@ use Rattle.rng_model.specs.simple.Table.{Grammar}
 use Rattle.rncv_validator.specs.plain.Judging.{IsUnknownTo}
 use Rattle.rncv_model.specs.answers.Run.{IsUnknownIn}
 
--- they are those that no element of the grammar may have
+-- they are the names that no element of the grammar may have
 pub unknown_to_grammar : (s : Schema) (g : Grammar) → IsOnlySimpleGrammarOf s g → (name : Name) → IsUnknownIn s name → IsUnknownTo g name
 unknown_to_grammar s g only name unknown k c class is_in =
     let same = only unknown.0 unknown.1 in

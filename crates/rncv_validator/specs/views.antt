@@ -1,4 +1,4 @@
--- Views of types, and what they stand for.
+-- Views of types, and what they represent.
 pub mod Documents
 pub mod Places
 pub mod Validators

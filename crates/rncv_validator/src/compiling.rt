@@ -12,7 +12,7 @@ use rng_rules::restrict;
 use rng_simple::simplify;
 use std::alloc::Global;
 
-/// The simple form of a schema that breaks no clause, or the least clause that it breaks, 11 to 27.
+/// Returns the simple form of a schema that breaks no clause, or the least clause that it breaks, 11 to 27.
 pub(crate) fn good_grammar(alloc: Global, schema: Schema) -> Result<SimpleGrammar, SchemaFault>
     ensures judges { IfOk result (λ g. Judges g (schema_of schema)) }
     ensures restricted { IfOk result (λ g. BreaksNone (grammar_of g)) }

@@ -1,4 +1,4 @@
-// A document that is judged piece by piece.
+// Documents that are judged piece by piece.
 ghost use Rattle.std.specs.Prelude.{◌≡◌, ◌⊎◌, ◌+◌, ◌^◌, ◌<◌, ◌++◌, ℕ, List, IfErr, IfOk, IfSome, OnOk, Some, None, Err, length};
 ghost use Rattle.std.specs.Bool.{OnTrue};
 ghost use Rattle.rng_model.specs.schema.Schema.{Schema};
@@ -7,7 +7,7 @@ ghost use Rattle.rncv_model.specs.answers.Verdict.{IsMalformed, IsValidDocument}
 ghost use Rattle.rng_model.specs.matching.SchemaMatching.{IsValidBySchema};
 ghost use Rattle.rncv_model.specs.declared.verdict.Verdict.{Verdict};
 ghost use Rattle.rncv_validator.specs.views.Validators.{Judges};
-ghost use Rattle.rncv_validator.specs.views.Documents.{HasBeenFed, IsFaultOfFed, IsFaultOfReader, UnlessMemory, failed_since, told_by, verdict_by};
+ghost use Rattle.rncv_validator.specs.views.Documents.{HasBeenFed, IsFaultOfFed, IsFaultOfReader, KnowsAllNames, UnlessMemory, failed_since, told_by, verdict_by};
 ghost use Rattle.pyx.specs.views.Calls.{Extends};
 ghost use Rattle.rng_model.specs.documents.Handing.{Hands};
 ghost use Rattle.rng_deriv.specs.views.Matchers.{HasGoneOn};
@@ -22,20 +22,20 @@ use std::alloc::Global;
 use std::marker::Model;
 use std::sync::Arc;
 
-/// A document has fewer bytes than this.
+/// A document has fewer bytes than this number.
 const TOO_MANY_BYTES: u64 = 1 << 63;
 
 /// A document that is judged piece by piece by the schema of a validator.
 ///
-/// No more is kept of it than a tag, a text, the open elements, and what the matcher keeps.
+/// It keeps only a tag, a text, the open elements, and what the matcher keeps.
 #[derive(Drop)]
 pub struct Document {
     pub(crate) alloc: Global,
     pub(crate) grammar: Arc<SimpleGrammar>,
     pub(crate) reader: Reader,
-    /// What the matcher keeps. It is away while the matcher is at work, and once memory was wanting.
+    /// What the matcher keeps. It is `None` while the matcher works, and after it ran out of memory.
     pub(crate) state: Option<MatcherState>,
-    /// What every call answers.
+    /// The error that every call of `feed` returns.
     pub(crate) fault: Option<DocumentFault>,
 }
 
@@ -44,7 +44,7 @@ impl Model for Document {
     ghost use Rattle.rng_model.specs.simple.Table.{grammar_of};
     ghost use Rattle.rng_model.specs.restrictions.BreaksNone.{BreaksNone};
     ghost use Rattle.rng_deriv.specs.views.Matchers.{IsStateBy};
-    ghost use Rattle.rncv_validator.specs.views.Documents.{IsKeptFault, Judging, matching_of};
+    ghost use Rattle.rncv_validator.specs.views.Documents.{HasNotRunOut, IsKeptFault, Judging, matching_of};
     ghost use Rattle.rng_model.specs.contracts.name.NameClass as classes;
     ghost use Rattle.std.specs.Coded.{codes};
 
@@ -54,14 +54,15 @@ impl Model for Document {
 
     ghost view = { λ d. record { grammar = d.grammar.value; reader = d.reader; matching = matching_of d.grammar.value d.state; fault = d.fault } };
 
-    ghost invariant = { λ d. (BreaksNone (grammar_of d.grammar.value)) × (IfSome d.state (IsStateBy d.grammar.value)) × (IsKeptFault d.reader d.state d.fault) };
+    ghost invariant = { λ d. (BreaksNone (grammar_of d.grammar.value)) × (IfSome d.state (IsStateBy d.grammar.value)) × (IsKeptFault d.reader d.state d.fault) × (IfSome d.state (HasNotRunOut d.grammar.value)) };
 }
 
 impl Document {
-    /// Takes the next piece, of any length.
+    /// Takes the next piece of the document, of any length.
     ///
-    /// An error is `Malformed`, with the broken clause of least line and of least number there, whatever comes behind, or `Memory`, which is also
-    /// answered where the document would come to 2^63 bytes. After an error every call answers it. One pass over the piece.
+    /// Fails with `Malformed` and the broken clause of the least line, and of the least number there, whatever bytes
+    /// follow. Fails with `Memory` when out of memory, and if the document would have 2^63 bytes or more. After an
+    /// error, every call of `feed` returns the same error. One pass over the piece.
     ///
     /// XML 1.0, sections 2.2 and 3.1; Namespaces in XML 1.0, sections 3 to 6; RELAX NG Specification, section 6.
     pub fn feed(&mut self, piece: &[u8]) -> Result<(), DocumentFault>
@@ -98,24 +99,28 @@ impl Document {
         }
     }
 
-    /// The line from which on nothing valid can begin, from 1, once it is known: what is fed is then no beginning of a valid document, and
-    /// `finish` answers `Invalid` with this line, or `Malformed`.
+    /// Returns the line after which no continuation is valid, counted from 1, once it is known. Then no document that
+    /// begins with the bytes fed so far is valid, and `finish` returns `Invalid` with this line, or `Malformed`.
     ///
-    /// It is known once the pattern that is left matches nothing. Takes no memory.
+    /// The line is known once the pattern that is left matches nothing. A start tag with a name that no element of the
+    /// schema's simple form may have always makes it known. Allocates nothing.
     pub fn invalid_since(&self) -> Option<u64>
         ensures value { result ≡ failed_since self.now }
         ensures hopeless { IfSome result (λ line. (s : Schema) (bytes rest : List ℕ) → Judges self.now.grammar s → HasBeenFed self.now bytes
             → ¬ (IsValidDocument (IsValidBySchema s) (bytes ++ rest))) }
+        ensures known { result ≡ None → self.now.fault ≡ None → (bytes : List ℕ) (fed : HasBeenFed self.now bytes) → KnowsAllNames self.now bytes fed }
     {
         self.state.as_ref()?.failed_at()
     }
 
-    /// The document has ended: the verdict on it, and the validator, for the next one.
+    /// Ends the document, and returns the verdict on it, and the validator for the next document.
     ///
-    /// The verdict is `Malformed` with the first fault where the bytes that were fed are no document; else `Valid` exactly if it matches the
-    /// schema by the rules of section 6 of the RELAX NG Specification, read over the files as they are written; else `Invalid` with a line:
-    /// nothing that begins with the lines up to it is valid, and the start of no element with a name that no element of the schema's simple
-    /// form may have is told before it. The error is want of memory, and comes after it.
+    /// The verdict is `Malformed` with the first fault if the bytes that were fed are no document. Otherwise it is
+    /// `Valid` exactly if the document matches the schema by the rules of section 6 of the RELAX NG Specification,
+    /// applied to the files as they are written. Otherwise it is `Invalid` with a line. No document that begins with
+    /// the lines up to this line is valid. No start that is reported before this line has a name that no element of the
+    /// schema's simple form may have. The verdict is an error only if this call, or an earlier call for the document,
+    /// ran out of memory.
     pub fn finish(self) -> (Validator, Result<Verdict, OutOfMemory>)
         ensures grammar { result.0 ≡ self.grammar }
         ensures verdict { IfOk result.1 (λ v. (s : Schema) (bytes : List ℕ) → Judges self.grammar s → HasBeenFed self bytes → IsVerdictOn s bytes v) }
@@ -160,14 +165,14 @@ impl Document {
     }
 }
 
-/// Puts a state back in its place.
+/// Puts a state back into its place.
 fn put_back(place: &mut Option<MatcherState>, state: MatcherState)
     ensures { place.new ≡ Some state }
 {
     *place = Some(state);
 }
 
-/// Reads the next piece, and hands its events to the matcher.
+/// Reads the next piece, and passes its events to the matcher.
 fn read_piece(
     reader: &mut Reader,
     piece: &[u8],
@@ -186,14 +191,14 @@ fn read_piece(
     }
 }
 
-/// Whether the document has fewer than 2^63 bytes with this piece.
+/// Returns whether the document has fewer than 2^63 bytes with this piece.
 fn has_room(reader: &Reader, piece: &[u8]) -> bool
     ensures { OnTrue result (reader.now.fed + length piece.now < 2 ^ 63) }
 {
     (piece.len() as u64) < TOO_MANY_BYTES.saturating_sub(reader.fed())
 }
 
-/// The verdict that a fault is told by.
+/// Returns the verdict that reports a fault.
 fn told(fault: DocumentFault) -> Result<Verdict, OutOfMemory>
     ensures { result ≡ told_by fault }
 {
@@ -203,7 +208,7 @@ fn told(fault: DocumentFault) -> Result<Verdict, OutOfMemory>
     }
 }
 
-/// The verdict on a document by how it ended, and what its matcher says.
+/// Returns the verdict on a document, given how reading ended and the outcome of the matcher.
 fn verdict(
     ended: Result<(), PyxFault>,
     outcome: Result<Outcome, OutOfMemory>,

@@ -1,11 +1,11 @@
-// Why a document was not taken.
+// Why a document fails.
 
-/// Why a piece of a document was not taken.
+/// Why a call on a document fails.
 #[derive(Clone, Copy, Debug, PartialEq, Eq)]
 pub enum DocumentFault {
-    /// The document breaks this clause, 1 to 13, at this line, from 1: the broken clause of least line, and of least number there,
-    /// whatever comes behind.
+    /// The document breaks this clause, 1 to 13, at this line, counted from 1. It is the broken clause of the least
+    /// line, and of the least number there, whatever bytes follow.
     Malformed { clause: u8, line: u64 },
-    /// There was no memory.
+    /// The call ran out of memory.
     Memory,
 }

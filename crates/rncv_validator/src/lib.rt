@@ -1,8 +1,9 @@
 //! A schema that is compiled once, and judges documents one after the other.
 //!
-//! `Validator::compile` makes a validator of the files of a schema, or tells the first clause that they break. `Validator::document` begins
-//! a document, `Document::feed` takes it piece by piece, and `Document::finish` gives the verdict, and the validator back, which keeps what it
-//! has worked out of the schema. `place_of` tells where in a file a clause is broken. RELAX NG Specification, sections 4 to 7, and the Compact Syntax specification.
+//! `Validator::compile` makes a validator from the files of a schema, or reports the first clause that they break.
+//! `Validator::document` begins a document, `Document::feed` takes it piece by piece, and `Document::finish` returns
+//! the verdict and the validator, which keeps what it has learned about the schema. `place_of` returns where a file
+//! breaks a clause. RELAX NG Specification, sections 4 to 7, and the Compact Syntax specification.
 #![tactic(auto)]
 
 mod compiling;

@@ -7,9 +7,11 @@ use rnc_model::FilePlace;
 use rng_model::{OutOfMemory, SchemaFault};
 use std::alloc::Global;
 
-/// The place at which a file of a schema breaks the clause that this fault tells of it, if it is one from 3 to 8; else none.
+/// Returns the place where a file of a schema breaks the clause that this fault reports, if it is a clause from 3 to 8;
+/// otherwise `None`.
 ///
-/// `file` is the bytes of the file that the fault names. The error is want of memory. Takes the time and the memory that it takes to read the file.
+/// `file` is the bytes of the file that the fault names. Fails only when out of memory. Costs the time and the memory
+/// of reading the file.
 ///
 /// RELAX NG Compact Syntax, "Lexical structure", "Syntax" and "Declarations".
 pub fn place_of(

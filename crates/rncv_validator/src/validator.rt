@@ -1,4 +1,4 @@
-// A schema that was compiled.
+// Compiled schemas.
 ghost use Rattle.std.specs.Prelude.{◌≡◌, ◌<◌, [], length, IfErr, IfOk, IfSome, Some};
 ghost use Rattle.rng_model.specs.schema.Schema.{Schema};
 ghost use Rattle.rng_model.specs.simple.Table.{grammar_of};
@@ -24,9 +24,10 @@ use std::alloc::Global;
 use std::marker::Model;
 use std::sync::Arc;
 
-/// A schema that was compiled, with what was worked out of it by the documents that it has judged.
+/// A compiled schema, with what its matcher has learned from the documents that it has judged.
 ///
-/// What is kept from one document to the next makes the next one cheaper and changes no answer. It is bounded as for one document.
+/// What a validator keeps from one document to the next makes the next one cheaper and changes no verdict. Its size is
+/// bounded as for one document.
 #[derive(Drop)]
 pub struct Validator {
     pub(crate) grammar: Arc<SimpleGrammar>,
@@ -51,12 +52,13 @@ impl Model for Validator {
 }
 
 impl Validator {
-    /// Compiles the schema of these files, of which the first is the main one.
+    /// Compiles the schema of these files, the first of which is the main one.
     ///
-    /// It is `Ok` exactly if the files are a schema that breaks no clause. Else the fault is what is told: `File` where a file breaks a clause
-    /// from 1 to 8 by itself, with the first such file in load order and the clause that it breaks first; else `Clause` with the clause that
-    /// the files break together, 9 before 10; else `Clause` with the least clause that their schema breaks, 11 to 27. `Memory` says nothing
-    /// of the files. Costs what `load`, `simplify` and `restrict` take.
+    /// Returns `Ok` exactly if the files are a schema that breaks no clause, unless out of memory. Fails with `File` if
+    /// a file breaks a clause from 1 to 8 by itself: with the first such file in load order, and the first clause that
+    /// it breaks. Otherwise fails with `Clause` and the first clause that the files break together, 9 before 10.
+    /// Otherwise fails with `Clause` and the least clause that their schema breaks, 11 to 27. Fails with `Memory` when
+    /// out of memory, which says nothing about the files. Costs what `load`, `simplify` and `restrict` cost.
     ///
     /// RELAX NG Specification, sections 4, 5 and 7; the limits are of the profile (docs/LANGUAGE.md).
     pub fn compile(alloc: Global, files: &[(String, Vec<u8>)]) -> Result<Validator, SchemaFault>
@@ -75,10 +77,11 @@ impl Validator {
         }
     }
 
-    /// A document begins. It takes the validator, and gives it back when it is finished.
+    /// Begins a document. The document takes the validator, and returns it when it is finished.
     ///
-    /// Takes memory for the first document, in proportion to the schema; where there is none, each call of the document answers
-    /// that. Costs for the first document a look-up by hashing for each pattern of the schema, and nothing for the next.
+    /// Allocates memory for the first document, in proportion to the schema. If this fails, each call of `feed` and
+    /// `finish` returns that error. The first document costs a look-up by hashing for each pattern of the schema, the
+    /// next ones cost nothing.
     pub fn document(self, alloc: Global) -> Document
         ensures grammar { result.grammar ≡ self }
         ensures begun { HasBeenFed result [] }
@@ -100,8 +103,8 @@ impl Validator {
         }
     }
 
-    /// Another validator by the same schema, which is shared, for another thread, say. What was worked out is not shared. The error is
-    /// want of memory.
+    /// Returns another validator for the same schema, for example for another thread. The schema is shared, and what
+    /// the matcher has learned is not. Fails only when out of memory.
     pub fn share(&self) -> Result<Validator, OutOfMemory>
         ensures { IfOk result (λ v. v ≡ self.now) }
     {
@@ -114,7 +117,7 @@ impl Validator {
         }
     }
 
-    /// The simple form of the schema, printed (`printed_text` of `rng_print`). The error is want of memory.
+    /// Returns the printed simple form of the schema (`printed_text` of `rng_print`). Fails only when out of memory.
     ///
     /// RELAX NG Specification, section 5.
     pub fn simple_text(&self, alloc: Global) -> Result<Vec<u8>, OutOfMemory>
@@ -124,7 +127,7 @@ impl Validator {
     }
 }
 
-/// The name of the first file.
+/// Returns the name of the first file.
 fn first_name(files: &[(String, Vec<u8>)]) -> &str
     requires { 0 < length files.now }
     ensures { result.now ≡ main_name files.now }
@@ -135,7 +138,8 @@ fn first_name(files: &[(String, Vec<u8>)]) -> &str
     }
 }
 
-/// The state of a matcher to which nothing was told, with what an earlier one has worked out, if there was one. None where there is no memory.
+/// Returns the state of a matcher that has had no event yet, with what an earlier one has learned, if there was one.
+/// Returns `None` when out of memory.
 fn fresh_state(
     alloc: Global,
     grammar: &SimpleGrammar,

@@ -11,7 +11,7 @@ use Rattle.rng_deriv.specs.declared.derivatives.StartWay.{StartWay}
 use Rattle.rng_deriv.specs.declared.links.Link.{Link}
 use Rattle.rng_deriv.proofs.Numbers.{append_nothing}
 
--- ---- lists side by side
+-- ---- pairs of lists
 
 pub zip_push : {A B : Type 0} (R : A → B → Type 0) (xs : List A) (ys : List B) (x : A) (y : B) → AllZip R xs ys → R x y
     → AllZip R (xs ++ x ∷ []) (ys ++ y ∷ [])

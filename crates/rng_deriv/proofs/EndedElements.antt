@@ -39,7 +39,7 @@ one_of_two p q m (zero, lt, e) = inl (sym e)
 one_of_two p q m (suc zero, lt, e) = inr (sym e)
 one_of_two p q m (suc (suc k), lt, e) = absurd (omega (arith, lt))
 
--- a pattern beside one that is notAllowed is a choice of both
+-- a pattern alone is a choice of it and a pattern that is notAllowed
 pub beside_none : (g : Reading) (trees : List (Simple ℕ)) (p q : PatternNumber) → IsInside trees q → is_not_allowed (tree_of trees p) ≡ true →
     Adds (IsChoiceOf g trees (p ∷ q ∷ [])) trees trees q
 beside_none g trees p q inside none = record {
@@ -53,7 +53,7 @@ beside_none g trees p q inside none = record {
     | inr e ↦ subst (λ m. Takes g (tree_of trees m) [] ns) e t
   ]
 
--- a way out of an alternative that is not good leaves all as it is
+-- a way out of an alternative that is not good changes nothing
 pub leaves_nothing : (g : Reading) (good : List Bool) (trees : List (Simple ℕ)) (l : Link) (before : List PatternNumber) → All (IsInside trees) before →
     (slice_get good l.inner ≡ Some true → ⊥) → LeavesBy g good trees trees l before before
 leaves_nothing g good trees l before inside bad = record {
@@ -107,7 +107,7 @@ module _ (g : Reading) (good : List Bool) (old new : List (Simple ℕ)) (l : Lin
         (tree_of old place) (tree_of new joined) is_good was now same joins;
   }
 
--- no way out yet: each alternative around takes nothing
+-- without ways out, each alternative around takes nothing
 pub no_ends : (g : Reading) (good : List Bool) (around : ℕ) (old new : List (Simple ℕ)) (none : PatternNumber) (outside : List PatternNumber) →
     Adds (IsChoiceOf g old []) old new none → outside ≡ replicate around none → AddsEnded g good around old new [] outside
 no_ends g good around old new none outside a e = record {
@@ -175,7 +175,7 @@ only_ended g good around trees links rest outside o within is =
     (subst (λ ls. AddsEnded g good around trees trees ls (o.link.rest ∷ [])) (sym o.only)
     (subst (λ n. AddsEnded g good n trees trees (o.link ∷ []) (o.link.rest ∷ [])) (sym o.one) ends))
 
--- in a loop over the ways out, from the last one
+-- for a loop over the ways out, from the last one
 ended_turned : (g : Reading) (good : List Bool) (links : List level.Link) (l : level.Link) (outside : List (Simple ℕ))
     → AreEnded g good (links ++ l ∷ []) outside → AreEnded g good (l ∷ links) outside
 ended_turned g good links l outside e = record {
@@ -214,7 +214,7 @@ ends_at g h good around old base new links i d before after same first within lt
           (more.ended (map (link_of base) (drop (i + 1) links)) first.ended));
     }
 
--- in a loop that tests each pattern
+-- for a loop that tests each pattern
 pub tests_at : (R : Simple ℕ → Bool → Type 0) (trees : List (Simple ℕ)) (ps : List PatternNumber) (i : ℕ) (d : PatternNumber)
     (bs items : List Bool) (b : Bool) →
     AllZip R (map (tree_of trees) (take i ps)) bs → i < length ps → R (tree_of trees (slice_index_or ps i d)) b → items ≡ bs ++ b ∷ [] →

@@ -1,4 +1,4 @@
--- The ways of a start that something may match, each rest once.
+-- The ways of a start, without those that nothing matches, each rest once.
 use Rattle.std.proofs.Common.{◌≡◌, ◌∙◌, ℕ, ◌<◌, ◌+◌, ◌↔◌, suc, zero, inl, inr, ⊎_elim, All, List, [], ◌∷◌, ◌++◌, length, map, take, get_or, refl, sym, ap, ap₂}
 use Rattle.std.proofs.Common.{subst, arith, Bool, true, false, ◌||◌}
 use Rattle.std.proofs.lemmas.List.{map-append, take_more}
@@ -34,7 +34,7 @@ use Rattle.rng_deriv.specs.views.Numbers.{way_of}
 use Rattle.rng_deriv.specs.declared.derivatives.StartWay.{StartWay}
 use Rattle.rng_deriv.specs.views.Starts.{IsWayInside, OpensLike, with_way}
 
--- ---- what nothing matches
+-- ---- patterns that nothing matches
 
 nothing_taken : (g : Reading) (p : Simple ℕ) (xs : List Attribute) (ns : List Item) → is_not_allowed p ≡ true → Takes g p xs ns → ⊥
 nothing_taken g s_not_allowed xs ns e d = elim d [ ]
@@ -55,7 +55,7 @@ nothing_opened g xs kids ms w e (inl d) =
     one_of_two (is_not_allowed w.leaf) (is_not_allowed w.rest) e (λ f. nothing_weakly_taken g w.leaf xs kids f d.0) (λ f. nothing_taken g w.rest [] ms f d.1)
 nothing_opened g xs kids ms w e (inr d) = absurd d
 
--- ---- one way more
+-- ---- one more way
 
 module _ (t : Table) (ns : List Node) (before : List StartWay) (w : numbered.LeafWay) (inside : All (IsWayInside ns) before) where
   abbrev g : Reading
@@ -67,7 +67,7 @@ module _ (t : Table) (ns : List Node) (before : List StartWay) (w : numbered.Lea
   abbrev one : tree.Way
   one = way_by (tree_of t ns) w
 
-  -- one that opens nothing
+  -- a way that opens nothing
   pub nothing_more : is_not_allowed one.leaf || is_not_allowed one.rest ≡ true → OpensLike t ns (with_way t ns before w) before
   nothing_more none = record {
     inside = inside;
@@ -78,7 +78,7 @@ module _ (t : Table) (ns : List Node) (before : List StartWay) (w : numbered.Lea
     kept = λ q each. each_first _ _ those (one ∷ []) each;
   }
 
-  -- one with a rest of its own
+  -- a way with a new rest
   pub one_more : IsInside ns w → (after : List StartWay) → after ≡ before ++ record { body = w.leaf; rest = w.rest } ∷ []
       → OpensLike t ns (with_way t ns before w) after
   one_more there after added =
@@ -91,7 +91,7 @@ module _ (t : Table) (ns : List Node) (before : List StartWay) (w : numbered.Lea
         kept = λ q each. subst (EachWay (IsRestrictedBodyNamed g q) IsRestricted) (sym is) each;
       }
 
--- two with one rest, and one with a choice of their bodies
+-- two ways with the same rest, and one with a choice of their bodies
 module _ (g : Reading) (F B : List tree.Way) (b c d r : Simple ℕ) where
   joined_opens : Same g d (s_joined choice b c) → (xs : List Attribute) (kids ms : List Item)
       → Opens g xs kids ms ((F ++ B) ++ way d r ∷ []) ↔ Opens g xs kids ms ((F ++ way b r ∷ B) ++ way c r ∷ [])

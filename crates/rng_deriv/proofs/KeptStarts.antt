@@ -1,4 +1,4 @@
--- What is kept of starts stays so, and serves each name of a key.
+-- What is kept of starts stays right, and serves each name of a key.
 use Rattle.std.proofs.Common.{◌≡◌, ◌∙◌, ◌⊎◌, ℕ, List, [], ◌∷◌, map, All, Bool, true, false, cond, inl, inr, ⊎_elim, Some, None}
 use Rattle.smallvec.specs.SmallVec.{SmallVec}
 use Rattle.std.proofs.Common.{refl, sym, ap, ap₂, subst, ◌==◌}
@@ -88,7 +88,7 @@ module _ (t : Table) (old new : List Node) (keys : Keys) (longer : nodes.Longer 
     pub serves_longer : IsServedBy t keys false new numbers memo more
     serves_longer = (served_longer t old new numbers longer served.0, served.1, (λ k ws h. answer_stays k ws (served.2 k ws h)), all)
 
-    -- and one answer more
+    -- one more answer
     pub serves_more : (kept : HashMap StartKey (SmallVec StartWay) Z) (start : StartKey) (ways : List StartWay) → AreAnswer t new keys start ways
         → ((k : StartKey) (ws : List StartWay) → HasKept kept k ws → HasKept memo k ws ⊎ ((k ≡ start) × (ws ≡ ways))) → IsServedBy t keys false new numbers kept more
     serves_more kept start ways answer within = (
@@ -99,7 +99,7 @@ module _ (t : Table) (old new : List Node) (keys : Keys) (longer : nodes.Longer 
       all,
     )
 
--- the answer for the name that stands for a key is one for each name of the key
+-- the answer for the name that represents a key is right for each name of the key
 module _ (t : Table) (keys : Keys) (serve : KeysServe t keys) (old new : List Node) (k : StartKey) (ws : List StartWay)
     (asked : IsInside (trees t old) k.pattern)
     (adds : AddsStarts (reading_of t) (name_at keys k.name.0) (trees t old) (trees t new) (tree_of (trees t old) k.pattern) ws) where
@@ -119,7 +119,7 @@ module _ (t : Table) (keys : Keys) (serve : KeysServe t keys) (old new : List No
     };
   }
 
--- what is kept answers
+-- what the memo finds is the answer
 pub found_added : (t : Table) (keys : Keys) (ns : List Node) (seen : Table × List Node) (view : (t, ns) ≡ seen) (q : Name) (k : StartKey) (ws copy : List StartWay)
     → AreAnswer t ns keys k ws → k.name.0 ≡ key_of keys q → copy ≡ ws
     → AddsStarts (reading_of seen.0) q (trees seen.0 seen.1) (trees t ns) (tree_of (trees seen.0 seen.1) k.pattern) copy
@@ -127,7 +127,7 @@ found_added t keys ns seen view q k ws copy answer named same =
     subst (λ (s : Table × List Node). AddsStarts (reading_of s.0) q (trees s.0 s.1) (trees t ns) (tree_of (trees s.0 s.1) k.pattern) copy) view
     (subst (AddsStarts (reading_of t) q (trees t ns) (trees t ns) (tree_of (trees t ns) k.pattern)) (sym same) (answer.answers q (sym named)))
 
--- what starts for the name that stands for a key starts for each name of the key
+-- the starts for the name that represents a key are starts for each name of the key
 module _ (t : Table) (keys : Keys) (serve : KeysServe t keys) (old new : List Node) (seen : Table × List Node) (view : (t, old) ≡ seen) (q : Name) (k : ℕ)
     (named : k ≡ key_of keys q) (p : PatternNumber) (ws : List StartWay) where
   pub for_each_name : AddsStarts (reading_of seen.0) (name_at keys k) (trees seen.0 seen.1) (trees t new) (tree_of (trees seen.0 seen.1) p) ws

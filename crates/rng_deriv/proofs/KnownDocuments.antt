@@ -24,7 +24,7 @@ use Rattle.rng_deriv.specs.views.Positions.{Leads, AddsStep, HasCome}
 use Rattle.rng_deriv.specs.declared.position.Position.{Position}
 use Rattle.rng_deriv.proofs.Numbers.{all_before}
 
--- ---- tests over numbers, and what they say of patterns
+-- ---- tests over numbers, and their meaning for patterns
 
 and_parts : (a b : Bool) → (a && b) ≡ true → (a ≡ true) × (b ≡ true)
 and_parts true b e = (refl, e)
@@ -123,7 +123,7 @@ module _ (g : Reading) where
       known = come.known;
     }
 
-  -- it stays so
+  -- this stays so after one more event
   pub fails_on : (es : List Event) (line : ℕ) (e : Event) → FailsAt g es line → FailsAt g (es ++ e ∷ []) line
   fails_on es line e f = record {
     before = f.before;

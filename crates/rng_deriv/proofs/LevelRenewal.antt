@@ -1,4 +1,4 @@
--- Renewal: the same patterns by other numbers.
+-- Renewal: the same patterns under other numbers.
 use Rattle.std.proofs.Common.{◌≡◌, ℕ, ◌<◌, ◌≤◌, ◌+◌, List, [], ◌∷◌, ◌++◌, length, map, fold, take, drop, refl, sym, ap, ◌∙◌, subst, All, arith}
 use Rattle.std.proofs.Common.{slice_set, slice_index_or, None}
 use Rattle.std.specs.List.{AllZip}
@@ -38,7 +38,7 @@ pub held_inside : (trees : List (Simple ℕ)) (s : State) → IsStateInside tree
 held_inside trees s inside =
     All-append (IsInside trees) s.now.items (rests_in s.levels.items) inside.now (rests_inside trees s.levels.items inside.levels)
 
--- ---- numbers side by side
+-- ---- pairs of numbers
 
 pub zip_split : {A B : Type 0} (R : A → B → Type 0) (xs ys : List A) (ns : List B) → AllZip R (xs ++ ys) ns
     → AllZip R xs (take (length xs) ns) × AllZip R ys (drop (length xs) ns)
@@ -138,7 +138,7 @@ with_at ls ks ns i d e l is lt count at =
     ∙ ap (λ k. slice_set (with_rests ls (take i ns)) k (with_rest (slice_index_or (with_rests ls (take i ns)) k e) n)) here
     ∙ ap (λ ks. slice_set ks i (with_rest (slice_index_or ks i e) n)) (sym is) ∙ ap (λ l. slice_set ks i (with_rest l n)) (sym at))
 
--- where the first so many levels have their numbers
+-- the first i levels have their new numbers
 pub record ArePut (ls : List Level) (numbers : List PatternNumber) (i : ℕ) (ks : List Level) (behind : List PatternNumber) : Type 0 where
   pub count : length ks ≡ length ls
   pub ahead : drop i ks ≡ drop i ls

@@ -1,18 +1,19 @@
--- A matcher of a grammar, by what the matcher of events inside it does.
+-- A matcher of a grammar, given what the event matcher inside it does.
 use Rattle.std.proofs.Common.{◌≡◌, ◌∙◌, ℕ, List, [], ◌∷◌, ◌++◌, Result, Ok, Err, OnOk, append_assoc, sym, subst}
 use Rattle.rng_model.specs.documents.Handing.{Hands}
 use Rattle.rng_model.specs.documents.PyxTrees.{Event}
-use Rattle.rng_deriv.specs.views.Matchers.{HasFailedAt, HasGoneOn, Knows, Matching}
+use Rattle.rng_deriv.specs.views.Matchers.{HasFailedAt, HasGoneOn, HasRunOut, Knows, Matching}
 
 module _ (inside m : Matching) (is : inside ≡ m) where
   pub goes_on : {A E : Type 0} (new : Matching) (e : Event) (r : Result A E) → OnOk r (new.grammar ≡ inside.grammar)
       → OnOk r ((es : List Event) → Knows inside es → Knows new (es ++ e ∷ []))
-      → ((line : ℕ) → HasFailedAt inside line → OnOk r (HasFailedAt new line)) → OnOk r (Hands HasGoneOn m new (e ∷ []))
-  goes_on new e (Ok x) same on failed = λ first sent gone.
+      → ((line : ℕ) → HasFailedAt inside line → OnOk r (HasFailedAt new line)) → OnOk r (¬ (HasRunOut new)) → OnOk r (Hands HasGoneOn m new (e ∷ []))
+  goes_on new e (Ok x) same on failed kept = λ first sent gone.
       let gone : HasGoneOn first inside sent = subst (λ (m : Matching). HasGoneOn first m sent) (sym is) gone in
       record {
         grammar = same ∙ gone.grammar;
         knows = λ before k. subst (Knows new) (append_assoc before sent (e ∷ [])) (on (before ++ sent) (gone.knows before k));
         failed = λ line f. failed line (gone.failed line f);
+        kept = λ lost. absurd (kept lost);
       }
-  goes_on new e (Err f) same on failed = tt
+  goes_on new e (Err f) same on failed kept = tt

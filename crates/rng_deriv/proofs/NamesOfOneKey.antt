@@ -1,4 +1,4 @@
--- Elements of names that no element of the grammar tells apart are taken alike.
+-- Elements with names of one key are taken alike.
 use Rattle.std.proofs.Common.{◌≡◌, ◌∙◌, ℕ, List, [], ◌∷◌, ◌++◌, true, true≢false, Option, Some, None, refl, sym, ap, subst, slice_get}
 use Rattle.rng_model.specs.matching.Document.{Attribute, Item, a_text, an_element, Items, list_of, Interleaves, AllTexts, Padded}
 use Rattle.rng_model.specs.matching.Document as document
@@ -29,7 +29,7 @@ module _ (g : Reading) where
   abbrev pub IsNoLess : Name → Name → Type 0
   IsNoLess q r = (k : ℕ) → has_name g k q ≡ true → has_name g k r ≡ true
 
-  -- the same items, but for such names of elements
+  -- the same items, except for such names of elements
   pub data AreAlike : List Item → List Item → Type 0 where
     none : AreAlike [] []
     text : {s : List ℕ} {ns ms : List Item} → AreAlike ns ms → AreAlike (a_text s ∷ ns) (a_text s ∷ ms)
@@ -150,7 +150,7 @@ less tbl q r held k e = by (slice_get tbl.elements k) refl
     by None missing = absurd (true≢false (sym e ∙ no_class_there tbl k q missing))
     by (Some x) found = class_there tbl k x r found ∙ held x k found (sym (class_there tbl k x q found) ∙ e)
 
--- the first name stands for the key of the second
+-- the first name represents the key of the second
 module _ (tbl : Table) (keys : Keys) (serve : KeysServe tbl keys) (q r : Name) (same : name_at keys (key_of keys r) ≡ q) where
   held_by_each : (c : NameClass) → keyed.Serves keys c → holds c q ≡ true → holds c r ≡ true
   held_by_each c s e = (holds-Decides c r).1 ((s r).1 (subst (In c) (sym same) ((holds-Decides c q).0 e)))

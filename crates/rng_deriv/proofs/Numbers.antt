@@ -18,7 +18,7 @@ pub on_ok_weaker : {A E : Type 0} (r : Result A E) (P Q : Type 0) → (P → Q) 
 on_ok_weaker (Ok x) P Q f h = f h
 on_ok_weaker (Err e) P Q f h = tt
 
--- an item that is set through a loan of all
+-- an item that is set through a loan of the whole list
 pub set_lent : {A : Type 0} (xs lent : List A) (i : ℕ) (y : A) → lent ≡ xs → refill (length xs) xs (slice_set lent i y) ≡ slice_set xs i y
 set_lent xs lent i y same =
     take_at (slice_set lent i y) (drop (length (slice_set lent i y)) xs) (length xs) (length-set lent i y ∙ ap length same)
@@ -84,7 +84,7 @@ module _ (Is : Simple ℕ → Simple ℕ → Type 0) (old base new : List (Simpl
     each = each_after;
   }
 
--- in a loop over the patterns
+-- for a loop over the patterns
 pub each_at : (Is : Reading → Simple ℕ → Simple ℕ → Type 0) (g h : Reading) (old base new : List (Simple ℕ)) (ps qs items : List PatternNumber) (i : ℕ)
     (d n : PatternNumber) → g ≡ h → AddsEach (Is h) old base (take i ps) qs → All (IsInside old) ps → i < length ps →
     Adds (Is g (tree_of base (slice_index_or ps i d))) base new n → items ≡ qs ++ n ∷ [] → AddsEach (Is h) old new (take (i + 1) ps) items

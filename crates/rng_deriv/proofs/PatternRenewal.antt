@@ -1,4 +1,4 @@
--- What holds of some patterns holds of them in another table.
+-- What holds of some patterns holds of them in another table too.
 use Rattle.std.proofs.Common.{◌≡◌, ◌∙◌, ℕ, zero, suc, ◌<◌, List, [], ◌∷◌, ◌++◌, length, map, take, drop, All, get_or, slice_index_or}
 use Rattle.std.proofs.Common.{refl, sym, ap, ap₂, subst, arith}
 use Rattle.std.specs.List.{AllZip}
@@ -20,7 +20,7 @@ use Rattle.rng_deriv.proofs.LevelRenewal.{zip_split}
 use Rattle.rng_deriv.specs.views.PatternRenewal.{AreSameTrees, IsSameTree}
 use Rattle.rng_deriv.specs.views.Serving.{IsServed}
 
--- both hold of what stands side by side
+-- both hold for each pair
 pub zip_both : {A B : Type 0} (P : B → Type 0) (R : A → B → Type 0) (xs : List A) (ys : List B) → All P ys → AllZip R xs ys → AllZip (λ x y. P y × R x y) xs ys
 zip_both P R [] [] all h = tt
 zip_both P R [] (y ∷ ys) all h = absurd h
@@ -74,7 +74,7 @@ module _ (t : Table) (old new : List Node) (ms ns : List PatternNumber) (same : 
             subst IsRestrictedBody (sym (tree_at_id e.1 within)) (served.bodies k e found);
       }
 
--- those that were held are the same
+-- the patterns that were held are the same
 all_held : (t : Table) (old new : List Node) (ms ns : List PatternNumber) → All (IsInside (trees t old)) ms → AreSameTrees t old new ms ns
     → AreRenewed (trees t old) (trees t new) ms ns
 all_held t old new ms ns inside same = record { inside = within ms ns inside same; same = equal ms ns same }
@@ -98,14 +98,14 @@ all_held t old new ms ns inside same = record { inside = within ms ns inside sam
     equal (m ∷ ms) [] same = absurd same
     equal (m ∷ ms) (n ∷ ns) same = ap₂ (λ p ps. p ∷ ps) same.0.1 (equal ms ns same.1)
 
--- as contracts see it of a table that is there
+-- the same, as contracts see a table that is not lost
 pub held_renewed : (t : Table) (old new : List Node) (seen : Table × List Node) → (t, old) ≡ seen → (ms ns : List PatternNumber)
     → All (IsInside (trees seen.0 seen.1)) ms → AreSameTrees t old new ms ns → AreRenewed (trees seen.0 seen.1) (trees t new) ms ns
 held_renewed t old new seen view ms ns inside same =
     let P : Table × List Node → Type 0 = λ s. All (IsInside (trees s.0 s.1)) ms → AreRenewed (trees s.0 s.1) (trees t new) ms ns in
     subst P view (λ inside. all_held t old new ms ns inside same) inside
 
--- the numbers of a grammar, and those held behind them
+-- the numbers of a grammar, followed by those that are held
 module _ (t : Table) (old new : List Node) (ms hs wanted given : List PatternNumber) (are : wanted ≡ ms ++ hs) (inside : All (λ n. n.0 < length new) given)
     (same : AllZip (λ m n. tree_of t new n.0 ≡ tree_of t old m.0) wanted given) where
   all_same : AreSameTrees t old new (ms ++ hs) given

@@ -54,7 +54,7 @@ module _ (g : Reading) where
   settled_levels s m k (as_blank e) = refl
   settled_levels s m k (as_text e a) = a.levels
 
-  -- what is held turns out to stand beside an element
+  -- a held string that is beside an element
 
   pub settles_nothing : (trees : List (Simple ℕ)) (p : Position) (m : LevelMatcher) → p.held ≡ None → IsPositionOf g trees p m
       → SettlesLevels g m.held m.state (state_of trees p.state)
@@ -113,7 +113,7 @@ module _ (g : Reading) where
     };
   }
 
-  -- an end behind an element
+  -- an end after an element
   pub end_step : (old new : List (Simple ℕ)) (p : Position) (s : State) (r : Position) →
       ((m : LevelMatcher) → IsPositionOf g old p m → SettlesLevels g m.held m.state (state_of old s)) →
       AddsState (EndsIf g (EndsNow g) (state_of old s)) old new r.state → p.has_begun ≡ true → r.has_begun ≡ true → r.held ≡ None
@@ -132,7 +132,7 @@ module _ (g : Reading) where
     step m of (inl none) = at_stray_end (sym (settled_levels m.held m.state (state_of old s) (settles m of)) ∙ none)
     step m of (inr e) = at_end (state_of old s) (of.has_begun ∙ before) (settles m of) e refl refl
 
-  -- an end behind a string alone, or behind nothing
+  -- an end after only a string, or after nothing
   pub lone_step : (old new : List (Simple ℕ)) (p r : Position) →
       AddsState (λ n. (s : List ℕ) → IsHeld g old p.state.now.items p.held s → EndsIf g (EndsWith g s) (state_of old p.state) n) old new r.state →
       p.has_begun ≡ false → r.has_begun ≡ true → r.held ≡ None → AddsStep g an_end old new p r
@@ -153,7 +153,7 @@ module _ (g : Reading) where
 
   -- ---- ends
 
-  -- with what the tests of the alternatives say
+  -- given the tests of the alternatives
   pub ends_if : (MayEnd : Simple ℕ → Type 0) (good : List Bool) (m n : LevelState) → AllZip (λ p b. (b ≡ true) ↔ MayEnd p) m.now good → EndsBy g good m n
       → EndsIf g MayEnd m n
   ends_if MayEnd good m n which (inl none) = inl none

@@ -1,4 +1,4 @@
--- What holds of a table that serves a grammar.
+-- Properties of a table that serves a grammar.
 use Rattle.std.proofs.Common.{◌≡◌, ◌∙◌, ◌↔◌, ℕ, ◌<◌, List, [], ◌∷◌, ◌++◌, All, length, fold, sym, ap, subst, arith, Bool, true, false}
 use Rattle.std.proofs.Common.{slice_index_or}
 use Rattle.smallvec.specs.SmallVec.{SmallVec}
@@ -106,7 +106,7 @@ module _ (t : Table) (ns : List Node) (numbers : List PatternNumber) (served : I
     start_same = subst (λ (n : PatternNumber). Same (reading_of t) (tree_of t ns n.0) (tree_at t.patterns t.start)) start_is
         (served.ready.taken.same t.start.0 start_there (reading_of t))
 
--- ---- what contracts see of a table, unless memory was wanting
+-- ---- what contracts see of a table, unless a call ran out of memory
 
 module _ (t : Table) (lost : Bool) (ns : List Node) (seen : Table × List Node) (there : lost ≡ false) (view : (t, nodes_unless lost ns) ≡ seen) where
   pub seen_there : (t, ns) ≡ seen

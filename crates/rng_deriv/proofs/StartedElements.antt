@@ -65,7 +65,7 @@ module _ (g : Reading) (q : Name) (old base new : List (Simple ℕ)) (ps : List 
       (All-append Within links a.links (All-weaker (IsLinkWithin base (length bodies) (length ps)) Within old_within links h.within)
       (zip_all (IsLinkOf bodies' (length ps)) (λ w. IsInside new w.body × IsInside new w.rest) Within new_within ways a.links a.linked s.inside))
 
-  -- what was opened before, in the table as it is now
+  -- what was opened before, in the table as it is after the step
   before : AreOpened g q (map (tree_of new) ps) (map (tree_of new) bodies) (map (link_of new) links)
   before =
       let rests = All-weaker (IsLinkWithin base (length bodies) (length ps)) (λ l. IsInside base l.rest) (λ l w. w.2) links h.within in
@@ -117,7 +117,7 @@ module _ (g : Reading) (q : Name) (old base new : List (Simple ℕ)) (ps : List 
             (sym (ap (map (link_of new)) a.links_are ∙ map-append (link_of new) links a.links)) more));
       }
 
--- in a loop over the alternatives
+-- for a loop over the alternatives
 pub opens_at : (g h : Reading) (q : Name) (old base new : List (Simple ℕ)) (ps : List PatternNumber) (i : ℕ) (d : PatternNumber) (ways : List StartWay)
     (bodies bodies' : List PatternNumber) (links links' : List Link) → g ≡ h → AddsOpened h q old base (take i ps) bodies links → All (IsInside old) ps →
     i < length ps → AddsStarts g q base new (tree_of base (slice_index_or ps i d)) ways → AddsLinks i ways bodies bodies' links links' →

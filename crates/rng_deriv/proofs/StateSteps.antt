@@ -105,7 +105,7 @@ ends g good old new s n l inside popped e =
       });
     }
 
--- with what the tests of the alternatives say, it is the end of a level
+-- given the tests of the alternatives, it is the end of a level
 pub ends_level : (g : Reading) (MayEnd : Simple ℕ → Type 0) (good : List Bool) (m n : LevelState) → AllZip (λ p b. (b ≡ true) ↔ MayEnd p) m.now good →
     EndsLevelBy g good m n → EndsLevel g MayEnd m n
 ends_level g MayEnd good m n which e = record { links = e.links; good = good; levels = e.levels; which = which; ended = e.ended }

@@ -1,4 +1,4 @@
-// The end of an element, with what stood in it.
+// The end of an element, by the content of the element.
 ghost use Rattle.std.specs.Prelude.{◌≡◌, ℕ, List, OnOk, length};
 ghost use Rattle.rng_deriv_laws.specs.plain.LevelStates.{EndsNow, EndsWith};
 ghost use Rattle.rng_deriv.specs.views.States.{AddsState, EndsIf, IsStateInside, state_of};
@@ -11,7 +11,7 @@ use crate::state::{State, close};
 use rng_model::OutOfMemory;
 use std::alloc::Global;
 
-/// Takes the end of an element that holds an element.
+/// Takes the end of an element that has a child element.
 pub fn after_elements<D: Derivatives>(
     derivatives: &mut D,
     alloc: Global,
@@ -27,7 +27,7 @@ pub fn after_elements<D: Derivatives>(
     close(derivatives, alloc, state, good.as_slice())
 }
 
-/// Takes the end of an element that holds no element: one with a string alone, or with nothing, which counts as an empty
+/// Takes the end of an element without a child element: it has only a string, or nothing, which counts as an empty
 /// string (RELAX NG Specification, section 6.2.7).
 pub fn after_lone_string<D: Derivatives>(
     derivatives: &mut D,

@@ -1,4 +1,4 @@
-// What the matcher asks about patterns.
+// What the matcher computes from patterns.
 ghost use Rattle.std.specs.Prelude.{◌≡◌, ◌↔◌, ℕ, List, [], All, IfOk, OnOk, map};
 ghost use Rattle.rng_model.specs.matching.Document.{Item};
 ghost use Rattle.rng_deriv_laws.specs.plain.Taking.{Takes};
@@ -16,14 +16,14 @@ use rng_model::{Attr, Name, OutOfMemory};
 use rng_pattern_table::PatternNumber;
 use std::alloc::Global;
 
-/// The body of an element, and the pattern of what may follow the element.
+/// A way to begin with an element: its body, and the pattern of what may follow the element.
 #[derive(Clone, Copy)]
 pub struct StartWay {
     pub body: PatternNumber,
     pub rest: PatternNumber,
 }
 
-/// The way from the first pattern of a table to itself, which stands for none.
+/// The way from the first pattern of a table to itself. It represents no way.
 impl Default for StartWay {
     fn default() -> Self {
         StartWay {
@@ -35,8 +35,8 @@ impl Default for StartWay {
 
 /// Patterns by number, and what is left of them after an item, for a grammar that obeys the restrictions.
 ///
-/// RELAX NG Specification, sections 6.2 and 7. Only patterns that obey the restrictions are asked, and what is answered obeys
-/// them. After want of memory nothing is known of the table.
+/// RELAX NG Specification, sections 6.2 and 7. Arguments are patterns that obey the restrictions, and so are results.
+/// After a call runs out of memory, nothing is known of the table.
 pub trait Derivatives {
     /// The tables of the grammar.
     ghost grammar: { Self → Table };
@@ -47,23 +47,23 @@ pub trait Derivatives {
     /// The trees of the patterns, by number.
     ghost trees: { Self → List (Simple ℕ) };
 
-    /// The pattern that the root is to match. The error is want of memory, that of an earlier call.
+    /// Returns the pattern that the root must match. Fails only if an earlier call ran out of memory.
     fn start(&self) -> Result<PatternNumber, OutOfMemory>
         ensures inside { IfOk result (IsInside (trees self.now)) }
         ensures start { IfOk result (λ n. (ns : List Item) → Takes (reading self.now) (tree_of (trees self.now) n) [] ns
             ↔ Takes (reading self.now) (reading self.now).grammar.start [] ns) };
 
-    /// Whether the pattern needs no attribute and no item.
+    /// Returns whether the pattern needs no attribute and no item.
     fn is_nullable(&self, pattern: PatternNumber) -> bool
         requires { IsInside (trees self.now) pattern }
         ensures { result ≡ tree.is_nullable (tree_of (trees self.now) pattern) };
 
-    /// Whether the pattern is notAllowed.
+    /// Returns whether the pattern is notAllowed.
     fn is_not_allowed(&self, pattern: PatternNumber) -> bool
         requires { IsInside (trees self.now) pattern }
         ensures { result ≡ tree.is_not_allowed (tree_of (trees self.now) pattern) };
 
-    /// A choice of the members; of none it takes nothing. The error is want of memory.
+    /// Returns a choice of the members. A choice of none takes nothing. Fails only when out of memory.
     fn choice(
         &mut self,
         alloc: Global,
@@ -74,7 +74,7 @@ pub trait Derivatives {
         ensures grammar { OnOk result (grammar self.new ≡ grammar self.old) }
         ensures choice { IfOk result (Adds (IsChoiceOf (reading self.old) (trees self.old) members.now) (trees self.old) (trees self.new)) };
 
-    /// What is left after a string. The error is want of memory.
+    /// Returns what is left of the pattern after a string. Fails only when out of memory.
     fn after_text(
         &mut self,
         alloc: Global,
@@ -87,7 +87,7 @@ pub trait Derivatives {
         ensures after { IfOk result
             (Adds (IsAfterText (reading self.old) text.now (tree_of (trees self.old) pattern)) (trees self.old) (trees self.new)) };
 
-    /// What is left of the body of an element after the attributes of its tag. The error is want of memory.
+    /// Returns what is left of the body of an element after the attributes of its tag. Fails only when out of memory.
     fn after_tag(
         &mut self,
         alloc: Global,
@@ -100,7 +100,7 @@ pub trait Derivatives {
         ensures after { IfOk result
             (Adds (IsAfterTag (reading self.old) (map attribute_of attrs.now) (tree_of (trees self.old) body)) (trees self.old) (trees self.new)) };
 
-    /// The ways to begin with an element of this name. The error is want of memory.
+    /// Returns the ways of the pattern to begin with an element of this name. Fails only when out of memory.
     fn starts(
         &mut self,
         alloc: Global,
@@ -113,13 +113,14 @@ pub trait Derivatives {
         ensures starts { IfOk result (λ ways. AddsStarts (reading self.old) (name_of name.now) (trees self.old) (trees self.new)
             (tree_of (trees self.old) pattern) ways.items) };
 
-    /// Whether there are so many patterns that those which nobody holds are better let go. Takes no memory.
+    /// Returns whether there are so many patterns that the ones that nobody holds should be freed. Allocates nothing.
     ///
-    /// Asked after each start and each end; where it stays so after a renewal, each of them renews.
+    /// The matcher calls this after each start and each end, and renews if the result is true. If it stays true after a
+    /// renewal, each of them renews.
     fn is_crowded(&self) -> bool;
 
-    /// Lets all patterns go but these, and what they are made of; answers their new numbers, in the same order. The numbers
-    /// of all others mean nothing any more. The error is want of memory.
+    /// Frees all patterns except these and their parts. Returns the new numbers of these, in the same order. All other
+    /// numbers become invalid. Fails only when out of memory.
     fn renew(
         &mut self,
         alloc: Global,

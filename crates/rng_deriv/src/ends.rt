@@ -14,7 +14,7 @@ use rng_pattern_table::PatternNumber;
 use smallvec::SmallVec;
 use std::alloc::Global;
 
-/// Which of the alternatives may end an element that holds an element.
+/// Returns which of the alternatives may end an element that has a child element.
 pub fn which_end<D: Derivatives>(
     derivatives: &D,
     alloc: Global,
@@ -31,7 +31,7 @@ pub fn which_end<D: Derivatives>(
     Ok(good)
 }
 
-/// Whether some alternative may end.
+/// Returns whether some alternative may end.
 pub fn some_end<D: Derivatives>(derivatives: &D, now: &[PatternNumber]) -> bool
     requires { All (IsInside (D.trees derivatives.now)) now.now }
     ensures { result ≡ list_any (λ p. is_nullable (tree_of (D.trees derivatives.now) p)) now.now }
@@ -44,7 +44,7 @@ pub fn some_end<D: Derivatives>(derivatives: &D, now: &[PatternNumber]) -> bool
     false
 }
 
-/// Whether the pattern may end an element with a string alone, by what is left of it after the string.
+/// Returns whether the pattern may end an element with only a string, given what is left of it after the string.
 fn may_end<D: Derivatives>(
     derivatives: &D,
     pattern: PatternNumber,
@@ -58,7 +58,8 @@ fn may_end<D: Derivatives>(
     derivatives.is_nullable(after) || (derivatives.is_nullable(pattern) && blank)
 }
 
-/// Which of the alternatives may end an element with a string alone, blank or not, by what is left of each after the string.
+/// Returns which of the alternatives may end an element with only a string, blank or not, given what is left of each
+/// after the string.
 pub fn which_end_with<D: Derivatives>(
     derivatives: &D,
     alloc: Global,
@@ -78,14 +79,14 @@ pub fn which_end_with<D: Derivatives>(
     Ok(good)
 }
 
-/// Whether the alternative at a place is good.
+/// Returns whether the alternative at a place is good.
 fn is_good(good: &[bool], place: usize) -> bool
     ensures { (result ≡ true) ↔ (slice_get good.now place ≡ Some true) }
 {
     good.get(place) == Some(&true)
 }
 
-/// A choice of two patterns; of notAllowed beside another that other one.
+/// Returns a choice of two patterns. If the first is notAllowed, returns the second.
 fn joined<D: Derivatives>(
     derivatives: &mut D,
     alloc: Global,
@@ -105,7 +106,8 @@ fn joined<D: Derivatives>(
     derivatives.choice(alloc, &[first, second])
 }
 
-/// Takes a way out of an element: where the alternative inside is good, the one around goes on with the rest too.
+/// Takes a way out of an element: if the alternative inside is good, the alternative around may also continue with the
+/// rest.
 fn leave<D: Derivatives>(
     derivatives: &mut D,
     alloc: Global,
@@ -128,7 +130,7 @@ fn leave<D: Derivatives>(
     Ok(())
 }
 
-/// The rest of the only way out, where it leads from a good alternative into the only one around.
+/// Returns the rest of the only way out, if it leads from a good alternative into the only one around.
 fn only_rest(good: &[bool], links: &[Link], around: usize) -> Option<PatternNumber>
     ensures { IfSome result (IsOnlyRest good.now links.now around) }
 {
@@ -141,10 +143,10 @@ fn only_rest(good: &[bool], links: &[Link], around: usize) -> Option<PatternNumb
     Some(link.rest)
 }
 
-/// What the ways out of an element leave of so many alternatives around it, where the alternatives inside that are good end.
+/// Returns the alternatives around an element after its end, given its ways out and which alternatives inside are good.
 ///
-/// They are taken from the last to the first: what is left behind a member of a list ends with what is left behind the later ones,
-/// so where these may be left out one alternative stays at a time.
+/// The ways out are taken from the last to the first. What is left after a member of a list ends with what is left
+/// after the later members. So if these may be left out, one alternative remains at a time.
 pub fn ended<D: Derivatives>(
     derivatives: &mut D,
     alloc: Global,

@@ -1,4 +1,4 @@
-// A matcher by any derivatives.
+// A matcher over any derivatives.
 ghost use Rattle.std.specs.Prelude.{◌≡◌, ℕ, List, [], ◌∷◌, ◌++◌, IfOk, IsErr, OnErr, OnOk, map};
 ghost use Rattle.rng_model.specs.documents.EventView.{event_of};
 ghost use Rattle.rng_model.specs.documents.PyxTrees as trees;
@@ -17,9 +17,10 @@ use smallvec::SmallVec;
 use std::alloc::Global;
 use std::marker::Model;
 
-/// A matcher by any derivatives: it takes the events of a document one by one, and tells whether the document is valid.
+/// A matcher over any derivatives. It takes the events of a document one by one, and reports whether the document is
+/// valid.
 ///
-/// RELAX NG Specification, sections 6.2 and 6.3. After want of memory each call answers want of memory.
+/// RELAX NG Specification, sections 6.2 and 6.3. After a call runs out of memory, each call fails with that error.
 #[derive(Drop)]
 pub struct EventMatcher<D: Derivatives + Drop> {
     alloc: Global,
@@ -39,7 +40,8 @@ impl<D: Derivatives + Drop> Model for EventMatcher<D> {
 }
 
 impl<D: Derivatives + Drop> EventMatcher<D> {
-    /// A matcher to which nothing was told yet. The error is want of memory, now or in an earlier call of the derivatives.
+    /// Creates a matcher that has had no event yet. Fails only when this call, or an earlier call of the derivatives,
+    /// is out of memory.
     pub fn new(alloc: Global, derivatives: D) -> Result<Self, OutOfMemory>
         ensures derivatives { IfOk result (λ m. m.0 ≡ derivatives) }
         ensures stands { IfOk result (λ m. IsKnown (D.reading m.0) (D.trees m.0) m.1 []) }
@@ -63,7 +65,8 @@ impl<D: Derivatives + Drop> EventMatcher<D> {
         })
     }
 
-    /// A matcher to which nothing was told yet, by the same derivatives. The error is want of memory, now or in an earlier call.
+    /// Returns a matcher that has had no event yet, over the same derivatives. Fails only when this call, or an earlier
+    /// one, is out of memory.
     pub fn begin_anew(self) -> Result<Self, OutOfMemory>
         ensures derivatives { IfOk result (λ m. m.0 ≡ self.0) }
         ensures stands { IfOk result (λ m. IsKnown (D.reading m.0) (D.trees m.0) m.1 []) }
@@ -72,7 +75,7 @@ impl<D: Derivatives + Drop> EventMatcher<D> {
         EventMatcher::new(self.alloc, self.derivatives)
     }
 
-    /// A matcher that has this for what it knows.
+    /// Creates a matcher with these derivatives and this progress.
     pub fn of_parts(alloc: Global, derivatives: D, progress: Progress) -> Self
         requires { IsProgressInside (D.trees derivatives) progress }
         ensures { result ≡ (derivatives, progress) }
@@ -84,7 +87,7 @@ impl<D: Derivatives + Drop> EventMatcher<D> {
         }
     }
 
-    /// The derivatives, and what is known of the document.
+    /// Returns the derivatives, and what is known of the document.
     pub fn into_parts(self) -> (D, Progress)
         ensures parts { result ≡ self }
         ensures inside { IsProgressInside (D.trees result.0) result.1 }
@@ -92,7 +95,8 @@ impl<D: Derivatives + Drop> EventMatcher<D> {
         (self.derivatives, self.progress)
     }
 
-    /// What is to be said of the document whose events were told. The error is want of memory.
+    /// Returns the outcome of the document with the events that were taken. Fails only if an earlier call ran out of
+    /// memory.
     pub fn outcome(&self) -> Result<Outcome, OutOfMemory>
         ensures outcome { IfOk result (λ o. (bytes : List ℕ) (d : Placed) → IsPyxDocument bytes d
             → IsKnown (D.reading self.now.0) (D.trees self.now.0) self.now.1 (events_of d) → IsOutcome (D.reading self.now.0) d o) }
@@ -112,7 +116,7 @@ impl<D: Derivatives + Drop> EventMatcher<D> {
         }
     }
 
-    /// Takes the next event. The error is want of memory, and so it is after one.
+    /// Takes the next event. Fails only when out of memory, and always after a call that ran out of memory.
     pub fn take(&mut self, event: Event<'_>) -> Result<(), OutOfMemory>
         ensures grammar { OnOk result (D.grammar self.new.0 ≡ D.grammar self.old.0) }
         ensures reading { OnOk result (D.reading self.new.0 ≡ D.reading self.old.0) }

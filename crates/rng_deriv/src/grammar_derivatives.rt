@@ -21,9 +21,10 @@ use std::marker::Model;
 
 /// The patterns of a grammar that obeys the restrictions, and what is left of them, by number.
 ///
-/// RELAX NG Specification, sections 6.2 and 7. After want of memory there is no pattern any more. The ways of a start are
-/// kept: the next start of the pattern, by a name that the grammar does not tell apart, costs some look-ups by hashing and a
-/// copy of its ways. So are the ways of parts of patterns, so that each is worked out once for each key of names, and for strings.
+/// RELAX NG Specification, sections 6.2 and 7. After a call runs out of memory, there are no patterns. The ways of a
+/// start are kept: the next start of the same pattern, with a name of the same key, costs some look-ups by hashing and
+/// a copy of the ways. The ways of parts of patterns are kept too, so each is computed once for each key of names, and
+/// for strings.
 #[derive(Drop)]
 pub struct GrammarDerivatives<'a> {
     pub grammar: &'a SimpleGrammar,
@@ -49,14 +50,14 @@ impl<'a> Model for GrammarDerivatives<'a> {
 }
 
 impl<'a> GrammarDerivatives<'a> {
-    /// The patterns of a grammar.
+    /// Creates the patterns of a grammar.
     ///
-    /// The error is want of memory. Costs a look-up for each pattern, and the sorts of choices.
+    /// Fails only when out of memory. Costs a look-up for each pattern, and sorting the choices.
     pub fn new(alloc: Global, grammar: &'a SimpleGrammar) -> Result<Self, OutOfMemory>
         requires { BreaksNone (grammar_of grammar.now) }
         ensures { IfOk result (λ d. d.0 ≡ grammar.now) }
     {
-        // That the grammar's tables are well-formed is known from what one of its readers answers.
+        // A call of a reader of the grammar proves that its tables are well-formed.
         let _start = grammar.start();
         let (table, numbers) = PatternTable::of(alloc, grammar)?;
         let keys = NameKeys::of(alloc, grammar)?;

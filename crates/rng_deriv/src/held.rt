@@ -1,4 +1,4 @@
-// Strings of which it is not told yet whether they are only children.
+// Strings that may still turn out to be only children.
 ghost use Rattle.std.specs.Prelude.{◌≡◌, ℕ, List, All, IfOk, OnOk, length};
 ghost use Rattle.rng_model.specs.datatypes.Texts.{is_blank};
 ghost use Rattle.rng_deriv.specs.views.Numbers.{IsInside};
@@ -18,7 +18,7 @@ pub struct Held {
     pub after: Numbers,
 }
 
-/// Whether a text is nothing but spaces, tabs and line ends.
+/// Returns whether a text has only spaces, tabs and line ends.
 fn is_blank(text: &str) -> bool
     ensures { result ≡ is_blank text.now }
 {
@@ -27,7 +27,7 @@ fn is_blank(text: &str) -> bool
         .all(|byte| matches!(*byte, b' ' | b'\t' | b'\n' | b'\r'))
 }
 
-/// A string, held.
+/// Holds a string.
 pub fn hold<D: Derivatives>(
     derivatives: &mut D,
     alloc: Global,
@@ -47,7 +47,7 @@ pub fn hold<D: Derivatives>(
     })
 }
 
-/// The held string; the empty one where none is held.
+/// Returns the held string, or the empty one if no string is held.
 pub fn held_or_empty<D: Derivatives>(
     derivatives: &mut D,
     alloc: Global,

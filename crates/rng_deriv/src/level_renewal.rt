@@ -1,4 +1,4 @@
-// Patterns that a position does not hold are let go.
+// Freeing the patterns that a position does not hold.
 ghost use Rattle.std.specs.Prelude.{◌≡◌, ◌++◌, ◌≤◌, ℕ, List, OnOk, drop, length, take};
 ghost use Rattle.std.specs.List.{AllZip};
 ghost use Rattle.rng_model.specs.simple.Tree.{Simple};
@@ -35,7 +35,7 @@ fn add_levels(held: &mut Vec<PatternNumber>, levels: &[Level]) -> Result<(), Out
     Ok(())
 }
 
-/// Puts the first of the numbers in place of what the ways out of an element leave; answers those behind them.
+/// Replaces what the ways out of an element leave by the first of the numbers. Returns the other numbers.
 fn put_rests<'a>(level: &mut Level, numbers: &'a [PatternNumber]) -> &'a [PatternNumber]
     requires { length level.old.links.items ≤ length numbers.now }
     ensures around { level.new.around ≡ level.old.around }
@@ -49,7 +49,7 @@ fn put_rests<'a>(level: &mut Level, numbers: &'a [PatternNumber]) -> &'a [Patter
     behind
 }
 
-/// Puts the numbers in place of what the ways out of all these elements leave.
+/// Replaces what the ways out of all these elements leave by the numbers.
 fn put_levels(levels: &mut Vec<Level>, numbers: &[PatternNumber])
     requires { length (rests_in levels.old.items) ≤ length numbers.now }
     ensures { (old new : List (Simple ℕ)) → AllZip (IsRenewed old new) (rests_in levels.old.items) numbers.now
@@ -61,7 +61,7 @@ fn put_levels(levels: &mut Vec<Level>, numbers: &[PatternNumber])
     }
 }
 
-/// All patterns are let go that the state does not hold.
+/// Frees all patterns that the state does not hold.
 fn renew_state<D: Derivatives>(
     derivatives: &mut D,
     alloc: Global,
@@ -82,9 +82,10 @@ fn renew_state<D: Derivatives>(
     Ok(())
 }
 
-/// All patterns are let go that the position does not hold, if there are too many.
+/// Frees all patterns that the position does not hold, if there are too many.
 ///
-/// Not while a string is held, which is settled with the next event. Costs what the position holds, and the renewal of that.
+/// Does nothing while a string is held, since the next event settles that string. Costs what the position holds, and
+/// its renewal.
 pub fn renew<D: Derivatives>(
     derivatives: &mut D,
     alloc: Global,

@@ -11,7 +11,7 @@ use rng_pattern_table::PatternNumber;
 use smallvec::SmallVec;
 use std::alloc::Global;
 
-/// What is left of each body after the attributes of a tag.
+/// Returns what is left of each body after the attributes of a tag.
 pub fn entered<D: Derivatives>(
     derivatives: &mut D,
     alloc: Global,
@@ -31,7 +31,7 @@ pub fn entered<D: Derivatives>(
     Ok(entered)
 }
 
-/// What is left of each pattern after a string.
+/// Returns what is left of each pattern after a string.
 pub fn after_string<D: Derivatives>(
     derivatives: &mut D,
     alloc: Global,

@@ -1,11 +1,13 @@
-//! A matcher that takes the events of a document one by one and tells whether the document is valid by a simple grammar.
+//! A matcher that takes the events of a document one by one, and reports whether the document is valid by a simple
+//! grammar.
 //!
-//! `Matcher::new` makes it for a grammar that breaks none of the restrictions, `Matcher` takes events (`Events` of `rng_model`), and
-//! `finish` tells the outcome. Open elements are levels: of the innermost the matcher keeps alternatives for what remains of it, and
-//! of each the ways out into the alternatives around it (`rng_deriv_laws`'s `LevelStates`). Which alternatives stay is worked out
-//! over any `Derivatives` (`event_matcher`). Those of a grammar are `GrammarDerivatives`: its patterns stand in a table, equal ones once, and
-//! what is left of one is another (`rng_pattern_derivatives`), which takes exactly what may follow (RELAX NG Specification, sections
-//! 6.2 and 7). Where there are too many patterns, those that no level holds are let go.
+//! `Matcher::new` makes a matcher for a grammar that breaks none of the restrictions. `Matcher` takes events (`Events`
+//! of `rng_model`), and `finish` returns the outcome. Open elements are levels. The matcher keeps alternatives for what
+//! remains of the innermost element, and for each element the ways out into the alternatives around it
+//! (`rng_deriv_laws`'s `LevelStates`). `event_matcher` computes which alternatives remain, over any `Derivatives`.
+//! Those of a grammar are `GrammarDerivatives`. Its patterns are in a table, where equal patterns have one number. What
+//! is left of a pattern is another pattern (`rng_pattern_derivatives`), which takes exactly what may follow (RELAX NG
+//! Specification, sections 6.2 and 7). If there are too many patterns, those that no level holds are freed.
 #![tactic(auto)]
 
 mod closing;

@@ -11,8 +11,8 @@ use rng_pattern_table::PatternNumber;
 use smallvec::SmallVec;
 use std::alloc::Global;
 
-/// A way out of an element: once the alternative at the place `inner` ends, the one around it at the place `outer` goes on
-/// with the rest.
+/// A way out of an element: when the alternative at the place `inner` ends, the one around it at the place `outer`
+/// continues with the rest.
 #[derive(Clone, Copy)]
 pub struct Link {
     pub inner: usize,
@@ -20,7 +20,7 @@ pub struct Link {
     pub rest: PatternNumber,
 }
 
-/// The way out with the first pattern of a table, which stands for none.
+/// The way out with the first pattern of a table. It represents no way out.
 impl Default for Link {
     fn default() -> Self {
         Link {
@@ -38,7 +38,7 @@ pub struct Opened {
     pub links: Links,
 }
 
-/// The place of a body among others; it is added where it is not there.
+/// Returns the place of a body among others. If it is not there, adds it.
 fn place_of(bodies: &mut Numbers, body: PatternNumber) -> Result<usize, OutOfMemory>
     ensures found { IfOk result (λ i. slice_get bodies.new.items i ≡ Some body) }
     ensures others { OnOk result ((bodies.new.items ≡ bodies.old.items) ⊎ (bodies.new.items ≡ bodies.old.items ++ body ∷ [])) }
@@ -53,7 +53,7 @@ fn place_of(bodies: &mut Numbers, body: PatternNumber) -> Result<usize, OutOfMem
     Ok(place)
 }
 
-/// Adds the bodies of ways, and links for them to the alternative at a place.
+/// Adds the bodies of ways, and their links to the alternative at a place.
 fn add_links(
     bodies: &mut Numbers,
     links: &mut Links,
@@ -73,7 +73,7 @@ fn add_links(
     Ok(())
 }
 
-/// What an element of this name opens in each of the alternatives.
+/// Returns what an element of this name opens in each of the alternatives.
 pub fn started<D: Derivatives>(
     derivatives: &mut D,
     alloc: Global,

@@ -17,11 +17,11 @@ use rng_model::{Event, Events, OutOfMemory, Outcome, SimpleGrammar};
 use std::alloc::Global;
 use std::marker::Model;
 
-/// A matcher: it takes the events of a document one by one, and tells whether the document is valid by a grammar.
+/// A matcher. It takes the events of a document one by one, and reports whether the document is valid by a grammar.
 ///
-/// RELAX NG Specification, sections 6.2, 6.3 and 7. Of a document it keeps numbers of patterns: the alternatives for what
-/// remains of the innermost open element, and for each open element the ways out of it. After want of memory each call answers
-/// want of memory.
+/// RELAX NG Specification, sections 6.2, 6.3 and 7. It keeps only numbers of patterns of a document: the alternatives
+/// for what remains of the innermost open element, and for each open element the ways out of it. After a call runs out
+/// of memory, each call fails with that error.
 #[derive(Drop)]
 pub struct Matcher<'a> {
     matcher: EventMatcher<GrammarDerivatives<'a>>,
@@ -41,10 +41,10 @@ impl<'a> Model for Matcher<'a> {
 }
 
 impl<'a> Matcher<'a> {
-    /// A matcher of documents by a grammar that obeys the restrictions, to which nothing was told yet.
+    /// Creates a matcher of documents by a grammar that obeys the restrictions. It has had no event yet.
     ///
-    /// RELAX NG Specification, sections 6.2 and 7. The error is want of memory. Costs some look-ups by hashing for each pattern
-    /// of the grammar, and the sorts of its choices.
+    /// RELAX NG Specification, sections 6.2 and 7. Fails only when out of memory. Costs some look-ups by hashing for
+    /// each pattern of the grammar, and sorting its choices.
     pub fn new(alloc: Global, grammar: &'a SimpleGrammar) -> Result<Self, OutOfMemory>
         requires { BreaksNone (grammar_of grammar.now) }
         ensures grammar { IfOk result (λ m. m.grammar ≡ grammar.now) }
@@ -57,9 +57,9 @@ impl<'a> Matcher<'a> {
         Ok(Matcher { matcher })
     }
 
-    /// A matcher to which nothing was told yet, by the same grammar, that keeps what this one has worked out of it: what was met
-    /// before costs some look-ups by hashing. RELAX NG Specification, section 6.2. The error is want of memory, now or in an
-    /// earlier call.
+    /// Returns a matcher by the same grammar that has had no event yet, and that keeps what this one has learned about
+    /// the grammar. A start or a text that is known costs only some look-ups by hashing. RELAX NG Specification,
+    /// section 6.2. Fails only when this call, or an earlier one, is out of memory.
     pub fn begin_anew(self) -> Result<Self, OutOfMemory>
         ensures grammar { IfOk result (λ m. m.grammar ≡ self.entry.grammar) }
         ensures knows { IfOk result (λ m. Knows m []) }
@@ -69,7 +69,7 @@ impl<'a> Matcher<'a> {
         Ok(Matcher { matcher })
     }
 
-    /// The matcher that had this state, by the same grammar. Takes no memory.
+    /// Returns the matcher that had this state, by the same grammar. Allocates nothing.
     pub fn resume(alloc: Global, grammar: &'a SimpleGrammar, state: MatcherState) -> Self
         requires { IsStateBy grammar.now state }
         ensures { result ≡ matching_in grammar.now state }
@@ -80,7 +80,7 @@ impl<'a> Matcher<'a> {
         Matcher { matcher }
     }
 
-    /// What the matcher keeps, without the grammar. Takes no memory.
+    /// Returns what the matcher keeps, without the grammar. Allocates nothing.
     pub fn into_state(self) -> MatcherState
         ensures state { IsStateBy self.entry.grammar result }
         ensures same { matching_in self.entry.grammar result ≡ self.entry }
@@ -90,12 +90,12 @@ impl<'a> Matcher<'a> {
         MatcherState { learned, progress }
     }
 
-    /// What is to be said of the document whose events were told: `Valid` exactly if it is valid by the grammar, else `Invalid`
-    /// with the line of one of its events, from 1.
+    /// Returns the outcome of the document with the events that were taken: `Valid` exactly if the document is valid by
+    /// the grammar, otherwise `Invalid` with the line of one of its events, counted from 1.
     ///
-    /// With the event of that line no document is valid any more that begins so, and before it no element started whose name
-    /// the grammar does not have; that it is the first such line is not said. RELAX NG Specification, section 6.3. The error is
-    /// want of memory, exactly where `event` answered it. Takes no memory. Costs a test of each alternative.
+    /// No continuation after the event of that line is valid, and each start before it has a name that the grammar has.
+    /// The line need not be the first one of this kind. RELAX NG Specification, section 6.3. Fails exactly if a call of
+    /// `event` ran out of memory. Allocates nothing. Costs a test of each alternative.
     pub fn outcome(&self) -> Result<Outcome, OutOfMemory>
         ensures outcome { IfOk result (λ o. (bytes : List ℕ) (d : Placed) → IsPyxDocument bytes d → Knows self.now (events_of d)
             → IsOutcome (judges_by self.now) d o) }
@@ -106,7 +106,7 @@ impl<'a> Matcher<'a> {
         self.matcher.outcome()
     }
 
-    /// The matcher has taken all events: its `outcome`.
+    /// Returns the `outcome` of a matcher that has taken all events.
     pub fn finish(self) -> Result<Outcome, OutOfMemory>
         ensures outcome { IfOk result (λ o. (bytes : List ℕ) (d : Placed) → IsPyxDocument bytes d → Knows self.entry (events_of d)
             → IsOutcome (judges_by self.entry) d o) }
@@ -123,10 +123,11 @@ impl Events for Matcher<'_> {
 
     /// Takes the next event.
     ///
-    /// RELAX NG Specification, section 6.2. The error is want of memory, and after it each call answers want of memory. A start
-    /// costs for each alternative of the innermost open element some look-ups by hashing where its pattern and the name were met
-    /// before, and else a walk through what the pattern is made of; so does each attribute, and a text. An end costs a choice for
-    /// each way out of the element. Where patterns have become many, those that are not held are let go, in one pass over all.
+    /// RELAX NG Specification, section 6.2. Fails only when out of memory. After that, each call fails with that error.
+    /// A start costs, for each alternative of the innermost open element, some look-ups by hashing if its pattern and
+    /// the name are known. Otherwise it costs a walk through the parts of the pattern. The same holds for each
+    /// attribute, and for a text. An end costs a choice for each way out of the element. If there are many patterns,
+    /// those that are not held are freed, in one pass over all.
     fn event(&mut self, event: Event<'_>) -> Result<(), OutOfMemory>
         ensures stands { OnOk result (Hands HasGoneOn self.old self.new (event_of event.entry ∷ [])) }
         ensures kept { OnOk result (¬ (HasRunOut self.new)) }

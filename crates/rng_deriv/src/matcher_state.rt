@@ -1,14 +1,14 @@
-// What a matcher keeps, apart from its grammar.
+// What a matcher keeps, without its grammar.
 ghost use Rattle.std.specs.Prelude.{◌≡◌};
 ghost use Rattle.rng_deriv.specs.views.Matchers.{failed_line};
 
 use crate::learned::Learned;
 use crate::progress::Progress;
 
-/// What a matcher keeps of a document and has worked out of a grammar, without the grammar.
+/// What a matcher keeps of a document, and what it has learned about a grammar, without the grammar.
 ///
-/// `Matcher::into_state` gives it, and `Matcher::resume` makes a matcher of it and the grammar again. So a document can be kept
-/// between two of its pieces where no borrow of the grammar can be, as in a structure that is handed to C.
+/// `Matcher::into_state` returns it, and `Matcher::resume` makes a matcher from it and the grammar. So a document can
+/// be kept between two of its pieces in a structure that cannot borrow the grammar, such as one that is passed to C.
 #[derive(Drop)]
 pub struct MatcherState {
     pub(crate) learned: Learned,
@@ -16,9 +16,10 @@ pub struct MatcherState {
 }
 
 impl MatcherState {
-    /// The line of the event with which it came out that the document is not valid, from 1, once it did.
+    /// Returns the line of the event after which no continuation is valid, counted from 1, once it is known.
     ///
-    /// No document is valid that begins with the events up to that one. `Matcher::finish` then answers this line. Takes no memory.
+    /// No document that begins with the events up to that one is valid. Then `Matcher::finish` returns this line.
+    /// Allocates nothing.
     pub fn failed_at(&self) -> Option<u64>
         ensures { result ≡ failed_line self.now.progress }
     {

@@ -1,4 +1,4 @@
-// Patterns that nobody holds are let go.
+// Freeing the patterns that nobody holds.
 ghost use Rattle.std.specs.Prelude.{◌≡◌, ◌<◌, ◌++◌, All, IfOk, List, OnOk, length};
 ghost use Rattle.rng_names.specs.plain.Keys.{Keys};
 ghost use Rattle.rng_model.specs.simple.Table.{Table};
@@ -11,28 +11,28 @@ use rng_pattern_derivatives::Known;
 use rng_pattern_table::{PatternNumber, PatternTable};
 use std::alloc::Global;
 
-/// Some of the patterns of a table in a table of their own, with what they are made of.
+/// Some of the patterns of a table, with their parts, in a table of their own.
 #[derive(Drop)]
 pub struct Selection {
     pub table: PatternTable,
-    /// The numbers of those of the grammar.
+    /// The numbers of the patterns of the grammar.
     pub numbers: Vec<PatternNumber>,
-    /// The numbers of those that were held.
+    /// The numbers of the patterns that were held.
     pub held: Vec<PatternNumber>,
 }
 
-/// So many patterns may be made beside twice those that are wanted, before the others are let go.
+/// The number of patterns that may be made, beyond twice the wanted ones, before the others are freed.
 const ROOM: usize = 16_384;
 
-/// So many starts may be worked out before what is known of the parts of patterns is let go.
+/// The number of starts that may be computed before what is known of the parts of patterns is freed.
 const MOST_STARTS: usize = 1_024;
 
-/// How many patterns a table may have before those that nobody holds are let go, where it has so many that are wanted.
+/// Returns how many patterns a table may have before those that nobody holds are freed, if this many are wanted.
 pub fn limit_beside(wanted: usize) -> usize {
     wanted.saturating_add(wanted).saturating_add(ROOM)
 }
 
-/// Some numbers, and others behind them. The error is want of memory.
+/// Returns some numbers, followed by others. Fails only when out of memory.
 fn joined(
     alloc: Global,
     first: &[PatternNumber],
@@ -46,7 +46,7 @@ fn joined(
     Ok(all)
 }
 
-/// A copy of numbers. The error is want of memory.
+/// Returns a copy of numbers. Fails only when out of memory.
 fn copied(alloc: Global, numbers: &[PatternNumber]) -> Result<Vec<PatternNumber>, OutOfMemory>
     ensures { IfOk result (λ copy. copy.items ≡ numbers.now) }
 {
@@ -55,8 +55,8 @@ fn copied(alloc: Global, numbers: &[PatternNumber]) -> Result<Vec<PatternNumber>
     Ok(copy)
 }
 
-/// The patterns of the grammar, which have these numbers, and those that are held, in a table of their own. The error is want
-/// of memory. Costs one pass over the table.
+/// Returns the patterns of the grammar, which have these numbers, and those that are held, in a table of their own.
+/// Fails only when out of memory. Costs one pass over the table.
 pub fn renewed(
     alloc: Global,
     table: &PatternTable,
@@ -80,8 +80,8 @@ pub fn renewed(
     })
 }
 
-/// Counts a start that is worked out. After many of them what is known of the parts of patterns is let go, so that memory stays
-/// bounded. Takes no memory.
+/// Counts a start that is computed. After many of them, frees what is known of the parts of patterns, so that memory
+/// stays bounded. Allocates nothing.
 pub fn count_start(alloc: Global, known: &mut Known, starts: &mut usize)
     ensures { (t : Table) (keys : Keys) (ns : List Node) → AreAllKnown t keys ns known.old → AreAllKnown t keys ns known.new }
 {

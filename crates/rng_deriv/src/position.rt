@@ -16,16 +16,16 @@ use crate::state::{State, enter};
 use rng_model::{Attr, Name, OutOfMemory};
 use std::alloc::Global;
 
-/// Where a matcher stands in a document.
+/// The position of a matcher in a document.
 #[derive(Drop)]
 pub struct Position {
     pub state: State,
-    /// Whether the innermost open element has an element before this.
+    /// Whether the innermost open element has a child element already.
     pub has_begun: bool,
     pub held: Option<Held>,
 }
 
-/// Lets the held string go, once it has turned out to stand beside an element: a blank one is nothing there (RELAX NG
+/// Settles the held string, given that an element is beside it. A blank string counts as nothing there (RELAX NG
 /// Specification, section 6.2.7).
 fn settle(position: &mut Position)
     ensures inside { (trees : List (Simple ℕ)) → IsPositionInside trees position.old → IsStateInside trees position.new.state }

@@ -17,15 +17,15 @@ use std::alloc::Global;
 /// What is known of a document.
 #[derive(Drop)]
 pub enum Progress {
-    /// It may be valid. The line is that of the last event, or 0.
+    /// The document may be valid. The line is that of the last event, or 0.
     Going { position: Position, line: u64 },
-    /// Nothing valid can begin so, from the event of this line on.
+    /// No continuation after the event of this line is valid.
     Failed(u64),
-    /// Nothing: memory was wanting.
+    /// Nothing is known, since a call ran out of memory.
     Lost,
 }
 
-/// Whether no alternative is left, or each is notAllowed.
+/// Returns whether no alternative is left, or each is notAllowed.
 fn is_hopeless<D: Derivatives>(derivatives: &D, now: &[PatternNumber]) -> bool
     requires { All (IsInside (D.trees derivatives.now)) now.now }
     ensures { result ≡ list_all (λ p. is_not_allowed (tree_of (D.trees derivatives.now) p)) now.now }
@@ -58,7 +58,7 @@ fn step<D: Derivatives>(
     }
 }
 
-/// Takes one more event, where all went well before; answers whether it may go well still.
+/// Takes one more event of a document that may be valid. Returns whether it may still be valid.
 fn go_on<D: Derivatives>(
     derivatives: &mut D,
     alloc: Global,
@@ -80,7 +80,7 @@ fn go_on<D: Derivatives>(
     Ok(true)
 }
 
-/// Takes one more event. After want of memory nothing is promised of what is known.
+/// Takes one more event. After a call runs out of memory, there is no promise about what is known.
 pub fn take_event<D: Derivatives>(
     derivatives: &mut D,
     alloc: Global,

@@ -13,34 +13,34 @@ use smallvec::SmallVec;
 use std::alloc::Global;
 use std::collections::HashMap;
 
-/// What the ways of a start depend on: the pattern, and the name as far as the grammar tells names apart.
+/// What the ways of a start depend on: the pattern, and the key of the name.
 #[derive(Clone, Copy, PartialEq, Eq, Hash)]
 pub struct StartKey {
     pub pattern: PatternNumber,
     pub name: NameKey,
 }
 
-/// The ways of starts, as far as they are kept.
+/// The ways of starts that are kept.
 pub type StartMemo = HashMap<StartKey, Ways>;
 
-/// How many starts are kept at most, so that memory stays bounded however many patterns a document leads to.
+/// The greatest number of starts that are kept, so that memory stays bounded however many patterns a document makes.
 const MOST_KEPT: usize = 16_384;
 
-/// A copy of ways. The error is want of memory.
+/// Returns a copy of ways. Fails only when out of memory.
 pub fn copied(alloc: Global, ways: &[StartWay]) -> Result<Ways, OutOfMemory>
     ensures { IfOk result (λ copy. copy.items ≡ ways.now) }
 {
     Ok(SmallVec::from_slice(alloc, ways)?)
 }
 
-/// The ways that are kept for a start.
+/// Returns the ways that are kept for a start.
 pub fn kept(memo: &StartMemo, start: StartKey) -> Option<&[StartWay]>
     ensures { IfSome result (λ ways. HasKept memo.now start ways.now) }
 {
     Some(memo.get(&start)?.as_slice())
 }
 
-/// Keeps the ways of a start. Where `MOST_KEPT` are kept, all others go first. The error is want of memory.
+/// Keeps the ways of a start. If `MOST_KEPT` are kept already, removes them all first. Fails only when out of memory.
 pub fn keep(
     alloc: Global,
     memo: &mut StartMemo,

@@ -1,4 +1,4 @@
-// The ways of a start that something may match.
+// The ways of a start, without those that nothing matches.
 ghost use Rattle.std.specs.Prelude.{◌≡◌, ◌||◌, ◌<◌, All, IfOk, IfNone, IfSome, OnOk, Some, length, slice_get};
 ghost use Rattle.rng_model.specs.simple.Table.{Table};
 ghost use Rattle.rng_deriv.specs.declared.derivatives.StartWay.{StartWay};
@@ -15,7 +15,7 @@ use rng_pattern_table::{PatternNumber, PatternTable};
 use smallvec::SmallVec;
 use std::alloc::Global;
 
-/// Whether one of the two is notAllowed.
+/// Returns whether one of the two is notAllowed.
 fn is_one_not_allowed(table: &PatternTable, body: PatternNumber, rest: PatternNumber) -> bool
     requires body { body.0 < length table.now }
     requires rest { rest.0 < length table.now }
@@ -24,7 +24,7 @@ fn is_one_not_allowed(table: &PatternTable, body: PatternNumber, rest: PatternNu
     table.is_not_allowed(body) || table.is_not_allowed(rest)
 }
 
-/// The place of a way with this rest among others.
+/// Returns the place of a way with this rest among others.
 fn place_of_rest(ways: &[StartWay], rest: PatternNumber) -> Option<usize>
     ensures found { IfSome result (λ i. (w : StartWay) × (slice_get ways.now i ≡ Some w) × (w.rest ≡ rest)) }
     ensures none { IfNone result (All (λ w. ¬ (w.rest ≡ rest)) ways.now) }
@@ -37,7 +37,7 @@ fn place_of_rest(ways: &[StartWay], rest: PatternNumber) -> Option<usize>
     None
 }
 
-/// Takes a way with this rest out of others, if there is one.
+/// Removes a way with this rest from others, if there is one, and returns it.
 fn take_rest(ways: &mut Ways, rest: PatternNumber) -> Option<StartWay>
     ensures found { IfSome result (λ w. (w.rest ≡ rest) × IsTakenOut ways.old.items ways.new.items w) }
     ensures none { IfNone result (ways.new.items ≡ ways.old.items) }
@@ -46,7 +46,7 @@ fn take_rest(ways: &mut Ways, rest: PatternNumber) -> Option<StartWay>
     Some(ways.remove(place))
 }
 
-/// Adds a way to others: one with the same rest becomes one with it, and one by which nothing is taken adds none.
+/// Adds a way to others. A way with the same rest is joined with it into one. A way that takes nothing is not added.
 fn add_way(
     alloc: Global,
     table: &mut PatternTable,
@@ -75,7 +75,7 @@ fn add_way(
     Ok(())
 }
 
-/// The ways without those by which nothing is taken, and each rest once.
+/// Returns the ways without those that take nothing, with each rest once.
 pub fn joined_ways(
     alloc: Global,
     table: &mut PatternTable,

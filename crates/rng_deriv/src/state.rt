@@ -15,7 +15,7 @@ use rng_model::{Attr, Name, OutOfMemory};
 use smallvec::SmallVec;
 use std::alloc::Global;
 
-/// An open element: how many alternatives stand around it, and the ways out into them.
+/// An open element: the number of alternatives around it, and the ways out into them.
 #[derive(Drop)]
 pub struct Level {
     pub around: usize,
@@ -50,8 +50,8 @@ pub fn enter<D: Derivatives>(
     Ok(())
 }
 
-/// Takes an end tag, where some of the alternatives inside the element may end. Where no element is open, nothing is promised
-/// of it.
+/// Takes an end tag, if some of the alternatives inside the element may end. If no element is open, there is no promise
+/// about the result.
 pub fn close<D: Derivatives>(
     derivatives: &mut D,
     alloc: Global,

@@ -1,6 +1,6 @@
--- An attribute first: a law for each kind of pattern, from the ways of its sides to its own, and that `attribute_ways`
--- gives the ways of a pattern that obeys section 7.1.2. There an attribute that a copy of a repeated pattern takes stands
--- alone in it, so that it may be taken out of any copy.
+-- The first attribute: a law for each kind of pattern, from the ways of its sides to its own. `attribute_ways` returns
+-- the ways of a pattern that obeys section 7.1.2. In such a pattern, an attribute that a copy of a repeated pattern
+-- takes is alone in the copy, so it may be taken out of any copy.
 use Rattle.std.proofs.Common.{◌≡◌, ℕ, List, [], ◌∷◌, ◌++◌, refl, sym, ◌∙◌, subst, inl, inr, ◌⊎◌}
 use Rattle.std.proofs.lemmas.List.{append-nil}
 use Rattle.rng_model.specs.simple.Tree.{Simple, choice, group, interleave, s_not_allowed, s_empty, s_text, s_leaf, s_attribute, s_list, s_data, s_data_except}
@@ -44,7 +44,7 @@ module _ (g : Reading) where
   behind_in f a xs ys ms ns on (w ∷ ws) (inl h) = inl (h.0, on w.rest h.1)
   behind_in f a xs ys ms ns on (w ∷ ws) (inr h) = inr (behind_in f a xs ys ms ns on ws h)
 
-  -- what is taken before f, and what stands beside it
+  -- what is taken without f, and a condition on it
   record Before (T : List Attribute → List Item → Type 0) (Q : List Attribute → List Item → Type 0) : Type 0 where
     xs : List Attribute
     ms : List Item
@@ -212,7 +212,7 @@ module _ (g : Reading) where
 
   -- ---- repetitions (section 7.1.2)
 
-  -- what a pattern takes without an attribute that it took: nothing at all, or what the pattern takes
+  -- what a pattern takes besides an attribute that it took: nothing at all, or what the pattern takes
   pub data Remains (p : Simple ℕ) : List Attribute → List Item → Type 0 where
     nothing : Remains p [] []
     some : {xs : List Attribute} {ns : List Item} → Takes g p xs ns → Remains p xs ns
@@ -243,7 +243,7 @@ module _ (g : Reading) where
   repeat_alone p a inside xs ns (t.again d e f (document.right i) c) =
       let r = repeat_alone p a inside _ _ e in (r.0, beside_right p _ _ _ _ _ _ d r.1 (λ s. f (document.later_right s)) i c)
 
-  -- with no attribute in a group, the attribute is taken alone
+  -- if no attribute is in a group, the attribute is taken alone
   pub attribute_alone : (p : Simple ℕ) → HasNoneGrouped p → (a : Attribute) (xs : List Attribute) (ns : List Item) → Takes g p (a ∷ xs) ns
       → Takes g p (a ∷ []) [] × Remains p xs ns
   attribute_alone s_not_allowed o a xs ns d = elim d [ ]
@@ -270,7 +270,7 @@ module _ (g : Reading) where
   then_more p r xs ns d nothing = t.grouped d (t.second t.empty_is) document.done refl
   then_more p r xs ns d (some e) = t.grouped d (t.first e) (right_alone xs) refl
 
-  -- f puts the further copies behind what is left of the copy that took the attribute
+  -- f appends the further copies to what is left of the copy that took the attribute
   pub repeat_ways : (Kind : Attribute → Type 0) (p : Simple ℕ) → HasNoneGrouped p → (f : Simple ℕ → Simple ℕ) (ws : List Way) →
       ((r : Simple ℕ) → Same g (f r) (s_joined group r (more_of p))) → AreAttributeWays g Kind p ws → AreAttributeWays g Kind (s_one_or_more p) (behind f ws)
   repeat_ways Kind p o f ws on b = record { to = to; back = back } where

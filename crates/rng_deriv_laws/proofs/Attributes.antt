@@ -1,4 +1,4 @@
--- What is left after the attributes of a tag, one by one, and once the tag is closed.
+-- What is left after the attributes of a tag, one by one, and after the tag is closed.
 use Rattle.std.proofs.Common.{◌≡◌, ℕ, List, [], ◌∷◌, refl, subst, Bool, true, cond, inl, inr}
 use Rattle.rng_model.specs.simple.Tree.{Simple, choice, group, interleave, s_not_allowed, s_empty, s_text, s_leaf, s_attribute, s_list, s_data, s_data_except}
 use Rattle.rng_model.specs.simple.Tree.{s_value, s_one_or_more, s_joined}
@@ -50,7 +50,7 @@ module _ (g : Reading) where
   leaf_attribute_out a (s_one_or_more p) o e = absurd o.0
   leaf_attribute_out a (s_joined k p q) o e = absurd o.0
 
-  -- ---- what is left behind the leaves that take an attribute
+  -- ---- what is left after the leaves that take an attribute
 
   module _ (P Q : Simple ℕ → Type 0) (takes : Simple ℕ → Bool) (a : Attribute) where
     pub attribute_rests_in : ((l : Simple ℕ) → P l → Takes g l (a ∷ []) [] → takes l ≡ true) → (ws : List Way) → EachWay P Q ws →
@@ -122,7 +122,7 @@ module _ (g : Reading) where
   weakly_out p o xs ns u (t.blank_text d b) = t.blank_text (attributes_out p o xs [] u d) b
   weakly_out p o xs ns u (t.nothing_there d) = t.nothing_there (attributes_out p o xs _ u d)
 
-  -- ---- the tag closed: p takes the same without attributes
+  -- ---- the closed tag: p takes the same without attributes
 
   -- two sides without attributes
   group_sides : (p q : Simple ℕ) (ns : List Item) → Takes g (s_joined group p q) [] ns →

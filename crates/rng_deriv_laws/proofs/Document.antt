@@ -1,4 +1,4 @@
--- A whole document: the start takes the root alone exactly if the state after the root accepts.
+-- A whole document: the start takes only the root exactly if the state after the root accepts.
 use Rattle.std.proofs.Common.{◌≡◌, ℕ, List, [], ◌∷◌, refl, Bool, true, false, cond}
 use Rattle.rng_model.specs.names.Names.{Name}
 use Rattle.rng_model.specs.simple.Tree.{Simple}
@@ -45,7 +45,7 @@ module _ (g : Reading) (bodies : HasRestrictedBodies g) where
   among_out s true e r o ns ls h = h
   among_out s false e r o ns ls h = string_out g r o s ns ls h
 
-  -- the content and the end of an element just opened
+  -- the content and the end of an element that just started
   close_in : (kids : Items) → Separate (list_of kids) → (r : State) → IsRestrictedState r → (ls : List (List Item)) →
       (Holds g r (without_blanks (list_of kids) ∷ ls) → Holds g (after_items g kids r) ([] ∷ ls)) → (b : Bool) → has_element (list_of kids) ≡ b →
       Begins g r (list_of kids) ls → Holds g (cond b (end_tag (after_items g kids r)) (end_text g r (string_of (list_of kids)))) ls

@@ -1,4 +1,4 @@
--- Where section 7.2 is obeyed and the items hold an element, a pattern takes them as well without blank strings.
+-- If section 7.2 is obeyed and the items have an element, a pattern also takes them without blank strings.
 use Rattle.std.proofs.Common.{◌≡◌, ℕ, List, [], ◌∷◌, ◌++◌, refl, sym, ap, ◌∙◌, subst, Bool, true, false, cond, Option, Some, None, ◌⊎◌, inl, inr}
 use Rattle.std.proofs.lemmas.List.{append-nil}
 use Rattle.rng_model.specs.names.Names.{Name}
@@ -55,7 +55,7 @@ choice_plain (Some complex_content) (Some simple_content) (inr e) = absurd (cc)
 choice_plain (Some simple_content) (Some u) (inl e) = absurd (cc)
 choice_plain (Some simple_content) (Some u) (inr e) = absurd (cc)
 
--- how the types of two sides go together
+-- how the types of two sides combine
 data Sides (a b : Option ContentType) (u : ContentType) : Type 0 where
   second_alone : a ≡ Some empty_content → b ≡ Some u → Sides a b u
   first_alone : a ≡ Some u → b ≡ Some empty_content → Sides a b u
@@ -91,7 +91,7 @@ both_typed None b u e = absurd (cc)
 both_typed (Some s) None u e = absurd (cc)
 both_typed (Some s) (Some v) u e = ((s, refl), (v, refl))
 
--- the copies of a oneOrMore are of no simple type
+-- the copies of a oneOrMore do not have the simple type
 repeated_plain : (a : Option ContentType) (u : ContentType) → type_of_both a a ≡ Some u → IsPlain a
 unfolding IsPlain
 repeated_plain None u e = absurd (cc)
@@ -169,7 +169,7 @@ module _ (g : Reading) where
       let v = both_empty (content_type p) (content_type q) u in
       sym (right_is_all (subst (λ l. Interleaves l os ns) (no_items p v.0 _ _ d) c)) ∙ no_items q v.1 _ _ e
 
-  -- ---- a pattern of another type than simple: any items
+  -- ---- a pattern with a type that is not simple: any items
 
   plain_repeated : (p : Simple ℕ) → ((xs : List Attribute) (ns : List Item) → Takes g p xs ns → Takes g p xs (without_blanks ns)) →
       (xs : List Attribute) (ns : List Item) → Takes g (s_one_or_more p) xs ns → Takes g (s_one_or_more p) xs (without_blanks ns)
@@ -202,7 +202,7 @@ module _ (g : Reading) where
       let v = both_plain (content_type p) (content_type q) u in
       t.interleaved (dropped_plain p v.0 _ _ d) (dropped_plain q v.1 _ _ e) i (without_split c)
 
-  -- ---- any type, with an element among the items: one side takes nothing, or both are complex
+  -- ---- any type, if the items have an element: one side takes nothing, or both are complex
 
   abbrev Drops : Simple ℕ → Type 0
   Drops p = (u : ContentType) → content_type p ≡ Some u → (xs : List Attribute) (ns : List Item) → has_element ns ≡ true → Takes g p xs ns

@@ -1,4 +1,4 @@
--- The matcher, event by event, reaches the state after the whole document; and a state that is never stays so.
+-- Event by event, the matcher reaches the state after the whole document. A state that is `never` stays so.
 use Rattle.std.proofs.Common.{◌≡◌, ℕ, List, [], ◌∷◌, ◌++◌, refl, sym, ap, ◌∙◌, subst, Bool, true, false, cond, append_assoc}
 use Rattle.rng_model.specs.names.Names.{Name}
 use Rattle.rng_model.specs.simple.Tree.{Simple}
@@ -49,7 +49,7 @@ module _ (g : Reading) where
   at : State → Bool → Matcher
   at r b = record { state = r; has_begun = b; held = [] }
 
-  -- the state after children and the end tag, where b says that an element stood before them
+  -- the state after children and the end tag; b says whether an element came before them
   closed_state : Bool → Items → State → State
   closed_state b ns r =
       cond b (end_tag (after_items g ns r)) (cond (has_element (list_of ns)) (end_tag (after_items g ns r)) (end_text g r (string_of (list_of ns))))
@@ -85,7 +85,7 @@ module _ (g : Reading) where
   unfolding at closed_state Closes
   run_root q xs kids f p = ap (λ m. m.state) (closes kids f.2 f.1 false (start_tag g (after_of p finished) q xs) [])
 
-  -- ---- once a state is never
+  -- ---- once a state is `never`
 
   never_is : (r : State) → is_never r ≡ true → r ≡ never
   never_is never e = refl

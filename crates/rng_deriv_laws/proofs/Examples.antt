@@ -1,4 +1,4 @@
--- Small documents, computed by the matcher. Each is one on which a wrong derivative answers otherwise.
+-- Small documents, computed by the matcher. For each one, a wrong derivative gives another result.
 use Rattle.std.proofs.Common.{◌≡◌, ℕ, ◌+◌, List, [], ◌∷◌, refl, Bool, true, false}
 use Rattle.std.specs.Str.{bytes_eq}
 use Rattle.rng_model.specs.names.Names.{Name, NameClass, any_name, name_is}
@@ -18,7 +18,7 @@ name k = record { ns = []; local = k ∷ [] }
 abbrev string_type : Datatype
 string_type = record { library = []; name = []; parameters = [] }
 
--- the elements of the names 0, 1, .. with these bodies; the start is the first
+-- elements with the names 0, 1, .. and these bodies; the start is the first
 abbrev elements_from : ℕ → List (Simple ℕ) → List (NameClass × Simple ℕ)
 elements_from k [] = []
 elements_from k (p ∷ ps) = (name_is (name k), p) ∷ elements_from (k + 1) ps
@@ -46,7 +46,7 @@ is_root_valid g xs ns = is_valid g (events_of_items (item_and (an_element (name 
 abbrev between_members : Reading
 between_members = with_bodies (s_joined interleave (s_joined group (s_leaf 1) (s_leaf 2)) (s_leaf 3) ∷ s_empty ∷ s_empty ∷ s_empty ∷ [])
 
--- `(b, c) & d`: an interleave is no choice of two orders of its sides
+-- `(b, c) & d`: an interleave is more than a choice of the two orders of its sides
 member_between : is_root_valid between_members [] (leaf 1 ∷ leaf 3 ∷ leaf 2 ∷ []) ≡ true
 member_between = refl
 
@@ -57,7 +57,7 @@ order_of_the_group = refl
 invalid_at_c : is_never (run between_members (new (s_leaf 0)) (a_start (name 0) [] ∷ a_start (name 2) [] ∷ [])).state ≡ true
 invalid_at_c = refl
 
--- each copy of a repetition takes an attribute, in any order
+-- each copy of a repetition takes one attribute, in any order
 copies : is_root_valid (with_bodies (s_one_or_more (s_attribute any_name s_text) ∷ [])) (1 ∷ 2 ∷ []) [] ≡ true
 copies = refl
 
@@ -67,15 +67,15 @@ two_attributes = with_bodies (s_joined group (s_attribute (name_is (name 1)) s_t
 two_orders : is_root_valid two_attributes (2 ∷ 1 ∷ []) [] ≡ true
 two_orders = refl
 
--- an attribute that is wanted is missing at the end of the tag
+-- a required attribute is missing at the end of the tag
 attribute_missing : is_never (run (with_bodies (s_attribute any_name s_text ∷ [])) (new (s_leaf 0)) (a_start (name 0) [] ∷ [])).state ≡ true
 attribute_missing = refl
 
--- past a side that is not nullable nothing is taken
+-- after a side that is not nullable, nothing of the second side is taken
 past_a_side : is_root_valid (with_bodies (s_joined group (s_leaf 1) (s_leaf 2) ∷ s_empty ∷ s_empty ∷ [])) [] (leaf 2 ∷ []) ≡ false
 past_a_side = refl
 
--- a blank string beside an element is none of the content, and one that is the only child is data
+-- a blank string beside an element is not content; a blank string that is the only child is data
 beside_an_element : is_root_valid (with_bodies (s_leaf 1 ∷ s_empty ∷ [])) [] (a_text (32 ∷ []) ∷ leaf 1 ∷ a_text (32 ∷ []) ∷ []) ≡ true
 beside_an_element = refl
 
@@ -86,11 +86,11 @@ only_child = refl
 only_child_of_empty : is_root_valid (with_bodies (s_empty ∷ [])) [] (a_text (32 ∷ []) ∷ []) ≡ true
 only_child_of_empty = refl
 
--- no string is the empty one
+-- no string counts as the empty string
 no_string : is_root_valid (with_bodies (s_value string_type [] ∷ [])) [] [] ≡ true
 no_string = refl
 
--- no alternative of an except may have the text
+-- the text matches no alternative of the except
 abbrev with_an_except : Reading
 with_an_except = with_bodies (s_data_except string_type (s_joined choice (s_value string_type (1 ∷ [])) (s_value string_type (2 ∷ []))) ∷ [])
 
@@ -100,11 +100,11 @@ second_of_an_except = refl
 not_in_the_except : is_root_valid with_an_except [] (a_text (3 ∷ []) ∷ []) ≡ true
 not_in_the_except = refl
 
--- a start that is notAllowed is never met, from the first event on
+-- with a start that is notAllowed, the state is `never` before the first event
 nothing_starts : is_never (new s_not_allowed).state ≡ true
 nothing_starts = refl
 
--- text goes on through strings and elements
+-- `text` continues through strings and elements
 abbrev with_mixed : Reading
 with_mixed = with_bodies (s_joined interleave s_text (s_leaf 1) ∷ s_empty ∷ [])
 

@@ -1,4 +1,4 @@
--- The except of a data (RELAX NG Specification, sections 6.2.8 and 7.1.4): the test says what the definition says.
+-- The except of a data (RELAX NG Specification, sections 6.2.8 and 7.1.4): the test agrees with the definition.
 use Rattle.std.proofs.Common.{◌≡◌, ℕ, List, refl, sym, subst, Bool, true, false, ◌&&◌, not, inl, inr}
 use Rattle.rng_model.specs.simple.Tree.{Simple, Datatype, choice, group, interleave, as_tree, s_not_allowed, s_empty, s_text, s_leaf, s_attribute, s_list}
 use Rattle.rng_model.specs.simple.Tree.{s_data, s_data_except, s_value, s_one_or_more, s_joined}
@@ -62,7 +62,7 @@ module _ (g : Reading) where
     except_out (s_joined group p q) o s e = absurd o
     except_out (s_joined interleave p q) o s e = absurd o
 
-  -- a text that the datatype allows and the except has not
+  -- a text that the datatype allows and the except does not have
   pub excepted_in : (d : Datatype) (p : Simple ℕ) (s : List ℕ) → MayBeExcepted p → g.tests.allows d s ≡ true → (Has p s → ⊥)
       → g.tests.allows d s && not (is_excepted g p s) ≡ true
   excepted_in d p s o a n = both _ _ a (not_true (is_excepted g p s) (λ b. n (except_out p o s b)))

@@ -1,5 +1,5 @@
--- Where a document turns out to be invalid: at the latest at a start whose name lies in the class of no element, and at
--- the latest at its last event.
+-- Where a document becomes invalid: at the latest at a start whose name is in the class of no element, and at the
+-- latest at its last event.
 use Rattle.std.proofs.Common.{◌≡◌, ℕ, zero, suc, List, [], ◌∷◌, ◌++◌, refl, ap, ◌∙◌, Bool, true, false, cond}
 use Rattle.rng_model.specs.names.Names.{Name}
 use Rattle.rng_model.specs.simple.Tree.{Simple, choice, group, interleave, s_not_allowed, s_empty, s_text, s_leaf, s_attribute, s_list, s_data, s_data_except}
@@ -54,7 +54,7 @@ module _ (g : Reading) (q : Name) (none : (k : ℕ) → has_name g k q ≡ false
 
 -- ---- the end of a document
 
--- So many levels stand around the innermost one, and in the outermost one nothing is wanted behind the root.
+-- There are this many levels around the innermost one, and the outermost one needs nothing after the root.
 abbrev IsRooted : State → ℕ → Type 0
 IsRooted never n = Unit {0}
 IsRooted finished n = ⊥
@@ -118,7 +118,7 @@ module _ (g : Reading) where
       (one_rooted (suc n) (has_element (list_of kids)) _ _ (end_rooted (suc n) _ (items_rooted kids (suc n) (start_tag g r q xs) k))
       (end_text_rooted (suc n) (start_tag g r q xs) (string_of (list_of kids)) k))
 
-  -- behind the root nothing is wanted, since a start is a choice of elements (section 7.1.5)
+  -- nothing is needed after the root, since a start is a choice of elements (section 7.1.5)
   appended : (ws vs : List Way) → EachWay (λ l. Unit {0}) (λ r. r ≡ s_empty) ws → EachWay (λ l. Unit {0}) (λ r. r ≡ s_empty) vs
       → EachWay (λ l. Unit {0}) (λ r. r ≡ s_empty) (ws ++ vs)
   appended [] vs h k = k
@@ -165,7 +165,7 @@ module _ (g : Reading) where
   rooted_accepts (after p r) h e = both _ _ (ap is_nullable h.0) (ap is_ended h.1)
   rooted_accepts (either r s) h e = either_left _ _ (rooted_accepts r h.0 h.2)
 
-  -- after the root the state accepts, or it is never
+  -- after the root the state accepts, or it is `never`
   pub root_accepts : (p : Simple ℕ) → MayStart p → (q : Name) (xs : List Attribute) (kids : Items) →
       is_never (after_item g (an_element q xs kids) (after_of p finished)) ≡ false → accepts (after_item g (an_element q xs kids) (after_of p finished)) ≡ true
   root_accepts p o q xs kids e = rooted_accepts _ (root_rooted p o q xs kids) e

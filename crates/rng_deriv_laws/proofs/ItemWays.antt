@@ -1,5 +1,5 @@
--- An item first: a law for each kind of pattern, from the ways of its sides to its own, and that `item_ways` gives the
--- ways of a pattern. Strings and elements go the same way, since no blank string stands beside an element.
+-- The first item: a law for each kind of pattern, from the ways of its sides to its own. `item_ways` returns the ways
+-- of a pattern. Strings and elements have the same laws, since no blank string is beside an element.
 use Rattle.std.proofs.Common.{◌≡◌, ℕ, List, [], ◌∷◌, ◌++◌, refl, sym, ap, ◌∙◌, subst, Bool, true, false, cond, inl, inr, ◌⊎◌}
 use Rattle.std.proofs.lemmas.List.{append-nil}
 use Rattle.rng_model.specs.names.Names.{Name}
@@ -71,7 +71,7 @@ module _ (g : Reading) where
   same_has_ways Kind p q ws s a =
       record { to = λ n ns kind bare d. a.to n ns kind bare (s.back [] (n ∷ ns) d); back = λ n ns h. s.to [] (n ∷ ns) (a.back n ns h) }
 
-  -- other ways that take the same are ways as well
+  -- other ways that take the same are ways of the pattern too
   pub ways_that_take_the_same : (Kind : Item → Type 0) (p : Simple ℕ) (ws vs : List Way)
       → ((n : Item) (ns : List Item) → TakesItem g ws n ns → TakesItem g vs n ns)
       → ((n : Item) (ns : List Item) → TakesItem g vs n ns → TakesItem g ws n ns) → AreItemWays g Kind p ws → AreItemWays g Kind p vs
@@ -96,7 +96,7 @@ module _ (g : Reading) where
       → (ms : List Item) × Takes g r [] ms × ((os : List Item) × Takes g q [] os × (ms ++ os ≡ ns))
   group_parts q r ns (t.grouped {ms = ms} {ns = os} d e document.done c) = (ms, d, (os, e, c))
 
-  -- f makes a group of what is left and the second side, in whatever form
+  -- f makes a group of what is left and the second side, in any form
   pub group_ways : (Kind : Item → Type 0) (p q : Simple ℕ) (f : Simple ℕ → Simple ℕ) (ws vs : List Way) → ((r : Simple ℕ) → Same g (f r) (s_joined group r q)) →
       AreItemWays g Kind p ws → AreItemWays g Kind q vs → AreItemWays g Kind (s_joined group p q) (behind f ws ++ cond (is_nullable p) vs [])
   group_ways Kind p q f ws vs on a b = record { to = to; back = back } where
@@ -179,7 +179,7 @@ module _ (g : Reading) where
   join_more p n ms os ns d (t.first e) c = t.again d e nothing_apart document.done (ap (λ l. n ∷ l) c)
   join_more p n ms os ns d (t.second t.empty_is) c = t.once (subst (λ l. Takes g p [] (n ∷ l)) (sym (append-nil ms) ∙ c) d)
 
-  -- f puts the further copies behind what is left of the first
+  -- f appends the further copies to what is left of the first
   pub repeat_ways : (Kind : Item → Type 0) (p : Simple ℕ) (f : Simple ℕ → Simple ℕ) (ws : List Way)
       → ((r : Simple ℕ) → Same g (f r) (s_joined group r (more_of p))) →
       AreItemWays g Kind p ws → AreItemWays g Kind (s_one_or_more p) (behind f ws)

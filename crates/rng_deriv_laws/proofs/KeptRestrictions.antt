@@ -1,4 +1,4 @@
--- The restrictions are kept by all that derivatives build, in whatever order it is joined.
+-- All that derivatives build keeps the restrictions, in whatever order it is joined.
 use Rattle.std.proofs.Common.{ℕ, List, [], ◌∷◌, ◌++◌, Bool, true, false, cond}
 use Rattle.rng_model.specs.simple.Tree.{Simple, Connector, choice, group, interleave, s_not_allowed, s_empty, s_text, s_leaf, s_attribute, s_list, s_data}
 use Rattle.rng_model.specs.simple.Tree.{s_data_except, s_value, s_one_or_more, s_joined}
@@ -8,7 +8,7 @@ use Rattle.rng_deriv_laws.specs.plain.Derivatives.{group_before}
 use Rattle.rng_deriv_laws.specs.plain.Derivatives.{interleave_before, item_ways, attribute_ways, rests_of, closed}
 use Rattle.rng_deriv_laws.specs.plain.Ways.{EachWay, IsItemLeaf, IsAttributeLeaf}
 
--- Q goes from sides to what is joined of them, and back
+-- Q holds of a joined pattern exactly if it holds of its sides
 pub record IsHereditary (Q : Simple ℕ → Type 0) : Type 0 where
   pub of_not_allowed : Q s_not_allowed
   pub of_empty : Q s_empty
@@ -144,7 +144,7 @@ IsRestricted-hereditary = record {
   copy = λ p h. record { repeats = h.repeats.1; texts = h.texts };
 }
 
--- ---- once all attributes are taken
+-- ---- after all attributes are taken
 
 repeat_of-keeps : (Q : Simple ℕ → Type 0) (p : Simple ℕ) → Q s_not_allowed → Q s_empty → Q (s_one_or_more p) → Q (repeat_of p)
 repeat_of-keeps Q p n e h = either_one Q (is_not_allowed p) s_not_allowed _ n (either_one Q (is_empty p) s_empty (s_one_or_more p) e h)

@@ -1,4 +1,4 @@
--- A matcher of level states: each event keeps what it stands for; and the laws.
+-- A matcher of level states: each event keeps the relation between the matcher and the events. The laws.
 use Rattle.std.proofs.Common.{◌≡◌, ◌↔◌, ℕ, suc, List, [], ◌∷◌, ◌++◌, length, refl, sym, ap, ◌∙◌, subst, Bool, true, false, Some, None, Contains, slice_get}
 use Rattle.rng_model.specs.simple.Tree.{Simple}
 use Rattle.rng_model.specs.matching.Document.{Item}
@@ -63,7 +63,7 @@ module _ (g : Reading) where
       let stray : None ≡ Some count = ap (λ k. open_after k (an_end ∷ [])) (sym l) ∙ o in
       absurd (cc)
 
-  -- so many levels as elements are open
+  -- there are as many levels as open elements
   levels_on : (m n : LevelMatcher) (e : EventKind) → StepsTo g m e n → (count : ℕ) → open_after (length m.state.levels) (e ∷ []) ≡ Some count
       → length n.state.levels ≡ count
   levels_on m n (a_start q xs) (at_start k settled s f h) count o =
@@ -99,7 +99,7 @@ module _ (g : Reading) where
     runs = λ n o. (same_Some _ _ o, stays);
   })
 
-  -- with no level left, what is nullable says whether nothing need remain
+  -- if no level is left, an alternative allows the end exactly if it is nullable
   ended : (m : LevelState) → length m.levels ≡ 0 → HoldsInLevels g m ([] ∷ []) ↔ ((p : Simple ℕ) × Contains m.now p × (is_nullable p ≡ true))
   ended m e =
       subst (λ levels. HoldsInLevels g (record { now = m.now; levels = levels }) ([] ∷ []) ↔ ((p : Simple ℕ) × Contains m.now p × (is_nullable p ≡ true)))

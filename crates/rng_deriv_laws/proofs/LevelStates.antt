@@ -1,4 +1,4 @@
--- Level states: each event that makes of them what it has to changes their meanings as it has to.
+-- Level states: each event that changes them as it must changes their meanings as it must.
 use Rattle.std.proofs.Common.{◌≡◌, ◌↔◌, inl, inr, ℕ, zero, suc, List, [], ◌∷◌, refl, sym, ap, ◌∙◌, subst}
 use Rattle.std.proofs.Common.{true, false, ◌||◌, ◌&&◌, Some, slice_get, Contains, All}
 use Rattle.std.specs.List.{AllZip}
@@ -24,9 +24,9 @@ use Rattle.rng_deriv_laws.proofs.Nullable.{null_in, null_out}
 use Rattle.rng_deriv_laws.proofs.States.{none_taken, none_contained}
 use Rattle.rng_deriv_laws.proofs.Levels.{contains_in, contains_out, lone_in, lone_out}
 
--- ---- lists side by side
+-- ---- pairs of lists
 
--- what stands beside an element of the first list, or of the second
+-- the partner of an element of the first list, or of the second
 pub beside_first : {A B : Type 0} (R : A → B → Type 0) (xs : List A) (ys : List B) (i : ℕ) (x : A) → AllZip R xs ys → slice_get xs i ≡ Some x
     → (y : B) × (slice_get ys i ≡ Some y) × R x y
 beside_first R [] ys i x h e = absurd (cc)
@@ -148,9 +148,9 @@ module _ (g : Reading) where
         (h.0, h.1, h.2, subst (λ s. EndsWith g s h.1) is (lone_in g h.1 kids apart none (subst (λ b. states.Contains g b h.1 kids) none h.3)), h.4),
   )
 
-  -- ---- the first state, the last, and one that nothing can meet
+  -- ---- the first state, the last one, and one with an empty meaning
 
-  -- one alternative, that takes what the start takes, and no element open
+  -- one alternative that takes what the start takes, and no open element
   pub first_is_start : (p : Simple ℕ) → ((ns : List Item) → Takes g p [] ns ↔ Takes g g.grammar.start [] ns) →
       IsStart g (level_meaning g (record { now = p ∷ []; levels = [] }))
   first_is_start p same ns = (λ h. (same ns).0 (first_out h), λ d. (0, p, refl, (same ns).1 d, tt)) where
@@ -158,7 +158,7 @@ module _ (g : Reading) where
     first_out (zero, r, e, d, h) = subst (λ r. Takes g r [] ns) (sym (same_Some _ _ e)) d
     first_out (suc j, r, e, d, h) = absurd (cc)
 
-  -- with no element open, nothing need remain exactly if some alternative is nullable
+  -- if no element is open, nothing need remain exactly if some alternative is nullable
   pub ended_by_nullable : (now : List (Simple ℕ)) →
       HoldsInLevels g (record { now = now; levels = [] }) ([] ∷ []) ↔ ((p : Simple ℕ) × Contains now p × (is_nullable p ≡ true))
   ended_by_nullable now = (λ h. (h.1, contained now h.0 h.1 h.2, null_in g h.1 h.3), nullable_ends) where
@@ -178,7 +178,7 @@ module _ (g : Reading) where
     nothing_held [] h = h
     nothing_held (ns ∷ ls) h = none_taken g h.1 ns (no_alternative m h.0 h.1 all h.2) h.3
 
-  -- after a start whose name no element has, no alternative is left
+  -- no alternative is left after a start whose name no element has
   pub unknown_leaves_none : (q : Name) (xs : List Attribute) (m n : LevelState) → ((k : ℕ) → has_name g k q ≡ false) → StartsLevel g q xs m n → n.now ≡ []
   unknown_leaves_none q xs m n none s = nothing_beside s.bodies n.now (λ b c. no_body (All-contains (IsBodyNamed g q) s.bodies b s.opened.each c))
       s.entered where
@@ -195,7 +195,7 @@ module _ (g : Reading) where
   pub nullable_may_end : (p : Simple ℕ) → (is_nullable p ≡ true) ↔ EndsNow g p
   nullable_may_end p = (null_out g p, null_in g p)
 
-  -- by what is left of it after the string
+  -- by what is left of the alternative after the string
   pub may_end_with : (s : List ℕ) (p r : Simple ℕ) → IsAfterText g s p r → (is_nullable r || (is_nullable p && is_blank s) ≡ true) ↔ EndsWith g s p
   may_end_with s p r a = (may_end, ending) where
     bare : IsBare (a_text s ∷ [])

@@ -1,4 +1,5 @@
--- Levels made piece by piece: the ways of one alternative after another at a start, one way out after another at an end.
+-- Levels built step by step: at a start, the ways of one alternative after another; at an end, one way out after
+-- another.
 use Rattle.std.proofs.Common.{◌≡◌, ◌↔◌, ◌⊎◌, inl, inr, ℕ, zero, suc, ◌<◌, List, [], ◌∷◌, ◌++◌, length, refl, sym, ap, ◌∙◌, subst, Bool, true, Some}
 use Rattle.std.proofs.Common.{slice_get, Contains, All, arith}
 use Rattle.std.specs.List.{AllZip}
@@ -47,7 +48,7 @@ at_end_out [] y x (suc i) e = absurd (cc)
 at_end_out (z ∷ xs) y x zero e = inl e
 at_end_out (z ∷ xs) y x (suc i) e = elim (at_end_out xs y x i e) [ inl f ↦ inl f | inr f ↦ inr (ap suc f.0, f.1) ]
 
--- the way out is that of a way, for the alternative of this place
+-- the way out is that of this way, for the alternative at this place
 abbrev pub IsLinked : List (Simple ℕ) → ℕ → Way → Link → Type 0
 IsLinked bodies i w l = (l.outer ≡ i) × (slice_get bodies l.inner ≡ Some w.leaf) × (l.rest ≡ w.rest)
 
@@ -78,7 +79,7 @@ module _ (g : Reading) where
           let same : b ≡ w.0.leaf = same_Some _ _ (sym e ∙ w.2.1) in
           (w.2.0, opens_at ws c.0 w.0 w.1 (subst (λ b. WeaklyTakes g b xs kids) same d) (subst (λ r. Takes g r [] ns) w.2.2 f))
 
-  -- item ways whose leaves have become bodies
+  -- item ways, with leaves replaced by bodies
   pub are_starts : (Kind : Item → Type 0) (Q : Simple ℕ → Type 0) (q : Name) (p : Simple ℕ) (ws : List Way) → ((k : ℕ) → IsTyped (body_of g k)) →
       ((xs : List Attribute) (kids : Items) → Kind (an_element q xs kids)) → AreItemWays g Kind p ws → EachWay (λ l. IsItemLeaf l × Q l) Q ws →
       AreStarts g q p (bodies_of g q ws)
@@ -91,7 +92,7 @@ module _ (g : Reading) where
     any_ways [] = tt
     any_ways (w ∷ ws) = ((tt, tt), any_ways ws)
 
-  -- no alternative around: no way
+  -- no alternative around: there are no ways
   pub none_opened : (q : Name) → AreOpened g q [] [] []
   none_opened q = record {
     to = λ i p xs kids ns e all d. absurd (cc);
@@ -99,7 +100,7 @@ module _ (g : Reading) where
     each = λ k d l. absurd (omega (arith, l));
   }
 
-  -- the ways of one alternative more
+  -- the ways of one more alternative
   module _ (q : Name) (outside bodies new : List (Simple ℕ)) (links more : List Link) (p : Simple ℕ) (ws : List Way) (o : AreOpened g q outside bodies links)
       (within : All (λ l. l.inner < length bodies) links) (s : AreStarts g q p ws) (z : AllZip (IsLinked (bodies ++ new) (length outside)) ws more) where
     more_to : (i : ℕ) (r : Simple ℕ) (xs : List Attribute) (kids : Items) (ns : List Item) → slice_get (outside ++ p ∷ []) i ≡ Some r → Every IsNotBlank ns
@@ -137,7 +138,7 @@ module _ (g : Reading) where
   }
 
   module _ (good : List Bool) (links : List Link) (outside : List (Simple ℕ)) (e : AreEnded g good links outside) (l : Link) where
-    -- a way out of an alternative that is not good
+    -- a way out from an alternative that is not good
     pub ended_no_more : (slice_get good l.inner ≡ Some true → ⊥) → AreEnded g good (links ++ l ∷ []) outside
     ended_no_more bad = record {
       to = λ k ns c is d. elim (Contains-push_cases links l k c) [
@@ -147,7 +148,7 @@ module _ (g : Reading) where
       back = λ i r ns f d. let k = e.back i r ns f d in (k.0, Contains-append_left links (l ∷ []) k.0 k.1, k.2, k.3, k.4);
     }
 
-    -- a way out of a good one: what it leaves is joined to the alternative around
+    -- a way out from a good alternative: its rest is joined to the alternative around
     module _ (after : List (Simple ℕ)) (old new : Simple ℕ) (is_good : slice_get good l.inner ≡ Some true) (was : slice_get outside l.outer ≡ Some old)
         (now : slice_get after l.outer ≡ Some new)
         (same : (i : ℕ) (r : Simple ℕ) → (i ≡ l.outer → ⊥) → slice_get after i ≡ Some r ↔ slice_get outside i ≡ Some r)

@@ -1,4 +1,5 @@
--- Each event over levels: a state holds before it exactly if the state after it holds of what then remains.
+-- Each event over levels: a state allows what remains before the event exactly if the state after it allows what
+-- remains after.
 use Rattle.std.proofs.Common.{◌≡◌, ℕ, List, [], ◌∷◌, refl, sym, subst, Bool, true, false, inl, inr}
 use Rattle.rng_model.specs.names.Names.{Name}
 use Rattle.rng_model.specs.simple.Tree.{Simple}
@@ -27,21 +28,22 @@ use Rattle.rng_deriv_laws.proofs.States.{begins_either}
 use Rattle.rng_deriv_laws.proofs.States.{begins_after, begins_after_out, either_of-restricted, after_of-restricted, if_so-restricted}
 
 module _ (g : Reading) where
-  -- ---- the body of an element, with the attributes of its tag taken
+  -- ---- the body of an element, after the attributes of its tag
 
   plainly : (p : Simple ℕ) (xs : List Attribute) (ns : List Item) → has_element ns ≡ true → WeaklyTakes g p xs ns → Takes g p xs ns
   plainly p xs ns h (t.as_is d) = d
   plainly p xs ns h (t.blank_text d b) = absurd (cc)
   plainly p xs ns h (t.nothing_there d) = absurd (cc)
 
-  -- the weak rules go with what is taken
+  -- the weak rules respect what is taken
   pub weakly_as : (p q : Simple ℕ) (xs ys : List Attribute) (ns : List Item) → ((ns : List Item) → Takes g p xs ns → Takes g q ys ns) → WeaklyTakes g p xs ns
       → WeaklyTakes g q ys ns
   weakly_as p q xs ys ns f (t.as_is d) = t.as_is (f ns d)
   weakly_as p q xs ys ns f (t.blank_text d b) = t.blank_text (f [] d) b
   weakly_as p q xs ys ns f (t.nothing_there d) = t.nothing_there (f _ d)
 
-  -- q takes alone what the body p takes with the attributes: it contains the children that p weakly takes with them
+  -- q takes, without attributes, what the body p takes with them: it contains the children that p weakly takes with
+  -- them
   pub contains_in : (p q : Simple ℕ) → IsTyped p → (xs : List Attribute) → ((ns : List Item) → Takes g p xs ns → Takes g q [] ns) →
       (kids : List Item) (b : Bool)
       → has_element kids ≡ b → WeaklyTakes g p xs kids → Contains g b q kids
@@ -129,7 +131,7 @@ module _ (g : Reading) where
   start_tag_restricted bodies (either r s) o q xs =
       either_of-restricted (start_tag g r q xs) (start_tag g s q xs) (start_tag_restricted bodies r o.0 q xs) (start_tag_restricted bodies s o.1 q xs)
 
-  -- ---- the content of an element just opened, with an element in it
+  -- ---- the content of an element that just started, with an element in it
 
   pub begins_in : (r : State) (kids : List Item) (ls : List (List Item)) → has_element kids ≡ true → Begins g r kids ls → Holds g r (without_blanks kids ∷ ls)
   begins_in never kids ls e h = absurd h
@@ -145,7 +147,7 @@ module _ (g : Reading) where
   begins_out (either r s) kids ls e (inl h) = inl (begins_out r kids ls e h)
   begins_out (either r s) kids ls e (inr h) = inr (begins_out s kids ls e h)
 
-  -- ---- a string beside an element
+  -- ---- a string that has an element beside it
 
   pub string_in : (r : State) → IsRestrictedState r → (s : List ℕ) (ns : List Item) (ls : List (List Item)) → Every IsNotBlank (a_text s ∷ ns)
       → Holds g r ((a_text s ∷ ns) ∷ ls) → Holds g (string g r s) (ns ∷ ls)
@@ -174,7 +176,7 @@ module _ (g : Reading) where
   string_restricted (after p r) o s = after_of-restricted (after_text g p s) r (text_restricted p s o.0) o.1
   string_restricted (either r u) o s = either_of-restricted (string g r s) (string g u s) (string_restricted r o.0 s) (string_restricted u o.1 s)
 
-  -- ---- the end of an element that holds an element
+  -- ---- the end of an element that has a child element
 
   pub end_in : (r : State) (ls : List (List Item)) → Holds g r ([] ∷ ls) → Holds g (end_tag r) ls
   end_in never ls h = absurd h
@@ -195,9 +197,9 @@ module _ (g : Reading) where
   end_restricted (after p r) o = if_so-restricted (is_nullable p) r o.1
   end_restricted (either r s) o = either_of-restricted (end_tag r) (end_tag s) (end_restricted r o.0) (end_restricted s o.1)
 
-  -- ---- the end of an element that holds no element
+  -- ---- the end of an element without a child element
 
-  -- no string weakly counts as the empty one
+  -- by the weak rules, no string counts as the empty string
   pub lone_in : (p : Simple ℕ) (kids : List Item) → Separate kids → has_element kids ≡ false → WeaklyTakes g p [] kids
       → WeaklyTakes g p [] (a_text (string_of kids) ∷ [])
   lone_in p kids w.nothing h (t.as_is d) = t.blank_text d refl

@@ -1,4 +1,4 @@
--- Small facts on tests, lists and parts of lists.
+-- Small facts about tests, lists and parts of lists.
 use Rattle.std.proofs.Common.{◌≡◌, List, [], ◌∷◌, ◌++◌, refl, Bool, true, false, ◌&&◌, ◌||◌, ◌⊎◌, inl, inr, sym}
 use Rattle.rng_model.specs.names.Names.{Name}
 use Rattle.rng_model.specs.matching.Document.{Attribute, Item, a_text, an_element, Interleaves, AllTexts, no_texts, text_and, SharesName}
@@ -93,7 +93,7 @@ no_name_right document.done h = nothing_named
 no_name_right (document.left i) (another_name d h) = no_name_right i h
 no_name_right (document.right i) (another_name d h) = another_name d (no_name_right i h)
 
--- parts of attributes with distinct names have distinct names, and share none
+-- parts of attributes with distinct names have distinct names, and no name is in both
 pub distinct_left : {xs ys zs : List Attribute} → Interleaves xs ys zs → Distinct zs → Distinct xs
 distinct_left document.done d = none
 distinct_left (document.left i) (one_more h d) = one_more (no_name_left i h) (distinct_left i d)

@@ -1,4 +1,5 @@
--- Meanings that events lead to: after those of a document nothing remains exactly if the document is valid.
+-- The meanings that events lead to: after the events of a document nothing need remain exactly if the document is
+-- valid.
 use Rattle.std.proofs.Common.{◌≡◌, ◌↔◌, ℕ, List, [], ◌∷◌, ◌++◌, refl, sym, ap, ◌∙◌, subst, Bool, true, false, cond, append_assoc}
 use Rattle.rng_model.specs.names.Names.{Name}
 use Rattle.rng_model.specs.matching.Document.{Attribute, Item, a_text, an_element, Items, no_items, item_and, list_of}
@@ -24,18 +25,19 @@ through f h = (λ a. h.0 (f.0 a), λ c. f.1 (h.1 c))
 same : {A : Type 0} → A ↔ A
 same = (λ a. a, λ a. a)
 
--- what a meaning says of the whole content of an element, where an element stands in it or before it; and else
+-- what a meaning says of content: the whole content of an element if it has no element and none came before it,
+-- otherwise what remains
 abbrev Content : Meaning → Bool → Bool → List Item → List (List Item) → Type 0
 Content m true c ns ls = m.holds (without_blanks ns ∷ ls)
 Content m false true ns ls = m.holds (without_blanks ns ∷ ls)
 Content m false false ns ls = m.begins ns ls
 
--- with an element in it, content is the same wherever it begins
+-- if content has an element, it does not matter where the content begins
 with_element : (m : Meaning) (b : Bool) (ns : List Item) (ls : List (List Item)) → Content m b true ns ls ↔ m.holds (without_blanks ns ∷ ls)
 with_element m true ns ls = same
 with_element m false ns ls = same
 
--- the content of an element that was just opened
+-- the content of an element that just started
 opened : (m n : Meaning) (q : Name) (xs : List Attribute) → IsAfterStart m n q xs → (kids : List Item) (ls : List (List Item)) (b : Bool) → has_element kids ≡ b
     → Content n false b kids ls ↔ n.begins kids ls
 opened m n q xs a kids ls true e = let f = a.content kids ls e in (f.1, f.0)
@@ -52,29 +54,29 @@ module _ {S : Type 0} (means : S → Meaning) where
   run_on (at_end f h r) more = at_end f h (run_on r more)
   run_on (at_end_of_text h r) more = at_end_of_text h (run_on r more)
 
-  -- no string is held: nothing is settled
+  -- if no string is held, nothing changes
   empty_settles : (m k : S) → Settles means [] m k → (P : S → Type 0) → P k → P m
   empty_settles m k (as_blank e) P h = h
   empty_settles m k (as_text e a) P h = absurd (cc)
 
-  -- what is settled, for a string before clean items
+  -- the state after the held string, for a string before items without blank strings
   settled : (s : List ℕ) (m k : S) → Settles means s m k → (ns : List Item) (ls : List (List Item)) → Every IsNotBlank ns
       → (means k).holds (ns ∷ ls) ↔ (means m).holds (cond (is_blank s) ns (a_text s ∷ ns) ∷ ls)
   settled s m k (as_blank e) ns ls all = rw e same
   settled s m k (as_text e a) ns ls all = rw e (a ns ls (cons e all))
 
-  -- children and the end of their element have been run through
+  -- events run through the children and the end of their element
   record Closes (m : S) (b : Bool) (ns : List Item) (es : List EventKind) (o : S) (c : Bool) (u : List ℕ) : Type 0 where
     behind : S
     runs : Runs means behind true [] es o c u
     is : (ls : List (List Item)) → (means behind).holds ls ↔ Content (means m) b (has_element ns) ns ls
 
-  -- without events a run stays
+  -- a run without events stays where it is
   run_over : {m o : S} {b c : Bool} {s u : List ℕ} → Runs means m b s [] o c u → (P : S → Type 0) → P m → P o
   run_over stays P h = h
 
   module _ (o : S) (c : Bool) (u : List ℕ) where
-    -- an element, its content and what follows it
+    -- an element, its content, and what follows it
     element_closes : (m k n : S) (s : List ℕ) (b : Bool) (q : Name) (xs : List Attribute) (kids ns : Items) (es : List EventKind) →
         ((es : List EventKind) → Runs means n false [] (events_of_items kids ++ an_end ∷ es) o c u → Closes n false (list_of kids) es o c u) →
         ((n : S) → Runs means n true [] (events_of_items ns ++ an_end ∷ es) o c u → Closes n true (list_of ns) es o c u) →
@@ -119,7 +121,7 @@ module _ {S : Type 0} (means : S → Meaning) where
         element_closes m k n [] b q xs kids ns es (closes kids f.0.2 f.0.1 n false) (λ n r. closes ns f.1 apart n true es r) settles a f.0 r
         (an_element q xs kids ∷ list_of ns) refl refl
 
-    -- the events of a document: nothing remains exactly if the meaning before them held of the root alone
+    -- the events of a document: nothing need remain exactly if the meaning before them allows only the root
     root_closes : (m : S) (q : Name) (xs : List Attribute) (kids : Items) → IsWellFormed (an_element q xs kids) →
         Runs means m false [] (events_of_items (item_and (an_element q xs kids) no_items)) o c u
         → (means o).holds ([] ∷ []) ↔ (means m).holds ((an_element q xs kids ∷ []) ∷ [])
@@ -147,7 +149,7 @@ module _ {S : Type 0} (means : S → Meaning) where
               (an_element q xs (items_of kids) ∷ []),
         ))
 
-    -- from the start, the events of a document lead to a meaning that holds of nothing left exactly if the document is valid
+    -- from the start, the events of a document lead to a meaning that allows the end exactly if the document is valid
     run_of_document : (m o : S) (c : Bool) (u : List ℕ) (bytes : List ℕ) (d : Placed) → IsPyxDocument bytes d → IsStart (reading g tests) (means m) →
         Runs means m false [] (kinds (events_of d)) o c u → (means o).holds ([] ∷ []) ↔ IsValidBy g (texts_of tests) (item_of d)
     run_of_document m o c u bytes d is start r =
@@ -155,7 +157,7 @@ module _ {S : Type 0} (means : S → Meaning) where
         subst (λ x. Runs means m false [] (kinds (events_of x)) o c u → (means o).holds ([] ∷ []) ↔ IsValidBy g (texts_of tests) (item_of x)) (sym t.is)
         (element_valid m o c u t.line t.name t.attributes t.kids t.last t.formed start) r
 
-    -- ---- once nothing can be met any more
+    -- ---- once the meaning is empty
 
     empty_start : (m : S) → IsEmpty (means m) → (q : Name) (xs : List Attribute) → IsAfterStart (means m) (means m) q xs
     empty_start m none q xs = record {
@@ -176,7 +178,7 @@ module _ {S : Type 0} (means : S → Meaning) where
     empty_end_of_text : (m : S) → IsEmpty (means m) → (s : List ℕ) → IsAfterEndOfText (means m) (means m) s
     empty_end_of_text m none s kids ls apart e f = (λ h. absurd (none.holds ls h), λ h. absurd (none.begins kids ls h))
 
-    -- how a run goes on, and ends
+    -- how a run continues and ends
     record Onward (m : S) (b : Bool) (s : List ℕ) (es : List EventKind) : Type 0 where
       begun : Bool
       held : List ℕ
@@ -195,7 +197,7 @@ module _ {S : Type 0} (means : S → Meaning) where
     empty_runs m none false s (an_end ∷ es) =
         let r = empty_runs m none true [] es in record { begun = r.begun; held = r.held; runs = at_end_of_text (empty_end_of_text m none s) r.runs }
 
-    -- no document is valid that begins with events that lead to an empty meaning
+    -- no document that begins with events that lead to an empty meaning is valid
     empty_is_invalid : (m n : S) (c : Bool) (t : List ℕ) (es more : List Event) → IsStart (reading g tests) (means m) → Runs means m false [] (kinds es) n c t →
         IsEmpty (means n) → (bytes : List ℕ) (d : Placed) → IsPyxDocument bytes d → events_of d ≡ es ++ more → IsValidBy g (texts_of tests) (item_of d) → ⊥
     empty_is_invalid m n c t es more start r none bytes d is parts v =

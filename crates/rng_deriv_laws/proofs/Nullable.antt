@@ -1,4 +1,4 @@
--- A pattern is nullable exactly if it takes no attributes with no items.
+-- A pattern is nullable exactly if it takes no attributes and no items.
 use Rattle.std.proofs.Common.{◌≡◌, ◌↔◌, IsTrue, ℕ, List, [], refl, sym, ◌∙◌, subst, Bool, true, false, cond, inl, inr}
 use Rattle.rng_model.specs.simple.Tree.{Simple, choice, group, interleave, s_not_allowed, s_empty, s_text, s_leaf, s_attribute, s_list, s_data, s_data_except}
 use Rattle.rng_model.specs.simple.Tree.{s_value, s_one_or_more, s_joined}

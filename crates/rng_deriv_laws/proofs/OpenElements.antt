@@ -1,4 +1,4 @@
--- How many elements are open after events with which a document begins.
+-- How many elements are open after the first events of a document.
 use Rattle.std.proofs.Common.{◌≡◌, ◌≢◌, ℕ, zero, suc, List, [], ◌∷◌, ◌++◌, refl, sym, ap, ◌∙◌, append_assoc, Option, Some, None}
 use Rattle.rng_model.specs.names.Names.{Name}
 use Rattle.rng_model.specs.matching.Document.{Attribute, a_text, an_element, Items, no_items, item_and}
@@ -7,7 +7,7 @@ use Rattle.rng_deriv_laws.specs.plain.Events.{kinds, events_of_items, open_after
 use Rattle.rng_deriv_laws.proofs.Events.{kinds_of_document, append_nothing}
 use Rattle.rng_deriv_laws.proofs.PyxDocuments.{document_formed}
 
--- so many are open between two parts of events
+-- this many elements are open between two parts of the events
 pub record Between (n : ℕ) (es fs : List EventKind) (m : ℕ) : Type 0 where
   pub count : ℕ
   pub before : open_after n es ≡ Some count
@@ -56,13 +56,13 @@ alone_close ns = ap (open_after 0) (sym (append_nothing (events_of_items ns))) �
 pub document_closes : (bytes : List ℕ) (d : Placed) → IsPyxDocument bytes d → open_after 0 (kinds (events_of d)) ≡ Some 0
 document_closes bytes d is = ap (open_after 0) (kinds_of_document d) ∙ alone_close (item_and (item_of d) no_items)
 
--- an element ends only where one is open
+-- an element ends only if one is open
 pub ends_open : (bytes : List ℕ) (d : Placed) → IsPyxDocument bytes d → (es fs : List EventKind) → kinds (events_of d) ≡ es ++ fs
     → (n : ℕ) × (open_after 0 es ≡ Some n)
 ends_open bytes d is es fs e =
     let b = count_between 0 es fs 0 (ap (open_after 0) (sym e) ∙ document_closes bytes d is) in (b.count, b.before)
 
--- where another event follows, either none has come or an element is open
+-- if another event follows, either no event has come or an element is open
 
 front_of : {A : Type 0} (xs ys zs : List A) (y z : A) → xs ++ y ∷ ys ≡ zs ++ z ∷ [] → (more : List A) × (zs ≡ xs ++ more)
 front_of [] ys zs y z e = (zs, refl)
@@ -94,7 +94,7 @@ inside_root bytes d is es fs f e some =
     root_open t.name t.attributes (items_of t.kids) es fs f
     (ap (λ i. events_of_items (item_and i no_items)) (ap item_of (sym t.is)) ∙ sym (kinds_of_document d) ∙ e) some
 
--- no document is the beginning of another
+-- no document is a proper beginning of another
 pub nothing_behind_document : (bytes bytes' : List ℕ) (d d' : Placed) → IsPyxDocument bytes d → IsPyxDocument bytes' d' → (fs : List EventKind)
     → kinds (events_of d') ≡ kinds (events_of d) ++ fs → fs ≡ []
 nothing_behind_document bytes bytes' d d' is is' [] e = refl

@@ -1,6 +1,6 @@
--- Where the items hold an element and no two strings stand side by side, a pattern that takes the items without their
--- blank strings takes them all: each blank string becomes the padding of an element (RELAX NG Specification, section
--- 6.2.7). No restriction on the pattern is needed.
+-- If the items have an element and no two strings are adjacent, a pattern that takes the items without their blank
+-- strings takes all of them: each blank string becomes the padding of an element (RELAX NG Specification, section
+-- 6.2.7). This needs no restriction on the pattern.
 use Rattle.std.proofs.Common.{◌≡◌, ℕ, List, [], ◌∷◌, ◌++◌, refl, sym, ap, ◌∙◌, subst, Bool, true, false, cond, append_assoc}
 use Rattle.std.proofs.lemmas.List.{append-nil}
 use Rattle.rng_model.specs.names.Names.{Name}
@@ -75,7 +75,7 @@ spread w.string (keep_text p none) h = absurd (cc)
 spread (w.string_element s) (keep_text p (keep_element d)) h = string (spread_element _ _ _ s d)
 spread (w.element s) (keep_element d) h = spread_element _ _ _ s d
 
--- a split list, spread
+-- a list and its spread list, both cut in two
 record Cut (ms os ns : List Item) : Type 0 where
   front : List Item
   rest : List Item
@@ -154,7 +154,7 @@ spread_texts (element p s e) all = elim all [ ]
 never_both : (s : List ℕ) → is_blank s ≡ true → is_blank s ≡ false → ⊥
 never_both s d e = let f : true ≡ false = sym d ∙ e in cc
 
--- an element alone among clean items, spread, is padded
+-- an element alone among items without blank strings, spread, is padded
 repadded : (q : Name) (xs : List Attribute) (kids : Items) (ms ns : List Item) → Padded is_blank (an_element q xs kids) ms → Every IsNotBlank ms
     → Spread ms ns → Padded is_blank (an_element q xs kids) ns
 repadded q xs kids ms ns document.alone all (element {os = us} p nothing e) = subst (λ l. Padded is_blank (an_element q xs kids) l) (sym (append-nil us) ∙ e) p
@@ -187,7 +187,7 @@ module _ (g : Reading) where
   put ns (t.value_is e) all (string nothing) = t.value_is e
   put ns (t.element_is i w pad) all s = t.element_is i w (repadded _ _ _ _ ns pad all s)
 
-  -- no restriction on the pattern is needed
+  -- this needs no restriction on the pattern
   pub put_blanks : (p : Simple ℕ) (xs : List Attribute) (ns : List Item) → Separate ns → has_element ns ≡ true → Takes g p xs (without_blanks ns)
       → Takes g p xs ns
   put_blanks p xs ns s h d = put ns d (without_is_clean ns) (spread s (drops ns) h)

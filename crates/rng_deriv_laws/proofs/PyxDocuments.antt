@@ -1,5 +1,5 @@
--- A PYX document is an element tree with distinct attribute names in each tag, and without empty strings or strings side
--- by side.
+-- A PYX document is an element tree with distinct attribute names in each tag, without empty strings and without
+-- adjacent strings.
 use Rattle.std.proofs.Common.{◌≡◌, ℕ, List, [], ◌∷◌, subst, sym}
 use Rattle.rng_model.specs.names.Names.{Name}
 use Rattle.rng_model.specs.matching.Document.{Attribute, an_element, list_of}
@@ -11,7 +11,7 @@ use Rattle.rng_model.specs.documents.PyxTrees.{Placed, PlacedItems, text_at, ele
 use Rattle.rng_model.specs.documents.PyxTrees.{IsPyxDocument}
 use Rattle.rng_model.specs.documents.PyxTrees as p
 
--- the tree is an element, and well formed
+-- the tree is an element, and is well-formed
 pub record IsElementTree (tree : Placed) : Type 0 where
   pub line : ℕ
   pub name : Name

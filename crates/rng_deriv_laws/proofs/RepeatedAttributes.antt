@@ -1,5 +1,5 @@
--- Behind an attribute that a repetition takes the repetition is left, zero times or more: with no attribute in a group (section 7.1.2) the
--- attribute stands alone in its copy, so what else the copy may take is a copy again.
+-- After an attribute that a repetition takes, the repetition zero or more times is left. If no attribute is in a group
+-- (section 7.1.2), the attribute is alone in its copy, so what else the copy may take is a copy again.
 use Rattle.std.proofs.Common.{◌≡◌, ℕ, List, [], ◌∷◌, refl, sym, subst}
 use Rattle.rng_model.specs.names.Lists.{Among}
 use Rattle.rng_model.specs.simple.Tree.{Simple, s_one_or_more}
@@ -18,7 +18,7 @@ use Rattle.rng_deriv_laws.proofs.SameWays.{attribute_among, attribute_way}
 use Rattle.rng_deriv_laws.proofs.ListFacts.{apart, distinct_left}
 
 module _ (g : Reading) where
-  -- a way of a copy whose leaf may be all of the copy
+  -- a way of a copy whose leaf may be the whole copy
   pub record MayBeAll (ws : List Way) (leaf : Simple ℕ) : Type 0 where
     pub way : Way
     pub among : Among way ws

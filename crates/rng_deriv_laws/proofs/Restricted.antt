@@ -1,4 +1,4 @@
--- What grammars keep that break none of the restrictions (RELAX NG Specification, section 7).
+-- What grammars that break no restriction satisfy (RELAX NG Specification, section 7).
 use Rattle.std.proofs.Common.{◌≡◌, ◌⊎◌, inl, inr, ℕ, zero, suc, List, [], ◌∷◌, refl, sym, ap, ◌∙◌, subst, Option, Some, None, slice_get}
 use Rattle.rng_model.specs.names.Lists.{Among, here, there}
 use Rattle.rng_model.specs.names.Names.{NameClass}
@@ -98,7 +98,7 @@ may_be_excepted (s_joined choice p q) f = (may_be_excepted p (λ i s b. f i (r.i
 may_be_excepted (s_joined group p q) f = f (s_joined group p q) r.itself r.group_in_except
 may_be_excepted (s_joined interleave p q) f = f (s_joined interleave p q) r.itself r.interleave_in_except
 
--- nothing stands in an except that may not
+-- each except has only what it may have
 abbrev ExceptsWell : Simple ℕ → Type 0
 ExceptsWell p = (d : Datatype) (except inner : Simple ℕ) → StandsIn (s_data_except d except) p → StandsIn inner except → BarredFromExcept (kind_of inner) → ⊥
 
@@ -123,7 +123,7 @@ may_be_listed (s_joined group p q) f h = (
 )
 may_be_listed (s_joined interleave p q) f h = f (s_joined interleave p q) r.itself r.interleave_in_list
 
--- nothing stands in a list that may not
+-- each list has only what it may have
 abbrev ListsWell : Simple ℕ → Type 0
 ListsWell p = (outer inner : Simple ℕ) → StandsIn outer p → kind_of outer ≡ list_kind → Inside inner outer → BarredFromList (kind_of inner) → ⊥
 
@@ -185,7 +185,7 @@ greater_itself empty_content = refl
 greater_itself complex_content = refl
 greater_itself simple_content = refl
 
--- a pattern has the content type that the definition gives it
+-- the content type of a pattern by the definition is the one that the function computes
 pub content_type_in : (p : Simple ℕ) (u : ContentType) → HasContent p u → content_type p ≡ Some u
 content_type_in s_not_allowed u h = elim h [ ]
 content_type_in s_empty u r.of_empty = refl
@@ -206,7 +206,7 @@ content_type_in (s_joined group p q) u (r.of_both {t = v} {u = x} none h k both)
 content_type_in (s_joined interleave p q) u (r.of_both {t = v} {u = x} none h k both) =
     ap (λ a. type_of_both a (content_type q)) (content_type_in p v h) ∙ ap (λ a. type_of_both (Some v) a) (content_type_in q x k) ∙ groupable_type v x both
 
--- two types that go together are groupable
+-- two types that combine are groupable
 groupable_by : (s u v : ContentType) → type_of_both (Some s) (Some u) ≡ Some v → AreGroupable s u × (greater s u ≡ v)
 groupable_by empty_content u v e = (r.empty_first, cc)
 groupable_by complex_content empty_content v e = (r.empty_second, cc)
@@ -247,7 +247,7 @@ attribute_content c p (Some s) u f e =
 some_is : (t u : ContentType) → Some t ≡ Some u → t ≡ u
 some_is t u e = cc
 
--- .. and back
+-- .. and the other way round
 pub content_type_out : (p : Simple ℕ) (u : ContentType) → content_type p ≡ Some u → HasContent p u
 content_type_out s_not_allowed u e = absurd (cc)
 content_type_out s_empty u e = subst (λ x. HasContent {L = ℕ} s_empty x) (some_is empty_content u e) r.of_empty

@@ -1,6 +1,6 @@
--- Which patterns take the same: each constructor respects it, choice is a matter of sets, groups and interleaves may be
--- joined otherwise, and the rules applied while patterns are built (RELAX NG Specification, sections 4.20 and 4.21)
--- change nothing.
+-- Which patterns take the same. Each constructor respects this relation. A choice is a set of alternatives. Groups and
+-- interleaves may be nested in another way. The rules that are applied while patterns are built (RELAX NG
+-- Specification, sections 4.20 and 4.21) change nothing.
 use Rattle.std.proofs.Common.{◌≡◌, ℕ, List, ◌∷◌, ◌++◌, refl, sym, ap, ◌∙◌, subst, Bool, true, false, cond, append_assoc}
 use Rattle.std.proofs.lemmas.List.{append-nil}
 use Rattle.rng_model.specs.simple.Tree.{Simple, choice, group, interleave, s_not_allowed, s_empty, s_one_or_more, s_joined}
@@ -12,7 +12,7 @@ use Rattle.rng_deriv_laws.specs.plain.Taking as t
 use Rattle.rng_deriv_laws.specs.plain.Derivatives.{is_nullable, is_not_allowed, is_empty, choice_of, group_of, interleave_of, repeat_of}
 use Rattle.rng_deriv_laws.proofs.Nullable.{null_out}
 
--- ---- interleavings, put otherwise
+-- ---- interleavings in another order
 
 pub turned : {A : Type 0} {xs ys zs : List A} → Interleaves xs ys zs → Interleaves ys xs zs
 turned done = done
@@ -24,7 +24,7 @@ pub record Between {A : Type 0} (xs ys zs us : List A) : Type 0 where
   pub inner : Interleaves ys zs both
   pub outer : Interleaves xs both us
 
--- (xs and ys) and zs, as xs and (ys and zs)
+-- (xs and ys) and zs are xs and (ys and zs)
 pub regrouped : {A : Type 0} {xs ys zs vs us : List A} → Interleaves xs ys vs → Interleaves vs zs us → Between xs ys zs us
 regrouped done i = record { both = _; inner = i; outer = right_alone _ }
 regrouped (left i) (left {x = x} j) = let r = regrouped i j in record { both = r.both; inner = r.inner; outer = left r.outer }
@@ -96,7 +96,7 @@ module _ (g : Reading) where
   pub choice_commutative : (p q : Simple ℕ) → Same g (s_joined choice p q) (s_joined choice q p)
   choice_commutative p q = record { to = choice_turned p q; back = choice_turned q p }
 
-  -- an alternative that takes no more than another may go
+  -- an alternative that takes no more than another may be left out
   absorb : (p q : Simple ℕ) → Implies p q → Implies (s_joined choice p q) q
   absorb p q f xs ns (t.first d) = f xs ns d
   absorb p q f xs ns (t.second d) = d
@@ -107,7 +107,7 @@ module _ (g : Reading) where
   pub choice_idempotent : (p : Simple ℕ) → Same g (s_joined choice p p) p
   choice_idempotent p = choice_absorbs p p (λ xs ns d. d)
 
-  -- q beside a group of q behind a nullable pattern
+  -- q in a choice with a group of a nullable pattern and q
   pub choice_absorbs_second : (p q : Simple ℕ) → is_nullable p ≡ true → Same g (s_joined choice q (s_joined group p q)) (s_joined group p q)
   choice_absorbs_second p q e = choice_absorbs q (s_joined group p q) (λ xs ns d. t.grouped (null_out g p e) d (right_alone xs) refl)
 

@@ -1,5 +1,5 @@
--- Patterns and lists of ways that are made otherwise: choices as sets of alternatives, ways in another order, ways with
--- equal leaves or with equal rests made one, ways that lead nowhere left out.
+-- Patterns and lists of ways in other forms: choices as sets of alternatives, ways in another order, ways with equal
+-- leaves or equal rests joined into one, ways that lead nowhere left out.
 use Rattle.std.proofs.Common.{◌≡◌, ◌⊎◌, inl, inr, ℕ, List, [], ◌∷◌, ◌++◌, refl, ap, ◌∙◌, Bool, true, false, cond, Some}
 use Rattle.rng_model.specs.names.Lists.{Among, here, there}
 use Rattle.rng_model.specs.simple.Tree.{Simple, choice, group, interleave, s_not_allowed, s_empty, s_joined}
@@ -15,7 +15,7 @@ use Rattle.rng_deriv_laws.proofs.SamePatterns.{interleave_associative, not_allow
 use Rattle.rng_deriv_laws.proofs.ItemWays.{same_has_ways}
 use Rattle.rng_deriv_laws.proofs.KeptRestrictions.{IsRestricted-hereditary, choice_of-keeps}
 
--- the choice of a list of patterns; of none, notAllowed
+-- the choice of a list of patterns; the choice of none is notAllowed
 abbrev pub choice_all : List (Simple ℕ) → Simple ℕ
 choice_all [] = s_not_allowed
 choice_all (p ∷ ps) = s_joined choice p (choice_all ps)
@@ -23,7 +23,7 @@ choice_all (p ∷ ps) = s_joined choice p (choice_all ps)
 abbrev pub way : Simple ℕ → Simple ℕ → Way
 way l r = record { leaf = l; rest = r }
 
--- members of a group and of an interleave; of none, empty
+-- the group or interleave of a list of members; that of none is empty
 abbrev pub group_all : List (Simple ℕ) → Simple ℕ
 group_all [] = s_empty
 group_all (p ∷ ps) = s_joined group p (group_all ps)
@@ -33,7 +33,7 @@ interleave_all [] = s_empty
 interleave_all (p ∷ ps) = s_joined interleave p (interleave_all ps)
 
 module _ (g : Reading) where
-  -- ---- members joined in any nesting: a list cut in two is the two parts joined
+  -- ---- members in any nesting: a list cut in two is its two parts joined
 
   pub choice_all-append : (ps qs : List (Simple ℕ)) → Same g (choice_all (ps ++ qs)) (s_joined choice (choice_all ps) (choice_all qs))
   choice_all-append [] qs = not_allowed_or g (choice_all qs)
@@ -144,7 +144,7 @@ module _ (g : Reading) where
     back = λ a xs ns u h. b.back a xs ns u (inr h);
   }
 
-  -- ---- ways made one
+  -- ---- ways joined into one
 
   of_choice : (p q r : Simple ℕ) → Same g r (s_joined choice p q) → (xs : List Attribute) (ns : List Item) → Takes g r xs ns → Takes g p xs ns ⊎ Takes g q xs ns
   of_choice p q r s xs ns d = parted (s.to xs ns d) where
@@ -152,7 +152,7 @@ module _ (g : Reading) where
     parted (t.first e) = inl e
     parted (t.second e) = inr e
 
-  -- equal leaves: their rests by choice, in whatever form
+  -- equal leaves: the choice of their rests, in any form
   pub leaves_joined : (l p q r : Simple ℕ) (ws : List Way) (n : Item) (ns : List Item) → Same g r (s_joined choice p q)
       → TakesItem g (way l p ∷ way l q ∷ ws) n ns → TakesItem g (way l r ∷ ws) n ns
   leaves_joined l p q r ws n ns s (inl h) = inl (h.0, s.back [] ns (t.first h.1))
@@ -185,7 +185,7 @@ module _ (g : Reading) where
   attribute_way_dropped l ws a xs ns (inl h) = elim h.1 [ ]
   attribute_way_dropped l ws a xs ns (inr h) = h
 
-  -- ---- bodies made one
+  -- ---- bodies joined into one
 
   -- the weak rules respect choices
   pub weakly_first : (p q r : Simple ℕ) → Same g r (s_joined choice p q) → (xs : List Attribute) (ns : List Item) → WeaklyTakes g p xs ns
@@ -208,7 +208,7 @@ module _ (g : Reading) where
   weakly_of_choice p q r s xs ns (t.nothing_there d) =
       elim (of_choice p q r s xs (a_text [] ∷ []) d) [ inl e ↦ inl (t.nothing_there e) | inr e ↦ inr (t.nothing_there e) ]
 
-  -- equal rests: a choice of the bodies
+  -- equal rests: the choice of the bodies
   pub bodies_joined : (b c d r : Simple ℕ) (ws : List Way) (xs : List Attribute) (kids ns : List Item) → Same g d (s_joined choice b c)
       → Opens g xs kids ns (way b r ∷ way c r ∷ ws) → Opens g xs kids ns (way d r ∷ ws)
   bodies_joined b c d r ws xs kids ns s (inl h) = inl (weakly_first b c d s xs kids h.0, h.1)
@@ -221,7 +221,7 @@ module _ (g : Reading) where
       elim (weakly_of_choice b c d s xs kids h.0) [ inl e ↦ inl (e, h.1) | inr e ↦ inr (inl (e, h.1)) ]
   bodies_parted b c d r ws xs kids ns s (inr h) = inr (inr h)
 
-  -- equal bodies: a choice of what is left behind the element
+  -- equal bodies: the choice of what is left after the element
   pub rests_joined : (b p q r : Simple ℕ) (ws : List Way) (xs : List Attribute) (kids ns : List Item) → Same g r (s_joined choice p q)
       → Opens g xs kids ns (way b p ∷ way b q ∷ ws) → Opens g xs kids ns (way b r ∷ ws)
   rests_joined b p q r ws xs kids ns s (inl h) = inl (h.0, s.back [] ns (t.first h.1))

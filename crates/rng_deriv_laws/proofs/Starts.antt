@@ -47,7 +47,7 @@ module _ (g : Reading) (q : Name) where
       bodies_keep IsRestrictedBody IsRestricted (λ k e. bodies k) (λ l. IsItemLeaf l × IsRestricted l) (item_ways p)
       (item_ways-keep IsRestricted IsRestricted-hereditary p o)
 
-  -- ---- a leaf with an element
+  -- ---- a leaf that takes an element
 
   module _ (xs : List Attribute) (kids : Items) where
     named_in : (b : Bool) (w : Way) (ws : List Way) (ns : List Item) → b ≡ true → WeaklyTakes g w.leaf xs (list_of kids) → Takes g w.rest [] ns
@@ -121,7 +121,7 @@ module _ (g : Reading) (q : Name) where
     bodies_out [] ns h = h
     bodies_out (w ∷ ws) ns h = elim (started_out w.leaf w.rest (bodies_of g q ws) ns h) [ inl a ↦ inl a | inr b ↦ inr (bodies_out ws ns b) ]
 
-    -- ---- an element first
+    -- ---- the first item is an element
 
     pub start_in : (p : Simple ℕ) → IsRestricted p → (ns : List Item) → IsBare (an_element q xs kids ∷ ns) → Takes g p [] (an_element q xs kids ∷ ns)
         → Opens g xs (list_of kids) ns (after_start g p q)

@@ -1,5 +1,5 @@
--- The meanings of states: each event changes them as it has to. And states that are put otherwise: alternatives as a set,
--- alternatives with one pattern inside made one, a start tag entered by other ways that open the same.
+-- The meanings of states: each event changes them as it must. Also states in other forms: alternatives as a set,
+-- alternatives with the same pattern inside joined into one, a start tag entered through other ways that open the same.
 use Rattle.std.proofs.Common.{◌≡◌, ◌↔◌, inl, inr, ℕ, List, [], ◌∷◌, sym, subst, Bool, true, false, cond, refl}
 use Rattle.rng_model.specs.names.Lists.{Among, here, there}
 use Rattle.rng_model.specs.names.Names.{Name}
@@ -28,7 +28,7 @@ use Rattle.rng_deriv_laws.proofs.Levels.{enter_in, enter_out, start_tag_in, star
 use Rattle.rng_deriv_laws.proofs.Levels.{end_text_in, weakly_as}
 use Rattle.rng_deriv_laws.proofs.Levels.{end_text_out, accepts_in, accepts_out, string_restricted, start_tag_restricted, end_restricted, end_text_restricted}
 
--- two meanings that say the same
+-- two meanings that allow the same
 pub record MeanSame (m n : Meaning) : Type 0 where
   pub holds : (ls : List (List Item)) → m.holds ls ↔ n.holds ls
   pub begins : (kids : List Item) (ls : List (List Item)) → m.begins kids ls ↔ n.begins kids ls
@@ -61,7 +61,7 @@ module _ (g : Reading) where
     λ h. subst (λ s. Holds g (end_text g r s) ls) f (end_text_in g r o kids apart e ls h),
   )
 
-  -- the matcher of `Events` is one of which each event changes what it matches as it has to
+  -- the matcher of `Events`, whose events change what it matches as they must
   settles : (r : State) → IsRestrictedState r → (s : List ℕ) (b : Bool) → is_blank s ≡ b → Settles meaning_of s r (cond b r (string g r s))
   settles r o s true e = as_blank e
   settles r o s false e = as_text e (string_is_after r o s)
@@ -89,14 +89,14 @@ module _ (g : Reading) where
   states_run bodies (an_end ∷ es) r o false s =
       at_end_of_text (end_text_is_after r o s) (states_run bodies es (end_text g r s) (end_text_restricted g r o s) true [])
 
-  -- the state accepts exactly if nothing may remain
+  -- the state accepts exactly if nothing need remain
   pub accepts_is : (r : State) → (accepts r ≡ true) ↔ Holds g r ([] ∷ [])
   accepts_is r = (accepts_out g r, accepts_in g r)
 
   pub never_is_empty : IsEmpty (meaning_of never)
   never_is_empty = record { holds = λ ls h. h; begins = λ kids ls h. h }
 
-  -- ---- a start tag entered by other ways
+  -- ---- a start tag entered through other ways
 
   pub entered_is_after : (p : Simple ℕ) (r : State) → IsRestricted p → (q : Name) (xs : List Attribute) (ws : List Way)
       → EachWay IsRestrictedBody IsRestricted ws →
@@ -113,7 +113,7 @@ module _ (g : Reading) where
 
   -- ---- alternatives as a set
 
-  -- of none, never
+  -- the choice of states; of none, `never`
   abbrev pub either_all : List State → State
   either_all [] = never
   either_all (r ∷ rs) = either r (either_all rs)
@@ -140,7 +140,7 @@ module _ (g : Reading) where
   either_all-begun (r ∷ rs) kids ls (inl h) = (r, here, h)
   either_all-begun (r ∷ rs) kids ls (inr h) = let k = either_all-begun rs kids ls h in (k.0, there k.1, k.2)
 
-  -- ---- alternatives with one pattern inside
+  -- ---- alternatives with the same pattern inside
 
   one_inside_to : (p : Simple ℕ) (r s : State) (ls : List (List Item)) → Holds g (either (after p r) (after p s)) ls → Holds g (after p (either r s)) ls
   one_inside_to p r s [] (inl h) = absurd h
@@ -203,7 +203,7 @@ module _ (g : Reading) where
     );
   }
 
-  -- a pair of what is inside and what follows, built without never, means what it does plainly
+  -- a pair of the pattern inside and what follows means the same when it is built without `never`
   pub after_of-means : (p : Simple ℕ) (r : State) → MeanSame (meaning_of (after_of p r)) (meaning_of (after p r))
   after_of-means p r = record {
     holds = λ ls. (after_of_out p r ls, after_of_in p r ls);
@@ -217,14 +217,14 @@ module _ (g : Reading) where
     after_of_in p r [] h = absurd h
     after_of_in p r (ns ∷ ls) h = holds_after g p r ns ls h.0 h.1
 
-  -- built without never, a state means what it does plainly
+  -- a choice of states means the same when it is built without `never`
   pub either_of-means : (r s : State) → MeanSame (meaning_of (either_of r s)) (meaning_of (either r s))
   either_of-means r s = record {
     holds = λ ls. (holds_out g r s ls, λ h. elim h [ inl a ↦ holds_left g r s ls a | inr b ↦ holds_right g r s ls b ]);
     begins = λ kids ls. (begins_either g r s kids ls, λ h. elim h [ inl a ↦ begins_left g r s kids ls a | inr b ↦ begins_right g r s kids ls b ]);
   }
 
--- ---- events respect meanings that say the same
+-- ---- events respect meanings that allow the same
 
 through : {A B C : Type 0} → A ↔ B → B ↔ C → A ↔ C
 through f h = (λ a. h.0 (f.0 a), λ c. f.1 (h.1 c))

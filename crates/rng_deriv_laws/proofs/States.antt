@@ -1,4 +1,4 @@
--- What states mean that are built, and what they keep.
+-- The meaning of states that are built, and what they keep.
 use Rattle.std.proofs.Common.{◌≡◌, ℕ, List, [], ◌∷◌, refl, Bool, true, false, cond, inl, inr, ◌⊎◌}
 use Rattle.rng_model.specs.simple.Tree.{Simple, s_not_allowed}
 use Rattle.rng_model.specs.matching.Document.{Item}
@@ -14,7 +14,7 @@ pub none_taken : (g : Reading) (p : Simple ℕ) (ns : List Item) → is_not_allo
 none_taken g s_not_allowed ns e d = elim d [ ]
 none_taken g _ ns e d = cc
 
--- ---- of either state, for any meaning that never has not
+-- ---- a choice of states, for any meaning that `never` does not have
 
 module _ (M : State → Type 0) (none : M never → ⊥) where
   first_of : (r s : State) → (M r → M (either r s)) → M r → M (cond (is_never s) r (either r s))
@@ -64,7 +64,7 @@ of_tests M none false true r m = absurd (none m)
 of_tests M none false false r m = m
 
 module _ (g : Reading) where
-  -- ---- of levels
+  -- ---- the meaning for levels
 
   pub holds_left : (r s : State) (ls : List (List Item)) → Holds g r ls → Holds g (either_of r s) ls
   holds_left r s ls h = either_left (λ r. Holds g r ls) (λ h. h) r s (λ k. inl k) h
@@ -98,7 +98,7 @@ module _ (g : Reading) where
   so_out true r ls h = (refl, h)
   so_out false r ls h = absurd h
 
-  -- ---- of the content of an element
+  -- ---- the meaning for the content of an element
 
   pub begins_left : (r s : State) (kids : List Item) (ls : List (List Item)) → Begins g r kids ls → Begins g (either_of r s) kids ls
   begins_left r s kids ls h = either_left (λ r. Begins g r kids ls) (λ h. h) r s (λ k. inl k) h

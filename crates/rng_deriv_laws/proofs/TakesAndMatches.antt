@@ -1,4 +1,4 @@
--- A pattern takes what it matches by the one definition of matching.
+-- A pattern takes exactly what it matches by the one definition of matching.
 use Rattle.std.proofs.Common.{◌≡◌, ℕ, List, [], refl, sym, ap, ◌∙◌, subst, true, Option, Some, None, slice_get}
 use Rattle.std.proofs.lemmas.List.{append-nil}
 use Rattle.rng_model.specs.names.Names.{Name, NameClass, In}
@@ -17,7 +17,7 @@ use Rattle.rng_deriv_laws.specs.plain.Taking.{Matches, WeaklyMatches, Takes, Wea
 use Rattle.rng_deriv_laws.specs.plain.Taking as t
 
 module _ (g : Reading) where
-  -- the second of two members shares out what is left
+  -- the second of two members takes what the first leaves
   last_in : (x : Unit {0}) (k : _) (b : Tree ℕ) (ys : List Attribute) (ns : List Item) →
       m.MatchesAll (leaves_of g) In (texts_of g.tests) x k (tree_and b no_trees) ys ns →
       m.Matches (leaves_of g) In (texts_of g.tests) x b ys ns

@@ -1,5 +1,5 @@
--- Strings: what is left after one, the pieces of a list, and a string alone (RELAX NG Specification, sections 6.2.7,
--- 6.2.8 and 6.2.10), where sections 7.1.3 and 7.1.4 are obeyed.
+-- Strings, for patterns that obey sections 7.1.3 and 7.1.4: what is left after one, the pieces of a list, and a string
+-- alone (RELAX NG Specification, sections 6.2.7, 6.2.8 and 6.2.10).
 use Rattle.std.proofs.Common.{◌≡◌, ℕ, List, [], ◌∷◌, map, refl, subst, Bool, true, ◌&&◌, cond, inl, inr}
 use Rattle.rng_model.specs.simple.Tree.{Simple, choice, group, interleave, s_not_allowed, s_empty, s_text, s_leaf, s_attribute, s_list, s_data, s_data_except}
 use Rattle.rng_model.specs.simple.Tree.{s_value, s_one_or_more, s_joined}
@@ -20,7 +20,7 @@ use Rattle.rng_deriv_laws.proofs.Excepts.{excepted_in, excepted_out}
 use Rattle.rng_deriv_laws.proofs.ItemWays.{item_ways-are}
 use Rattle.rng_deriv_laws.proofs.KeptRestrictions.{HasTexts-hereditary, item_ways-keep, rests_of-keeps}
 
--- ---- what is left behind the leaves that take an item
+-- ---- what is left after the leaves that take an item
 
 module _ (g : Reading) (P Q : Simple ℕ → Type 0) (takes : Simple ℕ → Bool) (n : Item) where
   pub rests_in : ((l : Simple ℕ) → P l → Takes g l [] (n ∷ []) → takes l ≡ true) → (ws : List Way) → EachWay P Q ws → (ns : List Item)
@@ -42,7 +42,7 @@ module _ (g : Reading) (P Q : Simple ℕ → Type 0) (takes : Simple ℕ → Boo
   rests_out exact (w ∷ ws) each ns d =
       rests_out_by exact w ws each.0.0 ns (rests_out exact ws each.1 ns) ((choice_of-same g _ (rests_of takes ws)).to [] ns d)
 
--- ---- a string first
+-- ---- the first item is a string
 
 module _ (g : Reading) (Ok : Simple ℕ → Type 0) (lists : Simple ℕ → List ℕ → Bool)
     (lists_in : (p : Simple ℕ) (s : List ℕ) → Ok p → Takes g p [] (map a_text (g.tests.pieces s)) → lists p s ≡ true)

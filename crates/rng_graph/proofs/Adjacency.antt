@@ -1,4 +1,4 @@
--- A graph whose mentions are listed: an order and a loop by the lists are an order and a loop of the graph.
+-- If the lists have the mentions of a graph, then an order or a loop by the lists is an order or a loop of the graph.
 use Rattle.std.proofs.Common.{◌↔◌, ℕ, ◌<◌, List, length, All, Contains}
 use Rattle.rng_model.specs.schema.Schema.{Schema, Definition}
 use Rattle.rng_model.specs.schema.Unfolding.{Leaf}
@@ -17,7 +17,7 @@ module _ {A : Type 0} (M N : A → A → Type 0) (f : (x y : A) → N x y → M 
   leads_by (by_one n) = by_one (f _ _ n)
   leads_by (by_more n w) = by_more (f _ _ n) (leads_by w)
 
--- the lists have what the bodies mention, and no more
+-- the lists have exactly what the bodies mention
 module _ (s : Schema) (ds : List Definition) (ls : List Leaf) (g : Graph) (is : IsGraphOf s ds ls g) (all : List (List ℕ))
     (listed : (j i : ℕ) → Mentions g j i ↔ Lists all j i) where
   pub order_of_graph : {js : List ℕ} → IsOrderBy (Lists all) js → IsOrderBy (Mentions g) js

@@ -1,4 +1,4 @@
--- The components of a schema put into a table, one after another.
+-- The components of a schema are put into a table, one after another.
 use Rattle.std.proofs.Common.{◌≡◌, ◌≢◌, refl, sym, ap, ap₂, ◌∙◌, subst, arith, ℕ, zero, suc, ◌+◌, ◌<◌, ◌≤◌}
 use Rattle.std.proofs.Common.{Bool, true, false, true≢false, ◌&&◌, ◌||◌, cond, if◌then◌else◌}
 use Rattle.std.proofs.Common.{List, [], ◌∷◌, ◌++◌, map, filter, length, length-append, slice_get, slice_index_or, slice_set, append_assoc}
@@ -25,20 +25,20 @@ use Rattle.rng_graph.proofs.GraphTables.{definition_same}
 use Rattle.rng_graph.proofs.Graphs.{found_contained}
 use Rattle.rng_graph.proofs.ResolvedPatterns.{IsAsked, is_there, is_new, asked, definition_is, asked_for}
 
--- a component in the code, and those of a definition
+-- a component of the code as it is viewed, and those of a definition
 abbrev pub seen : Bor code.Component → Component
 seen c = schema_component_of c.now
 
 abbrev pub all_seen : Vec (Bor code.Component) Global → List Component
 all_seen cs = map seen cs.items
 
--- ---- the number of a definition, when another is asked for
+-- ---- the number of a definition when another one is looked up
 
 both_false : (a b : Bool) → a || b ≡ false → (a ≡ false) × (b ≡ false)
 both_false true b e = absurd (true≢false e)
 both_false false b e = (refl, e)
 
--- one that is not there is numbered by the length
+-- a definition that is not there is numbered by the length
 number_of_absent : (d : Definition) (ds : List Definition) → list_any (same_definition d) ds ≡ false → number_of ds d ≡ length ds
 number_of_absent d [] n = refl
 number_of_absent d (f ∷ fs) n =
@@ -54,7 +54,7 @@ none_with_another d e (f ∷ fs) h n =
     let both = both_false (same_definition d f) (list_any (same_definition d) fs) n in
     ap₂ ◌||◌ both.0 (none_with_another d e fs h both.1)
 
--- one that is there keeps its number
+-- a definition that is there keeps its number
 same_or_later : (b c : Bool) → b || c ≡ true → (i j : ℕ) → (c ≡ true → i ≡ j) → (if b then 0 else i + 1) ≡ (if b then 0 else j + 1)
 same_or_later true c h i j r = refl
 same_or_later false c h i j r = ap (λ k. k + 1) (r h)
@@ -70,7 +70,7 @@ below_number d ds h = elim (asked d ds) [
   | is_new a b n ↦ absurd (true≢false (sym h ∙ a))
 ]
 
--- a new one is the last
+-- a new definition is the last
 new_number : (e : Definition) (ds : List Definition) → list_any (same_definition e) ds ≡ false → number_of (ds ++ e ∷ []) e ≡ length ds
 new_number e [] h = ap (λ b. if b then 0 else 1) (definition_same e)
 new_number e (f ∷ fs) h =
@@ -81,7 +81,7 @@ new_number e (f ∷ fs) h =
 
 -- ---- one more component
 
--- a list that is empty, put at the end, changes no look-up
+-- an empty list at the end changes no look-up
 empty_at_end : (css : List (List Component)) (k : ℕ) → slice_index_or (css ++ [] ∷ []) k [] ≡ slice_index_or css k []
 empty_at_end [] zero = refl
 empty_at_end [] (suc k) = refl
@@ -94,7 +94,7 @@ out_of_range [] (suc k) h = refl
 out_of_range (cs ∷ css) zero h = absurd (omega (arith, h))
 out_of_range (cs ∷ css) (suc k) h = out_of_range css k (omega (arith, h))
 
--- the lists after an empty one was put at the end for a definition that was not there
+-- the lists after an empty one is appended for a new definition
 module _ (ds : List Definition) (e : Definition) (c : Component) (old css : List (List Component)) (as_long : length old ≡ length ds)
     (same : (k : ℕ) → slice_index_or css k [] ≡ slice_index_or old k []) (long : length css ≡ length (with_definition ds e)) where
   abbrev pub new : List (List Component)
@@ -103,11 +103,11 @@ module _ (ds : List Definition) (e : Definition) (c : Component) (old css : List
   within : number_of ds e < length css
   within = let there = asked_for e ds in omega (arith, slice_get_within (with_definition ds e) (number_of ds e) e there.there, long)
 
-  -- another place is as it was
+  -- other indices are unchanged
   elsewhere : (k : ℕ) → k ≢ number_of ds e → slice_index_or new k [] ≡ slice_index_or old k []
   elsewhere k h = get_or-set_other css (number_of ds e) k (slice_index_or css (number_of ds e) [] ++ c ∷ []) [] h ∙ same k
 
-  -- the definition finds the component after those that it had
+  -- the definition has the new component after its earlier ones
   for_itself : IsAsked e ds → slice_index_or new (number_of (with_definition ds e) e) [] ≡ slice_index_or old (number_of ds e) [] ++ c ∷ []
   for_itself a =
       ap (λ k. slice_index_or new k []) (own_number a)
@@ -118,7 +118,7 @@ module _ (ds : List Definition) (e : Definition) (c : Component) (old css : List
       own_number (is_there h g) = ap (λ b. number_of (if b then ds else ds ++ e ∷ []) e) h
       own_number (is_new h g n) = ap (λ b. number_of (if b then ds else ds ++ e ∷ []) e) h ∙ new_number e ds h ∙ sym g
 
-  -- another one finds what it had
+  -- another definition has the same components as before
   for_another : (d : Definition) → same_definition d e ≡ false → IsAsked e ds → IsAsked d ds
       → slice_index_or new (number_of (with_definition ds e) d) [] ≡ slice_index_or old (number_of ds d) []
   for_another d h (is_there a b) (is_there x y) =
@@ -151,7 +151,7 @@ module _ (ds : List Definition) (e : Definition) (c : Component) (old css : List
           ∙ ap (λ z. slice_index_or old (number_of ds z) [] ++ c ∷ []) (sym is)
       either_way false h = for_another d h (asked e ds) (asked d ds) ∙ sym (append-nil (slice_index_or old (number_of ds d) []))
 
-  -- the same, of lists that are these
+  -- the same for equal lists
   pub one_component_more : {n : ℕ} {after : List Definition} {own : List Component} {all : List (List Component)} → n ≡ number_of ds e
       → after ≡ with_definition ds e → own ≡ slice_index_or css n [] ++ c ∷ [] → all ≡ slice_set css n own → (d : Definition)
       → slice_index_or all (number_of after d) [] ≡ slice_index_or old (number_of ds d) [] ++ (if same_definition d e then c ∷ [] else [])
@@ -159,13 +159,13 @@ module _ (ds : List Definition) (e : Definition) (c : Component) (old css : List
       let all_is : all ≡ new = set ∙ ap (slice_set css n) one ∙ ap (λ k. slice_set css k (slice_index_or css k [] ++ c ∷ [])) number in
       ap (λ z. slice_index_or z (number_of after d) []) all_is ∙ ap (λ z. slice_index_or new (number_of z d) []) numbered ∙ one_more_of d
 
--- ---- how many definitions there are
+-- ---- the number of definitions
 
 number_when : {d : Definition} {ds : List Definition} → IsAsked d ds → number_of ds d ≡ length ds → length (with_definition ds d) ≡ length ds + 1
 number_when {d} {ds} (is_there a b) e = absurd (omega (arith, e, slice_get_within ds (number_of ds d) d b))
 number_when {d} {ds} (is_new a b n) e = ap (λ z. length (if z then ds else ds ++ d ∷ [])) a ∙ length-append ds (d ∷ [])
 
--- one that was numbered by the length is one more
+-- a definition that is numbered by the length is one more
 pub one_definition_more : (d : Definition) (ds : List Definition) → number_of ds d ≡ length ds → length (with_definition ds d) ≡ length ds + 1
 one_definition_more d ds e = number_when (asked d ds) e
 
@@ -179,7 +179,7 @@ no_definition_more d ds e = number_unless (asked d ds) e
 number_within : (d : Definition) (ds : List Definition) → number_of ds d < length (with_definition ds d)
 number_within d ds = slice_get_within (with_definition ds d) (number_of ds d) d (asked_for d ds).there
 
--- a definition that was numbered has a list
+-- a definition that has a number has a list
 pub list_within : {A : Type 0} (view : A → List Component) (items : List A) (d : Definition) (ds : List Definition) {n : ℕ} {after : List Definition}
     → n ≡ number_of ds d → after ≡ with_definition ds d → length (map view items) ≡ length after → n < length items
 list_within view items d ds number numbered table =
@@ -221,7 +221,7 @@ one_less view d x cs i c before now all inside is one so_far =
 
 -- ---- the grammars of a schema one by one
 
--- what the table has, and those at these places, are those of the schema
+-- the components of the table, together with those at these places, are those of the schema
 abbrev pub Gathers : Schema → List Place → Table → Type 0
 Gathers s places t = IsTable t × ((d : Definition) → components_of t d ++ those_among s d places ≡ schema_components s d)
 
@@ -235,7 +235,7 @@ module _ (s : Schema) (d : Definition) where
       ap (λ z. z ++ rest) one ∙ append_assoc before (those_at d (view x) (components_at s (view x))) rest
       ∙ ap (λ z. before ++ those_among s d (map view z)) (sym next) ∙ so_far
 
-  -- no components at a place, or these, after what there was
+  -- no components at a place, or these, after the earlier ones
   pub none_at : (x : Place) (before : List Component) → None ≡ s.components x → before ≡ before ++ those_at d x (components_at s x)
   none_at x before e = sym (append-nil before) ∙ ap (λ o. before ++ those_at d x (given o)) e
 
@@ -283,7 +283,7 @@ module _ (s : Schema) (d : Definition) where
   not_both : {o : Option (List Component)} {cs : List Component} → o ≡ Some cs → o ≡ None → ⊥
   not_both e f = cc
 
-  -- those at all places are those of the grammar at its place
+  -- the components at all places are those of the grammar at its place
   pub all_places : (places : List Place) → AreItsPlaces s places → those_among s d places ≡ schema_components s d
   all_places places are = either_way (s.components d.place) refl
     where
@@ -295,14 +295,14 @@ module _ (s : Schema) (d : Definition) where
           absent places (λ i. let there = are.there d.place (found_among i) in not_both there.1 e)
           ∙ ap (λ o. filter (λ c. same_name d.name c.name) (given o)) (sym e)
 
--- one grammar more in the table, one place less that is left
+-- one grammar more in the table, one place less to do
 pub one_grammar_more : {A : Type 0} (s : Schema) (view : A → Place) (places : List A) (i : ℕ) (x : A) (t u : Table) → i < length places → x ≡ get_or places i x
     → IsTable u → ((d : Definition) → components_of u d ≡ components_of t d ++ those_at d (view x) (components_at s (view x)))
     → Gathers s (map view (drop i places)) t → Gathers s (map view (drop (i + 1) places)) u
 one_grammar_more s view places i x t u inside is table one so_far =
     (table, λ d. one_place_less s d view places i x (components_of t d) (components_of u d) (schema_components s d) inside is (one d) (so_far.1 d))
 
--- a table with nothing in it
+-- an empty table
 pub no_grammar : (s : Schema) (places : List Place) (t : Table) → AreItsPlaces s places → t.definitions ≡ [] → t.components ≡ [] → Gathers s places t
 no_grammar s places t are none nothing = (
   ap length nothing ∙ sym (ap length none),

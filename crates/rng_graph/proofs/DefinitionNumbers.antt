@@ -1,4 +1,4 @@
--- Definitions are told apart by place and name.
+-- Definitions are distinguished by place and name.
 use Rattle.std.proofs.Common.{◌≡◌, refl, sym, ap₂, arith, ℕ, ◌+◌, Bool, true, false, true≢false, ◌&&◌, not, if◌then◌else◌, cond, List, [], ◌∷◌, ◌++◌, map}
 use Rattle.std.proofs.Common.{Option, Some, None, option_map, Bor}
 use Rattle.std.proofs.lemmas.List.{map-append}
@@ -27,7 +27,7 @@ any_seen : (d : Definition) (ds : List Definition) → list_any (same.ghosts.eq 
 any_seen d [] = refl
 any_seen d (e ∷ es) = let a = compares d e in let b = any_seen d es in cc
 
--- the definitions with one that is asked for
+-- the definitions after one is looked up
 pub with_seen : (d : Definition) (ds : List Definition)
     → map definition_of (insert_key same.ghosts.eq ds d) ≡ with_definition (map definition_of ds) (definition_of d)
 with_seen d ds = after (list_any (same.ghosts.eq d) ds) _ (any_seen d ds)

@@ -1,4 +1,4 @@
--- The steps of a search in depth.
+-- The steps of a depth-first search.
 use Rattle.std.proofs.Common.{◌≡◌, ◌⊎◌, inl, inr, refl, ap, sym, ◌∙◌, subst, ℕ, zero, suc, ◌+◌, ◌-◌, ◌<◌, ◌≤◌, List, [], ◌∷◌, ◌++◌, length, map, set}
 use Rattle.std.proofs.Common.{slice_get, get_or, slice_index_or, Some, Contains, length-append, arith}
 use Rattle.std.proofs.lemmas.Bool.{cases_lt, cases_eq}
@@ -33,9 +33,9 @@ set_at_place xs j x y i e =
       | inr n ↦ inr (n, slice_get-get_or xs i y inside ∙ ap Some (sym (get_or-set_other xs j i x y n) ∙ get_or_from_slice_get (set xs j x) i y y e))
     ]
 
--- ---- what is due, after a step
+-- ---- the tasks after a step
 
--- without the last task, which was for j
+-- without the last task, whose number is j
 due_less : (rest : List Task) (t : Task) (from i : ℕ) → IsDue (rest ++ t ∷ []) from i → IsDue rest from i ⊎ (number_of t ≡ i)
 due_less rest t from i d = elim (at_end rest t d.task d.place d.there) [
   | inl h ↦ inl (record { place = d.place; task = d.task; after = d.after; there = h; is = d.is })
@@ -46,7 +46,7 @@ due_more : (rest more : List Task) (from i : ℕ) → IsDue rest from i → IsDu
 due_more rest more from i d = record { place = d.place; task = d.task; after = d.after; there = in_front rest more d.task d.place d.there; is = d.is }
 
 module _ (all : List (List ℕ)) (marks : List Mark) (rest : List Task) (order : List ℕ) where
-  -- ---- to enter what is done: nothing
+  -- ---- entering a number that is done: nothing changes
 
   pub enter_done : (j : ℕ) → IsSearch all marks (rest ++ task.Enter j ∷ []) order → slice_get marks j ≡ Some mark.Done → IsSearch all marks rest order
   enter_done j s e =
@@ -68,7 +68,7 @@ module _ (all : List (List ℕ)) (marks : List Mark) (rest : List Task) (order :
         leads = λ p q k t h f g. s.leads p q k t h (in_front rest (task.Enter j ∷ []) (task.Leave k) p f) (in_front rest (task.Enter j ∷ []) t q g);
       }
 
-  -- ---- to enter what is open: a loop
+  -- ---- entering a number that is open: a loop
 
   pub enter_open : (j : ℕ) → IsSearch all marks (rest ++ task.Enter j ∷ []) order → slice_get marks j ≡ Some mark.Open → LeadsBy (Lists all) j j
   enter_open j s e =
@@ -78,7 +78,7 @@ module _ (all : List (List ℕ)) (marks : List Mark) (rest : List Task) (order :
         | inr h ↦ absurd (let z = h.1 in cc)
       ]
 
-  -- ---- to leave: one more in order
+  -- ---- leaving a number: it is appended to the order
 
   pub leave : (j : ℕ) → IsSearch all marks (rest ++ task.Leave j ∷ []) order → IsSearch all (set marks j mark.Done) rest (order ++ j ∷ [])
   leave j s =
@@ -116,7 +116,7 @@ module _ (all : List (List ℕ)) (marks : List Mark) (rest : List Task) (order :
         leads = λ p q k t h f g. s.leads p q k t h (in_front rest (task.Leave j ∷ []) (task.Leave k) p f) (in_front rest (task.Leave j ∷ []) t q g);
       }
 
--- ---- to enter what is new: it will be left, after all that it mentions
+-- ---- entering a new number: its task to leave comes after everything that it mentions
 
 in_either : {A : Type 0} (xs ys : List A) (z : A) (i : ℕ) → slice_get (xs ++ ys) i ≡ Some z
     → (slice_get xs i ≡ Some z) ⊎ ((length xs ≤ i) × (slice_get ys (i - length xs) ≡ Some z))
@@ -187,7 +187,7 @@ module _ (all : List (List ℕ)) (marks : List Mark) (rest : List Task) (order :
   before_it : (p : ℕ) (t : Task) → slice_get rest p ≡ Some t → slice_get (rest ++ task.Enter j ∷ []) p ≡ Some t
   before_it p t e = in_front rest (task.Enter j ∷ []) t p e
 
-  -- what was due is due
+  -- what had a task still has one
   still_due : (from i : ℕ) → from ≤ length rest → Contains order i ⊎ IsDue (rest ++ task.Enter j ∷ []) from i → Contains order i ⊎ IsDue tasks from i
   still_due from i h o = elim o [
     | inl c ↦ inl c
@@ -197,7 +197,7 @@ module _ (all : List (List ℕ)) (marks : List Mark) (rest : List Task) (order :
     ]
   ]
 
-  -- what it mentions is due
+  -- what it mentions has a task
   mentioned_due : (i : ℕ) → Lists all j i → IsDue tasks (length rest + 1) i
   mentioned_due i m =
       let e : slice_get mentions m.0 ≡ Some i = slice_get-get_or mentions m.0 i m.1 ∙ ap Some m.2 in record {

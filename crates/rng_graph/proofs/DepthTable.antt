@@ -1,4 +1,4 @@
--- A list of depths that is filled along an order, and what it says is too deep.
+-- A list of depths that is filled along an order, and what is too deep by it.
 use Rattle.std.proofs.Common.{◌≡◌, inl, inr, ap, sym, ◌∙◌, subst, ℕ, ◌+◌, ◌<◌, List, [], ◌∷◌, ◌++◌, length, map, take, set, get_or, slice_get}
 use Rattle.std.proofs.Common.{Some, arith}
 use Rattle.std.proofs.lemmas.Bool.{cases_lt}

@@ -1,4 +1,4 @@
--- The depth of a pattern, given those of its points, is that of its tree.
+-- The depth of a pattern, given the depths of its points, is that of its tree.
 use Rattle.std.proofs.Common.{◌≡◌, refl, ℕ, arith}
 use Rattle.rng_model.specs.simple.Tree.{Connector, Tree, leaf, Trees, Simple, s_joined}
 use Rattle.rng_graph.specs.plain.InTwos.{in_twos, more_in_twos}

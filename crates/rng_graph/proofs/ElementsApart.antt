@@ -1,4 +1,4 @@
--- The elements that definitions have are apart: no two are at one position of one place.
+-- The elements of definitions are distinct: no two have the same position and place.
 use Rattle.std.proofs.Common.{◌≡◌, ◌⊎◌, inl, inr, refl, sym, ap, subst, ◌∙◌, arith, ℕ, zero, suc, ◌+◌, ◌≤◌, Bool, true, false, true≢false, if◌then◌else◌}
 use Rattle.std.proofs.Common.{List, [], ◌∷◌, ◌++◌, append_assoc, length, length-append, slice_get, fold, Option, Some, None, Contains}
 use Rattle.std.specs.Str.{bytes_eq}
@@ -21,20 +21,20 @@ use Rattle.rng_graph.proofs.ResolvedPatterns.{none_there}
 
 -- ---- positions
 
--- a position is not one that leads on from it
+-- a position is not an extension of itself
 longer : (n front : Position) (i : ℕ) → n ≡ front ++ i ∷ n → ⊥
 longer n front i e = omega (arith, ap length e, length-append front (i ∷ n))
 
--- positions that lead on from children of one, and are one, lead on from one child
+-- equal positions that extend children of one position extend the same child
 one_child : (f g n : Position) (i j : ℕ) → f ++ i ∷ n ≡ g ++ j ∷ n → i ≡ j
 one_child [] [] n i j e = cc
 one_child [] (c ∷ g) n i j e = let rest : n ≡ g ++ j ∷ n = cc in absurd (longer n g j rest)
 one_child (c ∷ f) [] n i j e = let rest : f ++ i ∷ n ≡ n = cc in absurd (longer n f i (sym rest))
 one_child (c ∷ f) (d ∷ g) n i j e = one_child f g n i j cc
 
--- ---- lists of elements that are apart
+-- ---- lists of distinct elements
 
--- they are not one
+-- the elements are distinct
 abbrev pub AreTwo : Leaf → Leaf → Type 0
 AreTwo l m = l.place ≡ m.place → l.position ≡ m.position → ⊥
 
@@ -75,9 +75,9 @@ leaves_apart (l ∷ ls) (more_apart a more) (suc i) zero x y e f q =
     absurd (not_one x y q (λ p n. two (sym p) (sym n)))
 leaves_apart (l ∷ ls) (more_apart a more) (suc i) (suc j) x y e f q = ap suc (leaves_apart ls more i j x y e f q)
 
--- ---- what a list has more than before
+-- ---- what a list has in addition
 
--- the elements that are put after others: each is so, and they are apart
+-- the elements that are appended: each has this property, and all are distinct
 record Brought (P : Leaf → Type 0) (before after : List Leaf) : Type 0 where
   more : List Leaf
   is : after ≡ before ++ more
@@ -111,13 +111,13 @@ brought_both {ls = ls} p q two b c = record {
 -- ---- the elements of a pattern
 
 module _ (x : Place) where
-  -- an element at this place, at a position that ends with this one
+  -- an element at this place, at this position or an extension of it
   record Inside (n : Position) (m : Leaf) : Type 0 where
     place : m.place ≡ x
     front : Position
     position : m.position ≡ front ++ n
 
-  -- one at a position that leads on from a child of this one, from this number on
+  -- an element at an extension of a child of this position, from this number on
   record InChild (n : Position) (k : ℕ) (m : Leaf) : Type 0 where
     place : m.place ≡ x
     child : ℕ
@@ -134,7 +134,7 @@ module _ (x : Place) where
   later_child : {n : Position} {k : ℕ} {m : Leaf} → InChild n (k + 1) m → InChild n k m
   later_child {k = k} c = record { place = c.place; child = c.child; from = let h = c.from in omega (arith, h); front = c.front; position = c.position }
 
-  -- one child and later ones
+  -- an element of one child and an element of a later child
   children_two : {n : Position} {k : ℕ} (l m : Leaf) → Inside (k ∷ n) l → InChild n (k + 1) m → AreTwo l m
   children_two {n} {k} l m i c p q =
       let same = one_child i.front c.front n k c.child (sym i.position ∙ q ∙ c.position) in
@@ -189,7 +189,7 @@ module _ (x : Place) where
 
   -- ---- the elements of a definition
 
-  -- an element in a component of this name, the first of the components being at this number
+  -- an element in a component of this name; the first component has this number
   record InNamed (y : Option (List ℕ)) (k : ℕ) (cs : List Component) (m : Leaf) : Type 0 where
     place : m.place ≡ x
     index : ℕ
@@ -261,7 +261,7 @@ same_names (Some a) None (Some c) e f = f
 same_names (Some a) (Some b) None e f = absurd (true≢false (sym e))
 same_names (Some a) (Some b) (Some c) e f = (bytes_eq-Decides a b).1 ((bytes_eq-Decides a c).0 e ∙ sym ((bytes_eq-Decides b c).0 f))
 
--- definitions that have one element are one
+-- definitions with a common element are equal
 one_definition : (s : Schema) (d e : Definition) (l m : Leaf) → InDefinition s d l → InDefinition s e m → l.place ≡ m.place → l.position ≡ m.position
     → same_definition d e ≡ true
 one_definition s d e l m a b p q =

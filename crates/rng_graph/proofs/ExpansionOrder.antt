@@ -1,4 +1,4 @@
--- What a sort of the definitions and a list of their depths say of the schemas of a graph.
+-- What a sort of the definitions and a list of their depths mean for the schemas of a graph.
 use Rattle.std.proofs.Common.{◌≡◌, ◌↔◌, ap, sym, ◌∙◌, subst, ℕ, ◌<◌, List, length, map, All, Contains, Vec, Global, arith}
 use Rattle.std.proofs.lemmas.List.{length-map}
 use Rattle.rng_model.specs.schema.Schema.{Schema}
@@ -52,7 +52,7 @@ module _ (g : declared.Graph) (all : List (List ℕ)) (listed : all ≡ map ment
     whole = λ j k. whole j (omega (arith, k, as_many));
   }
 
-  -- what the sort answers
+  -- the result of the sort
   pub answer_is_whole : (r : Sorted) (js : Vec ℕ Global) → IsAnswer all r → r ≡ sorted.Order js → IsWholeOrder (graph_of g) js.items
   answer_is_whole r js a e = let b = subst (IsAnswer all) e a in order_is_whole js.items b.0 b.1 b.2
 

@@ -1,4 +1,4 @@
--- Patterns of a graph, each kind as it is seen.
+-- Views of the patterns of a graph, by kind.
 use Rattle.std.proofs.Common.{◌≡◌, map, rules, Box, Vec, Global, Bor, Option, Some}
 use Rattle.rng_model.specs.simple.Tree.{group, interleave, choice, attribute, list, data_except, mixed, optional, zero_or_more, one_or_more}
 use Rattle.rng_model.specs.datatypes.DatatypeViews.{datatype_of}

@@ -1,4 +1,4 @@
--- Patterns of a graph as they are seen: lists of members.
+-- Views of the patterns of a graph: lists of members.
 use Rattle.std.proofs.Common.{◌≡◌, map, rules, Vec, Global}
 use Rattle.rng_model.specs.simple.Tree.{group, choice, interleave}
 use Rattle.rng_graph.specs.views.GraphView.{graph_pattern_of, members}

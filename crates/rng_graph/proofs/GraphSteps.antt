@@ -1,4 +1,4 @@
--- How the graph of a schema is made, one definition after another.
+-- Building the graph of a schema, one definition after another.
 use Rattle.std.proofs.Common.{◌≡◌, inl, inr, refl, sym, ap, ap₂, ◌∙◌, subst, arith, ℕ, suc, ◌+◌, ◌<◌, ◌≤◌, Bool, true, false, cond, if◌then◌else◌, filter}
 use Rattle.std.proofs.Common.{List, [], ◌∷◌, ◌++◌}
 use Rattle.std.proofs.Common.{map, take, length, length-append, slice_get, Option, Some, None, Contains}
@@ -28,11 +28,11 @@ use Rattle.rng_graph.proofs.ResolvedPatterns.{IsNumbering, asked, is_there, is_n
 use Rattle.rng_graph.proofs.ResolvedBodies.{body_resolves, cons_is_not_nil, none_is_not_some}
 use Rattle.rng_graph.proofs.ComponentTables.{out_of_range}
 
--- the elements of the first so many definitions
+-- the elements of the first n definitions
 abbrev pub elements_so_far : Schema → ℕ → Numbering → List Leaf
 elements_so_far s n v = elements_of s (take n v.definitions)
 
--- what holds while bodies are resolved in the order of their numbers
+-- the invariant while bodies are resolved in the order of their numbers
 pub record IsGraphSoFar (s : Schema) (v : Numbering) (bodies : List (Tree Spot)) : Type 0 where
   pub first : slice_get v.definitions 0 ≡ Some (main_start s)
   pub some : length bodies ≤ length v.definitions
@@ -101,7 +101,7 @@ module _ (s : Schema) (ready : IsReady s) where
         ];
       }
 
-  -- once all have a body
+  -- the graph once all definitions have a body
   pub whole : (v : Numbering) (bodies : List (Tree Spot)) → IsGraphSoFar s v bodies → length v.definitions ≤ length bodies
       → ArePairwiseApart same_leaf (elements_of s v.definitions)
       → IsGraphOf s v.definitions (elements_of s v.definitions) (record { bodies = bodies; contents = map (λ e. e.1) v.elements })
@@ -124,7 +124,7 @@ module _ (s : Schema) (ready : IsReady s) where
         elements_apart = apart;
       }
 
--- the classes of the elements are those that were numbered with them
+-- the classes of the elements are those that are numbered with them
 pub same_classes : (s : Schema) (ls : List Leaf) (v : Numbering) → IsNumbering s ls v → map (λ m. m.class) ls ≡ map (λ e. e.0) v.elements
 same_classes s ls v is = same_lists (map (λ m. m.class) ls) (map (λ e. e.0) v.elements)
     (length-map ls (λ m. m.class) ∙ sym is.count ∙ sym (length-map v.elements (λ e. e.0)))
@@ -141,7 +141,7 @@ same_classes s ls v is = same_lists (map (λ m. m.class) ls) (map (λ e. e.0) v.
     same_lists (x ∷ xs) [] n e = absurd (omega (arith, n))
     same_lists (x ∷ xs) (y ∷ ys) n e = ap₂ ◌∷◌ (e 0 x y refl refl) (same_lists xs ys (omega (arith, n)) (λ k a b f g. e (suc k) a b f g))
 
--- ---- definitions that differ and all have components are no more than the table has
+-- ---- distinct definitions with components are at most as many as the table has
 
 stands_at : {A : Type 0} {x : A} {xs : List A} → Among x xs → (k : ℕ) × (slice_get xs k ≡ Some x)
 stands_at here = (0, refl)

@@ -78,7 +78,7 @@ definition_same d = rw (bytes_same d.place) (name_same d.name)
 pub leaf_same : (l : Leaf) → same_leaf l l ≡ true
 leaf_same l = rw (bytes_same l.place) (bytes_same l.position)
 
--- the number of what stands somewhere
+-- the number of the definition at an index
 pub number_is : (ds : List Definition) → ArePairwiseApart same_definition ds → (j : ℕ) (d : Definition) → slice_get ds j ≡ Some d → number_of ds d ≡ j
 number_is ds apart j d e = first_is (same_definition d) ds j d e (definition_same d) (λ i y f q. sym (apart j i d y e f q))
 
@@ -143,7 +143,7 @@ module _ (s : Schema) (ds : List Definition) (ls : List Leaf) (g : Graph) (is : 
   depth_at_spot values (at_definition j) h =
       let d = found ds j h in ap (λ o. of_aim (λ m. 1) 1 (table_of values) (definition_aim o)) d.1 ∙ ap values (number_is ds is.definitions_apart j d.0 d.1)
 
-  -- the depth of a body by its numbers is that by its definitions
+  -- the depth of a body by numbers equals its depth by definitions
   pub depth_resolved : (values : ℕ → ℕ) {x : Place} {a : Tree Point} {r : Tree Spot} → IsResolved s ds ls x a r
       → depth_at s (table_of values) x a ≡ spot_depth values r
   depth_resolved values {x} {a} {r} e =

@@ -1,5 +1,5 @@
--- From a graph of numbers back to its schema: all that is met has a number; an order of numbers is an order of definitions,
--- a loop of numbers a loop of definitions, and tables that are filled by numbers are right.
+-- From a graph of numbers back to its schema: everything that is met has a number. An order of numbers is an order of
+-- definitions, a loop of numbers is a loop of definitions, and tables that are filled by numbers are right.
 use Rattle.std.proofs.Common.{◌≡◌, inl, inr, refl, ap, sym, ◌∙◌, subst, ℕ, ◌<◌, List, length, slice_get, Some, Contains, arith}
 use Rattle.std.proofs.lemmas.Option.{slice_get_within, slice_get_cases, get_or_from_slice_get, slice_get-get_or}
 use Rattle.rng_model.specs.simple.Tree.{Tree, not_allowed, empty, text, leaf, attribute, list, data_of, data_except, value, mixed, optional, zero_or_more}

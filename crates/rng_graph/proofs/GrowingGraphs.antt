@@ -1,4 +1,4 @@
--- How a graph is made, one body after another; and what it is when all that is numbered has a body.
+-- Building a graph, one body after another, and the result when everything that is numbered has a body.
 use Rattle.std.proofs.Common.{◌≡◌, inl, inr, refl, ap, ap₂, sym, ◌∙◌, subst, ℕ, ◌<◌, ◌≤◌, List, [], ◌∷◌, ◌++◌, length, slice_get, Some, length-append}
 use Rattle.std.proofs.Common.{arith}
 use Rattle.std.proofs.lemmas.List.{get_or_append_left}
@@ -20,7 +20,7 @@ use Rattle.rng_graph.proofs.ListParts.{at_end}
 
 module _ {K L : Type 0} (f g : K → L) where
   mutual
-    -- only what is said of the leaves matters
+    -- only the values of the leaves matter
     pub renamed_same : (a : Tree K) → ((k : K) → LeafIn k a → f k ≡ g k) → renamed f a ≡ renamed g a
     renamed_same not_allowed e = refl
     renamed_same empty e = refl
@@ -62,7 +62,7 @@ below_more : (ds more_ds : List Definition) (ls more_ls : List Leaf) (p : Spot) 
 below_more ds more_ds ls more_ls (at_element k) h = omega (arith, length-append ls more_ls)
 below_more ds more_ds ls more_ls (at_definition j) h = omega (arith, length-append ds more_ds)
 
--- what is resolved stays so
+-- what is resolved stays resolved
 pub resolved_more : (s : Schema) (ds more_ds : List Definition) (ls more_ls : List Leaf) {x : Place} {a : Tree Point} {r : Tree Spot}
     → IsResolved s ds ls x a r → IsResolved s (ds ++ more_ds) (ls ++ more_ls) x a r
 resolved_more s ds more_ds ls more_ls {r = r} e = record {
@@ -151,7 +151,7 @@ module _ (s : Schema) (ds : List Definition) (ls : List Leaf) (g : Graph) (is : 
         elements_apart = brings.elements_apart;
       }
 
--- when all that is numbered has a body
+-- when everything that is numbered has a body
 pub whole_graph : (s : Schema) (ds : List Definition) (ls : List Leaf) (g : Graph) → IsPartOf s ds ls g → length ds ≤ length g.bodies
     → length ls ≤ length g.contents → IsGraphOf s ds ls g
 whole_graph s ds ls g is h k = record {

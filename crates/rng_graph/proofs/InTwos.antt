@@ -1,4 +1,4 @@
--- The rules of 4.12 to 4.15 lead each tree to itself in twos, and to no other.
+-- The rules of 4.12 to 4.15 lead each tree to its form in twos, and to no other.
 use Rattle.std.proofs.Common.{◌≡◌, ◌↔◌, subst, refl, ap, ◌∙◌, sym}
 use Rattle.rng_model.specs.names.Names.{NameClass}
 use Rattle.rng_model.specs.simple.Tree.{Datatype, Connector, choice, interleave}
@@ -14,7 +14,7 @@ use Rattle.rng_graph.specs.plain.InTwos.{nested, in_twos, more_in_twos}
 use Rattle.rng_graph.proofs.SimpleClass.{class_keeps, class_unchanged, class_normal, class_reached}
 
 module _ {L : Type 0} where
-  -- no rule of the group leads on
+  -- no rule of the group applies
   abbrev IsLastTree : Tree L → Type 0
   IsLastTree a = (b : Tree L) → Step rewriting a b → ⊥
 
@@ -46,7 +46,7 @@ module _ {L : Type 0} where
   steps_keep step.no_step = refl
   steps_keep (step.step_and s d) = step_keeps s ∙ steps_keep d
 
-  -- ---- a tree in the simple syntax in which no rule applies is its own
+  -- ---- a tree in the simple syntax in which no rule applies is unchanged
 
   unchanged : (p : Simple L) → IsLastTree (as_tree p) → in_twos (as_tree p) ≡ p
   unchanged s_not_allowed n = refl
@@ -161,7 +161,7 @@ module _ {L : Type 0} where
         (after (inside (λ x. joined k (joined k (as_tree p) (as_tree q) no_trees) x ts) (λ x y s. step.in_second s) (reached a))
         (more_reached ts k (s_joined k p q) (in_twos a)))
 
-  -- ---- so what 4.12 to 4.15 lead to is the tree in twos
+  -- ---- so 4.12 to 4.15 lead to the tree in twos
 
   pub is_rewritten : (a : Tree L) → IsRewritten a (as_tree (in_twos a))
   is_rewritten a = record { reached = reached a; last = last a }

@@ -1,4 +1,4 @@
--- What numbers say of the schema: S16 by an order or a loop, and S17 by a table of depths.
+-- What numbers mean for the schema: S16 by an order or a loop, and S17 by a table of depths.
 use Rattle.std.proofs.Common.{◌≡◌, ◌↔◌, sym, subst, ℕ, ◌<◌, List, length, map, slice_get, Some, Contains, All, arith}
 use Rattle.std.proofs.lemmas.Option.{slice_get_within, get_or_from_slice_get}
 use Rattle.std.proofs.lemmas.List.{length-map}
@@ -24,7 +24,7 @@ use Rattle.rng_graph.proofs.ListParts.{map_at}
 -- ---- S16
 
 module _ (s : Schema) (ds : List Definition) (ls : List Leaf) (g : Graph) (is : IsGraphOf s ds ls g) where
-  -- it is broken where a number leads to itself
+  -- it is broken if a number leads to itself
   pub loop_breaks_expansion : (j : ℕ) → j < length ds → LeadsBy (Mentions g) j j → BreaksExpansion s
   loop_breaks_expansion j h w =
       let d = found ds j h in
@@ -52,7 +52,7 @@ module _ (s : Schema) (ds : List Definition) (ls : List Leaf) (g : Graph) (is : 
     pub order_covers : Covers s (Contains definitions)
     order_covers w m = settled_in_order w (covers s ds ls g is w m)
 
-    -- it is kept where an order has all numbers
+    -- it is kept if an order has all numbers
     pub order_keeps_expansion : KeepsExpansion s
     order_keeps_expansion = keeps s order_is order_covers
 

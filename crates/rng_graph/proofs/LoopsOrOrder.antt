@@ -1,5 +1,5 @@
--- S16 by an order of the definitions: those of the order have a tree each, those of a rest that is stuck have none; and
--- what is met from the start is what the clause speaks of.
+-- S16 by an order of the definitions: those of the order have one tree each, and those of a stuck rest have none. What
+-- is met from the start is what the clause is about.
 use Rattle.std.proofs.Common.{◌≡◌, refl, sym, subst, Some, ◌⊎◌, inl, inr, List, [], Contains, arith}
 use Rattle.std.proofs.lemmas.List.Elements.{Contains-push_cases}
 use Rattle.rng_model.specs.simple.Tree.{Tree, leaf}
@@ -34,7 +34,7 @@ module _ (s : Schema) where
   settled_tree P trees (to_definition d) e k = let t = trees d k in (t.0, u.found e t.1.1 t.1.2)
   settled_tree P trees to_nothing e k = absurd k
 
-  -- a pattern of which each point is an element or a definition with a tree has a tree
+  -- a pattern has a tree if each of its points is an element or a definition with a tree
   settled_body : (P : Definition → Type 0) → ((d : Definition) → P d → (t : Tree Leaf) × IsTreeOf s d t) → (x : Place) (a : Tree Point)
       → ((l : Point) → LeafIn l a → IsSettled P (aim s x l)) → HasTree s x a
   settled_body P trees x a k = sure (tree_or s x ⊥ a (λ l i. inl (settled_tree P trees (aim s x l) refl (k l i))))
@@ -59,7 +59,7 @@ module _ (s : Schema) where
   reached_is_met (from_start t i) = inside s (Met s) (λ d a l m b j. met_point m b j) t.2 (λ l j. met_in_definition (met_start refl) t.1 j refl) i
   reached_is_met (from_element r t i) = inside s (Met s) (λ d a l m b j. met_point m b j) t (λ l j. met_in_element (reached_is_met r) j refl) i
 
-  -- ---- what is met is reached, as far as the trees that are wanted are there
+  -- ---- what is met is reached, as far as the needed trees exist
 
   abbrev Stands : Aim → Type 0
   Stands (to_element m) = IsReachedByTrees s m
@@ -98,7 +98,7 @@ module _ (s : Schema) where
   abbrev pub Covers : (Definition → Type 0) → Type 0
   Covers P = (w : Aim) → Met s w → IsSettled P w
 
-  -- where an order covers all that is met, the clause is kept
+  -- if an order covers everything that is met, the clause is kept
   pub keeps : {ds : List Definition} → IsOrder s ds → Covers (Contains ds) → KeepsExpansion s
   keeps {ds} o all = record {
     start = order_trees o (main_start s) (all (to_definition (main_start s)) (met_start refl));
@@ -112,7 +112,7 @@ module _ (s : Schema) where
   pub met_has_tree : KeepsExpansion s → (d : Definition) → Met s (to_definition d) → (t : Tree Leaf) × IsTreeOf s d t
   met_has_tree k d m = let w = sure (stands ⊥ (inl k.start) (λ n r w. inl (k.bodies n r)) m) in (w.0, w.1)
 
-  -- where one of a stuck rest is met, it is broken
+  -- if a member of a stuck rest is met, the clause is broken
   module _ {ds : List Definition} (Rest : Definition → Type 0) (split : IsSplit s ds Rest) where
     tree_or_rest : (d : Definition) → Contains ds d ⊎ Rest d → ((t : Tree Leaf) × IsTreeOf s d t) ⊎ Rest d
     tree_or_rest d (inl c) = inl (order_trees split.order d c)
@@ -154,7 +154,7 @@ module _ (s : Schema) where
   then_mentions (directly b i e) g = further b i e g
   then_mentions (further b i e f) g = further b i e (then_mentions f g)
 
-  -- what leads to a definition that leads to itself
+  -- the definitions that lead to a definition that leads to itself
   pub leading_is_stuck : (c : Definition) → Leads s c c → IsStuck s (λ d. Leads s d c)
   leading_is_stuck c loop d (directly {e = e} {l = l} b i f) a g =
       record { point = l; definition = e; there = subst (LeafIn l) (some_is b g) i; aimed = f; holds = loop }

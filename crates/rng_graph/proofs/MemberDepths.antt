@@ -1,4 +1,4 @@
--- Depths member by member are the depths of the nested forms.
+-- Depths member by member equal those of the nested forms.
 use Rattle.std.proofs.Common.{◌≡◌, refl, ap, ap₂, sym, ◌∙◌, ℕ, suc, ◌+◌, ◌<◌, max, List, [], ◌∷◌, length, map, drop, get_or, arith}
 use Rattle.std.proofs.Math.Seq.{drop-cons}
 use Rattle.rng_model.specs.names.Names.{NameClass, NameClasses, no_classes, class_and, one_of, classes_of, some_of}
@@ -52,7 +52,7 @@ module _ {P : Type 0} (g : P → ℕ) where
   depth_of_combined k [] = refl
   depth_of_combined k (a ∷ ts) = depth_of_nested k a ts
 
--- a pattern of the graph that is members about a connector
+-- a pattern of the graph whose members have a connector
 pub depth_seen : (g : Spot → ℕ) (k : Connector) (p : GraphPattern) (xs all : List GraphPattern) → graph_pattern_of p ≡ members k (map graph_pattern_of all)
     → xs ≡ all → members_depth (map (depth_with g) (map graph_pattern_of xs)) ≡ depth_with g (graph_pattern_of p)
 depth_seen g k p xs all e q =

@@ -1,4 +1,4 @@
--- What is listed as mentioned is what a pattern mentions.
+-- The listed mentions of a pattern are exactly its mentions.
 use Rattle.std.proofs.Common.{◌≡◌, ◌↔◌, inl, inr, refl, ap, sym, ◌∙◌, subst, ℕ, zero, suc, ◌+◌, ◌<◌, List, [], ◌∷◌, ◌++◌, length, map, drop, get_or, slice_get}
 use Rattle.std.proofs.Common.{slice_index_or, Some, Contains, append_assoc, append-nil, arith}
 use Rattle.std.proofs.Math.Seq.{drop-cons}
@@ -86,12 +86,12 @@ mutual
     | inr h ↦ at.in_later (there_among ts i h)
   ]
 
--- ---- so the lists of all bodies have what each mentions
+-- ---- so the lists of all bodies have exactly what each mentions
 
 list_at : (rs : List (Tree Spot)) (j : ℕ) (r : Tree Spot) → slice_get rs j ≡ Some r → slice_index_or (map mentioned rs) j [] ≡ mentioned r
 list_at rs j r e = get_or-map mentioned rs j r [] (slice_get_within rs j r e) ∙ ap mentioned (get_or_from_slice_get rs j r r e)
 
--- a list that is not there has nothing
+-- a number outside the list mentions nothing
 within : (xs : List (List ℕ)) (j i : ℕ) → Lists xs j i → j < length xs
 within [] j i c = absurd (no_more c)
 within (x ∷ xs) zero i c = omega arith
@@ -134,7 +134,7 @@ pub mentioned_combined : (k : Connector) (ts : List (Tree Spot)) → mentioned (
 mentioned_combined k [] = refl
 mentioned_combined k (a ∷ ts) = mentioned_nested k a ts
 
--- a pattern of the graph that is members about a connector
+-- a pattern of the graph whose members have a connector
 pub mentioned_seen : (k : Connector) (p : GraphPattern) (xs all : List GraphPattern) → graph_pattern_of p ≡ members k (map graph_pattern_of all)
     → xs ≡ all → all_mentioned (map graph_pattern_of xs) ≡ mentioned (graph_pattern_of p)
 mentioned_seen k p xs all e q =

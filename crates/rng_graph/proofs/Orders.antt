@@ -1,4 +1,4 @@
--- The first of an order are an order, and have what the next one mentions.
+-- The first numbers of an order are an order, and include what the next one mentions.
 use Rattle.std.proofs.Common.{◌≡◌, inl, inr, ap, sym, ◌∙◌, subst, ℕ, ◌<◌, List, [], ◌∷◌, length, take, get_or, Contains, length-append}
 use Rattle.std.proofs.Common.{arith}
 use Rattle.std.proofs.lemmas.Bool.{cases_lt}

@@ -73,7 +73,7 @@ module _ (s : Schema) where
     point_tree_among (at.in_this i) (u.more_are d es) = wider (λ m j. at.in_this j) (point_tree i d)
     point_tree_among (at.in_later i) (u.more_are d es) = wider (λ m j. at.in_later j) (point_tree_among i es)
 
--- what holds of the points, and goes on from a definition to the points of its body, holds of the leaves of the tree
+-- a property of the points that passes from a definition to the points of its body holds for the leaves of the tree
 module _ (s : Schema) (C : Aim → Type 0)
     (goes_on : (d : Definition) (a : Tree Point) (l : Point) → C (to_definition d) → body s d ≡ Some a → LeafIn l a → C (aim s d.place l)) where
   mutual

@@ -1,4 +1,4 @@
--- A schema is ready where its grammars are in their places, each with a start, and each ref finds its definition.
+-- A schema is ready if its grammars are in their places, each has a start, and each ref has a definition.
 use Rattle.std.proofs.Common.{◌≡◌, ◌⊎◌, inl, inr, refl, sym, ap, ◌∙◌, subst, arith, ℕ, ◌+◌, Bool, true, false, true≢false}
 use Rattle.std.proofs.Common.{if◌then◌else◌, List, [], ◌∷◌, Option, Some, None, Contains}
 use Rattle.std.proofs.lemmas.List.Elements.{Contains-append_cases, Contains-append_right, Contains-push_cases}
@@ -61,7 +61,7 @@ mutual
   points_written k n (pattern_and p ps) (at.in_this i) = in_this (point_written (k ∷ n) p i)
   points_written k n (pattern_and p ps) (at.in_later i) = in_later (points_written (k + 1) n ps i)
 
--- what is written in a pattern is written in what has that pattern written in it
+-- being written in a pattern is transitive
 mutual
   written_through : {o p q : Pattern} → IsWrittenIn o p → IsWrittenIn p q → IsWrittenIn o q
   written_through w itself = w
@@ -88,7 +88,7 @@ mutual
 abbrev HasNamed : Option (List ℕ) → List Component → Type 0
 HasNamed y cs = (c : Component) × Among c cs × (c.name ≡ y)
 
--- none of them has it
+-- none of them has the name
 abbrev HasNoneNamed : Option (List ℕ) → List Component → Type 0
 HasNoneNamed y cs = (c : Component) → Among c cs → ¬ (c.name ≡ y)
 
@@ -121,9 +121,9 @@ named_or_not s x y = by_grammar (s.components x) refl
       | inr none ↦ inr (λ h. none h.0 (subst (Among h.0) (some_is h.1.there e) h.1.among) h.2)
     ]
 
--- ---- a definition has a body where some component has its name
+-- ---- a definition has a body if some component has its name
 
--- the list has a first
+-- the list is not empty
 abbrev HasFirst : List (Tree Point) → Type 0
 HasFirst us = (t : Tree Point) × (ts : List (Tree Point)) × (us ≡ t ∷ ts)
 
@@ -149,7 +149,7 @@ named_body s d h =
 
 -- ---- the points of a body are written in its components
 
--- some of them has the point written in it
+-- the point is written in one of them
 abbrev IsPointOf : Point → List Component → Type 0
 IsPointOf l cs = (c : Component) × Among c cs × IsWrittenIn (as_written l) c.pattern
 
@@ -191,9 +191,9 @@ point_of_body s d a l e i = at_components (s.components d.place) refl e
         let p = point_of_trees l d.name 0 cs t.0 t.1 t.2 in
         record { component = p.0; there = record { components = cs; there = f; among = p.1 }; written = p.2 }
 
--- ---- what is met is there
+-- ---- what is met exists
 
--- an element is written at its place, a definition has a component
+-- an element is written at its place, and a definition has a component
 abbrev IsThere : Schema → Aim → Type 0
 IsThere s (to_element m) = IsWrittenAt s m.place (element m.class m.content)
 IsThere s (to_definition d) = IsNamedAt s d.place d.name
@@ -235,7 +235,7 @@ module _ (s : Schema) (placed : IsWellPlaced s) (starts : ¬ (HasNoStart s)) (re
   met_there (met_in_definition {d} {a} {l} m b i e) = subst (IsThere s) (sym e) (point_there d.place l (point_of_body s d a l b i))
   met_there (met_in_element {m} {l} k i e) = subst (IsThere s) (sym e) (point_there m.place l (in_content m l (met_there k) i))
 
--- all that a schema mentions is found where it breaks neither S14 nor S15
+-- everything that a schema mentions is found if it breaks neither S14 nor S15
 pub ready : (s : Schema) → IsWellPlaced s → ¬ (HasNoStart s) → ¬ (BreaksRef s) → IsReady s
 ready s placed starts refs = record {
   found = met_there s placed starts refs;

@@ -1,4 +1,4 @@
--- Depths of trees with renamed leaves: only what is said of the leaves matters.
+-- Depths of trees with renamed leaves: only the values of the leaves matter.
 use Rattle.std.proofs.Common.{◌≡◌, refl, ap, ap₂, ℕ, max}
 use Rattle.rng_model.specs.simple.Tree.{Tree, not_allowed, empty, text, leaf, attribute, list, data_of, data_except, value, mixed}
 use Rattle.rng_model.specs.simple.Tree.{optional, zero_or_more, one_or_more, joined, Trees, no_trees, tree_and}
@@ -10,7 +10,7 @@ use Rattle.rng_graph.specs.plain.DepthWith.{cut_off, one_more, depth_with, deepe
 
 module _ {K L : Type 0} (f : K → L) (h : L → ℕ) (g : K → ℕ) where
   mutual
-    -- the leaves of the first, renamed, have what those of the second have
+    -- the renamed leaves of the first tree have the values of the leaves of the second
     pub depth_same : (a : Tree K) → ((k : K) → LeafIn k a → h (f k) ≡ g k) → depth_with h (renamed f a) ≡ depth_with g a
     depth_same not_allowed e = refl
     depth_same empty e = refl

@@ -27,7 +27,7 @@ none_is_not_some e = cc
 pub cons_is_not_nil : {A : Type 0} {x : A} {xs : List A} → x ∷ xs ≡ [] → ⊥
 cons_is_not_nil e = cc
 
--- equal lists nested alike
+-- equal lists are nested alike
 abbrev nested_or : {L : Type 0} → Connector → Tree L → List (Tree L) → Tree L
 nested_or k a [] = a
 nested_or k a (b ∷ ts) = nested_from k b ts
@@ -57,7 +57,7 @@ module _ {K : Type 0} (k : Connector) where
     | inr h ↦ in_later (joined k a d no_trees) b ts h i
   ]
 
-  -- a leaf of the nested tree is one of the first, or of another
+  -- a leaf of the nested tree is a leaf of the first tree or of another
   pub from_nested : {l : K} (a : Tree K) (ts : List (Tree K)) → LeafIn l (nested_from k a ts) → LeafIn l a ⊎ ((b : Tree K) × Contains ts b × LeafIn l b)
   from_nested a [] i = inl i
   from_nested a (b ∷ ts) i = elim (from_nested (joined k a b no_trees) ts i) [
@@ -69,7 +69,7 @@ module _ {K : Type 0} (k : Connector) where
 
 -- ---- the components of a name, one after another
 
--- these trees are resolved, from what had a number before
+-- these trees are resolved, starting with this numbering
 pub record AreEachAfter (s : Schema) (x : Place) (ls : List Leaf) (v : Numbering) (ts : List (Tree Point)) (ks : List Leaf) (r : List (Tree Spot) × Numbering)
     : Type 0 where
   pub more : IsMore ls v ks r.1

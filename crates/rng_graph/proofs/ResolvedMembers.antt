@@ -39,7 +39,7 @@ module _ (x : Place) (outer : Option Place) where
   members_resolved group (p ∷ (q ∷ ps)) v = joined_as_each group p q ps v
   members_resolved interleave (p ∷ (q ∷ ps)) v = joined_as_each interleave p q ps v
 
--- the loop over these patterns: with these and this numbering so far the rest gives what all give
+-- the invariant of the loop over these patterns: resolving the rest after this numbering gives what all of them give
 pub record AreResolved (x : Place) (outer : Option Place) (all : List Pattern) (before : Numbering) (rest : List Pattern) (so_far : List (Tree Spot))
     (now : Numbering) : Type 0 where
   pub patterns : (resolve_each x outer all before).0 ≡ so_far ++ (resolve_each x outer rest now).0
@@ -76,7 +76,7 @@ module _ {x : Place} {outer : Option Place} {all : List Pattern} {before : Numbe
   unfolding resolve_each
   all_numbered view es i so_far now end r = sym (r.numbering ∙ ap (λ es. (resolve_each x outer (map view es) now).1) (drop_all i es end))
 
--- whether some of a list has a test: the first of them, or one of the others
+-- whether some member of a list has a property: the first one, or one of the others
 pub next_any : {A E : Type 0} (test : A → Bool) (view : E → A) (es : List E) (i : ℕ) (e : E) → i < length es → e ≡ get_or es i e
     → list_any test (map view (drop i es)) ≡ test (view e) || list_any test (map view (drop (i + 1) es))
 next_any test view es i e inside is =

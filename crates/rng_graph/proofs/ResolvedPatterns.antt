@@ -1,4 +1,4 @@
--- What is resolved is the pattern with numbers at its points, and what has a number is met.
+-- A resolved pattern is the pattern with numbers at its points, and what is numbered is met.
 use Rattle.std.proofs.Common.{◌≡◌, inl, inr, refl, ap, ap₂, sym, ◌∙◌, subst, arith, ℕ, suc, ◌+◌, Bool, true, false, true≢false, ◌&&◌, ◌||◌, List, [], ◌∷◌}
 use Rattle.std.proofs.Common.{◌++◌, append_assoc, length, length-append, slice_get, Option, Some, None, if◌then◌else◌, Contains}
 use Rattle.std.specs.List.{list_any}
@@ -61,7 +61,7 @@ one_more_apart ds d apart n i j x y e f q = elim (at_end ds d x i e) [
   ]
 ]
 
--- a definition that is there stands at its number, one that is not gets the next
+-- a definition that is there has its number, and one that is not gets the next number
 pub data IsAsked (d : Definition) (ds : List Definition) : Type 0 where
   is_there : list_any (same_definition d) ds ≡ true → slice_get ds (number_of ds d) ≡ Some d → IsAsked d ds
   is_new : list_any (same_definition d) ds ≡ false → number_of ds d ≡ length ds → ((e : Definition) → Contains ds e → same_definition d e ≡ true → ⊥)
@@ -96,7 +96,7 @@ asked d (e ∷ es) = either_way (same_definition d e) refl (asked d es)
     either_way true h a = asked_first d e es h
     either_way false h a = asked_later d e es h a
 
--- once it is asked for, it is there, all others stay, and none stands twice
+-- once it is looked up it is there, all others stay, and there are no duplicates
 pub record IsThere (d : Definition) (ds new : List Definition) : Type 0 where
   pub more : List Definition
   pub is : new ≡ ds ++ more
@@ -124,9 +124,10 @@ asked_for d ds = elim (asked d ds) [
       }
 ]
 
--- ---- what has a number
+-- ---- numberings
 
--- these elements have numbers, in this order: each has its class, and its body with numbers at the points; all that has a number is met
+-- These elements are numbered in this order: each has its class, and its body with numbers at the points. Everything
+-- that is numbered is met.
 pub record IsNumbering (s : Schema) (ls : List Leaf) (v : Numbering) : Type 0 where
   pub count : length v.elements ≡ length ls
   pub each : (k : ℕ) (m : Leaf) (e : NameClass × Tree Spot) → slice_get ls k ≡ Some m → slice_get v.elements k ≡ Some e
@@ -135,7 +136,7 @@ pub record IsNumbering (s : Schema) (ls : List Leaf) (v : Numbering) : Type 0 wh
   pub met_elements : (m : Leaf) → Contains ls m → Met s (to_element m)
   pub apart : ArePairwiseApart same_definition v.definitions
 
--- more has a number, and what had one has it still
+-- more is numbered, and earlier numbers are kept
 pub record IsMore (ls : List Leaf) (v : Numbering) (ls' : List Leaf) (v' : Numbering) : Type 0 where
   pub more : List Definition
   pub definitions : v'.definitions ≡ v.definitions ++ more
@@ -153,14 +154,14 @@ more_and {ls} {ks} {js} {v} {w} {u} m n = record {
   leaves = n.leaves ∙ ap (λ es. es ++ n.others) m.leaves ∙ append_assoc ls m.others n.others;
 }
 
--- what is resolved stays so
+-- what is resolved stays resolved
 pub stays : {s : Schema} {ls ks : List Leaf} {v w : Numbering} {x : Place} {a : Tree Point} {r : Tree Spot} → IsMore ls v ks w
     → IsResolved s v.definitions ls x a r → IsResolved s w.definitions ks x a r
 stays {s} {ls} {ks} {v} {w} {x} {a} {r} m e =
     subst (λ ds. IsResolved s ds ks x a r) (sym m.definitions) (subst (λ es. IsResolved s (v.definitions ++ m.more) es x a r) (sym m.leaves)
     (resolved_more s v.definitions m.more ls m.others e))
 
--- the pattern at a place is resolved, from what had a number before
+-- the pattern at a place is resolved, starting with this numbering
 pub record IsAfter (s : Schema) (x : Place) (ls : List Leaf) (v : Numbering) (a : Tree Point) (ks : List Leaf) (r : Resolved) : Type 0 where
   pub more : IsMore ls v ks r.1
   pub numbering : IsNumbering s ks r.1
@@ -234,7 +235,7 @@ module _ (s : Schema) (x : Place) where
     resolved = record { same = ap tree.one_or_more e.resolved.same; below = λ p i. elim i [ at.of_one_or_more j ↦ e.resolved.below p j ] };
   }
 
-  -- three parts, each after the one before
+  -- three parts, one after the other
   joined_after : {k : Connector} {ls ks js is : List Leaf} {v : Numbering} {a b : Tree Point} {ts : Trees Point} {r q : Resolved} {u : Trees Spot × Numbering}
       → IsAfter s x ls v a ks r → IsAfter s x ks r.1 b js q → AreAfter s x js q.1 ts is u
       → IsAfter s x ls v (tree.joined k a b ts) is (tree.joined k r.0 q.0 u.0, u.1)
@@ -293,7 +294,7 @@ module _ (s : Schema) (x : Place) where
         };
       }
 
-  -- an element, whose body was resolved
+  -- an element whose body is resolved
   element_after : (n : Position) (c : NameClass) (p : Pattern) {ls ks : List Leaf} {v : Numbering} {r : Resolved}
       → Met s (to_element (record { place = x; position = n; class = c; content = p })) → IsAfter s x ls v (pattern_tree (0 ∷ n) p) ks r
       → IsAfter s x ls v (pattern_tree n (pattern.element c p)) (ks ++ record { place = x; position = n; class = c; content = p } ∷ []) (with_element c r)

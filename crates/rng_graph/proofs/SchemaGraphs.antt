@@ -1,4 +1,4 @@
--- The graph of a schema as it is built.
+-- Building the graph of a schema.
 use Rattle.std.proofs.Common.{◌≡◌, refl, sym, ap, ap₂, ◌∙◌, subst, List, [], ◌∷◌, map, length, take, Option, Some, None, ℕ, ◌<◌, ◌≤◌, ◌++◌, inl, inr}
 use Rattle.std.proofs.Common.{slice_get, arith, Bor}
 use Rattle.std.proofs.lemmas.Bool.{cases_lt}
@@ -31,13 +31,13 @@ use Rattle.rng_graph.proofs.Graphs.{found}
 use Rattle.rng_graph.proofs.ListParts.{map_at}
 use Rattle.rng_graph.proofs.ResolvedBodies.{none_is_not_some}
 
--- the patterns of components, seen
+-- the patterns of components as they are viewed
 pub patterns_seen : (cs : List (Bor declared.Component))
     → map (λ c. (schema_component_of c.now).pattern) cs ≡ map (λ c. c.pattern) (map (λ c. schema_component_of c.now) cs)
 patterns_seen [] = refl
 patterns_seen (c ∷ cs) = ap (λ ps. (schema_component_of c.now).pattern ∷ ps) (patterns_seen cs)
 
--- what is combined of the components that were found is the body
+-- the combined components that are found are the body
 pub body_found : (s : Schema) (d : Definition) (v : Numbering) (outer : Option Place) (cs : List (Bor declared.Component)) → outer ≡ s.outer d.place
     → map (λ c. schema_component_of c.now) cs ≡ schema_components s d
     → let r = resolve_each d.place outer (map (λ c. (schema_component_of c.now).pattern) cs) v in
@@ -57,7 +57,7 @@ seen_second : (es : List GraphElement) → map (λ (e : NameClass
 seen_second [] = refl
 seen_second (e ∷ es) = ap (λ ps. graph_pattern_of e.content ∷ ps) (seen_second es)
 
--- all have a body
+-- all definitions have a body
 pub built : (s : Schema) → IsReady s → (n : numberings.Numbering) (bodies : List (Tree Spot)) → IsGraphSoFar s (numbering_of n) bodies
     → length (numbering_of n).definitions ≤ length bodies
     → (g : graphs.Graph) → map graph_body_of g.bodies.items ≡ bodies → g.elements.items ≡ n.elements.items → IsGraphOfSchema s g
@@ -91,7 +91,7 @@ step s ready n bodies d is e later b more body numbering grown =
     (sym all)
     (goes_on s ready (numbering_of n) (map graph_body_of bodies) (definition_of d) is here))
 
--- so there is room for it
+-- so there is capacity for it
 pub room : (s : Schema) → IsReady s → (t : Table) → IsTable t → ((d : Definition) → components_of t d ≡ schema_components s d) → (n : numberings.Numbering)
     (bodies : List GraphBody) (d : definitions.Definition) → IsGraphSoFar s (numbering_of n) (map graph_body_of bodies)
     → slice_get n.definitions.keys (length bodies) ≡ Some d → length bodies < length t.definitions
@@ -99,7 +99,7 @@ room s ready t table same n bodies d is e =
     let few = fewer s ready t table same (numbering_of n) (map graph_body_of bodies) is in
     omega (arith, slice_get_within n.definitions.keys (length bodies) d e, length-map n.definitions.keys definition_of, few)
 
--- nothing stands at the place: the list ends before it
+-- no member is at the index: the list ends before it
 pub ends_before : {A : Type 0} (xs : List A) (i : ℕ) → slice_get xs i ≡ None → length xs ≤ i
 ends_before xs i e = elim (cases_lt i (length xs)) [
   | inl h ↦ let f = found xs i h in absurd (none_is_not_some (sym e ∙ f.1))

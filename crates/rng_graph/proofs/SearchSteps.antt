@@ -1,4 +1,4 @@
--- What each task of a search comes to.
+-- The result of each task of a search.
 use Rattle.std.proofs.Common.{◌≡◌, refl, ap, sym, ◌∙◌, subst, ℕ, ◌+◌, ◌<◌, List, [], ◌∷◌, ◌++◌, length, map, set, slice_get, slice_index_or, Option}
 use Rattle.std.proofs.Common.{Some, None, length-append, arith}
 use Rattle.std.proofs.lemmas.List.{length-map}

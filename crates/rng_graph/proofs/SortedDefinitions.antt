@@ -1,5 +1,5 @@
--- Finitely many definitions that are closed under mentions split into an order and a rest that is stuck. So S16 is broken as
--- soon as one definition that is met leads to itself, however that was found.
+-- Finitely many definitions that are closed under mentions split into an order and a stuck rest. So S16 is broken as
+-- soon as one definition that is met leads to itself, however it was found.
 use Rattle.std.proofs.Common.{zero, suc, ◌≡◌, ◌⊎◌, inl, inr, refl, ap, sym, subst, ℕ, ◌+◌, ◌≤◌, List, [], ◌∷◌, ◌++◌, length, Some, Contains, length-append}
 use Rattle.std.proofs.Common.{arith}
 use Rattle.std.proofs.lemmas.List.Elements.{Contains-append_left, Contains-append_right, Contains-append_cases, Contains-push, Contains-push_cases}
@@ -17,7 +17,7 @@ use Rattle.rng_graph.proofs.OrderAndRest.{IsSplit}
 use Rattle.rng_graph.proofs.PatternPoints.{mapped, bound}
 use Rattle.rng_graph.proofs.LoopsOrOrder.{no_more, Covers, order_trees, breaks, leading_is_stuck}
 
--- either all leaves have one thing, or one has the other
+-- either all leaves have one property, or one leaf has the other
 module _ {L : Type 0} (P : L → Type 0) (Q : Type 0) where
   only : (m : L) → P m → (l : L) → LeafIn l (leaf m) → P l
   only m p l at.here = p
@@ -48,7 +48,7 @@ module _ {L : Type 0} (P : L → Type 0) (Q : Type 0) where
         bound (λ p. mapped (λ r l i. elim i [ at.in_this j ↦ p l j | at.in_later j ↦ r l j ]) (among_or ts (λ l i. f l (at.in_later i))))
         (leaves_or a (λ l i. f l (at.in_this i)))
 
--- a list taken apart at one of its elements
+-- a list split at one of its members
 pub record Taken {A : Type 0} (xs : List A) (P : A → Type 0) : Type 0 where
   pub front : List A
   pub taken : A
@@ -66,7 +66,7 @@ module _ {A : Type 0} where
   taken_later : {P : A → Type 0} (x : A) (xs : List A) → Taken xs P → Taken (x ∷ xs) P
   taken_later x xs t = record { front = x ∷ t.front; taken = t.taken; back = t.back; parts = ap (λ ys. x ∷ ys) t.parts; holds = t.holds }
 
-  -- some element has one thing, or all have the other
+  -- some member has one property, or all have the other
   take_or : (P Q : A → Type 0) (xs : List A) → ((x : A) → Contains xs x → P x ⊎ Q x) → Taken xs P ⊎ ((x : A) → Contains xs x → Q x)
   take_or P Q [] f = inr (λ x c. absurd (no_more c))
   take_or P Q (x ∷ xs) f = elim (f x (0, omega arith, refl)) [
@@ -166,7 +166,7 @@ module _ (s : Schema) (ds : List Definition) (has_body : (d : Definition) → Co
   pub split : Covers s (Contains ds) → IsSplit s whole.done (Contains whole.todo)
   split all = record { order = whole.sorted.order; stuck = whole.stuck; all = λ w m. wider w (all w m) }
 
-  -- S16 is broken where a definition is met that leads to itself
+  -- S16 is broken if a definition is met that leads to itself
   pub loop_breaks : Covers s (Contains ds) → (c : Definition) → Met s (to_definition c) → Leads s c c → BreaksExpansion s
   loop_breaks all c m loop = elim (whole.sorted.all c (all (to_definition c) m)) [
     | inl h ↦ let t = order_trees s whole.sorted.order c h in absurd (none_of_stuck s (λ d. Leads s d c) (leading_is_stuck s c loop) c loop t.0 t.1)

@@ -1,4 +1,4 @@
--- A table that is filled by numbers along an order: one more entry keeps what the earlier ones say.
+-- A table that is filled by numbers along an order: one more entry does not change earlier values.
 use Rattle.std.proofs.Common.{◌≡◌, inl, inr, refl, ap, sym, ◌∙◌, subst, ℕ, List, [], ◌∷◌, ◌++◌, slice_get, Some, Contains}
 use Rattle.std.proofs.lemmas.Bool.{cases_eq}
 use Rattle.std.proofs.lemmas.List.Elements.{Contains-append_left, Contains-push_cases}
@@ -10,7 +10,7 @@ use Rattle.rng_model.proofs.Unfolding.{some_is}
 use Rattle.rng_graph.proofs.LoopsOrOrder.{no_more}
 use Rattle.rng_graph.proofs.RenamedLeaves.{depth_same}
 
--- what one of an order mentions is in it
+-- what a member of an order mentions is in the order
 pub order_closed : {A : Type 0} (M : A → A → Type 0) {xs : List A} → IsOrderBy M xs → (x y : A) → Contains xs x → M x y → Contains xs y
 order_closed M no_numbers x y c m = absurd (no_more c)
 order_closed M (and_number {xs = xs} {ys = ys} z o f e) x y c m =
@@ -19,7 +19,7 @@ order_closed M (and_number {xs = xs} {ys = ys} z o f e) x y c m =
       | inr h ↦ f y (subst (λ w. M w y) (sym h) m)
     ]))
 
--- only the entries of what a body mentions matter
+-- only the entries of mentioned numbers matter
 abbrev pub ReadsMentions : {A : Type 0} → ((ℕ → A) → Tree Spot → A) → Type 0
 ReadsMentions {A} of_body = (v w : ℕ → A) (r : Tree Spot) → ((i : ℕ) → LeafIn (at_definition i) r → v i ≡ w i) → of_body v r ≡ of_body w r
 

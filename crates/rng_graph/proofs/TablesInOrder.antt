@@ -1,4 +1,4 @@
--- A table that is filled in an order in which each definition comes after those that it mentions is right throughout.
+-- A table that is filled in an order in which each definition comes after those that it mentions is right everywhere.
 use Rattle.std.proofs.Common.{◌≡◌, ap, ◌∙◌, sym, subst, ◌⊎◌, inl, inr, List, Contains}
 use Rattle.std.proofs.lemmas.List.Elements.{Contains-push, Contains-push_cases, Contains-append_left}
 use Rattle.rng_model.specs.simple.Tree.{Tree, leaf}
@@ -22,7 +22,7 @@ module _ (A : Type 0) (s : Schema) (of_tree : Tree Leaf → A) (one : Leaf → A
   module _ (of_body : Place → Tree Point → A)
       (body_is : (x : Place) (a : Tree Point) (t : Tree Leaf) → Unfolds s x a t
       → ((l : Point) (v : Tree Leaf) → LeafIn l a → Unfolds s x (leaf l) v → of_aim one other table (aim s x l) ≡ of_tree v) → of_body x a ≡ of_tree t) where
-    -- a body whose mentioned definitions the table has right
+    -- a body is right if the table is right for the definitions that it mentions
     pub body_right : (P : Definition → Type 0) → ((d : Definition) → P d → IsRight s of_tree table d) → (x : Place) (a : Tree Point)
         → ((l : Point) → LeafIn l a → IsSettled P (aim s x l)) → (t : Tree Leaf) → Unfolds s x a t → of_body x a ≡ of_tree t
     body_right P right x a k t d = body_is x a t d (λ l v i e. point_is e (λ c f. right c (subst (IsSettled P) f (k l i))))

@@ -1,4 +1,4 @@
--- The table of depths is right; and S17 by the table of depths, where S16 is kept, both directions.
+-- The table of depths is right; and S17 by the table of depths if S16 is kept, in both directions.
 use Rattle.std.proofs.Common.{◌≡◌, ◌↔◌, refl, ap, subst, ℕ, ◌<◌, List, Contains, arith}
 use Rattle.rng_model.specs.simple.Tree.{Tree}
 use Rattle.rng_model.specs.schema.Patterns.{Place, Point}

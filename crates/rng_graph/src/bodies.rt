@@ -54,7 +54,7 @@ impl<'a> Scope<'a> {
     }
 }
 
-/// Whether one of the components has `&=`.
+/// Whether the method of one of the components is `&=`.
 fn are_interleaved(components: &[&Component]) -> bool
     ensures { result ≡ list_any (λ c. is_interleaved c.method) (map (λ c. schema_component_of c.now) components.now) }
 {
@@ -66,7 +66,7 @@ fn are_interleaved(components: &[&Component]) -> bool
     false
 }
 
-/// Whether it is `&=`.
+/// Whether the method is `&=`.
 fn is_interleaved(method: Method) -> bool
     ensures { result ≡ is_interleaved method }
 {

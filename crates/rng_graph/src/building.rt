@@ -19,9 +19,10 @@ use rng_load::Schema;
 use rng_model::{OutOfMemory, Place};
 use std::alloc::Global;
 
-/// The graph of a schema whose grammars have starts, and whose refs have definitions: the definitions and the elements that are met from its start, by number.
+/// Builds the graph of a schema: the definitions and the elements that are met from its start, by number.
 ///
-/// The only fault is want of memory. Linear in the schema, but for hashing; recurses as deep as a pattern nests.
+/// The grammars of the schema must have starts, and its refs must have definitions. Fails only when out of memory.
+/// Takes linear time, apart from hash collisions. Recurses as deep as a pattern nests.
 ///
 /// RELAX NG Specification, sections 4.17 to 4.19.
 pub fn schema_graph<'a>(alloc: Global, schema: &'a Schema) -> Result<Graph<'a>, OutOfMemory>
@@ -44,7 +45,7 @@ pub fn schema_graph<'a>(alloc: Global, schema: &'a Schema) -> Result<Graph<'a>, 
     })
 }
 
-/// The start has the number 0. There is room for so many definitions.
+/// A numbering in which the start has the number 0, with capacity for `definitions` definitions.
 fn started<'a>(
     alloc: Global,
     main: &'a Place,

@@ -18,12 +18,12 @@ use std::alloc::Global;
 #[derive(Drop)]
 pub(crate) struct ComponentTable<'a> {
     definitions: IndexSet<Definition<'a>>,
-    /// For each of the definitions its components, in order.
+    /// The components of each definition, in order.
     components: Vec<Vec<&'a Component>>,
 }
 
 impl<'a> ComponentTable<'a> {
-    /// That of a schema. Linear, but for hashing.
+    /// Builds the table of a schema. Takes linear time, apart from hash collisions.
     pub(crate) fn of_schema(alloc: Global, schema: &'a Schema) -> Result<Self, OutOfMemory>
         ensures table { IfOk result (λ t. IsTable (table_of t)) }
         ensures components { IfOk result (λ t. (d : schemas.Definition) → components_of (table_of t) d ≡ schema_components (schema_of schema.now) d) }
@@ -40,12 +40,12 @@ impl<'a> ComponentTable<'a> {
         Ok(table)
     }
 
-    /// How many definitions have components. Takes no memory.
+    /// Returns the number of definitions with components. Allocates nothing.
     pub(crate) fn len(&self) -> usize {
         self.definitions.len()
     }
 
-    /// Adds those of the grammar at a place.
+    /// Adds the components of the grammar at a place.
     fn add_grammar(
         &mut self,
         alloc: Global,
@@ -81,7 +81,7 @@ impl<'a> ComponentTable<'a> {
         Ok(())
     }
 
-    /// The number of a definition, which gets an empty list when it is first asked for.
+    /// Returns the number of a definition. A new definition gets the next number and an empty list.
     fn number(&mut self, alloc: Global, definition: Definition<'a>) -> Result<usize, OutOfMemory>
         requires { IsTable (table_of self.old) }
         ensures table { OnOk result (IsTable (table_of self.new)) }
@@ -96,7 +96,7 @@ impl<'a> ComponentTable<'a> {
         Ok(number)
     }
 
-    /// Those of a definition, in order.
+    /// Returns the components of a definition, in order.
     pub(crate) fn components(&self, definition: Definition<'a>) -> &[&'a Component]
         requires { IsTable (table_of self.now) }
         ensures { map (λ c. schema_component_of c.now) result.now ≡ components_of (table_of self.now) (definition_of definition.entry) }

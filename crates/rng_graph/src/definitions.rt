@@ -8,21 +8,21 @@ use crate::graph::GraphElement;
 use indexmap::IndexSet;
 use rng_model::{OutOfMemory, Place};
 
-/// What is looked up: a name of the grammar at a place, or its start.
+/// A definition: a name of the grammar at a place, or the start of that grammar.
 #[derive(Clone, Copy, PartialEq, Eq, Hash)]
 pub(crate) struct Definition<'a> {
     pub place: &'a Place,
     pub name: Option<&'a str>,
 }
 
-/// What has a number: definitions that were met, and elements whose bodies are done.
+/// What is numbered: the definitions that are met, and the elements whose bodies are done.
 #[derive(Drop)]
 pub(crate) struct Numbering<'a> {
     pub definitions: IndexSet<Definition<'a>>,
     pub elements: Vec<GraphElement<'a>>,
 }
 
-/// The number of a definition, which it gets when it is first asked for.
+/// Returns the number of a definition. A new definition gets the next number.
 pub(crate) fn number<'a>(
     definitions: &mut IndexSet<Definition<'a>>,
     definition: Definition<'a>,

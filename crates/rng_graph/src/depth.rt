@@ -1,4 +1,4 @@
-// How deep patterns and name classes are with their members nested in twos, cut off one past the limit.
+// Depths of patterns and name classes whose members are nested in twos. Depths stop at the limit plus one.
 ghost use Rattle.std.specs.Prelude.{◌≡◌, map};
 ghost use Rattle.rng_model.specs.names.Names.{some_of};
 ghost use Rattle.rng_model.specs.schema.Depth.{class_depth as depth_of_class};
@@ -11,10 +11,10 @@ ghost use Rattle.rng_graph.specs.plain.MemberDepths.{members_depth, depth_in, de
 use crate::graph::{GraphBody, GraphPattern};
 use rng_model::NameClass;
 
-/// How deep a tree may be.
+/// The largest depth of a tree.
 pub const DEPTH_LIMIT: u32 = 1000;
 
-/// One more than this depth.
+/// This depth plus one, but at most the limit plus one.
 pub fn one_more(depth: u32) -> u32
     ensures { result ≡ one_more depth }
 {
@@ -25,7 +25,7 @@ pub fn one_more(depth: u32) -> u32
     }
 }
 
-/// The depth of a name class whose members are nested in twos from the left, without making the nested class.
+/// The depth of a name class whose members are nested in twos from the left. Does not build the nested class.
 #[cycle(classes)]
 pub fn class_depth(class: &NameClass) -> u32
     ensures { result ≡ cut_off (depth_of_class (nested (class_of class.now))) }
@@ -39,7 +39,7 @@ pub fn class_depth(class: &NameClass) -> u32
     }
 }
 
-/// The depth of a choice of these members. One of no members is everything but everything.
+/// The depth of a choice of these members. A choice of no members is everything except everything.
 #[cycle(classes)]
 #[tactic(auto, using(crate::proofs::MemberDepths::choice_depth))]
 fn choice_depth(members: &[NameClass]) -> u32
@@ -55,7 +55,7 @@ fn choice_depth(members: &[NameClass]) -> u32
     depth
 }
 
-/// The depth of a pattern, given those of the definitions.
+/// The depth of a pattern, given the depths of the definitions.
 #[cycle(patterns)]
 #[tactic(auto, using(crate::proofs::MemberDepths::depth_of_members))]
 pub fn pattern_depth(pattern: &GraphPattern<'_>, definitions: &[u32]) -> u32
@@ -98,7 +98,7 @@ fn patterns_depth(all: &[GraphPattern<'_>], definitions: &[u32]) -> u32
     depth
 }
 
-/// The depth of a definition, 0 where there is none.
+/// The depth of a definition, or 0 if there is none.
 pub fn definition_depth(definitions: &[u32], j: usize) -> u32
     ensures { result ≡ depth_in definitions.now j }
 {
@@ -108,7 +108,7 @@ pub fn definition_depth(definitions: &[u32], j: usize) -> u32
     }
 }
 
-/// The depth of the body of a definition, given those of the others.
+/// The depth of the body of a definition, given the depths of the others.
 #[tactic(auto, using(crate::proofs::MemberDepths::depth_of_combined))]
 pub fn body_depth(body: &GraphBody<'_>, definitions: &[u32]) -> u32
     ensures { result ≡ depth_with (depth_at_spot definitions.now) (graph_body_of body.now) }

@@ -1,4 +1,4 @@
-// How deep the trees of a schema are, each definition once.
+// Depths of the trees of a schema. Each definition is measured once.
 ghost use Rattle.std.specs.Prelude.{◌≡◌, ◌<◌, ◌⊎◌, length, All, IfOk, IsTrue, IsFalse};
 ghost use Rattle.rng_graph.specs.plain.DepthWith.{depth_with};
 ghost use Rattle.rng_graph.specs.plain.Graph.{IsDeepBy, IsFilledBy, IsOrderBy, Mentions, spot_depth};
@@ -9,9 +9,9 @@ use crate::depth::{DEPTH_LIMIT, body_depth, class_depth, definition_depth, patte
 use crate::graph::{Graph, GraphElement};
 use std::alloc::{AllocError, Global};
 
-/// The depth of each definition of an order, cut off one past the limit; 0 for the others.
+/// Returns the depth of each definition of an order, at most the limit plus one. The others have depth 0.
 ///
-/// Takes time in proportion to the bodies. The only fault is want of memory.
+/// Takes time linear in the bodies. Fails only when out of memory.
 pub fn depths(alloc: Global, graph: &Graph<'_>, order: &[usize]) -> Result<Vec<u32>, AllocError>
     requires order { IsOrderBy (Mentions (graph_of graph.now)) order.now }
     requires within { All (λ j. j < length (graph_of graph.now).bodies) order.now }
@@ -25,7 +25,7 @@ pub fn depths(alloc: Global, graph: &Graph<'_>, order: &[usize]) -> Result<Vec<u
     Ok(table)
 }
 
-/// Whether a tree or a name class is too deep, given the depths of the definitions.
+/// Whether some tree or name class is too deep, given the depths of the definitions.
 pub fn is_too_deep(graph: &Graph<'_>, definitions: &[u32]) -> bool
     ensures deep { IsTrue result → IsDeepBy (classes_of graph.now) (graph_of graph.now) (depth_in definitions.now) }
     ensures flat { IsFalse result → ¬ (IsDeepBy (classes_of graph.now) (graph_of graph.now) (depth_in definitions.now)) }

@@ -1,4 +1,4 @@
-// Whether the definitions of a schema can be expanded, and whether what they expand to is too deep.
+// Whether the definitions of a schema can be expanded, and whether the result is too deep.
 ghost use Rattle.std.specs.Prelude.{IfErr, IfOk, OnOk};
 ghost use Rattle.rng_model.specs.schema.Schema.{Schema};
 ghost use Rattle.rng_model.specs.schema.SchemaClauses.{BreaksDepth, BreaksExpansion};
@@ -12,11 +12,13 @@ use crate::order::{Sorted, sort};
 use rng_model::SchemaFault;
 use std::alloc::Global;
 
-/// An order of the definitions of a schema in which each comes after those that its body mentions outside elements.
+/// Returns an order of the definitions of a schema in which each comes after those that its body mentions outside
+/// elements.
 ///
-/// Clause 16 is answered where some expansion loops outside elements, and clause 17 where, with members nested in twos and
-/// `mixed`, `?` and `*` written by other patterns, some tree or name class is deeper than 1,000; the other fault is want
-/// of memory. Takes time and memory in proportion to the graph, and recurses as deep as a single body nests.
+/// Fails with clause 16 if some expansion loops outside elements. Otherwise fails with clause 17 if some tree or name
+/// class is deeper than 1,000, with members nested in twos, and `mixed`, `?` and `*` replaced by other patterns. The
+/// only other failure is out of memory. Takes time and memory linear in the graph. Recurses as deep as a single body
+/// nests.
 ///
 /// RELAX NG Specification, section 4.19.
 pub fn expansion_order(alloc: Global, graph: &Graph<'_>) -> Result<Vec<usize>, SchemaFault>

@@ -1,20 +1,20 @@
 // The definitions and the elements of a schema, by number.
 use rng_model::{Datatype, DatatypeValue, NameClass};
 
-/// A pattern of a schema whose elements and refs are numbers.
+/// A pattern of a schema in which elements and refs are replaced by numbers.
 #[derive(Drop)]
 pub enum GraphPattern<'a> {
-    /// What matches nothing.
+    /// The pattern that matches nothing.
     NotAllowed,
     Empty,
     Text,
     /// An element, by its number.
     Element(usize),
-    /// What a ref, a parent ref or a nested grammar stands for: a definition, by its number.
+    /// A definition, by its number, in place of a ref, a parent ref or a nested grammar.
     Definition(usize),
     Attribute(&'a NameClass, Box<GraphPattern<'a>>),
     List(Box<GraphPattern<'a>>),
-    /// A datatype, and what it excepts.
+    /// A datatype, and the pattern that it excludes, if there is one.
     Data {
         datatype: &'a Datatype,
         except: Option<Box<GraphPattern<'a>>>,
@@ -42,8 +42,9 @@ pub struct GraphElement<'a> {
     pub content: GraphPattern<'a>,
 }
 
-/// The body of a definition: the patterns of its components, in order. A list, since a name may have any number of components,
-/// and they nest in twos from the left.
+/// The body of a definition: the patterns of its components, in order.
+///
+/// It is a list, since a name may have any number of components, which nest in twos from the left.
 ///
 /// RELAX NG Specification, section 4.17.
 #[derive(Drop)]
@@ -52,7 +53,7 @@ pub enum GraphBody<'a> {
     Interleave(Vec<GraphPattern<'a>>),
 }
 
-/// The bodies of the definitions that are met from the start, which has the number 0, and the elements.
+/// The bodies of the definitions that are met from the start, and the elements. The start is definition 0.
 #[derive(Drop)]
 pub struct Graph<'a> {
     pub bodies: Vec<GraphBody<'a>>,

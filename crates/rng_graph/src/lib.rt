@@ -1,7 +1,8 @@
-//! The graph of a schema: its definitions and its elements by number, in place of names and places.
+//! The graph of a schema: its definitions and its elements by number instead of names and places.
 //!
-//! `expansion_order` answers an order in which the definitions can be expanded, each once; or, exactly, that some expansion loops
-//! outside elements, or that what is reached is too deep. No recursion crosses a definition, and no tree is expanded.
+//! `expansion_order` returns an order in which each definition can be expanded once. It fails exactly if some expansion
+//! loops outside elements, or if what is reached is too deep. No recursion crosses a definition, and no tree is
+//! expanded.
 #![tactic(auto)]
 
 mod bodies;

@@ -1,4 +1,4 @@
-// Which definitions the body of each mentions.
+// The definitions that each body mentions.
 ghost use Rattle.std.specs.Prelude.{◌≡◌, ◌++◌, map, IfOk, OnOk};
 ghost use Rattle.rng_graph.specs.views.GraphView.{graph_pattern_of, graph_body_of, graph_of};
 ghost use Rattle.rng_graph.specs.plain.Mentioned.{mentioned, all_mentioned};
@@ -7,9 +7,9 @@ ghost use Rattle.rng_graph.specs.plain.Search.{lists};
 use crate::graph::{Graph, GraphBody, GraphPattern};
 use std::alloc::{AllocError, Global};
 
-/// For each definition, those that its body mentions outside elements.
+/// Returns for each definition those that its body mentions outside elements.
 ///
-/// Takes time and memory in proportion to the bodies. The only fault is want of memory.
+/// Takes time and memory linear in the bodies. Fails only when out of memory.
 pub fn mentions(alloc: Global, graph: &Graph<'_>) -> Result<Vec<Vec<usize>>, AllocError>
     ensures { IfOk result (λ all. lists all.items ≡ map mentioned (graph_of graph.now).bodies) }
 {
@@ -40,7 +40,7 @@ fn members_mentions(alloc: Global, all: &[GraphPattern<'_>]) -> Result<Vec<usize
     Ok(found)
 }
 
-/// Adds the definitions that a pattern mentions outside elements.
+/// Appends the definitions that a pattern mentions outside elements.
 #[cycle(patterns)]
 fn add_mentions(found: &mut Vec<usize>, pattern: &GraphPattern<'_>) -> Result<(), AllocError>
     ensures { OnOk result (found.new.items ≡ found.old.items ++ mentioned (graph_pattern_of pattern.now)) }
@@ -65,7 +65,7 @@ fn add_mentions(found: &mut Vec<usize>, pattern: &GraphPattern<'_>) -> Result<()
     }
 }
 
-/// Adds the definitions that patterns mention outside elements.
+/// Appends the definitions that patterns mention outside elements.
 #[cycle(patterns)]
 fn add_all_mentions(found: &mut Vec<usize>, all: &[GraphPattern<'_>]) -> Result<(), AllocError>
     ensures { OnOk result (found.new.items ≡ found.old.items ++ all_mentioned (map graph_pattern_of all.now)) }

@@ -5,16 +5,16 @@ ghost use Rattle.rng_graph.specs.declared.order.Task.TheVariants as task;
 
 use std::alloc::{AllocError, Global};
 
-/// What a sort ends with.
+/// The result of a sort.
 #[derive(Drop)]
 pub enum Sorted {
     /// All numbers, each after those that it mentions.
     Order(Vec<usize>),
-    /// A number that leads to itself by mentions.
+    /// A number that leads to itself through mentions.
     Loop(usize),
 }
 
-/// How far the search is with a number.
+/// The state of a number in the search.
 #[derive(Clone, Copy)]
 pub enum Mark {
     New,
@@ -22,19 +22,20 @@ pub enum Mark {
     Done,
 }
 
-/// What the search still has to do.
+/// A task that the search still has to do.
 #[derive(Clone, Copy)]
 pub enum Task {
-    /// To go through what the number mentions.
+    /// Process what the number mentions.
     Enter(usize),
-    /// To put the number after all that it mentions.
+    /// Append the number to the order, after everything that it mentions.
     Leave(usize),
 }
 
-/// An order of the numbers in which each comes after all that it mentions, or a number that leads to itself.
+/// Returns an order of the numbers in which each comes after everything that it mentions, or a number that leads to
+/// itself.
 ///
-/// `all` has for each number those that it mentions. Takes time and memory in proportion to all mentions, and does not
-/// recurse. The only fault is want of memory.
+/// `all` has for each number those that it mentions, which must be numbers too. Takes time and memory linear in all
+/// mentions, and does not recurse. Fails only when out of memory.
 pub fn sort(alloc: Global, all: &[Vec<usize>]) -> Result<Sorted, AllocError>
     requires { AreMentionsBelow (lists all.now) }
     ensures { IfOk result (IsAnswer (lists all.now)) }
@@ -49,7 +50,7 @@ pub fn sort(alloc: Global, all: &[Vec<usize>]) -> Result<Sorted, AllocError>
     Ok(Sorted::Order(order))
 }
 
-/// Every number is new and to be entered.
+/// The start of the search: every number is new, and has a task to enter it.
 fn start(alloc: Global, n: usize) -> Result<(Vec<Mark>, Vec<Task>), AllocError>
     ensures { IfOk result (λ x. IsStart n x.0.items x.1.items) }
 {
@@ -62,7 +63,7 @@ fn start(alloc: Global, n: usize) -> Result<(Vec<Mark>, Vec<Task>), AllocError>
     Ok((marks, tasks))
 }
 
-/// One task of the search, the last of the list. Answers a number that leads to itself, if it meets one.
+/// Does one task of the search, the last of the list. Returns a number that leads to itself, if it finds one.
 fn step(
     marks: &mut Vec<Mark>,
     tasks: &mut Vec<Task>,
@@ -93,7 +94,7 @@ fn step(
     }
 }
 
-/// What a number mentions.
+/// The numbers that a number mentions.
 fn mentions(all: &[Vec<usize>], j: usize) -> &[usize]
     requires { j < length all.now }
     ensures { result.now ≡ slice_index_or (lists all.now) j [] }
@@ -101,7 +102,7 @@ fn mentions(all: &[Vec<usize>], j: usize) -> &[usize]
     all[j].as_slice()
 }
 
-/// The number is to be left, and before that each that it mentions is to be entered.
+/// Appends the task to leave the number, and then the tasks to enter what it mentions. The last task is done first.
 fn enter(tasks: &mut Vec<Task>, j: usize, mentions: &[usize]) -> Result<(), AllocError>
     ensures { OnOk result (tasks.new.items ≡ (tasks.old.items ++ task.Leave j ∷ []) ++ map task.Enter mentions.now) }
 {

@@ -14,7 +14,7 @@ use crate::graph::{GraphElement, GraphPattern};
 use rng_model::{Datatype, NameClass, OutOfMemory, Place, SchemaPattern};
 use std::alloc::Global;
 
-/// What stands between the members of a list.
+/// The connector between the members of a list.
 #[derive(Clone, Copy)]
 pub(crate) enum Connector {
     /// `,`
@@ -26,7 +26,7 @@ pub(crate) enum Connector {
 }
 
 impl Connector {
-    /// The pattern of these members.
+    /// The pattern with these members.
     #[tactic(auto, using(crate::proofs::GraphPatternViews::group_of, crate::proofs::GraphPatternViews::interleave_of, crate::proofs::GraphPatternViews::choice_of))]
     fn joined(self, all: Vec<GraphPattern<'_>>) -> GraphPattern<'_>
         ensures { graph_pattern_of result ≡ members (connector_of self) (map graph_pattern_of all.entry.items) }
@@ -39,12 +39,12 @@ impl Connector {
     }
 }
 
-/// What stands around one pattern.
+/// A pattern around a single child.
 #[derive(Clone, Copy)]
 pub(crate) enum Around<'a> {
     Attribute(&'a NameClass),
     List,
-    /// A datatype, of which the pattern is excepted.
+    /// A datatype that excludes the child.
     Data(&'a Datatype),
     Mixed,
     /// `p?`
@@ -56,7 +56,7 @@ pub(crate) enum Around<'a> {
 }
 
 impl<'a> Around<'a> {
-    /// The pattern that has this around its only child.
+    /// The pattern with this child.
     fn of(self, child: Box<GraphPattern<'a>>) -> GraphPattern<'a>
         ensures { graph_pattern_of result ≡ around self.entry (graph_pattern_of child.entry.value) }
     {
@@ -75,7 +75,7 @@ impl<'a> Around<'a> {
     }
 }
 
-/// Where patterns stand: in the grammar at a place, and which grammar is around that one.
+/// The scope of a pattern: the place of its grammar, and the place of the grammar around that one.
 #[derive(Clone, Copy)]
 pub(crate) struct Scope<'a> {
     pub alloc: Global,
@@ -84,7 +84,8 @@ pub(crate) struct Scope<'a> {
 }
 
 impl<'a> Scope<'a> {
-    /// The pattern with numbers in place of its elements and of what it refers to, each of which gets one.
+    /// The pattern with numbers in place of its elements and of the definitions that it refers to. New ones get
+    /// numbers.
     ///
     /// RELAX NG Specification, sections 4.18 and 4.19.
     #[cycle(resolving)]
@@ -139,7 +140,7 @@ impl<'a> Scope<'a> {
         }
     }
 
-    /// The pattern that has this around its only child.
+    /// The pattern around its only child.
     #[cycle(resolving)]
     #[inline(never)]
     fn around(
@@ -159,7 +160,7 @@ impl<'a> Scope<'a> {
         Ok(outside.of(Box::new(self.alloc, child)?))
     }
 
-    /// The pattern of these members, in order.
+    /// The pattern with these members, in order.
     #[cycle(resolving)]
     #[inline(never)]
     fn members(
@@ -182,7 +183,7 @@ impl<'a> Scope<'a> {
         Ok(connector.joined(members))
     }
 
-    /// A name of the grammar around, by its number; what allows nothing where there is none.
+    /// A name of the grammar around, by its number, or `notAllowed` if no grammar is around.
     #[tactic(auto, unfolding(crate::specs::plain::Resolving::looked_up_outside))]
     #[inline(never)]
     fn look_up_outside(
@@ -199,7 +200,7 @@ impl<'a> Scope<'a> {
         }
     }
 
-    /// What is looked up, by its number.
+    /// A definition, by its number.
     #[inline(never)]
     fn look_up(
         &self,
@@ -215,7 +216,7 @@ impl<'a> Scope<'a> {
     }
 }
 
-/// An element of names of this class, which gets the next number.
+/// An element with names of this class. It gets the next number.
 #[inline(never)]
 fn element<'a>(
     class: &'a NameClass,

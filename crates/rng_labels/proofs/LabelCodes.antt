@@ -1,4 +1,4 @@
--- Labels are told apart by their codes.
+-- Labels with the same code are equal.
 use Rattle.std.proofs.Common.{◌≡◌, refl, ap, ap₂, sym, ◌∙◌, ℕ, zero, suc, Bool, true, false, true≢false, not, if◌then◌else◌}
 use Rattle.std.proofs.Common.{List, [], ◌∷◌, ◌++◌, map, append_assoc, slice_get, length, ◌<◌, arith, Some, Vec, Box, String, Global, string_bytes, rules}
 use Rattle.std.proofs.lemmas.Bool.{and_parts, and_from}
@@ -23,7 +23,7 @@ use Rattle.rng_labels.specs.declared.label_codes.LabelPart.{LabelPart}
 use Rattle.rng_labels.specs.declared.label_codes.LabelPart.TheVariants as parts
 use Rattle.rng_labels.specs.contracts.label_codes.LabelPartPartialEq.TheImpl as same
 
--- ---- parts and codes that are equal
+-- ---- equal parts and equal codes
 
 same_part : (p q : LabelPart) → same.ghosts.eq p q ≡ true → part_of p ≡ part_of q
 same_part (parts.Number m) (parts.Number n) e = ap number ((Decides-eqb m n).0 e)
@@ -117,7 +117,7 @@ code_at (x ∷ ks) c k (suc n) e f = code_at ks c k n e f
 
 -- ---- codes of name classes
 
--- the classes in twos whose parts these are, over those that stand before them, the last first
+-- the classes in twos with these parts, before those that are read already, the last first
 read : List Part → List NameClass → List NameClass
 read [] st = st
 read (any ∷ ps) st = read ps (any_name ∷ st)
@@ -143,7 +143,7 @@ code_read (name_is n) rest st h = refl
 code_read (one_of c d no_classes) rest st h = code_read c (class_code d (either ∷ rest)) st h.0 ∙ code_read d (either ∷ rest) (c ∷ st) h.1
 code_read (one_of c d (class_and e cs)) rest st h = absurd h
 
--- classes in twos have one code only if they are one
+-- two classes in twos with the same code are equal
 pub same_classes : (c d : NameClass) → IsInTwos c → IsInTwos d → class_code c [] ≡ class_code d [] → c ≡ d
 unfolding read
 same_classes c d h i e = let f : c ∷ [] ≡ d ∷ [] = sym (code_read c [] [] h) ∙ ap (λ ps. read ps []) e ∙ code_read d [] [] i in cc
@@ -166,7 +166,7 @@ mutual
   more_then (class_and c cs) rest more =
       code_then c (either ∷ more_code cs rest) more ∙ ap (λ r. class_code c (either ∷ r)) (more_then cs rest more)
 
--- the parts of a class, and one after them
+-- the parts of a class, followed by one more
 pub put_after : (old mid new : List Part) (c : NameClass) (p : Part) → mid ≡ old ++ class_code c [] → new ≡ mid ++ p ∷ [] → new ≡ old ++ class_code c (p ∷ [])
 put_after old mid new c p e f =
     f ∙ ap (λ ps. ps ++ p ∷ []) e ∙ append_assoc old (class_code c []) (p ∷ []) ∙ ap (λ ps. old ++ ps) (code_then c [] (p ∷ []))
@@ -197,7 +197,7 @@ pub ns_except_code : (u : String Global) (b : Box declared.NameClass Global)
 unfolding class_code
 ns_except_code u b = ap (λ c. class_code c []) (sym (ns_except_of u b))
 
--- a choice: its first member, and the others
+-- a choice: its first member, followed by the others
 first_code : (c : NameClass) (cs : List NameClass) → class_code (some_of (c ∷ cs)) [] ≡ class_code c (more_code (classes_of cs) [])
 unfolding class_code more_code
 first_code c [] = refl
@@ -234,7 +234,7 @@ pub parameters_end : (new : List Part) → new ++ parameters_code [] ≡ new
 unfolding parameters_code
 parameters_end new = append-nil new
 
--- datatypes have one code exactly if they are one
+-- datatypes have the same code exactly if they are equal
 same_parameters : (ps qs : List (List ℕ × List ℕ)) → parameters_code ps ≡ parameters_code qs → ps ≡ qs
 unfolding parameters_code
 same_parameters [] [] e = refl

@@ -1,4 +1,4 @@
--- A name class of the code in which each choice has two members, seen as its twin.
+-- A name class of the code in which each choice has two members, and its view.
 use Rattle.std.proofs.Common.{◌≡◌, ◌∙◌, ◌==◌, Bool, true, List, [], ◌∷◌, length, map, sym, subst, arith}
 use Rattle.std.proofs.lemmas.Bool.{and_parts, eqb-true}
 use Rattle.std.specs.List.{list_all}
@@ -32,7 +32,7 @@ two_members (a ∷ (b ∷ [])) l h =
     (a.1 first.0, b.1 second.0)
 two_members (a ∷ (b ∷ (c ∷ cs))) l h = absurd (let n = eqb-true (length (map paired (insides (a ∷ (b ∷ (c ∷ cs)))))) 2 l in omega (arith, n))
 
--- one level, with what is known of each class inside
+-- one level, given what is known of each class inside
 level : (y : NameClass-F Seen) → paired_step (map-NameClass NameClass Bool paired (map-NameClass Seen NameClass (λ e. e.0) y)) ≡ true
     → IsInTwos (class_step (map-NameClass NameClass names.NameClass class_of (map-NameClass Seen NameClass (λ e. e.0) y)))
 level NameClass-F.Any h = tt

@@ -1,4 +1,4 @@
-// What tells labels apart: the parts that each is written by, one behind another.
+// What distinguishes labels: the parts by which each is written, one after another.
 ghost use Rattle.std.specs.Prelude.{◌≡◌, ◌∷◌, ◌++◌, [], IfOk, OnOk, map, string_bytes};
 ghost use Rattle.rng_model.specs.names.Names.{some_of};
 ghost use Rattle.rng_model.specs.schema.Patterns.{without_parameters};
@@ -10,28 +10,29 @@ use indexmap::IndexSet;
 use rng_model::{Datatype, DatatypeValue, NameClass};
 use std::alloc::AllocError;
 
-/// A part of what a label is written by.
+/// A part by which a label is written.
 #[derive(Clone, Copy, PartialEq, Eq, Hash)]
 pub enum LabelPart<'a> {
-    /// A number that a caller gives.
+    /// A number that the caller gives.
     Number(usize),
     /// A text of a datatype or of a value.
     Text(&'a str),
     /// Every name.
     Any,
-    /// Every name but those of the class that stands before it.
+    /// Every name except those of the class before it.
     AnyBut,
     /// Every name of a namespace.
     Ns(&'a str),
-    /// Every name of a namespace but those of the class that stands before it.
+    /// Every name of a namespace except those of the class before it.
     NsBut(&'a str),
     /// A name: its namespace, and its local name.
     Name(&'a str, &'a str),
-    /// The names of both classes that stand before it.
+    /// The names of both classes before it.
     Either,
 }
 
-/// The place of a code among these; `None` where it was not there, and is now the last.
+/// Returns the place of a code among these, or `None` if it was not there and was added as the last one. Fails only
+/// when out of memory.
 pub fn place_of_code<'a>(
     codes: &mut IndexSet<Vec<LabelPart<'a>>>,
     code: Vec<LabelPart<'a>>,
@@ -46,7 +47,7 @@ pub fn place_of_code<'a>(
     Ok(Some(place))
 }
 
-/// Puts a part at the end.
+/// Appends a part. Fails only when out of memory.
 #[tactic(auto, using(crate::proofs::LabelCodes::put_part))]
 pub fn put<'a>(code: &mut Vec<LabelPart<'a>>, part: LabelPart<'a>) -> Result<(), AllocError>
     ensures { OnOk result (map part_of code.new.items ≡ map part_of code.old.items ++ part_of part.entry ∷ []) }
@@ -55,7 +56,7 @@ pub fn put<'a>(code: &mut Vec<LabelPart<'a>>, part: LabelPart<'a>) -> Result<(),
     Ok(())
 }
 
-/// Puts the parts of a name class at the end.
+/// Appends the parts of a name class. Fails only when out of memory.
 #[cycle(codes)]
 #[tactic(auto, using(crate::proofs::LabelCodes::put_after), unfolding(crate::specs::plain::LabelCodes::class_code))]
 pub fn put_class<'a>(code: &mut Vec<LabelPart<'a>>, class: &'a NameClass) -> Result<(), AllocError>
@@ -81,7 +82,7 @@ pub fn put_class<'a>(code: &mut Vec<LabelPart<'a>>, class: &'a NameClass) -> Res
     }
 }
 
-/// Puts the parts of a choice of these members at the end. One of no members is everything but everything.
+/// Appends the parts of a choice of these members. A choice of none is every name except every name.
 #[cycle(codes)]
 #[tactic(auto, using(crate::proofs::LabelCodes::put_none))]
 fn put_members<'a>(
@@ -103,7 +104,7 @@ fn put_members<'a>(
     Ok(())
 }
 
-/// Puts the parts of a datatype at the end.
+/// Appends the parts of a datatype. Fails only when out of memory.
 pub fn put_datatype<'a>(
     code: &mut Vec<LabelPart<'a>>,
     datatype: &'a Datatype,
@@ -119,7 +120,7 @@ pub fn put_datatype<'a>(
     Ok(())
 }
 
-/// Puts the parts of a text of a datatype without parameters at the end.
+/// Appends the parts of a value of a datatype without parameters. Fails only when out of memory.
 pub fn put_value<'a>(
     code: &mut Vec<LabelPart<'a>>,
     value: &'a DatatypeValue,

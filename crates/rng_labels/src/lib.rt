@@ -1,7 +1,8 @@
-//! Codes of name classes, datatypes and values: the parts that each is written by. Two have one code exactly if they are one,
-//! name classes once the members of each choice are nested in twos (RELAX NG Specification, section 4.12).
+//! Codes of name classes, datatypes and values: the parts by which each is written. Two labels have the same code
+//! exactly if they are equal. For name classes this holds once the members of each choice are nested in twos (RELAX NG
+//! Specification, section 4.12).
 //!
-//! So what is labelled by them is found by hashing. The error of each call is want of memory.
+//! So a table finds what has a label by hashing. Each call fails only when out of memory.
 #![tactic(auto)]
 
 mod label_codes;

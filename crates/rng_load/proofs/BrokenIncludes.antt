@@ -1,4 +1,4 @@
--- Includes that break a clause, and those that do not.
+-- Includes that break clause 10, and those that do not.
 use Rattle.std.proofs.Common.{◌≡◌, refl, sym, subst, ap, ◌∙◌, ℕ, ◌+◌, ◌<◌, ◌≤◌, List, [], ◌∷◌, ◌++◌, length, map, take, drop, get_or, Bool, true, false}
 use Rattle.std.proofs.Common.{Option, Some, None, option_map, String, string_bytes, ◌↔◌}
 use Rattle.std.proofs.Common.{inl, inr, arith, Bor}
@@ -64,7 +64,7 @@ module _ (read : TakenFiles) (m : Mention) (over : tree.Components) where
         breaks (nothing_to_override {t} {cs = ds} {y} j e h n) = n (subst (HasName (tree_in read) y) (sym (its_components j e)) (all refl y h))
       judged false all lack = (λ w. let l = lack refl in nothing_to_override is grammar l.1 l.2, λ b. refl)
 
--- the tree of a file, as it was found
+-- the tree that is found for a file
 pub found_at : (es : List (String Global × declared.FileTree)) (f h : Name) (o : Option declared.FileTree) → o ≡ lookup (λ k. bytes_eq f
     (string_bytes k)) es → f ≡ h
     → tree_in (map (λ e. (string_bytes e.0, file_of e.1)) es) h ≡ option_map file_of o
@@ -86,7 +86,7 @@ module _ {A : Type 0} (P : A → Type 0) where
   pub one_more_not : (xs : List A) (x : A) → ¬ (OneOf xs) → ¬ (P x) → ¬ (OneOf (xs ++ x ∷ []))
   one_more_not xs x n m o = elim (in_more xs o.1) [ inl a ↦ n (o.0, a, o.2) | inr e ↦ m (subst P e o.2) ]
 
--- a turn of a loop over the items
+-- one round of a loop over the items
 module _ {A B : Type 0} (P : B → Type 0) (view : A → B) (items : List A) (i : ℕ) (l : i < length items) (d x : A) (is : x ≡ get_or items i d) where
   front : map view (take (i + 1) items) ≡ map view (take i items) ++ view x ∷ []
   front = map_more view items i d l ∙ ap (λ y. map view (take i items) ++ view y ∷ []) (sym is)
@@ -122,7 +122,7 @@ module _ (es : List (String Global × declared.FileTree)) where
     pub of_a_file : (file : Name × FileTree) × Among file (entries_of es) × P file.1 → OneOf P (map file_of (values_of es))
     of_a_file f = (f.0.1, subst (Among f.0.1) trees_are (in_map second_of f.1), f.2)
 
--- the tree of the file of a name, as a map gives it
+-- the tree that a map returns for the name of a file
 pub tree_of_name : (es : List (String Global × declared.FileTree)) (f : Name) (o : Option (Bor declared.FileTree)) → option_copied o ≡ lookup
     (λ k. bytes_eq f (string_bytes k)) es
     → option_map (λ t. file_of t.now) o ≡ tree_in (entries_of es) f

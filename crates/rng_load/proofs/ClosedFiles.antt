@@ -1,4 +1,4 @@
--- The files that are taken mention no others.
+-- The taken files mention no other files.
 use Rattle.std.proofs.Common.{◌≡◌, refl, sym, subst, ap, ◌∙◌, ◌≤◌, Bool, true, false, cond, List, [], ◌∷◌, ◌++◌, length, map, arith, inl, inr}
 use Rattle.std.proofs.Common.{append-nil, Some, None, Option, fold}
 use Rattle.std.specs.Str.{bytes_eq}
@@ -21,7 +21,7 @@ added_all {x} ns (here {xs = ms}) = kept_all (with_name ns x) ms (added_name ns 
 added_all ns (there {y = m} {xs = ms} a) = added_all (with_name ns m) a
 
 module _ (files : List NamedFile) (main : Name) where
-  -- what a file that is taken mentions stands among the names
+  -- what a taken file mentions is among the names
   mentioned_named : {read : TakenFiles} {names : List Name} → IsTaken files main read names → (e : Name × FileTree) → Among e read → (g : Name) →
       Among g (hrefs_of e.1) → Among g names
   mentioned_named (none_yet r n) e a g h = absurd (in_none (subst (Among e) r a))
@@ -38,7 +38,7 @@ module _ (files : List NamedFile) (main : Name) where
   no_rest xs [] l = refl
   no_rest xs (y ∷ rest) l = let k = length-append xs (y ∷ rest) in absurd (omega (arith, l, k))
 
-  -- once all files are taken, each name is that of one
+  -- once all files are taken, each name is that of a file
   all_taken : {read : TakenFiles} {names : List Name} → IsTaken files main read names → length names ≤ length read → names ≡ map first_of read
   all_taken {read} {names} taken all =
       let o = is_order files main taken in
@@ -57,7 +57,7 @@ found_here : (g : Name) (e : Name × FileTree) (o : Option FileTree) (b : Bool) 
 found_here g e o true i s = (e.1, refl)
 found_here g e o false i s = absurd (false_true (sym i ∙ (bytes_eq-Decides g e.0).1 s))
 
--- a file of this name is found
+-- there is a file of this name
 of_name : (g : Name) (read : TakenFiles) → Among g (map first_of read) → (t : FileTree) × (tree_in read g ≡ Some t)
 of_name g [] a = absurd (in_none a)
 of_name g (e ∷ read) a = elim (in_cons a) [
@@ -78,6 +78,6 @@ are_closed files main read all f g a =
     let named = mentioned_named files main all.taken e.0 e.1 g (subst (λ u. Among g (hrefs_of u)) (sym e.2) t.2) in
     of_name g read (subst (Among g) (all_taken files main all.taken all.all) named)
 
--- and the main file is
+-- and the main file is one of them
 pub main_there : (files : List NamedFile) (main : Name) (read : TakenFiles) → AreTaken files main read → (t : FileTree) × (tree_in read main ≡ Some t)
 main_there files main read all = of_name main read (subst (Among main) (all_taken files main all.taken all.all) (main_named files main all.taken))

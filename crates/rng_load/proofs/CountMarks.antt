@@ -37,12 +37,12 @@ pub at_none : {A : Type 0} (P : Type 0) (Q : A → Type 0) (o : Option A) → o 
 at_none P Q o e h = subst (λ p. MatchOption p P Q) e h
 
 module _ (mentions : Name → List Name) (f : Name) where
-  -- only the file itself is open beside those that were
+  -- only the file itself is open in addition to those before
   pub record IsOpen (old now : Marks) : Type 0 where
     pub opened : (q : Name) → now q ≡ Some Open → (q ≡ f) ⊎ (old q ≡ Some Open)
     pub counted : AreCounted mentions now
 
-  -- the mentions that are done are counted
+  -- the mentions so far are counted
   pub record IsCounting (old now : Marks) (done : List Name) (total : ℕ) : Type 0 where
     pub number : ℕ
     pub some : HavePaths mentions done number
@@ -81,7 +81,7 @@ module _ (mentions : Name → List Name) (f : Name) where
     marks = stays old now new c.marks more;
   }
 
-  -- the count of the file is done
+  -- the count of the file is complete
   pub closes : (old now new : Marks) (total : ℕ) (bs : Name) → IsCounting old now (mentions f) total → bs ≡ f → IsPut now bs (Counted total) new
       → (HasFewPaths mentions f total) × AreMore mentions old new
   closes old now new total bs c e put =
@@ -125,7 +125,7 @@ module _ (mentions : Name → List Name) (f : Name) where
       let k = c.number + m in
       inl (sum_breaks mentions f (done ++ g ∷ []) more k e (have_next mentions c.some h refl) (omega (arith, w, l)))
 
--- a name at a place of the list, and the list around it
+-- a name at an index of the list, and the list around it
 module _ {A : Type 0} (name_of : A → Name) where
   around : (items : List A) (i : ℕ) (d : A) → i < length items
       → map name_of items ≡ (map name_of (take i items) ++ name_of (get_or items i d) ∷ []) ++ map name_of (drop (i + 1) items)
@@ -138,9 +138,9 @@ module _ {A : Type 0} (name_of : A → Name) where
       subst (Among (name_of (get_or items i d))) (sym (around items i d l))
       (in_left (in_right (map name_of (take i items)) here) (map name_of (drop (i + 1) items)))
 
--- a turn of the loop over the names that a file mentions
+-- one round of the loop over the names that a file mentions
 module _ {A : Type 0} (name_of : A → Name) (mentions : Name → List Name) (f : Name) (items : List A) (said : map name_of items ≡ mentions f) where
-  -- the names that are done
+  -- the names so far
   abbrev pub done_names : ℕ → List Name
   done_names i = map name_of (take i items)
 

@@ -1,4 +1,4 @@
--- A file that has a number of paths: nothing goes round, and no more paths are found however far one looks.
+-- A file with a number of paths is in no cycle of mentions, and no more paths are found at any depth.
 use Rattle.std.proofs.Common.{◌≡◌, refl, sym, subst, ap, ◌∙◌, ℕ, zero, suc, ◌+◌, ◌<◌, ◌≤◌, List, [], ◌∷◌, ◌++◌, length, map, arith, inl, inr}
 use Rattle.std.proofs.lemmas.List.{length-append, length-map}
 use Rattle.rng_model.specs.names.Lists.{Among, here, there}
@@ -34,7 +34,7 @@ length_along from at (g ∷ gs) =
     omega (arith, a, b, i)
 
 module _ (mentions : Name → List Name) where
-  -- how many paths of at most so many steps there are
+  -- the number of paths with at most n steps
   abbrev pub many : ℕ → Name → ℕ
   many n f = length (paths mentions n f)
 
@@ -59,7 +59,7 @@ module _ (mentions : Name → List Name) where
       let b = many_suc e f in
       omega (arith, a, b, i)
 
-  -- more than a file's number is never found
+  -- no more paths are found than the file has
   mutual
     pub at_most : {f : Name} {n : ℕ} → HasPaths mentions f n → (d : ℕ) → many d f ≤ n
     at_most (has {f} {n} {k} h e) zero = let a = many_zero f in omega (arith, a, e)
@@ -69,7 +69,7 @@ module _ (mentions : Name → List Name) where
     all_at_most (have_none e) d = omega arith
     all_at_most (have_more {g} {gs} {m} {k} {n} h hs e) d = let a = at_most h d in let b = all_at_most hs d in omega (arith, a, b, e)
 
-  -- and the number itself is
+  -- and all of them are found
   mutual
     pub at_least : {f : Name} {n : ℕ} → HasPaths mentions f n → (d : ℕ) × n ≤ many d f
     at_least (has {f} {n} {k} h e) = let i = all_at_least h in (suc i.0, let a = many_suc i.0 f in let b = i.1 in omega (arith, a, e, b))
@@ -85,7 +85,7 @@ module _ (mentions : Name → List Name) where
         let q = b.1 in
         (a.0 + b.0, omega (arith, x, y, p, q, e))
 
-  -- a file that one with a number mentions has a smaller one
+  -- a file that is mentioned by one with a number has a smaller number
   one_falls : {g : Name} {gs : List Name} {n : ℕ} → HavePaths mentions gs n → Among g gs → (m : ℕ) × HasPaths mentions g m × m ≤ n
   one_falls (have_none e) p = absurd (in_none p)
   one_falls (have_more {g} {gs} {m} {k} {n} h hs e) here = (m, h, omega (arith, e))
@@ -98,7 +98,7 @@ module _ (mentions : Name → List Name) where
   falls_far (directly p) h = falls h p
   falls_far (through m p) h = let r = falls_far m h in let s = falls r.1 p in let a = r.2 in let b = s.2 in (s.0, s.1, omega (arith, a, b))
 
-  -- so nothing goes round: each time round the number falls
+  -- so there is no cycle: the number would fall in each round
   round : {f : Name} → Mentions mentions f f → (most n : ℕ) → n ≤ most → HasPaths mentions f n → ⊥
   round m zero n l h = let r = falls_far m h in let a = r.2 in omega (arith, a, l)
   round m (suc most) n l h = let r = falls_far m h in let a = r.2 in round m most r.0 (omega (arith, a, l)) r.1
@@ -114,7 +114,7 @@ module _ (mentions : Name → List Name) where
   few_keep h l (inl c) = no_cycle h c
   few_keep h l (inr w) = let a = at_most h w.0 in let b = w.1 in omega (arith, a, b, l)
 
-  -- a file breaks it where one does that it mentions
+  -- a file breaks the rule if a file breaks it that it mentions
   joined : {f g h : Name} → Mentions mentions f g → Mentions mentions g h → Mentions mentions f h
   joined m (directly p) = through m p
   joined m (through n p) = through (joined m n) p
@@ -136,7 +136,7 @@ module _ (mentions : Name → List Name) where
   pub long_breaks : {f : Name} → IsLong mentions path_limit f → Breaks mentions f
   long_breaks q = inr (path_limit, long_many q)
 
-  -- some of the mentions have too many already
+  -- some of the mentions already have too many paths
   pub sum_breaks : (f : Name) (some more : List Name) (k : ℕ) → mentions f ≡ some ++ more → HavePaths mentions some k → path_limit ≤ k → Breaks mentions f
   sum_breaks f some more k e h l =
       let i = all_at_least h in

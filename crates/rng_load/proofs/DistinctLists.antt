@@ -1,4 +1,4 @@
--- Lists in which nothing stands twice, put together from others.
+-- Lists without duplicates, made of other lists.
 use Rattle.std.proofs.Common.{◌≡◌, subst, sym, List, [], ◌∷◌, ◌++◌, map, inl, inr}
 use Rattle.rng_model.specs.names.Lists.{Among, here, there, HasTwice, at_first, later}
 use Rattle.rng_load.proofs.NameLists.{none_twice, in_either, from_map}
@@ -14,7 +14,7 @@ module _ {A : Type 0} where
   differ_append (x ∷ xs) ys d e h (at_first p) = elim (in_either xs p) [ inl a ↦ d (at_first a) | inr b ↦ h x here b ]
   differ_append (x ∷ xs) ys d e h (later t) = differ_append xs ys (λ u. d (later u)) e (λ z p q. h z (there p) q) t
 
--- a function that gives different answers for different arguments
+-- an injective function
 pub differ_map : {A B : Type 0} (f : A → B) → ((x y : A) → f x ≡ f y → x ≡ y) → (xs : List A) → ¬ (HasTwice xs) → ¬ (HasTwice (map f xs))
 differ_map f apart [] d t = none_twice t
 differ_map f apart (x ∷ xs) d (at_first p) = let r = from_map f xs p in d (at_first (subst (λ y. Among y xs) (sym (apart x r.0 r.2)) r.1))

@@ -1,4 +1,4 @@
--- What each layer that reads a file says of its bytes.
+-- What each layer that reads a file reports about its bytes.
 use Rattle.std.proofs.Common.{◌≡◌, ℕ, List, Ok, Err, IfSome, refl, sym, ap, subst, ◌∙◌, arith, inl, inr}
 use Rattle.rnc_model.specs.declared.character.Character.{Character}
 use Rattle.rnc_text.specs.declared.fault.TextFault.{TextFault}
@@ -24,13 +24,13 @@ use Rattle.rnc_model.specs.loading.SchemaFile.{IsSchemaFile, FileVerdict, breaks
 
 -- ---- characters
 
--- the bytes stand for these characters alone, and break no clause of characters
+-- these are the only characters of the bytes, and the bytes break no clause about characters
 pub record Decoded (bytes : List ℕ) (cs : List Character) : Type 0 where
   pub is : IsDecoded bytes cs
   pub one : (other : List Character) → IsDecoded bytes other → cs ≡ other
   pub sound : (clause offset : ℕ) → BreaksTextAt bytes clause offset → ⊥
 
--- bytes that break a clause of characters break it alone
+-- bytes that break a clause about characters break only this one
 text_breaks : (bytes : List ℕ) (k offset : ℕ) → BreaksTextAt bytes k offset → ((cs : List Character) → IsDecoded bytes cs → ⊥) →
     ((j at : ℕ) → BreaksTextAt bytes j at → (k ≡ j) × (offset ≡ at)) → ContentHasOnlyVerdict bytes (breaks k)
 text_breaks bytes k offset b none one = record { is = found b; only = only } where
@@ -58,7 +58,7 @@ pub text_fault : (bytes : List ℕ) (x : TextFault) → IfBroken (BreaksTextAt b
 text_fault bytes texts.Memory b none one = tt
 text_fault bytes (texts.At k offset) b none one = text_breaks bytes k offset b none one
 
--- a text that was read
+-- a text that is decoded
 pub decoded : (bytes : List ℕ) (cs : List Character) → IsDecoded bytes cs →
     ((other : List Character) → IsDecoded bytes other → GivesOk (λ t. t) (Ok cs) other) →
     ((k offset : ℕ) → BreaksTextAt bytes k offset → GivesFault {X = List Character} (Ok cs) k offset) → Decoded bytes cs
@@ -66,13 +66,13 @@ decoded bytes cs is only broken = record { is = is; one = only; sound = broken }
 
 -- ---- tokens
 
--- the characters have these tokens alone, and break no clause of tokens
+-- these are the only tokens of the characters, and the characters break no clause about tokens
 pub record Tokenized (cs : List Character) (ts : List Token) : Type 0 where
   pub is : HasTokens cs ts
   pub one : (other : List Token) → HasTokens cs other → ts ≡ other
   pub sound : (offset : ℕ) → BreaksTokensAt cs offset → ⊥
 
--- characters that begin nothing at a offset break this clause alone
+-- characters with no piece at an offset break only this clause
 tokens_break : (bytes : List ℕ) (cs : List Character) (k offset : ℕ) → Decoded bytes cs → k ≡ 5 → BreaksTokensAt cs offset →
     ((ts : List Token) → HasTokens cs ts → ⊥) → ContentHasOnlyVerdict bytes (breaks k)
 tokens_break bytes cs k offset d five b none = record { is = bad_tokens cs offset d.is b five; only = only } where
@@ -98,7 +98,7 @@ pub tokens_fault : {X : Type 0} (view : X → List Token) (bytes : List ℕ) (cs
 tokens_fault view bytes cs texts.Memory d b none = tt
 tokens_fault view bytes cs (texts.At k offset) d b none = tokens_break bytes cs k offset d b.0 b.1 none
 
--- tokens that were cut
+-- tokens that are cut
 pub tokenized : {X : Type 0} (view : X → List Token) (cs : List Character) (x : X) → HasTokens cs (view x) →
     ((ts : List Token) → HasTokens cs ts → GivesOk view (Ok x) ts) → ((offset : ℕ) → BreaksTokensAt cs offset → GivesFault {X = X} (Ok x) 5 offset) →
     Tokenized cs (view x)
@@ -112,7 +112,7 @@ pub data BreaksSentence (ts : List Lexeme) (k : ℕ) : Type 0 where
   nesting : BreaksNesting ts → k ≡ 7 → BreaksSentence ts k
   declarations : BreaksDeclarations ts → k ≡ 8 → BreaksSentence ts k
 
--- the bytes have these tokens alone, and break no clause before the grammar's
+-- these are the only tokens of the bytes, and the bytes break no clause before those of the grammar
 pub record Lexed (bytes : List ℕ) (ts : List Token) : Type 0 where
   pub is : AreTokensOf bytes ts
   pub one : (other : List Token) → AreTokensOf bytes other → ts ≡ other
@@ -131,7 +131,7 @@ lexed bytes cs ts d t = record { is = record { characters = cs; decoded = d.is; 
   sound k (too_deep us are b e) = nesting (subst (λ ts. BreaksNesting (lexemes ts)) (sym (one us are)) b) e
   sound k (bad_declarations us are b e) = declarations (subst (λ ts. BreaksDeclarations (lexemes ts)) (sym (one us are)) b) e
 
--- the tokens do not nest both within the limit and beyond it
+-- tokens do not nest both within the limit and beyond it
 not_both : (ts : List Lexeme) → NestsWithin nesting_limit ts → BreaksNesting ts → ⊥
 not_both ts within (k, beyond) = let e = within k in omega arith
 
@@ -143,7 +143,7 @@ not_stuck ts number b is = b.stuck.stuck ts ((λ within. refl), (λ beyond. refl
 tree_there : (bytes : List ℕ) (ts : List Token) (t : FileTree) → Lexed bytes ts → IsSchemaFile bytes t → IsFileTree (lexemes ts) t
 tree_there bytes ts t l f = subst (λ ts. IsFileTree (lexemes ts) t) (sym (l.one f.tokens f.are)) f.tree
 
--- a clause of the grammar that is the only one broken
+-- a clause of the grammar that is the only broken one
 sentence_breaks : (bytes : List ℕ) (ts : List Token) (k : ℕ) → Lexed bytes ts → BreaksFileClause bytes k → ((j : ℕ) → BreaksSentence (lexemes ts) j → k ≡ j) →
     ((t : FileTree) → IsFileTree (lexemes ts) t → ⊥) → ContentHasOnlyVerdict bytes (breaks k)
 sentence_breaks bytes ts k l b one none = record { is = b; only = only } where
@@ -169,7 +169,7 @@ declarations_only ts k eight b j (grammar at c e) = absurd (not_stuck ts at c (b
 declarations_only ts k eight b j (nesting n e) = absurd (not_both ts b.nesting n)
 declarations_only ts k eight b j (declarations d e) = eight ∙ sym e
 
--- no tree is answered where a fault is
+-- no tree is returned if a fault is
 no_tree_at : (k number : ℕ) (t : FileTree) → answers.Gives parsing_faults.unless_memory file_of (Err (parses.At k number)) (Ok t) → ⊥
 no_tree_at k number t g = absurd (cc)
 
@@ -188,7 +188,7 @@ parse_fault bytes ts (parses.Clause k) l (inl (e, b)) none =
 parse_fault bytes ts (parses.Clause k) l (inr (e, b)) none =
     sentence_breaks bytes ts k l (bad_declarations ts l.is b e) (declarations_only (lexemes ts) k e b) (λ t is. no_tree_clause k t (none t is))
 
--- a tree that was read is all that the file is
+-- a tree that is read is the only verdict of the file
 pub parsed : (bytes : List ℕ) (ts : List Token) (x : declared.FileTree) → Lexed bytes ts → IsFileTree (lexemes ts) (file_of x) →
     ((t : FileTree) → IsFileTree (lexemes ts) t → answers.Gives parsing_faults.unless_memory file_of (Ok x) (Ok t))
     → (BreaksDeclarations (lexemes ts) → answers.Gives parsing_faults.unless_memory file_of (Ok x) (Err (parses.Clause 8))) →

@@ -1,4 +1,4 @@
--- Grammars that are found one after another, until all that are nested in one are found, are those of the schema.
+-- Grammars are found one after another, until all nested ones are found. Then they are the grammars of the schema.
 use Rattle.std.proofs.Common.{◌≡◌, refl, sym, subst, ap, ap₂, ◌∙◌, ℕ, ◌-◌, ◌<◌, List, [], ◌∷◌, Option, Some, None, Bool, true, false, cond, map, arith, inl}
 use Rattle.std.proofs.Common.{inr, ◌⊎◌}
 use Rattle.std.proofs.Common.{option_map, length, ◌++◌, ◌+◌, ◌*◌}
@@ -39,7 +39,7 @@ module _ {V : Type 0} where
   by_test_here x e o true i s = (e.1, refl)
   by_test_here x e o false i s = absurd (false_true (sym i ∙ (bytes_eq-Decides x e.0).1 s))
 
-  -- something stands at a place that is there
+  -- a place that is listed has a value
   pub found_at : (x : Place) (es : List (Place × V)) → Among x (map (λ e. e.0) es) → (v : V) × (lookup (bytes_eq x) es ≡ Some v)
   found_at x [] i = absurd (in_none i)
   found_at x (e ∷ es) i = elim (in_cons i) [
@@ -125,7 +125,7 @@ found_either {new = new} p y i =
 
 -- ---- more and more
 
--- what is nested in components is so in one of them
+-- what is nested in components is nested in one of them
 one_nested : {n : Nested} (gs : List Gathered) → Among n (nested_in gs) → (g : Gathered) × Among g gs × Among n g.nested
 one_nested [] i = absurd (in_none i)
 one_nested (g ∷ gs) i = elim (in_either g.nested i) [ inl j ↦ (g, here, j) | inr j ↦ let r = one_nested gs j in (r.0, there r.1, r.2) ]
@@ -135,12 +135,12 @@ module _ (files : List ℕ → Option FileTree) (main : FileTree) where
       → IsComplete files main x new
   still_complete x old new kept c o u cs h n i = kept n.place (c o u cs h n i)
 
-  -- the components at a place are gathered in one way
+  -- the components at a place are gathered in only one way
   gathered_once : {x : Place} {o p : Option Place} {u v : List ℕ} {cs ds : tree.Components} → HasGrammar files main x o u cs
       → HasGrammar files main x p v ds → gathered_at files u x cs ≡ gathered_at files v x ds
   gathered_once {x} h k = let one = one_grammar files main h k in ap₂ (λ u cs. gathered_at files u x cs) one.1 one.2
 
-  -- a grammar is put at this place, and then those that are nested in it, of which these are found
+  -- a grammar is put at this place, and then the grammars that are nested in it; these are found so far
   pub record IsAdding (old now : PlacedGrammars) (x : Place) (done : List Nested) : Type 0 where
     pub kept : (y : Place) → IsFound y old → IsFound y now
     pub there : IsFound x now
@@ -195,7 +195,7 @@ module _ (files : List ℕ → Option FileTree) (main : FileTree) where
   -- ---- all of them
 
   module _ (readable : CanBeRead files main) where
-    -- what is gathered plainly is what stands there
+    -- what is gathered plainly is what the place has
     pub gathers_at : {x : Place} {o : Option Place} {u : List ℕ} {cs : tree.Components} → HasGrammar files main x o u cs
         → Gathers files u x 0 cs (gathered_at files u x cs)
     gathers_at {x} {o} {u} {cs} h = gather_sound files path_limit u x 0 cs (grammars_readable files h path_limit readable)
@@ -247,7 +247,7 @@ module _ (files : List ℕ → Option FileTree) (main : FileTree) where
         none_around = λ x e. none (grammar_at gs x) e;
       }
 
--- ---- what is left to the longest place
+-- ---- the distance to the longest place
 
 -- it falls from a grammar to one that is nested in it
 pub nearer : (read : TakenFiles) (main : FileTree) {x : Place} {o : Option Place} {all : List Gathered} {n : Nested} → CanBeRead (tree_in read) main

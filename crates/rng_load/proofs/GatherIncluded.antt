@@ -1,4 +1,4 @@
--- The components of a file that is included.
+-- The components of an included file.
 use Rattle.std.proofs.Common.{◌≡◌, ◌∙◌, sym, subst, ap, ℕ, zero, suc, ◌-◌, ◌<◌, List, ◌∷◌, Option, Some, arith}
 use Rattle.rnc_model.specs.declarations.FileTree as tree
 use Rattle.rnc_model.specs.declarations.FileTree.{FileTree}
@@ -14,7 +14,7 @@ module _ (files : List ℕ → Option FileTree) where
       let e : suc n - 1 ≡ n = omega arith in
       ap (λ m. gather_at files m v x k cs) (sym e)
 
-  -- they are gathered a level further down
+  -- they are gathered one level further down
   pub file_gathered : (levels : ℕ) (u v : List ℕ) (x : TreePath) (o : Option tree.Components) (cs : tree.Components) → 0 < levels → Some cs ≡ o → u ≡ v
       → included_with (gather_below files levels) v x o ≡ gather_at files (levels - 1) u (0 ∷ x) 0 cs
   unfolding included_with

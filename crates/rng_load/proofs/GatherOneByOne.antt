@@ -7,7 +7,7 @@ use Rattle.rnc_model.specs.declarations.FileTree.{FileTree, components_of}
 use Rattle.rnc_model.specs.loading.Places.{TreePath, Gathered}
 use Rattle.rng_load.specs.plain.PlainReading.{gather_at, gather_one_at, gather_with}
 
--- the loop over these components: before it those were gathered, and after so many of them these
+-- the invariant of the loop: the components that were gathered before it, and after n of these
 module _ {E : Type 0} (files : List ℕ → Option FileTree) (levels : ℕ) (u : List ℕ) (x : TreePath) (view : E → tree.Component) (es : List E)
     (before : List Gathered) where
   abbrev pub AreGathered : ℕ → List Gathered → Type 0
@@ -29,7 +29,7 @@ module _ {E : Type 0} (files : List ℕ → Option FileTree) (levels : ℕ) (u :
   all_gathered i found end gathered = sym (gathered
       ∙ ap (λ r. found ++ gather_at files levels u x i (components_of (map view r))) (drop_all i es end) ∙ append-nil found)
 
--- what is kept is kept as it is seen
+-- filtering and viewing commute
 module _ {E B : Type 0} (view : E → B) (test : B → Bool) where
   one_kept : (e : E) (es : List E) (b : Bool) → test (view e) ≡ b → map view (filter (λ e. test (view e)) es) ≡ filter test (map view es)
       → map view (filter (λ e. test (view e)) (e ∷ es)) ≡ filter test (map view (e ∷ es))

@@ -1,4 +1,4 @@
--- The names that are gathered file by file are those that a grammar has.
+-- The names that are gathered file by file are those of the grammar.
 use Rattle.std.proofs.Common.{◌≡◌, refl, sym, subst, ap, ◌∙◌, ℕ, ◌+◌, ◌<◌, ◌≤◌, List, [], ◌∷◌, ◌++◌, length, map, take, arith, ◌⊎◌, inl, inr, Option, Some}
 use Rattle.std.proofs.Common.{None, option_map, String, Bool, true, false}
 use Rattle.std.proofs.Common.{slice_get, string_bytes, zero, suc, cond, append-nil, append_assoc, ◌↔◌, Bor}
@@ -96,10 +96,10 @@ mutual
   component_extends (tree.div cs) ns = gather_extends cs ns
   component_extends (tree.include m over) ns = beyond (gather_extends over _) (one_file ns m.href)
 
--- ---- what is gathered is a name that they have, or a file whose names they have
+-- ---- what is gathered is a name of the components, or a file whose names they have
 
 module _ (read : TakenFiles) where
-  -- the names of the grammar of that file are theirs
+  -- the names of the grammar of that file are names of the components
   abbrev GivesAll : tree.Components → Name → Type 0
   GivesAll cs f = (gcs : tree.Components) → grammar_in read f ≡ Some gcs → (y : Option Name) → HasName (tree_in read) y gcs → HasName (tree_in read) y cs
 
@@ -148,7 +148,7 @@ module _ (read : TakenFiles) where
       | inr g ↦ inr (λ gcs e y h. of_braces (g gcs e y h))
     ]
 
-  -- ---- what they have is gathered, where nothing is left to be looked at
+  -- ---- the names of the components are gathered, if no file is left to read
 
   pub record Covers (all : Names) (cs : tree.Components) : Type 0 where
     pub before : Names
@@ -189,7 +189,7 @@ module _ (read : TakenFiles) where
 
   -- ---- file by file
 
-  -- the names of all files that may be looked at: those that the components mention, and those that a file mentions
+  -- the names of all files that may be read: those that the components mention, and those that a file mentions
   abbrev pub all_included : tree.Components → List Name
   all_included cs = map href (mentions_of_components cs) ++ flat_map (λ e. hrefs_of e.1) read
 
@@ -246,7 +246,7 @@ module _ (read : TakenFiles) where
     file_differs (tree.div cs) ns d = files_differ cs ns d
     file_differs (tree.include m over) ns d = files_differ over _ (name_differs ns.included m.href d)
 
-  -- these are names of the components, from them and from the first files that they include
+  -- these are names of the components, gathered from them and from the first files that they include
   pub record IsGathering (cs : tree.Components) (looked : ℕ) (all : Names) : Type 0 where
     pub covered : Covers all cs
     pub closed : (f : Name) (gcs : tree.Components) → Among f (take looked all.included) → grammar_in read f ≡ Some gcs → Covers all gcs
@@ -339,7 +339,7 @@ pub grammar_found : (es : List (String Global × declared.FileTree)) (f : Name) 
     → grammar_if (option_map file_of o) ≡ grammar_in (map (λ e. (string_bytes e.0, file_of e.1)) es) f
 grammar_found es f o e = ap (λ p. grammar_if (option_map file_of p)) e ∙ sym (ap grammar_if (tree_found es f))
 
--- ---- the names of others
+-- ---- comparing names
 
 abbrev Keys : Type 0
 Keys = List (Bor Name)
@@ -350,7 +350,7 @@ key_of keys a = from_map (λ k. k.now) keys a
 test_of : (keys : Keys) (q : Bor Name) → list_any (λ m. bytes_eq q.now m) (map (λ k. k.now) keys) ≡ list_any (λ k. bytes_eq q.now k.now) keys
 test_of keys q = any_seen (λ (k : Bor Name). k.now) (λ a b. bytes_eq a.now b.now) (λ k m. refl) q keys
 
--- a set of names that is part of another
+-- a set of names that is a subset of another
 pub part_of : (some all : Keys) → ((q : Bor Name) → IsTrue (list_any (λ k. bytes_eq q.now k.now) some) → IsTrue (list_any (λ k. bytes_eq q.now k.now) all)) →
     (n : Name) → Among n (map (λ k. k.now) some) → Among n (map (λ k. k.now) all)
 part_of some all sub n a =
@@ -369,7 +369,7 @@ all_or_one_lacks : (all ns : List Name) → ((m : Name) → Among m ns → Among
 all_or_one_lacks all [] = inl (λ m a. absurd (in_none a))
 all_or_one_lacks all (n ∷ ns) = lacks_this all n ns (list_any (λ m. bytes_eq n m) all) refl (all_or_one_lacks all ns)
 
--- one that is no part has a name that the other lacks
+-- one that is no subset has a name that the other lacks
 pub lacking : (some all : Keys) → ¬ ((q : Bor Name) → IsTrue (list_any (λ k. bytes_eq q.now k.now) some) → IsTrue (list_any (λ k. bytes_eq q.now k.now) all)) →
     (n : Name) × Among n (map (λ k. k.now) some) × ¬ (Among n (map (λ k. k.now) all))
 lacking some all sub = elim (all_or_one_lacks (map (λ k. k.now) all) (map (λ k. k.now) some)) [

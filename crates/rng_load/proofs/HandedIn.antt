@@ -1,4 +1,4 @@
--- Which files are handed in: once, twice or not at all.
+-- Which files are given: once, twice or not at all.
 use Rattle.std.proofs.Common.{◌≡◌, ◌≢◌, refl, sym, subst, ap, ◌∙◌, ℕ, ◌+◌, ◌<◌, ◌≤◌, List, [], ◌∷◌, ◌++◌, ◌⊎◌, inl, inr, Option, Some, None, String, Vec}
 use Rattle.std.proofs.Common.{Bor, Bool, true, false, Result, Ok, Err, IfSome}
 use Rattle.std.proofs.Common.{length, take, drop, get_or, append_assoc, string_bytes}
@@ -75,7 +75,7 @@ module _ (files : List NamedFile) (f : Name) (x : NamedFile) where
 pub none_missing : (f : Name) → IsMissing [] f
 none_missing f file a = absurd (in_none a)
 
--- ---- what a file is, and nothing else
+-- ---- what a file is, uniquely
 
 module _ (files : List NamedFile) (main f : Name) where
   pub one_file : {bytes other : List ℕ} → IsHandedIn files f bytes → IsHandedIn files f other → bytes ≡ other
@@ -133,7 +133,7 @@ module _ (files : List NamedFile) (main f : Name) where
       only (breaks k) b = clause k b
       only (has_tree t) b = c.only (has_tree t) (subst (λ bs. ContentHasVerdict bs (has_tree t)) (one_file b.handed_in h) b.is)
 
--- ---- a turn of the loop that looks for a file
+-- ---- one round of the loop that looks for a file
 
 abbrev NamedBytes : Type 0
 NamedBytes = String Global × Vec ℕ Global
@@ -170,7 +170,7 @@ module _ (files : List NamedBytes) (i : ℕ) (l : i < length files) (d : NamedBy
   met_again (Some b) some is h = subst (λ fs. IsHandedInTwice fs f) (sym whole) (found_again (named_files (take i files)) f next h is (named_files (drop
       (i + 1) files)))
 
--- after the last turn
+-- after the last round
 pub all_seen : (files : List NamedBytes) (i : ℕ) → length files ≤ i → (f : Name) (found : Option (Bor (List ℕ))) → IsFound (named_files
     (take i files)) f found →
     MatchOption found (IsMissing (named_files files) f ⊎ IsHandedInTwice (named_files files) f) (λ bytes. IsHandedIn (named_files files) f bytes.now)
@@ -180,7 +180,7 @@ all_seen files i l f (Some b) h = subst (λ fs. IsHandedIn fs f b.now) (ap named
 pub is_not : {b : Bool} → b ≡ false → b ≡ true → ⊥
 is_not f t = cc
 
--- ---- what a file that is handed in answers
+-- ---- the verdict on a file that is given
 
 pub all_small : (files : List NamedFile) (main f bytes : List ℕ) → IsHandedIn files f bytes → ¬ (BreaksLimit files main f bytes) →
     (r : Result declared.FileTree FileFault) → IfSome (verdict_of r) (ContentHasOnlyVerdict bytes) → IfSome (verdict_of r) (FileHasOnlyVerdict files main f)

@@ -1,4 +1,4 @@
--- Items that a loop takes one by one, seen by what they are.
+-- The items that a loop takes one by one, as they are viewed.
 use Rattle.std.proofs.Common.{◌≡◌, sym, ap, ◌∙◌, ℕ, ◌+◌, ◌<◌, List, [], ◌∷◌, ◌++◌, length, map, take, get_or, Some}
 use Rattle.std.proofs.lemmas.List.{map_more}
 use Rattle.std.proofs.lemmas.Option.{slice_get-get_or}
@@ -10,6 +10,6 @@ module _ {E A : Type 0} (view : E → A) (es : List E) (i : ℕ) (e : E) (inside
   pub taken_among : Among (view e) (map view es)
   taken_among = in_map view (in_at es i (slice_get-get_or es i e inside ∙ ap (λ x. Some x) (sym is)))
 
-  -- and stands behind those that were taken before
+  -- and comes after those that are taken before it
   pub taken_last : map view (take (i + 1) es) ≡ map view (take i es) ++ view e ∷ []
   taken_last = map_more view es i e inside ∙ ap (λ x. map view (take i es) ++ view x ∷ []) (sym is)

@@ -13,7 +13,7 @@ use Rattle.rnc_grammar.specs.views.View.{file_of, mentioned_file_of}
 use Rattle.rnc_model.specs.loading.Loading.{tree_in, hrefs_of, hrefs_if, hrefs_in}
 use Rattle.rnc_model.specs.loading.SchemaFile.{Name}
 
--- the name of a file that is mentioned
+-- the name of a mentioned file
 abbrev pub href_of : mentioned.MentionedFile → Name
 href_of m = (mention_of (mentioned_file_of m)).href
 
@@ -21,7 +21,7 @@ hrefs_are : (items : List mentioned.MentionedFile) → map href_of items ≡ map
 hrefs_are [] = refl
 hrefs_are (m ∷ items) = ap (λ ns. href_of m ∷ ns) (hrefs_are items)
 
--- what a file mentions, once all of it is looked at
+-- what a file mentions, after the last round
 pub all_hrefs : (items all : List mentioned.MentionedFile) (i : ℕ) → length items ≤ i → items ≡ all → (t : FileTree) → map mentioned_file_of all ≡ mentions_of t
     → map href_of (take i items) ≡ hrefs_of t
 all_hrefs items all i l same t are =

@@ -1,4 +1,4 @@
--- Lists, and what stands in them.
+-- Lists and their members.
 use Rattle.std.proofs.Common.{◌≡◌, refl, sym, subst, ap, ℕ, zero, suc, ◌≤◌, Bool, true, false, ◌||◌, List, [], ◌∷◌, ◌++◌, length, arith, ◌⊎◌, inl, inr, map}
 use Rattle.std.proofs.Common.{Some, slice_get, get_or, ◌<◌}
 use Rattle.std.specs.List.{list_any}
@@ -36,11 +36,11 @@ module _ {A : Type 0} where
   in_either [] p = inr p
   in_either (n ∷ ns) p = elim (in_cons p) [ inl e ↦ inl (in_first ns e) | inr q ↦ elim (in_either ns q) [ inl a ↦ inl (there a) | inr b ↦ inr b ] ]
 
-  -- what stands in a list with one more at its end
+  -- the members of a list with one more at its end
   pub in_more : {x y : A} (ns : List A) → Among x (ns ++ y ∷ []) → Among x ns ⊎ (x ≡ y)
   in_more ns p = elim (in_either ns p) [ inl a ↦ inl a | inr b ↦ elim (in_cons b) [ inl e ↦ inr e | inr c ↦ absurd (in_none c) ] ]
 
-  -- the item at an index stands in the list
+  -- the item at an index is a member of the list
   pub in_at : (xs : List A) (i : ℕ) {x : A} → slice_get xs i ≡ Some x → Among x xs
   in_at [] i e = absurd cc
   in_at (y ∷ ys) zero {x} e = let same : y ≡ x = cc in in_first ys (sym same)
@@ -51,7 +51,7 @@ module _ {A : Type 0} where
   in_place (y ∷ ys) zero x l is = in_first ys is
   in_place (y ∷ ys) (suc i) x l is = there (in_place ys i x (omega (arith, l)) is)
 
-  -- ---- lists in which nothing stands twice
+  -- ---- lists without duplicates
 
   pub none_twice : HasTwice {A = A} [] → ⊥
   none_twice h = elim h [ ]
@@ -70,7 +70,7 @@ module _ {A : Type 0} where
   pub differ_more : (ns : List A) (n : A) → ¬ (HasTwice ns) → ¬ (Among n ns) → ¬ (HasTwice (ns ++ n ∷ []))
   differ_more ns n d h t = elim (twice_more ns n t) [ inl a ↦ d a | inr b ↦ h b ]
 
-  -- what stands in the front stands nowhere behind it
+  -- a member of the front is not a member of the rest
   pub differ_parts : {x : A} (ns : List A) {ms : List A} → ¬ (HasTwice (ns ++ ms)) → Among x ns → Among x ms → ⊥
   differ_parts [] d p q = in_none p
   differ_parts {x} (n ∷ ns) {ms} d p q = elim (in_cons p) [
@@ -91,7 +91,7 @@ module _ {A : Type 0} where
       let w = without p in
       (m ∷ w.0, ap suc w.1, λ y q. elim (in_cons q) [ inl f ↦ inr (in_first w.0 f) | inr r ↦ elim (w.2 y r) [ inl g ↦ inl g | inr s ↦ inr (there s) ] ])
 
-  -- things that differ and all stand in a list are no more than it has
+  -- distinct members of a list are no more than its length
   pub no_more : (xs us : List A) → ¬ (HasTwice xs) → ((y : A) → Among y xs → Among y us) → length xs ≤ length us
   no_more [] us d h = omega arith
   no_more (x ∷ xs) us d h =

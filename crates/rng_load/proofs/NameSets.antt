@@ -1,4 +1,4 @@
--- The names of a set after one more is inserted, and the entries of a map after one whose key it has not.
+-- The names of a set after one more is inserted, and the entries of a map after one with a new key.
 use Rattle.std.proofs.Common.{◌≡◌, refl, sym, ap, ◌∙◌, ℕ, ◌+◌, ◌<◌, List, [], ◌∷◌, ◌++◌, map, Bool, true, false, cond, ◌||◌, String, Bor, length, take, get_or}
 use Rattle.std.specs.Global.{Global}
 use Rattle.std.specs.String.{string_eq, string_bytes}
@@ -14,7 +14,7 @@ use Rattle.rnc_model.specs.loading.Loading.{with_name}
 use Rattle.rnc_model.specs.loading.SchemaFile.{Name}
 use Rattle.rng_load.proofs.NameLists.{in_first}
 
--- keys that are seen as names, and are equal where their names are
+-- keys viewed as names; they are equal if their names are
 module _ {K : Type 0} (view : K → Name) (eq : K → K → Bool) (same : (k m : K) → eq k m ≡ bytes_eq (view k) (view m)) where
   pub any_seen : (k : K) (ks : List K) → list_any (λ m. bytes_eq (view k) m) (map view ks) ≡ list_any (eq k) ks
   any_seen k [] = refl
@@ -24,7 +24,7 @@ module _ {K : Type 0} (view : K → Name) (eq : K → K → Bool) (same : (k m :
   by_test ks k true c e = ap (λ c. cond c (map view ks) (map view ks ++ view k ∷ [])) e
   by_test ks k false c e = map-append view ks (k ∷ []) ∙ ap (λ c. cond c (map view ks) (map view ks ++ view k ∷ [])) e
 
-  -- a new name goes last, and a name that is there stays where it is
+  -- a new name goes last, and a name that is there keeps its index
   seen_after_insert : (ks : List K) (k : K) → map view (insert_key eq ks k) ≡ with_name (map view ks) (view k)
   seen_after_insert ks k = by_test ks k (list_any (eq k) ks) _ (sym (any_seen k ks))
 
@@ -40,7 +40,7 @@ any_same : (k : Name) (ks : List (String Global)) → list_any (λ m. bytes_eq k
 any_same k [] = refl
 any_same k (m ∷ ks) = ap (λ b. bytes_eq k (string_bytes m) || b) (any_same k ks)
 
--- a name that is there changes nothing
+-- inserting a name that is there changes nothing
 pub name_is_there : (ks : List (String Global)) (k : Name) → list_any (λ m. bytes_eq k (string_bytes m)) ks ≡ true → map string_bytes ks ≡ with_name
     (map string_bytes ks) k
 name_is_there ks k h = rw (any_same k ks ∙ h) refl

@@ -1,4 +1,4 @@
--- The names of the components that override others: one more is noted, and one is looked up.
+-- The names of the overriding components: one more is added, and one is looked up.
 use Rattle.std.proofs.Common.{◌≡◌, refl, sym, subst, ap, ◌∙◌, Bool, true, ◌||◌, List, map}
 use Rattle.std.proofs.Common.{inl, inr, Option, Some, None, Bor}
 use Rattle.std.specs.Cmp.{both_ways}

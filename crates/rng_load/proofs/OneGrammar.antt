@@ -1,4 +1,4 @@
--- At each place of a set of files there is at most one grammar, and one around it.
+-- At each place of a set of files there is at most one grammar, with at most one around it.
 use Rattle.std.proofs.Common.{◌≡◌, refl, sym, subst, ap, ◌∙◌, ℕ, suc, ◌<◌, Option, Some, None, List, [], ◌∷◌, ◌++◌, arith, inl, inr}
 use Rattle.std.proofs.lemmas.Bool.{cases_order}
 use Rattle.std.proofs.lemmas.List.{append_assoc}
@@ -12,12 +12,12 @@ use Rattle.rng_load.specs.plain.FoundGrammars.{nested_in}
 use Rattle.rng_load.proofs.PlacesApart.{longer, same_entry, in_nested, gathered_children}
 
 module _ (files : List ℕ → Option FileTree) (main : FileTree) where
-  -- how many grammars are around a grammar
+  -- the number of grammars around a grammar
   abbrev pub depth : {x : Place} {o : Option Place} {u : List ℕ} {cs : tree.Components} → HasGrammar files main x o u cs → ℕ
   depth (main_is e) = 0
   depth (nested_is h d i j) = suc (depth h)
 
-  -- two are one: the place, the one around it, the namespace and the components
+  -- two are equal: the place, the one around it, the namespace and the components
   pub record AreOne (x y : Place) (o p : Option Place) (u v : List ℕ) (cs ds : tree.Components) : Type 0 where
     pub place : x ≡ y
     pub outer : o ≡ p
@@ -33,7 +33,7 @@ module _ (files : List ℕ → Option FileTree) (main : FileTree) where
   further_up : (f g : TreePath) (i : ℕ) (z : TreePath) → (f ++ g ++ i ∷ []) ++ z ≡ f ++ (g ++ i ∷ z)
   further_up f g i z = append_assoc (f ++ g) (i ∷ []) z ∙ append_assoc f g (i ∷ z)
 
-  -- a way leads on from one grammar of each depth
+  -- a way extends the place of at most one grammar of each depth
   pub one_at_depth : {x y : Place} {o p : Option Place} {u v : List ℕ} {cs ds : tree.Components} (h : HasGrammar files main x o u cs)
       → (k : HasGrammar files main y p v ds) → depth h ≡ depth k → (f g : TreePath) → f ++ x ≡ g ++ y → AreOne x y o p u v cs ds
   one_at_depth (main_is d) (main_is e) l f g w = record { place = refl; outer = refl; uri = refl; components = d ∙ sym e }
@@ -48,7 +48,7 @@ module _ (files : List ℕ → Option FileTree) (main : FileTree) where
       let q = same_entry f g (gathered_children files d).apart (in_nested i j) (subst (λ gs. Among m (nested_in gs)) (sym s) (in_nested a b)) w in
       record { place = ap (λ k. k.place) q; outer = ap (λ z. Some z) r.place; uri = ap (λ k. k.uri) q; components = ap (λ k. k.components) q }
 
-  -- a grammar from which this place leads on, and which has this number around it
+  -- a grammar with k grammars around it whose place this place extends
   pub record Around (x : Place) (k : ℕ) : Type 0 where
     pub place : Place
     pub outer : Option Place
@@ -73,7 +73,7 @@ module _ (files : List ℕ → Option FileTree) (main : FileTree) where
     leads = e ∙ sym (append_assoc f (i ∷ []) x) ∙ ap (λ z. (f ++ i ∷ []) ++ z) r.leads ∙ sym (append_assoc (f ++ i ∷ []) r.way (r.child ∷ r.place));
   }
 
-  -- a grammar that has more than this number around it has one that has this number
+  -- a grammar with more than k grammars around it has one of depth k among them
   pub around : {x : Place} {o : Option Place} {u : List ℕ} {cs : tree.Components} (h : HasGrammar files main x o u cs) (k : ℕ) → k < depth h → Around x k
   around (main_is e) k l = absurd (omega (arith, l))
   around (nested_is {x} {o} {u} {cs} {n = n} h d i j) k l =

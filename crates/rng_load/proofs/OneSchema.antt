@@ -24,7 +24,7 @@ same_included e f i j = cc
 
 module _ (files : List ℕ → Option FileTree) where
   mutual
-    -- a pattern is read in one way
+    -- a pattern is read in only one way
     pub one_pattern : {u : List ℕ} {x : TreePath} {a : tree.Pattern} {p q : Pattern} {gs hs : List Nested} → Reads files u x a p gs → Reads files u x a q hs
         → (p ≡ q) × (gs ≡ hs)
     one_pattern (element_is d) (element_is {u} {c = c} e) = let i = one_pattern d e in (ap (pattern.element (class_in u c)) i.0, i.1)
@@ -52,7 +52,7 @@ module _ (files : List ℕ → Option FileTree) where
         (refl, ap (λ cs. record { place = x; uri = uri_in u m.namespace; components = cs } ∷ []) (same_components f g))
     one_pattern (joined_is d) (joined_is {k = k} e) = let i = all_one d e in (ap (members k) i.0, i.1)
 
-    -- patterns are read in one way
+    -- patterns are read in only one way
     pub all_one : {u : List ℕ} {x : TreePath} {n : ℕ} {all : tree.Patterns} {ps qs : List Pattern} {gs hs : List Nested} → ReadAll files u x n all ps gs
         → ReadAll files u x n all qs hs → (ps ≡ qs) × (gs ≡ hs)
     all_one none_are none_are = (refl, refl)
@@ -61,7 +61,7 @@ module _ (files : List ℕ → Option FileTree) where
         let j = all_one ds es in
         (ap₂ (λ p ps. p ∷ ps) i.0 j.0, p ∙ ap₂ (λ a b. a ++ b) i.1 j.1 ∙ sym q)
 
-  -- components are gathered in one way
+  -- components are gathered in only one way
   pub one_gathering : {u : List ℕ} {x : TreePath} {n : ℕ} {cs : tree.Components} {all more : List Gathered} → Gathers files u x n cs all
       → Gathers files u x n cs more → all ≡ more
   one_gathering nothing nothing = refl

@@ -1,4 +1,4 @@
--- Small schemas whose files mention one another: which go round, and how many paths of mentions there are.
+-- Small schemas whose files mention one another: which mentions form a cycle, and how many paths of mentions there are.
 use Rattle.std.proofs.Common.{refl, [], ◌∷◌, arith, inl, codes}
 use Rattle.rng_model.specs.names.Lists.{here}
 use Rattle.rng_model.specs.simple.Tree.{group}
@@ -20,7 +20,7 @@ b = codes "b.rnc"
 abbrev mention : Name → tree.Pattern
 mention f = tree.external (record { href = f; namespace = inherited; token = 0 })
 
--- ---- files that go round
+-- ---- cycles of mentions
 
 -- a.rnc: external "a.rnc"
 abbrev one_file : TakenFiles

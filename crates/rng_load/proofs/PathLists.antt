@@ -1,4 +1,4 @@
--- The lists of paths hold each path of so many steps, once.
+-- The lists of paths contain each path of n steps exactly once.
 use Rattle.std.proofs.Common.{◌≡◌, refl, sym, subst, ap, ◌∙◌, ℕ, zero, suc, ◌+◌, ◌<◌, ◌≤◌, arith, inl, inr, Some, None}
 use Rattle.std.proofs.Common.{List, [], ◌∷◌, length, map, slice_get}
 use Rattle.rng_model.specs.names.Lists.{Among, there, HasTwice}
@@ -104,7 +104,7 @@ module _ (mentions : Name → List Name) where
         λ p h. elim (in_cons h) [ inl e ↦ let len = ap length e in omega (arith, len) | inr k ↦ let l = r.1 p k in omega (arith, l) ],
       )
 
-  -- what the lists of paths count is what there is
+  -- the lists of paths count the existing paths
   pub more_here : {f : Name} (limit n : ℕ) → limit < length (paths mentions n f) → HasMorePathsThan mentions limit f
   more_here {f} limit n l = record { some = paths mentions n f; differ = differ_paths n f; are = λ p h. from_paths n f h; more = l }
 

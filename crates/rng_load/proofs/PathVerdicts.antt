@@ -1,4 +1,4 @@
--- The answer from the count.
+-- The verdict from the count.
 use Rattle.std.proofs.Common.{◌≡◌, refl, sym, ℕ, List, Bool, true, false, inl, inr, Option, Some, None}
 use Rattle.std.specs.Bool.{IsTrue}
 use Rattle.std.specs.Option.{is_some}

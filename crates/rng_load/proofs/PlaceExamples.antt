@@ -1,4 +1,4 @@
--- Small schemas of a few files: which components their grammars get, and one whole schema.
+-- Small schemas of a few files: the components of their grammars, and one whole schema.
 use Rattle.std.proofs.Common.{◌≡◌, refl, sym, subst, List, ℕ, zero, suc, [], ◌∷◌, Option, Some, None, codes, map, if◌then◌else◌}
 use Rattle.std.specs.Str.{bytes_eq}
 use Rattle.rng_model.specs.names.Lists.{Among, here, there}
@@ -45,7 +45,7 @@ including = tree.component_and
     (tree.include (mention inherited) (tree.component_and (tree.define (codes "x") methods.Plain (empty_element inherited (codes "y"))) tree.no_components))
     tree.no_components
 
--- both components of the name go, and the overriding one follows what is left
+-- both components of the name are removed, and the overriding one follows the rest
 overridden : Gathers (always (grammar_file two_of_x)) [] [] 0 including
     (a_component None (pattern.ref (codes "x")) ∷ a_component (Some (codes "x")) (read_element [] (codes "y")) ∷ [])
 overridden = an_include refl refl (a_start ref_is (a_define (element_is empty_is) (a_define (element_is empty_is) nothing)))
@@ -70,14 +70,14 @@ including_c = tree.component_and
     (tree.component_and (tree.define (codes "x") methods.Plain (empty_element inherited (codes "z"))) tree.no_components))
     tree.no_components
 
--- what overrides in b.rnc is overridden where b.rnc is included: of three components of the name one is left
+-- what overrides in b.rnc is overridden where b.rnc is included: one of three components of the name is left
 overridden_twice : Gathers (first_or_second (grammar_file including_c) (grammar_file one_of_x)) [] [] 0 including
     (a_component None (pattern.ref (codes "x")) ∷ a_component (Some (codes "x")) (read_element [] (codes "y")) ∷ [])
 overridden_twice = an_include refl refl
     (an_include refl refl (a_start ref_is (a_define (element_is empty_is) nothing)) (a_define (element_is empty_is) nothing) nothing refl)
     (a_define (element_is empty_is) nothing) nothing refl
 
--- ---- a namespace that is handed on
+-- ---- an inherited namespace
 
 -- b.rnc: start = element a { empty }
 abbrev one_start : tree.Components
@@ -92,12 +92,13 @@ handed_on = an_include refl refl (a_start (element_is empty_is) nothing) nothing
 
 -- ---- external files
 
--- `external "b.rnc" inherit = p`, where p is `v` and b.rnc is `element a { empty }`: the pattern of the file, its names in the namespace of p
+-- `external "b.rnc" inherit = p`, where p is `v` and b.rnc is `element a { empty }`: the pattern of the file, its names
+-- in the namespace of p
 external_pattern : Reads (always (pattern_file (empty_element inherited (codes "a")))) [] (0 ∷ []) (tree.external (mention (given (codes "v"))))
     (pattern.external (read_element (codes "v") (codes "a"))) []
 external_pattern = pattern_file_is refl (element_is empty_is)
 
--- where b.rnc is `start = element a { empty }`: a grammar that is nested at the place of the external
+-- with b.rnc as `start = element a { empty }`: a grammar that is nested at the place of the external
 external_grammar : Reads (always (grammar_file one_start)) [] (0 ∷ []) (tree.external (mention inherited))
     (pattern.external (pattern.grammar (0 ∷ []))) (record { place = 0 ∷ []; uri = []; components = one_start } ∷ [])
 external_grammar = grammar_file_is refl
@@ -115,7 +116,7 @@ outer_components =
     (tree.start methods.Plain (tree.element (tree.name_is (record { namespace = inherited; local = codes "a" })) (tree.grammar inner_components)))
     (tree.component_and (tree.define (codes "x") methods.Plain (empty_element inherited (codes "b"))) tree.no_components)
 
--- it stands in the body of the first component's pattern, and the grammar around it is the main one
+-- it is in the body of the first component's pattern, and the grammar around it is the main one
 nested_place : HasGrammar (always (grammar_file outer_components)) (grammar_file outer_components) (0 ∷ 0 ∷ []) (Some []) [] inner_components
 nested_place = nested_is (main_is refl) (a_start (element_is grammar_is) (a_define (element_is empty_is) nothing)) here here
 
@@ -135,7 +136,7 @@ no_files h = None
 abbrev start_of : pattern.Pattern → List Component
 start_of p = record { name = None; method = methods.Plain; pattern = p } ∷ []
 
--- the main grammar is at the empty place, the other is its first component's pattern, and no other is there
+-- the main grammar is at the empty place, the other is its first component's pattern, and there is no other
 abbrev two_components : Place → Option (List Component)
 two_components [] = Some (start_of (pattern.grammar (0 ∷ [])))
 two_components (zero ∷ []) = Some (start_of pattern.empty)

@@ -1,4 +1,4 @@
--- The places of the grammars that are nested in one: each leads on from its place, and no way leads on from two of them.
+-- The places of the grammars that are nested in one grammar: each extends its place, and no way extends two of them.
 use Rattle.std.proofs.Common.{◌≡◌, refl, sym, subst, ap, ◌∙◌, ℕ, ◌+◌, ◌<◌, ◌≤◌, Bool, true, false, cond, Option, List, [], ◌∷◌, ◌++◌, length, arith}
 use Rattle.std.proofs.Common.{inl, inr, filter, not}
 use Rattle.std.proofs.lemmas.List.{append_assoc, length-append}
@@ -15,18 +15,18 @@ use Rattle.rng_load.proofs.NameLists.{in_none, in_cons, in_either, in_left, in_r
 
 -- ---- ways
 
--- a way is not one that leads on from it
+-- a way is not an extension of itself
 pub longer : (x f : TreePath) (i : ℕ) → x ≡ f ++ i ∷ x → ⊥
 longer x f i e = omega (arith, ap length e, length-append f (i ∷ x))
 
--- ways that lead on from children of one place, and are one, lead on from one child
+-- equal ways that extend children of one place extend the same child
 pub one_child : (f g x : TreePath) (i j : ℕ) → f ++ i ∷ x ≡ g ++ j ∷ x → i ≡ j
 one_child [] [] x i j e = cc
 one_child [] (c ∷ g) x i j e = let t : x ≡ g ++ j ∷ x = cc in absurd (longer x g j t)
 one_child (c ∷ f) [] x i j e = let t : f ++ i ∷ x ≡ x = cc in absurd (longer x f i (sym t))
 one_child (c ∷ f) (d ∷ g) x i j e = one_child f g x i j cc
 
--- no way leads on from both
+-- no way extends both
 abbrev pub Apart : TreePath → TreePath → Type 0
 Apart x y = (f g : TreePath) → f ++ x ≡ g ++ y → ⊥
 
@@ -38,12 +38,12 @@ children_apart f g x {i} {j} d e l h k w =
 
 -- ---- lists of nested grammars
 
--- no way leads on from the places of two of them
+-- no way extends the places of two of them
 pub data AllApart : List Nested → Type 0 where
   none_apart : AllApart []
   more_apart : {n : Nested} {ns : List Nested} → ((m : Nested) → Among m ns → Apart n.place m.place) → AllApart ns → AllApart (n ∷ ns)
 
--- the places from which a way leads on are one
+-- places with a common extension are equal
 pub same_entry : {ns : List Nested} {n m : Nested} (f g : TreePath) → AllApart ns → Among n ns → Among m ns → f ++ n.place ≡ g ++ m.place → n ≡ m
 same_entry f g none_apart i j e = absurd (in_none i)
 same_entry f g (more_apart a more) here here e = refl
@@ -68,12 +68,12 @@ across_apart : {n m : Nested} {ns ms : List Nested} → Among n ns → Among m m
 across_apart {m = m} (here {xs = ns}) j (more_apart a more) = a m (in_right ns j)
 across_apart (there i) j (more_apart a more) = across_apart i j more
 
--- all their places lead on from this one, or are it, and they are apart
+-- all their places equal or extend this one, and they are apart
 pub record Inside (x : TreePath) (ns : List Nested) : Type 0 where
   pub leads : (n : Nested) → Among n ns → (f : TreePath) × (n.place ≡ f ++ x)
   pub apart : AllApart ns
 
--- all their places lead on from children of this one from the number k on, or are such, and they are apart
+-- all their places equal or extend children of this one from number k on, and they are apart
 pub record Children (x : TreePath) (k : ℕ) (ns : List Nested) : Type 0 where
   pub leads : (n : Nested) → Among n ns → (f : TreePath) × (i : ℕ) × (k ≤ i) × (n.place ≡ f ++ i ∷ x)
   pub apart : AllApart ns
@@ -110,7 +110,7 @@ more_children {x} {k} {ns} {ms} a b = record {
 
 -- ---- the grammars that are nested in gathered components
 
--- what one of the components has is among them
+-- the grammars of one component are among those of all
 pub in_nested : {g : Gathered} {gs : List Gathered} {n : Nested} → Among g gs → Among n g.nested → Among n (nested_in gs)
 in_nested (here {xs = gs}) i = in_left i (nested_in gs)
 in_nested (there {y = h} j) i = in_right h.nested (in_nested j i)
@@ -119,7 +119,7 @@ pub nested_in_both : (gs hs : List Gathered) → nested_in (gs ++ hs) ≡ nested
 nested_in_both [] hs = refl
 nested_in_both (g ∷ gs) hs = ap (λ ns. g.nested ++ ns) (nested_in_both gs hs) ∙ sym (append_assoc g.nested (nested_in gs) (nested_in hs))
 
--- ---- what a filter leaves
+-- ---- the result of a filter
 
 module _ (test : Gathered → Bool) where
   in_kept : (b : Bool) (g : Gathered) (gs : List Gathered) {n : Nested} → (Among n (nested_in (filter test gs)) → Among n (nested_in gs))
@@ -147,7 +147,7 @@ module _ (test : Gathered → Bool) where
 
 module _ (files : List ℕ → Option FileTree) where
   mutual
-    -- the grammars that are nested in a pattern stand at its place or further on
+    -- the grammars that are nested in a pattern are at its place or at extensions of it
     pub nested_inside : {u : List ℕ} {x : TreePath} {a : tree.Pattern} {p : Pattern} {gs : List Nested} → Reads files u x a p gs → Inside x gs
     nested_inside (element_is d) = inside_of (first_child (nested_inside d))
     nested_inside (attribute_is d) = inside_of (first_child (nested_inside d))
@@ -169,13 +169,13 @@ module _ (files : List ℕ → Option FileTree) where
     nested_inside (grammar_file_is f) = itself _
     nested_inside (joined_is d) = inside_of (nested_children d)
 
-    -- those that are nested in these patterns stand at their places or further on
+    -- the grammars that are nested in these patterns are at their places or at extensions of them
     pub nested_children : {u : List ℕ} {x : TreePath} {k : ℕ} {all : tree.Patterns} {ps : List Pattern} {gs : List Nested} → ReadAll files u x k all ps gs
         → Children x k gs
     nested_children none_are = no_children _ _
     nested_children (more_are {u} {x} {n = k} d ds e) = subst (Children x k) (sym e) (more_children (nested_inside d) (nested_children ds))
 
-  -- the grammars that are nested in the components of a grammar stand at its children or further on
+  -- the grammars that are nested in the components of a grammar are at its children or at extensions of them
   pub gathered_children : {u : List ℕ} {x : TreePath} {k : ℕ} {cs : tree.Components} {all : List Gathered} → Gathers files u x k cs all
       → Children x k (nested_in all)
   gathered_children nothing = no_children _ _

@@ -1,4 +1,4 @@
--- The places of a schema are the keys of the map that it is kept in.
+-- The places of a schema are the keys of its map.
 use Rattle.std.proofs.Common.{◌≡◌, ◌∙◌, sym, true≢false, refl, ap, List, [], ◌∷◌, map, Option, Some, None, option_map, IsSome}
 use Rattle.std.specs.Str.{bytes_eq}
 use Rattle.std.specs.Cmp.{decided}
@@ -32,7 +32,7 @@ places_listed main gs once = record {
   once = once;
 }
 
--- keys of a map are told apart by their places
+-- keys of a map have different places
 all_at : {A : Type 0} (P : A → Type 0) {x : A} {xs : List A} → AllByRecursion P xs → Among x xs → P x
 all_at P h here = h.0
 all_at P h (there i) = all_at P h.1 i
@@ -45,7 +45,7 @@ places_once (p ∷ ps) d (at_first a) =
     true≢false (sym ((same_place p q.0).1 q.2) ∙ all_at _ d.0 q.1)
 places_once (p ∷ ps) d (later t) = places_once ps d.1 t
 
--- the keys, seen
+-- the keys as they are viewed
 pub keys_seen : (es : List (declared.Place × Grammar)) → keys_of (map (λ e. (place_of e.0, grammar_of e.1)) es) ≡ map place_of (keys_of es)
 keys_seen [] = refl
 keys_seen (e ∷ es) = ap (λ xs. place_of e.0 ∷ xs) (keys_seen es)

@@ -1,5 +1,5 @@
--- The places of the grammars of a schema have a bounded length, so that a walk through nested grammars ends: what a step to a child adds to the way it takes
--- from what is left to read.
+-- The places of the grammars of a schema have bounded length, so a walk through nested grammars ends: a step to a child
+-- makes the way longer by one, and reduces what is left to read by at least one.
 use Rattle.std.proofs.Common.{◌≡◌, sym, subst, ap, ◌∙◌, ℕ, suc, ◌+◌, ◌-◌, ◌*◌, ◌<◌, ◌≤◌, List, [], ◌∷◌, ◌++◌, length, arith, inl, inr, Option, Some}
 use Rattle.std.proofs.Common.{filter, not}
 use Rattle.std.proofs.lemmas.List.{length-append}
@@ -22,10 +22,11 @@ use Rattle.rng_load.proofs.PlacesApart.{in_nested, nested_in_both, in_filter, ga
 use Rattle.rng_load.proofs.PlainReading.{grammar_mentions, followed_left, followed_right, follows, AreClosed, main_readable}
 use Rattle.rng_load.proofs.TreeSizes.{left_to_read, size, size_of_patterns, size_of_components, size_of_file, size_of_all, file_fits, grammar_fits}
 
--- ---- files of which none is larger than this
+-- ---- files of bounded size
 
 module _ (files : List ℕ → Option FileTree) (largest : ℕ) (fits : (f : Name) (t : FileTree) → files f ≡ Some t → size_of_file t ≤ largest) where
-  -- these components, which stand at this place, are readable, and what is left to read of them and the length of the place are no more than this together
+  -- These components at this place are readable. The length of the place and what is left to read of them are at most
+  -- `most` together.
   pub record Within (most : ℕ) (x : Place) (cs : tree.Components) : Type 0 where
     pub levels : ℕ
     pub readable : AreReadable files levels cs
@@ -53,7 +54,7 @@ module _ (files : List ℕ → Option FileTree) (largest : ℕ) (fits : (f : Nam
 
   -- ---- what is read and gathered
 
-  -- so many levels are left, of which a mention takes one
+  -- a mention takes one of the levels that are left
   level_taken : (n less k i m : ℕ) → n ≡ suc less → k ≤ largest → i ≤ m + 1 → left_to_read largest less k + i ≤ left_to_read largest n (m + 1)
   level_taken n less k i m e l s =
       let t : n * (largest + 1) ≡ less * (largest + 1) + (largest + 1) = ap (λ n. n * (largest + 1)) e ∙ omega arith in
@@ -134,7 +135,8 @@ module _ (files : List ℕ → Option FileTree) (largest : ℕ) (fits : (f : Nam
       (both_within (nested_in left ++ nested_in overriding) (nested_in rest)
       (both_within (nested_in left) (nested_in overriding) kept (all_more braces (omega arith))) (all_more more (omega arith)))
 
-  -- where the main file's components are readable, so is each grammar, and with the length of its place it has no more left to read than they have
+  -- If the components of the main file are readable, so are those of each grammar. With the length of its place, a
+  -- grammar has no more left to read than they have.
   pub grammars_within : {main : FileTree} {x : Place} {o : Option Place} {u : List ℕ} {cs : tree.Components} → HasGrammar files main x o u cs → (n : ℕ)
       → AreReadable files n (main_grammar main) → Within (left_to_read largest n (size_of_components (main_grammar main))) x cs
   grammars_within (main_is e) n r =
@@ -153,20 +155,20 @@ further files {x = x} d i j =
     let t = length-append l.0 (l.1 ∷ x) in
     omega (arith, s, t)
 
--- no place of a grammar of the main file with this tree is longer
+-- the largest length of a place of a grammar, for a main file with this tree
 abbrev pub longest : TakenFiles → FileTree → ℕ
 longest read t = left_to_read (size_of_all read) path_limit (size_of_components (main_grammar t))
 
 module _ (read : TakenFiles) (closed : AreClosed read) (kept : ¬ (BreaksIncludes read)) (main : Name) (t : FileTree) (there_is : tree_in read main ≡ Some t)
     (paths : ¬ (BreaksMentions (hrefs_in read) main)) where
-  -- none is longer
+  -- no place is longer
   pub within : {x : Place} {o : Option Place} {u : List ℕ} {cs : tree.Components} → HasGrammar (tree_in read) t x o u cs → length x ≤ longest read t
   within h =
       let w = grammars_within (tree_in read) (size_of_all read) (file_fits read) h path_limit (main_readable read closed kept main t there_is paths) in
       let b = w.bound in
       omega (arith, b)
 
-  -- what is left to the longest falls from the place of a grammar to that of one that is nested in it
+  -- the distance to the largest length falls from the place of a grammar to that of one that is nested in it
   pub nearer : {x : Place} {o : Option Place} {u : List ℕ} {cs : tree.Components} {gathered : List Gathered} {g : Gathered} {n : Nested}
       → HasGrammar (tree_in read) t x o u cs → Gathers (tree_in read) u x 0 cs gathered → Among g gathered → Among n g.nested
       → longest read t - length n.place < longest read t - length x

@@ -1,4 +1,5 @@
--- What is read plainly is what stands in the files, where mentions can be followed; and in files that keep their rules they can be.
+-- What is read plainly agrees with the definitions, if mentions can be followed. In files that keep their rules they
+-- can be.
 use Rattle.std.proofs.Common.{◌≡◌, refl, sym, subst, ap, ◌∙◌, ℕ, zero, suc, ◌+◌, ◌-◌, ◌<◌, arith, Bool, true, false, cond, not, List, [], ◌∷◌, ◌++◌, filter}
 use Rattle.std.proofs.Common.{inl, inr, Option, Some, None}
 use Rattle.std.specs.Str.{bytes_eq}
@@ -28,7 +29,7 @@ whole_mentions : (p : tree.Pattern) (cs : tree.Components) → whole_grammar p �
 whole_mentions (tree.grammar ds) cs e = let s : ds ≡ cs = cc in ap mentions_of_components (sym s)
 whole_mentions _ cs e = absurd cc
 
--- a grammar mentions what its file does
+-- a grammar mentions the same files as its file
 pub grammar_mentions : (t : FileTree) (cs : tree.Components) → grammar_of t ≡ Some cs → mentions_of_components cs ≡ mentions_of t
 grammar_mentions (grammar_file ds) cs e = let s : ds ≡ cs = cc in ap mentions_of_components (sym s)
 grammar_mentions (pattern_file p) cs e = whole_mentions p cs e
@@ -44,20 +45,20 @@ module _ (files : List ℕ → Option FileTree) where
 
   -- ---- soundness
 
-  -- the reader gives what is read of a pattern, if that is readable
+  -- for a readable pattern, the reader's result is what the pattern reads as
   abbrev ReaderSound : ℕ → PatternReader → Type 0
   ReaderSound n read = (u : List ℕ) (x : TreePath) (a : tree.Pattern) → IsReadable files n a → Reads files u x a (read u x a).0 (read u x a).1
 
   abbrev GathererSound : ℕ → Gatherer → Type 0
   GathererSound n gather = (u : List ℕ) (x : TreePath) (k : ℕ) (cs : tree.Components) → AreReadable files n cs → Gathers files u x k cs (gather u x k cs)
 
-  -- and so for a mention that can be followed
+  -- the same for a mention that can be followed
   abbrev ExternalSound : ℕ → PatternReader → Type 0
   ExternalSound n below = (m : tree.Mention) → IsFollowed files n (external_file m) → (u : List ℕ) (x : TreePath) →
       Reads files u x (tree.external m) (external_with below (uri_in u m.namespace) x (files m.href)).0
       (external_with below (uri_in u m.namespace) x (files m.href)).1
 
-  -- the components of the file that is included
+  -- the components of the included file
   abbrev IncludedAre : Gatherer → tree.Mention → Type 0
   IncludedAre below m = (t : FileTree) × (is : tree.Components) × (files m.href ≡ Some t) × (grammar_of t ≡ Some is)
       × ((v : List ℕ) (x : TreePath) → Gathers files v (0 ∷ x) 0 is (included_with below v x (grammar_if (files m.href))))
@@ -138,12 +139,12 @@ module _ (files : List ℕ → Option FileTree) where
       subst (λ o. Reads files u x (tree.external m) (external_with below v x o).0 (external_with below v x o).1) (sym f.1)
       (external_of n below (read_with_sound n (read_below files n) (external_sound n)) m f.0 f.1 f.3 u x)
 
-  -- a readable pattern is what is read plainly of it
+  -- a readable pattern reads as the plain result
   pub read_sound : (n : ℕ) (u : List ℕ) (x : TreePath) (a : tree.Pattern) → IsReadable files n a
       → Reads files u x a (read_at files n u x a).0 (read_at files n u x a).1
   read_sound n = read_with_sound n (read_below files n) (external_sound n)
 
-  -- readable patterns are what is read plainly of them
+  -- readable patterns read as the plain results
   pub read_all_sound : (n : ℕ) (u : List ℕ) (x : TreePath) (k : ℕ) (all : tree.Patterns) → AreFollowed files n (mentions_of_patterns all)
       → ReadAll files u x k all (read_all_at files n u x k all).0 (read_all_at files n u x k all).1
   read_all_sound n = read_all_with_sound n (read_below files n) (external_sound n)
@@ -163,18 +164,18 @@ module _ (files : List ℕ → Option FileTree) where
       included_of n below (gather_with_sound n (read_at files n) (gather_below files n) (read_sound n) (include_sound n)) m f.0 f.2.0 f.1 f.2.1
       (subst (AreFollowed files n) (sym (grammar_mentions f.0 f.2.0 f.2.1)) f.3)
 
-  -- readable components give what is gathered plainly of them
+  -- readable components are gathered as the plain result
   pub gather_sound : (n : ℕ) (u : List ℕ) (x : TreePath) (k : ℕ) (cs : tree.Components) → AreReadable files n cs
       → Gathers files u x k cs (gather_at files n u x k cs)
   gather_sound n = gather_with_sound n (read_at files n) (gather_below files n) (read_sound n) (include_sound n)
 
-  -- where a level is left, a mention of a pattern gives what is read with one level less
+  -- if a level is left, a mention of a pattern is read with one level less
   pub read_step : (n : ℕ) → 0 < n → read_below files n ≡ read_at files (n - 1)
   unfolding read_below
   read_step zero l = absurd (omega (arith, l))
   read_step (suc n) l = let e : suc n - 1 ≡ n = omega arith in ap (read_at files) (sym e)
 
-  -- and an include what is gathered with one level less
+  -- and an include is gathered with one level less
   pub gather_step : (n : ℕ) → 0 < n → gather_below files n ≡ gather_at files (n - 1)
   unfolding gather_below
   gather_step zero l = absurd (omega (arith, l))
@@ -257,7 +258,7 @@ module _ (files : List ℕ → Option FileTree) where
         let rest = all_nested_readable ds n (followed_right n (mentions_of_pattern a) (mentions_of_patterns all) r) in
         subst (NestedReadable n) (sym e) (both_nested n gs hs one rest)
 
-  -- what is nested in the components is readable
+  -- the grammars that are nested in the components are readable
   abbrev pub GatheredReadable : ℕ → List Gathered → Type 0
   GatheredReadable n all = (g : Gathered) → Among g all → NestedReadable n g.nested
 
@@ -304,7 +305,7 @@ module _ (files : List ℕ → Option FileTree) where
       subst (GatheredReadable n) (sym w)
       (both_gathered n (filter test included ++ overriding) rest (both_gathered n (filter test included) overriding left braces) more)
 
-  -- where the main file's components are readable, so are those of each grammar
+  -- if the components of the main file are readable, so are those of each grammar
   pub grammars_readable : {main : FileTree} {x : Place} {o : Option Place} {u : List ℕ} {cs : tree.Components} → HasGrammar files main x o u cs → (n : ℕ)
       → AreReadable files n (main_grammar main) → AreReadable files n cs
   grammars_readable (main_is e) n r = subst (AreReadable files n) (sym e) r
@@ -315,7 +316,7 @@ module _ (files : List ℕ → Option FileTree) where
 only_that : {n : MentionedFile} (ms : List MentionedFile) → Among n (ms ++ []) → Among n ms
 only_that ms i = elim (in_either ms i) [ inl j ↦ j | inr j ↦ absurd (in_none j) ]
 
--- the main file mentions all that its grammar does
+-- the main file mentions everything that its grammar mentions
 pub main_mentions : (t : FileTree) (m : MentionedFile) → Among m (mentions_of_components (main_grammar t)) → Among m (mentions_of t)
 main_mentions (grammar_file cs) m i = i
 main_mentions (pattern_file p) m i = by_whole (whole_grammar p) refl i where
@@ -356,7 +357,7 @@ module _ (read : TakenFiles) where
       by_grammar None n = absurd (kept (broken n))
       by_grammar (Some is) n = (is, n)
 
-    -- from a file with no path of this many steps each mention can be followed for so many levels
+    -- if a file has no path of n steps, each of its mentions can be followed for n levels
     pub all_followed : (n : ℕ) (f : Name) (t : FileTree) → tree_in read f ≡ Some t → ¬ (IsLong (hrefs_in read) n f)
         → AreFollowed (tree_in read) n (mentions_of t)
     unfolding IsFollowed

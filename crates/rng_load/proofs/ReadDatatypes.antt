@@ -1,4 +1,4 @@
--- Datatypes as they stand in a file, and as they are read.
+-- Datatypes as they are in a file, and as they are read.
 use Rattle.std.proofs.Common.{◌≡◌, ◌∙◌, sym, ap, ap₂, ℕ, List, ◌∷◌, rules, Box, Global, Option, Some, None}
 use Rattle.rng_model.specs.schema.Patterns as pattern
 use Rattle.rng_model.specs.simple.Tree as tree_types

@@ -1,4 +1,4 @@
--- A turn of the walk through the files.
+-- One round of the walk through the files.
 use Rattle.std.proofs.Common.{◌≡◌, refl, sym, subst, ap, ◌∙◌, ℕ, suc, ◌-◌, ◌<◌, ◌≤◌, List, [], ◌∷◌, length, map, arith, Err, IfSome, Some, String}
 use Rattle.std.proofs.Common.{slice_get, string_bytes, fold, None, zero}
 use Rattle.std.specs.Global.{Global}

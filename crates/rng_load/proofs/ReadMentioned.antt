@@ -1,4 +1,4 @@
--- The pattern of a file that is mentioned.
+-- The pattern of a mentioned file.
 use Rattle.std.proofs.Common.{◌≡◌, ◌∙◌, sym, subst, ap, ℕ, zero, suc, ◌-◌, ◌<◌, List, ◌∷◌, Option, Some, arith, rules, Box, Global}
 use Rattle.rng_model.specs.declared.schema_pattern.SchemaPattern.{SchemaPattern, the_lemmas}
 use Rattle.rng_model.specs.declared.schema_pattern.SchemaPattern.TheVariants as patterns
@@ -20,7 +20,7 @@ module _ (files : List ℕ → Option FileTree) where
       let e : suc n - 1 ≡ n = omega arith in
       ap (λ k. read_at files k v x a) (sym e)
 
-  -- it is read a level further down
+  -- it is read one level further down
   pub file_read : (levels : ℕ) (u v : List ℕ) (x : TreePath) (o : Option FileTree) (a : tree.Pattern) → 0 < levels → Some (pattern_file a) ≡ o → u ≡ v
       → external_with (read_below files levels) v x o ≡ within pattern.external (read_at files (levels - 1) u (0 ∷ x) a)
   unfolding external_with

@@ -7,7 +7,8 @@ use Rattle.rnc_model.specs.declarations.FileTree.{FileTree, patterns_of}
 use Rattle.rnc_model.specs.loading.Places.{TreePath, Nested}
 use Rattle.rng_load.specs.plain.PlainReading.{read_at, read_all_at, read_all_with}
 
--- the loop over these patterns: before it these grammars were found, and after so many patterns those; of the patterns so far these were read
+-- The invariant of the loop over these patterns: the grammars that were found before it and after n patterns, and the
+-- patterns that were read so far.
 pub record AreRead (files : List ℕ → Option FileTree) (levels : ℕ) (u : List ℕ) (x : TreePath) (all : List tree.Pattern) (before : List Nested) (n : ℕ)
     (rest : List tree.Pattern) (read : List Pattern) (found : List Nested) : Type 0 where
   pub patterns : (read_all_at files levels u x 0 (patterns_of all)).0 ≡ read ++ (read_all_at files levels u x n (patterns_of rest)).0

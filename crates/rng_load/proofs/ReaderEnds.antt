@@ -1,4 +1,4 @@
--- What the reader of a schema begins and ends with.
+-- The start and the end of the reader of a schema.
 use Rattle.std.proofs.Common.{◌≡◌, refl, sym, subst, ℕ, List, [], ◌∷◌, Option, None, map, option_map}
 use Rattle.indexmap.specs.IndexMap.{insert_entry}
 use Rattle.rng_model.specs.schema.Patterns.{Place}
@@ -24,12 +24,12 @@ module _ (files : List ℕ → Option FileTree) where
   only_start p = refl
 
   module _ (main : FileTree) where
-    -- the main grammar is at the place that leads nowhere
+    -- the main grammar is at the empty place
     pub main_gathered : (x : Place) (all : List Gathered) → x ≡ [] → all ≡ gathered_at files [] [] (main_grammar main) → HasGathered files main x None all
     main_gathered x all e i = subst (λ x. HasGathered files main x None all) (sym e)
         (record { uri = []; components = main_grammar main; there = main_there files main; are = i })
 
-    -- a grammar is put there
+    -- a grammar is put at this place
     pub put_first : (es new : Entries) (k : declared.Place) (g : Grammar) {x : Place} {all : List Gathered} → place_of k ≡ x
         → new ≡ insert_entry place_eq es k g → HasGathered files main x (option_map place_of g.outer) all
         → map schema_component_of g.components.items ≡ map (λ c. c.component) all → IsAdding files main (view es) (view new) x []
@@ -37,7 +37,7 @@ module _ (files : List ℕ → Option FileTree) where
         let put = subst (λ ds. ArePut (view es) (view ds) (place_of k) (grammar_of g)) (sym i) (is_put k g es) in
         begins files main {g = grammar_of g} has are (subst (λ y. ArePut (view es) (view new) y (grammar_of g)) e put)
 
-    -- and all are
+    -- all grammars are found
     pub whole : CanBeRead files main → (x first : Place) (old new : PlacedGrammars) → x ≡ [] → first ≡ [] → old ≡ [] → AreMore files main old new
         → IsFound first new → IsSchemaOf files main (schema_with x new)
     whole readable x first old new e f o more found =

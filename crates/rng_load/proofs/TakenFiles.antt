@@ -1,4 +1,4 @@
--- Files taken in load order: the names differ, those of the files that are taken come first, and the order is the only one.
+-- Files taken in load order: their names are distinct, the taken files come first, and the order is unique.
 use Rattle.std.proofs.Common.{◌≡◌, refl, sym, subst, ap, ◌∙◌, ℕ, zero, suc, ◌<◌, ◌≤◌, Bool, true, false, cond, List, [], ◌∷◌, ◌++◌, length, map, arith, ◌⊎◌}
 use Rattle.std.proofs.Common.{inl, inr}
 use Rattle.std.proofs.Common.{append-nil, append_assoc, Some, Option, slice_get}
@@ -62,7 +62,7 @@ differ_all : (ns ms : List Name) → ¬ (HasTwice ns) → ¬ (HasTwice (fold wit
 differ_all ns [] d = d
 differ_all ns (m ∷ ms) d = differ_all (with_name ns m) ms (by_differ m ns (list_any (λ k. bytes_eq m k) ns) refl d)
 
--- ---- an index beyond the front of a list, and at its end
+-- ---- an index after the front of a list, and at its end
 
 at_next : {A : Type 0} (xs rest : List A) {x : A} → slice_get (xs ++ rest) (length xs) ≡ Some x → (more : List A) × (rest ≡ x ∷ more)
 at_next [] [] e = absurd cc
@@ -90,7 +90,7 @@ first_of e = e.0
 module _ (files : List NamedFile) (main : Name) where
   -- ---- the names
 
-  -- those of the files that are taken come first, and none stands twice
+  -- those of the taken files come first, and there are no duplicates
   pub record IsOrder (read : TakenFiles) (names : List Name) : Type 0 where
     pub rest : List Name
     pub parts : names ≡ map first_of read ++ rest
@@ -116,7 +116,7 @@ module _ (files : List NamedFile) (main : Name) where
         differ = subst (λ ns. ¬ (HasTwice ns)) (sym m) (differ_all names (hrefs_of t) o.differ);
       }
 
-  -- the file that is taken next was not taken yet
+  -- the file that is taken next is not taken yet
   pub fresh : {read : TakenFiles} {names : List Name} {f : Name} → IsTaken files main read names → slice_get names (length read) ≡ Some f → ¬ (Among f
       (map first_of read))
   fresh {read} {names} {f} taken next a =
@@ -126,7 +126,7 @@ module _ (files : List NamedFile) (main : Name) where
       let n = at_next (map first_of read) o.rest where_at in
       differ_parts (map first_of read) (subst (λ ns. ¬ (HasTwice ns)) (o.parts ∙ ap (λ ns. map first_of read ++ ns) n.1) o.differ) a here
 
-  -- every file that is taken is handed in, so that there are no more of these
+  -- every taken file is given, so there are at most as many
   all_handed_in : {read : TakenFiles} {names : List Name} → IsTaken files main read names → (e : Name × FileTree) → Among e read → Among e.0 (map
       (λ x. x.name) files)
   all_handed_in (none_yet r n) e a = absurd (in_none (subst (Among e) r a))
@@ -149,9 +149,9 @@ module _ (files : List NamedFile) (main : Name) where
       (λ y p. let r = from_map first_of read p in subst (λ g. Among g (map (λ x. x.name) files)) (sym r.2) (all_handed_in taken r.0 r.1)) in
       omega (arith, few, length-map read first_of, length-map files (λ x. x.name))
 
-  -- ---- the order is the only one
+  -- ---- the order is unique
 
-  -- the same, where each file has its tree and is nothing else
+  -- the same, and each file has its tree as its only verdict
   pub data IsFirm : TakenFiles → List Name → Type 0 where
     none_firm : {read : TakenFiles} {names : List Name} → read ≡ [] → names ≡ main ∷ [] → IsFirm read names
     more_firm : {read all : TakenFiles} {names more : List Name} {f : Name} {t : FileTree} → IsFirm read names → slice_get names (length read) ≡ Some f →
@@ -191,7 +191,7 @@ module _ (files : List NamedFile) (main : Name) where
         m ∙ ap (λ ns. fold with_name ns (hrefs_of t)) i.1 ∙ ap (λ w. fold with_name n2 (hrefs_of w)) tt ∙ sym e,
       )
 
-  -- the beginning of so many files
+  -- the first k files
   pub record FirmBeginning (k : ℕ) : Type 0 where
     pub read : TakenFiles
     pub names : List Name
@@ -230,7 +230,7 @@ module _ (files : List NamedFile) (main : Name) where
 
   -- ---- one verdict on the files by themselves
 
-  -- what is known once the files are read: all, or up to the first that breaks a clause and is nothing else
+  -- the result once the files are read: all of them, or up to the first that breaks a clause as its only verdict
   pub record IsFirmlyBroken (f : Name) (k : ℕ) : Type 0 where
     pub before : TakenFiles
     pub names : List Name
@@ -258,7 +258,8 @@ module _ (files : List NamedFile) (main : Name) where
   same_clause : {j k : ℕ} → breaks j ≡ breaks k → j ≡ k
   same_clause e = cc
 
-  -- a beginning of a firm order, against another order that goes on with a file that breaks a clause, or that has no name left
+  -- the beginning of a firm order, compared to another order that continues with a file that breaks a clause, or has no
+  -- name left
   no_break_before : {read other : TakenFiles} {names more : List Name} {g : Name} {j : ℕ} → IsFirm read names → IsTaken files main other more →
       slice_get more (length other) ≡ Some g → BreaksOwn files main g j → length other < length read → ⊥
   no_break_before {read} {other} {names} {more} {g} {j} firm taken next b l =
@@ -274,7 +275,7 @@ module _ (files : List NamedFile) (main : Name) where
       let s = same_length o.firm taken o.long in
       none_beyond more (length other) (sym (ap (λ ns. slice_get ns (length o.read)) s.1 ∙ ap (slice_get more) o.long) ∙ o.next) end
 
-  -- an order that goes on beyond a firm one
+  -- an order that continues after a firm one
   goes_on_alike : {read other : TakenFiles} {names more : List Name} → IsFirm read names → IsTaken files main other more → length read < length other →
       (f : Name) × (t : FileTree) × (slice_get names (length read) ≡ Some f) × HasTree files main f t
   goes_on_alike {read} {other} {names} {more} firm taken l =
@@ -282,7 +283,7 @@ module _ (files : List NamedFile) (main : Name) where
       let s = same_length firm o.taken (sym o.long) in
       (o.file, o.tree, ap (λ ns. slice_get ns (length read)) s.1 ∙ ap (slice_get o.names) (sym o.long) ∙ o.next, o.is)
 
-  -- no file breaks a clause by itself where all have their trees
+  -- if all files have their trees, none breaks a clause by itself
   pub all_firm : {read : TakenFiles} {g : Name} {j : ℕ} → AreFirm read → IsFirstBroken files main g j → ⊥
   all_firm {read} a b = elim (less_equal_more (length b.before) (length read)) [
     | inl l ↦ no_break_before a.firm b.taken b.next b.broken l
@@ -336,7 +337,7 @@ module _ (files : List NamedFile) (main : Name) where
     ]
   ]
 
-  -- ---- what the walk answers
+  -- ---- what the walk returns
 
   pub all_read : (read : TakenFiles) → AreFirm read → IsTheReading files main (are_taken read)
   all_read read a = record { is = record { names = a.names; taken = firm_taken a.firm; all = a.all }; only = only } where

@@ -1,5 +1,6 @@
--- The sizes of trees: those of parts are smaller, and no file that was read is larger than all of them together. So what is left to read falls at each step:
--- into a part of a tree, or by a mention, which takes a level, into another file.
+-- The sizes of trees: parts are smaller than the whole, and no file that was read is larger than all of them together.
+-- So what is left to read falls at each step: into a part of a tree, or at a mention, which takes a level, into another
+-- file.
 use Rattle.std.proofs.Common.{◌≡◌, refl, sym, subst, ap, ℕ, zero, suc, ◌+◌, ◌-◌, ◌*◌, ◌<◌, ◌≤◌, List, [], ◌∷◌, Option, Some, None, arith}
 use Rattle.rng_model.specs.names.Lists.{Among, here, there}
 use Rattle.rnc_model.specs.declarations.FileTree as tree
@@ -11,7 +12,7 @@ use Rattle.rng_load.proofs.PlainReading.{found_among}
 -- ---- sizes
 
 abbrev mutual
-  -- how many patterns, components and lists of them a pattern has in it
+  -- the number of patterns, components and lists of them in a pattern
   pub size : tree.Pattern → ℕ
   size (tree.element c p) = size p + 1
   size (tree.attribute c p) = size p + 1
@@ -50,7 +51,7 @@ abbrev pub size_of_file : FileTree → ℕ
 size_of_file (pattern_file p) = size p
 size_of_file (grammar_file cs) = size_of_components cs
 
--- all files together, so that none is larger
+-- the size of all files together, so no file is larger
 abbrev pub size_of_all : TakenFiles → ℕ
 size_of_all [] = 0
 size_of_all (file ∷ read) = size_of_file file.1 + size_of_all read
@@ -100,7 +101,7 @@ grammar_of_file_fits read f cs e = by_tree (tree_in read f) refl e where
 
 -- ---- what is left to read
 
--- with so many levels and a tree of this size, where no file is larger than the largest
+-- with n levels and a tree of this size, if no file is larger than the largest
 abbrev pub left_to_read : ℕ → ℕ → ℕ → ℕ
 left_to_read largest levels n = levels * (largest + 1) + n
 
@@ -111,7 +112,7 @@ falls_inside largest levels n m l = omega (arith, l)
 fewer_levels : (largest levels n m : ℕ) → n ≤ largest → left_to_read largest levels n < left_to_read largest (suc levels) m
 fewer_levels largest levels n m l = let e : suc levels * (largest + 1) ≡ levels * (largest + 1) + (largest + 1) = omega arith in omega (arith, l, e)
 
--- and from any tree to one of a file, a level further down
+-- and from any tree to one of a file, one level further down
 pub falls_at_mention : (largest levels n m : ℕ) → 0 < levels → n ≤ largest → left_to_read largest (levels - 1) n < left_to_read largest levels m
 falls_at_mention largest zero n m p l = absurd (omega (arith, p))
 falls_at_mention largest (suc levels) n m p l =

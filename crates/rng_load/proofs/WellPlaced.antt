@@ -37,7 +37,7 @@ module _ {z : Place} where
   among_members group (p ∷ (r ∷ ps)) w = among_joined w
   among_members interleave (p ∷ (r ∷ ps)) w = among_joined w
 
--- what a filter leaves was there
+-- a member of a filtered list is a member of the list
 among_filter : {A : Type 0} {x : A} (test : A → Bool) (xs : List A) → Among x (filter test xs) → Among x xs
 among_filter test [] i = i
 among_filter {x = x} test (y ∷ ys) i = kept (test y) (among_filter test ys) i
@@ -46,7 +46,7 @@ among_filter {x = x} test (y ∷ ys) i = kept (test y) (among_filter test ys) i
     kept true rest i = elim (in_cons i) [ inl e ↦ names.in_first ys e | inr j ↦ there (rest j) ]
     kept false rest i = there (rest i)
 
--- one of these grammars stands at the place
+-- one of these grammars is at the place
 abbrev IsNestedAt : Place → List Nested → Type 0
 IsNestedAt z gs = (n : Nested) × Among n gs × (z ≡ n.place)
 
@@ -82,7 +82,7 @@ module _ (files : List ℕ → Option FileTree) {z : Place} where
     nested_among (more_are {gs = gs} {hs} d ds e) (in_this w) = let i = nested_read d w in (i.0, subst (Among i.0) (sym e) (in_left i.1 hs), i.2)
     nested_among (more_are {gs = gs} {hs} d ds e) (in_later w) = let i = nested_among ds w in (i.0, subst (Among i.0) (sym e) (in_right gs i.1), i.2)
 
-  -- so is one that is written in a component
+  -- so is a grammar that is written in a component
   nested_gathered : {u : List ℕ} {x : TreePath} {n : ℕ} {cs : tree.Components} {all : List Gathered} {g : Gathered} → Gathers files u x n cs all → Among g all
       → IsWrittenIn (grammar z) g.component.pattern → IsNestedAt z g.nested
   nested_gathered nothing i w = absurd (in_none i)
@@ -107,7 +107,7 @@ module _ (files : List ℕ → Option FileTree) {z : Place} where
 -- ---- the schema
 
 module _ (files : List ℕ → Option FileTree) (main : FileTree) (s : Schema) (is : IsSchemaOf files main s) where
-  -- there is a grammar at this place, and around it is the one at the other place
+  -- there is a grammar at this place, and the grammar around it is at the other place
   abbrev IsNestedIn : Place → Place → Type 0
   IsNestedIn x z = (cs : List Component) × (s.components z ≡ Some cs) × (s.outer z ≡ Some x)
 

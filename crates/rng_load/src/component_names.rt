@@ -1,4 +1,4 @@
-// Which names the components of a grammar have, through the files that it includes.
+// The names that the components of a grammar have, including the components of the files that it includes.
 ghost use Rattle.std.specs.Prelude.{◌≡◌, ◌↔◌, ℕ, List, Option, IfOk, IsFalse, IsTrue, OnOk, Some, map, option_map, slice_get};
 ghost use Rattle.rnc_model.specs.declarations.FileTree.{components_of};
 ghost use Rattle.rnc_grammar.specs.views.View.{component_of};
@@ -12,7 +12,8 @@ use rnc_grammar::{Component, FileTree};
 use rng_model::OutOfMemory;
 use std::alloc::Global;
 
-/// The names of the components of a grammar, whether it has a start, and the files that it includes.
+/// The names that are gathered from the components of a grammar: the names of its defines, whether it has a start, and
+/// the files that it includes.
 #[derive(Drop)]
 pub struct ComponentNames<'a> {
     defines: IndexSet<&'a str>,
@@ -20,8 +21,8 @@ pub struct ComponentNames<'a> {
     included: IndexSet<&'a str>,
 }
 
-/// The names that these components give their grammar, directly or through the files that they include. Each file is
-/// looked at once.
+/// Returns the names of these components and of the files that they include, directly or through other files. Reads
+/// each file once.
 pub fn component_names<'a>(
     alloc: Global,
     trees: &'a IndexMap<String, FileTree>,
@@ -39,7 +40,7 @@ pub fn component_names<'a>(
     Ok(names)
 }
 
-/// The components of the grammar that the file of this name is.
+/// The components of the file of this name, if it is a grammar.
 pub fn grammar_of<'a>(trees: &'a IndexMap<String, FileTree>, name: &str) -> Option<&'a [Component]>
     ensures { option_map (λ cs. components_of (map component_of cs.now)) result ≡ grammar_in (taken_files_of trees.now) name.now }
 {
@@ -50,7 +51,7 @@ pub fn grammar_of<'a>(trees: &'a IndexMap<String, FileTree>, name: &str) -> Opti
 }
 
 impl<'a> ComponentNames<'a> {
-    /// No names.
+    /// Creates a value without names.
     fn new(alloc: Global) -> Self
         ensures { names_in result ≡ no_names }
     {
@@ -61,7 +62,7 @@ impl<'a> ComponentNames<'a> {
         }
     }
 
-    /// Whether they have each name that the others have, and a start where these have one.
+    /// Whether `self` has each name of `others`, and a start if `others` has one.
     pub fn have_all_of(&self, others: &ComponentNames<'a>) -> bool
         ensures all { IsTrue result → (y : Option (List ℕ)) → HasIt (names_in others.now) y → HasIt (names_in self.now) y }
         ensures lack { IsFalse result → (y : Option (List ℕ)) × HasIt (names_in others.now) y × ¬ (HasIt (names_in self.now) y) }
@@ -72,7 +73,7 @@ impl<'a> ComponentNames<'a> {
         others.defines.is_subset(&self.defines)
     }
 
-    /// Adds those of the grammar that the included file at this index is.
+    /// Adds the names of the included file at this index, if it is a grammar.
     fn add_file(
         &mut self,
         trees: &'a IndexMap<String, FileTree>,
@@ -89,7 +90,7 @@ impl<'a> ComponentNames<'a> {
         }
     }
 
-    /// Adds the name of a component, or what stands in its braces; of an include also the file.
+    /// Adds the name of a component, or the names in its braces. For an include, also adds the file.
     #[cycle(component_names)]
     fn add(&mut self, component: &'a Component) -> Result<(), OutOfMemory>
         ensures { OnOk result (names_in self.new ≡ gather_component (names_in self.old) (component_of component.now)) }
@@ -108,7 +109,7 @@ impl<'a> ComponentNames<'a> {
         }
     }
 
-    /// Adds those of all components.
+    /// Adds the names of all components.
     #[cycle(component_names)]
     fn add_all(&mut self, components: &'a [Component]) -> Result<(), OutOfMemory>
         ensures { OnOk result (names_in self.new ≡ gather (names_in self.old) (components_of (map component_of components.now))) }
@@ -120,7 +121,7 @@ impl<'a> ComponentNames<'a> {
     }
 }
 
-/// Puts a name at the end of these, unless it is there.
+/// Appends a name, unless the set has it.
 pub fn note<'a>(names: &mut IndexSet<&'a str>, name: &'a str) -> Result<(), OutOfMemory>
     ensures { OnOk result (map (λ n. n.now) names.new.keys ≡ with_name (map (λ n. n.now) names.old.keys) name.now) }
 {

@@ -1,4 +1,4 @@
-// Why a file of a schema, or one of its files, has no tree.
+// Why one file has no tree, and why the files of a schema cannot all be read.
 ghost use Rattle.std.specs.Prelude.{◌≡◌};
 ghost use Rattle.rnc_grammar.specs.views.Fault as parsing;
 ghost use Rattle.rng_load.specs.views.FileFaults.{fault_of_parse, fault_of_text};
@@ -9,12 +9,12 @@ use rnc_syntax::SyntaxFault;
 use rnc_text::TextFault;
 use rng_model::OutOfMemory;
 
-/// Why a file of a schema, or one of its files, has no tree.
+/// Why one file has no tree.
 #[derive(Clone, Copy)]
 pub enum FileFault {
     /// The file breaks this clause, 1 to 8.
     Clause(u8),
-    /// There was no memory for what had to be kept.
+    /// Out of memory.
     Memory,
 }
 
@@ -48,12 +48,13 @@ impl From<SyntaxFault> for FileFault {
     }
 }
 
-/// Why the files of a schema are not all read.
+/// Why the files of a schema cannot all be read.
 #[derive(Drop)]
 pub enum ReadingFault {
-    /// The file of this name is the first to break a clause by itself, and this is the first that it breaks: 1 to 8.
+    /// The file of this name is the first that breaks a clause by itself. The clause, 1 to 8, is the first that it
+    /// breaks.
     File { clause: u8, name: String },
-    /// There was no memory for what had to be kept.
+    /// Out of memory.
     Memory,
 }
 

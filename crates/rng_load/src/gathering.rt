@@ -17,7 +17,7 @@ use rnc_grammar::{Mention, Method, Pattern};
 use rng_model::{Component, OutOfMemory};
 use std::alloc::Global;
 
-/// A component that its grammar gets, and the grammars that are nested in it.
+/// A component of a grammar, with the grammars that are nested in it.
 ///
 /// RELAX NG Specification, sections 4.7 and 4.18.
 #[derive(Drop)]
@@ -27,11 +27,13 @@ pub(crate) struct GatheredComponent<'a> {
 }
 
 impl<'a> TreeReader<'a> {
-    /// Puts the components that these give their grammar at the end of `all`, in order, with includes followed for so many levels. `uri`
-    /// is the namespace that their file inherits, and `way` leads to what they stand in, the outermost number first.
+    /// Appends the components that `components` add to their grammar, in order. Follows includes for at most `levels`
+    /// levels. `uri` is the namespace that their file inherits. `way` leads to their parent, with the outermost number
+    /// first.
     ///
-    /// Of an include these are the components of its file that its braces do not override, and then those of its braces. Where
-    /// the file is no grammar, or no level is left, it gives those of its braces alone.
+    /// An include adds the components of its file, except for those that its braces override, and then the components
+    /// in its braces. If the file is no grammar, or no level is left, an include adds only the components in its
+    /// braces.
     ///
     /// RELAX NG Specification, sections 4.7, 4.9 and 4.11.
     #[cycle(gathering)]
@@ -53,7 +55,7 @@ impl<'a> TreeReader<'a> {
         Ok(())
     }
 
-    /// Puts those of the component there that is the child with this number.
+    /// Appends the components that the child with this number adds.
     #[cycle(gathering)]
     fn gather_child(
         self,
@@ -74,7 +76,7 @@ impl<'a> TreeReader<'a> {
         Ok(())
     }
 
-    /// Puts those of one component there.
+    /// Appends the components that one component adds.
     #[cycle(gathering)]
     #[tactic(auto, unfolding(crate::specs::plain::PlainReading::gather_with))]
     fn gather(
@@ -106,7 +108,7 @@ impl<'a> TreeReader<'a> {
         }
     }
 
-    /// Puts those of an include there, with the components in its braces.
+    /// Appends the components that an include adds, including those in its braces.
     ///
     /// RELAX NG Specification, section 4.7.
     #[cycle(gathering)]
@@ -132,7 +134,7 @@ impl<'a> TreeReader<'a> {
         replace(self.alloc, all, included, replacing)
     }
 
-    /// The components of the file that is included.
+    /// The components of the included file.
     #[cycle(gathering)]
     #[tactic(auto, unfolding(crate::specs::plain::PlainReading::included_with, crate::specs::plain::PlainReading::gather_below))]
     #[inline(never)]
@@ -160,7 +162,7 @@ impl<'a> TreeReader<'a> {
         Ok(all)
     }
 
-    /// Puts those of the components there that stand in the child with this number.
+    /// Appends the components that the components in the child with this number add.
     #[cycle(gathering)]
     fn gather_under(
         self,
@@ -181,7 +183,7 @@ impl<'a> TreeReader<'a> {
         Ok(())
     }
 
-    /// Puts the component of this name there, of which a start has none.
+    /// Appends a component of this name, or a start if there is no name.
     #[inline(never)]
     fn put_gathered(
         self,
@@ -201,7 +203,7 @@ impl<'a> TreeReader<'a> {
         Ok(all.push(component)?)
     }
 
-    /// The component of this name with the grammars that are nested in its pattern.
+    /// The component of this name, with the grammars that are nested in its pattern.
     pub(crate) fn gathered(
         self,
         levels: u32,
@@ -229,7 +231,7 @@ impl<'a> TreeReader<'a> {
     }
 }
 
-/// Puts the included components that are not overridden at the end of `all`, and then the overriding ones.
+/// Appends the included components that are not overridden, and then the overriding ones.
 ///
 /// RELAX NG Specification, section 4.7.
 fn replace<'a>(
@@ -246,7 +248,7 @@ fn replace<'a>(
     Ok(())
 }
 
-/// Takes the included components away that are overridden. The time is linear in the number of both.
+/// Removes the included components that are overridden. Takes time linear in the number of both.
 ///
 /// RELAX NG Specification, section 4.7.
 fn remove_overridden(
@@ -261,7 +263,7 @@ fn remove_overridden(
     Ok(())
 }
 
-/// The names of components that override others, and whether one of them is a start, which has none.
+/// The names of the overriding components, and whether one of them is a start.
 #[derive(Drop)]
 struct OverridingNames<'a> {
     defines: IndexSet<&'a str>,
@@ -269,7 +271,7 @@ struct OverridingNames<'a> {
 }
 
 impl<'a> OverridingNames<'a> {
-    /// Those of these components.
+    /// Gathers the names of these components.
     fn of_all(alloc: Global, overriding: &'a [GatheredComponent<'_>]) -> Result<Self, OutOfMemory>
         ensures { IfOk result (λ names. (g : Gathered) → has_name names g.component.name ≡ is_overridden (map gathered_of overriding.now) g) }
     {
@@ -283,7 +285,7 @@ impl<'a> OverridingNames<'a> {
         Ok(names)
     }
 
-    /// Adds the name of a component, or that there is a start.
+    /// Adds the name of a component, or a start if there is no name.
     fn add(&mut self, name: &'a Option<String>) -> Result<(), OutOfMemory>
         ensures { OnOk result ((y : Option (List ℕ)) → has_name self.new y ≡ (has_name self.old y || same_name (option_map (λ n. string_bytes n) name.now) y)) }
     {
@@ -299,7 +301,7 @@ impl<'a> OverridingNames<'a> {
         }
     }
 
-    /// Whether one of them has this name, or is a start where there is none.
+    /// Whether one of the components has this name, or is a start if there is no name.
     fn has(&self, name: &Option<String>) -> bool
         ensures { result ≡ has_name self.now (option_map (λ n. string_bytes n) name.now) }
     {

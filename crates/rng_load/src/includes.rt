@@ -1,4 +1,4 @@
-// Whether the includes of files are of grammars that have what is overridden.
+// Whether each include is of a grammar that has everything that is overridden.
 ghost use Rattle.std.specs.Prelude.{◌↔◌, IfOk, IsTrue, map};
 ghost use Rattle.rnc_model.specs.declarations.FileTree.{components_of};
 ghost use Rattle.rnc_grammar.specs.views.View.{component_of, file_of, mention_of, mentioned_file_of};
@@ -11,8 +11,8 @@ use rnc_grammar::{Component, FileTree, Mention, MentionedFile};
 use rng_model::OutOfMemory;
 use std::alloc::Global;
 
-/// Whether an include of one of the files, wherever it stands, is of a file that is no grammar, or overrides a start or
-/// a name of which the included grammar has no component.
+/// Whether some include breaks a rule, at any depth in one of the files: the included file is no grammar, or the
+/// include overrides a start or a name that the included grammar does not have.
 ///
 /// RELAX NG Specification, section 4.7.
 pub fn breaks_includes(
@@ -29,7 +29,7 @@ pub fn breaks_includes(
     Ok(false)
 }
 
-/// The same of one file.
+/// Whether some include of one file breaks a rule.
 fn has_broken_include(
     alloc: Global,
     trees: &IndexMap<String, FileTree>,
@@ -46,7 +46,7 @@ fn has_broken_include(
     Ok(false)
 }
 
-/// Whether the mention is a broken include.
+/// Whether the mention is an include that breaks a rule.
 fn is_broken(
     alloc: Global,
     trees: &IndexMap<String, FileTree>,
@@ -62,7 +62,7 @@ fn is_broken(
     }
 }
 
-/// The same of one include, with the components in its braces.
+/// Whether an include with these components in its braces breaks a rule.
 fn breaks_include(
     alloc: Global,
     trees: &IndexMap<String, FileTree>,

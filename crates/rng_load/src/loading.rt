@@ -1,4 +1,4 @@
-// From the files that are handed in to their schema.
+// From the given files to their schema.
 ghost use Rattle.std.specs.Prelude.{IfSome};
 ghost use Rattle.rnc_model.specs.loading.Files.{named_files};
 ghost use Rattle.rng_load.specs.views.Loaded.{IsLoaded};
@@ -16,36 +16,45 @@ use rnc_grammar::FileTree;
 use rng_model::SchemaFault;
 use std::alloc::Global;
 
-/// The schema whose main file has this name, among the files that are handed in.
+/// Loads the schema whose main file has the name `main`, from the given files.
 ///
-/// The load order begins with the main file; then, for each file in load order, come the files that it mentions with
-/// `include` or `external`, wherever they stand, in the order of its tokens, each that is not there yet. The bytes
-/// of files that are not reached so are not looked at. The first clause that is broken is answered:
+/// The load order begins with the main file. For each file in load order, the files follow that it mentions with
+/// `include` or `external`, at any depth, in the order of its tokens. A file that is in the order already is not added
+/// again. The bytes of other files are not read. The call fails with the first clause that is broken:
 ///
-/// - `File` with the name of the first file in load order that breaks a clause by itself, and the first that it breaks:
-///   1 where no file of this name is handed in, or more than one; 2 where it is the main one and more than 64 files are
-///   handed in, or it has more than 1,048,576 bytes, of which none is looked at; 3 where they are not UTF-8; 4 where a
-///   character is none of XML's, or an escape is bad; 5 where neither a blank, a comment nor a token begins; 7 where
-///   up to some token the opening brackets exceed the closing ones by more than 128; 6 where 7 is not broken and the
-///   tokens are no sentence of the grammar; 8 where a declaration or a prefix breaks a rule;
-/// - else `Clause(9)` where a file mentions itself, directly or through others, or there are more than 4,096 paths of
-///   mentions from the main file, the empty one counted;
-/// - else `Clause(10)` where an included file is no grammar, or an include overrides a start or a name of which the
-///   included grammar has no component.
+/// - `File` with the name of the first file in load order that breaks a clause by itself, and the first clause that it
+///   breaks:
+///   - 1 if no file of this name is given, or more than one;
+///   - 2 if it is the main file and more than 64 files are given, or it has more than 1,048,576 bytes. Then no byte is
+///     read;
+///   - 3 if the bytes are not UTF-8;
+///   - 4 if XML does not allow a character, or an escape is bad;
+///   - 5 if neither a blank, a comment nor a token begins at some offset;
+///   - 7 if up to some token the opening brackets exceed the closing ones by more than 128;
+///   - 6 if 7 is not broken and the tokens are no sentence of the grammar;
+///   - 8 if a declaration or a prefix breaks a rule;
+/// - otherwise `Clause(9)` if a file mentions itself, directly or through others, or there are more than 4,096 paths of
+///   mentions from the main file, including the empty one;
+/// - otherwise `Clause(10)` if an included file is no grammar, or an include overrides a start or a name that the
+///   included grammar does not have.
 ///
-/// Where none is broken, the schema is answered: the components of the main grammar, and of each that is nested in
-/// another. The main file inherits the empty namespace; a mention hands on the one that it names with `inherit`, else
-/// the default of its file. An include gives its grammar the components of its file without those of each name, and
-/// the starts, that its braces override, and then those of its braces. An external stands for the pattern of its
-/// file, and a file that is a grammar is one that is nested there. Each grammar that is nested in a component stands at
-/// its place, and around it is the grammar of that component.
+/// If no clause is broken, the call returns the schema: the components of the main grammar, and those of each nested
+/// grammar.
 ///
-/// `Memory` answers that there was no memory, and says nothing of the files. Each file is decoded and parsed once, in
-/// time in proportion to its bytes; for an include with braces, the components are looked at once that the two grammars
-/// have. Nothing is copied before the clauses are settled; then time and memory are in proportion to what stands at
-/// all places, each grammar with the way to it.
+/// - The main file inherits the empty namespace. A mentioned file inherits the namespace that the mention names with
+///   `inherit`, or otherwise the default namespace of the file that mentions it.
+/// - An include adds to its grammar the components of its file, except for those that its braces override. These are
+///   the starts if the braces have a start, and the components of each name that the braces define. The components in
+///   the braces follow.
+/// - An external is replaced by the pattern of its file. If the file is a grammar, it is a nested grammar there.
+/// - Each grammar that is nested in a component is at its place, and the grammar around it is that of the component.
 ///
-/// RELAX NG Specification, sections 4.6, 4.7, 4.9, 4.11 and 4.18; the order and the limits are of the profile
+/// Fails with `Memory` only when out of memory, which says nothing about the files. Decodes and parses each file once,
+/// in time linear in its bytes. For an include with braces, reads the components of the two grammars once. Copies
+/// nothing before all clauses are checked. After that, time and memory are linear in the contents of all places, each
+/// grammar with the way to it.
+///
+/// RELAX NG Specification, sections 4.6, 4.7, 4.9, 4.11 and 4.18. The order and the limits are of the profile
 /// (docs/LANGUAGE.md).
 pub fn load(alloc: Global, files: &[(String, Vec<u8>)], main: &str) -> Result<Schema, SchemaFault>
     ensures { IsLoaded (named_files files.now) main.now result }
@@ -55,7 +64,7 @@ pub fn load(alloc: Global, files: &[(String, Vec<u8>)], main: &str) -> Result<Sc
     Ok(schema_of_files(alloc, &trees, tree)?)
 }
 
-/// The files of the schema, each with its tree, or the first clause that is broken.
+/// Reads the files of the schema with their trees, or fails with the first clause that is broken.
 fn load_files(
     alloc: Global,
     files: &[(String, Vec<u8>)],

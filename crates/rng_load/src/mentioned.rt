@@ -10,8 +10,8 @@ use rnc_grammar::{FileTree, MentionedFile};
 use rng_model::OutOfMemory;
 use std::alloc::Global;
 
-/// The names that a file mentions, in the order of its tokens, as they are written. Takes memory in
-/// proportion to the mentions; no name is copied.
+/// Returns the names that a file mentions as they are written, in the order of its tokens. Takes memory linear in the
+/// mentions; the names are borrowed.
 pub fn hrefs<'a>(alloc: Global, tree: &'a FileTree) -> Result<Vec<&'a str>, OutOfMemory>
     ensures { IfOk result (λ names. map (λ n. n.now) names.items ≡ hrefs_of (file_of tree.now)) }
 {
@@ -23,7 +23,7 @@ pub fn hrefs<'a>(alloc: Global, tree: &'a FileTree) -> Result<Vec<&'a str>, OutO
     Ok(names)
 }
 
-/// The names that the file of this name mentions, in order; none where it is none of these.
+/// The names that the file of this name mentions, in order. Empty if there is no such file.
 pub fn hrefs_in<'a>(
     alloc: Global,
     trees: &'a IndexMap<String, FileTree>,
@@ -37,7 +37,7 @@ pub fn hrefs_in<'a>(
     }
 }
 
-/// The name of a file that is mentioned.
+/// The name of a mentioned file.
 fn href<'a>(file: MentionedFile<'a>) -> &'a str
     ensures { result.now ≡ (mention_of (mentioned_file_of file.entry)).href }
 {

@@ -15,13 +15,13 @@ use rnc_grammar::FileTree;
 use rng_model::OutOfMemory;
 use std::alloc::Global;
 
-/// The files that the main one reaches, by name in load order, each with its tree.
+/// Returns the files that the main file reaches, by name in load order, each with its tree.
 ///
-/// The load order begins with the main file; then, for each file in load order, come the files that it mentions, in the
-/// order of its tokens, each that is not there yet. `File` names the first file in load order that breaks a clause by
-/// itself, and its least clause, 1 to 8; what comes after it is not looked at.
+/// The load order begins with the main file. For each file in load order, the files follow that it mentions, in the
+/// order of its tokens. A file that is in the order already is not added again. Fails with `File` for the first file in
+/// load order that breaks a clause by itself, with the first clause that it breaks, 1 to 8. Files after it are not read.
 ///
-/// Each file is decoded and parsed once, however often it is mentioned.
+/// Decodes and parses each file once, however often it is mentioned.
 pub fn load_in_order(
     alloc: Global,
     files: &[(String, Vec<u8>)],
@@ -41,7 +41,7 @@ pub fn load_in_order(
     Ok(trees)
 }
 
-/// The tree of the file of this name; `File` with its name where it breaks a clause by itself.
+/// Reads the tree of the file of this name. Fails with `File` and its name if it breaks a clause by itself.
 fn named_tree(
     alloc: Global,
     files: &[(String, Vec<u8>)],
@@ -60,7 +60,7 @@ fn named_tree(
     }
 }
 
-/// Puts the names that a file mentions at the end of these, each that is not there yet.
+/// Appends the names that a file mentions, unless they are in the set.
 fn note_all(alloc: Global, names: &mut IndexSet<String>, tree: &FileTree) -> Result<(), OutOfMemory>
     ensures { OnOk result (names_of names.new ≡ fold with_name (names_of names.old) (hrefs_of (file_of tree.now))) }
 {

@@ -1,4 +1,4 @@
-// Whether files mention themselves, or are mentioned along too many paths.
+// Whether files mention themselves, or there are too many paths of mentions.
 ghost use Rattle.std.specs.Prelude.{◌≡◌, ◌↔◌, IfOk, IfSome, IsTrue, MatchOption};
 ghost use Rattle.rng_load.specs.plain.Counting.{marks_of, AreMore, HasFewPaths, IsMarked, StopsAt};
 ghost use Rattle.rng_load.specs.views.FilesView.{taken_files_of};
@@ -12,23 +12,22 @@ use rng_model::OutOfMemory;
 use std::alloc::Global;
 use std::collections::HashMap;
 
-/// How many paths of mentions there may be from the main file, the empty one counted.
+/// The largest number of paths of mentions from the main file, including the empty one.
 const PATH_LIMIT: u32 = 4096;
 
-/// How far the count of a file's paths is.
+/// The state of counting the paths of a file.
 #[derive(Clone, Copy)]
 enum Mark {
-    /// Some of its mentions are counted.
+    /// Not all of its mentions are counted yet.
     Open,
-    /// It has this many paths.
+    /// The file has this many paths.
     Counted(u32),
 }
 
 /// Whether a file that the main file reaches mentions itself, directly or through others, or there are more than 4,096
-/// paths of mentions from the main file, the empty one counted.
+/// paths of mentions from the main file, including the empty one.
 ///
-/// The mentions of each file are looked at once, however many paths lead to it; recurses no deeper than there are
-/// names.
+/// Reads the mentions of each file once, however many paths lead to it. Recurses no deeper than the number of names.
 pub(crate) fn breaks_mentions(
     alloc: Global,
     trees: &IndexMap<String, FileTree>,
@@ -41,8 +40,8 @@ pub(crate) fn breaks_mentions(
     Ok(number.is_none())
 }
 
-/// The number of paths of mentions from a file; `None` where there are too many, or where one comes back to a file, or
-/// has as many steps as there are levels.
+/// Counts the paths of mentions from a file. Returns `None` if there are too many, if one returns to an open file, or
+/// if one has as many steps as there are levels.
 fn count_paths<'a>(
     alloc: Global,
     trees: &'a IndexMap<String, FileTree>,

@@ -1,4 +1,4 @@
-// A value is put into a map.
+// Putting a value into a map.
 ghost use Rattle.std.specs.Prelude.{◌≡◌, OnOk};
 ghost use Rattle.indexmap.specs.IndexMap.{insert_entry};
 
@@ -6,7 +6,7 @@ use indexmap::IndexMap;
 use rng_model::OutOfMemory;
 use std::hash::Hash;
 
-/// Puts a value under this key, in the place of the one that is there.
+/// Puts a value under this key, and replaces the value that is there.
 pub(crate) fn put<K: Eq + Hash + Drop, V: Drop>(
     map: &mut IndexMap<K, V>,
     key: K,

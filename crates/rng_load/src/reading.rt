@@ -1,4 +1,4 @@
-// From the files that are handed in to the tree of one of them.
+// From the given files to the tree of one of them.
 ghost use Rattle.std.specs.Prelude.{◌↔◌, ◌⊎◌, IfSome, IsTrue, MatchOption};
 ghost use Rattle.rng_load.specs.views.FileFaults.{verdict_of};
 ghost use Rattle.rnc_model.specs.loading.Files.{named_files};
@@ -10,20 +10,25 @@ use rnc_syntax::read_syntax;
 use rnc_text::{read_text, tokens};
 use std::alloc::Global;
 
-/// How many bytes a file may have.
+/// The largest number of bytes of a file.
 const SIZE_LIMIT: usize = 1_048_576;
 
-/// How many files may be handed in.
+/// The largest number of files.
 const FILE_LIMIT: usize = 64;
 
-/// The tree of the file of this name, among these files, of which the main one has the other name.
+/// Reads the tree of the file `name` among the given files, whose main file is `main`.
 ///
-/// `Clause` names the least clause that the file breaks: 1 where it is not handed in, or more than once; 2 where it is
-/// the main one and more than 64 files are handed in, or it has more than 1,048,576 bytes, and then none of them is
-/// looked at; 3 where they are not UTF-8, 4 where a character is none of XML's or an escape is bad, 5 where neither a
-/// blank, a comment nor a token begins, 7 where up to some token the opening brackets exceed the closing ones by more
-/// than 128, 6 where 7 is not broken and the tokens are no sentence of the grammar, 8 where a declaration or a prefix
-/// breaks a rule.
+/// Fails with `Clause` for the first clause that the file breaks:
+///
+/// - 1 if it is not given, or given more than once;
+/// - 2 if it is the main file and more than 64 files are given, or it has more than 1,048,576 bytes. Then no byte is
+///   read;
+/// - 3 if the bytes are not UTF-8;
+/// - 4 if XML does not allow a character, or an escape is bad;
+/// - 5 if neither a blank, a comment nor a token begins at some offset;
+/// - 7 if up to some token the opening brackets exceed the closing ones by more than 128;
+/// - 6 if 7 is not broken and the tokens are no sentence of the grammar;
+/// - 8 if a declaration or a prefix breaks a rule.
 pub fn tree_of_file(
     alloc: Global,
     files: &[(String, Vec<u8>)],
@@ -41,7 +46,7 @@ pub fn tree_of_file(
     tree_of_content(alloc, bytes)
 }
 
-/// Whether the file of this name is the main one and too many files are handed in, or has too many bytes.
+/// Whether this file is the main one and too many files are given, or has too many bytes.
 fn is_too_large(files: &[(String, Vec<u8>)], main: &str, name: &str, bytes: &[u8]) -> bool
     ensures { IsTrue result ↔ BreaksLimit (named_files files.now) main.now name.now bytes.now }
 {
@@ -49,7 +54,7 @@ fn is_too_large(files: &[(String, Vec<u8>)], main: &str, name: &str, bytes: &[u8
     has_too_many_files || bytes.len() > SIZE_LIMIT
 }
 
-/// The bytes of the one file of this name; `None` where none is handed in, or more than one.
+/// The bytes of the only file of this name. `None` if no file or more than one has this name.
 fn bytes_of<'a>(files: &'a [(String, Vec<u8>)], name: &str) -> Option<&'a [u8]>
     ensures { MatchOption result
         (IsMissing (named_files files.now) name.now ⊎ IsHandedInTwice (named_files files.now) name.now)
@@ -67,9 +72,10 @@ fn bytes_of<'a>(files: &'a [(String, Vec<u8>)], name: &str) -> Option<&'a [u8]>
     found
 }
 
-/// The tree of bytes of any number.
+/// The tree of a file with these bytes, without checking their number.
 ///
-/// The tokens give their spare room back before their syntax tree is made beside them, and are let go before the file tree is.
+/// To limit memory, the tokens free their spare capacity before the syntax tree is made, and are freed before the file
+/// tree is made.
 fn tree_of_content(alloc: Global, bytes: &[u8]) -> Result<FileTree, FileFault>
     ensures { IfSome (verdict_of result) (ContentHasOnlyVerdict bytes.now) }
 {

@@ -1,4 +1,4 @@
-// Names of a file tree, with the namespace that their file inherits.
+// Names of a file tree, in the namespace that their file inherits.
 ghost use Rattle.std.specs.Prelude.{◌≡◌, IfOk, map};
 ghost use Rattle.rng_model.specs.names.NameViews.{class_of, name_of};
 ghost use Rattle.rnc_model.specs.declarations.FileTree.{classes_of};
@@ -9,7 +9,7 @@ use rnc_grammar::{ExpandedName, Namespace};
 use rng_model::{Name, NameClass, OutOfMemory};
 use std::alloc::Global;
 
-/// The uri of a namespace, in a file that inherits this one. Takes no memory.
+/// The uri of a namespace, in a file that inherits `inherited`. Allocates nothing.
 ///
 /// RELAX NG Specification, sections 4.6, 4.7 and 4.9.
 pub(crate) fn namespace_uri<'a>(namespace: &'a Namespace, inherited: &'a str) -> &'a str
@@ -21,7 +21,7 @@ pub(crate) fn namespace_uri<'a>(namespace: &'a Namespace, inherited: &'a str) ->
     }
 }
 
-/// The name, in a file that inherits this namespace.
+/// The expanded name, in a file that inherits this namespace.
 ///
 /// RELAX NG Specification, section 4.9.
 fn expanded_name(alloc: Global, name: &ExpandedName, inherited: &str) -> Result<Name, OutOfMemory>
@@ -67,7 +67,7 @@ pub(crate) fn name_class(
     }
 }
 
-/// Those of the classes, in order.
+/// The name classes of these, in order.
 #[cycle(name_classes)]
 fn name_classes(
     alloc: Global,

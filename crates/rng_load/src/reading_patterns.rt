@@ -15,7 +15,7 @@ use rnc_grammar::{Component, FileTree, Mention, NameClass, Pattern};
 use rng_model::{Datatype, DatatypeValue, OutOfMemory, Place, SchemaPattern};
 use std::alloc::Global;
 
-/// A grammar that is nested in another: where it stands, the namespace that its file inherits, and its components.
+/// A nested grammar: its place, the namespace that its file inherits, and its components.
 ///
 /// RELAX NG Specification, sections 4.6 and 4.18.
 #[derive(Drop)]
@@ -25,14 +25,14 @@ pub(crate) struct NestedGrammar<'a> {
     pub components: &'a [Component],
 }
 
-/// What the reading of patterns stands on: the trees of the files, by name.
+/// Reads patterns, given the trees of the files by name.
 #[derive(Clone, Copy)]
 pub(crate) struct TreeReader<'a> {
     pub alloc: Global,
     pub trees: &'a IndexMap<String, FileTree>,
 }
 
-/// What stands between the members of a list.
+/// The connector between the members of a list.
 #[derive(Clone, Copy)]
 pub(crate) enum Connector {
     /// `,`
@@ -44,7 +44,7 @@ pub(crate) enum Connector {
 }
 
 impl Connector {
-    /// The pattern of these members.
+    /// The pattern with these members.
     fn joined(self, members: Vec<SchemaPattern>) -> SchemaPattern
         ensures { schema_pattern_of result ≡ schema.members (connector_of self) (map schema_pattern_of members.items) }
     {
@@ -57,10 +57,11 @@ impl Connector {
 }
 
 impl<'a> TreeReader<'a> {
-    /// The pattern of the schema that a pattern of a file is, with mentions followed for so many levels. `uri` is the namespace that its
-    /// file inherits, and `way` leads to it, the outermost number first. The grammars that are nested in it are put at the end of `grammars`.
+    /// Reads a pattern of a file as a pattern of the schema. Follows mentions for at most `levels` levels. `uri` is the
+    /// namespace that its file inherits. `way` leads to it, with the outermost number first. Appends the grammars that
+    /// are nested in it to `grammars`.
     ///
-    /// Where a mentioned file is not there, or no level is left, nothing is allowed.
+    /// A mention is `notAllowed` if its file does not exist, or no level is left.
     ///
     /// RELAX NG Specification, sections 4.6, 4.9 and 4.18.
     #[cycle(reading)]
@@ -130,7 +131,7 @@ impl<'a> TreeReader<'a> {
         }
     }
 
-    /// The child with this number.
+    /// Reads the child with this number.
     #[cycle(reading)]
     #[inline(always)]
     fn child(
@@ -152,7 +153,7 @@ impl<'a> TreeReader<'a> {
         Ok(read)
     }
 
-    /// The only child.
+    /// Reads the only child.
     #[cycle(reading)]
     #[inline(never)]
     fn body(
@@ -171,7 +172,7 @@ impl<'a> TreeReader<'a> {
         Ok(Box::new(self.alloc, read)?)
     }
 
-    /// The pattern whose members the children are, in order.
+    /// Reads the children in order, and joins them.
     #[cycle(reading)]
     #[inline(never)]
     fn members(
@@ -194,7 +195,7 @@ impl<'a> TreeReader<'a> {
         Ok(connector.joined(members))
     }
 
-    /// The pattern of a file that is mentioned; of a grammar a nested one.
+    /// Reads the pattern of a mentioned file. A grammar becomes a nested one.
     ///
     /// RELAX NG Specification, section 4.6.
     #[cycle(reading)]
@@ -240,7 +241,7 @@ impl<'a> TreeReader<'a> {
     }
 }
 
-/// The pattern that stands for a nested grammar, which is put at the end of `grammars`.
+/// The pattern of a nested grammar. Appends the grammar to `grammars`.
 ///
 /// RELAX NG Specification, section 4.18.
 #[inline(never)]
@@ -262,7 +263,7 @@ fn grammar<'a>(
     Ok(SchemaPattern::Grammar(Place::from_outermost(alloc, way)?))
 }
 
-/// An element of names of this class, in a file that inherits this namespace.
+/// An element with names of this class, in a file that inherits this namespace.
 ///
 /// RELAX NG Specification, section 4.9.
 #[inline(never)]
@@ -278,7 +279,7 @@ fn element(
     Ok(SchemaPattern::Element(class, body))
 }
 
-/// An attribute of names of this class, in a file that inherits this namespace.
+/// An attribute with names of this class, in a file that inherits this namespace.
 ///
 /// RELAX NG Specification, section 4.9.
 #[inline(never)]
@@ -294,7 +295,7 @@ fn attribute(
     Ok(SchemaPattern::Attribute(class, body))
 }
 
-/// A reference to what has this name.
+/// A reference to this name.
 #[inline(never)]
 fn reference(alloc: Global, name: &str) -> Result<SchemaPattern, OutOfMemory>
     ensures { IfOk result (λ p. schema_pattern_of p ≡ schema.ref name.now) }
@@ -302,7 +303,7 @@ fn reference(alloc: Global, name: &str) -> Result<SchemaPattern, OutOfMemory>
     Ok(SchemaPattern::Ref(String::from_str(alloc, name)?))
 }
 
-/// A reference to what has this name in the grammar around.
+/// A reference to this name in the grammar around.
 #[inline(never)]
 fn parent_reference(alloc: Global, name: &str) -> Result<SchemaPattern, OutOfMemory>
     ensures { IfOk result (λ p. schema_pattern_of p ≡ schema.parent_ref name.now) }
@@ -310,7 +311,7 @@ fn parent_reference(alloc: Global, name: &str) -> Result<SchemaPattern, OutOfMem
     Ok(SchemaPattern::ParentRef(String::from_str(alloc, name)?))
 }
 
-/// The texts of a datatype.
+/// A datatype as a pattern.
 #[inline(never)]
 fn data(alloc: Global, written: &rnc_grammar::Datatype) -> Result<SchemaPattern, OutOfMemory>
     ensures { IfOk result (λ p. schema_pattern_of p ≡ schema.data_of (datatype_in (type_of written.now.type_name) (parameters_of written.now))) }
@@ -322,7 +323,7 @@ fn data(alloc: Global, written: &rnc_grammar::Datatype) -> Result<SchemaPattern,
     })
 }
 
-/// The texts of a datatype but those that the pattern matches.
+/// A datatype as a pattern, except for the texts that another pattern matches.
 #[inline(never)]
 fn data_except(
     alloc: Global,
@@ -338,7 +339,7 @@ fn data_except(
     })
 }
 
-/// A text of a datatype.
+/// A value of a datatype as a pattern.
 #[inline(never)]
 fn value(alloc: Global, written: &rnc_grammar::DatatypeValue) -> Result<SchemaPattern, OutOfMemory>
     ensures { IfOk result (λ p. schema_pattern_of p ≡ schema.value (type_of written.now.type_name).library (type_of written.now.type_name).name (string_bytes written.now.text)) }
@@ -363,7 +364,7 @@ fn datatype(alloc: Global, written: &rnc_grammar::Datatype) -> Result<Box<Dataty
     Ok(Box::new(alloc, datatype)?)
 }
 
-/// The same parameters.
+/// A copy of these parameters.
 fn copied(
     alloc: Global,
     parameters: &[(String, String)],

@@ -16,9 +16,11 @@ pub(crate) struct Grammar {
     pub outer: Option<Place>,
 }
 
-/// A schema of one or more files: the components of the grammar at each place. Every mention of a file is followed, every name has its namespace, and
-/// what an include overrides is left out. The main grammar is at its place and no grammar is around it; each grammar that is nested in a component is at
-/// its place, and around it is the grammar of that component.
+/// A schema of one or more files: the components of the grammar at each place.
+///
+/// Mentions of files are followed, names have their namespaces, and components that an include overrides are left out.
+/// No grammar is around the main one. Each grammar that is nested in a component is at its place, and around it is the
+/// grammar of that component.
 ///
 /// RELAX NG Specification, sections 4.6, 4.7, 4.9, 4.11 and 4.18.
 #[derive(Drop)]
@@ -44,7 +46,7 @@ impl Model for Schema {
 }
 
 impl Schema {
-    /// The place of the grammar of the main file. Takes no memory.
+    /// Returns the place of the grammar of the main file. Allocates nothing.
     pub fn main(&self) -> &Place
         ensures main { place_of result.now ≡ (schema_of self.now).main }
         // All grammars are in their places.
@@ -53,15 +55,15 @@ impl Schema {
         &self.main
     }
 
-    /// The places of its grammars, each once. Takes no memory.
+    /// Returns the places of the grammars, each once. Allocates nothing.
     pub fn places(&self) -> &[Place]
         ensures { AreItsPlaces (schema_of self.now) (map place_of result.now) }
     {
         self.grammars.keys().as_slice()
     }
 
-    /// The components of the grammar at a place, in order, those of included files among them; `None` where no grammar is at that place. Takes no
-    /// memory.
+    /// Returns the components of the grammar at a place, in order, including those of included files, or `None` if no
+    /// grammar is at that place. Allocates nothing.
     ///
     /// RELAX NG Specification, sections 4.7 and 4.11.
     pub fn components(&self, place: &Place) -> Option<&[Component]>
@@ -73,8 +75,8 @@ impl Schema {
         }
     }
 
-    /// The place of the grammar around the one at a place; `None` where that is the main one, and where no grammar is at that place. Takes
-    /// no memory.
+    /// Returns the place of the grammar around the one at a place, or `None` for the main grammar and if no grammar is
+    /// at that place. Allocates nothing.
     ///
     /// RELAX NG Specification, section 4.18.
     pub fn outer(&self, place: &Place) -> Option<&Place>

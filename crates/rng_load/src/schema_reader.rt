@@ -20,19 +20,19 @@ use rnc_grammar::{FileTree, Method, Pattern};
 use rng_model::{Component, OutOfMemory, Place};
 use std::alloc::Global;
 
-/// How many mentions follow one another at most.
+/// The largest number of mentions that follow one another.
 const MENTION_LIMIT: u32 = 4096;
 
-/// What the reading of a schema stands on: the trees of its files, and that of the main one.
+/// Reads a schema, given the trees of its files and that of the main file.
 #[derive(Clone, Copy)]
 struct SchemaReader<'a> {
     trees: TreeReader<'a>,
     main: &'a FileTree,
 }
 
-/// The schema of these files, of which the main one has this tree.
+/// Reads the schema of these files, whose main file has the tree `main`.
 ///
-/// Takes time and memory in proportion to what stands at all places, each with the way to it.
+/// Takes time and memory linear in the contents of all places, each with the way to it.
 ///
 /// RELAX NG Specification, sections 4.6, 4.7, 4.9, 4.11 and 4.18.
 pub(crate) fn schema_of_files(
@@ -86,7 +86,7 @@ impl<'a> SchemaReader<'a> {
         Ok(all)
     }
 
-    /// The only component of a main file that is no grammar, a plain start.
+    /// The only component of a main file that is no grammar: a plain start.
     fn start(self, pattern: &'a Pattern) -> Result<Vec<GatheredComponent<'a>>, OutOfMemory>
         ensures { IfOk result (λ all. map gathered_of all.items ≡ gathered_at (files_in self.entry.trees) [] [] (grammar_or_start (pattern_of pattern.now) None)) }
     {
@@ -99,7 +99,7 @@ impl<'a> SchemaReader<'a> {
         Ok(all)
     }
 
-    /// Puts the grammar at this place there, and those that are nested in it.
+    /// Puts a grammar at this place, and then those that are nested in it.
     #[cycle(grammars)]
     fn add(
         self,
@@ -123,7 +123,7 @@ impl<'a> SchemaReader<'a> {
         Ok(())
     }
 
-    /// Puts a grammar that is nested in the one at the place `outer` there, and those that are nested in it.
+    /// Puts a grammar that is nested in the one at `outer`, and then those that are nested in it.
     ///
     /// RELAX NG Specification, section 4.18.
     #[cycle(grammars)]
@@ -147,7 +147,7 @@ impl<'a> SchemaReader<'a> {
     }
 }
 
-/// The components, and the grammars that are nested in them, both in order.
+/// Splits gathered components into components and the grammars that are nested in them, both in order.
 fn parted<'a>(
     alloc: Global,
     all: Vec<GatheredComponent<'a>>,

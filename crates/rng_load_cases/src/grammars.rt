@@ -5,10 +5,10 @@ use rng_load::Schema;
 use rng_model::{Component, Method, Place};
 use std::io;
 
-/// More grammars are not printed of a schema.
+/// The most grammars that are printed of a schema.
 const MOST_GRAMMARS: usize = 10_000;
 
-/// Prints the main grammar, and then each that is nested in it, before those that are nested in that one.
+/// Prints the main grammar, and then all nested grammars, each before those that are nested in that one.
 pub fn print_grammars(rt: &(impl Print + AllocGlobal), schema: &Schema) -> io::Result<()> {
     let mut left = Vec::new(rt.alloc());
     left.push(schema.main())?;
@@ -24,7 +24,7 @@ pub fn print_grammars(rt: &(impl Print + AllocGlobal), schema: &Schema) -> io::R
     println!(rt; "more grammars")
 }
 
-/// The places of the grammars that are nested in the one at a place, in order.
+/// Returns the places of the grammars that are nested in the one at a place, in order.
 fn nested_in<'a>(
     rt: &impl AllocGlobal,
     schema: &'a Schema,
@@ -68,7 +68,7 @@ fn print_components(rt: &impl Print, components: &[Component]) -> io::Result<()>
     Ok(())
 }
 
-/// How a method is written.
+/// Returns the sign of a method.
 fn sign_of(method: Method) -> &'static str {
     match method {
         Method::Plain => "=",

@@ -1,10 +1,10 @@
-//! Prints what `rng_load` answers for the files in the rows of `files.txt`: the clause that is broken, with the file that breaks
-//! it alone, or the schema.
+//! Prints what `rng_load` returns for the files in the rows of `files.txt`: the clause that is broken, with the file
+//! that breaks it by itself, or the schema.
 //!
-//! A row has what is asked for, and files: the name of each, a text, and how often the text stands in it. The first is the main
-//! one. Asked for is `schema`, all grammars from the main one on, each before those that are nested in it, in the order in which
-//! they stand; or a place, what is there. Of a grammar the place is printed, the place of the grammar around it, and then each
-//! component on a line of its own.
+//! A row has a request, and files: the name of each, a text, and how often the text is repeated in it. The first file
+//! is the main one. The request `schema` prints all grammars from the main one on, each before those that are nested in
+//! it, in the order in which they occur. The request of a place prints what is there. For a grammar its place is
+//! printed, the place of the grammar around it, and then each component on a line of its own.
 #![tactic(auto)]
 
 mod grammars;
@@ -48,7 +48,7 @@ fn print_place(rt: &(impl Print + AllocGlobal), row: &Row) -> io::Result<()> {
     println!(rt; "none")
 }
 
-/// Prints what is asked for of the schema of a row, or why its files are none.
+/// Prints what is requested of the schema of a row, or why its files have none.
 fn print_answer(rt: &(impl Print + AllocGlobal), row: &Row) -> io::Result<()> {
     let files = files_of(rt.alloc(), row)?;
     match load(rt.alloc(), files.as_slice(), row.text(1)?) {
@@ -71,7 +71,7 @@ fn print_asked(rt: &(impl Print + AllocGlobal), schema: &Schema, asked: &str) ->
     }
 }
 
-/// The numbers of a place, each behind a `/`.
+/// Returns the numbers of a place, each after a `/`.
 fn numbers_of(alloc: Global, place: &str) -> io::Result<Vec<usize>> {
     let mut numbers = Vec::new(alloc);
     for written in place.split('/') {
@@ -82,7 +82,7 @@ fn numbers_of(alloc: Global, place: &str) -> io::Result<Vec<usize>> {
     Ok(numbers)
 }
 
-/// The files from the second field on.
+/// Returns the files from the second field on.
 fn files_of(alloc: Global, row: &Row) -> io::Result<Vec<(String, Vec<u8>)>> {
     let mut files = Vec::new(alloc);
     for field in (1..row.field_count()).step_by(3) {
@@ -95,7 +95,7 @@ fn files_of(alloc: Global, row: &Row) -> io::Result<Vec<(String, Vec<u8>)>> {
     Ok(files)
 }
 
-/// How often a text stands in its file: once where that is not said.
+/// Returns how often a text is repeated in its file: once if there is no number.
 fn times_of(row: &Row, field: usize) -> u32 {
     match row.text(field) {
         Ok(number) => number.parse().unwrap_or(1),

@@ -2,7 +2,7 @@
 use rng_model::{Place, SchemaPattern};
 use std::io;
 
-/// Adds the places of the grammars that stand in a pattern, in order.
+/// Adds the places of the grammars in a pattern, in order.
 #[cycle(nested)]
 pub fn add_nested<'a>(pattern: &'a SchemaPattern, places: &mut Vec<&'a Place>) -> io::Result<()> {
     match pattern {
@@ -32,7 +32,7 @@ pub fn add_nested<'a>(pattern: &'a SchemaPattern, places: &mut Vec<&'a Place>) -
     }
 }
 
-/// Adds the places of the grammars that stand in patterns, in order.
+/// Adds the places of the grammars in patterns, in order.
 #[cycle(nested)]
 fn add_all_nested<'a>(members: &'a [SchemaPattern], places: &mut Vec<&'a Place>) -> io::Result<()> {
     for member in members {

@@ -2,7 +2,7 @@
 use rng_model::{Datatype, NameClass, Place, SchemaPattern};
 use std::io;
 
-/// Prints a place, a `/` before each of its numbers, the outermost first; `/` for that of the main grammar.
+/// Prints a place, a `/` before each of its numbers, the outermost first; `/` for the main grammar.
 pub fn print_place(rt: &impl Print, place: &Place) -> io::Result<()> {
     if place.numbers().is_empty() {
         return print!(rt; "/");
@@ -66,7 +66,7 @@ fn print_in_braces(rt: &impl Print, word: &str, inner: &SchemaPattern) -> io::Re
     print!(rt; " }}")
 }
 
-/// Prints a pattern, and the sign behind it.
+/// Prints a pattern, and the sign after it.
 #[cycle(patterns)]
 fn print_repeated(rt: &impl Print, inner: &SchemaPattern, sign: &str) -> io::Result<()> {
     print_pattern(rt, inner)?;

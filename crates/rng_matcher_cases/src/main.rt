@@ -1,7 +1,7 @@
-//! Prints what the matcher answers for each row of `cases.txt`; then for each document of `documents.txt` a line with a letter
-//! for each schema of `schemas.txt`, V for valid and I for invalid.
+//! Prints what the matcher returns for each row of `cases.txt`. Then it prints a line for each document of
+//! `documents.txt`, with a letter for each schema of `schemas.txt`: V for valid and I for invalid.
 //!
-//! A row of `cases.txt` has a schema and a document, perhaps in pieces, each followed by how often it stands there. The
+//! A row of `cases.txt` has a schema and a document, possibly in pieces, each followed by how often it is repeated. The
 //! schemas of `schemas.txt`, the documents and their letters come from a second program, `tools/all_splits`.
 #![tactic(auto)]
 
@@ -19,7 +19,7 @@ use rng_simple::simplify;
 use std::alloc::Global;
 use std::io;
 
-/// How many bytes a document has at most.
+/// The most bytes that a document may have.
 const DOCUMENT_LIMIT: usize = 1 << 30;
 
 fn main(rt: HostRuntime) -> io::Result<()> {
@@ -34,7 +34,7 @@ fn main(rt: HostRuntime) -> io::Result<()> {
     Ok(())
 }
 
-/// Prints what is answered of a row: `valid`, or `invalid line N`.
+/// Prints the outcome of a row: `valid`, or `invalid line N`.
 fn print_case(rt: &(impl Print + AllocGlobal), row: &Row) -> io::Result<()> {
     let grammar = grammar_of_schema(rt.alloc(), row.bytes(0)?)?;
     let document = joined(rt.alloc(), row)?;
@@ -44,7 +44,7 @@ fn print_case(rt: &(impl Print + AllocGlobal), row: &Row) -> io::Result<()> {
     }
 }
 
-/// The pieces from the second field on, each as often as the next field says.
+/// Returns the pieces from the second field on, each repeated as often as the next field says.
 fn joined(alloc: Global, row: &Row) -> io::Result<Vec<u8>> {
     let mut all = Vec::new(alloc);
     for field in (1..row.field_count()).step_by(2) {
@@ -59,7 +59,7 @@ fn joined(alloc: Global, row: &Row) -> io::Result<Vec<u8>> {
     Ok(all)
 }
 
-/// The simple grammar of a schema of one file.
+/// Returns the simple grammar of a schema of one file.
 fn grammar_of_schema(alloc: Global, schema: &[u8]) -> io::Result<SimpleGrammar>
     ensures { IfOk result (λ g. BreaksNone (grammar_of g)) }
 {
@@ -71,7 +71,7 @@ fn grammar_of_schema(alloc: Global, schema: &[u8]) -> io::Result<SimpleGrammar>
     }
 }
 
-/// The simple grammar of files that break no clause.
+/// Returns the simple grammar of files that break no clause.
 fn compiled(alloc: Global, files: &[(String, Vec<u8>)]) -> Result<SimpleGrammar, SchemaFault>
     ensures { IfOk result (λ g. BreaksNone (grammar_of g)) }
 {
@@ -81,7 +81,7 @@ fn compiled(alloc: Global, files: &[(String, Vec<u8>)]) -> Result<SimpleGrammar,
     Ok(grammar)
 }
 
-/// The simple grammars of schemas.
+/// Returns the simple grammars of schemas.
 fn grammars_of(alloc: Global, schemas: &[Row]) -> io::Result<Vec<SimpleGrammar>>
     ensures { IfOk result (λ gs. All (λ g. BreaksNone (grammar_of g)) gs.items) }
 {
@@ -92,7 +92,7 @@ fn grammars_of(alloc: Global, schemas: &[Row]) -> io::Result<Vec<SimpleGrammar>>
     Ok(grammars)
 }
 
-/// What is answered of a document.
+/// Returns the outcome of a document.
 fn judged(alloc: Global, grammar: &SimpleGrammar, document: &[u8]) -> io::Result<Outcome>
     requires { BreaksNone (grammar_of grammar.now) }
 {
@@ -113,7 +113,7 @@ fn judged(alloc: Global, grammar: &SimpleGrammar, document: &[u8]) -> io::Result
     }
 }
 
-/// A letter for each grammar.
+/// Returns a letter for each grammar.
 fn letters_of(alloc: Global, grammars: &[SimpleGrammar], document: &[u8]) -> io::Result<String>
     requires { All (λ g. BreaksNone (grammar_of g)) grammars.now }
 {

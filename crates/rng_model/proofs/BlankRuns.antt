@@ -1,4 +1,4 @@
--- How a text is cut at its blanks, from its front on.
+-- How a text is split at its blanks, from its front on.
 use Rattle.std.proofs.Common.{◌≡◌, ℕ, suc, ◌+◌, List, [], ◌∷◌, ◌++◌, Bool, true, false, not, cond, take, drop, refl, ap, sym, ◌∙◌, one-add, rules, tests}
 use Rattle.std.proofs.Common.{arith, append-nil, append_assoc, add-one, subst, zero, ap₂, length, get_or, length-append, ◌==◌, ◌<◌, ◌≤◌}
 use Rattle.std.specs.List.{slice_split, onto_first, list_all, filter, prefix_len, take_while, join_with_byte, AllByRecursion}
@@ -49,7 +49,7 @@ pieces-from_HasRuns s _ (no_run e) = ap pieces (sym (append-nil s)) ∙ pieces-b
 pieces-from_HasRuns s _ (then_run {run} {runs} before rest blank is ends more parts) =
     ap pieces parts ∙ pieces-blanks before (run ++ rest) blank ∙ pieces-run run rest is ends ∙ ap (λ ps. run ∷ ps) (pieces-from_HasRuns rest runs more)
 
--- one byte more in front
+-- one more byte in front
 blank_more : (b : ℕ) (s : List ℕ) (runs : List (List ℕ)) → is_blank_byte b ≡ true → HasRuns s runs → HasRuns (b ∷ s) runs
 blank_more b s _ e (no_run all) = no_run (rw e all)
 blank_more b s _ e (then_run {run} {runs} before rest blank is ends more parts) = then_run (b ∷ before) rest (rw e blank) is ends more (ap (λ t. b ∷ t) parts)
@@ -130,7 +130,8 @@ no_bytes : (s : List ℕ) → (length s == 0) ≡ true → has_bytes s ≡ false
 no_bytes [] e = refl
 no_bytes (x ∷ xs) e = search rules
 
--- Where `start` is the text past its blanks, and `piece` its front up to a blank or to the end: what stands there is the first piece ..
+-- Given that `start` is the text after its leading blanks, and `piece` is the front of `start` up to a blank or to the
+-- end: if `piece` is not empty, it is the first piece ..
 pub some_piece : (s start piece after : List ℕ) (m : ℕ) → start ≡ drop (prefix_len is_blank_byte s) s → m ≡ prefix_len is_run_byte start → piece ≡ take m start
     → after ≡ drop m start → (length piece == 0) ≡ false → pieces s ≡ piece ∷ pieces after
 some_piece s start piece after m begins m-is piece-is after-is has =
@@ -143,7 +144,7 @@ some_piece s start piece after m begins m-is piece-is after-is has =
     let parts : start ≡ piece ++ after = sym (take-append-drop m start) ∙ ap₂ ◌++◌ (sym piece-is) (sym after-is) in
     pieces-after_blanks s ∙ ap pieces (sym begins) ∙ ap pieces parts ∙ pieces-run piece after is ends
 
--- .. and if nothing stands there, there is no piece, then or later.
+-- .. and if it is empty, there is no piece, here or later.
 pub no_piece : (s start piece after : List ℕ) (m : ℕ) → start ≡ drop (prefix_len is_blank_byte s) s → m ≡ prefix_len is_run_byte start → piece ≡ take m start
     → after ≡ drop m start → (length piece == 0) ≡ true → (pieces s ≡ []) × (pieces after ≡ [])
 no_piece s start piece after m begins m-is piece-is after-is none =
@@ -162,7 +163,7 @@ fewer_pieces s piece after e = omega (arith, ap length e)
 is_ascii_blank : (b : ℕ) → is_blank_byte b ≡ true → b < 128
 is_ascii_blank b e = search (rules, tests, arith)
 
--- a text may be cut after its blanks
+-- a text may be split after its leading blanks
 pub blanks_boundary : (s : List ℕ) (n : ℕ) → IsUtf8 s → n ≡ prefix_len is_blank_byte s → IsCharBoundary s n
 blanks_boundary s zero utf8 e = IsCharBoundary-start s utf8
 blanks_boundary s (suc k) utf8 e =
@@ -170,7 +171,7 @@ blanks_boundary s (suc k) utf8 e =
     let blank = prefix_len_passes is_blank_byte s k 0 (omega arith) in
     subst (IsCharBoundary s) (add-one k) (IsCharBoundary-after_ascii s k utf8 (omega arith) (is_ascii_blank _ blank))
 
--- the texts, joined by single spaces onto what stands before them
+-- the texts, joined by single spaces onto what is before them
 abbrev pub join_onto : List ℕ → List (List ℕ) → List ℕ
 join_onto front [] = front
 join_onto front (w ∷ ws) = join_onto ((front ++ 32 ∷ []) ++ w) ws
@@ -195,7 +196,7 @@ collapse-onto s first ws e = join_onto-is first ws ∙ ap (join_with_byte 32) (s
 pub runs_are : (s : List ℕ) (runs : List (List ℕ)) → runs ≡ pieces s → HasRuns s runs
 runs_are s runs e = subst (HasRuns s) (sym e) (HasRuns-pieces s)
 
--- joined by spaces, the runs of a text have themselves as pieces
+-- the pieces of the runs of a text, joined by spaces, are the runs
 join_pieces : (s : List ℕ) (runs : List (List ℕ)) → HasRuns s runs → pieces (join_with_byte 32 runs) ≡ runs
 join_pieces s _ (no_run e) = pieces-nil
 join_pieces s _ (then_run {run} {runs = []} before rest blank is ends more parts) =
@@ -216,7 +217,7 @@ IsUtf8-past_blanks : (before s : List ℕ) → is_blank before ≡ true → IsUt
 IsUtf8-past_blanks [] s e utf8 = utf8
 IsUtf8-past_blanks (b ∷ before) s e utf8 = let both = and_parts _ _ e in IsUtf8-past_blanks before s both.1 (IsUtf8-past_blank b (before ++ s) both.0 utf8)
 
--- a text may be cut where a run ends
+-- a text may be split where a run ends
 run_boundary : (run rest : List ℕ) → ends_run rest ≡ true → IsUtf8 (run ++ rest) → IsCharBoundary (run ++ rest) (length run)
 run_boundary run [] ends utf8 = subst (IsCharBoundary (run ++ [])) (ap length (append-nil run)) (IsCharBoundary-end (run ++ []))
 run_boundary run (b ∷ s) ends utf8 =
@@ -236,7 +237,7 @@ IsUtf8-runs s _ (then_run {run} {runs} before rest blank is ends more parts) utf
     let after = IsUtf8-past_blanks before (run ++ rest) blank (subst IsUtf8 parts utf8) in
     (IsUtf8-run run rest ends after, IsUtf8-runs rest runs more (IsUtf8-rest run rest ends after))
 
--- a byte for each space, and the bytes of the texts
+-- one byte for each space, and the bytes of the texts
 abbrev pub spaced_length : List (List ℕ) → ℕ
 spaced_length [] = 0
 spaced_length (w ∷ ws) = 1 + length w + spaced_length ws
@@ -247,7 +248,7 @@ run_begins (x ∷ xs) rest is ends =
     let first : is_blank_byte x ≡ false = not-true (is_blank_byte x) (and_parts (is_run_byte x) (list_all is_run_byte xs) is).0 in
     false≢true (sym first ∙ ends)
 
--- after a run, the further ones have a space in front
+-- each run after the first has a space before it
 runs_fit : (s : List ℕ) (runs : List (List ℕ)) → HasRuns s runs → ends_run s ≡ true → spaced_length runs ≤ length s
 runs_fit s _ (no_run e) ends-s = omega arith
 runs_fit s _ (then_run {run} {runs} [] rest blank is ends more parts) ends-s = absurd (run_begins run rest is (subst (λ t. ends_run t ≡ true) parts ends-s))

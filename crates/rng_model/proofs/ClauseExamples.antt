@@ -1,4 +1,4 @@
--- The smallest schemas that break each clause from S11 to S17. What breaks none stands in `GoodSchemaExample`.
+-- The smallest schemas that break each clause from S11 to S17. `GoodSchemaExample` has one that breaks none.
 use Rattle.std.proofs.Common.{◌≡◌, refl, sym, subst, ap, ◌∙◌, arith, ℕ, suc, zero, ◌+◌, ◌<◌, max, List, [], ◌∷◌, Some, None, codes}
 use Rattle.rng_model.specs.names.Lists.{Among, here, there, first_and}
 use Rattle.rng_model.specs.names.Names.{NameClass, any_name, any_except}
@@ -59,7 +59,7 @@ s13_both : BreaksClause (one_grammar combined_by_both) 13
 s13_both = clauses.in_schema (clauses.in_combination (clauses.both_methods {x = []} (record { components = combined_by_both; there = refl; among = here })
     (record { components = combined_by_both; there = refl; among = there here }) refl refl refl))
 
--- no component at all
+-- no components
 s14 : BreaksClause (one_grammar []) 14
 s14 = clauses.in_schema (clauses.without_start (record { place = []; components = []; there = refl; none = λ c i. elim i [ ] }))
 

@@ -11,7 +11,7 @@ use Rattle.rng_model.specs.datatypes.Datatypes.{HasType, HasUnknownLibrary, HasU
 use Rattle.rng_model.proofs.DatatypeTests.{library_is, differs, no_type, not_known, type_named-complete, type_of-sound}
 use Rattle.rng_model.specs.datatypes.DatatypeTests.{type_of, plain_type_named, xsd_type_named, type_named, written_lengths, written_bounds}
 
--- 37 zeros and `7` write the number that `7` writes; `-` and 38 nines are allowed, 39 digits are not
+-- 37 zeros and `7` write the same number as `7`; `-` with 38 nines is allowed, 39 digits are not
 pub seven : are_equal_by (xsd_integer no_bounds) (codes "00000000000000000000000000000000000007") (codes "7") ≡ true
 unfolding collapse pieces integer_of
 seven = refl
@@ -24,7 +24,7 @@ pub thirty_nine_digits : is_allowed_by (xsd_integer no_bounds) (codes "000000000
 unfolding collapse pieces integer_of
 thirty_nine_digits = refl
 
--- the sign of nothing, two signs and a blank inside are no integer
+-- a sign alone, two signs, or a blank inside are not integers
 pub sign_alone : is_allowed_by (xsd_integer no_bounds) (codes "+") ≡ false
 unfolding collapse pieces integer_of
 sign_alone = refl
@@ -37,7 +37,7 @@ pub blank_inside : is_allowed_by (xsd_integer no_bounds) (codes "1 2") ≡ false
 unfolding collapse pieces integer_of
 blank_inside = refl
 
--- `-0` and `+0` are one number; a bound may be reached
+-- `-0` and `+0` are the same number; a number may be equal to a bound
 pub zeros : are_equal_by (xsd_integer no_bounds) (codes "-0") (codes "+0") ≡ true
 unfolding collapse pieces integer_of
 zeros = refl
@@ -50,7 +50,7 @@ pub above_the_bound : is_allowed_by (xsd_integer (record { least = Some (negsuc 
 unfolding collapse pieces integer_of
 above_the_bound = refl
 
--- `1` and ` true ` are one truth value, `TRUE` is none
+-- `1` and ` true ` are the same truth value, `TRUE` is not a truth value
 pub truths : are_equal_by xsd_boolean (codes " true ") (codes "1") ≡ true
 unfolding collapse pieces truth_of
 truths = refl
@@ -59,7 +59,7 @@ pub capitals : is_allowed_by xsd_boolean (codes "TRUE") ≡ false
 unfolding collapse pieces truth_of
 capitals = refl
 
--- a colon stands in an NMTOKEN and in no NCName
+-- an NMTOKEN may have a colon, an NCName may not
 pub colon_in_nmtoken : is_allowed_by (xsd_nmtoken no_lengths) (codes "a:b") ≡ true
 unfolding collapse pieces chars
 colon_in_nmtoken = refl
@@ -68,7 +68,7 @@ pub colon_in_ncname : is_allowed_by (xsd_ncname no_lengths) (codes "a:b") ≡ fa
 unfolding collapse pieces chars
 colon_in_ncname = refl
 
--- lengths count characters, and those of the collapsed text: ` é ` has one
+-- lengths count the characters of the collapsed text: ` é ` has one
 pub one_character : is_allowed_by (xsd_token (record { least = None; greatest = Some 1 })) (32 ∷ 0xC3 ∷ 0xA9 ∷ 32 ∷ []) ≡ true
 unfolding collapse pieces chars
 one_character = refl
@@ -86,7 +86,7 @@ pub collapsed : are_equal_by plain_token (codes "a  b") (codes " a b ") ≡ true
 unfolding collapse pieces
 collapsed = refl
 
--- a bound is a text that `integer` allows, a length is digits alone, and neither stands twice
+-- a bound is a text that `integer` allows, a length is only digits, and neither occurs twice
 abbrev xsd : List ℕ → List Parameter → Datatype
 xsd name ps = record { library = xsd_uri; name = name; parameters = ps }
 
@@ -119,12 +119,12 @@ pub integer_from_one : HasType (xsd (codes "integer") ((codes "minInclusive", co
     (xsd_integer (record { least = Some (pos 1); greatest = None }))
 integer_from_one = type_of-sound _ _ bound_with_blanks
 
--- no library has the uri `u`, so that its types are not asked for
+-- no library has the URI `u`, so its types do not matter
 pub library_unknown : (name : List ℕ) (ps : List Parameter) → HasUnknownLibrary (record { library = codes "u"; name = name; parameters = ps })
 library_unknown name ps known =
     elim (library_is known.2) [ inl is ↦ differs (codes "u") [] refl is | inr is ↦ differs (codes "u") xsd_uri refl is ]
 
--- no type of this library is named `decimal`, so that its parameters are not asked for
+-- no type of this library is named `decimal`, so its parameters do not matter
 pub type_unknown : (ps : List Parameter) → HasUnknownType (xsd (codes "decimal") ps)
 unfolding type_named xsd_type_named
 type_unknown ps = ((codes "string", xsd_string no_lengths, string_is refl refl), λ known. no_type (type_named-complete known.1))

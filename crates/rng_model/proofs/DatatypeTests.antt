@@ -63,7 +63,7 @@ type_named-sound uri name t e = by_uri (bytes_eq uri []) (bytes_eq uri xsd_uri) 
 pub no_type : {t : BuiltInType} → None ≡ Some t → ⊥
 no_type e = cc
 
--- a type's library is one of two
+-- the library of a type is one of two
 pub library_is : {uri name : List ℕ} {t : BuiltInType} → IsType uri name t → (uri ≡ []) ⊎ (uri ≡ xsd_uri)
 library_is (plain_string_is u n) = inl u
 library_is (plain_token_is u n) = inl u
@@ -104,7 +104,7 @@ type_named-complete (integer_is {uri} {name} u n) = at_name uri name xsd_uri (co
 
 -- ---- bounds
 
--- what the parameters of a type with bounds on lengths are
+-- the parameters of a type with bounds on lengths
 abbrev pub TakesLengths : List Parameter → Type 0
 TakesLengths ps = ((name value : List ℕ) → HasParameter ps name value → BoundsLengths name value) × HasNoneTwice ps
 
@@ -186,7 +186,7 @@ written_bounds-none ps e takes =
 
 -- ---- a type with its bounds
 
--- the type with some bounds is of the name that it has with others, takes the parameters, and has the bounds that they write
+-- the type with some bounds has the same name as with others, takes the parameters, and has the bounds that they write
 pub record IsBounded (t : BuiltInType) (ps : List Parameter) (u : BuiltInType) : Type 0 where
   pub named : (uri name : List ℕ) → IsType uri name t → IsType uri name u
   pub taken : TakesAll u ps
@@ -254,7 +254,7 @@ with_parameters-sound (xsd_nmtoken l) ps u e =
 with_parameters-sound xsd_boolean ps u e = without xsd_boolean (λ ps. tt) ps u e
 with_parameters-sound (xsd_integer b) ps u e = of_bounds b ps u e
 
--- a type that takes no parameter has none
+-- a type that takes no parameter has no parameter
 if_none-complete : (t : BuiltInType) (ps : List Parameter) → ((name value : List ℕ) → HasParameter ps name value → ⊥) → if_none t ps ≡ Some t
 if_none-complete t [] none = refl
 if_none-complete t (p ∷ ps) none = absurd (none p.0 p.1 (here refl refl))
@@ -277,7 +277,7 @@ not_none : (t : BuiltInType) (ps : List Parameter) → ((name value : List ℕ) 
 not_none t [] none e = cc
 not_none t (p ∷ ps) none e = none p.0 p.1 (here refl refl)
 
--- where it answers none, the type does not take the parameters, whatever its bounds are
+-- where it returns `None`, the type does not take the parameters, whatever its bounds are
 pub with_parameters-none : (t : BuiltInType) (ps : List Parameter) → with_parameters (unbounded t) ps ≡ None → TakesAll t ps → ⊥
 with_parameters-none plain_string ps e takes = not_none plain_string ps takes.each e
 with_parameters-none plain_token ps e takes = not_none plain_token ps takes.each e
@@ -318,11 +318,11 @@ known_type d known = by_type (with_parameters (unbounded known.0) d.parameters) 
     by_type None e = absurd (with_parameters-none known.0 d.parameters e known.2)
     by_type (Some u) e = (u, named_type d (unbounded known.0) u (type_named-complete known.1) e)
 
--- and one of which the tests know no type is not known
+-- and a datatype for which the tests find no type is not known
 pub not_known : (d : Datatype) → type_of d ≡ None → IsKnownDatatype d → ⊥
 not_known d e known = let typed = known_type d known in no_type (sym e ∙ type_of-complete d typed.0 typed.1)
 
--- what the tests say by a datatype is what its type says
+-- the tests say of a datatype what its type says
 pub allows_by : (d : Datatype) (t : BuiltInType) → HasType d t → (s : List ℕ) → text_tests.allows d s ≡ is_allowed_by t s
 allows_by d t is s = ap (λ o. known_allows o s) (type_of-complete d t is)
 

@@ -1,4 +1,5 @@
--- `element a { (text & text), notAllowed }` breaks no clause: what would break S27 is gone once notAllowed is carried outward.
+-- `element a { (text & text), notAllowed }` breaks no clause: the part that would break S27 is gone after notAllowed is
+-- propagated.
 use Rattle.std.proofs.Common.{◌≡◌, refl, sym, subst, ap, ◌∙◌, ◌⊎◌, inl, inr, arith, ℕ, suc, ◌<◌, List, [], ◌∷◌, Option, Some, None, codes, length, slice_get}
 use Rattle.std.proofs.Common.{Contains, zero, Bool, true, false, true≢false}
 use Rattle.std.proofs.lemmas.List.Elements.{All-nil, All-cons, All-contains, Contains-push}
@@ -47,9 +48,9 @@ good = one_grammar (start whole ∷ [])
 abbrev the_element : Leaf
 the_element = record { place = []; position = 0 ∷ []; class = named (codes "a"); content = inside }
 
--- ---- S11 to S15: what is written in it
+-- ---- S11 to S15: what is written in the schema
 
--- the five patterns that stand in it
+-- the five patterns that are in it
 abbrev IsOneOf : Pattern → Type 0
 IsOneOf q = (q ≡ whole) ⊎ ((q ≡ inside) ⊎ ((q ≡ texts) ⊎ ((q ≡ text) ⊎ (q ≡ not_allowed))))
 
@@ -92,7 +93,7 @@ its_class (inr (inr (inl e))) = cc
 its_class (inr (inr (inr (inl e)))) = cc
 its_class (inr (inr (inr (inr e)))) = cc
 
--- the kinds of which the clauses speak, beside elements
+-- the kinds that the clauses are about, besides elements
 abbrev is_judged : Pattern → Bool
 is_judged not_allowed = false
 is_judged in_pattern.empty = false
@@ -113,7 +114,7 @@ is_judged (parent_ref y) = true
 is_judged (in_pattern.grammar x) = false
 is_judged (in_pattern.external p) = false
 
--- none of the five is of one of them
+-- none of the five patterns is of one of these kinds
 none_is_judged : {q : Pattern} → IsOneOf q → is_judged q ≡ true → ⊥
 none_is_judged (inl e) f = true≢false (sym f ∙ ap is_judged e)
 none_is_judged (inr (inl e)) f = true≢false (sym f ∙ ap is_judged e)
@@ -198,7 +199,7 @@ keeps_s16 : ¬ (clauses.BreaksExpansion good)
 keeps_s16 (clauses.of_start f) = f _ start_tree
 keeps_s16 (clauses.of_body r f) = f _ (subst (λ l. IsBodyOf good l (as_tree simple_inside)) (sym (reached r)) body_tree)
 
--- no rule of the first group says anything of these trees
+-- no rule of the first group applies to these trees
 not_rewritten_start : (c : Tree Leaf) → ¬ (Step rewriting (as_tree (s_leaf the_element)) c)
 not_rewritten_start c d = elim d [ ]
 
@@ -241,7 +242,7 @@ texts_stay (steps.in_first d) = elim d [ ]
 texts_stay (steps.in_second d) = elim d [ ]
 texts_stay (steps.in_others d) = elim d [ ]
 
--- one step carries notAllowed outward
+-- one step propagates notAllowed
 next_of_inside : {g : RuleGroup} {c : Tree Leaf} → Step g (as_tree simple_inside) c → c ≡ tree.not_allowed
 next_of_inside (steps.second_not_allowed f) = refl
 next_of_inside (steps.other_not_allowed f h) = elim h [ ]
@@ -282,7 +283,7 @@ simply_reached : {l : Leaf} → IsReachedBySimpleForms good l → l ≡ the_elem
 simply_reached (from_simple_start t f i) = only_leaf (simple_start_is (one_start t) f) i
 simply_reached (from_simple_body r t f i) = absurd (none_in_nothing (simple_inside_is (one_body (simply_reached r) t) f) i)
 
--- the grammar has an element for its start and notAllowed for each body
+-- a ref to an element, or notAllowed: the grammar's start is the first, and each body the second
 pub data IsBare : Simple ℕ → Type 0 where
   an_element : {k : ℕ} → IsBare (s_leaf k)
   nothing : IsBare s_not_allowed
@@ -334,7 +335,7 @@ module _ {g : Grammar} (is : IsSimpleGrammarOf good g) where
   bare_part restrictions.the_start = bare_start
   bare_part (restrictions.a_body i) = subst IsBare (sym (bare_body i)) nothing
 
--- nothing stands in a bare pattern but itself
+-- a bare pattern has nothing inside except itself
 stands_alone : {p q : Simple ℕ} → IsBare p → restrictions.StandsIn q p → IsBare q
 stands_alone an_element restrictions.itself = an_element
 stands_alone nothing restrictions.itself = nothing

@@ -1,18 +1,18 @@
--- Lists that are made of another, one element after the other, until that one has no more.
+-- Lists that are made from another list, one element after another, until it has no more.
 use Rattle.std.proofs.Common.{◌≡◌, inl, inr, sym, ap, ◌∙◌, ℕ, ◌<◌, ◌≤◌, ◌+◌, arith}
 use Rattle.std.proofs.Common.{List, [], ◌∷◌, ◌++◌, None, Some, map, take, length, get_or, slice_get, length-append}
 use Rattle.std.proofs.lemmas.Bool.{cases_lt}
 use Rattle.std.proofs.lemmas.List.{get_or-map, length-map, take_all, take_more}
 use Rattle.std.proofs.lemmas.Option.{get_or_from_slice_get, slice_get_cases, slice_get_within}
 
--- where nothing stands is past the end
+-- a position without an element is past the end
 pub past_end : {A : Type 0} (xs : List A) (n : ℕ) → None ≡ slice_get xs n → length xs ≤ n
 past_end xs n e = elim (cases_lt n (length xs)) [
   | inl h ↦ elim (slice_get_cases xs n).1 [ inl f ↦ absurd (let g = f.2 in cc) | inr f ↦ omega arith ]
   | inr h ↦ h
 ]
 
--- one more of what is made of each
+-- one more element, made from the next element of the other list
 pub made_more : {A B : Type 0} (f : A → B) (xs : List A) (n : ℕ) (x : A) (ys zs : List B) → Some x ≡ slice_get xs n → n ≡ length ys → ys ≡ take n (map f xs)
     → zs ≡ ys ++ f x ∷ [] → zs ≡ take (length zs) (map f xs)
 made_more f xs n x ys zs at long so_far more =

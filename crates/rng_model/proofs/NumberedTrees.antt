@@ -6,7 +6,7 @@ use Rattle.std.proofs.lemmas.List.Sums.{fold-append}
 use Rattle.std.proofs.lemmas.Option.{slice_get_within, get_or_from_slice_get}
 use Rattle.std.proofs.Math.Seq.{get_or-append_seam, drop-cons}
 
--- `none` stands past the end
+-- `none` is the tree past the end
 module _ {N T : Type 0} (none : T) (tree_over : (ℕ → T) → N → T) where
   abbrev pub tree_in : List T → ℕ → T
   tree_in ts i = get_or ts i none
@@ -20,7 +20,7 @@ module _ {N T : Type 0} (none : T) (tree_over : (ℕ → T) → N → T) where
   abbrev pub tree_of : List N → ℕ → T
   tree_of ns = tree_in (trees ns)
 
-  -- the node's tree reads those below i alone
+  -- the node's tree depends only on those below i
   abbrev pub ReadsBelow : ℕ → N → Type 0
   ReadsBelow i n = (f g : ℕ → T) → ((k : ℕ) → k < i → f k ≡ g k) → tree_over f n ≡ tree_over g n
 
@@ -39,13 +39,13 @@ module _ {N T : Type 0} (none : T) (tree_over : (ℕ → T) → N → T) where
   pub length-trees : (ns : List N) → length (trees ns) ≡ length ns
   length-trees ns = omega (arith, length-from [] ns)
 
-  -- nodes that were added change no tree
+  -- nodes that are added change no tree
   pub tree_stays : (ns ms more : List N) (i : ℕ) → ms ≡ ns ++ more → i < length ns → tree_of ms i ≡ tree_of ns i
   tree_stays ns ms more i longer h =
       let long : i < length (trees ns) = omega (arith, length-trees ns) in
       ap (λ xs. tree_of xs i) longer ∙ ap (λ ts. tree_in ts i) (fold-append with_tree [] ns more) ∙ front_stays (trees ns) more i long
 
-  -- a node that is added at the end stands for its tree over those so far
+  -- the tree of a node that is added at the end is made over the trees so far
   pub tree_of_pushed : (ns ms : List N) (n : N) (i : ℕ) → ms ≡ ns ++ n ∷ [] → i ≡ length ns → tree_of ms i ≡ tree_over (tree_of ns) n
   tree_of_pushed ns ms n i more at =
       let long : i ≡ length (trees ns) = omega (arith, length-trees ns) in
@@ -69,7 +69,7 @@ module _ {N T : Type 0} (none : T) (tree_over : (ℕ → T) → N → T) where
       let inside = slice_get_within ns i n found in
       sym (take-append-drop i ns) ∙ ap (λ xs. take i ns ++ xs) (drop-cons ns i n inside ∙ ap (λ x. x ∷ drop (suc i) ns) (get_or_from_slice_get ns i n n found))
 
-  -- a node's tree is the one over the trees of its children
+  -- a node's tree is made over the trees of its children
   pub tree_of-over_children : (ns : List N) (i : ℕ) (n : N) → ReadsBelow i n → slice_get ns i ≡ Some n → tree_of ns i ≡ tree_over (tree_of ns) n
   tree_of-over_children ns i n reads found =
       let inside = slice_get_within ns i n found in

@@ -67,7 +67,7 @@ value_named-absent name ps none = by_value (value_named name ps) refl
     by_value None e = e
     by_value (Some v) e = absurd (none v (value_named-has name ps v e))
 
--- what is written is what a function reads there
+-- what is written is what the function reads from the value
 pub written_is : {A : Type 0} (read : List ℕ → Option A) (ps : List Parameter) (name : List ℕ) (x : Option A) → HasNoneTwice ps → IsWritten read ps name x
     → read_named read (value_named name ps) ≡ x
 written_is read ps name None once none = ap (read_named read) (value_named-absent name ps none)
@@ -127,7 +127,7 @@ once_counted name (p ∷ ps) once =
 pub stands_once-from : (name : List ℕ) (ps : List Parameter) → HasNoneTwice ps → stands_once name ps ≡ true
 stands_once-from name ps once = le-leb (count_by (is_named name) ps) 1 (once_counted name ps once)
 
--- of parameters with one of two names, none stands twice if neither name does
+-- given parameters that each have one of two names, none occurs twice if neither name occurs twice
 module _ (a b : List ℕ) where
   abbrev HaveNames : List Parameter → Type 0
   HaveNames ps = (name v : List ℕ) → HasParameter ps name v → (name ≡ a) ⊎ (name ≡ b)

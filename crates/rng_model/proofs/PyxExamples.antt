@@ -1,4 +1,4 @@
--- Documents in PYX: which tree some lines are, and where some break a clause.
+-- Documents in PYX: the tree of some lines, and lines that break a clause.
 use Rattle.std.proofs.Common.{◌≡◌, ◌≢◌, ℕ, Bool, true, false, not, List, [], ◌∷◌, ◌++◌, length, codes, Option, Some, None, ◌∙◌, inl, inr, refl, sym, ap}
 use Rattle.std.proofs.Common.{arith, subst, true≢false}
 use Rattle.std.specs.Prelude.{◌<◌, ◌≤◌, ◌⊎◌, nat_le, ◌==◌, All}
@@ -29,7 +29,7 @@ use Rattle.rng_model.specs.documents.PyxClauses.{Breaks, at_line}
 use Rattle.rng_model.specs.documents.PyxTrees as trees
 use Rattle.rng_model.specs.documents.PyxTrees.{Placed, text_at, element_at, none_placed, placed_and, IsTag, IsElement, IsContent, IsRun, no_run, IsPyxDocument}
 
--- ---- what a test says of each
+-- ---- what a test says of each member
 
 each_of : (p : ℕ → Bool) (xs : List ℕ) → list_all p xs ≡ true → AllByRecursion (λ c. p c ≡ true) xs
 each_of p [] e = tt
@@ -38,7 +38,7 @@ each_of p (x ∷ xs) e = let both = and_parts (p x) (list_all p xs) e in (both.0
 is_all : (p : ℕ → Bool) (xs : List ℕ) → list_all p xs ≡ true → All (λ c. p c ≡ true) xs
 is_all p xs e = All-from_recursion (λ c. p c ≡ true) xs (each_of p xs e)
 
--- a line that these tests let through
+-- a line that passes these tests
 pub good : (bytes : List ℕ) {said : Said} → nat_le (length bytes) line_limit ≡ true → is_utf8 bytes ≡ true → list_all is_xml_char (chars bytes) ≡ true →
     Says bytes said → IsGoodLine (record { bytes = bytes; ended = true }) said
 good bytes within utf8 characters says = record {
@@ -52,7 +52,7 @@ good bytes within utf8 characters says = record {
 pub is_name : (written : List ℕ) → is_utf8 written ≡ true → is_ncname (chars written) ≡ true → IsNcname written
 is_name written utf8 ncname = record { utf8 = IsUtf8-from_is_utf8 written utf8; ncname = ncname }
 
--- a text without a backslash stands for itself
+-- a text without a backslash means itself
 abbrev is_plain : ℕ → Bool
 is_plain c = not (c == 92)
 
@@ -106,7 +106,7 @@ across_is = record {
   instructions_behind = trees.no_instructions;
 }
 
--- ---- a declaration behind the attribute that needs it
+-- ---- a declaration after the attribute that needs it
 
 abbrev late : List ℕ
 late = codes "(p:a" ++ 10 ∷ (codes "Ap:x 1" ++ 10 ∷ (codes "Axmlns:p u" ++ 10 ∷ (codes ")p:a" ++ 10 ∷ [])))
@@ -139,7 +139,7 @@ abbrev prefix_size : Option (List ℕ) → ℕ
 prefix_size None = 0
 prefix_size (Some p) = length p
 
--- a name that declares has a prefix of five bytes, or none and a local name of five
+-- a name that declares a namespace has a prefix of five bytes, or has no prefix and a local name of five
 declaring_size : {name : WrittenName} {p : Option (List ℕ)} → Declares name p → (prefix_size name.prefix ≡ 5) ⊎ (length name.local ≡ 5)
 declaring_size default_namespace = inr refl
 declaring_size prefix_declared = inl refl
@@ -232,7 +232,7 @@ abbrev pub first_of : List ℕ → ℕ
 first_of [] = 0
 first_of (b ∷ bs) = b
 
--- a line of another kind, and no others behind it
+-- a line of another kind, followed by no other lines
 begins_otherwise : (k : ℕ) (b : ℕ) (bs : List ℕ) (rest : List Line) → (b ≡ k → ⊥) → BeginsOtherwise k (whole (b ∷ bs) ∷ rest)
 begins_otherwise k b bs rest differs l more parts kind =
     let same : whole (b ∷ bs) ≡ l = cc in
@@ -352,7 +352,7 @@ one_name_twice_breaks = at_line {before = whole (codes "(a") ∷ whole (codes "A
     (expanded_and (with_prefix (declared_here here)) (expanded_and (with_prefix (declared_here (there here))) none_left))
     (λ distinct. not_distinct distinct refl)))
 
--- ---- a line that is too long breaks P10 and no other
+-- ---- a line that is too long breaks only P10
 
 last_of : List Line → Option Line
 last_of [] = None
@@ -374,7 +374,7 @@ unfolding last_of IsWithin
 last_is_within good_line no_lines = good_line.within
 last_is_within good_line (line_and next more) = last_is_within next more
 
--- so a line that ends a tag whose lines say something is not too long
+-- so a line that ends a tag is not too long, if the lines of the tag have a meaning
 tag_is_within : (before : List Line) (l : Line) {outer : Scope} {name : WrittenName} {written : List WrittenAttribute} →
     EndsWithTag (before ++ l ∷ []) outer name written → length l.bytes ≤ line_limit
 unfolding last_of IsWithin

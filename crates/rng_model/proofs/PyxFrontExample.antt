@@ -1,4 +1,4 @@
--- The line `(a` breaks P13 alone: more lines may make it a document.
+-- The line `(a` breaks only P13: more lines may make it a document.
 use Rattle.std.proofs.Common.{◌≡◌, ◌≢◌, ℕ, suc, ◌+◌, ◌<◌, ◌≤◌, true, false, List, [], ◌∷◌, ◌++◌, length, map, codes, Option, Some, None, ◌⊎◌, inl, inr, refl}
 use Rattle.std.proofs.Common.{sym, ap, subst, arith, ◌∙◌}
 use Rattle.std.proofs.lemmas.List.{length-append}
@@ -26,7 +26,7 @@ says_a : IsGoodLine the_line (start (record { prefix = None; local = codes "a" }
 unfolding chars is_utf8 lib.Utf8.encode
 says_a = good (codes "(a") refl refl refl (says_start a_is_a_name)
 
--- its first byte is that of a start
+-- its first byte is the one of a start
 other_kind : {k : ℕ} {rest : List ℕ} → codes "(a" ≡ k ∷ rest → k ≡ 40
 other_kind e = sym (ap first_of e)
 
@@ -49,9 +49,9 @@ breaks_nothing_alone (lines.bad_end_name e f) = let k = other_kind e in omega (a
 breaks_nothing_alone (lines.bad_attribute_name e c f) = let k = other_kind e in omega (arith, k)
 breaks_nothing_alone (lines.no_space e f) = let k = other_kind e in omega (arith, k)
 
--- ---- around one line
+-- ---- the lines around one line
 
--- one line is cut about a line in one way
+-- one line is split around a line in one way
 pub record IsAlone (before behind : List Line) (l m : Line) : Type 0 where
   pub front : before ≡ []
   pub same : m ≡ l
@@ -75,7 +75,7 @@ few_are_open : {opened : List Tag} → AreOpenTags [] opened → length opened �
 few_are_open (clauses.none_open b) = refl
 few_are_open (clauses.one_open {front = front} l o k a b i e) = absurd (nothing_before l front _ e)
 
--- ---- the tag that ends with it
+-- ---- the tag that ends with the line
 
 no_colon : (prefix local : List ℕ) → codes "a" ≡ prefix ++ 58 ∷ local → ⊥
 no_colon [] local e = let k : 97 ≡ 58 = ap first_of e in omega (arith, k)
@@ -119,7 +119,7 @@ no_name_repeated (clauses.expanded_twice p x d) = d (all_distinct (nothing_decla
 nothing_written : {said : List Said} {written : List WrittenAttribute} → AreGoodLines [] said → AreWritten said written → written ≡ []
 nothing_written lines.no_lines none_written = refl
 
--- the tag is this line alone, and says a name without a prefix
+-- the tag is only this line, and its name has no prefix
 module _ {outer : Scope} {name : WrittenName} {written : List WrittenAttribute} (ends : EndsWithTag (the_line ∷ []) outer name written) where
   parts_of_tag : IsAlone ends.ends.front ends.ends.others the_line ends.ends.tag
   parts_of_tag = cut_about the_line ends.ends.tag ends.ends.front ends.ends.others ends.ends.parts
@@ -130,7 +130,7 @@ module _ {outer : Scope} {name : WrittenName} {written : List WrittenAttribute} 
   no_attributes : written ≡ []
   no_attributes = nothing_written (subst (λ ls. AreGoodLines ls ends.says.said) parts_of_tag.rest ends.says.attributes) ends.says.are_written
 
--- ---- texts behind it
+-- ---- texts after the line
 
 no_text_is : {s : Said} {joined : List ℕ} {more : List Said} → IsRun (s ∷ more) joined → Says the_line.bytes s → ⊥
 no_text_is (trees.text_and r e) s = elim s [ ]

@@ -7,7 +7,8 @@ use Rattle.rng_model.specs.documents.PyxClauses.{none_open}
 use Rattle.rng_model.specs.documents.PyxHeld.{KeptOf, in_tag, of_none}
 use Rattle.rng_model.proofs.PyxExamples.{whole}
 
--- `(a`, `Ax 1` and the beginning `-y` of a line: both lines of the tag, since a third may follow it, and the two bytes that have come
+-- `(a`, `Ax 1` and the beginning `-y` of a line: both lines of the tag are kept, since a third may follow, and the two
+-- bytes of the line that has begun
 abbrev begun : List ℕ
 begun = codes "(a" ++ 10 ∷ (codes "Ax 1" ++ 10 ∷ codes "-y")
 

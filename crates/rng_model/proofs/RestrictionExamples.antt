@@ -1,4 +1,4 @@
--- Small grammars in the simple syntax that break one restriction each.
+-- Small grammars in the simple syntax that each break one restriction.
 use Rattle.std.proofs.Common.{ℕ, List, [], ◌∷◌, codes, inl, refl}
 use Rattle.std.proofs.lemmas.Str.{IsUtf8-from_is_utf8}
 use Rattle.std.specs.Str.{chars, is_utf8}
@@ -18,7 +18,7 @@ plain local = record { ns = []; local = local }
 abbrev named : List ℕ → NameClass
 named local = name_is (plain local)
 
--- one element, of this body, which is the start too
+-- one element with this body, which is also the start
 abbrev one_element : Simple ℕ → Grammar
 one_element body = record { start = s_leaf 0; elements = (named (codes "a"), body) ∷ [] }
 
@@ -124,7 +124,7 @@ s27 = restrictions.in_text (restrictions.a_body here) (record {
   occurs_right = occurs_itself;
 })
 
--- `element x { element x { .. } & element x { .. } }`, the element inside itself
+-- `element x { element x { .. } & element x { .. } }`: the element inside itself
 s26 : BreaksRestriction (record { start = s_leaf 0; elements = (named (codes "x"), s_joined tree.interleave (s_leaf 0) (s_leaf 0)) ∷ [] }) 26
 s26 = restrictions.in_element_names (restrictions.a_body here) (record {
   left = s_leaf 0;

@@ -1,4 +1,4 @@
--- Places are told apart by their numbers, so that they serve as the keys of a map.
+-- Distinct places have distinct numbers, so places serve as the keys of a map.
 use Rattle.std.proofs.Common.{◌≡◌, ◌↔◌, ℕ, Bool, true, false, cond, List, [], ◌∷◌, reverse, map, Option, Some, option_map, refl, sym, ap, ap₂, ◌∙◌, true≢false}
 use Rattle.std.specs.Map.{lookup}
 use Rattle.std.specs.Str.{bytes_eq}
@@ -7,13 +7,13 @@ use Rattle.std.proofs.lemmas.List.{reverse-reverse}
 use Rattle.rng_model.specs.declared.place.Place.{Place}
 use Rattle.rng_model.specs.views.SchemaView.{place_of, place_eq, by_place}
 
--- tests that pass together have the same answer
+-- two tests that imply each other have the same result
 same_answer : (a b : Bool) → (a ≡ true → b ≡ true) → (b ≡ true → a ≡ true) → a ≡ b
 same_answer true b f g = sym (f refl)
 same_answer false true f g = absurd (true≢false (sym (g refl)))
 same_answer false false f g = refl
 
--- numbers from the outermost are equal exactly where those from the innermost are
+-- numbers from the outermost are equal exactly if those from the innermost are
 same_reversed : (a b : List ℕ) → bytes_eq a b ≡ bytes_eq (reverse a) (reverse b)
 same_reversed a b = same_answer _ _ (λ e. (bytes_decides (reverse a) (reverse b)).1 (ap reverse ((bytes_decides a b).0 e)))
     (λ e. (bytes_decides a b).1 (sym (reverse-reverse a) ∙ ap reverse ((bytes_decides (reverse a) (reverse b)).0 e) ∙ reverse-reverse b))
@@ -22,18 +22,18 @@ same_reversed a b = same_answer _ _ (λ e. (bytes_decides (reverse a) (reverse b
 pub compares_numbers : (p q : Place) → place_eq p q ≡ bytes_eq (place_of p) (place_of q)
 compares_numbers p q = same_reversed p.numbers.items q.numbers.items
 
--- so it is true of one place alone
+-- so it is true only of equal places
 pub same_place : (p q : Place) → (place_eq p q ≡ true) ↔ (place_of p ≡ place_of q)
 same_place p q =
     let decides = bytes_decides (place_of p) (place_of q) in
     (λ e. decides.0 (sym (compares_numbers p q) ∙ e), λ e. compares_numbers p q ∙ decides.1 e)
 
--- what a map finds at a place is what its entries hold at the numbers of that place
+-- what a map finds at a place is what its entries have at the numbers of that place
 pub lookup_place : {V : Type 0} (p : Place) (es : List (Place × V)) → lookup (place_eq p) es ≡ lookup (bytes_eq (place_of p)) (by_place es)
 lookup_place p [] = refl
 lookup_place p (e ∷ es) = ap₂ (λ b found. cond b (Some e.1) found) (compares_numbers p e.0) (lookup_place p es)
 
--- the same where the values are seen by `f`
+-- the same, with `f` as the view of the values
 pub lookup_place_seen : {V W : Type 0} (f : V → W) (p : Place) (es : List (Place × V)) →
     option_map f (lookup (place_eq p) es) ≡ lookup (bytes_eq (place_of p)) (map (λ e. (place_of e.0, f e.1)) es)
 lookup_place_seen f p [] = refl

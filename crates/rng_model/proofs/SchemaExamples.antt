@@ -1,4 +1,4 @@
--- Small schemas: what their definitions are, and what these stand for.
+-- Small schemas: their definitions, and the trees of these.
 use Rattle.std.proofs.Common.{◌≡◌, refl, ap, sym, subst, ℕ, List, [], ◌∷◌, Option, Some, None, codes}
 use Rattle.rng_model.specs.names.Names.{Name, NameClass, name_is}
 use Rattle.rng_model.specs.simple.Tree as tree
@@ -26,7 +26,7 @@ start p = record { name = None; method = Plain; pattern = p }
 abbrev pub define : List ℕ → Pattern → Component
 define y p = record { name = Some y; method = Plain; pattern = p }
 
--- the components of the one grammar, which is the main one
+-- the components of the only grammar, which is the main one
 abbrev pub at_main : List Component → Place → Option (List Component)
 at_main cs [] = Some cs
 at_main cs (n ∷ x) = None
@@ -40,7 +40,7 @@ some_is e = cc
 pub no_components : {cs : List Component} → None ≡ Some cs → ⊥
 no_components e = cc
 
--- what stands at some place stands in the main grammar
+-- a component at any place is in the main grammar
 pub only_main : {cs : List Component} (x : Place) {c : Component} → HasComponent (one_grammar cs) x c → Among c cs
 only_main [] {c} h = subst (λ ds. Among c ds) (sym (some_is h.there)) h.among
 only_main (n ∷ x) h = absurd (no_components h.there)
@@ -133,7 +133,7 @@ the_element_a = record { place = []; position = 0 ∷ []; class = named (codes "
 abbrev the_element_c : Leaf
 the_element_c = record { place = 7 ∷ []; position = 1 ∷ []; class = named (codes "c"); content = empty }
 
--- the parent ref is b of the grammar around, the ref c of its own
+-- the parent ref is b of the grammar around, the ref is c of its own grammar
 parent_and_own : IsBodyOf nested_grammar the_element_a
     (tree.joined group (tree.leaf (empty_leaf (1 ∷ []) (codes "b"))) (tree.leaf the_element_c) tree.no_trees)
 unfolding body
@@ -174,7 +174,7 @@ recursive = one_grammar (start (ref (codes "c")) ∷ define (codes "c") (an_elem
 abbrev the_element_b : Leaf
 the_element_b = record { place = []; position = 1 ∷ []; class = named (codes "b"); content = ref (codes "c") }
 
--- a loop through an element is none: the element is a leaf, and a leaf of its own body
+-- a loop through an element does not count: the element is a leaf, and a leaf of its own body
 recursive_start : IsTreeOf recursive (main_start recursive) (tree.leaf the_element_b)
 unfolding body
 recursive_start = (tree.leaf (a_ref (codes "c")), refl, u.found refl refl (u.element_is refl))

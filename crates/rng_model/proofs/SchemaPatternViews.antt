@@ -1,4 +1,4 @@
--- Patterns of a schema as they are seen: lists of members, and datatypes.
+-- Views of the patterns of a schema: lists of members, and datatypes.
 use Rattle.std.proofs.Common.{◌≡◌, ap, ◌∙◌, [], ◌∷◌, map, rules, Vec, Global, Some, None, Box}
 use Rattle.rng_model.specs.declared.datatype.Datatype.{Datatype}
 use Rattle.rng_model.specs.declared.schema_pattern.SchemaPattern.{SchemaPattern, the_lemmas}
@@ -25,7 +25,7 @@ pub data_except : (d : Box Datatype Global) (b : Box SchemaPattern Global) →
     schema_pattern_of (patterns.Data d (Some b)) ≡ pattern.data_except (datatype_of d.value) (schema_pattern_of b.value)
 data_except d b = search (rules, the_lemmas)
 
--- a list of one member is that member, and one of none changes nothing beside others
+-- a list of one member is that member, and a list of none changes nothing beside other members
 group_of_one : (all : Vec SchemaPattern Global) (p : SchemaPattern) → all.items ≡ p ∷ [] → schema_pattern_of (patterns.Group all) ≡ schema_pattern_of p
 group_of_one all p e = group_of all ∙ ap (λ ps. members group (map schema_pattern_of ps)) e
 

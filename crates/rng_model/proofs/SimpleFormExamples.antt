@@ -17,14 +17,15 @@ module _ (L : Type 0) where
   except_stays : {g : RuleGroup} {c : Tree L} → ¬ (Step g (data_except plain token_x) c)
   except_stays (steps.in_except d) = elim d [ ]
 
-  -- `string - (notAllowed, "x")` is `string`: what the except holds is gone before the restrictions are judged
+  -- the simple form of `string - (notAllowed, "x")` is `string`: the content of the except is gone before the
+  -- restrictions are judged
   not_allowed_except : IsSimpleFormOf {L = L} (data_except plain (joined group not_allowed token_x no_trees)) (data_of plain)
   not_allowed_except = record {
     reached = step_and (propagation, steps.in_except (steps.first_not_allowed (λ e. cc))) (step_and (propagation, steps.no_except) no_step);
     last = λ c s. data_stays s.1;
   }
 
-  -- `string - ("x", empty)` is `string - "x"`
+  -- the simple form of `string - ("x", empty)` is `string - "x"`
   except_of_a_group : IsSimpleFormOf {L = L} (data_except plain (joined group token_x empty no_trees)) (data_except plain token_x)
   except_of_a_group = record {
     reached = step_and (propagation, steps.in_except (steps.second_empty (λ e. cc))) no_step;
@@ -38,7 +39,7 @@ module _ (L : Type 0) where
   empty_side_stays (steps.in_second d) = elim d [ ]
   empty_side_stays (steps.in_others d) = elim d [ ]
 
-  -- `(empty, text) | empty` is `empty | text`
+  -- the simple form of `(empty, text) | empty` is `empty | text`
   sides_change : IsSimpleFormOf {L = L} (joined choice (joined group empty text no_trees) empty no_trees) (joined choice empty text no_trees)
   sides_change = record {
     reached = step_and (propagation, steps.in_first (steps.first_empty (λ e. cc))) (step_and (propagation, steps.sides_change (λ e. cc)) no_step);
@@ -51,7 +52,7 @@ module _ (L : Type 0) where
   nested_stays (steps.in_second d) = elim d [ ]
   nested_stays (steps.in_others d) = elim d [ ]
 
-  -- `text | empty | text` is nested from the left, and then the inner choice changes its sides
+  -- `text | empty | text` is nested from the left, and then the inner choice swaps its sides
   nested_from_the_left : IsSimpleFormOf {L = L} (joined choice text empty (tree_and text no_trees))
       (joined choice (joined choice empty text no_trees) text no_trees)
   nested_from_the_left = record {

@@ -1,4 +1,4 @@
--- A pattern has at most one tree, and none where its expansion goes on for ever.
+-- A pattern has at most one tree, and no tree if its expansion goes on forever.
 use Rattle.std.proofs.Common.{◌≡◌, refl, ap, ◌∙◌, subst, Some, Option}
 use Rattle.rng_model.specs.simple.Tree.{Tree, leaf, attribute, list, data_except, mixed, optional, zero_or_more, one_or_more, Trees}
 use Rattle.rng_model.specs.schema.Patterns.{Place, Point}
@@ -21,7 +21,7 @@ pub not_both : {w : Aim} {l : Leaf} {d : Definition} → w ≡ to_element l → 
 not_both e f = cc
 
 module _ (s : Schema) where
-  -- what is found is found once
+  -- a definition has one combined body
   pub moved : {d e : Definition} {a b : Tree Point} {t : Tree Leaf} → d ≡ e → body s d ≡ Some a → body s e ≡ Some b → Unfolds s d.place a t
       → Unfolds s e.place b t
   moved {d = d} {a = a} {b = b} {t = t} p f g u =
@@ -59,7 +59,7 @@ pub record MentionsSome (s : Schema) (P : Definition → Type 0) (x : Place) (a 
   pub aimed : aim s x point ≡ to_definition definition
   pub holds : P definition
 
--- each of them mentions one of them
+-- each definition of the set mentions one of the set
 abbrev pub IsStuck : Schema → (Definition → Type 0) → Type 0
 IsStuck s P = (d : Definition) → P d → (a : Tree Point) → body s d ≡ Some a → MentionsSome s P d.place a
 

@@ -1,4 +1,4 @@
--- The laws of values: texts that are equal are allowed, and on allowed texts to be equal is an equivalence.
+-- The laws of values: texts that are equal are allowed, and equality on allowed texts is an equivalence.
 use Rattle.std.proofs.Common.{◌≡◌, ℕ, List, Bool, true, false, Option, Some, None, is_some, refl, sym, ap, ◌∙◌, rules}
 use Rattle.std.specs.Bool.{beq}
 use Rattle.std.proofs.lemmas.Slice.Eq.{bytes_eq-Decides}
@@ -12,7 +12,7 @@ same_truth true false e = search rules
 same_truth false true e = search rules
 same_truth false false e = refl
 
--- values that are the same are one value
+-- values that pass the test are equal
 pub same_value-is : (a b : Value) → same_value a b ≡ true → a ≡ b
 same_value-is (text v) (text w) e = ap text ((bytes_eq-Decides v w).0 e)
 same_value-is (text v) (truth b) e = search rules
@@ -30,7 +30,7 @@ same_value-self (truth true) = refl
 same_value-self (truth false) = refl
 same_value-self (number m) = (Decides-int_eq m m).1 refl
 
--- what two equal texts stand for is one
+-- two equal texts have the same value
 pub are_equal-is : (a b : Option Value) → are_equal a b ≡ true → a ≡ b
 are_equal-is None b e = search rules
 are_equal-is (Some a) None e = search rules

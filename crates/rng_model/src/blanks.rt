@@ -1,4 +1,4 @@
-// How a text is cut at its blanks.
+// How a text is split at its blanks.
 ghost use Rattle.std.specs.Prelude.{◌≡◌, drop, map, IfOk, string_bytes};
 ghost use Rattle.std.specs.List.{prefix_len};
 ghost use Rattle.std.specs.Str.{IsCharBoundary};
@@ -9,17 +9,17 @@ ghost use Rattle.rng_model.specs.views.PiecesView.{pieces_left};
 use crate::fault::OutOfMemory;
 use std::alloc::Global;
 
-/// The pieces of a text between its blanks, in order: the longest runs without a space, a tab, a line feed or a
-/// carriage return.
+/// Iterates over the pieces of a text, in order: the longest runs without a space, a tab, a line feed or a carriage
+/// return.
 ///
-/// It takes no memory, and reads the text once.
+/// Allocates nothing, and reads the text once.
 #[derive(Drop)]
 pub struct Pieces<'a> {
     rest: &'a str,
 }
 
 impl<'a> Pieces<'a> {
-    /// The pieces of this text.
+    /// Creates an iterator over the pieces of this text. Allocates nothing.
     pub fn new(text: &'a str) -> Pieces<'a>
         ensures { pieces_left result ≡ pieces text.now }
     {
@@ -44,7 +44,7 @@ impl<'a> Iterator for Pieces<'a> {
     }
 }
 
-// the text without the blanks that it begins with
+// the text without its leading blanks
 fn past_blanks(text: &str) -> &str
     ensures { result.now ≡ drop (prefix_len is_blank_byte text.now) text.now }
 {
@@ -52,14 +52,14 @@ fn past_blanks(text: &str) -> &str
     rest
 }
 
-// how many bytes of blanks the text begins with
+// the number of bytes of the leading blanks
 fn blanks_len(text: &str) -> usize
     ensures { result ≡ prefix_len is_blank_byte text.now }
 {
     text.bytes().take_while(|b| is_blank(*b)).count()
 }
 
-// how many bytes the text begins with that are no blanks
+// the number of bytes before the first blank
 fn run_len(text: &str) -> usize
     ensures len { result ≡ prefix_len is_run_byte text.now }
     ensures boundary { IsCharBoundary text.now result }
@@ -73,10 +73,10 @@ fn is_blank(byte: u8) -> bool
     matches!(byte, b' ' | b'\t' | b'\n' | b'\r')
 }
 
-/// The text with the blanks at both ends dropped, and each run of blanks inside made one space.
+/// Returns the text without the blanks at both ends, and with each run of blanks inside replaced by one space.
 ///
-/// A blank is a space, a tab, a line feed or a carriage return.
-/// XML Schema Part 2, section 4.3.6, `collapse`. The error is want of memory. One pass over the text.
+/// A blank is a space, a tab, a line feed or a carriage return. XML Schema Part 2, section 4.3.6, `collapse`. Fails
+/// only when out of memory. One pass over the text.
 pub fn collapse(alloc: Global, text: &str) -> Result<String, OutOfMemory>
     ensures { IfOk result (λ t. string_bytes t ≡ collapse text.now) }
 {
@@ -92,9 +92,9 @@ pub fn collapse(alloc: Global, text: &str) -> Result<String, OutOfMemory>
     Ok(collapsed)
 }
 
-/// The longest runs without blanks, in order, as slices of the text.
+/// Returns the longest runs without blanks, in order, as slices of the text.
 ///
-/// RELAX NG Specification, section 6.2.10. The error is want of memory. One pass over the text.
+/// RELAX NG Specification, section 6.2.10. Fails only when out of memory. One pass over the text.
 pub fn split_blanks<'a>(alloc: Global, text: &'a str) -> Result<Vec<&'a str>, OutOfMemory>
     ensures pieces { IfOk result (λ v. map (λ t. t.now) v.items ≡ pieces text.now) }
     ensures runs { IfOk result (λ v. HasRuns text.now (map (λ t. t.now) v.items)) }

@@ -1,11 +1,11 @@
-// Characters, names without a colon, and the ranges that decide of them.
+// Characters, names without a colon, and the ranges that define them.
 ghost use Rattle.std.specs.Prelude.{◌≡◌, ◌&&◌, not};
 ghost use Rattle.std.specs.Str.{chars};
 ghost use Rattle.rng_model.specs.names.Characters.{is_xml_char, is_name_start, is_name_char, is_colon, is_ncname};
 
-/// Whether the character may stand in an XML document.
+/// Returns whether the character may occur in an XML document.
 ///
-/// XML 1.0 Fifth Edition, section 2.2, `Char`. Takes no memory.
+/// XML 1.0 Fifth Edition, section 2.2, `Char`. Allocates nothing.
 pub fn is_xml_char(c: char) -> bool
     ensures { result ≡ is_xml_char c }
 {
@@ -15,9 +15,9 @@ pub fn is_xml_char(c: char) -> bool
     )
 }
 
-/// Whether a name may begin with the character.
+/// Returns whether a name may begin with the character.
 ///
-/// XML 1.0 Fifth Edition, section 2.3, `NameStartChar`. Takes no memory.
+/// XML 1.0 Fifth Edition, section 2.3, `NameStartChar`. Allocates nothing.
 pub fn is_name_start(c: char) -> bool
     ensures { result ≡ is_name_start c }
 {
@@ -31,9 +31,9 @@ pub fn is_name_start(c: char) -> bool
     )
 }
 
-/// Whether the character may stand in a name after its first.
+/// Returns whether the character may occur in a name after the first character.
 ///
-/// XML 1.0 Fifth Edition, section 2.3, `NameChar`. Takes no memory.
+/// XML 1.0 Fifth Edition, section 2.3, `NameChar`. Allocates nothing.
 pub fn is_name_char(c: char) -> bool
     ensures { result ≡ is_name_char c }
 {
@@ -44,9 +44,9 @@ pub fn is_name_char(c: char) -> bool
         )
 }
 
-/// Whether the text is a name without a colon: a `NameStartChar` and then `NameChar`s, none of them `:`.
+/// Returns whether the text is a name without a colon: a `NameStartChar` and then `NameChar`s, none of them `:`.
 ///
-/// Namespaces in XML 1.0, section 3, `NCName`. One pass over the text. Takes no memory.
+/// Namespaces in XML 1.0, section 3, `NCName`. One pass over the text. Allocates nothing.
 pub fn is_ncname(text: &str) -> bool
     ensures { result ≡ is_ncname (chars text.now) }
 {
@@ -64,7 +64,7 @@ fn is_ncname_start(c: char) -> bool
     is_name_start(c) && c != ':'
 }
 
-// the character may stand in an NCName after its first
+// the character may occur in an NCName after the first character
 fn is_ncname_char(c: char) -> bool
     ensures { result ≡ is_name_char c && not (is_colon c) }
 {

@@ -1,10 +1,10 @@
-// Datatypes as a schema names them.
+// Datatypes as a schema refers to them.
 ghost use Rattle.std.specs.Prelude.{◌≡◌, ◌↔◌, ℕ, List, IsTrue};
 ghost use Rattle.rng_model.specs.simple.Tree as tree;
 ghost use Rattle.rng_model.specs.datatypes.Datatypes.{BuiltInType, HasType, IsKnownDatatype, IsAllowed, AreEqual};
 ghost use Rattle.rng_model.specs.datatypes.DatatypeTests.{text_tests};
 
-/// A datatype: its library's uri, its name there, and its parameters in the order in which they are written.
+/// A datatype: the URI of its library, its name there, and its parameters in the order in which they are written.
 ///
 /// RELAX NG Specification, section 2.
 #[derive(Debug, Drop)]
@@ -14,7 +14,8 @@ pub struct Datatype {
     pub parameters: Vec<(String, String)>,
 }
 
-/// A text of a datatype: the uri of its library, empty for the one built in, and its name there.
+/// A value of a datatype: the URI of the library (empty for the built-in library), the name of the datatype, and the
+/// text.
 ///
 /// RELAX NG Specification, section 3 (`value`).
 #[derive(Drop)]
@@ -24,10 +25,10 @@ pub struct DatatypeValue {
     pub text: String,
 }
 
-/// The laws of the definitions of datatypes. It does nothing: its contract is what it is for.
+/// States the laws of the definitions of datatypes. The function does nothing: its contract is the laws.
 ///
-/// A datatype has one type at most, and one where it is known. The tests of texts that other contracts cite
-/// (`text_tests`) answer what the definitions say.
+/// A datatype has at most one type, and it has one if it is known. The tests of texts that other contracts cite
+/// (`text_tests`) agree with the definitions.
 pub fn datatype_laws()
     ensures one { (d : tree.Datatype) (t u : BuiltInType) → HasType d t → HasType d u → t ≡ u }
     ensures some { (d : tree.Datatype) → IsKnownDatatype d → (t : BuiltInType) × HasType d t }

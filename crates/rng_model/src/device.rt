@@ -6,7 +6,7 @@ ghost use Rattle.rng_model.specs.devices.Device.{device_inner, device_failures, 
 
 use std::io::{Read, Write};
 
-/// A call of a device failed, and the device counted it.
+/// A call of a device failed, and the device counted the failure.
 #[derive(Clone, Copy, Debug, PartialEq, Eq)]
 pub struct DeviceFault;
 
@@ -19,11 +19,11 @@ pub struct Device<T> {
     flushed: bool,
 }
 
-/// Once this many bytes were read, a further read is refused, so that every loop of reads ends.
+/// Once this many bytes were read, further reads fail, so that every loop of reads ends.
 const READ_LIMIT: u64 = 1 << 62;
 
 impl<T> Device<T> {
-    /// A device that has counted no failure, read no byte and flushed nothing. Takes no memory.
+    /// Creates a device that has counted no failure, has read no byte and has flushed nothing. Allocates nothing.
     pub fn new(inner: T) -> Self
         ensures inner { device_inner result ≡ inner }
         ensures failures { device_failures result ≡ 0 }
@@ -38,7 +38,7 @@ impl<T> Device<T> {
         }
     }
 
-    /// The reader or the writer, as the calls have left it. Takes no memory.
+    /// Returns the reader or the writer, as the calls have left it. Allocates nothing.
     pub fn into_inner(self) -> T
         ensures { result ≡ device_inner self }
     {
@@ -46,14 +46,14 @@ impl<T> Device<T> {
         inner
     }
 
-    /// How many calls failed. Takes no memory.
+    /// Returns the number of failed calls. Allocates nothing.
     pub fn failures(&self) -> u64
         ensures { result ≡ device_failures self.now }
     {
         self.failures
     }
 
-    /// Whether so many bytes were read that a further read is refused: 2^62 or more.
+    /// Returns whether further reads fail because of the limit: 2^62 or more bytes were read.
     fn is_at_limit(&self) -> bool
         ensures { result ≡ nat_le (2 ^ 62) (device_taken self.now) }
     {
@@ -71,10 +71,10 @@ impl<T> Device<T> {
 }
 
 impl<R: Read> Device<R> {
-    /// Reads into the front of a slice, and answers how many bytes. Takes no memory.
+    /// Reads into the front of a slice, and returns the number of bytes read. Allocates nothing.
     ///
-    /// Every error of the reader counts as a failed call, that of an interrupted one too. Once 2^62 or more bytes
-    /// were read, the reader is not asked, and the call counts as failed.
+    /// Every error of the reader counts as a failed call, also the error for an interrupted call. Once 2^62 or more
+    /// bytes were read, this fails without a call of the reader, and counts as a failed call.
     pub fn read(&mut self, buf: &mut [u8]) -> Result<usize, DeviceFault>
         requires { device_failures self.old < 2 ^ 64 - 1 }
         ensures bound { ReadsAtMost result buf.new }
@@ -82,7 +82,7 @@ impl<R: Read> Device<R> {
         ensures failures { device_failures self.new ≡ device_failures self.old + (if is_ok result then 0 else 1) }
         ensures taken { MatchResult result (λ n. device_taken self.new ≡ device_taken self.old + n) (λ _. device_taken self.new ≡ device_taken self.old) }
         ensures flushed { device_flushed self.new ≡ device_flushed self.old }
-        // Past the limit the call fails, and the reader was not asked.
+        // Past the limit the call fails, and the reader is not called.
         ensures limit { 2 ^ 62 ≤ device_taken self.old → IsErr result × (device_inner self.new ≡ device_inner self.old) × (buf.new ≡ buf.old) }
     {
         if self.is_at_limit() {
@@ -99,10 +99,10 @@ impl<R: Read> Device<R> {
 }
 
 impl<W: Write> Device<W> {
-    /// Writes the front of a slice, and answers how many bytes were taken: at least one, unless the slice is empty.
-    /// Takes no memory.
+    /// Writes the front of a slice, and returns the number of bytes written: at least one, unless the slice is empty.
+    /// Allocates nothing.
     ///
-    /// A call that takes nothing of a slice that is not empty counts as failed, as every error of the writer does.
+    /// A call that writes nothing of a slice that is not empty counts as failed, as does every error of the writer.
     pub fn write(&mut self, buf: &[u8]) -> Result<usize, DeviceFault>
         requires { device_failures self.old < 2 ^ 64 - 1 }
         ensures bound { WritesAtMost result buf.now }
@@ -119,7 +119,7 @@ impl<W: Write> Device<W> {
         }
     }
 
-    /// Flushes the writer. Takes no memory.
+    /// Flushes the writer. Allocates nothing.
     ///
     /// Every error of the writer counts as a failed call.
     pub fn flush(&mut self) -> Result<(), DeviceFault>

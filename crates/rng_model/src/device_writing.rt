@@ -1,4 +1,4 @@
-// Writing to a device until all is written.
+// Writing a whole slice to a device.
 ghost use Rattle.std.specs.Prelude.{◌≡◌, ◌+◌, ◌-◌, ◌^◌, ◌<◌, is_ok, OnOk, OnErr, if◌then◌else◌};
 ghost use Rattle.std.specs.Io.KnownBytes.{Appends};
 ghost use Rattle.rng_model.specs.devices.Device.{device_inner, device_failures, device_taken};
@@ -7,10 +7,10 @@ ghost use Rattle.rng_model.specs.devices.Written.{AppendsBeginning};
 use crate::device::{Device, DeviceFault};
 use std::io::Write;
 
-/// Writes all of a slice, in as many calls as the writer takes.
+/// Writes all of a slice, in as many calls of the writer as it needs.
 ///
-/// The error is a failed call, which the device counted: then a beginning of the slice was written, and nothing is written
-/// after it. Of an empty slice there is no call. Takes no memory, and no more calls than there are bytes.
+/// Fails if a call of the writer fails, which the device counts. Then a beginning of the slice is written, and nothing
+/// after it. An empty slice makes no call. Allocates nothing, and makes at most as many calls as there are bytes.
 pub fn write_whole<W: Write>(output: &mut Device<W>, bytes: &[u8]) -> Result<(), DeviceFault>
     requires { device_failures output.old < 2 ^ 64 - 1 }
     ensures ok { OnOk result (Appends (W.contents (device_inner output.old)) (W.contents (device_inner output.new)) bytes.now) }

@@ -1,7 +1,7 @@
 // Documents.
 use crate::name::Name;
 
-/// An attribute of an element. A namespace declaration is none.
+/// An attribute of an element. Namespace declarations are not attributes.
 ///
 /// RELAX NG Specification, section 2.
 #[derive(Debug, Drop)]
@@ -12,8 +12,8 @@ pub struct Attr {
 
 /// A child of an element, or the root of a document.
 ///
-/// RELAX NG Specification, section 2. Among the children of an element no string is empty and no two strings stand
-/// side by side.
+/// RELAX NG Specification, section 2. Among the children of an element, no string is empty and no two strings are
+/// adjacent.
 #[derive(Debug, Drop)]
 pub enum Item {
     Text(String),

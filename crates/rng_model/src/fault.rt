@@ -1,10 +1,10 @@
-// Why a call did not answer.
+// Why a call fails.
 ghost use Rattle.std.specs.Prelude.{◌≡◌};
 ghost use Rattle.rng_model.specs.declared.fault.SchemaFault.TheVariants as faults;
 
 use std::alloc::{AllocError, AllocFailed};
 
-/// There was no memory for what a call had to keep.
+/// A call ran out of memory.
 #[derive(Clone, Copy, Debug, PartialEq, Eq)]
 pub struct OutOfMemory;
 
@@ -20,15 +20,15 @@ impl<T: Drop> From<AllocFailed<T>> for OutOfMemory {
     }
 }
 
-/// Why a schema has no answer.
+/// Why a call on a schema fails.
 #[derive(Debug, Drop)]
 pub enum SchemaFault {
-    /// The schema file of this name is the first to break a clause by itself, and this is the first that it breaks: 1
-    /// to 8.
+    /// The schema file of this name is the first file that breaks a clause by itself. `clause` is the first clause that
+    /// it breaks, from 1 to 8.
     File { clause: u8, name: String },
-    /// The schema breaks this clause first, 9 or more.
+    /// The first clause that the schema breaks, 9 or more.
     Clause(u8),
-    /// There was no memory for what the call had to keep.
+    /// The call ran out of memory.
     Memory,
 }
 

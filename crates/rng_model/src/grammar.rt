@@ -8,10 +8,10 @@ use std::marker::Model;
 
 /// A grammar in simple form: a table of patterns, a table of elements (a name class and a body each), and the start.
 ///
-/// RELAX NG Specification, section 5. The start and each body are positions in the table of patterns, a child's
-/// position is smaller than its parent's, every ref is a position in the table of elements, every choice in a
-/// name class has two members, and every datatype is a known one with parameters that it takes (section 4.16). Contracts see the tables; `Rattle.rng_model.specs.simple.Table.grammar_of` gives the trees
-/// that they stand for.
+/// RELAX NG Specification, section 5. The start and each body are positions in the table of patterns. A child's
+/// position is smaller than its parent's. Every ref is a position in the table of elements. Every choice in a name
+/// class has two members. Every datatype is known and has parameters that it takes (section 4.16). Contracts see the
+/// tables; `Rattle.rng_model.specs.simple.Table.grammar_of` returns the trees that they represent.
 #[derive(Drop)]
 pub struct SimpleGrammar {
     patterns: Vec<Simple>,
@@ -35,7 +35,7 @@ impl Model for SimpleGrammar {
 }
 
 impl SimpleGrammar {
-    /// The grammar of these tables. Takes no memory.
+    /// Creates the grammar with these tables. Allocates nothing.
     pub fn new(
         patterns: Vec<Simple>,
         elements: Vec<(NameClass, PatternId)>,
@@ -51,7 +51,7 @@ impl SimpleGrammar {
         }
     }
 
-    /// Where matching starts. Takes no memory.
+    /// Returns the pattern where matching starts. Allocates nothing.
     pub fn start(&self) -> PatternId
         ensures start { result ≡ self.now.start }
         ensures valid { IsTable self.now }
@@ -59,7 +59,7 @@ impl SimpleGrammar {
         self.start
     }
 
-    /// The pattern at a position, or `None` past the table. Takes no memory.
+    /// Returns the pattern at a position, or `None` past the end of the table. Allocates nothing.
     pub fn pattern(&self, id: PatternId) -> Option<&Simple>
         ensures value { option_copied result ≡ slice_get self.now.patterns id.0 }
         ensures below { IfSome result (λ p. AreChildrenBelow id.0 p.now) }
@@ -68,7 +68,8 @@ impl SimpleGrammar {
         found_at(self.patterns.as_slice(), id.0)
     }
 
-    /// The name class and the body of the element at a position, or `None` past the table. Takes no memory.
+    /// Returns the name class and the body of the element at a position, or `None` past the end of the table. Allocates
+    /// nothing.
     pub fn element(&self, id: ElementId) -> Option<&(NameClass, PatternId)>
         ensures { option_copied result ≡ slice_get self.now.elements id.0 }
     {

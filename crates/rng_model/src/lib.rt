@@ -1,8 +1,8 @@
 //! What the crates of `rncv` share: names, patterns as written and in simple form, documents, and devices.
 //!
-//! The definitions that every other crate's contracts cite stand in this crate's `specs/`: which names a class
-//! holds, which documents a pattern matches, and which lines are a document. Its own calls keep the tables of a
-//! simple grammar in order, count the failed calls of a reader or a writer, and write to a device until all is written.
+//! The definitions that the contracts of all other crates cite are in this crate's `specs/`: which names a class holds,
+//! which documents a pattern matches, and which lines are a document. Its own calls keep the invariants of the tables
+//! of a simple grammar. They count the failed calls of a reader or a writer, and write a whole slice to a device.
 #![tactic(auto)]
 
 mod blanks;

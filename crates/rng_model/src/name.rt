@@ -1,6 +1,6 @@
 // Names and name classes.
 
-/// An expanded name: a namespace, empty where there is none, and a local name.
+/// An expanded name: a namespace, which is empty if there is none, and a local name.
 ///
 /// Namespaces in XML 1.0, section 2.1.
 #[derive(Debug, Drop, PartialEq, Eq, Hash)]
@@ -11,19 +11,19 @@ pub struct Name {
 
 /// A set of names.
 ///
-/// RELAX NG Specification, section 6.1; Compact Syntax, "Syntax". A choice has its members as they are written; one
-/// of no members holds no name. Any class may stand in an except.
+/// RELAX NG Specification, section 6.1; Compact Syntax, "Syntax". A choice has its members in the order in which they
+/// are written. A choice of no members holds no name. Any class may occur in an except.
 #[derive(Debug, Drop)]
 pub enum NameClass {
     /// Every name: `*`.
     Any,
-    /// Every name but those of the class: `* - class`.
+    /// Every name except those of the class: `* - class`.
     AnyExcept(Box<NameClass>),
-    /// Every name of the namespace, empty for names without one: `p:*`.
+    /// Every name of the namespace, which is empty for names without one: `p:*`.
     Ns(String),
-    /// Every name of the namespace but those of the class: `p:* - class`.
+    /// Every name of the namespace except those of the class: `p:* - class`.
     NsExcept(String, Box<NameClass>),
-    /// This name alone.
+    /// Only this name.
     Name(Name),
     /// The names of each member: members joined by `|`.
     Choice(Vec<NameClass>),

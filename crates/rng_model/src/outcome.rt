@@ -1,9 +1,9 @@
-// What is said of a document.
+// The outcome of a document.
 
 /// Whether a document is valid.
 #[derive(Clone, Copy, Debug, PartialEq, Eq)]
 pub enum Outcome {
     Valid,
-    /// It is not. With the event of this line, from 1, it is no longer the beginning of a valid document.
+    /// The document is invalid. No continuation after the event of this line, counted from 1, is valid.
     Invalid(u64),
 }

@@ -1,21 +1,21 @@
-// The way to a grammar.
+// Places of grammars.
 ghost use Rattle.std.specs.Prelude.{◌≡◌, [], reverse, IfOk};
 ghost use Rattle.rng_model.specs.views.SchemaView.{place_of};
 
 use crate::fault::OutOfMemory;
 use std::alloc::Global;
 
-/// Where a grammar stands in a schema: the way to it from the main grammar, as the number of the child at each level.
+/// The place of a grammar in a schema: the way to it from the main grammar, as the number of the child at each level.
 ///
-/// RELAX NG Specification, sections 4.6, 4.7 and 4.18: a grammar may be nested in another, and stand in another file.
+/// RELAX NG Specification, sections 4.6, 4.7 and 4.18: a grammar may be nested in another, and may be in another file.
 #[derive(Drop, PartialEq, Eq, Hash)]
 pub struct Place {
-    /// The outermost first.
+    /// The outermost number first.
     numbers: Vec<usize>,
 }
 
 impl Place {
-    /// The place of the main grammar. Takes no memory.
+    /// Creates the place of the main grammar. Allocates nothing.
     pub fn new(alloc: Global) -> Place
         ensures { place_of result ≡ [] }
     {
@@ -24,7 +24,7 @@ impl Place {
         }
     }
 
-    /// The place to which these numbers lead, the outermost first.
+    /// Creates the place to which these numbers lead, the outermost first. Fails only when out of memory.
     pub fn from_outermost(alloc: Global, numbers: &[usize]) -> Result<Place, OutOfMemory>
         ensures { IfOk result (λ p. place_of p ≡ reverse numbers.now) }
     {
@@ -33,7 +33,7 @@ impl Place {
         })
     }
 
-    /// The numbers that lead to the place, the outermost first. Takes no memory.
+    /// Returns the numbers that lead to the place, the outermost first. Allocates nothing.
     pub fn numbers(&self) -> &[usize]
         ensures { place_of self.now ≡ reverse result.now }
     {

@@ -1,15 +1,15 @@
-// What is wrong with a document.
+// Faults of documents.
 ghost use Rattle.std.specs.Prelude.{◌≡◌};
 ghost use Rattle.rng_model.specs.declared.pyx_fault.PyxFault.TheVariants as faults;
 
 use crate::fault::OutOfMemory;
 
-/// Why a document is not read to its end.
+/// Why reading a document fails.
 #[derive(Clone, Copy)]
 pub enum PyxFault {
-    /// There was no memory for what the call had to keep, or for what the taker of events had to keep.
+    /// The call, or the taker of events, ran out of memory.
     Memory,
-    /// The clause, 1 to 13, is broken at this line, where 1 is the first; at 0 where there is none.
+    /// The clause, 1 to 13, is broken at this line, counted from 1. The line is 0 for a document without lines.
     At { clause: u8, line: u64 },
 }
 

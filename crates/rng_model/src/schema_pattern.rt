@@ -1,23 +1,23 @@
-// Patterns as they are written in a schema of any number of grammars.
+// Patterns as they are written in a schema of one or more grammars.
 use crate::datatype::{Datatype, DatatypeValue};
 use crate::name::NameClass;
 use crate::place::Place;
 
-/// A pattern as it is written in a schema of any number of grammars, with its members in their order and mentions of
-/// files followed.
+/// A pattern as it is written in a schema of one or more grammars. Its members are in order, and mentions of files are
+/// followed.
 ///
-/// RELAX NG Specification, section 3, and sections 4.6, 4.7 and 4.18 for other files and nested grammars. A choice of no
-/// members stands for `NotAllowed`, a group or an interleave of none for `Empty`; one of one member stands for that member.
+/// RELAX NG Specification, section 3, and sections 4.6, 4.7 and 4.18 for other files and nested grammars. A choice of
+/// no members means `NotAllowed`, a group or an interleave of none means `Empty`. One of one member means that member.
 #[derive(Drop)]
 pub enum SchemaPattern {
-    /// What matches nothing.
+    /// The pattern that matches nothing.
     NotAllowed,
     Empty,
     Text,
     Element(Box<NameClass>, Box<SchemaPattern>),
     Attribute(Box<NameClass>, Box<SchemaPattern>),
     List(Box<SchemaPattern>),
-    /// A datatype, and what it excepts.
+    /// A datatype, and its except.
     Data {
         datatype: Box<Datatype>,
         except: Option<Box<SchemaPattern>>,
@@ -40,6 +40,6 @@ pub enum SchemaPattern {
     ParentRef(String),
     /// A nested grammar, at its place.
     Grammar(Place),
-    /// The pattern of another file, which is a nested grammar where the file is a grammar.
+    /// The pattern of another file. If the file is a grammar, it is a nested grammar.
     External(Box<SchemaPattern>),
 }

@@ -10,7 +10,7 @@ pub struct PatternId(pub usize);
 #[derive(Clone, Copy, PartialEq, Eq, Hash)]
 pub struct ElementId(pub usize);
 
-/// A pattern in simple form, its children named by their positions.
+/// A pattern in simple form. Its children are positions.
 ///
 /// RELAX NG Specification, section 5.
 #[derive(Drop)]
@@ -23,7 +23,7 @@ pub enum Simple {
     Attribute(Box<NameClass>, PatternId),
     List(PatternId),
     Data(Box<Datatype>),
-    /// A datatype, and what it excepts.
+    /// A datatype, and its except.
     DataExcept(Box<Datatype>, PatternId),
     Value(Box<DatatypeValue>),
     OneOrMore(PatternId),

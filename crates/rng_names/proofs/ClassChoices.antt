@@ -1,8 +1,8 @@
--- A choice, from its members.
-use Rattle.std.proofs.Common.{◌≡◌, ℕ, ◌<◌, ◌≤◌, max, List, [], ◌∷◌, length, map, take, fold, get_or, Bool, true, false, ◌||◌, refl, ap, sym, ◌∙◌, arith}
+-- A choice, in terms of its members.
+use Rattle.std.proofs.Common.{◌≡◌, ℕ, ◌<◌, ◌≤◌, max, List, [], ◌∷◌, length, map, take, fold, get_or, Bool, true, false, ◌||◌, refl, ap, ap₂, ◌+◌, sym, ◌∙◌, arith}
 use Rattle.std.specs.List.{list_any}
 use Rattle.std.proofs.lemmas.List.{take_all}
-use Rattle.std.proofs.lemmas.List.Folds.{list_any_at}
+use Rattle.std.proofs.lemmas.List.Folds.{list_any_at, list_any_more}
 use Rattle.rng_model.specs.names.Names.{Name, NameClass, classes_of, some_of}
 use Rattle.rng_names.specs.plain.Holding.{holds, some_hold}
 use Rattle.rng_names.specs.plain.Written.{is_met, is_some_met, longest, longest_of}
@@ -18,9 +18,14 @@ module _ {A : Type 0} where
   pub any_here : (p : A → Bool) (xs : List A) (i : ℕ) (x : A) → i < length xs → x ≡ get_or xs i x → p x ≡ true → list_any p xs ≡ true
   any_here p xs i x inside at passes = list_any_at p xs i x inside (ap p (sym at) ∙ passes)
 
-  -- a test that passes at no place in front of the end passes nowhere
+  -- a test that passes at no place before the end passes nowhere
   pub none_before : (p : A → Bool) (xs : List A) (i : ℕ) → length xs ≤ i → list_any p (take i xs) ≡ false → list_any p xs ≡ false
   none_before p xs i past none = ap (list_any p) (sym (take_all i xs past)) ∙ none
+
+  -- one more at which it passes nowhere
+  pub none_more : (p : A → Bool) (xs : List A) (i : ℕ) (x : A) → i < length xs → x ≡ get_or xs i x → p x ≡ false → list_any p (take i xs) ≡ false
+      → list_any p (take (i + 1) xs) ≡ false
+  none_more p xs i x inside at off none = list_any_more p xs i x inside ∙ ap₂ (λ a b. a || b) none (ap p (sym at) ∙ off)
 
   -- ---- a choice holds what one of its members holds
 

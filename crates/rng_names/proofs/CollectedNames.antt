@@ -39,7 +39,7 @@ still_known old new c grows known = record {
   namespaces = λ u is. grows.longest u 0 (known.namespaces u is);
 }
 
--- ---- what is written in a class, from its parts
+-- ---- what is written in a class, in terms of its parts
 
 either : (x y : Bool) → (x || y) ≡ true → (x ≡ true) ⊎ (y ≡ true)
 either true y e = inl refl
@@ -99,7 +99,7 @@ module _ (w : Written) where
         namespaces = λ u. from_either (writes_ns c u) (some_write_ns (classes_of (d ∷ cs)) u) (first.namespaces u) (rest.namespaces u);
       }
 
--- ---- a fact of each element in turn
+-- ---- a fact for each element in turn
 
 module _ {A : Type 0} (P : A → Type 0) (xs : List A) where
   abbrev pub HoldsBefore : ℕ → Type 0
@@ -115,7 +115,7 @@ module _ {A : Type 0} (P : A → Type 0) (xs : List A) where
   pub holds_of_all : (n : ℕ) → length xs ≤ n → HoldsBefore n → (k : ℕ) (x : A) → slice_get xs k ≡ Some x → P x
   holds_of_all n past before k x e = let inside = slice_get_within xs k x e in before k x (omega (arith, inside, past)) e
 
--- what stands at a place of a list is seen there
+-- the view of what is at a place of a list
 pub seen_at : {A B : Type 0} (f : A → B) (xs : List A) (k : ℕ) (x y : A) → k < length xs → x ≡ get_or xs k x → x ≡ y → slice_get (map f xs) k ≡ Some (f y)
 seen_at f xs k x y inside at is =
     slice_get-map f xs k ∙ ap (option_map f) (slice_get_read xs (length xs) k x refl inside at) ∙ ap (λ z. Some (f z)) is
@@ -132,7 +132,7 @@ name_put old new same stays = record {
 pub less_measured : (w : Written) (u : List ℕ) (bytes : ℕ) → IsMeasured w u bytes → IsMeasured w u 0
 less_measured w u bytes is = (is.0, is.1, omega arith)
 
--- ---- the first n of these classes have been added, where there is a class
+-- ---- the first n of these classes are added, where there is a class
 
 abbrev pub IsKnown : Written → Option NameClass → Type 0
 IsKnown w class = (c : NameClass) → class ≡ Some c → Knows w c
@@ -160,7 +160,7 @@ pub all_added : (old new : Written) (classes : List (Option NameClass)) (n : ℕ
     → (k : ℕ) (c : NameClass) → slice_get classes k ≡ Some (Some c) → Knows new c
 all_added old new classes n past added k c e = holds_of_all (IsKnown new) classes n past added.known k (Some c) e c refl
 
--- each class of a list has been added
+-- each class of a list is added
 pub all_members : {A : Type 0} (old new : Written) (f : A → NameClass) (xs : List A) (n : ℕ) → length xs ≤ n
     → AreAdded old new (map (λ x. Some (f x)) xs) n → AreKnown new (map f xs)
 all_members {A = A} old new f xs n past added k c e =

@@ -1,4 +1,4 @@
--- Why a text that is longer than all that are written stands for every text that is not written.
+-- A text that is longer than all that are written represents every text that is not written.
 use Rattle.std.proofs.Common.{◌≡◌, ℕ, ◌<◌, max, bytes_eq, List, length, Bool, true, false, not, ◌&&◌, ◌||◌, refl, ap, ap₂, sym, ◌∙◌, subst, rules, arith}
 use Rattle.std.proofs.lemmas.Slice.Eq.{bytes_eq-Decides}
 use Rattle.rng_model.specs.names.Names.{Name, NameClass, NameClasses, AreApart, any_name, any_except, ns_name, ns_except, name_is, one_of, no_classes, class_and}
@@ -30,7 +30,7 @@ never x e = search rules
 max-below : (a b m : ℕ) → max a b < m → (a < m) × (b < m)
 max-below a b m h = (omega (arith, h), omega (arith, h))
 
--- a longer text is another one
+-- a longer text is different
 pub shorter : (u v : List ℕ) → length u < length v → bytes_eq u v ≡ false
 shorter u v less = off (bytes_eq u v) refl where
   off : (b : Bool) → bytes_eq u v ≡ b → bytes_eq u v ≡ false
@@ -73,7 +73,8 @@ mutual
   some_met_by_ns test fresh no_classes v passes e = e
   some_met_by_ns test fresh (class_and c cs) v passes e = or_both _ _ _ _ (met_by_ns test fresh c v passes) (some_met_by_ns test fresh cs v passes) e
 
--- ---- a name that is not written is like each other of its namespace that is not, and so like one with the fresh local name
+-- ---- a name that is not written is like any other of its namespace that is not, and so like the one with the fresh
+-- local name
 
 and-off : (x y : Bool) → x ≡ false → (x && y) ≡ false
 and-off false y e = refl
@@ -159,7 +160,7 @@ mutual
       let below = max-below (longest c) (longest_of cs) _ less in
       ap₂ (λ x y. x || y) (like_ns c v w fresh apart.0 below.0) (some_like_ns cs v w fresh apart.1 below.1)
 
--- ---- where some name passes, one of those that are tried does
+-- ---- if some name passes, one of those that are tried does
 
 module _ (test : Name → Bool) (fresh : List ℕ) (c d : NameClass) where
   abbrev pub Found : Type 0
@@ -198,7 +199,7 @@ one_is_found fresh c d q less less' passes =
 found-neither : (x y z : Bool) → x ≡ false → y ≡ false → z ≡ false → (x || (y || z)) ≡ true → ⊥
 found-neither x y z ex ey ez found = search rules
 
--- if the test passes for none of those that are tried, no name lies in both classes
+-- if the test passes for none of those that are tried, no name is in both classes
 pub none_is_found : (fresh : List ℕ) (c d : NameClass) → longest c < length fresh → longest d < length fresh → both_hold c d (pair fresh fresh) ≡ false
     → is_met (both_hold c d) fresh c ≡ false → is_met (both_hold c d) fresh d ≡ false → AreApart c d
 none_is_found fresh c d less less' outside first second q in_c in_d =

@@ -1,18 +1,17 @@
--- The alternatives of a class answer as the class does.
-use Rattle.std.proofs.Common.{◌≡◌, refl, sym, subst, ap, ap₂, ◌∙◌, arith, ℕ, ◌<◌, List, [], ◌∷◌, length, map, Bool, true, false, ◌&&◌, ◌||◌, Option, Some, None}
-use Rattle.std.proofs.Common.{bytes_eq, ◌++◌, Bor, Vec, Global}
+-- The alternatives of a class hold the names that the class holds.
+use Rattle.std.proofs.Common.{◌≡◌, refl, sym, subst, ap, ap₂, ◌∙◌, ℕ, List, [], ◌∷◌, map, Bool, true, false, not, ◌&&◌, ◌||◌, Option, Some, None}
+use Rattle.std.proofs.Common.{bytes_eq, ◌++◌, Bor}
 use Rattle.std.specs.List.{list_any}
 use Rattle.std.proofs.Math.Bool.{or-false}
 use Rattle.rng_model.specs.names.Names.{Name, NameClass, NameClasses, any_name, any_except, ns_name, ns_except, name_is, one_of, no_classes, class_and}
 use Rattle.rng_model.specs.names.Names.{classes_of, some_of}
 use Rattle.std.proofs.lemmas.List.Folds.{list_any-append}
 use Rattle.rng_model.specs.names.NameViews.{class_of}
-use Rattle.rng_model.specs.declared.name.NameClass as declared
-use Rattle.rng_names.specs.views.Alternatives.{Adds, Stands, has, hold_fresh, excepted_hold, has_alternative, some_has_alternative, is_any, is_written, is_excepted}
+use Rattle.rng_names.specs.views.Alternatives.{Adds, IsBare, Stands, excepted_hold, excepting, in_scope, has_alternative, some_has_alternative, is_any, is_written, is_excepted}
+use Rattle.rng_names.specs.views.NameSets.{has, seen}
+use Rattle.rng_names.specs.declared.alternatives.Excepted.{Excepted}
 use Rattle.rng_names.specs.plain.Holding.{holds, some_hold}
-use Rattle.rng_names.specs.plain.Written.{longest, longest_of}
 use Rattle.rng_names.specs.declared.alternatives.Alternatives.{Alternatives}
-use Rattle.rng_names.proofs.FreshTexts.{shorter}
 
 or-true : (b : Bool) → true ≡ (b || true)
 or-true true = refl
@@ -40,7 +39,7 @@ module _ {A : Type 0} (f : A → NameClass) (test : NameClass → Bool) where
 
 -- ---- what is added
 
-or-assoc : (a b c : Bool) → ((a || b) || c) ≡ (a || (b || c))
+pub or-assoc : (a b c : Bool) → ((a || b) || c) ≡ (a || (b || c))
 or-assoc true b c = refl
 or-assoc false b c = refl
 
@@ -53,7 +52,7 @@ adds_none old = record {
   excepted = λ q. sym (or-false (excepted_hold old q));
 }
 
--- one thing after another
+-- one thing after the other
 pub adds_more : (old between new : Alternatives) (first more both : (NameClass → Bool) → Bool) → Adds old between first → Adds between new more
     → ((test : NameClass → Bool) → both test ≡ (first test || more test)) → Adds old new both
 adds_more old between new first more both a b joined = record {
@@ -67,7 +66,7 @@ adds_more old between new first more both a b joined = record {
       ∙ ap (λ x. excepted_hold old q || x) (sym (joined t));
 }
 
--- a choice, from its members
+-- a choice, in terms of its members
 pub adds_choice : {A : Type 0} (f : A → NameClass) (xs : List A) (c : NameClass) (old new : Alternatives) → c ≡ some_of (map f xs)
     → Adds old new (λ test. list_any (λ x. has_alternative test (f x)) xs) → Adds old new (λ test. has_alternative test c)
 adds_choice f xs c old new is a =
@@ -81,25 +80,32 @@ adds_choice f xs c old new is a =
     }
 
 -- a class with an except
-module _ (old : Alternatives) (more : Vec (Bor declared.NameClass) Global) (class : Bor declared.NameClass)
-    (put : more.items ≡ old.excepted.items ++ class ∷ []) where
-  pub adds_excepted : (c : NameClass) → class_of class.now ≡ c → has_alternative is_any c ≡ false
-      → ((u : List ℕ) (l : Option (List ℕ)) → has_alternative (is_written u l) c ≡ false) → ((q : Name) → has_alternative (is_excepted q) c ≡ holds c q)
-      → Adds old (record { class = old.class; any = old.any; written = old.written; excepted = more }) (λ test. has_alternative test (class_of class.now))
-  adds_excepted c is no_any no_written as_held = subst (λ d. Adds old new (λ test. has_alternative test d)) (sym is) (record {
-    class = refl;
-    any = sym (ap (λ x. old.any || x) no_any ∙ or-false old.any);
-    written = λ u l. sym (ap (λ x. has old.written u l || x) (no_written u l) ∙ or-false (has old.written u l));
-    excepted = λ q. held_too q ∙ ap (λ x. excepted_hold old q || x) (ap (λ d. holds d q) is ∙ sym (as_held q));
-  }) where
-    new : Alternatives
-    new = record { class = old.class; any = old.any; written = old.written; excepted = more }
+no_any : (ns : Option (List ℕ)) (c : NameClass) → is_any (excepting ns c) ≡ false
+no_any None c = refl
+no_any (Some u) c = refl
 
-    held_too : (q : Name) → excepted_hold new q ≡ (excepted_hold old q || holds (class_of class.now) q)
-    held_too q =
-        let test : Bor declared.NameClass → Bool = λ x. holds (class_of x.now) q in
-        ap (list_any test) put ∙ list_any-append test old.excepted.items (class ∷ [])
-        ∙ ap (λ x. list_any test old.excepted.items || x) (or-false (holds (class_of class.now) q))
+none_written : (u : List ℕ) (l : Option (List ℕ)) (ns : Option (List ℕ)) (c : NameClass) → is_written u l (excepting ns c) ≡ false
+none_written u l None c = refl
+none_written u l (Some v) c = refl
+
+as_excepted : (q : Name) (ns : Option (Bor (List ℕ))) (c : NameClass) → is_excepted q (excepting (seen ns) c) ≡ (in_scope ns q.ns && not (holds c q))
+as_excepted q None c = refl
+as_excepted q (Some u) c = refl
+
+pub adds_except : (old new : Alternatives) (e : Excepted) → new.class ≡ old.class → new.any ≡ old.any → new.written ≡ old.written
+    → new.excepted.items ≡ old.excepted.items ++ e ∷ [] → Adds old new (λ test. test (excepting (seen e.ns) (class_of e.except.now)))
+adds_except old new e class any written put =
+    let ns = seen e.ns in
+    let c = class_of e.except.now in
+    record {
+      class = class;
+      any = any ∙ sym (ap (λ x. old.any || x) (no_any ns c) ∙ or-false old.any);
+      written = λ u l. ap (λ keys. has keys u l) written
+          ∙ sym (ap (λ x. has old.written u l || x) (none_written u l ns c) ∙ or-false (has old.written u l));
+      excepted = λ q. let test : Excepted → Bool = λ x. in_scope x.ns q.ns && not (holds (class_of x.except.now) q) in
+          ap (list_any test) put ∙ list_any-append test old.excepted.items (e ∷ [])
+          ∙ ap (λ x. excepted_hold old q || x) (or-false (test e) ∙ sym (as_excepted q e.ns c));
+    }
 
 -- ---- a class holds what one of its alternatives holds
 
@@ -157,47 +163,27 @@ module _ (q : Name) where
         ap₂ (λ x y. x || y) (held_by_alternatives c) (some_held_by_alternatives cs)
         ∙ parts_of_both (λ test. has_alternative test c) (λ test. some_has_alternative test cs)
 
--- ---- a local name that is not written is none of the names
+-- ---- a table of all alternatives, built from an empty one, holds what the class holds
 
-neither : (x y : Bool) → x ≡ false → y ≡ false → (x || y) ≡ false
-neither true y e f = e
-neither false y e f = f
+or-turn : (a n s e : Bool) → ((a || (n || s)) || e) ≡ (s || (a || (n || e)))
+or-turn true n true e = refl
+or-turn true n false e = refl
+or-turn false true true e = refl
+or-turn false true false e = refl
+or-turn false false true e = refl
+or-turn false false false e = refl
 
-and-off : (x y : Bool) → y ≡ false → (x && y) ≡ false
-and-off true y e = e
-and-off false y e = refl
-
-module _ (q : Name) where
-  mutual
-    none_named : (c : NameClass) → longest c < length q.local → has_alternative (is_written q.ns (Some q.local)) c ≡ false
-    none_named any_name less = refl
-    none_named (any_except c) less = refl
-    none_named (ns_name u) less = and-off (bytes_eq u q.ns) false refl
-    none_named (ns_except u c) less = refl
-    none_named (name_is n) less = and-off (bytes_eq n.ns q.ns) (bytes_eq n.local q.local) (shorter n.local q.local (omega (arith, less)))
-    none_named (one_of c d cs) less =
-        neither _ _ (none_named c (omega (arith, less))) (neither _ _ (none_named d (omega (arith, less))) (none_of_some_named cs (omega (arith, less))))
-
-    none_of_some_named : (cs : NameClasses) → longest_of cs < length q.local → some_has_alternative (is_written q.ns (Some q.local)) cs ≡ false
-    none_of_some_named no_classes less = refl
-    none_of_some_named (class_and c cs) less = neither _ _ (none_named c (omega (arith, less))) (none_of_some_named cs (omega (arith, less)))
-
--- ---- a table of all alternatives, made from none, stands for the class
-
-pub stands : (old all : Alternatives) → old.any ≡ false → ((u : List ℕ) (l : Option (List ℕ)) → has old.written u l ≡ false)
-    → ((q : Name) → excepted_hold old q ≡ false) → Adds old all (λ test. has_alternative test (class_of old.class.now)) → Stands all
-stands old all none_any none_written none_excepted a =
+pub stands : (old all : Alternatives) → IsBare old → Adds old all (λ test. has_alternative test (class_of old.class.now)) → Stands all
+stands old all bare a q =
     let c : NameClass = class_of all.class.now in
     let b : Adds old all (λ test. has_alternative test c) = subst (λ k. Adds old all (λ test. has_alternative test (class_of k.now))) (sym a.class) a in
     let some : (NameClass → Bool) → Bool = λ test. has_alternative test c in
-    let any : all.any ≡ some is_any = b.any ∙ ap (λ x. x || some is_any) none_any in
-    let written : (u : List ℕ) (l : Option (List ℕ)) → has all.written u l ≡ some (is_written u l) =
-    λ u l. b.written u l ∙ ap (λ x. x || some (is_written u l)) (none_written u l) in
-    let excepted : (q : Name) → excepted_hold all q ≡ some (is_excepted q) = λ q. b.excepted q ∙ ap (λ x. x || some (is_excepted q)) (none_excepted q) in
-    let others : (q : Name) → hold_fresh all q ≡ (some is_any || (some (is_written q.ns None) || some (is_excepted q))) =
-    λ q. ap₂ (λ x y. x || y) any (ap₂ (λ x y. x || y) (written q.ns None) (excepted q)) in
-    record {
-      held = λ q. ap₂ (λ x y. x || y) (written q.ns (Some q.local)) (others q) ∙ sym (held_by_alternatives q c);
-      fresh = λ q less. others q
-          ∙ sym (held_by_alternatives q c ∙ ap (λ x. x || (some is_any || (some (is_written q.ns None) || some (is_excepted q)))) (none_named q c less));
-    }
+    let any : all.any ≡ some is_any = b.any ∙ ap (λ x. x || some is_any) bare.any in
+    let written : (l : Option (List ℕ)) → has all.written q.ns l ≡ some (is_written q.ns l) =
+    λ l. b.written q.ns l ∙ ap (λ keys. has keys q.ns l || some (is_written q.ns l)) bare.written in
+    let test : Excepted → Bool = λ x. in_scope x.ns q.ns && not (holds (class_of x.except.now) q) in
+    let excepted : excepted_hold all q ≡ some (is_excepted q) =
+    b.excepted q ∙ ap (λ xs. list_any test xs || some (is_excepted q)) bare.excepted in
+    or-turn all.any (has all.written q.ns None) (has all.written q.ns (Some q.local)) (excepted_hold all q)
+    ∙ ap₂ (λ x y. x || y) (written (Some q.local)) (ap₂ (λ x y. x || y) any (ap₂ (λ x y. x || y) (written None) excepted))
+    ∙ sym (held_by_alternatives q c)

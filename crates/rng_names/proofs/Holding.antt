@@ -1,11 +1,11 @@
--- The test of membership answers by the definition.
+-- The test of membership agrees with the definition.
 use Rattle.std.proofs.Common.{◌≡◌, ℕ, bytes_eq, List, true, refl, sym, rules, Decides}
 use Rattle.std.proofs.lemmas.Bool.Decides.{Decides-and, Decides-or, Decides-not, Decides-like}
 use Rattle.std.proofs.lemmas.Slice.Eq.{bytes_eq-Decides}
 use Rattle.rng_model.specs.names.Names.{Name, NameClass, NameClasses, In, InSome, any_name, any_except, ns_name, ns_except, name_is, one_of, no_classes, class_and}
 use Rattle.rng_names.specs.plain.Holding.{holds, some_hold, same_name}
 
--- two names are the same by the bytes of their parts
+-- two names are the same if the bytes of their parts are
 pub same_name-Decides : (n q : Name) → Decides (same_name n q) (q ≡ n)
 same_name-Decides n q = (same, back) where
   same : same_name n q ≡ true → q ≡ n
@@ -14,11 +14,11 @@ same_name-Decides n q = (same, back) where
   back : q ≡ n → same_name n q ≡ true
   back e = search (rules, bytes_eq-Decides n.local q.local, bytes_eq-Decides n.ns q.ns)
 
--- a text is another one by its bytes
+-- two texts are the same if their bytes are
 swap-Decides : (u v : List ℕ) → Decides (bytes_eq u v) (v ≡ u)
 swap-Decides u v = Decides-like (bytes_eq u v) sym sym (bytes_eq-Decides u v)
 
--- the test answers whether the class holds the name
+-- the test says whether the class holds the name
 mutual
   pub holds-Decides : (c : NameClass) (q : Name) → Decides (holds c q) (In c q)
   holds-Decides any_name q = (λ _. tt, λ _. refl)

@@ -1,4 +1,4 @@
--- Where names stand in a row, and which number a text has.
+-- Positions of names, and numbers of texts.
 use Rattle.std.proofs.Common.{◌≡◌, refl, sym, ap, ◌∙◌, ℕ, zero, suc, ◌+◌, Bool, true, false, not, cond, nat_lt}
 use Rattle.std.proofs.Common.{List, [], ◌∷◌, ◌++◌, Some, None, option_map, map, length, position, slice_get, string_bytes, String, bytes_eq}
 use Rattle.std.specs.List.{list_any, prefix_len, position_or_len}
@@ -34,7 +34,7 @@ place_found n ks = ap (λ test. position test ks) (λ i m. same_names n m i) ∙
 
 -- ---- one more name
 
-stays_in_front : {A : Type 0} (xs ys : List A) (k : ℕ) (x : A) → slice_get xs k ≡ Some x → slice_get (xs ++ ys) k ≡ Some x
+pub stays_in_front : {A : Type 0} (xs ys : List A) (k : ℕ) (x : A) → slice_get xs k ≡ Some x → slice_get (xs ++ ys) k ≡ Some x
 stays_in_front [] ys k x e = absurd (cc)
 stays_in_front (z ∷ xs) ys zero x e = e
 stays_in_front (z ∷ xs) ys (suc k) x e = stays_in_front xs ys k x e

@@ -3,9 +3,11 @@ pub mod ClassChoices
 pub mod Holding
 pub mod FreshTexts
 pub mod PlainNames
-pub mod AlternativeTables
+pub mod NameSets
 pub mod HeldByAlternatives
 mod KeyLookups
+mod ExceptTables
+mod CoveredNames
 mod OwnKeys
 mod CollectedNames
 mod NamespaceKeys

@@ -1,4 +1,4 @@
--- Names and name classes of the code, as they are seen.
+-- Views of names and name classes of the code.
 use Rattle.std.proofs.Common.{◌≡◌, map, ap, ◌∙◌, rules, String, string_bytes, List, Vec, Box, Global}
 use Rattle.std.proofs.lemmas.Str.{IsUtf8-string_bytes}
 use Rattle.rng_model.specs.names.Names.{some_of, name_is, any_except, ns_except, IsPairOfTexts}
@@ -6,16 +6,16 @@ use Rattle.rng_model.specs.names.NameViews.{class_of, name_of}
 use Rattle.rng_model.specs.declared.name.NameClass.{NameClass, Choice, Name, AnyExcept, NsExcept, the_lemmas}
 use Rattle.rng_model.specs.declared.name.Name as declared
 
--- a choice is seen as one of its members, each as it is seen
+-- the view of a choice is the choice of the views of its members
 pub choice_is : (class : NameClass) (members : Vec NameClass Global) (xs : List NameClass) → class ≡ Choice members → xs ≡ members.items
     → class_of class ≡ some_of (map class_of xs)
 choice_is class members xs e items = ap class_of e ∙ search (rules, the_lemmas, items)
 
--- a plain name is seen as a name
+-- the view of a plain name is a name
 pub name_class_is : (class : NameClass) (n : declared.Name) → class ≡ Name n → class_of class ≡ name_is (name_of n)
 name_class_is class n e = ap class_of e ∙ search (rules, the_lemmas)
 
--- classes with an except are seen so
+-- the views of classes with an except
 pub any_except_is : (class : NameClass) (except : Box NameClass Global) → class ≡ AnyExcept except → class_of class ≡ any_except (class_of except.value)
 any_except_is class except e = ap class_of e ∙ search (rules, the_lemmas)
 

@@ -1,4 +1,4 @@
--- Keys that are made of what is written, namespace by namespace.
+-- Keys made from what is written, namespace by namespace.
 use Rattle.std.proofs.Common.{◌≡◌, refl, sym, ap, ◌∙◌, subst, ℕ, suc, ◌≤◌, ◌+◌, Bool, true, false, cond, List, [], ◌∷◌, Option, Some}
 use Rattle.std.proofs.Common.{String, string_bytes, map, length, slice_get, bytes_eq, arith}
 use Rattle.std.specs.Map.{keys_of, lookup}

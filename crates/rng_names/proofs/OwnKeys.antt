@@ -1,4 +1,4 @@
--- The name that stands for a key has that key.
+-- The representative of a key has that key.
 use Rattle.std.proofs.Common.{◌≡◌, refl, sym, ap, ◌∙◌, subst, ℕ, zero, suc, ◌<◌, Bool, true, false, cond, nat_lt}
 use Rattle.std.proofs.Common.{List, [], ◌∷◌, Some, None, option_map, map, length, position, slice_get, get_or, arith, rules}
 use Rattle.std.specs.List.{AllByRecursion, IsDistinct, position_or_len}

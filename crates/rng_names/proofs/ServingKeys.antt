@@ -1,4 +1,4 @@
--- Keys that know all that is written in a class serve it.
+-- Keys that know everything that is written in a class serve it.
 use Rattle.std.proofs.Common.{◌≡◌, ◌↔◌, refl, sym, ap, ◌∙◌, subst, ℕ, ◌<◌, ◌≤◌, Bool, true, false, cond, nat_lt}
 use Rattle.std.proofs.Common.{List, [], Option, Some, None, option_map, map, ◌⊎◌, ⊎_elim, inl, inr, length, position, slice_get, bytes_eq, true≢false, arith, rules}
 use Rattle.std.specs.List.{position_or_len}
@@ -23,7 +23,7 @@ use Rattle.rng_names.specs.plain.Keys.{AreKeys, IsClassOf, Keys, KeysServe, Serv
 use Rattle.rng_names.specs.views.KeyTables.{IsTold, ServesAll}
 use Rattle.rng_names.specs.plain.WrittenNames.{Knows, Written}
 
--- a test that is not passed
+-- a test that fails
 off : (b : Bool) → (b ≡ true → ⊥) → b ≡ false
 off true none = absurd (none refl)
 off false none = refl
@@ -70,11 +70,12 @@ module _ (w : Written) (keys : Keys) (told : IsTold w keys) (fresh : List ℕ) (
       by_namespace (lookup (bytes_eq q.ns) keys.others) refl
       (off _ (λ is. let has = known.names q is in has_position q keys.names has.place (told.names has.place q has.at) e))
 
-  -- a class whose texts are all shorter than the fresh one holds a name as it holds the one that stands for its key
+  -- a class whose texts are all shorter than the fresh one holds a name exactly if it holds the representative of its
+  -- key
   pub held_alike : holds c q ≡ holds c (name_at keys (key_of keys q))
   held_alike = by_name (position (same_name q) keys.names) refl
 
--- what the test says, the definition says
+-- the test agrees with the definition
 pub serves : (keys : Keys) (c : NameClass) → ((q : Name) → holds c q ≡ holds c (name_at keys (key_of keys q))) → Serves keys c
 serves keys c same q =
     let one = holds-Decides c q in
@@ -99,16 +100,16 @@ pub all_served : (t : Table) (keys : Keys) → ServesAll keys (map element_class
 all_served t keys elements attributes c is =
     ⊎_elim (λ row. elements row.0 c row.1) (λ row. attributes row.0 c row.1) (row_of_class t c is)
 
--- a name stands for each key
+-- each key has a representative
 pub are_keys : (w : Written) (keys : Keys) (q : Name) → IsTold w keys → slice_get keys.names 0 ≡ Some q → AreKeys keys
 are_keys w keys q told first = record {
   first = slice_get_within keys.names 0 q first;
   others = λ u k e. let beyond = told.others u k e in slice_get_within keys.names k (pair u beyond.local) beyond.at;
 }
 
--- ---- what follows for the classes of a grammar
+-- ---- consequences for the classes of a grammar
 
--- the class of an element is one
+-- the class of an element is a class of the grammar
 pub class_of_element : (t : Table) (k : ℕ) (c : NameClass) → ClassIn (grammar_of t) k c → IsClassOf t c
 class_of_element t k c (body, listed) = by (slice_get t.elements k) refl
   where
@@ -121,7 +122,7 @@ class_of_element t k c (body, listed) = by (slice_get t.elements k) refl
     by (Some row) e = of_element k row e (ap (λ x. x.0) (same_Some _ _ (sym listed ∙ row_seen e)))
 
 module _ (t : Table) (keys : Keys) (serve : KeysServe t keys) (c : NameClass) (is : IsClassOf t c) where
-  -- the test of a class answers for a name as for the one that stands for its key
+  -- the test of a class gives the same result for a name as for the representative of its key
   pub holds_by_key : (q : Name) → holds c q ≡ holds c (name_at keys (key_of keys q))
   holds_by_key q =
       let one = holds-Decides c q in
@@ -129,7 +130,7 @@ module _ (t : Table) (keys : Keys) (serve : KeysServe t keys) (c : NameClass) (i
       same_from_decides (holds c q) (holds c (name_at keys (key_of keys q)))
       (λ e. same.0 (one.0 e), λ i. one.1 (same.1 i)) (holds-Decides c (name_at keys (key_of keys q)))
 
-  -- names of one key lie in the class alike
+  -- names with the same key are in the same classes
   pub same_key_alike : (q r : Name) → key_of keys q ≡ key_of keys r → In c q ↔ In c r
   same_key_alike q r same =
       let one = serve c is q in

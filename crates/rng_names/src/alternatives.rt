@@ -1,52 +1,61 @@
 // The alternatives of a name class, looked up by hashing.
-ghost use Rattle.std.specs.Prelude.{◌≡◌, ◌||◌, ℕ, List, Option, IfOk, OnOk};
+ghost use Rattle.std.specs.Prelude.{◌≡◌, ◌<◌, ◌||◌, ℕ, List, Option, OnOk, Some, length, slice_get};
 ghost use Rattle.rng_model.specs.names.NameViews.{class_of};
-ghost use Rattle.rng_names.specs.views.Alternatives.{Adds, Stands, excepted_hold, has, has_alternative, hold, hold_fresh, same_parts, seen};
-ghost use Rattle.rng_names.specs.plain.Holding.{pair};
+ghost use Rattle.rng_names.specs.views.Alternatives.{Adds, AddsExcept, AreTables, Grows, IsBare, Linked, excepting, has_alternative, in_scope, told};
+ghost use Rattle.rng_names.specs.views.NameSets.{has, same_parts, seen};
+ghost use Rattle.rng_names.specs.plain.Holding.{holds, pair};
+ghost use Rattle.rng_names.specs.declared.alternatives.Alternatives as declared;
 
-use crate::membership::holds;
+use crate::name_set::NameSet;
 use rng_model::{NameClass, OutOfMemory};
 use std::alloc::Global;
-use std::collections::HashSet;
 
-/// A name, or all names of a namespace where there is no local name.
-#[derive(Clone, Copy, PartialEq, Eq, Hash)]
-struct NameOrNs<'a> {
-    ns: &'a str,
-    local: Option<&'a str>,
+/// All names, or those of a namespace, except those of a class.
+#[derive(Clone, Copy)]
+struct Excepted<'a> {
+    ns: Option<&'a str>,
+    except: &'a NameClass,
+    /// The number of the table of the except.
+    table: usize,
 }
 
-/// The alternatives of a class: what its choices are between, at any depth, or the class itself.
+/// The alternatives of a class: the members of its choices, at any depth, or the class itself.
 #[derive(Drop)]
 pub(crate) struct Alternatives<'a> {
     pub(crate) class: &'a NameClass,
     /// Whether `*` is one of them.
     any: bool,
-    /// The names and the namespaces that are.
-    written: HashSet<NameOrNs<'a>>,
+    /// The names and the namespaces among them.
+    written: NameSet<'a>,
     /// Those with an except.
-    excepted: Vec<&'a NameClass>,
+    excepted: Vec<Excepted<'a>>,
 }
 
 impl<'a> Alternatives<'a> {
-    /// Those of a class. Linear in its size, but for hashing.
-    pub(crate) fn of_class(alloc: Global, class: &'a NameClass) -> Result<Self, OutOfMemory>
-        ensures class { IfOk result (λ all. class_of all.class.now ≡ class_of class.now) }
-        ensures stands { IfOk result Stands }
+    /// Returns an empty table for a class.
+    pub(crate) fn new(alloc: Global, class: &'a NameClass) -> Self
+        ensures class { class_of result.class.now ≡ class_of class.now }
+        ensures bare { IsBare result }
     {
-        let mut all = Alternatives {
+        Alternatives {
             class,
             any: false,
-            written: HashSet::new(alloc),
+            written: NameSet::new(alloc),
             excepted: Vec::new(alloc),
-        };
-        all.add(class)?;
-        Ok(all)
+        }
     }
 
-    /// Adds those of a class.
-    fn add(&mut self, class: &'a NameClass) -> Result<(), OutOfMemory>
-        ensures { OnOk result (Adds self.old self.new (λ test. has_alternative test (class_of class.now))) }
+    /// Adds the alternatives of a class, and to the tables one for each except in it. Fails only when out of memory. Linear
+    /// in its size, apart from hashing.
+    pub(crate) fn add(
+        &mut self,
+        alloc: Global,
+        tables: &mut Vec<Alternatives<'a>>,
+        class: &'a NameClass,
+    ) -> Result<(), OutOfMemory>
+        ensures adds { OnOk result (Adds self.old self.new (λ test. has_alternative test (class_of class.now))) }
+        ensures grows { OnOk result (Grows tables.old.items tables.new.items) }
+        ensures linked { OnOk result (Linked tables.old.items self.old → Linked tables.new.items self.new) }
     {
         match class {
             NameClass::Any => {
@@ -55,10 +64,19 @@ impl<'a> Alternatives<'a> {
             }
             NameClass::Ns(ns) => self.add_written(ns.as_str(), None),
             NameClass::Name(name) => self.add_written(name.ns.as_str(), Some(name.local.as_str())),
-            NameClass::AnyExcept(_) | NameClass::NsExcept(_, _) => Ok(self.excepted.push(class)?),
+            NameClass::AnyExcept(except) => {
+                let mut inner = Alternatives::new(alloc, except);
+                inner.add(alloc, tables, except)?;
+                self.add_except(tables, None, inner)
+            }
+            NameClass::NsExcept(ns, except) => {
+                let mut inner = Alternatives::new(alloc, except);
+                inner.add(alloc, tables, except)?;
+                self.add_except(tables, Some(ns.as_str()), inner)
+            }
             NameClass::Choice(members) => {
                 'members: for member in members {
-                    self.add(member)?;
+                    self.add(alloc, tables, member)?;
                 }
                 Ok(())
             }
@@ -73,35 +91,65 @@ impl<'a> Alternatives<'a> {
             ≡ (has self.old.written u l || same_parts ns.now (seen local.entry) u l)) }
         ensures excepted { OnOk result (self.new.excepted.items ≡ self.old.excepted.items) }
     {
-        self.written.insert(NameOrNs { ns, local })?;
+        self.written.insert(ns, local)
+    }
+
+    /// Adds all names, or those of a namespace, except those of a class. The table of this class becomes the last one.
+    fn add_except(
+        &mut self,
+        tables: &mut Vec<Alternatives<'a>>,
+        ns: Option<&'a str>,
+        except: Alternatives<'a>,
+    ) -> Result<(), OutOfMemory>
+        ensures adds { OnOk result (Adds self.old self.new (λ test. test (excepting (seen ns.entry) (class_of except.entry.class.now)))) }
+        ensures except { OnOk result (AddsExcept tables.old.items tables.new.items self.old self.new except.entry) }
+    {
+        let excepted = Excepted {
+            ns,
+            except: except.class,
+            table: tables.len(),
+        };
+        tables.push(except)?;
+        self.excepted.push(excepted)?;
         Ok(())
     }
 
-    /// Whether the name, or all names of the namespace, are an alternative.
-    fn has(&self, ns: &str, local: Option<&str>) -> bool
-        ensures { result ≡ has self.now.written ns.now (seen local.entry) }
+    /// Returns whether an alternative without an except holds the name.
+    fn told(&self, ns: &str, local: &str) -> bool
+        ensures { result ≡ told self.now (pair ns.now local.now) }
     {
-        self.written.contains(&NameOrNs { ns, local })
+        self.any || self.written.contains(ns, None) || self.written.contains(ns, Some(local))
     }
+}
 
-    /// Whether one of them holds the name of this namespace and this local name.
-    pub(crate) fn hold(&self, ns: &str, local: &str) -> bool
-        ensures { result ≡ hold self.now (pair ns.now local.now) }
+impl Excepted<'_> {
+    /// Returns whether the alternative is about all namespaces or about this one.
+    fn is_in(&self, ns: &str) -> bool
+        ensures { result ≡ in_scope self.now.ns ns.now }
     {
-        self.has(ns, Some(local)) || self.hold_fresh(ns, local)
+        match self.ns {
+            Some(only) => only == ns,
+            None => true,
+        }
     }
+}
 
-    /// Whether one of them holds a name with a local name that is not written in them.
-    pub(crate) fn hold_fresh(&self, ns: &str, local: &str) -> bool
-        ensures { result ≡ hold_fresh self.now (pair ns.now local.now) }
-    {
-        self.any || self.has(ns, None) || self.excepted_hold(ns, local)
+/// Returns whether the class of a table holds the name. Allocates nothing.
+///
+/// The cost is at most three look-ups by hashing, and three for each except in the class.
+pub(crate) fn hold_in(tables: &[Alternatives], number: usize, ns: &str, local: &str) -> bool
+    requires tables { AreTables tables.now }
+    requires inside { number < length tables.now }
+    ensures { (all : declared.Alternatives) → slice_get tables.now number ≡ Some all → result ≡ holds (class_of all.class.now) (pair ns.now local.now) }
+{
+    let all = &tables[number];
+    if all.told(ns, local) {
+        return true;
     }
-
-    /// Whether one of those with an except holds the name.
-    fn excepted_hold(&self, ns: &str, local: &str) -> bool
-        ensures { result ≡ excepted_hold self.now (pair ns.now local.now) }
-    {
-        self.excepted.iter().any(|class| holds(class, ns, local))
+    'excepts: for excepted in all.excepted.as_slice() {
+        if excepted.is_in(ns) && !hold_in(tables, excepted.table, ns, local) {
+            return true;
+        }
     }
+    false
 }

@@ -8,7 +8,7 @@ use crate::written::longest;
 use rng_model::{ElementId, NameClass, OutOfMemory, PatternId, Simple, SimpleGrammar};
 use std::alloc::Global;
 
-/// The name class of each element of the grammar.
+/// Returns the name class of each element of the grammar.
 pub(crate) fn element_classes<'a>(
     alloc: Global,
     grammar: &'a SimpleGrammar,
@@ -22,7 +22,7 @@ pub(crate) fn element_classes<'a>(
     Ok(all)
 }
 
-/// For each pattern of the grammar its name class, where it is an attribute.
+/// Returns for each pattern of the grammar its name class, if it is an attribute.
 pub(crate) fn attribute_classes<'a>(
     alloc: Global,
     grammar: &'a SimpleGrammar,
@@ -36,7 +36,7 @@ pub(crate) fn attribute_classes<'a>(
     Ok(all)
 }
 
-/// The name class of a pattern that is an attribute.
+/// Returns the name class of a pattern that is an attribute.
 fn attribute_class(pattern: &Simple) -> Option<&NameClass>
     ensures { seen_class result ≡ attribute_class pattern.now }
 {
@@ -46,7 +46,7 @@ fn attribute_class(pattern: &Simple) -> Option<&NameClass>
     }
 }
 
-/// The bytes of the longest text that is written in these classes.
+/// Returns the number of bytes in the longest text that is written in these classes.
 pub(crate) fn longest_among(classes: &[Option<&NameClass>]) -> usize
     ensures { (k : ℕ) (c : names.NameClass) → slice_get (map seen_class classes.now) k ≡ Some (Some c) → longest c ≤ result }
 {

@@ -18,14 +18,15 @@ use std::alloc::Global;
 /// Names, each with a key, and the key of the other names of each namespace.
 #[derive(Drop)]
 pub(crate) struct Tables {
-    /// The name that stands for each key. The first stands for all names that are not written, of namespaces that are not.
+    /// The representative of each key. The first one represents all names that are not written, in namespaces that are
+    /// not written.
     pub(crate) names: IndexSet<Name>,
-    /// For each namespace that is written, the key of its names that are not.
+    /// For each namespace that is written, the key of its names that are not written.
     pub(crate) namespaces: IndexMap<String, usize>,
 }
 
 impl Tables {
-    /// Those of the classes of elements and of attributes.
+    /// Makes the tables for the classes of elements and of attributes.
     pub(crate) fn of_classes(
         alloc: Global,
         elements: &[Option<&NameClass>],
@@ -44,7 +45,7 @@ impl Tables {
         Tables::of_written(alloc, written)
     }
 
-    /// Those of what is written: its names, and for each namespace one with a longer local name.
+    /// Makes the tables of what is written: its names, and for each namespace one with a longer local name.
     fn of_written(alloc: Global, written: WrittenNames) -> Result<Self, OutOfMemory>
         ensures { IfOk result (λ all. IsTold (written_in written) (keys_in all)) }
     {
@@ -60,7 +61,7 @@ impl Tables {
         Ok(all)
     }
 
-    /// Adds a name of this namespace with more bytes than these for all that are not written.
+    /// Adds a name in this namespace with more bytes than these. It represents the names in it that are not written.
     fn add_others(&mut self, alloc: Global, ns: &str, bytes: usize) -> Result<(), OutOfMemory>
         ensures { OnOk result (AddsOthers (keys_in self.old) (keys_in self.new) ns.now bytes) }
     {

@@ -1,22 +1,26 @@
-//! Name classes and keys of names: which names a class holds, whether two classes have a name in common, and which names no
-//! class of a grammar tells apart (RELAX NG Specification, sections 6.1 and 7.3).
+//! Name classes and keys of names (RELAX NG Specification, sections 6.1 and 7.3): which names a class holds, whether
+//! two classes have a name in common, and which names no class of a grammar distinguishes.
 //!
-//! `contains` answers exactly whether a class holds a name, and takes no memory. `overlap` answers exactly whether some name
-//! lies in both of two classes, of all pairs of texts and not only of those that are written in them. Only want of memory
-//! keeps its answer back, and none is wanted where one class is a plain name. By `longest` and `fresh_text` callers get a text
+//! `contains` returns exactly whether a class holds a name, and allocates nothing. `overlap` returns exactly whether
+//! some name is in both of two classes, among all pairs of texts and not only those that are written in them. It fails
+//! only when out of memory, and never if one class is a plain name. With `longest` and `fresh_text` callers get a text
 //! that is written in no class.
 //!
-//! `NameKeys` has keys of names for a grammar: a name that is written in a class of it has a key of its own. The other names of
-//! a namespace that is written share one, and all others share one. A class holds a name exactly if it holds the one that
-//! stands for its key, so what is kept by key holds for each name of the key.
+//! `NameKeys` has keys of names for a grammar. A name that is written in a class of the grammar has a key of its own.
+//! The other names of a namespace that is written share one key, and all other names share one. A class holds a name
+//! exactly if it holds the representative of its key, so what is kept by key holds for each name with the key.
 #![tactic(auto)]
 
 mod alternatives;
+mod class_table;
 mod common_name;
 mod grammar_classes;
 mod key_tables;
 mod membership;
 mod name_keys;
+mod name_set;
+mod namespaces;
+mod prepared_class;
 mod texts;
 mod written;
 mod written_names;
@@ -24,4 +28,5 @@ mod written_names;
 pub use common_name::overlap;
 pub use membership::contains;
 pub use name_keys::{NameKey, NameKeys};
+pub use prepared_class::PreparedClass;
 pub use written::{fresh_text, longest};

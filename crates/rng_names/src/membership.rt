@@ -7,18 +7,18 @@ ghost use Rattle.rng_names.specs.plain.Holding.{holds, pair};
 
 use rng_model::{Name, NameClass};
 
-/// Whether the class holds the name. Takes no memory.
+/// Returns whether the class holds the name. Allocates nothing.
 ///
-/// RELAX NG Specification, section 6.1: `*` holds every name, `p:*` every name of that namespace, a name itself, a
-/// choice the names of its members, and an except the names of its class that are not names of the except. The cost is
-/// one comparison of the name with each namespace and each name that is written in the class, at most.
+/// RELAX NG Specification, section 6.1: `*` holds every name, `p:*` every name of that namespace, and a name itself. A
+/// choice holds the names of its members, and an except the names of its class that are not names of the except. The
+/// cost is at most one comparison of the name with each namespace and each name that is written in the class.
 pub fn contains(class: &NameClass, name: &Name) -> bool
     ensures { Decides result (In (class_of class.now) (name_of name.now)) }
 {
     holds(class, name.ns.as_str(), name.local.as_str())
 }
 
-/// Whether the class holds the name of this namespace and this local name.
+/// Returns whether the class holds the name with this namespace and this local name.
 pub fn holds(class: &NameClass, ns: &str, local: &str) -> bool
     ensures { result ≡ holds (class_of class.now) (pair ns.now local.now) }
 {

@@ -14,10 +14,10 @@ use std::marker::Model;
 #[derive(Clone, Copy, PartialEq, Eq, PartialOrd, Ord, Hash)]
 pub struct NameKey(pub usize);
 
-/// The keys of names for a grammar, and a name for each key.
+/// The keys of names for a grammar, and a representative name for each key.
 ///
-/// RELAX NG Specification, section 6.1. No name of a document is kept. Contracts see the names in the order of their keys, and
-/// for each namespace that is written the key of its other names.
+/// RELAX NG Specification, section 6.1. No name of a document is kept. Contracts see the names in the order of their
+/// keys, and for each namespace that is written the key of its other names.
 #[derive(Drop)]
 pub struct NameKeys {
     tables: Tables,
@@ -35,10 +35,10 @@ impl Model for NameKeys {
 }
 
 impl NameKeys {
-    /// The keys for the name classes of a grammar: those of its elements and those of its attributes.
+    /// Creates the keys for the name classes of a grammar: those of its elements and those of its attributes.
     ///
-    /// Only want of memory is an error. Memory is linear in the tables of the grammar and in the texts that are written in the
-    /// classes; so is the cost, but for hashing.
+    /// Fails only when out of memory. Memory is linear in the tables of the grammar and in the texts that are written
+    /// in the classes. So is the cost, apart from hashing.
     pub fn of(alloc: Global, grammar: &SimpleGrammar) -> Result<Self, OutOfMemory>
         ensures { IfOk result (KeysServe grammar.now) }
     {
@@ -48,7 +48,7 @@ impl NameKeys {
         Ok(NameKeys { tables })
     }
 
-    /// The key of a name. Takes no memory. The cost is two look-ups by hashing at most.
+    /// Returns the key of a name. Allocates nothing. The cost is at most two look-ups by hashing.
     pub fn key(&self, name: &Name) -> NameKey
         ensures key { result.0 ≡ key_of self.now (name_of name.now) }
         ensures inside { result.0 < length self.now.names }
@@ -62,7 +62,7 @@ impl NameKeys {
         }
     }
 
-    /// The name that stands for all names of a key, and has this key itself. Takes no memory.
+    /// Returns the representative of all names with a key, which has this key itself. Allocates nothing.
     pub fn name(&self, key: NameKey) -> &Name
         requires { key.0 < length self.now.names }
         ensures name { name_of result.now ≡ name_at self.now key.0 }
@@ -71,7 +71,7 @@ impl NameKeys {
         &self.tables.names.as_slice()[key.0]
     }
 
-    /// How many keys there are. Takes no memory.
+    /// Returns the number of keys. Allocates nothing.
     pub fn len(&self) -> usize
         ensures { result ≡ length self.now.names }
     {

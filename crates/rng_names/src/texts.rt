@@ -1,4 +1,4 @@
-// Names in a row, and a number for each text.
+// Numbered names, and numbers of texts.
 ghost use Rattle.std.specs.Prelude.{◌≡◌, ℕ, IfOk, List, OnOk, Option, Some, map, position, slice_get, string_bytes};
 ghost use Rattle.std.specs.Map.{lookup, update};
 ghost use Rattle.std.specs.Str.{bytes_eq};
@@ -11,7 +11,7 @@ use indexmap::{IndexMap, IndexSet};
 use rng_model::{Name, OutOfMemory};
 use std::alloc::Global;
 
-/// A copy of the name of this namespace and this local name.
+/// Returns a copy of the name with this namespace and this local name.
 pub(crate) fn copied(alloc: Global, ns: &str, local: &str) -> Result<Name, OutOfMemory>
     ensures { IfOk result (λ name. name_of name ≡ pair ns.now local.now) }
 {
@@ -21,14 +21,14 @@ pub(crate) fn copied(alloc: Global, ns: &str, local: &str) -> Result<Name, OutOf
     })
 }
 
-/// Where a name stands.
+/// Returns the position of a name.
 pub(crate) fn place_of(names: &IndexSet<Name>, name: &Name) -> Option<usize>
     ensures { result ≡ position (same_name (name_of name.now)) (map name_of names.now.keys) }
 {
     names.get_index_of(name)
 }
 
-/// Puts a name at the end of these, unless it is there. Answers where it stands.
+/// Appends a name, unless it is there. Returns its position.
 pub(crate) fn put(all: &mut IndexSet<Name>, name: Name) -> Result<usize, OutOfMemory>
     ensures stays { OnOk result ((k : ℕ) (q : names.Name) → slice_get (map name_of all.old.keys) k ≡ Some q → slice_get (map name_of all.new.keys) k ≡ Some q) }
     ensures there { IfOk result (λ k. slice_get (map name_of all.new.keys) k ≡ Some (name_of name)) }
@@ -37,14 +37,14 @@ pub(crate) fn put(all: &mut IndexSet<Name>, name: Name) -> Result<usize, OutOfMe
     Ok(place)
 }
 
-/// The number of a text.
+/// Returns the number of a text.
 pub(crate) fn number_of(numbers: &IndexMap<String, usize>, text: &str) -> Option<usize>
     ensures { result ≡ lookup (bytes_eq text.now) (seen_numbers numbers.now.entries) }
 {
     numbers.get(text).copied()
 }
 
-/// Notes the number of a text.
+/// Sets the number of a text.
 pub(crate) fn note(
     numbers: &mut IndexMap<String, usize>,
     text: String,

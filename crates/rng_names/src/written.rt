@@ -7,9 +7,10 @@ ghost use Rattle.rng_names.specs.plain.Written.{longest};
 use rng_model::NameClass;
 use std::alloc::{AllocError, Global};
 
-/// The bytes of the longest text that is written in the class, as a namespace or a local name; 0 where none is. Takes no memory.
+/// Returns the number of bytes in the longest text that is written in the class, as a namespace or a local name.
+/// Returns 0 if there is none. Allocates nothing.
 ///
-/// The cost is linear in the size of the class, but not in its texts.
+/// The cost is linear in the size of the class, but does not depend on the length of its texts.
 pub fn longest(class: &NameClass) -> usize
     ensures { result ≡ longest (class_of class.now) }
 {
@@ -29,7 +30,7 @@ pub fn longest(class: &NameClass) -> usize
     }
 }
 
-/// A text of more bytes than these. Only want of memory is an error.
+/// Returns a text of more bytes than these. Fails only when out of memory.
 pub fn fresh_text(alloc: Global, bytes: usize) -> Result<String, AllocError>
     ensures { IfOk result (λ text. bytes < length (string_bytes text)) }
 {

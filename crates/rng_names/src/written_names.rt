@@ -15,14 +15,14 @@ use std::alloc::Global;
 /// The names that are written in classes, and the namespaces.
 #[derive(Drop)]
 pub(crate) struct WrittenNames {
-    /// The names, behind a first one.
+    /// The names, after a first one that is given.
     pub(crate) names: IndexSet<Name>,
-    /// For each namespace the bytes of its longest local name, 0 where none is written.
+    /// For each namespace the number of bytes in its longest local name, 0 if none is written.
     pub(crate) longest: IndexMap<String, usize>,
 }
 
 impl WrittenNames {
-    /// Those of no class, with a first name.
+    /// Creates a value with the first name and without any class.
     pub(crate) fn new(alloc: Global, first: Name) -> Result<Self, OutOfMemory>
         ensures { IfOk result (λ all. slice_get (written_in all).names 0 ≡ Some (name_of first)) }
     {
@@ -86,7 +86,7 @@ impl WrittenNames {
         Ok(())
     }
 
-    /// Adds a namespace, and that a local name of these bytes is written in it.
+    /// Adds a namespace in which a local name of this many bytes is written.
     fn add_namespace(&mut self, alloc: Global, ns: &str, bytes: usize) -> Result<(), OutOfMemory>
         ensures grows { OnOk result (Grows (written_in self.old) (written_in self.new)) }
         ensures has { OnOk result ((m : ℕ) × (lookup (bytes_eq ns.now) (written_in self.new).longest ≡ Some m) × (bytes ≤ m)) }

@@ -44,7 +44,7 @@ none_is (s_value d v) e = absurd (cc)
 none_is (s_one_or_more p) e = absurd (cc)
 none_is (s_joined k p q) e = absurd (cc)
 
--- what stands at a place, taken out
+-- an element is removed from its place
 pub taken_out : {A : Type 0} (xs new : List A) (i : ℕ) (x : A) → slice_get xs i ≡ Some x → new ≡ take i xs ++ drop (suc i) xs → IsTakenOut xs new x
 taken_out xs new i x found e =
     let inside = slice_get_within xs i x found in (
@@ -54,7 +54,7 @@ taken_out xs new i x found e =
       e,
     )
 
--- ---- one way more
+-- ---- one more way
 
 pub nowhere_stands : (ns : List Node) (all : List numbered.LeafWay) (way : numbered.LeafWay) → AreInside ns all
     → ((t : Table) → true ≡ is_not_allowed (tree_of t ns way.rest.0)) → StandFor ns all (λ t. ways_by (tree_of t ns) (all ++ way ∷ []))
@@ -165,7 +165,7 @@ module _ (old new : List Node) (front back : List numbered.LeafWay) (other way :
       kept = λ t kind place h. subst (AreKept kind place) (sym (after t)) (kept_before t kind place (subst (AreKept kind place) (before t) h));
     }
 
--- ---- a side behind a hole
+-- ---- a side in a hole
 
 -- one more way of the side
 pub filled_more : (t : Table) (base new : List Node) (hole : Hole) (ways : List numbered.LeafWay) (i : ℕ) (d : numbered.LeafWay) (leaf rest : PatternNumber)

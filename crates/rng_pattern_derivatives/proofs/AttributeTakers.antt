@@ -1,4 +1,5 @@
--- An attribute is taken by one that stands in the pattern and may have its name; where those of a grammar stand.
+-- An attribute is taken by an attribute pattern in the pattern that may have its name; the ranges of the attributes of
+-- a grammar.
 use Rattle.std.proofs.Common.{◌≡◌, ◌∙◌, ◌+◌, ◌<◌, ℕ, zero, suc, ◌⊎◌, inl, inr, ⊎_elim, List, [], ◌∷◌, ◌++◌, length, map, slice_get, Some, None, Option}
 use Rattle.std.proofs.Common.{subst, sym, refl, ap, true, arith, get_or, take}
 use Rattle.std.proofs.lemmas.List.{map-append, take_more}
@@ -74,7 +75,7 @@ module _ (q : Name) where
     first_stands p a xs ns named d = stands d (inl named)
 
 module _ (t : Table) (ns : List Node) (p : Simple ℕ) where
-  -- a pattern in which none of the attributes stands has no ways
+  -- a pattern that contains none of the attributes has no ways
   pub idle_attributes : (kind : Kind) (takers span : Span) → AreAttributes t kind takers → IsSpanOf t p span
       → ((k : ℕ) → IsWithin takers k → IsWithin span k → ⊥) → AreWaysOf t ns kind p []
   idle_attributes (kinds.Element q) takers span among within apart = absurd among
@@ -90,7 +91,7 @@ module _ (t : Table) (ns : List Node) (p : Simple ℕ) where
   }
   idle_attributes kinds.Text takers span among within apart = absurd among
 
--- nothing is told of the patterns
+-- nothing is known of the patterns
 pub no_spans : (t : Table) (ns : List Node) (spans : List Span) → spans ≡ [] → AreSpansOf t ns spans
 no_spans t ns spans none n span at = absurd (none_at (subst (λ (xs : List Span). slice_get xs n ≡ Some span) none at))
   where
@@ -144,7 +145,7 @@ span_of_more t f ms i d all own inside h one = λ q has. ⊎_elim
     (choice_pushed q f (map (λ (m : PatternNumber). m.0) (take i ms)) (get_or ms i d).0
     (subst (λ numbers. HasAttribute q (choice_over f numbers)) (numbers_more ms i d inside) has))
 
--- a pattern of another kind than those in which attributes stand
+-- a pattern of a kind that contains no attribute
 string_none : {p : Simple ℕ} → IsStringLeaf p → (q : Name) → HasAttribute q p → ⊥
 string_none a_list q h = h
 string_none a_datatype q h = h
@@ -165,7 +166,7 @@ other_none t f (pattern.Element e) h i j k l q has = has
 other_none t f (pattern.Attribute a) h i j k l q has = l a refl
 other_none t f (pattern.Data d) h i j k l q has = string_none (found_string t (slice_get t.patterns d.0)) q has
 
--- what a list with one more has at a place
+-- the elements of a list with one more at the end
 pub pushed_cases : {A : Type 0} (xs : List A) (x : A) (k : ℕ) (s : A) → slice_get (xs ++ x ∷ []) k ≡ Some s
     → (slice_get xs k ≡ Some s) ⊎ ((k ≡ length xs) × (x ≡ s))
 pushed_cases [] x zero s at = inr (refl, cc)
@@ -192,7 +193,7 @@ less_or_same zero (suc n) h = inl (omega arith)
 less_or_same (suc e) zero h = absurd (omega (arith, h))
 less_or_same (suc e) (suc n) h = ⊎_elim (λ a. inl (omega (arith, a))) (λ b. inr (ap suc b)) (less_or_same e n (omega (arith, h)))
 
--- all before this position are told of
+-- all attributes before this position are among the takers
 abbrev pub AreToldBefore : Table → Keys → Takers → ℕ → Type 0
 AreToldBefore t keys takers n = (k : ℕ) (q : Name) → k < n → IsAttributeAt t q k → IsTold takers (key_of keys q) k
 
@@ -227,7 +228,7 @@ no_name_is_held t q (Some (simple.Group a b)) not h = cc
 no_name_is_held t q (Some (simple.Interleave a b)) not h = cc
 no_name_is_held t q (Some (simple.Choice a b)) not h = cc
 
--- another row is none
+-- another row is not an attribute
 pub no_class_at : (t : Table) (q : Name) (n : ℕ) (p : row.Simple) → Some p ≡ slice_get t.patterns n
     → ((class : _) (body : _) → p ≡ simple.Attribute class body → ⊥) → IsAttributeAt t q n → ⊥
 no_class_at t q n p found not has = no_name_is_held t q (Some p) (λ class body e. not class body (cc))

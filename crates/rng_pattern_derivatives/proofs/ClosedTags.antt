@@ -1,4 +1,4 @@
--- What is left of a pattern of the table once all attributes of a tag are taken, of what is left of its parts.
+-- What is left of a pattern of the table after all attributes of a tag are taken, from what is left of its parts.
 use Rattle.std.proofs.Common.{◌≡◌, ◌∙◌, Result, Ok, Err, IfOk, ℕ, ◌<◌, ◌+◌, ◌↔◌, suc, zero, All, List, [], ◌∷◌, ◌++◌, length, map, take, get_or, refl, sym}
 use Rattle.std.proofs.Common.{ap, subst, arith, true}
 use Rattle.std.specs.List.{Contains}

@@ -1,4 +1,5 @@
--- The ways of a group that begins with copies of a pattern that may be left out: those of a copy, and those of what stands behind all of them.
+-- The ways of a group that begins with copies of a pattern that may be left out: those of a copy, and those of what is
+-- after all copies.
 use Rattle.std.proofs.Common.{◌≡◌, ◌∙◌, ◌⊎◌, ◌≤◌, inl, inr, ⊎_elim, ℕ, List, [], ◌∷◌, ◌++◌, append-nil, append_assoc, refl, sym, ap, subst, arith}
 use Rattle.rng_model.specs.names.Lists.{Among, here, there}
 use Rattle.rng_model.specs.simple.Tree.{Simple, group, s_joined}
@@ -69,7 +70,7 @@ module _ (g : Reading) (copy : Simple ℕ) (ends : Takes g copy [] []) where
   first_copy (s_joined group p q) (both a b) n ns (t.grouped {ms = ms} {ns = os} d e document.done c) =
       first_of_both p q (first_copy p a) (first_copy q b) (copies_end p a) n ns ms os d e c
 
-  -- ---- what stands behind them
+  -- ---- what is after them
 
   pub behind_taken : (whole rest : Simple ℕ) → IsBehindCopies copy whole rest → (ns : List Item) → Takes g rest [] ns → Takes g whole [] ns
   behind_taken whole rest (nothing_before e) ns d = subst (λ p. Takes g p [] ns) e d
@@ -96,7 +97,7 @@ module _ (g : Reading) (copy : Simple ℕ) (ends : Takes g copy [] []) where
       → (n : Item) (ns : List Item) → Takes g (s_joined group front rest) [] (n ∷ ns) → HasCopyFirst whole n ns ⊎ Takes g rest [] (n ∷ ns)
   front_or whole front rest a k n ns (t.grouped {ms = ms} {ns = os} d e document.done c) = in_front whole front rest a k n ns ms os d e c
 
-  -- an item goes to a copy with all of the whole behind it, or to what stands behind the copies
+  -- a copy takes an item with the whole after it, or what is after the copies takes it
   pub begins : (whole rest : Simple ℕ) → IsBehindCopies copy whole rest → (n : Item) (ns : List Item) → Takes g whole [] (n ∷ ns)
       → HasCopyFirst whole n ns ⊎ Takes g rest [] (n ∷ ns)
   begins whole rest (nothing_before e) n ns d = inr (subst (λ p. Takes g p [] (n ∷ ns)) (sym e) d)
@@ -134,7 +135,7 @@ module _ (g : Reading) (copy : Simple ℕ) (ends : Takes g copy [] []) where
         let w = item_way g ws n h.own (a.to n h.own kind part.0 h.first) in
         by_way n h.own h.others ns w.0 w.1 w.2 w.3 h.later h.parts
 
-    -- what q takes first goes to a copy or by others
+    -- what q takes first is taken by a copy or by other ways
     module _ (left : List tree.Way)
         (to_q : (n : Item) (ns : List Item) → Kind n → IsBare (n ∷ ns) → Takes g q [] (n ∷ ns) → HasCopyFirst q n ns ⊎ TakesItem g (behind f ws ++ left) n ns)
         (of_q : (n : Item) (ns : List Item) → TakesItem g left n ns → Takes g q [] (n ∷ ns)) where
@@ -164,7 +165,7 @@ module _ (g : Reading) (copy : Simple ℕ) (ends : Takes g copy [] []) where
       pub with_copies : AreItemWays g Kind (s_joined group copy q) (behind f ws ++ left)
       with_copies = record { to = to; back = back }
 
--- ---- patterns whose first side was opened
+-- ---- patterns whose first side is reassociated
 
 pub opened_takes : (g : Reading) (p q front rest : Simple ℕ) → IsOpened p q front rest → Same g (s_joined group front rest) (s_joined group p q)
 opened_takes g p q front rest (as_it_is e f) =

@@ -1,4 +1,5 @@
--- An element is taken by one that stands in the pattern and has its name; which elements of a grammar may have a name.
+-- An element is taken by a ref in the pattern to an element with its name; the elements of a grammar that may have a
+-- name.
 use Rattle.std.proofs.Common.{◌≡◌, ◌∙◌, ◌+◌, ◌<◌, ℕ, zero, suc, ◌⊎◌, inl, inr, ⊎_elim, List, [], ◌∷◌, ◌++◌, slice_get, slice_set, Some, None}
 use Rattle.std.proofs.Common.{subst, sym, refl, true, false, arith}
 use Rattle.std.proofs.lemmas.Option.{slice_get_cases}
@@ -34,7 +35,7 @@ use Rattle.rng_pattern_derivatives.proofs.KnownWays.{some_is}
 use Rattle.rng_pattern_derivatives.proofs.GrammarRows.{class_there, no_class_there}
 
 module _ (q : Name) where
-  -- some item is an element of this name
+  -- some item is an element with this name
   HasOne : List Item → Type 0
   HasOne [] = ⊥
   HasOne (n ∷ ns) = IsElementNamed q n ⊎ HasOne ns
@@ -59,7 +60,7 @@ module _ (q : Name) where
   in_any_order (document.right i) (inl h) = inr (inl h)
   in_any_order (document.right i) (inr h) = ⊎_elim (λ a. inl a) (λ b. inr (inr b)) (in_any_order i h)
 
-  -- blank strings may stand about an element
+  -- blank strings may be beside an element
   padded_is : {r : Name} {xs : List Attribute} {kids : Items} {os : List Item} → Padded is_blank (an_element r xs kids) os → HasOne os → r ≡ q
   unfolding HasOne
   padded_is document.alone (inl h) = h
@@ -76,7 +77,7 @@ module _ (q : Name) where
   padded_is (document.both_sides b c) (inr (inr (inr h))) = absurd h
 
   module _ (g : Reading) where
-    -- an element of this name stands in the pattern
+    -- the pattern contains an element with this name
     pub record Stands (p : Simple ℕ) : Type 0 where
       pub element : ℕ
       pub stands : HasElement element p
@@ -113,13 +114,13 @@ module _ (q : Name) where
     stands (t.list_is e d) (inl h) = absurd h
     stands (t.list_is e d) (inr h) = absurd h
 
-    -- the first of the items is
+    -- the first of the items is such an element
     pub first_stands : (p : Simple ℕ) (n : Item) (ns : List Item) → IsElementNamed q n → Takes g p [] (n ∷ ns) → Stands p
     unfolding HasOne
     first_stands p n ns named d = stands d (inl named)
 
 module _ (t : Table) (ns : List Node) (p : Simple ℕ) where
-  -- a pattern in which none of the elements stands has no ways
+  -- a pattern that contains none of the elements has no ways
   pub idle_elements : (kind : Kind) (takers : Span) → AreElements t kind takers → ((e : ℕ) → HasElement e p → IsWithin takers e → ⊥)
       → AreWaysOf t ns kind p []
   idle_elements (kinds.Element q) takers among idle = record {
@@ -149,12 +150,12 @@ set_same [] k y m e = absurd (cc)
 set_same (x ∷ xs) zero y m e = sym (some_is e)
 set_same (x ∷ xs) (suc k) y m e = set_same xs k y m e
 
--- what `IsTold` says of the lists
+-- the claim of `IsTold` about the lists
 abbrev pub Tells : List Span → Span → ℕ → ℕ → Type 0
 Tells all others k e = (m : Span) → slice_get all k ≡ Some m → IsWithin (joined_spans m others) e
 
 module _ (all : List Span) (others : Span) where
-  -- the element of this number has one name, of this key
+  -- the element of this number has one name, with this key
   pub named_told : (k : ℕ) (m : Span) (e : ℕ) → Tells (slice_set all k (joined_spans m (one_span e))) others k e
   named_told k m e = λ n at. subst (λ n. IsWithin (joined_spans n others) e) (sym (set_same all k (joined_spans m (one_span e)) n at))
       (joined_first (joined_spans m (one_span e)) others e (joined_second m (one_span e) e (one_within e)))
@@ -162,7 +163,7 @@ module _ (all : List Span) (others : Span) where
 pub wider_still : (m others own : Span) (n : ℕ) → IsWithin (joined_spans m others) n → IsWithin (joined_spans m (joined_spans others own)) n
 wider_still m others own n h = let low = h.0 in let high = h.1 in (omega (arith, low), omega (arith, high))
 
--- all below this number are told of
+-- all elements below this number are among the takers
 abbrev pub AreToldBelow : Table → Keys → Takers → ℕ → Type 0
 AreToldBelow t keys takers n = (e : ℕ) (q : Name) → e < n → has_name (reading_of t) e q ≡ true → IsTold takers (key_of keys q) e
 

@@ -1,4 +1,4 @@
--- Ways that others stand in for, way by way.
+-- Ways that can be left out because of others, way by way.
 use Rattle.std.proofs.Common.{inl, inr, ⊎_elim, List, [], ◌∷◌, ◌++◌, refl, sym, ap, subst, arith}
 use Rattle.std.specs.List.{Contains}
 use Rattle.std.proofs.lemmas.List.Elements.{Contains-append_left, Contains-push, Contains-push_cases}
@@ -16,7 +16,7 @@ none_there : {A : Type 0} (x : A) → Contains [] x → ⊥
 none_there x c = let k = c.1 in omega (arith, k)
 
 module _ (ns : List Node) where
-  -- ---- one way more
+  -- ---- one more way
 
   pub optional_more : (ways : List LeafWay) (way : LeafWay) (leaf : PatternNumber) → HasOptionalRest ns ways leaf → HasOptionalRest ns (ways ++ way ∷ []) leaf
   optional_more ways way leaf h =

@@ -1,5 +1,5 @@
--- Fewer ways are still the ways of a pattern: those of a repetition to take an attribute, and those of a group whose second side takes all
--- subsequences of what it takes, or begins with copies of the first one.
+-- Fewer ways are still the ways of a pattern: those of a repetition to take an attribute, and those of a group. The
+-- second side of the group takes all subsequences of what it takes, or begins with copies of the first side.
 use Rattle.std.proofs.Common.{◌≡◌, ◌↔◌, ◌⊎◌, ◌<◌, inl, inr, ⊎_elim, ℕ, List, [], ◌∷◌, ◌++◌, length, append-nil, refl, sym, ap, subst}
 use Rattle.std.proofs.lemmas.List.Elements.{All-contains, All-contains_itself}
 use Rattle.rng_model.specs.names.Lists.{Among}
@@ -98,7 +98,7 @@ module _ (t : Table) (ns : List Node) (copies all : List LeafWay) (more : Patter
 -- ---- groups
 
 module _ (g : Reading) (q : Simple ℕ) (ws : List tree.Way) where
-  -- some way that has the leaf may end behind it, and q takes all subsequences
+  -- some way with the leaf may end after it, and q takes all subsequences
   pub record IsCoveredBy (w : tree.Way) : Type 0 where
     pub loses : LosesFirst g q
     pub way : tree.Way
@@ -106,7 +106,7 @@ module _ (g : Reading) (q : Simple ℕ) (ws : List tree.Way) where
     pub same : way.leaf ≡ w.leaf
     pub ends : Takes g way.rest [] []
 
--- p, and q that is s behind copies of p
+-- p, and q, which is s after copies of p
 module _ (g : Reading) (p q s : Simple ℕ) (ends : Takes g p [] []) (copies : IsBehindCopies p q s) (f : Simple ℕ → Simple ℕ)
     (on : (r : Simple ℕ) → Same g (f r) (s_joined group r q)) (ws vs left : List tree.Way) (within : (w : tree.Way) → Among w left → Among w vs)
     (each : (w : tree.Way) → Among w vs → Among w left ⊎ IsCoveredBy g s ws w) where
@@ -137,7 +137,7 @@ module _ (g : Reading) (p q s : Simple ℕ) (ends : Takes g p [] []) (copies : I
   uncovered_ways (kinds.Attribute n) item a b = absurd item
   uncovered_ways kinds.Text item a b = uncovered_law _ a b
 
--- p, and q that is copies of p alone
+-- p, and q, which consists only of copies of p
 module _ (g : Reading) (p q : Simple ℕ) (ends : Takes g p [] []) (copies : IsOfCopies p q) (f : Simple ℕ → Simple ℕ)
     (on : (r : Simple ℕ) → Same g (f r) (s_joined group r q)) (ws : List tree.Way) where
   alone_law : (Kind : Item → Type 0) → AreItemWays g Kind p ws → AreItemWays g Kind (s_joined group p q) (behind f ws)
@@ -149,7 +149,7 @@ module _ (g : Reading) (p q : Simple ℕ) (ends : Takes g p [] []) (copies : IsO
   alone_ways (kinds.Attribute n) item a = absurd item
   alone_ways kinds.Text item a = alone_law _ a
 
--- a group is filled with its second side
+-- the second side of a group is put into its hole
 on_second : (t : Table) (ns : List Node) (second : PatternNumber) (q : Simple ℕ) → tree_of t ns second.0 ≡ q
     → (r : Simple ℕ) → Same (reading_of t) (group_of r (tree_of t ns second.0)) (s_joined group r q)
 on_second t ns second q is r = subst (λ o. Same (reading_of t) (group_of r o) (s_joined group r q)) (sym is) (group_of-same (reading_of t) r q)
@@ -183,7 +183,7 @@ module _ (t : Table) (n1 n3 : List Node) (longer : Longer n1 n3) (rest : Pattern
   left_kept : (kind : Kind) (place : Place) → AreKept kind place (ways_by (tree_of t n3) seconds) → AreKept kind place (ways_by (tree_of t n3) left)
   left_kept kind place kept = all_ways _ _ (tree_of t n3) left (λ w c. each_way _ _ (tree_of t n3) seconds kept w (h.within w c))
 
-  -- a first side that may be left out, and what stands behind its copies and says more
+  -- a first side that may be left out, and what is after its copies and adds something
   pub uncovered_made : (n2 n4 : List Node) (kind : Kind) (second : PatternNumber) (p q : Simple ℕ) (none some all : List LeafWay)
       → IsOfItems kind → Takes (reading_of t) p [] [] → IsBehindCopies p q s → none ≡ [] → tree_of t n1 second.0 ≡ q
       → AreWaysOf t n1 kind p firsts → AreWaysOf t n3 kind s seconds → Longer n2 n3
@@ -217,7 +217,7 @@ module _ (t : Table) (n1 n3 : List Node) (longer : Longer n1 n3) (rest : Pattern
       After : Table → List tree.Way
       After t = behind (filled (tree_of t n3) holes.Whole) (ways_by (tree_of t n3) left)
 
--- a first side that may be left out, and its copies alone
+-- a first side that may be left out, and only its copies
 pub alone_made : (t : Table) (n1 n2 : List Node) (kind : Kind) (second : PatternNumber) (p q : Simple ℕ) (firsts none all : List LeafWay)
     → IsOfItems kind → Takes (reading_of t) p [] [] → IsOfCopies p q → none ≡ [] → tree_of t n1 second.0 ≡ q → AreWaysOf t n1 kind p firsts
     → StandFor n2 all (λ t. ways_by (tree_of t n1) none ++ behind (filled (tree_of t n1) (holes.First joints.Group second)) (ways_by (tree_of t n1) firsts))

@@ -1,4 +1,4 @@
--- What rows of the grammar say of its reading.
+-- The reading of a grammar, in terms of its rows.
 use Rattle.std.proofs.Common.{◌≡◌, ℕ, ap, ◌∙◌, Bool, false, slice_get, Some, None}
 use Rattle.std.specs.Option.{option_map}
 use Rattle.std.specs.Bool.{Decides, one_answer}

@@ -1,4 +1,4 @@
--- Ways of which those of one leaf are joined: behind it is a choice of what was.
+-- Ways with the same leaf are joined into one, whose rest is the choice of their rests.
 use Rattle.std.proofs.Common.{◌≡◌, ℕ, suc, ◌+◌, ◌<◌, ◌≤◌, ◌↔◌, ◌⊎◌, inl, inr, ⊎_elim, List, [], ◌∷◌, ◌++◌, length, take, get_or, refl, sym, ap, ◌∙◌, subst, arith}
 use Rattle.std.specs.List.{Contains}
 use Rattle.std.proofs.lemmas.List.{take_all}
@@ -34,7 +34,7 @@ one_more_taken xs i d inside = let next : i + 1 ≡ suc i = omega arith in sym (
 abbrev pub way_to : PatternNumber → PatternNumber → LeafWay
 way_to leaf rest = record { leaf = leaf; rest = rest }
 
--- one way more, with the leaf
+-- one more way, with the leaf
 pub one_behind : (ways : List LeafWay) (way : LeafWay) (leaf : PatternNumber) (rests : List PatternNumber) → way.leaf ≡ leaf → AreRestsBehind ways leaf rests
     → AreRestsBehind (ways ++ way ∷ []) leaf (rests ++ way.rest ∷ [])
 one_behind ways way leaf rests same are r = (
@@ -48,7 +48,7 @@ one_behind ways way leaf rests same are r = (
     is : way.rest ≡ r → way ≡ way_to leaf r
     is e = subst (λ l. way ≡ way_to l r) same (ap (way_to way.leaf) e)
 
--- one with another leaf
+-- one more way, with another leaf
 pub none_behind : (ways : List LeafWay) (way : LeafWay) (leaf : PatternNumber) (rests : List PatternNumber) → (way.leaf ≡ leaf → ⊥) → AreRestsBehind ways leaf rests
     → AreRestsBehind (ways ++ way ∷ []) leaf rests
 none_behind ways way leaf rests other are r = (
@@ -56,7 +56,7 @@ none_behind ways way leaf rests other are r = (
   λ c. ⊎_elim (λ h. (are r).1 h) (λ e. absurd (other (ap (λ (w : LeafWay). w.leaf) e))) (Contains-push_cases ways way (way_to leaf r) c),
 )
 
--- ---- numbered ways and the trees that they stand for
+-- ---- numbered ways and their trees
 
 pub among_ways : (f : ℕ → Simple ℕ) (ws : List LeafWay) (w : tree.Way) → Among w (ways_by f ws) → (v : LeafWay) × Contains ws v × (way_by f v ≡ w)
 among_ways f [] w a = elim a [ ]
@@ -87,14 +87,14 @@ all_ways P Q f (w ∷ ws) each = (
   all_ways P Q f ws (λ v c. each v (Contains-append_right (w ∷ []) ws v c)),
 )
 
--- ---- a way that is those of one leaf joined
+-- ---- the way into which those with one leaf are joined
 
 module _ (old : List Node) (ways : List LeafWay) where
-  -- what is left behind the leaf takes these
+  -- what is left after the leaf takes these
   abbrev pub TakesBehind : PatternNumber → Table → Reading → List Attribute → List Item → Type 0
   TakesBehind leaf t g xs ns = (r : PatternNumber) × Contains ways (way_to leaf r) × Takes g (tree_of t old r.0) xs ns
 
-  -- the way has the leaf of some, and what is left behind all of these
+  -- the way has the leaf of some ways, and the choice of their rests
   pub record IsJoin (new : List Node) (w : LeafWay) : Type 0 where
     pub some : (r : PatternNumber) × Contains ways (way_to w.leaf r)
     pub takes : (t : Table) (g : Reading) (xs : List Attribute) (ns : List Item) → Takes g (tree_of t new w.rest.0) xs ns ↔ TakesBehind w.leaf t g xs ns
@@ -105,14 +105,14 @@ module _ (old : List Node) (ways : List LeafWay) where
   abbrev pub HasLeaf : List LeafWay → PatternNumber → Type 0
   HasLeaf all leaf = (w : LeafWay) × Contains all w × (w.leaf ≡ leaf)
 
-  -- those of the first so many ways are joined
+  -- the first ways are joined
   pub record AreJoined (new : List Node) (all : List LeafWay) (i : ℕ) : Type 0 where
     pub longer : Longer old new
     pub inside : AreInside new all
     pub joins : (w : LeafWay) → Contains all w → IsJoin new w
     pub met : (v : LeafWay) → Contains (take i ways) v → HasLeaf all v.leaf
 
-  -- the next one has a leaf of those
+  -- the leaf of the next one is joined already
   pub none_joined : (new : List Node) (all : List LeafWay) (i : ℕ) (d : LeafWay) → i < length ways → HasLeaf all (get_or ways i d).leaf → AreJoined new all i
       → AreJoined new all (i + 1)
   none_joined new all i d inside has h = record {
@@ -143,7 +143,7 @@ module _ (old : List Node) (ways : List LeafWay) where
         let long = Longer-length old base longer in
         omega (arith, own, long)
 
-    -- a choice of the rests behind a leaf
+    -- a choice of the rests after a leaf
     pub join_made : (base new : List Node) (leaf first n : PatternNumber) (rests : List PatternNumber) → Longer old base
         → AreRestsBehind ways leaf rests → Contains ways (way_to leaf first)
         → ((t : Table) (g : Reading) (xs : List Attribute) (ns : List Item) → Takes g (tree_of t new n.0) xs ns ↔ SomeTakes g (tree_of t base) rests xs ns)
@@ -164,7 +164,7 @@ module _ (old : List Node) (ways : List LeafWay) where
           (h.0, c, subst (λ p. HasAlternative p s) (tree_stays t old base h.0.0 longer (rest_inside leaf h.0 c)) h.2);
     }
 
-    -- the next one has another, and those of it are joined
+    -- the next one has another leaf, and those with this leaf are joined
     pub one_joined : (base new : List Node) (all : List LeafWay) (i : ℕ) (d : LeafWay) (leaf n : PatternNumber) → i < length ways → leaf ≡ (get_or ways i d).leaf
         → Longer base new → n.0 < length new → IsJoin new (way_to leaf n) → AreJoined base all i → AreJoined new (all ++ way_to leaf n ∷ []) (i + 1)
     one_joined base new all i d leaf n within same longer inside join h =
@@ -183,7 +183,7 @@ module _ (old : List Node) (ways : List LeafWay) where
               (Contains-push_cases (take i ways) (get_or ways i d) v (subst (λ ws. Contains ws v) (sym (one_more_taken ways i d within)) c));
         }
 
-    -- the ways that are joined stand for all
+    -- the joined ways represent all ways
     pub joined_stand : (new : List Node) (all : List LeafWay) (i : ℕ) → length ways ≤ i → AreJoined new all i → StandFor new all (λ t. ways_by (tree_of t old) ways)
     joined_stand new all i end h = record {
       inside = h.inside;

@@ -1,4 +1,4 @@
--- What patterns obey at a place is kept by ways, and by choices.
+-- Ways and choices keep the restrictions of a place.
 use Rattle.std.proofs.Common.{ℕ, inl, inr, List, [], ◌∷◌, ◌++◌, refl, sym, subst}
 use Rattle.std.specs.List.{Contains}
 use Rattle.rng_model.specs.simple.Tree.{Simple, choice, group, interleave, s_not_allowed, s_empty, s_text, s_leaf, s_attribute, s_list, s_data, s_data_except}
@@ -18,7 +18,7 @@ Obeys-hereditary places.Content = IsRestricted-hereditary
 Obeys-hereditary places.List = HasTexts-hereditary (λ q. ⊥)
 
 module _ (Q : Simple ℕ → Type 0) (hereditary : IsHereditary Q) where
-  -- alternatives have what the pattern has
+  -- alternatives have the property of the pattern
   pub alternative_has : (p s : Simple ℕ) → Q p → HasAlternative p s → Q s
   alternative_has s_not_allowed s h a = absurd a
   alternative_has s_empty s h a = subst Q (sym a) h
@@ -35,7 +35,7 @@ module _ (Q : Simple ℕ → Type 0) (hereditary : IsHereditary Q) where
   alternative_has (s_joined group p q) s h a = subst Q (sym a) h
   alternative_has (s_joined interleave p q) s h a = subst Q (sym a) h
 
-  -- and the pattern what all alternatives have
+  -- the pattern has the property that all alternatives have
   pub has_of_alternatives : (p : Simple ℕ) → ((s : Simple ℕ) → HasAlternative p s → Q s) → Q p
   has_of_alternatives s_not_allowed each = hereditary.of_not_allowed
   has_of_alternatives s_empty each = each s_empty refl
@@ -52,7 +52,7 @@ module _ (Q : Simple ℕ → Type 0) (hereditary : IsHereditary Q) where
   has_of_alternatives (s_joined group p q) each = each (s_joined group p q) refl
   has_of_alternatives (s_joined interleave p q) each = each (s_joined interleave p q) refl
 
-  -- a choice has what all of its members have
+  -- a choice has the property that all of its members have
   pub choice_has : (tree : ℕ → Simple ℕ) (ms : List PatternNumber) (p : Simple ℕ) → ((s : Simple ℕ) → HasAlternative p s → IsAlternativeOf tree ms s)
       → ((m : PatternNumber) → Contains ms m → Q (tree m.0)) → Q p
   choice_has tree ms p of each = has_of_alternatives p (λ s a. let h = of s a in alternative_has (tree h.0.0) s (each h.0 h.1) h.2)

@@ -1,4 +1,4 @@
--- What the search for a datatype tells of its type, and which types are kept.
+-- The type that the search for a datatype finds, and the types that are kept.
 use Rattle.std.proofs.Common.{◌≡◌, ◌∙◌, ◌+◌, ◌<◌, ◌↔◌, ℕ, List, Option, Some, None, Ok, Err, ⊎_elim, slice_get, refl, sym, ap, subst, arith}
 use Rattle.std.proofs.lemmas.Bool.{cases_lt}
 use Rattle.std.proofs.lemmas.Option.{slice_get_within}
@@ -29,7 +29,7 @@ module _ (d : Datatype) where
 -- ---- by position
 
 module _ (t : Table) (datatypes : Datatypes) where
-  -- so it is for the patterns below this position
+  -- the types of the patterns below this position are kept
   pub record AreKeptBelow (n : ℕ) : Type 0 where
     pub kept : (k : ℕ) (row : Simple) → k < n → slice_get t.patterns k ≡ Some row → type_at datatypes k ≡ type_named_by row
     pub count : position_count datatypes ≡ n
@@ -47,7 +47,7 @@ module _ (t : Table) (datatypes : Datatypes) where
     pub equal_there : (v : List ℕ) → known_equates (type_at datatypes k) v s ≡ known_equates (type_named_by row) v s
     equal_there v = ap (λ o. known_equates o v s) (all k row at)
 
--- one pattern more
+-- one more pattern
 module _ (t : Table) (old new : Datatypes) (n : ℕ) (row : Simple) where
   pub one_more_kept : slice_get t.patterns n ≡ Some row → position_count new ≡ position_count old + 1 → type_at new (position_count old) ≡ type_named_by row
       → ((k : ℕ) → k < position_count old → type_at new k ≡ type_at old k) → AreKeptBelow t old n → AreKeptBelow t new (n + 1)

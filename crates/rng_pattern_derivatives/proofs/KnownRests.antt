@@ -1,4 +1,4 @@
--- What is known to be left of patterns stays so as a table grows.
+-- Known rests of patterns stay right as a table grows.
 use Rattle.std.proofs.Common.{◌≡◌, ◌⊎◌, ◌<◌, List, Some, None, length, ⊎_elim, sym, subst, arith}
 use Rattle.std.specs.HashMap.{HashMap, IsEmpty}
 use Rattle.std.specs.Map.{lookup}
@@ -15,7 +15,7 @@ use Rattle.rng_pattern_derivatives.specs.plain.Closing.{IsBareOfAttributes, IsCl
 use Rattle.rng_pattern_derivatives.specs.views.KnownRests.{AreRestsOf, HasRest, IsRestOf}
 
 module _ (old new : List Node) (longer : Longer old new) where
-  -- what is left of a pattern that stood before
+  -- what is left of a pattern of the shorter table
   pub rest_made : (n rest : PatternNumber) → n.0 < length old → IsClosed old new n rest → IsRestOf new n rest
   rest_made n rest inside h =
       let long = Longer-length old new longer in
@@ -42,7 +42,7 @@ module _ (old new : List Node) (longer : Longer old new) where
   pub rests_longer : {Z : Type 0} (known : HashMap PatternNumber PatternNumber Z) → AreRestsOf old known → AreRestsOf new known
   rests_longer known all n rest h = rest_stays n rest (all n rest h)
 
-  -- what is left of one more pattern is known as well
+  -- what is left of one more pattern becomes known
   pub rests_more : {Z : Type 0} (known more : HashMap PatternNumber PatternNumber Z) (n rest : PatternNumber) → n.0 < length old
       → AreRestsOf new known → IsClosed old new n rest
       → ((m r : PatternNumber) → HasRest more m r → HasRest known m r ⊎ ((m ≡ n) × (r ≡ rest))) → AreRestsOf new more

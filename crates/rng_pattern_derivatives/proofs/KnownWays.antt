@@ -1,4 +1,4 @@
--- What is known of patterns stays so as a table grows.
+-- Known ways of patterns stay right as a table grows.
 use Rattle.std.proofs.Common.{◌≡◌, ◌∙◌, ◌⊎◌, ◌<◌, ℕ, Bool, List, length, Some, None}
 use Rattle.std.proofs.Common.{true, ⊎_elim, sym, ap, subst, arith}
 use Rattle.std.proofs.lemmas.Bool.{cases_Bool}
@@ -44,7 +44,7 @@ module _ (t : Table) (old new : List Node) (kind : Kind) (longer : Longer old ne
             (side_law t old new kind (tree_of t old n.0) ways longer h.ways);
       }
 
-  -- the ways of a pattern that stood before
+  -- the ways of a pattern of the shorter table
   pub those_known : (n : PatternNumber) (ways : List LeafWay) → n.0 < length old → AreWaysOf t new kind (tree_of t old n.0) ways → AreThoseOf t new kind n ways
   those_known n ways inside h =
       let long = Longer-length old new longer in
@@ -57,7 +57,7 @@ module _ (t : Table) (old new : List Node) (kind : Kind) (longer : Longer old ne
     pub known_longer : AreKnown t new kind known
     known_longer n ways h = those_stay n ways (all n ways h)
 
--- ways of a pattern are known as well
+-- the ways of a pattern become known
 pub known_more : {Z : Type 0} (t : Table) (ns : List Node) (kind : Kind) (known more : HashMap PatternNumber (SmallVec LeafWay) Z) (n : PatternNumber)
     (ways : List LeafWay) → AreKnown t ns kind known → AreThoseOf t ns kind n ways
     → ((m : PatternNumber) (ws : List LeafWay) → HasKnown more m ws → HasKnown known m ws ⊎ ((m ≡ n) × (ws ≡ ways))) → AreKnown t ns kind more
@@ -93,7 +93,7 @@ pub none_by_key : {Y Z : Type 0} (Are : Name → Kind → Type 0) (t : Table) (k
     (known : HashMap NameKey (HashMap PatternNumber (SmallVec LeafWay) Z) Y) → IsEmpty known → AreKnownByKey Are t keys ns known
 none_by_key Are t keys ns known empty = λ k kind named m at. absurd (none_found same_key.ghosts.eq known empty k m at)
 
--- the ways are told by the name alone
+-- the ways depend only on the name
 abbrev pub AreTold : (Name → Kind → Type 0) → Type 0
 AreTold Are = (t : Table) (ns : List Node) (q r : Kind) (name : Name) → Are name q → Are name r
     → (n : PatternNumber) (ws : List LeafWay) → AreThoseOf t ns q n ws → AreThoseOf t ns r n ws
@@ -131,7 +131,7 @@ module _ {Y Z : Type 0} (Are : Name → Kind → Type 0) (t : Table) (keys : Key
   pub by_key_longer : AreKnownByKey Are t keys new known
   by_key_longer = λ k kind named m at. known_longer t old new kind longer m (all k kind named m at)
 
-  -- what is known for one key has changed
+  -- the known ways for one key have changed
   pub by_key_changed : AreTold Are → (key : NameKey) (kind : Kind) (more : HashMap NameKey (HashMap PatternNumber (SmallVec LeafWay) Z) Y)
       → Are (name_at keys key.0) kind → AreKnownFor t new kind key more → KeepsOtherKeys key known more → AreKnownByKey Are t keys new more
   by_key_changed same key kind more named h others = λ k other told m at. ⊎_elim

@@ -80,7 +80,7 @@ tells_of_list g place s l p b at is e =
     subst (λ k. TellsTaken g (firsts.Text k s) l b) (sym at) (subst (λ k. TellsTaken g (firsts.Text places.Content s) k b) (sym is)
     (λ leaf o. let both = e o.texts in (λ h. t.list_is refl (both.0 h), λ w. both.1 (as_list g places.Content s p w))))
 
--- what a look-up found that no string is
+-- a look-up found something that matches no string
 pub no_data_found : (t : Table) (r : row.Simple) → ((b : _) → r ≡ simple.List b → ⊥) → ((d : _) → r ≡ simple.Data d → ⊥)
     → ((d e : _) → r ≡ simple.DataExcept d e → ⊥) → ((v : _) → r ≡ simple.Value v → ⊥) → data_found t (Some r) ≡ no_data
 no_data_found t simple.NotAllowed h i j k = refl

@@ -1,5 +1,5 @@
--- Attributes of names that no attribute of the grammar tells apart are taken alike: all attributes are renamed at once, the two
--- names for one another, so that no two come to share a name.
+-- Attributes with names that no attribute of the grammar distinguishes are taken in the same way. All attributes are
+-- renamed at once, by exchanging the two names, so that no two get the same name.
 use Rattle.std.proofs.Common.{◌≡◌, ◌≢◌, ◌∙◌, ◌≤◌, ℕ, zero, suc, arith, All, Bool, List, [], ◌∷◌, map, length, get_or, fold, inl, inr, ⊎_elim}
 use Rattle.std.proofs.Common.{true, false, true≢false, cond}
 use Rattle.std.proofs.Common.{Option, Some, None, refl, sym, ap, ap₂, subst, slice_get}
@@ -37,13 +37,13 @@ use Rattle.rng_pattern_derivatives.specs.declared.way.Kind.TheVariants as kinds
 use Rattle.rng_pattern_derivatives.specs.declared.way.LeafWay as numbered
 use Rattle.rng_pattern_derivatives.proofs.PatternNodes.{IsStringLeaf, a_datatype, a_list, a_value, an_except, found_string}
 
--- ---- all attributes renamed, by a renaming that is its own way back
+-- ---- all attributes renamed, by a renaming that is its own inverse
 
 module _ (rename : Name → Name) (back : (n : Name) → rename (rename n) ≡ n) where
   renamed : Attribute → Attribute
   renamed a = record { name = rename a.name; content = a.content }
 
-  -- no class of an attribute that stands in the tree tells a name and the other apart
+  -- no class of an attribute in the tree distinguishes a name and its new name
   abbrev Keeps : Simple ℕ → Type 0
   Keeps s_not_allowed = Unit {0}
   Keeps s_empty = Unit {0}
@@ -199,13 +199,13 @@ module _ (rename : Name → Name) (back : (n : Name) → rename (rename n) ≡ n
     each_keeps g ns [] = tt
     each_keeps g ns (w ∷ ws) = ((tree_keeps ns w.leaf.0, tree_keeps ns w.rest.0), each_keeps g ns ws)
 
--- ---- two names for one another
+-- ---- the exchange of two names
 
 module _ (q r : Name) where
   swapped : Name → Name
   swapped n = cond (same_name q n) r (cond (same_name r n) q n)
 
-  -- what became of a name
+  -- the new name of a name
   data Swaps (n m : Name) : Type 0 where
     first : n ≡ q → m ≡ r → Swaps n m
     second : n ≡ r → m ≡ q → Swaps n m
@@ -242,7 +242,7 @@ module _ (q r : Name) where
       by (second a b) = b ∙ a
       by (neither a b c) = absurd (a refl)
 
-  -- a class that tells the two not apart tells no name and what became of it apart
+  -- a class that does not distinguish the two names distinguishes no name from its new name
   told_alike : (c : NameClass) → holds c q ≡ holds c r → (n : Name) → holds c (swapped n) ≡ holds c n
   told_alike c e n = by (swaps n)
     where
@@ -251,7 +251,7 @@ module _ (q r : Name) where
       by (second a b) = ap (holds c) b ∙ e ∙ ap (holds c) (sym a)
       by (neither a b f) = ap (holds c) f
 
--- ---- names of one key
+-- ---- names with the same key
 
 same_truth : (a b : Bool) → (a ≡ true → b ≡ true) → (b ≡ true → a ≡ true) → a ≡ b
 same_truth true true f g = refl

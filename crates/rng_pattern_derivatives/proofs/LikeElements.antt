@@ -1,4 +1,4 @@
--- Elements of one name and one body take the same.
+-- Elements with the same name and the same body take the same.
 use Rattle.std.proofs.Common.{◌≡◌, ◌∙◌, ⊎_elim, ℕ, List, [], ◌∷◌, ◌++◌, length, refl, sym, ap, subst, slice_get, Some}
 use Rattle.rng_model.specs.names.Names as names
 use Rattle.rng_model.specs.simple.Table.{Table}
@@ -26,7 +26,7 @@ named_alike t e f n m b first second same = record {
 pub alike_itself : (t : Table) (e : ℕ) → IsAlike t e e
 alike_itself t e = record { names = λ q. refl; bodies = refl }
 
--- one element more, with the one that it is alike
+-- one more element, with the one to which it is alike
 pub alike_more : (t : Table) (all : List ElementId) (n : ℕ) (first : ElementId) → length all ≡ n → AreAlike t all → IsAlike t n first.0
     → AreAlike t (all ++ first ∷ [])
 alike_more t all n first count alike own e f h = ⊎_elim (λ a. alike e f a)

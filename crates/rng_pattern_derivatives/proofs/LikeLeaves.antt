@@ -1,4 +1,4 @@
--- A ref to an element may stand for that to another one that takes the same.
+-- A ref to an element may replace one to another element that takes the same.
 use Rattle.std.proofs.Common.{◌≡◌, inl, inr, ℕ, List, [], ◌∷◌, sym, subst, true}
 use Rattle.rng_model.specs.matching.Document.{Attribute, Item, list_of}
 use Rattle.rng_model.specs.simple.Table.{Table}
@@ -19,7 +19,7 @@ use Rattle.rng_pattern_derivatives.specs.declared.way.Place.{Place}
 use Rattle.rng_pattern_derivatives.specs.declared.way.Place.TheVariants as places
 use Rattle.rng_pattern_derivatives.proofs.WaysOfLeaves.{is_leaf, leaf_kept, leaf_law, leaf_way}
 
--- the way with the second leaf, and what is left behind the first one
+-- the way with the second leaf, and with what is left after the first one
 abbrev pub like_way : Simple ℕ → Simple ℕ → Way
 like_way p q = record { leaf = q; rest = rest_of_leaf p }
 

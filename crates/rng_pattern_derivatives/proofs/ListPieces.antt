@@ -1,4 +1,4 @@
--- Strings that are asked as a whole: the pieces of a list, one after the other, and the value of an attribute.
+-- Strings that are matched as a whole: the pieces of a list, one after the other, and the value of an attribute.
 use Rattle.std.proofs.Common.{◌≡◌, ◌∙◌, ℕ, ◌<◌, ◌↔◌, inl, inr, List, [], ◌∷◌, length, map, slice_index_or, refl, sym, subst}
 use Rattle.std.proofs.Common.{Bool, true, false, ◌&&◌, ◌||◌, Bor}
 use Rattle.rng_model.specs.simple.Tree.{Simple}

@@ -1,4 +1,4 @@
--- Numbered ways that stand for others: in longer tables, and with one more.
+-- Numbered ways that represent others, in longer tables, and with one more way.
 use Rattle.std.proofs.Common.{◌≡◌, ◌∙◌, ℕ, ◌↔◌, List, [], ◌∷◌, ◌++◌, refl, sym, ap, subst}
 use Rattle.std.proofs.lemmas.List.{map-append}
 use Rattle.std.proofs.lemmas.List.Elements.{All-append}
@@ -16,7 +16,7 @@ use Rattle.rng_pattern_derivatives.proofs.WayLists.{append_offers, inside_longer
 pub stands_itself : (ns : List Node) (ws : List numbered.LeafWay) → AreInside ns ws → StandFor ns ws (λ t. ways_by (tree_of t ns) ws)
 stands_itself ns ws inside = record { inside = inside; offers = λ t g xs ks ys ms. (λ h. h, λ h. h); kept = λ t kind place h. h }
 
--- for the same ways in other words
+-- the same for equal ways
 pub stands_as : (ns : List Node) (numbers : List numbered.LeafWay) (ws vs : Table → List Way) → ((t : Table) → ws t ≡ vs t) → StandFor ns numbers ws
     → StandFor ns numbers vs
 stands_as ns numbers ws vs e h = record {
@@ -34,7 +34,7 @@ stands_longer old new numbers ws longer h = record {
   kept = λ t kind place k. subst (AreKept kind place) (sym (ways_stay t old new numbers longer h.inside)) (h.kept t kind place k);
 }
 
--- what stands for others with one more
+-- ways that represent others, with one more
 pub stands_then : (base new : List Node) (all more : List numbered.LeafWay) (way : numbered.LeafWay) (ws : Table → List Way) → StandFor base all ws
     → StandFor new more (λ t. ways_by (tree_of t base) (all ++ way ∷ [])) → StandFor new more (λ t. ws t ++ way_by (tree_of t base) way ∷ [])
 stands_then base new all more way ws h k = record {
@@ -51,7 +51,7 @@ stands_then base new all more way ws h k = record {
       (each_both _ _ (ways_by (tree_of t base) all) one (h.kept t kind place (each_first _ _ (ws t) one a)) (each_second _ _ (ws t) one a)));
 }
 
--- what stands for others with more
+-- ways that represent others, with more
 pub stands_more : (base new : List Node) (all more : List numbered.LeafWay) (ws vs : Table → List Way) → StandFor base all ws
     → StandFor new more (λ t. ways_by (tree_of t base) all ++ vs t) → StandFor new more (λ t. ws t ++ vs t)
 stands_more base new all more ws vs h k = record {
@@ -65,7 +65,7 @@ stands_more base new all more ws vs h k = record {
       (each_second _ _ (ws t) (vs t) a));
 }
 
--- ---- behind a hole
+-- ---- in a hole
 
 pub behind-append : (f : Simple ℕ → Simple ℕ) (ws vs : List Way) → behind f (ws ++ vs) ≡ behind f ws ++ behind f vs
 behind-append f [] vs = refl
@@ -75,7 +75,7 @@ pub behind-whole : (ws : List Way) → behind (λ r. r) ws ≡ ws
 behind-whole [] = refl
 behind-whole (w ∷ ws) = ap (λ us. w ∷ us) (behind-whole ws)
 
--- two lists, one behind the other
+-- two lists, one after the other
 pub appended_stand : (ns : List Node) (all ways both : List numbered.LeafWay) → AreInside ns all → AreInside ns ways → both ≡ all ++ ways
     → StandFor ns both (λ t. ways_by (tree_of t ns) all ++ behind (λ r. r) (ways_by (tree_of t ns) ways))
 appended_stand ns all ways both h k e = stands_as ns both (λ t. ways_by (tree_of t ns) both) _

@@ -1,4 +1,4 @@
--- Patterns of a table, one by one: which are leaves, and what takes something of a kind.
+-- Patterns of a table, one by one: the leaves, and the patterns that take something of a kind.
 use Rattle.std.proofs.Common.{◌≡◌, ℕ, List, [], ◌∷◌, map, slice_get, refl, sym, ap, ◌∙◌, subst, arith, false, Option, Some, None}
 use Rattle.rng_model.specs.simple.Tree.{Simple, s_not_allowed, s_empty, s_text, s_leaf, s_attribute, s_list, s_data, s_data_except}
 use Rattle.rng_model.specs.simple.Tree.{s_value, s_one_or_more, s_joined}
@@ -31,7 +31,7 @@ parts_there ns i p q kept found e = kept.falls i (node_of q) (found ∙ ap (λ x
 
 -- ---- what look-ups find
 
--- what one string matches
+-- a pattern that one string matches
 pub data IsStringLeaf : Simple ℕ → Type 0 where
   a_list : {p : Simple ℕ} → IsStringLeaf (s_list p)
   a_datatype : {d : _} → IsStringLeaf (s_data d)
@@ -91,7 +91,7 @@ attribute_rest an_attribute = refl
 attribute_alone : {p : Simple ℕ} → IsAttribute p → IsAlone p
 attribute_alone an_attribute = tt
 
--- a string leaf is asked when a text is
+-- a string leaf takes the kinds that a text takes
 pub string_kind : (g : Reading) (kind : Kind) {p : Simple ℕ} → IsStringLeaf p → takes_kind g kind s_text ≡ takes_kind g kind p
 string_kind g (kinds.Element q) a_list = refl
 string_kind g (kinds.Element q) a_datatype = refl
@@ -106,7 +106,7 @@ string_kind g kinds.Text a_datatype = refl
 string_kind g kinds.Text an_except = refl
 string_kind g kinds.Text a_value = refl
 
--- ---- patterns that are no leaves
+-- ---- patterns that are not leaves
 
 abbrev pub IsNoLeaf : Simple ℕ → Type 0
 IsNoLeaf s_not_allowed = Unit {0}
@@ -168,7 +168,7 @@ IsCompound (pattern.Element e) = ⊥
 IsCompound (pattern.Attribute a) = ⊥
 IsCompound (pattern.Data d) = ⊥
 
--- a pattern of another kind than the leaves
+-- a pattern of another kind than a leaf
 pub other_compound : (p : Pattern) → (p ≡ pattern.Text → ⊥) → ((d : _) → p ≡ pattern.Data d → ⊥) → ((e : _) → p ≡ pattern.Element e → ⊥)
     → ((a : _) → p ≡ pattern.Attribute a → ⊥) → IsCompound p
 other_compound pattern.NotAllowed h i j k = tt
@@ -241,7 +241,7 @@ IsSingle (pattern.Element e) = Unit {0}
 IsSingle (pattern.Attribute a) = Unit {0}
 IsSingle (pattern.Data d) = Unit {0}
 
--- a pattern of another kind than those that are made of others
+-- a pattern of another kind than those with parts
 pub other_single : (p : Pattern) → ((ms : _) → p ≡ pattern.Choice ms → ⊥) → ((a b : _) → p ≡ pattern.Group a b → ⊥)
     → ((a b : _) → p ≡ pattern.Interleave a b → ⊥) → ((a : _) → p ≡ pattern.OneOrMore a → ⊥) → IsSingle p
 other_single pattern.NotAllowed h i j k = tt

@@ -1,4 +1,4 @@
--- Patterns without attributes, and what is left once all attributes of a tag are taken.
+-- Patterns without attributes, and what is left after all attributes of a tag are taken.
 use Rattle.std.proofs.Common.{◌≡◌, ℕ, ◌<◌, ◌↔◌, ⊎_elim, List, [], ◌∷◌, ◌++◌, length, map, get_or, zero, suc, refl, sym, subst, arith, Bool, true, false, ◌||◌}
 use Rattle.std.proofs.lemmas.List.Elements.{Contains-get_or, Contains-append_left, Contains-append_right, Contains-append_cases}
 use Rattle.rng_model.specs.matching.Document.{Attribute, Item}
@@ -21,7 +21,7 @@ use Rattle.rng_pattern_table.specs.declared.pattern.PatternNumber.{PatternNumber
 use Rattle.rng_pattern_table.proofs.Choices.{only_one}
 use Rattle.rng_pattern_derivatives.specs.plain.Closing.{IsBareOfAttributes}
 
--- ---- nothing is wanted from a pattern without attributes
+-- ---- a pattern without attributes requires none
 
 or_left : (a b : Bool) → a || b ≡ false → a ≡ false
 or_left true b e = absurd (cc)
@@ -186,7 +186,7 @@ bare_repeat (s_value d v) h = record { none = h.none; texts = h.texts }
 bare_repeat (s_one_or_more p) h = record { none = h.none; texts = h.texts }
 bare_repeat (s_joined k p q) h = record { none = h.none; texts = h.texts }
 
--- what a choice over numbers has, each member has
+-- each member has the property of a choice over numbers
 pub member_has : (Q : Simple ℕ → Type 0) → IsHereditary Q → (f : ℕ → Simple ℕ) (ms : List ℕ) → Q (choice_over f ms) → (i d : ℕ) → i < length ms → Q
     (f (get_or ms i d))
 member_has Q hereditary f [] h i d l = absurd (omega (arith, l))

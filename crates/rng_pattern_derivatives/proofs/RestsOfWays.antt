@@ -1,4 +1,4 @@
--- What is left behind a string or an attribute: by ways and by their rests.
+-- What is left after a string or an attribute, by ways and their rests.
 use Rattle.std.proofs.Common.{◌≡◌, ℕ, zero, suc, ◌<◌, ◌↔◌, ◌⊎◌, inl, inr, ⊎_elim, List, [], ◌∷◌, ◌++◌, length, sym, ap, subst, arith}
 use Rattle.std.proofs.Common.{All, Bool, true, false, Contains, Bor}
 use Rattle.std.proofs.lemmas.List.{map-append}
@@ -37,7 +37,7 @@ use Rattle.rng_pattern_derivatives.proofs.KeptRestrictions.{Obeys-hereditary, ch
 use Rattle.rng_pattern_derivatives.proofs.WayLists.{offers_both, offers_first, offers_second}
 use Rattle.rng_pattern_derivatives.proofs.WaysOfLeaves.{is_leaf, leaf_kept, leaf_law}
 
--- a string in a list is asked for one outside, and one outside for the value of an attribute
+-- a string in a list is judged for one outside, and one outside for the value of an attribute
 abbrev pub rank : First → ℕ
 rank (firsts.Text places.List s) = 0
 rank (firsts.Text places.Content s) = 6
@@ -104,7 +104,7 @@ module _ (P : PatternNumber → Type 0) where
   only_this m h (zero) d l = h
   only_this m h (suc k) d l = absurd (omega (arith, l))
 
--- no way gives no rest
+-- without ways there are no rests
 pub no_rests : (t : Table) (ns : List Node) (first : First) (rests : List PatternNumber) → rests ≡ [] → AreRests t ns ns first [] rests
 no_rests t ns first rests e = subst (AreRests t ns ns first []) (sym e) (record {
   inside = λ i d h. absurd (omega (arith, h));

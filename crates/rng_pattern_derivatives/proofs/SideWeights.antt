@@ -41,7 +41,7 @@ positive (s_joined choice p q) = omega arith
 positive (s_joined group p q) = omega arith
 positive (s_joined interleave p q) = omega arith
 
--- a list nested to the left is heavier than the one opened to the right
+-- a list nested to the left is heavier than one reassociated to the right
 pub opened_less : (p q r : Simple ℕ) → weight (s_joined group p (group_of q r)) + 1 ≤ weight (s_joined group (s_joined group p q) r)
 opened_less p q r = let a = positive p in let b = group_of_weight q r in omega (arith, a, b)
 

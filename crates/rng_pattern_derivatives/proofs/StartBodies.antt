@@ -100,7 +100,7 @@ module _ (g : Reading) (q : Name) where
   bodies-append [] vs = refl
   bodies-append (w ∷ ws) vs = ap (started g w.leaf w.rest q) (bodies-append ws vs) ∙ started-append w.leaf w.rest (bodies_of g q ws) (bodies_of g q vs)
 
--- ---- patterns of the table that no element starts
+-- ---- patterns of the table with which no element begins
 
 abbrev pub IsNoElement : Simple ℕ → Type 0
 IsNoElement s_not_allowed = Unit {0}
@@ -175,7 +175,7 @@ body_inside t k e valid found =
     subst (λ (e : NameClass × PatternId). e.1.0 < length t.patterns) (get_or_from_slice_get t.elements k e e found)
     (valid.bodies k e (slice_get_within t.elements k e found))
 
--- ---- one way more
+-- ---- one more way
 
 module _ (t : Table) (ns : List Node) (numbers : List PatternNumber) (q : Name) (ways starts : List numbered.LeafWay) (i : ℕ) (d : numbered.LeafWay)
     (within : i < length ways) (inside : AreInside ns ways) (was : AreBodies t ns numbers q (take i ways) starts) where

@@ -22,7 +22,7 @@ use Rattle.rng_pattern_derivatives.specs.plain.Closing.{IsBareOfAttributes, IsCl
 use Rattle.rng_model.specs.matching.GrammarReading.{reading_of}
 use Rattle.rng_pattern_derivatives.specs.declared.way.First.TheVariants as firsts
 
--- what has no attribute repeats none
+-- a pattern without attributes repeats none
 bare_repeats : (p : Simple ℕ) → HasNoAttribute p → RepeatsWell p
 bare_repeats s_not_allowed o = tt
 bare_repeats s_empty o = tt
@@ -42,7 +42,7 @@ bare_restricted p bare = record { repeats = bare_repeats p bare.none; texts = ba
 abbrev pub seen : List Attr → List Attribute
 seen all = map attribute_of all
 
--- of all attributes some have been taken, and these are to come
+-- some of the attributes are taken, and these are left
 pub record IsBehindSome (t : Table) (old new : List Node) (all more : List Attr) (number rest : PatternNumber) : Type 0 where
   pub longer : Longer old new
   pub inside : rest.0 < length new

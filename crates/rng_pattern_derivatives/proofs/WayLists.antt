@@ -1,4 +1,4 @@
--- What lists of ways offer: put together, in longer tables, with rests joined.
+-- What lists of ways offer: concatenated, in longer tables, and with joined rests.
 use Rattle.std.proofs.Common.{◌≡◌, ℕ, ◌↔◌, ◌⊎◌, inl, inr, ⊎_elim, List, [], ◌∷◌, ◌++◌, refl, sym, ap₂, ◌∙◌, subst, arith}
 use Rattle.std.proofs.lemmas.List.Elements.{All-tail}
 use Rattle.rng_model.specs.names.Lists.{Among, here, there}
@@ -40,7 +40,7 @@ among_both (x ∷ xs) ys y (there a) = ⊎_elim (λ b. inl (there b)) (λ b. inr
 
 -- ---- numbered ways
 
--- patterns that were added change no way
+-- adding patterns changes no way
 pub ways_stay : (t : Table) (old new : List Node) (ws : List numbered.LeafWay) → Longer old new → AreInside old ws
     → ways_by (tree_of t new) ws ≡ ways_by (tree_of t old) ws
 ways_stay t old new [] longer inside = refl
@@ -59,7 +59,7 @@ inside_longer old new ws longer inside = λ i d h.
     (omega (arith, leaf, long), omega (arith, rest, long))
 
 module _ (g : Reading) (xs : List Attribute) (ks : List Item) (ys : List Attribute) (ms : List Item) where
-  -- ---- put together
+  -- ---- concatenation
 
   pub offers_first : (ws vs : List Way) → Offers g ws xs ks ys ms → Offers g (ws ++ vs) xs ks ys ms
   offers_first ws vs h = (h.0, among_first ws vs h.0 h.1, h.2, h.3)
@@ -77,14 +77,14 @@ module _ (g : Reading) (xs : List Attribute) (ks : List Item) (ys : List Attribu
     λ h. ⊎_elim (λ a. offers_first ws vs (e.1 a)) (λ b. offers_second ws vs (f.1 b)) (offers_both ws' vs' h),
   )
 
-  -- a way to nowhere
+  -- a way whose rest is notAllowed
   pub nowhere_offers : (ws : List Way) (w : Way) → w.rest ≡ s_not_allowed → Offers g (ws ++ w ∷ []) xs ks ys ms → Offers g ws xs ks ys ms
   nowhere_offers ws w e h = ⊎_elim (λ a. a) (λ b. only b.0 b.1 b.3) (offers_both ws (w ∷ []) h) where
     only : (v : Way) → Among v (w ∷ []) → Takes g v.rest ys ms → Offers g ws xs ks ys ms
     only v here d = elim (subst (λ p. Takes g p ys ms) e d) [ ]
     only v (there a) d = elim a [ ]
 
-  -- two of one leaf, with a choice of their rests
+  -- two ways with one leaf, with a choice of their rests
   pub joined_offers : (front back : List Way) (v w n : Way) → n.leaf ≡ v.leaf → v.leaf ≡ w.leaf → Same g n.rest (s_joined choice v.rest w.rest)
       → Offers g ((front ++ v ∷ back) ++ w ∷ []) xs ks ys ms ↔ Offers g ((front ++ back) ++ n ∷ []) xs ks ys ms
   joined_offers front back v w n leaf same_leaf same = (to, from) where

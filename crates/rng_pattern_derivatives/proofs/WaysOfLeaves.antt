@@ -1,4 +1,4 @@
--- Leaves: which may take something of a kind, and their ways.
+-- Leaves: those that may take something of a kind, and their ways.
 use Rattle.std.proofs.Common.{◌≡◌, ℕ, List, [], ◌∷◌, refl, sym, ◌∙◌, subst, Bool, true, false}
 use Rattle.rng_model.specs.names.Names.{Name}
 use Rattle.rng_model.specs.simple.Tree.{Simple, s_not_allowed, s_empty, s_text, s_leaf, s_attribute, s_list, s_data, s_data_except}
@@ -24,7 +24,7 @@ use Rattle.rng_pattern_derivatives.specs.declared.way.Kind.TheVariants as kinds
 use Rattle.rng_pattern_derivatives.specs.declared.way.Place.{Place}
 use Rattle.rng_pattern_derivatives.proofs.KeptRestrictions.{Obeys-hereditary}
 
--- a leaf, with what is left behind it
+-- a leaf, with what is left after it
 abbrev pub leaf_way : Simple ℕ → Way
 leaf_way p = record { leaf = p; rest = rest_of_leaf p }
 
@@ -101,7 +101,7 @@ leaf_kept (kinds.Attribute q) place p h o =
     subst (AreKept (kinds.Attribute q) place) (attribute_leaf p h) (attribute_ways-keep (Obeys place) (Obeys-hereditary place) p o)
 leaf_kept kinds.Text place p h o = subst (AreKept kinds.Text place) (item_leaf p h) (item_ways-keep (Obeys place) (Obeys-hereditary place) p o)
 
--- ---- other patterns that are alone take nothing of the kind first
+-- ---- other patterns that are not joined and not repetitions take nothing of the kind first
 
 module _ (g : Reading) where
   no_items : (Kind : Item → Type 0) (p : Simple ℕ) → ((n : Item) (ns : List Item) → Kind n → IsBare (n ∷ ns) → Takes g p [] (n ∷ ns) → ⊥)

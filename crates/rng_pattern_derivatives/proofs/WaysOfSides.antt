@@ -1,4 +1,4 @@
--- Ways of a whole, of those of its sides: the law, and what is kept.
+-- Ways of a whole, from those of its sides: the law, and what is kept.
 use Rattle.std.proofs.Common.{◌≡◌, ℕ, List, [], ◌∷◌, ◌++◌, map, refl, sym, ap, subst, arith, true, false, cond}
 use Rattle.std.proofs.lemmas.List.{append-nil}
 use Rattle.rng_model.specs.simple.Tree.{Simple, choice, group, s_not_allowed}
@@ -33,7 +33,7 @@ use Rattle.rng_pattern_derivatives.proofs.WayLists.{inside_longer, law_moves, wa
 use Rattle.rng_pattern_derivatives.proofs.NumberedWays.{behind-whole, stands_as, stands_itself, stands_longer, stands_more}
 use Rattle.rng_pattern_derivatives.proofs.WaysOfLeaves.{no_law}
 
--- what stands for ways of a pattern are ways of it
+-- numbered ways that represent ways of a pattern are ways of it
 pub made : (t : Table) (ns : List Node) (kind : Kind) (p : Simple ℕ) (numbers : List numbered.LeafWay) (ws : Table → List Way) → StandFor ns numbers ws
     → AreWays (reading_of t) kind p (ws t) → ((place : Place) → Obeys place p → AreKept kind place (ws t)) → AreWaysOf t ns kind p numbers
 made t ns kind p numbers ws stand law kept = record {
@@ -45,7 +45,7 @@ made t ns kind p numbers ws stand law kept = record {
 
 -- ---- patterns that take the same
 
--- q has whatever is handed on to p
+-- each hereditary property of q holds for p
 abbrev pub HandsOn : Simple ℕ → Simple ℕ → Type 1
 HandsOn q p = (Q : Simple ℕ → Type 0) → IsHereditary Q → Q q → Q p
 
@@ -89,7 +89,7 @@ pub behind_kept : (kind : Kind) (place : Place) (f : Simple ℕ → Simple ℕ) 
     → AreKept kind place ws → AreKept kind place (behind f ws)
 behind_kept kind place f on ws h = each_behind (Obeys place) (Obeys-hereditary place) (λ l. IsLeafOf kind l × Obeys place l) f on ws h
 
--- ---- a group, an item first
+-- ---- a group, with an item first
 
 pub group_law : (g : Reading) (kind : Kind) (p q : Simple ℕ) (f : Simple ℕ → Simple ℕ) (ws vs : List Way) → IsOfItems kind
     → ((r : Simple ℕ) → Same g (f r) (s_joined group r q)) → AreWays g kind p ws → AreWays g kind q vs
@@ -112,7 +112,7 @@ choice_law g (kinds.Element n) p q ws vs a b = items.choice_ways g _ p q ws vs a
 choice_law g (kinds.Attribute n) p q ws vs a b = λ well. attributes.choice_ways g _ p q ws vs (a well.0) (b well.1)
 choice_law g kinds.Text p q ws vs a b = items.choice_ways g _ p q ws vs a b
 
--- ---- what is added to others, put together
+-- ---- what is added to others
 
 joined_same : (g : Reading) (joint : Joint) (p q : Simple ℕ) → Same g (joined_of (connector_of joint) p q) (s_joined (connector_of joint) p q)
 joined_same g joints.Group p q = group_of-same g p q
@@ -171,7 +171,7 @@ both_made t n2 n3 n4 kind joint first second p q firsts seconds none some all or
     Whole : Table → List Way
     Whole t = Before t ++ After t
 
--- a first side, and where it is nullable the second
+-- a first side, and the second if the first is nullable
 pub group_made : (t : Table) (n1 n2 n3 n4 : List Node) (kind : Kind) (second : PatternNumber) (p q : Simple ℕ)
     (firsts seconds none some all : List numbered.LeafWay)
     → IsOfItems kind → is_nullable p ≡ true → none ≡ [] → tree_of t n1 second.0 ≡ q
@@ -285,14 +285,14 @@ member_made t n1 n2 kind ps p ways some all a b s =
         let rest = hereditary.sides choice (choice_all ps) p (parts Q hereditary ps cut.1) in
         hereditary.of_both choice (s_joined choice x (choice_all ps)) p (hereditary.of_both choice x (choice_all ps) cut.0 rest.0) rest.1
 
--- one that has none
+-- a member without ways
 pub none_more : (t : Table) (ns : List Node) (kind : Kind) (ps : List (Simple ℕ)) (p : Simple ℕ) (some : List numbered.LeafWay)
     → AreWaysOf t ns kind (choice_all ps) some → AreWaysOf t ns kind p [] → AreWaysOf t ns kind (choice_all (ps ++ p ∷ [])) some
 none_more t ns kind ps p some a none =
     member_made t ns ns kind ps p [] some some a none (stands_as ns some (λ t. ways_by (tree_of t ns) some) (λ t. ways_by (tree_of t ns) some ++ [])
     (λ t. sym (append-nil (ways_by (tree_of t ns) some))) (stands_itself ns some a.inside))
 
--- a choice over numbers, which ends in its last member
+-- a choice over numbers, which ends with its last member
 pub over_same : (g : Reading) (f : ℕ → Simple ℕ) (ms : List ℕ) → Same g (choice_all (map f ms)) (choice_over f ms)
 over_same g f [] = same g s_not_allowed
 over_same g f (m ∷ ms) = from m ms where

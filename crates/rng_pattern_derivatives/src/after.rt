@@ -34,7 +34,7 @@ use rng_pattern_table::{Pattern, PatternNumber, PatternTable};
 use smallvec::SmallVec;
 use std::alloc::Global;
 
-/// Whether a text is nothing but spaces, tabs and line ends.
+/// Returns whether a text contains only spaces, tabs and line ends.
 fn is_blank(text: &str) -> bool
     ensures { result ≡ is_blank text.now }
 {
@@ -43,8 +43,8 @@ fn is_blank(text: &str) -> bool
         .all(|byte| matches!(*byte, b' ' | b'\t' | b'\n' | b'\r'))
 }
 
-/// The ways of a pattern to take an attribute of this name first: those for the name that stands for its key, which no name
-/// class tells from it.
+/// Returns the ways of a pattern to take an attribute with this name first. They are those for the representative of
+/// its key, which no name class distinguishes from the name.
 fn attribute_ways(
     alloc: Global,
     grammar: &SimpleGrammar,
@@ -76,7 +76,7 @@ fn attribute_ways(
     )
 }
 
-/// The ways of a pattern to take this first.
+/// Returns the ways of a pattern to take this first.
 fn ways_for(
     alloc: Global,
     grammar: &SimpleGrammar,
@@ -108,10 +108,12 @@ fn ways_for(
     }
 }
 
-/// What is left of a pattern after a string beside elements: it takes what may follow.
+/// Returns what is left of a pattern after a string among the children of an element: a pattern that takes what may
+/// follow.
 ///
-/// RELAX NG Specification, section 6.2, for patterns that obey section 7. The numbers are those of the grammar's patterns.
-/// The error is want of memory. Costs the ways of the pattern to take a string, and the tests of their leaves.
+/// RELAX NG Specification, section 6.2, for patterns that obey section 7. `numbers` are those of the grammar's
+/// patterns. Fails only when out of memory. The cost is that of the ways of the pattern to take a string, and of the
+/// tests of their leaves.
 pub fn after_text(
     alloc: Global,
     grammar: &SimpleGrammar,
@@ -144,11 +146,13 @@ pub fn after_text(
     )
 }
 
-/// What is left of a pattern after the attributes of a tag, once the tag is closed: it takes alone what the pattern takes with them.
+/// Returns what is left of a pattern after the attributes of a tag, once the tag is closed. The result takes alone what
+/// the pattern takes with these attributes.
 ///
-/// RELAX NG Specification, sections 6.2 and 6.2.7, for patterns that obey section 7. The numbers are those of the grammar's
-/// patterns. The error is want of memory. Costs for each attribute the ways of the pattern to take one of its name, and the
-/// tests of their values; then a walk over the parts in which an attribute stands.
+/// RELAX NG Specification, sections 6.2 and 6.2.7, for patterns that obey section 7. `numbers` are those of the
+/// grammar's patterns. Fails only when out of memory. The cost for each attribute is that of the ways of the pattern to
+/// take one with its name, and of the tests of their values. Then there is a walk over the parts that contain an
+/// attribute.
 pub fn after_tag(
     alloc: Global,
     grammar: &SimpleGrammar,
@@ -182,7 +186,7 @@ pub fn after_tag(
     close(alloc, table, &mut known.rests, rest)
 }
 
-/// What is left of a pattern once this has come first.
+/// Returns what is left of a pattern after this.
 #[cycle(after)]
 fn after(
     alloc: Global,
@@ -209,7 +213,7 @@ fn after(
     }
 }
 
-/// What is left of a leaf that may take a string once one has come first.
+/// Returns what is left of a leaf that may take a string, after one.
 #[cycle(after)]
 fn after_leaf(
     alloc: Global,
@@ -237,7 +241,7 @@ fn after_leaf(
     rest_of_leaf(table, leaf)
 }
 
-/// The same of any pattern: the choice of what is left by its ways.
+/// The same for any pattern: the choice of what its ways leave.
 #[cycle(after)]
 fn after_ways(
     alloc: Global,
@@ -270,7 +274,7 @@ fn after_ways(
     table.choice(alloc, rests.as_slice())
 }
 
-/// The rests of the ways whose leaves take this.
+/// Returns the rests of the ways whose leaves take this.
 #[cycle(after)]
 fn rests(
     alloc: Global,
@@ -298,7 +302,7 @@ fn rests(
     Ok(rests)
 }
 
-/// Whether a leaf takes this.
+/// Returns whether a leaf takes this.
 #[cycle(after)]
 fn takes(
     alloc: Global,
@@ -333,7 +337,7 @@ fn takes(
     }
 }
 
-/// Whether the list, the data or the value at a position of the grammar takes a string.
+/// Returns whether the list, the data or the value at a position of the grammar takes a string.
 #[cycle(after)]
 fn data_takes(
     alloc: Global,
@@ -374,7 +378,7 @@ fn data_takes(
     }
 }
 
-/// Whether a list with this body takes a string: the body takes the pieces between blanks, one after the other.
+/// Returns whether a list with this body takes a string: the body takes the pieces between blanks, one after the other.
 ///
 /// RELAX NG Specification, section 6.2.10.
 #[cycle(after)]
@@ -412,7 +416,7 @@ fn list_takes(
     Ok(table.facts(rest).nullable)
 }
 
-/// Whether the attribute pattern at a position of the grammar takes an attribute.
+/// Returns whether the attribute pattern at a position of the grammar takes an attribute.
 #[cycle(after)]
 fn attribute_takes(
     alloc: Global,
@@ -452,7 +456,7 @@ fn attribute_takes(
     )
 }
 
-/// Whether a pattern weakly takes the value of an attribute.
+/// Returns whether a pattern weakly takes the value of an attribute.
 ///
 /// RELAX NG Specification, section 6.2.7.
 #[cycle(after)]

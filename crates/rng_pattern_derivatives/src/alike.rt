@@ -9,20 +9,21 @@ use rng_names::{NameKey, NameKeys};
 use std::alloc::Global;
 use std::collections::HashMap;
 
-/// What elements have in common that take the same: one name, by its key, and one body.
+/// What alike elements have in common: one name, by its key, and one body.
 #[derive(Clone, Copy, PartialEq, Eq, Hash)]
 struct Content {
     name: NameKey,
     body: PatternId,
 }
 
-/// The elements that were met, the first one of each content.
+/// The elements found so far, the first one of each content.
 type Met = HashMap<Content, ElementId>;
 
-/// For each element of a grammar the first one that has the same name and the same body, or itself where its class is not one name.
+/// Returns for each element of a grammar the first one with the same name and the same body. If the class of an element
+/// is not one name, this is the element itself.
 ///
-/// Where an element may stand, the other one may stand in its place (RELAX NG Specification, section 6.2.7). The error is want of
-/// memory. Costs a look-up for each element.
+/// Each of the two elements may replace the other (RELAX NG Specification, section 6.2.7). Fails only when out of
+/// memory. The cost is one look-up for each element.
 pub fn alike_elements(
     alloc: Global,
     grammar: &SimpleGrammar,
@@ -42,7 +43,7 @@ pub fn alike_elements(
     Ok(all)
 }
 
-/// The first element that was met and takes the same; this one, if there is none.
+/// Returns the first element found so far that takes the same, or this one if there is none.
 fn first_alike(
     met: &mut Met,
     grammar: &SimpleGrammar,
@@ -70,7 +71,7 @@ fn first_alike(
     Ok(element)
 }
 
-/// The name and the body of an element whose class is one name.
+/// Returns the name and the body of an element whose class is one name.
 fn named_element(grammar: &SimpleGrammar, element: ElementId) -> Option<(&Name, PatternId)>
     ensures { IfSome result (λ r. slice_get grammar.now.elements element.0 ≡ Some (classes.Name r.0.now, r.1)) }
 {
@@ -81,7 +82,7 @@ fn named_element(grammar: &SimpleGrammar, element: ElementId) -> Option<(&Name, 
     }
 }
 
-/// Whether two elements have one name and one body.
+/// Returns true only if two elements have the same name and the same body.
 fn are_alike(grammar: &SimpleGrammar, one: ElementId, other: ElementId) -> bool
     ensures { result ≡ true → IsAlike grammar.now one.0 other.0 }
 {
@@ -97,7 +98,7 @@ fn are_alike(grammar: &SimpleGrammar, one: ElementId, other: ElementId) -> bool
     is_same_name(first, second)
 }
 
-/// Whether two names are one.
+/// Returns true only if two names are equal.
 fn is_same_name(one: &Name, other: &Name) -> bool
     ensures { result ≡ true → name_of one.now ≡ name_of other.now }
 {

@@ -1,4 +1,4 @@
-// Ways that are known for keys of names.
+// Known ways, by keys of names.
 ghost use Rattle.std.specs.Prelude.{◌≡◌, ◌<◌, IfOk, OnOk, length};
 ghost use Rattle.rng_pattern_table.specs.views.PatternTable.{Longer};
 ghost use Rattle.rng_pattern_table.specs.views.Trees.{tree_of};
@@ -15,8 +15,8 @@ use rng_pattern_table::{PatternNumber, PatternTable};
 use std::alloc::Global;
 use std::collections::HashMap;
 
-/// The ways of a pattern to take something of this kind first, where this key is that of its name: those that are known for the
-/// key are not worked out again.
+/// Returns the ways of a pattern to take something of this kind first, whose name has this key. Ways that are known for
+/// the key are not computed again.
 pub fn ways_by_key(
     alloc: Global,
     grammar: &SimpleGrammar,

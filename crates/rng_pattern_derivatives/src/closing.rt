@@ -1,4 +1,4 @@
-// Patterns once all attributes of a tag are taken.
+// Patterns after all attributes of a tag are taken.
 ghost use Rattle.std.specs.Prelude.{◌≡◌, ◌<◌, IfOk, OnOk, length, true};
 ghost use Rattle.rng_model.specs.simple.Table.{Table};
 ghost use Rattle.rng_pattern_table.specs.views.PatternTable.{Longer};
@@ -13,10 +13,10 @@ use rng_model::OutOfMemory;
 use rng_pattern_table::{Pattern, PatternNumber, PatternTable};
 use std::alloc::Global;
 
-/// What is left of a pattern once all attributes of a tag are taken: no attribute may be wanted any more.
+/// Returns what is left of a pattern after all attributes of a tag are taken: a pattern that requires no attribute.
 ///
-/// RELAX NG Specification, section 6.2. The error is want of memory. It is worked out once for each part in which an attribute
-/// stands, however often that part stands in others, and then kept.
+/// RELAX NG Specification, section 6.2. Fails only when out of memory. It is computed once for each part that contains
+/// an attribute, however often that part occurs in others, and then kept.
 #[cycle(closing)]
 pub fn close(
     alloc: Global,
@@ -41,7 +41,7 @@ pub fn close(
     Ok(rest)
 }
 
-/// The same of a pattern in which an attribute stands, of what is left of its parts.
+/// The same for a pattern that contains an attribute, from what is left of its parts.
 #[cycle(closing)]
 fn close_parts(
     alloc: Global,
@@ -79,7 +79,7 @@ fn close_parts(
     }
 }
 
-/// What is left of a choice: a choice of what is left of its members.
+/// Returns what is left of a choice: a choice of what is left of its members.
 #[cycle(closing)]
 fn close_choice(
     alloc: Global,

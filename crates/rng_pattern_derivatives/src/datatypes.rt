@@ -8,15 +8,16 @@ use rng_model::{OutOfMemory, PatternId, Simple, SimpleGrammar};
 use rng_types::{Builtin, Datatype as _};
 use std::alloc::Global;
 
-/// For each position of a grammar whose pattern names a datatype that is known, this datatype, so that it is looked up by its
-/// library and name once.
+/// For each position of a grammar whose pattern names a known datatype, this datatype. So each is looked up by its
+/// library and name only once.
 #[derive(Drop)]
 pub struct Datatypes {
     by_position: Vec<Option<Box<Builtin>>>,
 }
 
 impl Datatypes {
-    /// Those of a grammar. The error is want of memory. Costs a search for each data and each value.
+    /// Creates the map of a grammar. Fails only when out of memory. The cost is one look-up for each data and each
+    /// value.
     pub fn new(alloc: Global, grammar: &SimpleGrammar) -> Result<Self, OutOfMemory>
         ensures { IfOk result (AreDatatypesOf grammar.now) }
     {
@@ -32,7 +33,7 @@ impl Datatypes {
         Err(OutOfMemory)
     }
 
-    /// Adds the datatype of the next position, whose pattern this is. The error is want of memory.
+    /// Adds what is kept at the next position, whose pattern this is. Fails only when out of memory.
     fn add(&mut self, alloc: Global, pattern: &Simple) -> Result<(), OutOfMemory>
         ensures count { OnOk result (position_count self.new ≡ position_count self.old + 1) }
         ensures own { OnOk result (type_at self.new (position_count self.old) ≡ type_named_by pattern.now) }
@@ -43,7 +44,7 @@ impl Datatypes {
         Ok(())
     }
 
-    /// The datatype that the pattern at a position names, if it names one that is known.
+    /// Returns the datatype that the pattern at a position names, if it names a known one.
     fn at(&self, position: PatternId) -> Option<&Builtin>
         ensures { option_map (λ b. built_in_type_of b.now) result ≡ type_at self.now position.0 }
     {
@@ -53,9 +54,9 @@ impl Datatypes {
         }
     }
 
-    /// Whether the datatype that the pattern at a position names allows a text. Takes no memory.
+    /// Returns whether the datatype that the pattern at a position names allows a text. Allocates nothing.
     ///
-    /// RELAX NG Specification, section 6.2.8. A datatype that is not known allows nothing.
+    /// RELAX NG Specification, section 6.2.8. An unknown datatype allows nothing.
     pub fn allow(&self, position: PatternId, text: &str) -> bool
         ensures { result ≡ known_allows (type_at self.now position.0) text.now }
     {
@@ -65,9 +66,10 @@ impl Datatypes {
         }
     }
 
-    /// Whether a text is equal to a value, by the datatype that the pattern at a position names. Takes no memory.
+    /// Returns whether a text is equal to a value, by the datatype that the pattern at a position names. Allocates
+    /// nothing.
     ///
-    /// RELAX NG Specification, sections 6.2.8 and 6.2.9. A datatype that is not known takes no texts for equal.
+    /// RELAX NG Specification, sections 6.2.8 and 6.2.9. In an unknown datatype no texts are equal.
     pub fn equate(&self, position: PatternId, value: &str, text: &str) -> bool
         ensures { result ≡ known_equates (type_at self.now position.0) value.now text.now }
     {
@@ -78,7 +80,7 @@ impl Datatypes {
     }
 }
 
-/// A datatype in a box, if there is one. The error is want of memory.
+/// Puts a datatype into a box, if there is one. Fails only when out of memory.
 fn boxed(alloc: Global, builtin: Option<Builtin>) -> Result<Option<Box<Builtin>>, OutOfMemory>
     ensures { IfOk result (λ boxed. type_kept (Some boxed) ≡ option_map built_in_type_of builtin) }
 {
@@ -88,7 +90,7 @@ fn boxed(alloc: Global, builtin: Option<Builtin>) -> Result<Option<Box<Builtin>>
     }
 }
 
-/// The datatype that a pattern names, if it names one that is known.
+/// Returns the datatype that a pattern names, if it names a known one.
 fn named(pattern: &Simple) -> Option<Builtin>
     ensures { option_map built_in_type_of result ≡ type_named_by pattern.now }
 {
@@ -103,7 +105,7 @@ fn named(pattern: &Simple) -> Option<Builtin>
     }
 }
 
-/// The datatype of this library and name with these parameters, if it is known.
+/// Returns the datatype of this library and name with these parameters, if it is known.
 fn found(library: &str, name: &str, parameters: &[(String, String)]) -> Option<Builtin>
     ensures { option_map built_in_type_of result ≡ type_of (datatype_at library.now name.now parameters.now) }
 {

@@ -1,4 +1,4 @@
-// Ways that others stand in for.
+// Ways that can be left out because of others.
 ghost use Rattle.std.specs.Prelude.{◌≡◌, ◌<◌, All, IfOk, length, true};
 ghost use Rattle.rng_pattern_derivatives.specs.plain.FewerWays.{AreRepeated, AreUncovered, HasOptionalRest};
 ghost use Rattle.rng_pattern_derivatives.specs.plain.Ways.{AreInside, IsInside};
@@ -9,11 +9,12 @@ use rng_pattern_table::{Pattern, PatternNumber, PatternTable};
 use smallvec::SmallVec;
 use std::alloc::Global;
 
-/// The ways of a repetition to take an attribute, of those of one copy, where `more` is what more copies are.
+/// Returns the ways of a repetition to take an attribute, from those of one copy, where `more` is the pattern of more
+/// copies.
 ///
-/// No attribute stands in a group or an interleave of the copy (RELAX NG Specification, section 7.1.2), so the attribute may be
-/// all that a copy takes, and more copies take all else. Nothing is left of the copy itself: patterns do not grow with each
-/// attribute. The error is want of memory.
+/// No attribute is in a group or an interleave of the copy (RELAX NG Specification, section 7.1.2). So the attribute
+/// may be all that a copy takes, and more copies take the rest. Nothing is left of the copy itself, so patterns do not
+/// grow with each attribute. Fails only when out of memory.
 pub fn repeated_ways(
     alloc: Global,
     table: &PatternTable,
@@ -35,11 +36,11 @@ pub fn repeated_ways(
     Ok(all)
 }
 
-/// The ways of the second side of a group that say more than those of the first side.
+/// Returns the ways of the second side of a group that add something to those of the first side.
 ///
-/// Where the second side takes all subsequences of what it takes, what is left of it behind a leaf is no more than it is itself,
-/// and so than what is left where the first side has the same leaf and may end behind it. The error is want of memory. Costs a
-/// comparison of each way with those of the first side.
+/// Suppose that the second side takes all subsequences of what it takes. Then what is left of it after a leaf takes no
+/// more than the second side itself. So it takes no more than what is left if the first side has the same leaf and may
+/// end after it. Fails only when out of memory. The cost is a comparison of each way with those of the first side.
 pub fn uncovered(
     alloc: Global,
     table: &PatternTable,
@@ -65,8 +66,9 @@ pub fn uncovered(
     Ok(left)
 }
 
-/// Whether a way of the second side is left out: one with its leaf may end behind that. A way that leads back to the second side, as
-/// those of a repetition do, is kept, since its states come again. Takes no memory.
+/// Returns whether a way of the second side is left out: some way of the first side with its leaf may end after that. A
+/// way that leads back to the second side, as those of a repetition do, is kept, since its states come again. Allocates
+/// nothing.
 fn is_covered(table: &PatternTable, second: PatternNumber, firsts: &[LeafWay], way: LeafWay) -> bool
     requires firsts { AreInside table.now firsts.now }
     requires way { IsInside table.now way }
@@ -78,7 +80,7 @@ fn is_covered(table: &PatternTable, second: PatternNumber, firsts: &[LeafWay], w
     has_optional_rest(table, firsts, way.leaf)
 }
 
-/// Whether a pattern is another one, or a group that ends with it. Takes no memory.
+/// Returns whether a pattern is another one, or a group that ends with it. Allocates nothing.
 fn leads_back(table: &PatternTable, rest: PatternNumber, second: PatternNumber) -> bool
     requires { rest.0 < length table.now }
 {
@@ -91,7 +93,7 @@ fn leads_back(table: &PatternTable, rest: PatternNumber, second: PatternNumber) 
     }
 }
 
-/// Whether some way with this leaf may end behind it. Takes no memory.
+/// Returns whether some way with this leaf may end after it. Allocates nothing.
 fn has_optional_rest(table: &PatternTable, ways: &[LeafWay], leaf: PatternNumber) -> bool
     requires { AreInside table.now ways.now }
     ensures { result ≡ true → HasOptionalRest table.now ways.now leaf }

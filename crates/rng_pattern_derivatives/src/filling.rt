@@ -1,4 +1,4 @@
-// Ways of a whole, of those of its sides.
+// Ways of a whole, from those of its sides.
 ghost use Rattle.std.specs.Prelude.{◌≡◌, ◌<◌, ◌++◌, ◌∷◌, [], All, Some, IfOk, OnOk, IfSome, IfNone, length, slice_get};
 ghost use Rattle.rng_model.specs.simple.Table.{Table};
 ghost use Rattle.rng_deriv_laws.specs.plain.Derivatives.{behind, joined_of};
@@ -14,7 +14,7 @@ use rng_pattern_table::{PatternNumber, PatternTable};
 use smallvec::SmallVec;
 use std::alloc::Global;
 
-/// Two patterns joined.
+/// Joins two patterns.
 fn join(
     table: &mut PatternTable,
     joint: Joint,
@@ -33,7 +33,7 @@ fn join(
     }
 }
 
-/// The rest of the whole, of that of a side.
+/// Returns the rest of the whole, from that of a side.
 pub fn fill(
     table: &mut PatternTable,
     hole: Hole,
@@ -51,7 +51,7 @@ pub fn fill(
     }
 }
 
-/// Where the way with this leaf stands among others.
+/// Returns the position of the way with this leaf among others.
 fn place_of(ways: &[LeafWay], leaf: PatternNumber) -> Option<usize>
     ensures found { IfSome result (λ i. (w : LeafWay) × (slice_get ways.now i ≡ Some w) × (w.leaf ≡ leaf)) }
     ensures none { IfNone result (All (λ w. ¬ (w.leaf ≡ leaf)) ways.now) }
@@ -64,7 +64,7 @@ fn place_of(ways: &[LeafWay], leaf: PatternNumber) -> Option<usize>
     None
 }
 
-/// Takes the way with this leaf out of others, if there is one.
+/// Removes the way with this leaf from others, if there is one.
 fn take_leaf(ways: &mut Ways, leaf: PatternNumber) -> Option<LeafWay>
     ensures found { IfSome result (λ w. (w.leaf ≡ leaf) × IsTakenOut ways.old.items ways.new.items w) }
     ensures none { IfNone result (ways.new.items ≡ ways.old.items) }
@@ -73,7 +73,7 @@ fn take_leaf(ways: &mut Ways, leaf: PatternNumber) -> Option<LeafWay>
     Some(ways.remove(place))
 }
 
-/// Adds a way to others: one with the same leaf becomes one with it, and a rest that is notAllowed adds none.
+/// Adds a way to others. A way with the same leaf is merged with it. A rest that is notAllowed adds none.
 pub fn add_way(
     alloc: Global,
     table: &mut PatternTable,
@@ -129,7 +129,7 @@ pub fn add_filled(
     Ok(())
 }
 
-/// The rests of the ways with this leaf.
+/// Returns the rests of the ways with this leaf.
 fn rests_behind(alloc: Global, ways: &[LeafWay], leaf: PatternNumber) -> Result<Rests, OutOfMemory>
     ensures { IfOk result (λ rests. AreRestsBehind ways.now leaf rests.items) }
 {
@@ -142,7 +142,7 @@ fn rests_behind(alloc: Global, ways: &[LeafWay], leaf: PatternNumber) -> Result<
     Ok(rests)
 }
 
-/// The same ways, each leaf once: what is left behind it is a choice of what was.
+/// Returns the same ways, each leaf once: its rest is the choice of its rests.
 pub fn joined_ways(
     alloc: Global,
     table: &mut PatternTable,

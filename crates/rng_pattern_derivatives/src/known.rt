@@ -1,4 +1,4 @@
-// Ways that are known of patterns.
+// Known ways of patterns.
 ghost use Rattle.std.specs.Prelude.{◌≡◌, ◌⊎◌, IfOk, IfSome, List, OnOk};
 ghost use Rattle.rng_names.specs.plain.Keys.{Keys, KeysServe};
 ghost use Rattle.rng_model.specs.simple.Table.{Table};
@@ -19,21 +19,21 @@ use smallvec::SmallVec;
 use std::alloc::Global;
 use std::collections::HashMap;
 
-/// The ways of patterns, as far as they are known, to take one kind of what comes first.
+/// The known ways of patterns to take one kind of what comes first.
 pub type KnownWays = HashMap<PatternNumber, Ways>;
 
-/// Those that are known for the keys of names that were met.
+/// The known ways for the keys of names that have occurred.
 pub type KnownByKey = HashMap<NameKey, KnownWays>;
 
-/// The ways of patterns that are known, for each kind of what comes first.
+/// The known ways of patterns, for each kind of what comes first.
 #[derive(Drop)]
 pub struct Known {
     pub(crate) texts: KnownWays,
-    /// Those of elements of the name that stands for a key, by keys.
+    /// The ways to take elements with the representative name of a key, by keys.
     pub(crate) elements: KnownByKey,
-    /// Those of attributes of the name that stands for a key, by keys.
+    /// The ways to take attributes with the representative name of a key, by keys.
     pub(crate) attributes: KnownByKey,
-    /// What is left of patterns once the attributes of a tag are taken.
+    /// What is left of patterns after the attributes of a tag are taken.
     pub(crate) rests: KnownRests,
     /// The elements that may have a name, by its key.
     pub(crate) takers: Takers,
@@ -41,15 +41,16 @@ pub struct Known {
     pub(crate) alike: Vec<ElementId>,
     /// The attributes that may have a name, by its key.
     pub(crate) attribute_takers: Takers,
-    /// Between which positions the attributes of patterns are, of the first patterns.
+    /// For the first patterns of the table, the range of positions of the attributes in each.
     pub(crate) spans: Vec<Span>,
     /// The datatypes that the grammar names, by positions.
     pub(crate) datatypes: Datatypes,
 }
 
 impl Known {
-    /// No ways are known, for a grammar that these keys of names serve. The error is want of memory. Costs a few look-ups for each element
-    /// and each attribute whose name class is one name, and a search for each data and each value.
+    /// Creates a value without known ways, for a grammar that these keys of names serve. Fails only when out of memory.
+    /// The cost is a few look-ups for each element and for each attribute whose name class is one name. Each data and
+    /// each value costs one look-up.
     pub fn new(alloc: Global, grammar: &SimpleGrammar, keys: &NameKeys) -> Result<Self, OutOfMemory>
         requires { KeysServe grammar.now keys.now }
         ensures { IfOk result (λ known. (ns : List Node) → AreAllKnown grammar.now keys.now ns known) }
@@ -71,8 +72,8 @@ impl Known {
         })
     }
 
-    /// Lets go of what is known of patterns, so that it serves for any table, and keeps what is known of the grammar. Takes no
-    /// memory.
+    /// Forgets what is known of patterns, so that it serves for any table, and keeps what is known of the grammar.
+    /// Allocates nothing.
     pub fn forget(&mut self, alloc: Global)
         ensures { (t : Table) (keys : Keys) (old new : List Node) → AreAllKnown t keys old self.old → AreAllKnown t keys new self.new }
     {
@@ -84,21 +85,21 @@ impl Known {
     }
 }
 
-/// A copy of ways. The error is want of memory.
+/// Returns a copy of ways. Fails only when out of memory.
 pub fn copied_ways(alloc: Global, ways: &[LeafWay]) -> Result<Ways, OutOfMemory>
     ensures { IfOk result (λ copy. copy.items ≡ ways.now) }
 {
     Ok(SmallVec::from_slice(alloc, ways)?)
 }
 
-/// The ways that are known of a pattern.
+/// Returns the known ways of a pattern.
 pub fn known_ways(known: &KnownWays, number: PatternNumber) -> Option<&[LeafWay]>
     ensures { IfSome result (λ ways. HasKnown known.now number ways.now) }
 {
     Some(known.get(&number)?.as_slice())
 }
 
-/// Keeps the ways of a pattern. The error is want of memory.
+/// Keeps the ways of a pattern. Fails only when out of memory.
 pub fn keep(
     alloc: Global,
     known: &mut KnownWays,

@@ -19,14 +19,14 @@ use rng_pattern_table::{Pattern, PatternNumber, PatternTable};
 use smallvec::SmallVec;
 use std::alloc::Global;
 
-/// Whether a text comes first.
+/// Returns whether a text comes first.
 fn is_text(kind: Kind) -> bool
     ensures { (g : Reading) → result ≡ takes_kind g kind.entry s_text }
 {
     matches!(kind, Kind::Text)
 }
 
-/// Whether an element of the grammar may be what comes first.
+/// Returns whether an element of the grammar may take what comes first, by its name.
 pub fn element_takes(grammar: &SimpleGrammar, element: ElementId, kind: Kind) -> bool
     ensures { result ≡ takes_kind (reading_of grammar.now) kind.entry (s_leaf element.0) }
 {
@@ -39,7 +39,7 @@ pub fn element_takes(grammar: &SimpleGrammar, element: ElementId, kind: Kind) ->
     }
 }
 
-/// Whether an attribute pattern of the grammar may take what comes first.
+/// Returns whether an attribute pattern of the grammar may take what comes first, by its name.
 fn attribute_takes(grammar: &SimpleGrammar, position: PatternId, kind: Kind) -> bool
     ensures { result ≡ takes_kind (reading_of grammar.now) kind.entry (attribute_found grammar.now (slice_get grammar.now.patterns position.0)) }
 {
@@ -52,7 +52,7 @@ fn attribute_takes(grammar: &SimpleGrammar, position: PatternId, kind: Kind) -> 
     }
 }
 
-/// Whether a pattern is a leaf that may take what comes first.
+/// Returns whether a pattern is a leaf that may take what comes first.
 pub fn takes_kind(
     grammar: &SimpleGrammar,
     table: &PatternTable,
@@ -71,7 +71,7 @@ pub fn takes_kind(
     }
 }
 
-/// What is left behind a leaf.
+/// Returns what is left after a leaf.
 pub fn rest_of_leaf(
     table: &mut PatternTable,
     number: PatternNumber,
@@ -86,7 +86,8 @@ pub fn rest_of_leaf(
     table.empty()
 }
 
-/// The ways of a pattern that is not joined of others and does not repeat one. Elements that take the same have one leaf.
+/// Returns the ways of a pattern that is not joined and not a repetition. Elements that take the same have
+/// one leaf.
 pub fn ways_of_leaf(
     alloc: Global,
     grammar: &SimpleGrammar,
@@ -111,7 +112,7 @@ pub fn ways_of_leaf(
     Ok(ways)
 }
 
-/// The leaf that stands for all that take the same.
+/// Returns the leaf that represents all leaves that take the same.
 fn like_leaf(
     table: &mut PatternTable,
     candidates: Candidates,
@@ -134,8 +135,8 @@ fn like_leaf(
     }
 }
 
-/// The sides of a group, where it is the first of another and that is opened to the right: not where a side that is
-/// shared would be unfolded, as in a nullable group of groups.
+/// Returns the sides of a group that is the first side of another group, if that one is reassociated to the right. This
+/// is not done where it would unfold a shared side, as in a nullable group of groups.
 pub fn opened(table: &PatternTable, first: PatternNumber) -> Option<(PatternNumber, PatternNumber)>
     requires { first.0 < length table.now }
     ensures inside { IfSome result (λ sides. (sides.0.0 < length table.now) × (sides.1.0 < length table.now)) }
@@ -151,7 +152,7 @@ pub fn opened(table: &PatternTable, first: PatternNumber) -> Option<(PatternNumb
     Some((*outer, *inner))
 }
 
-/// Whether a pattern is a group.
+/// Returns whether a pattern is a group.
 fn is_group(table: &PatternTable, number: PatternNumber) -> bool
     requires { number.0 < length table.now }
 {

@@ -1,8 +1,8 @@
-//! What is left of a numbered pattern after an attribute, a string or a start tag, and once a tag is closed.
+//! What is left of a numbered pattern after an attribute, a string or a start tag, and after a tag is closed.
 //!
-//! The patterns of a grammar stand in a table that only grows; an item leaves other patterns of it. What is left takes what
-//! may follow the item, by the rules of matching (RELAX NG Specification, section 6.2), for every grammar that obeys the
-//! restrictions of section 7.
+//! The patterns of a grammar are in a table that only grows. An item leaves other patterns of this table. What is left
+//! takes what may follow the item, by the rules of matching (RELAX NG Specification, section 6.2). This holds for every
+//! grammar that obeys the restrictions of section 7.
 #![tactic(auto)]
 
 mod after;

@@ -1,4 +1,4 @@
-// What is left of patterns once a tag is closed, kept.
+// What is left of patterns after a tag is closed, kept for later.
 ghost use Rattle.std.specs.Prelude.{◌≡◌, ◌⊎◌, IfSome, OnOk};
 ghost use Rattle.rng_pattern_table.specs.declared.pattern.PatternNumber.{PatternNumber};
 ghost use Rattle.rng_pattern_derivatives.specs.views.KnownRests.{HasRest};
@@ -7,17 +7,17 @@ use rng_model::OutOfMemory;
 use rng_pattern_table::PatternNumber;
 use std::collections::HashMap;
 
-/// What is left of patterns once the attributes of a tag are taken, as far as it is known.
+/// What is left of patterns after the attributes of a tag are taken, as far as it is known.
 pub type KnownRests = HashMap<PatternNumber, PatternNumber>;
 
-/// What is known to be left of a pattern.
+/// Returns what is known to be left of a pattern.
 pub fn known_rest(known: &KnownRests, number: PatternNumber) -> Option<PatternNumber>
     ensures { IfSome result (λ rest. HasRest known.now number rest) }
 {
     Some(*known.get(&number)?)
 }
 
-/// Keeps what is left of a pattern. The error is want of memory.
+/// Keeps what is left of a pattern. Fails only when out of memory.
 pub fn keep_rest(
     known: &mut KnownRests,
     number: PatternNumber,

@@ -1,4 +1,4 @@
-// Where the attributes of patterns stand in a grammar.
+// Ranges of positions of the attributes in patterns.
 ghost use Rattle.std.specs.Prelude.{◌≡◌, ◌<◌, All, List, OnOk, length, map};
 ghost use Rattle.rng_model.specs.simple.Table.{Table};
 ghost use Rattle.rng_model.specs.simple.Tree.{Connector, s_joined};
@@ -9,8 +9,8 @@ ghost use Rattle.rng_pattern_derivatives.specs.plain.Takers.{AreSpansOf, IsSpanO
 use rng_model::OutOfMemory;
 use rng_pattern_table::{Pattern, PatternNumber, PatternTable, Span};
 
-/// Adds between which positions the attributes are that stand in the patterns which a table has gained. The error is want of
-/// memory. Costs a step for each side and each member of these patterns.
+/// Adds the range of positions of the attributes in each new pattern of the table. Fails only when out of memory. The
+/// cost is one step for each side and each member of these patterns.
 pub fn add_spans(table: &PatternTable, spans: &mut Vec<Span>) -> Result<(), OutOfMemory>
     ensures { OnOk result ((t : Table) → AreSpansOf t table.now spans.old.items → AreSpansOf t table.now spans.new.items) }
 {
@@ -21,7 +21,7 @@ pub fn add_spans(table: &PatternTable, spans: &mut Vec<Span>) -> Result<(), OutO
     Ok(())
 }
 
-/// Between which positions the attributes are that stand in a pattern, where it is known of all before it.
+/// Returns the range of positions of the attributes in a pattern, if those of all patterns before it are known.
 fn span_of(table: &PatternTable, spans: &[Span], number: PatternNumber) -> Span
     requires inside { number.0 < length table.now }
     requires all { length spans.now ≡ number.0 }
@@ -37,7 +37,7 @@ fn span_of(table: &PatternTable, spans: &[Span], number: PatternNumber) -> Span
     }
 }
 
-/// Between which positions the attributes are that stand in a pattern of which it is known.
+/// Returns the known range of positions of the attributes in a pattern.
 fn span_at(spans: &[Span], number: PatternNumber) -> Span
     requires { number.0 < length spans.now }
     ensures { (t : Table) (ns : List Node) → AreSpansOf t ns spans.now → IsSpanOf t (tree_of t ns number.0) result }
@@ -45,7 +45,7 @@ fn span_at(spans: &[Span], number: PatternNumber) -> Span
     spans[number.0]
 }
 
-/// Between which positions the attributes are that stand in two sides.
+/// Returns the range of positions of the attributes in two sides.
 fn span_of_sides(spans: &[Span], first: PatternNumber, second: PatternNumber) -> Span
     requires first { first.0 < length spans.now }
     requires second { second.0 < length spans.now }
@@ -55,7 +55,7 @@ fn span_of_sides(spans: &[Span], first: PatternNumber, second: PatternNumber) ->
     span_at(spans, first).joined(span_at(spans, second))
 }
 
-/// Between which positions the attributes are that stand in the members of a choice.
+/// Returns the range of positions of the attributes in the members of a choice.
 fn span_of_members(spans: &[Span], members: &[PatternNumber]) -> Span
     requires { All (λ m. m.0 < length spans.now) members.now }
     ensures { (t : Table) (ns : List Node) → AreSpansOf t ns spans.now

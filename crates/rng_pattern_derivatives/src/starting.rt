@@ -21,10 +21,11 @@ use rng_pattern_table::{Pattern, PatternNumber, PatternTable, Span};
 use smallvec::SmallVec;
 use std::alloc::Global;
 
-/// The bodies by which a pattern takes an element of the name that stands for a key, each with what is left behind the element.
+/// Returns the bodies by which a pattern takes an element with the representative name of a key, each with what is left
+/// after the element.
 ///
-/// RELAX NG Specification, section 6.2.7. The numbers are those of the grammar's patterns, and the keys those of its names. The
-/// error is want of memory. What is worked out of the parts of the pattern is kept in what is known.
+/// RELAX NG Specification, section 6.2.7. `numbers` are those of the grammar's patterns, and `keys` those of its names.
+/// Fails only when out of memory. The ways of the pattern's parts are kept in `known`.
 pub fn start(
     alloc: Global,
     grammar: &SimpleGrammar,
@@ -62,7 +63,7 @@ pub fn start(
     Ok(starts)
 }
 
-/// The ways of a pattern to take an element of the name that stands for a key.
+/// Returns the ways of a pattern to take an element with the representative name of a key.
 fn element_ways(
     alloc: Global,
     grammar: &SimpleGrammar,
@@ -97,7 +98,7 @@ fn element_ways(
     )
 }
 
-/// The body of a leaf that takes an element of this name.
+/// Returns the body of a leaf that takes an element with this name.
 fn body(
     grammar: &SimpleGrammar,
     table: &PatternTable,
@@ -121,7 +122,7 @@ fn body(
     }
 }
 
-/// The number of the grammar's pattern at a position.
+/// Returns the number of the grammar's pattern at a position.
 pub fn number_at(numbers: &[PatternNumber], position: PatternId) -> PatternNumber
     requires { position.0 < length numbers.now }
     ensures { result ≡ slice_index_or numbers.now position.0 (record { 0 = 0 }) }
@@ -129,7 +130,7 @@ pub fn number_at(numbers: &[PatternNumber], position: PatternId) -> PatternNumbe
     numbers[position.0]
 }
 
-/// Adds the bodies of the leaves that take an element of this name.
+/// Adds the bodies of the leaves that take an element with this name.
 fn add_starts(
     grammar: &SimpleGrammar,
     table: &PatternTable,

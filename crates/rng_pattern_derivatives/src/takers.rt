@@ -12,8 +12,8 @@ use rng_names::{NameKey, NameKeys};
 use rng_pattern_table::Span;
 use std::alloc::Global;
 
-/// For each key of names, between which numbers those are of the elements of a grammar, or of its attributes, that may have a name
-/// of the key.
+/// For each key of names, the range of numbers of the elements of a grammar, or of its attributes, that may have a name
+/// with the key.
 #[derive(Drop)]
 pub struct Takers {
     /// Those whose class is one name, by its key. Nothing is known of a key that is not here.
@@ -23,7 +23,7 @@ pub struct Takers {
 }
 
 impl Takers {
-    /// Those of the elements of a grammar with these keys of names, by their numbers. The error is want of memory.
+    /// Collects the elements of a grammar with these keys of names, by their numbers. Fails only when out of memory.
     pub fn of_elements(
         alloc: Global,
         grammar: &SimpleGrammar,
@@ -41,7 +41,8 @@ impl Takers {
         Ok(Takers::unknown(alloc))
     }
 
-    /// Those of the attributes of a grammar with these keys of names, by their positions. The error is want of memory.
+    /// Collects the attributes of a grammar with these keys of names, by their positions. Fails only when out of
+    /// memory.
     pub fn of_attributes(
         alloc: Global,
         grammar: &SimpleGrammar,
@@ -62,7 +63,7 @@ impl Takers {
         Ok(Takers::unknown(alloc))
     }
 
-    /// None, for each of these keys. The error is want of memory.
+    /// Creates a value with an empty range for each of these keys. Fails only when out of memory.
     fn none(alloc: Global, keys: &NameKeys) -> Result<Self, OutOfMemory>
         ensures { IfOk result (λ takers. length takers.by_key.items ≡ length keys.now.names) }
     {
@@ -72,7 +73,7 @@ impl Takers {
         })
     }
 
-    /// Nothing is known of any key. Takes no memory.
+    /// Creates a value that knows nothing of any key. Allocates nothing.
     fn unknown(alloc: Global) -> Self
         ensures { (k n : ℕ) → IsTold result k n }
     {
@@ -82,7 +83,7 @@ impl Takers {
         }
     }
 
-    /// Adds the one of this number, which has this class.
+    /// Adds the element or attribute with this number, which has this class.
     fn add(&mut self, keys: &NameKeys, class: &NameClass, number: usize)
         requires { length self.old.by_key.items ≡ length keys.now.names }
         ensures count { length self.new.by_key.items ≡ length keys.now.names }
@@ -100,7 +101,7 @@ impl Takers {
         }
     }
 
-    /// Those that may have a name of this key.
+    /// Returns the range of those that may have a name with this key.
     pub fn of(&self, key: NameKey) -> Span
         ensures { (n : ℕ) → IsTold self.now key.0 n → IsWithin result n }
     {
@@ -111,7 +112,7 @@ impl Takers {
     }
 }
 
-/// None for each of these keys. The error is want of memory.
+/// Returns an empty range for each of these keys. Fails only when out of memory.
 fn none_by_key(alloc: Global, keys: &NameKeys) -> Result<Vec<Span>, OutOfMemory>
     ensures { IfOk result (λ all. length all.items ≡ length keys.now.names) }
 {

@@ -1,4 +1,4 @@
-// Which texts excepts have.
+// Texts that an except excludes.
 ghost use Rattle.std.specs.Prelude.{◌≡◌, ◌<◌, IfOk, OnOk, length};
 ghost use Rattle.rng_model.specs.simple.Table.{tree_at};
 ghost use Rattle.rng_deriv_laws.specs.plain.Derivatives.{is_excepted};
@@ -14,10 +14,10 @@ use std::collections::HashSet;
 /// The positions of choices that are known not to have a text.
 type Without = HashSet<usize>;
 
-/// Whether the except of a data has a text.
+/// Returns whether the except of a data has a text.
 ///
-/// RELAX NG Specification, section 6.2.8. The error is want of memory. Each choice of the except is judged at most once as one
-/// that does not have the text, however often it stands in others. Recursion goes as deep as the except.
+/// RELAX NG Specification, section 6.2.8. Fails only when out of memory. Each choice of the except is found at most
+/// once not to have the text, however often it occurs in others. The recursion is as deep as the except.
 pub fn is_excepted(
     alloc: Global,
     grammar: &SimpleGrammar,
@@ -33,7 +33,7 @@ pub fn is_excepted(
     has_text(grammar, datatypes, &mut without, except, text)
 }
 
-/// Whether a pattern of an except has a text, where some choices are known not to have it.
+/// Returns whether a pattern of an except has a text, if some choices are known not to have it.
 #[cycle(has_text)]
 fn has_text(
     grammar: &SimpleGrammar,
@@ -66,7 +66,7 @@ fn has_text(
     }
 }
 
-/// The same of a choice.
+/// The same for a choice.
 #[cycle(has_text)]
 fn either_has_text(
     grammar: &SimpleGrammar,

@@ -10,7 +10,7 @@ pub struct LeafWay {
     pub rest: PatternNumber,
 }
 
-/// The way from the first pattern of a table to itself, which stands for none.
+/// The way from the first pattern of a table to itself. It means no way.
 impl Default for LeafWay {
     fn default() -> Self {
         LeafWay {
@@ -20,13 +20,13 @@ impl Default for LeafWay {
     }
 }
 
-/// The ways of a pattern: two at most for nearly all, which take no memory of their own.
+/// The ways of a pattern. Nearly all patterns have at most two, which need no allocation.
 pub type Ways = SmallVec<LeafWay, 2>;
 
-/// What is left by some ways of a pattern.
+/// What some ways of a pattern leave.
 pub type Rests = SmallVec<PatternNumber, 2>;
 
-/// What comes first, as far as ways are told apart by it.
+/// What comes first, as far as ways differ by it.
 #[derive(Clone, Copy)]
 pub enum Kind<'a> {
     /// An element of this name.
@@ -36,31 +36,31 @@ pub enum Kind<'a> {
     Text,
 }
 
-/// Which parts of a pattern may take what comes first, as far as it is known.
+/// The parts of a pattern that may take what comes first, as far as they are known.
 #[derive(Clone, Copy)]
 pub enum Candidates<'a> {
     /// Nothing is known.
     Any,
-    /// An element comes first: elements of the grammar with these numbers. For each element of the grammar there is one that takes
-    /// the same.
+    /// For an element that comes first: elements of the grammar with these numbers. For each element of the grammar the
+    /// slice has one that takes the same.
     Elements(Span, &'a [ElementId]),
-    /// An attribute comes first: attributes at these positions of the grammar. Where those of a pattern are is told by its
-    /// number, of the first patterns of the table.
+    /// For an attribute that comes first: attributes at these positions of the grammar. The slice has the ranges of the
+    /// attributes of the first patterns of the table, by number.
     Attributes(Span, &'a [Span]),
 }
 
-/// Where a pattern is asked: among the children of an element or the values of attributes, or in a list, where no list
-/// stands (RELAX NG Specification, section 7.1.3).
+/// Where a pattern is tried: among the children of an element or the values of attributes, or in a list. A list
+/// contains no list (RELAX NG Specification, section 7.1.3).
 #[derive(Clone, Copy)]
 pub enum Place {
     Content,
     List,
 }
 
-/// What comes first, with what it says.
+/// What comes first, with its content.
 #[derive(Clone, Copy)]
 pub enum First<'a> {
-    /// A string, asked at this place.
+    /// A string, tried at this place.
     Text(Place, &'a str),
     Attribute(&'a Attr),
 }
@@ -72,13 +72,13 @@ pub enum Joint {
     Interleave,
 }
 
-/// Where the rest of a side stands in the rest of the whole.
+/// Where the rest of a side is in the rest of the whole.
 #[derive(Clone, Copy)]
 pub enum Hole {
-    /// It is the rest of the whole.
+    /// The rest of the side is the rest of the whole.
     Whole,
-    /// The first of two that are joined, with this second.
+    /// It is the first of two that are joined. This is the second one.
     First(Joint, PatternNumber),
-    /// The second of two that are joined, with this first.
+    /// It is the second of two that are joined. This is the first one.
     Second(Joint, PatternNumber),
 }

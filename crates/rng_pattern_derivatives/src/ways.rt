@@ -20,14 +20,14 @@ use rng_pattern_table::{Pattern, PatternNumber, PatternTable};
 use smallvec::SmallVec;
 use std::alloc::Global;
 
-/// The ways of a pattern to take something of this kind first, each leaf once.
+/// Returns the ways of a pattern to take something of this kind first, each leaf once.
 ///
-/// A list nested to the left is opened to the right, so that its ways are those of its first member.
+/// A list nested to the left is reassociated to the right, so its ways are those of its first member.
 ///
-/// There are none where none of the candidates stands in the pattern.
+/// There are none if the pattern contains none of the candidates.
 ///
-/// Those of choices, groups and repetitions are kept, so that they are worked out once for each pattern; an interleave of
-/// many members leads to too many others for that.
+/// The ways of choices, groups and repetitions are kept, so that they are computed once for each pattern. An interleave
+/// of many members leads to too many other patterns for that.
 #[cycle(ways)]
 pub fn ways(
     alloc: Global,
@@ -59,7 +59,7 @@ pub fn ways(
     Ok(ways)
 }
 
-/// Whether none of the candidates stands in a pattern. Then it has no ways.
+/// Returns true only if a pattern contains none of the candidates. Then it has no ways.
 fn is_idle(table: &PatternTable, candidates: Candidates, number: PatternNumber) -> bool
     requires { number.0 < length table.now }
     ensures { result ≡ true → (t : Table) (kind : kinds.Kind) → AreCandidates t table.now kind candidates.entry
@@ -75,10 +75,10 @@ fn is_idle(table: &PatternTable, candidates: Candidates, number: PatternNumber) 
     }
 }
 
-/// The most members of an interleave whose ways are kept: what many lead to are too many others.
+/// The most members of an interleave whose ways are kept. More members lead to too many other patterns.
 const MOST_KEPT_MEMBERS: u16 = 4;
 
-/// Whether the ways of a pattern are kept.
+/// Returns whether the ways of a pattern are kept.
 fn is_kept(table: &PatternTable, number: PatternNumber) -> bool
     requires { number.0 < length table.now }
 {
@@ -89,7 +89,7 @@ fn is_kept(table: &PatternTable, number: PatternNumber) -> bool
     }
 }
 
-/// The ways of a pattern, worked out.
+/// Computes the ways of a pattern.
 #[cycle(ways)]
 fn new_ways(
     alloc: Global,
@@ -148,7 +148,7 @@ fn new_ways(
     }
 }
 
-/// A copy of numbers.
+/// Returns a copy of numbers.
 pub fn copied(alloc: Global, numbers: &[PatternNumber]) -> Result<Vec<PatternNumber>, OutOfMemory>
     ensures { IfOk result (λ copy. copy.items ≡ numbers.now) }
 {
@@ -157,7 +157,7 @@ pub fn copied(alloc: Global, numbers: &[PatternNumber]) -> Result<Vec<PatternNum
     Ok(copy)
 }
 
-/// The ways of a choice of these members.
+/// Returns the ways of a choice of these members.
 #[cycle(ways)]
 fn ways_of_choice(
     alloc: Global,
@@ -188,7 +188,7 @@ fn ways_of_choice(
     joined_ways(alloc, table, all.as_slice())
 }
 
-/// The ways of a group.
+/// Returns the ways of a group.
 #[cycle(ways)]
 fn ways_of_group(
     alloc: Global,
@@ -235,7 +235,7 @@ fn ways_of_group(
     ways_of_group(alloc, grammar, table, known, candidates, kind, outer, rest)
 }
 
-/// Whether a group of these two begins with two copies of a pattern that may be left out. Takes no memory.
+/// Returns whether a group of these two begins with two copies of a pattern that may be left out. Allocates nothing.
 fn begins_with_copies(table: &PatternTable, first: PatternNumber, second: PatternNumber) -> bool
     requires first { first.0 < length table.now }
     requires second { second.0 < length table.now }
@@ -247,9 +247,9 @@ fn begins_with_copies(table: &PatternTable, first: PatternNumber, second: Patter
     unit != first || table.behind_copies(unit, second) != Some(second)
 }
 
-/// The ways of a group to take an item first: those of its first side, and where that is nullable those by which the second side
-/// takes more. Copies of the first side at the front of the second one add no ways: what they take the first side takes, with all of
-/// them behind it.
+/// Returns the ways of a group to take an item first. These are the ways of its first side and, if that is nullable,
+/// those by which the second side takes more. Copies of the first side at the front of the second one add no ways. The
+/// first side takes what they take, with all of them after it.
 #[cycle(ways)]
 fn item_ways_of_group(
     alloc: Global,
@@ -292,7 +292,7 @@ fn item_ways_of_group(
     Ok(all)
 }
 
-/// The ways of two patterns joined, where either may come first: of each beside the other.
+/// Returns the ways of two joined patterns, either of which may come first: those of each beside the other.
 #[cycle(ways)]
 fn ways_of_both(
     alloc: Global,
@@ -335,8 +335,8 @@ fn ways_of_both(
     Ok(all)
 }
 
-/// The ways of a oneOrMore, which has this number, with this body: those of a copy, with more copies behind it; behind an
-/// attribute more copies are all that is left.
+/// Returns the ways of the oneOrMore with this number and this body: those of a copy, with more copies after it. After
+/// an attribute only more copies are left.
 #[cycle(ways)]
 fn ways_of_copies(
     alloc: Global,

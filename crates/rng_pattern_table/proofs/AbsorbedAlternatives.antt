@@ -15,7 +15,7 @@ use Rattle.rng_pattern_table.specs.declared.pattern.PatternNumber.{PatternNumber
 use Rattle.rng_pattern_table.proofs.Alternatives.{each_of}
 use Rattle.rng_pattern_table.proofs.Choices.{only_one}
 
--- ---- what passes a test stays
+-- ---- what passes a test is kept
 
 module _ (test : PatternNumber → Bool) where
   later : (b : Bool) (n m : PatternNumber) (ms : List PatternNumber) → Contains ms m → Contains (cond b (n ∷ ms) ms) m
@@ -48,7 +48,7 @@ module _ (ns : List Node) (all left : List PatternNumber) (inside : All (λ m. m
       → SomeTakes g (tree_of t ns) left xs is
   left_takes t g xs is d = upward (length ns) t g xs is d.0 d.1 (omega arith) d.2
 
--- a list without what a set has
+-- a list without the members of a set
 module _ {Z : Type 0} (ns : List Node) (absorbed : HashSet ℕ Z) (all : List PatternNumber)
     (each : (m : PatternNumber) → IsTrue (contains nat_eq absorbed m.0) → (other : PatternNumber) × Contains all other × IsAbsorbedBy ns m other) where
   pub left_or_absorbed : (m : PatternNumber) → Contains all m → Contains (filter (λ m. not (contains nat_eq absorbed m.0)) all) m

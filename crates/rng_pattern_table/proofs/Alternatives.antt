@@ -1,4 +1,4 @@
--- What a pattern has of its alternatives, and they of it.
+-- Properties that a pattern and its alternatives share.
 use Rattle.std.proofs.Common.{◌≡◌, ℕ, List, [], ◌∷◌, All, Contains, map, refl, sym, subst, ap₂, Option, Some, None, inl, inr, ⊎_elim, true≢false, arith}
 use Rattle.std.proofs.lemmas.List.Elements.{All-map, All-tail}
 use Rattle.rng_model.specs.simple.Tree.{Simple, choice, group, interleave, s_not_allowed, s_empty, s_text, s_leaf, s_attribute, s_list, s_data, s_data_except}
@@ -11,13 +11,13 @@ use Rattle.rng_pattern_table.specs.plain.Reduced.{HasAlternative, HasAllowedMemb
 use Rattle.rng_pattern_table.specs.views.Trees.{choice_from, choice_over}
 use Rattle.rng_pattern_table.specs.declared.pattern.PatternNumber.{PatternNumber}
 
--- Q goes from the sides of a choice to the whole, and back
+-- a choice has Q exactly if both sides have it
 pub record IsOfChoices (Q : Simple ℕ → Type 0) : Type 0 where
   pub of_both : (p q : Simple ℕ) → Q p → Q q → Q (s_joined choice p q)
   pub sides : (p q : Simple ℕ) → Q (s_joined choice p q) → Q p × Q q
 
 module _ (Q : Simple ℕ → Type 0) (of_choices : IsOfChoices Q) where
-  -- alternatives have what the pattern has
+  -- alternatives have the property of the pattern
   pub alternative_has : (p s : Simple ℕ) → Q p → HasAlternative p s → Q s
   alternative_has s_not_allowed s h a = absurd a
   alternative_has s_empty s h a = subst Q (sym a) h
@@ -34,7 +34,7 @@ module _ (Q : Simple ℕ → Type 0) (of_choices : IsOfChoices Q) where
   alternative_has (s_joined group p q) s h a = subst Q (sym a) h
   alternative_has (s_joined interleave p q) s h a = subst Q (sym a) h
 
-  -- and the pattern what all alternatives have
+  -- the pattern has the property that all alternatives have
   pub has_of_alternatives : (p : Simple ℕ) → HasAllowedMembers p → ((s : Simple ℕ) → HasAlternative p s → Q s) → Q p
   has_of_alternatives s_not_allowed allowed each = absurd allowed
   has_of_alternatives s_empty allowed each = each s_empty refl
@@ -130,11 +130,11 @@ HasType-of_choices = record {
 
 module _ (tree : ℕ → Simple ℕ) (ms : List PatternNumber) (p : Simple ℕ) (reduced : IsReducedChoice p)
     (among : (s : Simple ℕ) → HasAlternative p s → IsAlternativeOf tree ms s) where
-  -- where no member has an alternative
+  -- if no member has an alternative
   pub no_alternatives : ((s : Simple ℕ) → IsAlternativeOf tree ms s → ⊥) → p ≡ s_not_allowed
   no_alternatives none = none_is_not_allowed p reduced (λ s a. none s (among s a))
 
-  -- the choice is restricted where all of its members are
+  -- the choice is restricted if all of its members are
   pub choice_restricted : All (λ m. IsRestricted (tree m.0)) ms → IsRestricted p
   choice_restricted each = ⊎_elim
       (λ e. subst IsRestricted (sym e) (IsRestricted-hereditary.of_not_allowed))
@@ -143,7 +143,7 @@ module _ (tree : ℕ → Simple ℕ) (ms : List PatternNumber) (p : Simple ℕ) 
       alternative_has IsRestricted IsRestricted-of_choices (tree h.0.0) s (each_of (λ m. IsRestricted (tree m.0)) ms each h.0 h.1) h.2))
       reduced
 
-  -- it has a content type where each of them has one or is notAllowed
+  -- the choice has a content type if each of the members has one or is notAllowed
   pub choice_typed : All (λ m. IsTyped (tree m.0)) ms → IsTyped p
   choice_typed each = ⊎_elim
       (λ e. inr e)

@@ -22,7 +22,7 @@ only_one m n (zero, h, e) = e
 only_one m n (suc i, h, e) = absurd (omega (arith, h))
 
 module _ (tree : ℕ → Simple ℕ) where
-  -- ---- of lists
+  -- ---- lists
 
   pub of_one : (m : PatternNumber) (s : Simple ℕ) → IsAlternativeOf tree (m ∷ []) s ↔ HasAlternative (tree m.0) s
   of_one m s = (
@@ -39,7 +39,7 @@ module _ (tree : ℕ → Simple ℕ) where
   pub of_none : (s : Simple ℕ) → IsAlternativeOf tree [] s → ⊥
   of_none s h = let inside = h.1.1 in omega (arith, inside)
 
-  -- ---- of a choice
+  -- ---- a choice
 
   pub of_choice : (ms : List PatternNumber) (s : Simple ℕ) → HasAlternative (choice_over tree (numbers ms)) s ↔ IsAlternativeOf tree ms s
   of_choice [] s = (λ h. absurd h, λ h. of_none s h)
@@ -77,7 +77,7 @@ module _ (tree : ℕ → Simple ℕ) where
       let own = of_choice ms s in
       with_added all ms more m s longer (λ h. subst (λ p. HasAlternative p s) (sym e) (own.1 h), λ h. own.0 (subst (λ p. HasAlternative p s) e h))
 
-  -- one more of the members is gone through
+  -- one more of the members is visited
   pub member_more : (all more ms : List PatternNumber) (i : ℕ) (d : PatternNumber) (s : Simple ℕ) → i < length ms
       → IsAlternativeOf tree more s ↔ (IsAlternativeOf tree all s ⊎ HasAlternative (tree (get_or ms i d).0) s)
       → IsAlternativeOf tree all s ↔ IsAlternativeOf tree (take i ms) s → IsAlternativeOf tree more s ↔ IsAlternativeOf tree (take (i + 1) ms) s
@@ -147,7 +147,7 @@ module _ (g : Reading) where
     λ d. let f = found_in (tree d.0.0) xs ns d.2 in by_alternative p f.tree xs ns ((has f.tree).1 (d.0, d.1, f.among)) f.takes,
   )
 
-  -- patterns whose alternatives are among those of others take no more
+  -- patterns whose alternatives are among those of others take no more than these
   pub takes_within : (tree : ℕ → Simple ℕ) (ms ks : List PatternNumber) → ((s : Simple ℕ) → IsAlternativeOf tree ms s → IsAlternativeOf tree ks s)
       → (xs : List Attribute) (ns : List Item) → SomeTakes g tree ms xs ns → SomeTakes g tree ks xs ns
   takes_within tree ms ks within xs ns d =

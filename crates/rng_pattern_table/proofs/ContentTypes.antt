@@ -1,4 +1,4 @@
--- Content types: which of two is greater, and what goes together.
+-- Content types: which of two is greater, and which are groupable.
 use Rattle.std.proofs.Common.{◌≡◌, Option, Some, None, refl, sym, ap, ◌∙◌}
 use Rattle.rng_model.specs.restrictions.Restrictions.{ContentType, empty_content, complex_content, simple_content, greater}
 use Rattle.rng_deriv_laws.specs.plain.Restricted.{type_of_both, type_of_choice}
@@ -38,7 +38,7 @@ greater_swapped simple_content empty_content = refl
 greater_swapped simple_content complex_content = refl
 greater_swapped simple_content simple_content = refl
 
--- within one of two is within the greater
+-- a type within one of two is within the greater one
 pub within_first : (x a b : ContentType) → greater x a ≡ a → greater x (greater a b) ≡ greater a b
 within_first x a b e = sym (greater_assoc x a b) ∙ ap (λ y. greater y b) e
 
@@ -48,7 +48,7 @@ within_second x a b e = ap (greater x) (greater_swapped a b) ∙ within_first x 
 pub both_within : (x y c : ContentType) → greater x c ≡ c → greater y c ≡ c → greater (greater x y) c ≡ c
 both_within x y c e f = greater_assoc x y c ∙ ap (greater x) f ∙ e
 
--- what goes together, goes so with less
+-- two types that are groupable are still so if they become less
 pub less_together : (a b c x y : ContentType) → type_of_both (Some a) (Some b) ≡ Some c → greater x a ≡ a → greater y b ≡ b
     → type_of_both (Some x) (Some y) ≡ Some (greater x y)
 less_together a b c empty_content y e f h = refl
@@ -73,7 +73,7 @@ less_together simple_content empty_content c simple_content simple_content e f h
 less_together simple_content complex_content c simple_content simple_content e f h = absurd (cc)
 less_together simple_content simple_content c simple_content simple_content e f h = absurd (cc)
 
--- the type of two that go together is the greater
+-- the type of two groupable types is the greater one
 pub together_greater : (a b c : ContentType) → type_of_both (Some a) (Some b) ≡ Some c → greater a b ≡ c
 together_greater a b c e = some_is _ c (sym (less_together a b c a b e (greater_itself a) (greater_itself b)) ∙ e)
 
@@ -89,7 +89,7 @@ both_members None b c e = absurd (cc)
 both_members (Some u) None c e = absurd (cc)
 both_members (Some u) (Some v) c e = (u, v, refl, refl, some_is _ c e)
 
--- in which order they go together makes no difference
+-- the order of two groupable types makes no difference
 pub both_swapped : (a b : Option ContentType) → type_of_both a b ≡ type_of_both b a
 both_swapped None None = refl
 both_swapped None (Some b) = refl

@@ -1,4 +1,4 @@
--- The marked patterns of a table in a table of their own, one after the other.
+-- The marked patterns of a table copied into a table of their own, one after the other.
 use Rattle.std.proofs.Common.{◌≡◌, ◌⊎◌, ℕ, ◌+◌, ◌<◌, ◌≤◌, All, Bool, List, [], ◌∷◌, ◌++◌, length, map, slice_get, Some, refl, sym, ap, ◌∙◌, subst}
 use Rattle.std.proofs.Common.{⊎_elim, arith}
 use Rattle.std.proofs.Common.{length-append, inl, inr}
@@ -21,7 +21,7 @@ use Rattle.rng_pattern_table.proofs.KnownFacts.{of_members}
 use Rattle.rng_pattern_table.proofs.Renumbering.{parts_below, renumbered_below, renumbered_reduced, renumbered_tree, renumbered_twice, same_renumbered}
 use Rattle.rng_pattern_table.proofs.Trees.{tree_of-over_parts, tree_of_pushed, tree_stays}
 
--- what was given stays as more is given
+-- new numbers stay as more are given
 pub given_stays : (given : List PatternNumber) (x : PatternNumber) (i : ℕ) → i < length given → given_for (given ++ x ∷ []) i ≡ given_for given i
 given_stays given x i h = ap (λ (n : PatternNumber). n.0) (get_or_append_left given (x ∷ []) (record { 0 = 0 }) i h)
 
@@ -41,7 +41,7 @@ module _ (ns ms : List Node) (marks : List Bool) (given : List PatternNumber) (t
   abbrev f : ℕ → ℕ
   f = given_for given
 
-  -- the number of a copied pattern with what it is made of, as more is given
+  -- the number of a copied pattern with its parts, as more are given
   still_renumbered : (x : PatternNumber) (i : ℕ) → i < length given
       → renumbered f (node_at ns i) ≡ renumbered (given_for (given ++ x ∷ [])) (node_at ns i)
   still_renumbered x i h = same_renumbered f (given_for (given ++ x ∷ [])) (node_at ns i) (λ k d inside.
@@ -50,7 +50,7 @@ module _ (ns ms : List Node) (marks : List Bool) (given : List PatternNumber) (t
   is_last : (x : PatternNumber) (i : ℕ) → i < length (given ++ x ∷ []) → length given ≤ i → i ≡ length given
   is_last x i h l = omega (arith, h, l, length-append given (x ∷ []))
 
-  -- a pattern that is not marked is passed over
+  -- a pattern that is not marked is skipped
   pub passed_over : (x : PatternNumber) → (IsMarked marks (length given) → ⊥) → AreCopied ns marks ms (given ++ x ∷ [])
   passed_over x unmarked =
       let old : (i : ℕ) → i < length (given ++ x ∷ []) → IsMarked marks i → i < length given =
@@ -97,7 +97,7 @@ module _ (ns ms : List Node) (marks : List Bool) (given : List PatternNumber) (t
     pub copy_reduced : (t : Table) → AreReduced (tree_of t ms) (renumbered f n)
     copy_reduced t = renumbered_reduced f (tree_of t ns) (tree_of t ms) n (parts_same t) (table.reduced t (length given) n there)
 
-    -- back from a number to the one that it was given for
+    -- back from a new number to the number that it is for
     abbrev back : ℕ → ℕ
     back k = ⊎_elim (λ h. (copied.each k h).0) (λ h. 0) (cases_lt k (length ms))
 
@@ -197,7 +197,7 @@ module _ (ns ms : List Node) (marks : List Bool) (given : List PatternNumber) (t
               ap (node_at (ms ++ renumbered f n ∷ [])) e ∙ get_or-append_seam ms (renumbered f n) [] node.not_allowed ∙ new_renumbered,
             )
 
--- ---- the patterns that were selected
+-- ---- the selected patterns
 
 copied_zip : (old new : ℕ → Simple ℕ) (f : ℕ → ℕ) (xs ys : List PatternNumber)
     → map (λ (n : PatternNumber). n.0) ys ≡ map f (map (λ (n : PatternNumber). n.0) xs)

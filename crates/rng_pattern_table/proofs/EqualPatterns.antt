@@ -1,4 +1,4 @@
--- Patterns are told apart by their nodes.
+-- Nodes distinguish patterns.
 use Rattle.std.proofs.Common.{◌≡◌, refl, ap, ap₂, sym, ◌∙◌, Bool, true, false, true≢false, ◌&&◌, List, [], ◌∷◌, map, ◌==◌}
 use Rattle.std.proofs.lemmas.Bool.{and_parts, and_from}
 use Rattle.std.proofs.lemmas.Bool.Decides.{Decides-eqb}
@@ -23,7 +23,7 @@ same_numbers (m ∷ ms) (n ∷ ns) e =
     let both = and_parts (m.0 == n.0) (numbers_eq ms ns) e in
     ap₂ (λ x xs. x ∷ xs) ((Decides-eqb m.0 n.0).0 both.0) (same_numbers ms ns both.1)
 
--- patterns that are equal have one node
+-- equal patterns have one node
 pub same_node : (p q : Pattern) → same.ghosts.eq p q ≡ true → node_of p ≡ node_of q
 same_node pattern.NotAllowed pattern.NotAllowed e = refl
 same_node pattern.Empty pattern.Empty e = refl
@@ -84,6 +84,6 @@ compares (pattern.Attribute a) (pattern.Attribute c) = refl
 compares (pattern.Data a) (pattern.Data c) = refl
 compares _ _ = refl
 
--- and patterns of one node are equal
+-- patterns with one node are equal
 pub equal_pattern : (p q : Pattern) → node_of p ≡ node_of q → same.ghosts.eq p q ≡ true
 equal_pattern p q e = compares p q ∙ ap (has_node p) (sym e) ∙ has_own p

@@ -1,4 +1,4 @@
--- Interleaves of the same members in another nesting take the same and obey the same restrictions.
+-- Interleaves of the same members, nested in another way, take the same and obey the same restrictions.
 use Rattle.std.proofs.Common.{◌≡◌, ◌⊎◌, ℕ, ◌+◌, ◌<◌, List, Some, length, slice_get, refl, sym, subst, ap, ◌∙◌, ⊎_elim, inl, arith}
 use Rattle.rng_model.specs.simple.Tree.{Simple, interleave, s_joined}
 use Rattle.rng_model.specs.restrictions.Restrictions.{ContentType, greater}
@@ -50,7 +50,7 @@ is_of_turned a b q whole is = record {
   content = λ u v c e h i. is.content u v c e (⊎_elim (λ t. inl (t.0, both_swapped (content_type b) (content_type a) ∙ t.1, t.2)) (λ f. absurd (cc)) h) i;
 }
 
--- what is beside an interleave goes beside its second side
+-- what is beside an interleave is moved beside its second side
 is_of_nested : (a b q inner whole : Simple ℕ) → IsInterleaveOf b q inner → IsInterleaveOf a inner whole → IsInterleaveOf (s_joined interleave a b) q whole
 is_of_nested a b q inner whole within is = record {
   bare = λ h i. is.bare h.0 (within.bare h.1 i);
@@ -115,7 +115,7 @@ ordered old new first second pair number is both =
     let P : PatternNumber × PatternNumber → Type 0 = λ pair. Interleaves old new pair.0.0 pair.1.0 number in
     ⊎_elim (λ e. subst P e both) (λ e. swapped old new first.0 second.0 number (subst P e both)) is
 
--- the second beside one side of the first
+-- the second one beside one side of the first
 module _ (old mid new : List Node) (big small inner number : ℕ) (table : IsPatternTable old) (longer : Longer old mid) where
   is_over : (a b : ℕ) → slice_get old big ≡ Some (node.interleave a b) → (t : Table)
       → tree_of t old big ≡ s_joined interleave (tree_of t old a) (tree_of t old b)
@@ -159,7 +159,7 @@ module _ (old mid new : List Node) (big small inner number : ℕ) (table : IsPat
       (λ e. beside_second a.0 b.0 found second (subst In e in_side) (subst Over e whole))
       is
 
--- what holds of two, in either order
+-- what holds for two, in either order
 pub of_pair : (P : PatternNumber → Type 0) (a b : PatternNumber) (pair : PatternNumber × PatternNumber) → (pair ≡ (a, b)) ⊎ (pair ≡ (b, a)) → P a → P b
     → P pair.0 × P pair.1
 of_pair P a b pair is h i =
@@ -171,7 +171,7 @@ sum_of_pair a b pair is =
     let Sum : PatternNumber × PatternNumber → Type 0 = λ pair. pair.0.0 + pair.1.0 ≡ a.0 + b.0 in
     ⊎_elim (λ e. subst Sum (sym e) refl) (λ e. subst Sum (sym e) (omega arith)) is
 
--- where the sides of the first of two stand
+-- where the sides of the first of two are
 pub opened : (old : List Node) (first second : PatternNumber) (pair : PatternNumber × PatternNumber) (a b : ℕ)
     → (pair ≡ (first, second)) ⊎ (pair ≡ (second, first)) → first.0 < length old → second.0 < length old → IsPatternTable old
     → slice_get old pair.0.0 ≡ Some (node.interleave a b) → (a < pair.0.0) × (b < pair.0.0) × (pair.0.0 < length old) × (pair.1.0 < length old)

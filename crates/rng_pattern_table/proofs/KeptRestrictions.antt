@@ -1,4 +1,5 @@
--- What is made over the members of a pattern of a grammar obeys the restrictions that it obeys, where each member does.
+-- What is made over the members of a pattern of a grammar obeys the restrictions that the pattern obeys, if each member
+-- does.
 use Rattle.std.proofs.Common.{◌≡◌, ℕ, ◌<◌, Bool, true, false, cond, Option, Some, refl, sym, ap, ap₂, ◌∙◌, subst, inl, inr, ⊎_elim}
 use Rattle.std.proofs.Common.{List, [], ◌∷◌, ◌++◌, length, get_or, arith, length-append}
 use Rattle.std.proofs.lemmas.Bool.{cases_lt}
@@ -31,7 +32,7 @@ either_one : (Q : Simple ℕ → Type 0) (b : Bool) (p q : Simple ℕ) → Q p �
 either_one Q true p q h k = h
 either_one Q false p q h k = k
 
--- a pattern that is taken as it is
+-- a pattern that is unchanged
 pub kept_same : (p : Simple ℕ) → KeepsRestrictions p p
 kept_same p = record {
   bare = λ h. h;
@@ -53,7 +54,7 @@ repeat_has Q p none empty more = either_one Q (is_not_allowed p) s_not_allowed _
 
 -- ---- content types
 
--- within one type is within a greater one
+-- what is within one type is within a greater one
 pub content_wider : (p : Simple ℕ) (a c : ContentType) → ((x : ContentType) → greater x a ≡ a → greater x c ≡ c) → HasContentWithin a p → HasContentWithin c p
 content_wider p a c wider h = ⊎_elim (λ t. inl (t.0, t.1, wider t.0 t.2)) (λ e. inr e) h
 
@@ -92,7 +93,7 @@ repeat_content p u c e h =
     (λ f. subst (λ p. HasContentWithin c (repeat_of p)) (sym f) (inr refl))
     h
 
--- ---- what is made of members
+-- ---- what is made from members
 
 group_kept : (p q made other : Simple ℕ) → KeepsRestrictions p made → KeepsRestrictions q other
     → KeepsRestrictions (s_joined group p q) (joined_of group made other)

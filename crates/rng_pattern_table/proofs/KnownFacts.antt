@@ -66,7 +66,7 @@ joined_either a b = ap₂ (λ x y. record { least = x; greatest = y }) (omega ar
 joined_associative : (a b c : Span) → joined_spans (joined_spans a b) c ≡ joined_spans a (joined_spans b c)
 joined_associative a b c = ap₂ (λ x y. record { least = x; greatest = y }) (omega arith) (omega arith)
 
--- numbers are kept in 32 bits
+-- numbers have 32 bits
 elements_low : (p : tree.Simple ℕ) → (elements_of p).least < 2 ^ 32
 elements_low tree.s_not_allowed = omega arith
 elements_low tree.s_empty = omega arith
@@ -97,7 +97,7 @@ pub elements_more : (f : ℕ → tree.Simple ℕ) (ms : List PatternNumber) (i :
 elements_more f ms i d known fact inside e g =
     ap₂ joined_spans e g ∙ sym (ap (elements_among f) (take_more ms i d inside) ∙ elements_pushed f (take i ms) (get_or ms i d))
 
--- a choice is no interleave
+-- a choice is not an interleave
 choice_members : (f : ℕ → tree.Simple ℕ) (ms : List PatternNumber) → 2 ≤ length ms → members_of (choice_over f (map (λ m. m.0) ms)) ≡ 1
 choice_members f [] two = absurd (omega (arith, two))
 choice_members f (m ∷ []) two = absurd (omega (arith, two))
@@ -122,7 +122,7 @@ all_members f ms i known two over n a s e o =
         ∙ ap (λ x. record { nullable = b.nullable; attributes = b.attributes; subsequences = x; elements = a.elements; members = a.members }) s
         ∙ ap₂ (λ x y. record { nullable = b.nullable; attributes = b.attributes; subsequences = b.subsequences; elements = x; members = y }) e m
 
--- an element that stands in the tree is within those that are known
+-- an element in the tree is within the known range
 pub one_within : (k : ℕ) → IsWithin (one_span k) k
 one_within k = (omega arith, omega arith)
 
@@ -146,12 +146,12 @@ elements_within (tree.s_one_or_more p) k h = elements_within p k h
 elements_within (tree.s_joined c p q) k (inl h) = joined_first (elements_of p) (elements_of q) k (elements_within p k h)
 elements_within (tree.s_joined c p q) k (inr h) = joined_second (elements_of p) (elements_of q) k (elements_within q k h)
 
--- what holds of the numbers of the members
+-- what holds for the numbers of the members
 pub of_members : (P : ℕ → Type 0) (ms : List PatternNumber) → All P (map (λ (m : PatternNumber). m.0) ms) → All (λ m. P m.0) ms
 of_members P ms all k d inside =
     subst P (get_or-map (λ (m : PatternNumber). m.0) ms k d d.0 inside) (all k d.0 (omega (arith, length-map ms (λ (m : PatternNumber). m.0))))
 
--- what the grammar lists is an attribute of some class
+-- the grammar's attribute is an attribute with some class
 pub attribute_known : (t : Table) (o : Option Simple) → facts_of (attribute_found t o) ≡ record {
   nullable = false;
   attributes = true;

@@ -71,12 +71,12 @@ closed_past ns marks i unmarked closed j low m = ⊎_elim
     (λ l. closed j l m)
     (at_or_above i j low)
 
--- no pattern stands past the end
+-- no pattern is past the end
 pub closed_at_end : (ns : List Node) (marks : List Bool) (low : ℕ) → length ns ≤ low → AreClosedFrom low ns marks
 closed_at_end ns marks low past i h m =
     subst (λ n. All (IsMarked marks) (parts_of n)) (sym (get_or_past ns i node.not_allowed (omega (arith, past, h)))) (All-nil (IsMarked marks))
 
--- other patterns are made of nothing
+-- other patterns have no parts
 pub no_parts : (p : Pattern) → ((ms : _) → p ≡ pattern.Choice ms → ⊥) → ((a b : _) → p ≡ pattern.Group a b → ⊥)
     → ((a b : _) → p ≡ pattern.Interleave a b → ⊥) → ((a : _) → p ≡ pattern.OneOrMore a → ⊥) → parts_of (node_of p) ≡ []
 no_parts pattern.NotAllowed c g i o = refl

@@ -1,4 +1,4 @@
--- A choice of one pattern, beside which each other member is this one again or notAllowed.
+-- A choice of one pattern, where each other member is the same or notAllowed.
 use Rattle.std.proofs.Common.{◌≡◌, ◌⊎◌, ◌↔◌, ℕ, ◌+◌, ◌<◌, All, Bool, true, false, Contains, List, [], ◌∷◌, length, take, get_or, subst, sym, ⊎_elim}
 use Rattle.std.proofs.Common.{inl, inr, ap, ◌∙◌, ◌==◌}
 use Rattle.std.proofs.lemmas.Bool.Decides.{Decides-eqb}
@@ -34,7 +34,7 @@ alone_more ns ms i d only inside alone own =
     (λ r. subst (λ k. (k ≡ only) ⊎ (tree_of t ns k.0 ≡ s_not_allowed)) (only_one (get_or ms i d) m r) (own t))
     (Contains-append_cases (take i ms) (get_or ms i d ∷ []) m h))
 
--- where this one is notAllowed, another one may stand for it
+-- if this one is notAllowed, another one may replace it
 pub alone_other : (ns : List Node) (ms : List PatternNumber) (only other : PatternNumber) → StandsAlone ns ms only
     → ((t : Table) → tree_of t ns only.0 ≡ s_not_allowed) → StandsAlone ns ms other
 alone_other ns ms only other alone none = λ t m h. inr (⊎_elim (λ e. ap (λ (k : PatternNumber). tree_of t ns k.0) e ∙ none t) (λ e. e) (alone t m h))

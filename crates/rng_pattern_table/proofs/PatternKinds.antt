@@ -1,4 +1,4 @@
--- The kind of a pattern shows in its tree.
+-- The tree of a pattern shows its kind.
 use Rattle.std.proofs.Common.{◌≡◌, ℕ, refl, sym, ap, ◌∙◌, Bool, true, false, List, [], ◌∷◌, Option, Some, None, slice_get, arith, subst}
 use Rattle.rng_model.specs.simple.Tree as tree
 use Rattle.rng_model.specs.simple.Table.{Table}
@@ -15,7 +15,7 @@ use Rattle.rng_pattern_table.specs.declared.pattern.Pattern.TheVariants as patte
 use Rattle.rng_pattern_table.proofs.Alternatives.{member_allowed, members_allowed}
 use Rattle.rng_pattern_table.proofs.Trees.{tree_of-over_parts}
 
--- what the grammar lists is neither notAllowed nor empty, nor a choice
+-- the grammar's attribute, list, data or value is not notAllowed, empty or a choice
 attribute_there : (t : Table) (o : Option Simple) → (is_not_allowed (attribute_found t o) ≡ false)
     × (is_empty (attribute_found t o) ≡ false) × (is_choice (attribute_found t o) ≡ false)
 attribute_there t None = (refl, refl, refl)
@@ -128,7 +128,7 @@ not_choice (pattern.Element e) h = refl
 not_choice (pattern.Attribute a) h = refl
 not_choice (pattern.Data d) h = refl
 
--- what is neither notAllowed nor a choice may be a member of one
+-- a pattern that is not notAllowed or a choice may be a member of a choice
 pub may_be_member : (t : Table) (ns : List Node) (i : ℕ) (p : Pattern) → IsPatternTable ns → slice_get ns i ≡ Some (node_of p) → (p ≡ pattern.NotAllowed → ⊥)
     → ((ms : _) → p ≡ pattern.Choice ms → ⊥) → MayBeMember (tree_of t ns i)
 may_be_member t ns i p kept found h k = record {
@@ -136,7 +136,7 @@ may_be_member t ns i p kept found h k = record {
   not_choice = choice_shows t ns i (node_of p) kept found ∙ sym (not_choice p k);
 }
 
--- what is no notAllowed allows something
+-- a pattern that is not notAllowed allows something
 allowed_over : (t : Table) (f : ℕ → tree.Simple ℕ) (n : Node) (i : ℕ) → ArePartsBelow i n → AreReduced f n → is_not_allowed_node n ≡ false
     → HasAllowedMembers (tree_over t f n)
 allowed_over t f (node.choice []) i h reduced e = absurd (omega (arith, h.0))

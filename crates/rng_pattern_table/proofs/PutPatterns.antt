@@ -1,4 +1,4 @@
--- What comes of a pattern that is put into a table: it stays where it stood, or goes last.
+-- A pattern that is put into a table is found where it is, or goes last.
 use Rattle.std.proofs.Common.{◌≡◌, ℕ, zero, suc, ◌≤◌, List, [], ◌∷◌, ◌++◌, length, slice_get, Bool, true, false, if◌then◌else◌, Option, Some, refl, ap, sym, subst, ◌∙◌}
 use Rattle.std.proofs.Common.{⊎_elim, arith, append-nil, not, true≢false}
 use Rattle.std.proofs.lemmas.List.{length-map, map-append}
@@ -35,7 +35,7 @@ module _ {X : Type 0} (x : X) (xs : List X) where
       let inside = slice_get_within (x ∷ xs) (suc i) y e in
       slice_get-get_or xs i y (omega (arith, inside)) ∙ ap Some (get_or_from_slice_get (x ∷ xs) (suc i) y y e)
 
--- what is known of its row is known of each that has its node
+-- what is known of its row holds for each pattern with its node
 abbrev IsKnownThere : List (Pattern × Facts) → Pattern → Facts → Type 0
 IsKnownThere rows p f = (i : ℕ) (r : Pattern × Facts) → slice_get rows i ≡ Some r → node_of r.0 ≡ node_of p → r.1 ≡ f
 
@@ -106,7 +106,7 @@ module _ (rows : List (Pattern × Facts)) (p : Pattern) (f : Facts) (table : IsP
       subst (IsPut rows (insert_entry node_eq rows p f) p) last (goes_put (not_there p rows all)))
       (cases_lt i (length ks))))
 
--- what holds of a table holds of it with the pattern and its unit
+-- the invariant of a table holds with the pattern and its unit
 pub table_kept : (old new : List (Pattern × Facts)) (p : Pattern) (number : ℕ) (none empty : Option PatternNumber) (before after : List ℕ) (unit : ℕ)
     → IsPut old new p number → IsKnown (nodes_of old) none s_not_allowed → IsKnown (nodes_of old) empty s_empty → AreUnits (nodes_of old) before
     → IsUnit (nodes_of old) (λ t. tree_over t (tree_of t (nodes_of old)) (node_of p)) unit → IsKeptLast before after number unit

@@ -1,4 +1,4 @@
--- A pattern with other numbers for what it is made of.
+-- A pattern with other numbers for its parts.
 use Rattle.std.proofs.Common.{◌≡◌, ℕ, ◌+◌, ◌<◌, All, List, [], ◌∷◌, length, map, get_or, refl, sym, ap, ap₂, subst, arith, Contains}
 use Rattle.std.specs.List.Sorted.{IsStrictlyIncreasing}
 use Rattle.std.proofs.lemmas.List.{get_or-map, length-map}
@@ -76,7 +76,7 @@ module _ (f g : ℕ → ℕ) where
   renumbered_twice (node.attribute a) h = refl
   renumbered_twice (node.data_at d) h = refl
 
--- ---- what holds of the pattern
+-- ---- properties of the pattern
 
 -- f keeps the order of these numbers
 abbrev pub Rises : (ℕ → ℕ) → List ℕ → Type 0
@@ -108,7 +108,7 @@ renumbered_below f (node.element e) i l h below rises = tt
 renumbered_below f (node.attribute a) i l h below rises = tt
 renumbered_below f (node.data_at d) i l h below rises = tt
 
--- over other trees, where each part has the tree that it had
+-- over other trees, where each part has the same tree
 module _ (f : ℕ → ℕ) (old new : ℕ → tree.Simple ℕ) where
   abbrev SameTree : ℕ → Type 0
   SameTree k = new (f k) ≡ old k

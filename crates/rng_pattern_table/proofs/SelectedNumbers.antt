@@ -1,4 +1,4 @@
--- What is known of numbers by position holds of those in the table of what was selected.
+-- What is known of numbers by position holds for the numbers in the table of the selected patterns.
 use Rattle.std.proofs.Common.{◌≡◌, ℕ, zero, suc, ◌<◌, All, List, [], ◌∷◌, length, take, arith, subst, sym}
 use Rattle.std.specs.List.{AllZip}
 use Rattle.std.proofs.lemmas.List.Elements.{All-get_or, All-take, AllZip-get_or, length_all_zip}
@@ -24,7 +24,7 @@ module _ (t : Table) (ns ms : List Node) (numbers places : List PatternNumber) (
   long = length_all_zip (λ m n. tree_of t ms n.0 ≡ tree_of t ns m.0) (take k numbers) (take k places)
       (zip_take (λ m n. tree_of t ms n.0 ≡ tree_of t ns m.0) k numbers places same)
 
-  -- each position has the tree that it had
+  -- each position has the same tree
   same_tree : (i : ℕ) → i < length (take k places) → tree_by t ms (take k places) (record { 0 = i }) ≡ tree_by t ns (take k numbers) (record { 0 = i })
   same_tree i h =
       AllZip-get_or (λ m n. tree_of t ms n.0 ≡ tree_of t ns m.0) (take k numbers) (take k places) i (record { 0 = 0 }) (record { 0 = 0 })

@@ -1,4 +1,4 @@
--- What takes a sequence of items takes its subsequences.
+-- A pattern that takes a sequence of items takes its subsequences.
 use Rattle.std.proofs.Common.{◌≡◌, ◌⊎◌, ℕ, List, [], ◌∷◌, ◌++◌, ◌&&◌, refl, sym, ◌∙◌, subst, true, ⊎_elim, inl, inr}
 use Rattle.rng_model.specs.simple.Tree.{Simple, choice, group, interleave, s_not_allowed, s_empty, s_text, s_leaf, s_attribute, s_list, s_data, s_data_except}
 use Rattle.rng_model.specs.simple.Tree.{s_value, s_one_or_more, s_joined}
@@ -16,7 +16,7 @@ use Rattle.rng_deriv_laws.proofs.ListFacts.{bare_cut, bare_left, bare_right, in_
 use Rattle.rng_deriv_laws.proofs.Nullable.{null_out}
 use Rattle.rng_pattern_table.specs.plain.Facts.{LosesFirst, has_subsequences}
 
--- an element behind which no blank string may be
+-- an element that no blank string may follow
 nothing_behind : (q : Name) (xs : List Attribute) (kids : Items) (s : List ℕ) → is_blank s ≡ true → IsBare (an_element q xs kids ∷ a_text s ∷ []) → ⊥
 nothing_behind q xs kids s b (strings_alone all) = elim all [ ]
 nothing_behind q xs kids s b (no_blanks (cons p (cons o rest))) = absurd (cc)
@@ -32,7 +32,7 @@ module _ (g : Reading) where
   by_nullable : (p : Simple ℕ) → is_nullable p ≡ true → Loses p → LosesFirst g p
   by_nullable p e f xs n ns bare d = ⊎_elim (λ h. h) (λ h. rw (h.0, h.1) (null_out g p e)) (f xs n ns bare d)
 
-  -- ---- groups and interleaves of two that may be left out
+  -- ---- groups and interleaves of two patterns that may be left out
 
   first_of_group : (p q : Simple ℕ) → LosesFirst g p → LosesFirst g q → (n : Item) (ns : List Item) → IsBare (n ∷ ns) →
       (xs ys zs : List Attribute) (ms os : List Item) → Takes g p xs ms → Takes g q ys os → Interleaves xs ys zs → ms ++ os ≡ n ∷ ns

@@ -1,4 +1,4 @@
--- The rows of a table: what is kept of them as one is added.
+-- The rows of a table: what is known of them as one is added.
 use Rattle.std.proofs.Common.{◌≡◌, ℕ, suc, if◌then◌else◌, ◌<◌, ◌≤◌, List, [], ◌∷◌, ◌++◌, length, map, slice_get, get_or, Bool, true, false}
 use Rattle.std.proofs.Common.{Option, Some, None, refl, ⊎_elim, ap, ap₂, sym, ◌∙◌, arith}
 use Rattle.std.proofs.Common.{length-append, subst, true≢false}
@@ -80,7 +80,7 @@ apart_pushed ns n kept fresh i j m e f = ⊎_elim
     (cases_lt j (length ns)))
     (cases_lt i (length ns))
 
--- a table with one more pattern, that is none of those and whose parts are there
+-- a table with one more pattern, which is not in it and whose parts are
 pub one_more : (rows : List (Pattern × Facts)) (p : Pattern) (f : Facts) → IsPatternTable (nodes_of rows) × AreExact rows
     → ArePartsBelow (length (nodes_of rows)) (node_of p)
     → ((t : Table) → AreReduced (tree_of t (nodes_of rows)) (node_of p)) → IsNew (nodes_of rows) (node_of p)
@@ -100,7 +100,7 @@ one_more rows p f kept below reduced fresh exact =
           ∙ ap (map facts_of) (sym (trees_pushed t ns n) ∙ ap (trees t) (sym longer)),
     )
 
--- ---- a pattern is looked for
+-- ---- a pattern is looked up
 
 abbrev pub node_eq : Pattern → Pattern → Bool
 node_eq = same.ghosts.eq
@@ -109,7 +109,7 @@ keys_are : (rows : List (Pattern × Facts)) → map node_of (keys_of rows) ≡ n
 keys_are [] = refl
 keys_are (r ∷ rows) = ap (λ xs. node_of r.0 ∷ xs) (keys_are rows)
 
--- where it is found, its node stands
+-- if it is found, its node is there
 pub found_there : (p : Pattern) (rows : List (Pattern × Facts)) → position_or_len (node_eq p) (keys_of rows) < length (keys_of rows)
     → slice_get (nodes_of rows) (position_or_len (node_eq p) (keys_of rows)) ≡ Some (node_of p)
 found_there p rows inside =
@@ -118,7 +118,7 @@ found_there p rows inside =
     sym (ap (λ ns. slice_get ns i) (keys_are rows)) ∙ slice_get-map node_of ks i ∙ ap (option_map node_of) (slice_get-get_or ks i p inside)
     ∙ ap Some (sym (same_node p (get_or ks i p) (passes_at_first (node_eq p) ks p inside)))
 
--- where it is not, no pattern has its node
+-- if it is not found, no pattern has its node
 pub not_there : (p : Pattern) (rows : List (Pattern × Facts)) → length (keys_of rows) ≤ position_or_len (node_eq p) (keys_of rows)
     → IsNew (nodes_of rows) (node_of p)
 not_there p rows all i found =
@@ -136,7 +136,7 @@ not_there p rows all i found =
         let is : node_eq p q ≡ false = ap (node_eq p) (sym (get_or_from_slice_get ks i q q f)) ∙ fails in
         true≢false (sym (equal_pattern p q same) ∙ is)
 
--- ---- what is kept of a pattern
+-- ---- what is known of a pattern
 
 pub facts_there : (rows : List (Pattern × Facts)) (i : ℕ) (p : Pattern) (f : Facts) → AreExact rows → slice_get rows i ≡ Some (p, f) → (t : Table)
     → f ≡ facts_of (tree_of t (nodes_of rows) i)
@@ -153,7 +153,7 @@ next_found ns n m i e =
     let inside = slice_get_within ns i m e in
     slice_get-get_or (n ∷ ns) (suc i) m (omega (arith, inside)) ∙ ap Some (get_or_from_slice_get ns i m m e)
 
--- a pattern that is not there goes last
+-- a pattern that is not in the table goes last
 pub goes_last : (rows : List (Pattern × Facts)) (p : Pattern) (f : Facts) → IsNew (nodes_of rows) (node_of p)
     → insert_entry node_eq rows p f ≡ rows ++ (p, f) ∷ []
 goes_last [] p f fresh = refl
@@ -165,7 +165,7 @@ goes_last (r ∷ rows) p f fresh =
     by true e later = absurd (fresh 0 (ap Some (sym (same_node p r.0 e))))
     by false e later = ap (λ rs. r ∷ rs) later
 
--- a pattern that was found
+-- a pattern that is found
 pub found_adds : (ns : List Node) (i : ℕ) (n : Node) → IsPatternTable ns → slice_get ns i ≡ Some n → Adds ns ns i (λ t. tree_over t (tree_of t ns) n)
 found_adds ns i n kept found =
     record { inside = slice_get_within ns i n found; is = λ t. tree_of-over_parts t ns i n (kept.falls i n found) found }
@@ -182,7 +182,7 @@ pub nodes_more : (rows : List (Pattern × Facts)) (p : Pattern) (f : Facts) {mor
     → nodes_of rows ≡ ns → nodes_of more ≡ ns ++ node_of p ∷ []
 nodes_more rows p f e is = ap nodes_of e ∙ map-append (λ r. node_of r.0) rows ((p, f) ∷ []) ∙ ap (λ ns. ns ++ node_of p ∷ []) is
 
--- a number that is known stays so
+-- a known number stays known
 pub known_stays : (old new : List Node) (o : Option PatternNumber) (tree : Simple ℕ) → Longer old new → IsKnown old o tree → IsKnown new o tree
 known_stays old new None tree longer known = tt
 known_stays old new (Some n) tree longer known =

@@ -1,4 +1,4 @@
--- A pattern that is taken over takes what the grammar's takes.
+-- A pattern that is put into the table takes what the grammar's pattern takes.
 use Rattle.std.proofs.Common.{◌≡◌, ℕ, ◌<◌, ◌≤◌, List, [], ◌∷◌, ◌++◌, length, get_or, slice_get, Some, None, sym, ap, ◌∙◌, ◌↔◌, subst, ⊎_elim, arith}
 use Rattle.std.proofs.Common.{length-append}
 use Rattle.std.proofs.lemmas.Bool.{cases_lt}
@@ -97,7 +97,7 @@ one_taken t old new numbers more number row kept longer added inside below is ow
     at_end : (i : ℕ) → i < length (numbers ++ number ∷ []) → length numbers ≤ i → get_or (numbers ++ number ∷ []) i (record { 0 = 0 }) ≡ number
     at_end i h l = ap (λ j. get_or (numbers ++ number ∷ []) j (record { 0 = 0 })) (last i h l) ∙ get_or-append_seam numbers number [] (record { 0 = 0 })
 
--- what is found at no place stands past the end
+-- a position where nothing is found is past the end
 pub past_end : {X : Type 0} (xs : List X) (i : ℕ) → slice_get xs i ≡ None → length xs ≤ i
 past_end [] i e = omega arith
 past_end (x ∷ xs) i e =

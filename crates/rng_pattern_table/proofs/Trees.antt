@@ -14,14 +14,14 @@ use Rattle.rng_pattern_table.specs.views.Trees.{choice_from, tree_over, tree_of,
 use Rattle.rng_pattern_table.specs.views.PatternTable.{ArePartsBelow, Longer}
 use Rattle.rng_pattern_table.specs.plain.Reduced.{AreReduced, MayBeMember, MayBeSide}
 
--- a choice reads its members alone
+-- a choice reads only its members
 choice_reads : (m : ℕ) (ms : List ℕ) (f g : ℕ → tree.Simple ℕ) (i : ℕ) → All (λ m. m < i) (m ∷ ms) → ((k : ℕ) → k < i → f k ≡ g k)
     → choice_from f m ms ≡ choice_from g m ms
 choice_reads m [] f g i below same = same m (below 0 0 (omega arith))
 choice_reads m (n ∷ ms) f g i below same =
     ap₂ (tree.s_joined choice) (same m (below 0 0 (omega arith))) (choice_reads n ms f g i (All-tail (λ m. m < i) m (n ∷ ms) below) same)
 
--- a pattern's tree reads those of its parts alone
+-- the tree of a pattern reads only those of its parts
 pub reads_below : (t : Table) (n : Node) (i : ℕ) → ArePartsBelow i n → numbered.ReadsBelow s_not_allowed (tree_over t) i n
 reads_below t node.not_allowed i h f g same = refl
 reads_below t node.empty i h f g same = refl
@@ -35,7 +35,7 @@ reads_below t (node.element e) i h f g same = refl
 reads_below t (node.attribute a) i h f g same = refl
 reads_below t (node.data_at d) i h f g same = refl
 
--- and whether it is reduced, too
+-- the same for whether it is reduced
 pub reduced_reads : (n : Node) (i : ℕ) (f g : ℕ → tree.Simple ℕ) → ArePartsBelow i n → ((k : ℕ) → k < i → f k ≡ g k) → AreReduced g n → AreReduced f n
 reduced_reads node.not_allowed i f g h same r = tt
 reduced_reads node.empty i f g h same r = tt
@@ -53,23 +53,23 @@ pub length-trees : (t : Table) (ns : List Node) → length (trees t ns) ≡ leng
 unfolding trees
 length-trees t ns = numbered.length-trees s_not_allowed (tree_over t) ns
 
--- patterns that were added change no tree
+-- adding patterns changes no tree
 pub tree_stays : (t : Table) (old new : List Node) (i : ℕ) → Longer old new → i < length old → tree_of t new i ≡ tree_of t old i
 unfolding trees
 tree_stays t old new i longer h = numbered.tree_stays s_not_allowed (tree_over t) old new longer.0 i longer.1 h
 
--- a pattern's tree is the one over the trees of its parts
+-- the tree of a pattern is the one over the trees of its parts
 pub tree_of-over_parts : (t : Table) (ns : List Node) (i : ℕ) (n : Node) → ArePartsBelow i n → slice_get ns i ≡ Some n
     → tree_of t ns i ≡ tree_over t (tree_of t ns) n
 unfolding trees
 tree_of-over_parts t ns i n below found = numbered.tree_of-over_children s_not_allowed (tree_over t) ns i n (reads_below t n i below) found
 
--- a pattern that is added at the end stands for its tree over those so far
+-- the tree of a pattern that is added at the end is the one over those so far
 pub tree_of_pushed : (t : Table) (ns : List Node) (n : Node) → tree_of t (ns ++ n ∷ []) (length ns) ≡ tree_over t (tree_of t ns) n
 unfolding trees
 tree_of_pushed t ns n = numbered.tree_of_pushed s_not_allowed (tree_over t) ns (ns ++ n ∷ []) n (length ns) refl refl
 
--- ---- some patterns were added
+-- ---- some patterns are added
 
 pub Longer-refl : (ns : List Node) → Longer ns ns
 Longer-refl ns = ([], sym (append-nil ns))

@@ -1,4 +1,4 @@
--- The units that are kept of patterns, as patterns are added.
+-- The units of patterns, as patterns are added.
 use Rattle.std.proofs.Common.{◌≡◌, ◌<◌, ◌-◌, ◌^◌, ◌++◌, ◌∷◌, [], ℕ, inl, inr, ⊎_elim, List, Some, arith, length, min, slice_get, subst, sym, ◌∙◌}
 use Rattle.std.proofs.lemmas.Bool.{cases_lt}
 use Rattle.rng_model.specs.simple.Table.{Table}
@@ -14,7 +14,7 @@ use Rattle.rng_pattern_table.proofs.TableRows.{found_new, found_old}
 use Rattle.rng_pattern_table.proofs.Trees.{Longer-length, tree_of-over_parts, tree_stays}
 
 module _ (old new : List Node) (longer : Longer old new) where
-  -- a unit stays one
+  -- a unit stays a unit
   unit_stays : (whole : Table → Simple ℕ) (other : Table → Simple ℕ) (unit : ℕ) → ((t : Table) → other t ≡ whole t) → IsUnit old whole unit
       → IsUnit new other unit
   unit_stays whole other unit same h = ⊎_elim (λ none. inl none)
@@ -51,7 +51,7 @@ module _ (old new : List Node) (longer : Longer old new) where
 pub no_units : (ns : List Node) (units : List ℕ) → units ≡ [] → AreUnits ns units
 no_units ns units none i unit found = absurd (cc)
 
--- the unit of a group whose sides have this one, where its number is small enough
+-- the unit of a group whose sides have this one, if its number is small enough
 pub unit_of_both : (ns : List Node) (p : Pattern) (first second : PatternNumber) → p ≡ pattern.Group first second → (unit other : PatternNumber) (kept : ℕ)
     → unit ≡ other → unit.0 < length ns → ((t : Table) → AreCopies (tree_of t ns unit.0) (tree_of t ns first.0))
     → ((t : Table) → AreCopies (tree_of t ns other.0) (tree_of t ns second.0)) → kept ≡ min unit.0 (2 ^ 32 - 1)
@@ -68,7 +68,7 @@ unit_of_both ns p first second is unit other kept same inside a b at = ⊎_elim
     (λ high. inl (omega (arith, high, at)))
     (cases_lt unit.0 (2 ^ 32 - 1))
 
--- the sides of a group stand before it, and its tree is made of theirs
+-- the sides of a group are before it, and its tree is made of theirs
 pub group_there : (ns : List Node) (i : ℕ) (p : Pattern) (first second : PatternNumber) → IsPatternTable ns → slice_get ns i ≡ Some (node_of p)
     → p ≡ pattern.Group first second → (first.0 < i) × (second.0 < i)
     × ((t : Table) → tree_of t ns i ≡ s_joined group (tree_of t ns first.0) (tree_of t ns second.0))

@@ -24,7 +24,7 @@ module _ (ns : List Node) (table : IsPatternTable ns) where
   over : (t : Table) (number : PatternNumber) (n : Node) → slice_get ns number.0 ≡ Some n → tree_of t ns number.0 ≡ tree_over t (tree_of t ns) n
   over t number n found = tree_of-over_parts t ns number.0 n (table.falls number.0 n found) found
 
-  -- nothing else is matched by the empty pattern than by one that may be left out
+  -- the empty pattern matches nothing more than a pattern that may be left out
   pub empty_covered : (outer inner : PatternNumber) → slice_get ns inner.0 ≡ Some node.empty
       → ((t : Table) (g : Reading) → Takes g (tree_of t ns outer.0) [] []) → Covers ns outer inner
   empty_covered outer inner part none = λ t g xs is d. only t g xs is (subst (λ (p : Simple ℕ). Takes g p xs is) (over t inner _ part) d) where
@@ -47,13 +47,13 @@ module _ (ns : List Node) (table : IsPatternTable ns) where
           subst (λ (p : Simple ℕ). Takes g p xs is) (sym (over t outer _ whole))
           (on_interleave g (covers_one t g) (covers_other t g) xs is (subst (λ (p : Simple ℕ). Takes g p xs is) (over t inner _ part) d))
 
-      -- where the second side may be left out
+      -- if the second side may be left out
       pub first_covers : (inner : PatternNumber) → ((t : Table) (g : Reading) → Takes g (tree_of t ns second.0) [] [])
           → Covers ns first inner → Covers ns outer inner
       first_covers inner none covers = λ t g xs is d. subst (λ (p : Simple ℕ). Takes g p xs is) (sym (over t outer _ whole))
           (taking.interleaved (covers t g xs is d) (none t g) (left_alone xs) (left_alone is))
 
-      -- where the first side may be left out
+      -- if the first side may be left out
       pub second_covers : (inner : PatternNumber) → ((t : Table) (g : Reading) → Takes g (tree_of t ns first.0) [] [])
           → Covers ns second inner → Covers ns outer inner
       second_covers inner none covers = λ t g xs is d. subst (λ (p : Simple ℕ). Takes g p xs is) (sym (over t outer _ whole))

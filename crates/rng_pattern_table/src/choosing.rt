@@ -22,13 +22,14 @@ use std::alloc::Global;
 use std::collections::HashSet;
 
 impl PatternTable {
-    /// A choice of the members; of none it is notAllowed, and of one that one. The order of members, and how often each
-    /// is there, make no difference. `q` beside `p, q` is left out where `p` may be left out, and of two alternatives one that
-    /// the other one covers: as `a & c` beside `a & b? & c`, and each of them in front of the same.
+    /// Returns a choice of the members: notAllowed if there are none, and the member itself if there is one. The order
+    /// of members, and how often each occurs, make no difference. If `p` may be left out, `q` is dropped beside `p, q`.
+    /// Of two alternatives, one that the other covers is dropped, as `a & c` beside `a & b? & c`. The same holds for
+    /// two such alternatives that are followed by the same pattern.
     ///
-    /// RELAX NG Specification, sections 6.2.1 and 4.20. It obeys the restrictions of section 7 where all members do. The
-    /// error is want of memory. Costs a sort of all alternatives, or one pass over the members where no two of them differ
-    /// that are not notAllowed; two alternatives are gone through once more.
+    /// RELAX NG Specification, sections 6.2.1 and 4.20. The result obeys the restrictions of section 7 if all members
+    /// do. Fails only when out of memory. The cost is a sort of all alternatives, or one pass over the members if those
+    /// that are not notAllowed are all the same. Two alternatives take one more pass over their parts.
     pub fn choice(
         &mut self,
         alloc: Global,
@@ -59,7 +60,7 @@ impl PatternTable {
         self.choice_of(alternatives)
     }
 
-    /// The member beside which each other one is this one again or notAllowed, if there is one. Takes no memory.
+    /// Returns a member such that each other member is the same or notAllowed, if there is one. Allocates nothing.
     fn only_member(&self, members: &[PatternNumber]) -> Option<PatternNumber>
         requires { All (λ m. m.0 < length self.now) members.now }
         ensures { IfSome result (IsOnlyMember self.now members.now) }
@@ -79,7 +80,7 @@ impl PatternTable {
         Some(only)
     }
 
-    /// Whether the pattern is another than notAllowed. Takes no memory.
+    /// Returns whether the pattern is not notAllowed. Allocates nothing.
     fn is_allowed(&self, number: PatternNumber) -> bool
         requires { number.0 < length self.now }
         ensures { (t : Table) → IsAllowed result (tree_of t self.now number.0) }
@@ -90,7 +91,7 @@ impl PatternTable {
         }
     }
 
-    /// The alternatives of the members, in their order.
+    /// Returns the alternatives of the members, in their order.
     fn alternatives(
         &self,
         alloc: Global,
@@ -130,7 +131,7 @@ impl PatternTable {
         Ok(())
     }
 
-    /// Takes those away that another absorbs. The time is linear.
+    /// Removes those that another one absorbs. Linear.
     fn remove_absorbed(
         &self,
         alloc: Global,
@@ -152,7 +153,7 @@ impl PatternTable {
         Ok(())
     }
 
-    /// The numbers of patterns that one of the alternatives absorbs.
+    /// Returns the numbers of patterns that one of the alternatives absorbs.
     fn absorbed(
         &self,
         alloc: Global,
@@ -171,7 +172,8 @@ impl PatternTable {
         Ok(absorbed)
     }
 
-    /// A pattern that this one absorbs: what stands behind a side that may be left out. A choice is none, since no alternative is one.
+    /// Returns a pattern that this one absorbs: the part after a side that may be left out. It is never a choice, since
+    /// no alternative is one.
     fn absorbed_by(&self, pattern: PatternNumber) -> Option<PatternNumber>
         requires { pattern.0 < length self.now }
         ensures { IfSome result (λ m. IsAbsorbedBy self.now m pattern) }
@@ -183,14 +185,14 @@ impl PatternTable {
         }
     }
 
-    /// Whether the pattern is a choice. Takes no memory.
+    /// Returns whether the pattern is a choice. Allocates nothing.
     fn is_choice(&self, number: PatternNumber) -> bool
         requires { number.0 < length self.now }
     {
         matches!(self.pattern(number), Pattern::Choice(_))
     }
 
-    /// A choice of alternatives.
+    /// Returns a choice of alternatives.
     fn choice_of(&mut self, alternatives: Vec<PatternNumber>) -> Result<PatternNumber, OutOfMemory>
         requires inside { All (λ m. m.0 < length self.old) alternatives.items }
         requires members { (t : Table) → All (λ m. MayBeMember (tree_of t self.old m.0)) alternatives.items }
@@ -211,7 +213,7 @@ impl PatternTable {
     }
 }
 
-/// Puts the numbers in rising order, each once. Takes one pass over each run of rising numbers.
+/// Puts the numbers in rising order, each once. The cost is one pass over each run of rising numbers.
 fn put_in_order(numbers: &mut Vec<PatternNumber>) -> Result<(), OutOfMemory>
     ensures same { OnOk result ((m : PatternNumber) → Contains numbers.new.items m ↔ Contains numbers.old.items m) }
     ensures rising { OnOk result (IsStrictlyIncreasing (map (λ m. m.0) numbers.new.items)) }

@@ -1,4 +1,4 @@
-// Patterns that are copies of one other, one after the other.
+// Patterns that are copies of one other pattern, one after the other.
 ghost use Rattle.std.specs.Prelude.{◌<◌, IfOk, IfSome, IfNone, OnOk, length};
 ghost use Rattle.rng_model.specs.simple.Table.{Table};
 ghost use Rattle.rng_pattern_table.specs.plain.Copies.{IsBehindCopies, IsOfCopies, IsOpened};
@@ -10,8 +10,9 @@ use crate::pattern_table::PatternTable;
 use rng_model::OutOfMemory;
 
 impl PatternTable {
-    /// The sides of a group of these two once its first side is opened to the right, down to a first copy of what it is copies of: that
-    /// copy, and all that stands behind it. The error is want of memory. Costs a look-up for each group that is opened.
+    /// Returns the sides of a group of these two after its first side is reassociated to the right, down to a first
+    /// copy of its unit. The sides are that copy, and everything after it. Fails only when out of memory. The cost is
+    /// one look-up for each group that is opened.
     pub fn first_copy(
         &mut self,
         first: PatternNumber,
@@ -38,8 +39,8 @@ impl PatternTable {
         Ok((front, rest))
     }
 
-    /// What stands in a pattern behind the copies of `unit` with which it begins; `None` where it is such copies alone. Takes no
-    /// memory. Costs a comparison for each group of copies in front.
+    /// Returns what is in a pattern after the copies of `unit` with which it begins, or `None` if it consists only of
+    /// such copies. Allocates nothing. The cost is one comparison for each group of copies at the front.
     pub fn behind_copies(&self, unit: PatternNumber, number: PatternNumber) -> Option<PatternNumber>
         requires unit { unit.0 < length self.now }
         requires number { number.0 < length self.now }

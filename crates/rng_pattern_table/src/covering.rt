@@ -1,4 +1,4 @@
-// Which patterns match all that others match, as far as their shape tells.
+// Patterns that match everything that others match, as far as their shape shows.
 ghost use Rattle.std.specs.Prelude.{◌≡◌, ◌<◌, [], All, IsTrue, List, length};
 ghost use Rattle.std.specs.List.{Contains};
 ghost use Rattle.rng_model.specs.matching.Document.{Attribute, Item};
@@ -13,7 +13,7 @@ use crate::pattern::{Pattern, PatternNumber};
 use crate::pattern_table::PatternTable;
 
 impl PatternTable {
-    /// Of two alternatives, takes one away that the other one covers.
+    /// Removes one of two alternatives if the other one covers it.
     pub(crate) fn remove_covered(&self, alternatives: &mut Vec<PatternNumber>)
         requires { All (λ m. m.0 < length self.now) alternatives.old.items }
         ensures within { (m : PatternNumber) → Contains alternatives.new.items m → Contains alternatives.old.items m }
@@ -31,8 +31,8 @@ impl PatternTable {
         }
     }
 
-    /// Whether an alternative, `inner`, adds nothing to another one: it is empty and the other one may be left out, or the other
-    /// one covers it. Takes no memory.
+    /// Returns whether an alternative, `inner`, adds nothing to another one. This is so if it is empty and the other
+    /// one may be left out, or if the other one covers it. Allocates nothing.
     fn is_covered(&self, outer: PatternNumber, inner: PatternNumber) -> bool
         requires outer { outer.0 < length self.now }
         requires inner { inner.0 < length self.now }
@@ -44,8 +44,9 @@ impl PatternTable {
         }
     }
 
-    /// Whether a pattern covers another one: in groups and interleaves part by part, where what the other one lacks may be left
-    /// out. No means that it was not found out. Takes no memory, and goes at most once through what the first pattern is made of.
+    /// Returns whether a pattern covers another one. Groups and interleaves are compared part by part, where a part
+    /// that the other one lacks may be left out. False means that it is not known. Allocates nothing. The cost is at
+    /// most one pass over the parts of the first pattern.
     fn covers(&self, outer: PatternNumber, inner: PatternNumber) -> bool
         requires outer { outer.0 < length self.now }
         requires inner { inner.0 < length self.now }
@@ -77,8 +78,9 @@ impl PatternTable {
         }
     }
 
-    /// Whether one side of an interleave alone may cover a pattern: the other side may be left out, and none of its elements
-    /// stands in the pattern, of which the first side has the members. Takes no memory.
+    /// Returns whether one side of an interleave may cover a pattern alone. The other side must be one that may be left
+    /// out, and none of its elements may be in the pattern. The first side must have at least as many members as the
+    /// pattern. Allocates nothing.
     fn is_enough(&self, side: PatternNumber, other: PatternNumber, inner: PatternNumber) -> bool
         requires side { side.0 < length self.now }
         requires other { other.0 < length self.now }

@@ -1,4 +1,4 @@
-// The patterns of a grammar, taken over into a table.
+// The patterns of a grammar, put into a table.
 ghost use Rattle.std.specs.Prelude.{◌≡◌, ◌⊎◌, ◌<◌, All, IfOk, Some, length, slice_get};
 ghost use Rattle.rng_model.specs.simple.Table.{AreChildrenBelow, Table};
 ghost use Rattle.rng_model.specs.matching.Reading.{Reading};
@@ -15,10 +15,10 @@ use rng_model::{OutOfMemory, PatternId, Simple, SimpleGrammar};
 use std::alloc::Global;
 
 impl PatternTable {
-    /// The patterns of a grammar in a table, and the number of each.
+    /// Returns a table with the patterns of a grammar, and the number of each.
     ///
-    /// Each number's pattern takes what the grammar's does, and obeys the restrictions that the grammar's obeys (RELAX NG
-    /// Specification, section 7). The error is want of memory.
+    /// The pattern of each number takes what the grammar's pattern takes, and obeys the restrictions that it obeys
+    /// (RELAX NG Specification, section 7). Fails only when out of memory.
     pub fn of(
         alloc: Global,
         grammar: &SimpleGrammar,
@@ -36,7 +36,7 @@ impl PatternTable {
         Ok((table, numbers))
     }
 
-    /// The number of the grammar's pattern at a position, whose members have these numbers.
+    /// Returns the number of the grammar's pattern at a position, whose members have these numbers.
     fn take(
         &mut self,
         alloc: Global,
@@ -73,11 +73,12 @@ impl PatternTable {
         }
     }
 
-    /// The two in any order. The members of interleaves among them are nested so that a side has about half of them where they
-    /// came one by one: then what is made of an interleave of n members when one of them has gone on is as deep as the
-    /// logarithm of n.
+    /// Returns the interleave of the two. The members of interleaves among them are nested so that a side has about
+    /// half of them if they come one by one. So if one of n members is replaced by its rest, the new patterns are only
+    /// as deep as the logarithm of n.
     ///
-    /// RELAX NG Specification, section 6.2.6. The error is want of memory. Costs one look-up for each level of the new nesting.
+    /// RELAX NG Specification, section 6.2.6. Fails only when out of memory. The cost is one look-up for each level of
+    /// the new nesting.
     fn balanced(
         &mut self,
         first: PatternNumber,
@@ -100,7 +101,7 @@ impl PatternTable {
         self.interleave(more, joined)
     }
 
-    /// The two, first the one with more members. Takes no memory.
+    /// Returns the two, the one with more members first. Allocates nothing.
     fn by_members(
         &self,
         first: PatternNumber,
@@ -117,7 +118,8 @@ impl PatternTable {
         }
     }
 
-    /// How many patterns the pattern joins that are no interleaves. Takes no memory.
+    /// Returns the number of patterns, other than interleaves, that the pattern joins as an interleave. Allocates
+    /// nothing.
     fn members(&self, number: PatternNumber) -> u16
         requires { number.0 < length self.now }
         ensures { (t : Table) → result ≡ members_of (tree_of t self.now number.0) }

@@ -1,9 +1,9 @@
-//! The patterns that a matcher makes, in one table that only grows; equal patterns have one number. What is still asked for
-//! can be taken into a table of its own.
+//! The patterns that a matcher makes, in one table that only grows. Equal patterns have one number. The patterns that
+//! are still needed can be copied into a table of their own.
 //!
-//! A number stands for a tree in simple form (RELAX NG Specification, section 5). The rules about notAllowed (4.20) and
-//! about empty (4.21) are applied as patterns are made, and what is made takes what its parts say by the rules of
-//! matching (section 6.2), as `rng_deriv_laws` has them.
+//! A number represents a tree in simple form (RELAX NG Specification, section 5). The rules about notAllowed (4.20) and
+//! about empty (4.21) are applied as patterns are made. A pattern takes what its parts say by the rules of matching
+//! (section 6.2), as `rng_deriv_laws` defines them.
 #![tactic(auto)]
 
 mod choosing;

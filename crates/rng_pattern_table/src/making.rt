@@ -1,4 +1,4 @@
-// Patterns made of others.
+// Patterns made from others.
 ghost use Rattle.std.specs.Prelude.{◌≡◌, ◌<◌, IfOk, IfSome, IfNone, length};
 ghost use Rattle.rng_model.specs.simple.Table.{Table};
 ghost use Rattle.rng_model.specs.simple.Tree.{Connector, group, interleave, s_joined, s_leaf, s_one_or_more};
@@ -15,7 +15,7 @@ use crate::pattern_table::PatternTable;
 use rng_model::{ElementId, OutOfMemory};
 
 impl PatternTable {
-    /// A ref to an element of the grammar. The error is want of memory. Costs one look-up.
+    /// Returns a ref to an element of the grammar. Fails only when out of memory. The cost is one look-up.
     pub fn element(&mut self, element: ElementId) -> Result<PatternNumber, OutOfMemory>
         ensures longer { Longer self.old self.new }
         ensures tree { IfOk result (λ n. Adds self.old self.new n.0 (λ t. s_leaf element.0)) }
@@ -23,7 +23,7 @@ impl PatternTable {
         self.number_of(Pattern::Element(element))
     }
 
-    /// Whether the pattern is notAllowed as a whole. Takes no memory.
+    /// Returns whether the whole pattern is notAllowed. Allocates nothing.
     pub fn is_not_allowed(&self, number: PatternNumber) -> bool
         requires { number.0 < length self.now }
         ensures { (t : Table) → result ≡ tree.is_not_allowed (tree_of t self.now number.0) }
@@ -31,7 +31,7 @@ impl PatternTable {
         matches!(self.pattern(number), Pattern::NotAllowed)
     }
 
-    /// Whether the pattern is empty as a whole. Takes no memory.
+    /// Returns whether the whole pattern is empty. Allocates nothing.
     pub fn is_empty(&self, number: PatternNumber) -> bool
         requires { number.0 < length self.now }
         ensures { (t : Table) → result ≡ tree.is_empty (tree_of t self.now number.0) }
@@ -39,7 +39,8 @@ impl PatternTable {
         matches!(self.pattern(number), Pattern::Empty)
     }
 
-    /// What a group or an interleave of the two is by the rules about notAllowed and empty; `None` where they say nothing.
+    /// Returns what a group or an interleave of the two is by the rules about notAllowed and empty, or `None` if they
+    /// do not apply.
     fn by_rules(&self, first: PatternNumber, second: PatternNumber) -> Option<PatternNumber>
         requires first { first.0 < length self.now }
         requires second { second.0 < length self.now }
@@ -65,9 +66,9 @@ impl PatternTable {
         None
     }
 
-    /// The two one after the other.
+    /// Returns the two one after the other.
     ///
-    /// RELAX NG Specification, sections 6.2.2, 4.20 and 4.21. The error is want of memory. Costs one look-up.
+    /// RELAX NG Specification, sections 6.2.2, 4.20 and 4.21. Fails only when out of memory. The cost is one look-up.
     pub fn group(
         &mut self,
         first: PatternNumber,
@@ -86,9 +87,9 @@ impl PatternTable {
         }
     }
 
-    /// The two in any order.
+    /// Returns the two in any order.
     ///
-    /// RELAX NG Specification, sections 6.2.6, 4.20 and 4.21. The error is want of memory. Costs one look-up.
+    /// RELAX NG Specification, sections 6.2.6, 4.20 and 4.21. Fails only when out of memory. The cost is one look-up.
     pub fn interleave(
         &mut self,
         first: PatternNumber,
@@ -107,9 +108,9 @@ impl PatternTable {
         }
     }
 
-    /// The pattern once or more.
+    /// Returns the pattern once or more.
     ///
-    /// RELAX NG Specification, sections 6.2.5, 4.20 and 4.21. The error is want of memory. Costs one look-up.
+    /// RELAX NG Specification, sections 6.2.5, 4.20 and 4.21. Fails only when out of memory. The cost is one look-up.
     pub fn one_or_more(&mut self, pattern: PatternNumber) -> Result<PatternNumber, OutOfMemory>
         requires { pattern.0 < length self.old }
         ensures longer { Longer self.old self.new }

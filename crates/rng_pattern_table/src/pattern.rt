@@ -8,9 +8,9 @@ use rng_model::{ElementId, PatternId};
 #[derive(Clone, Copy, Default, PartialEq, Eq, PartialOrd, Ord, Hash)]
 pub struct PatternNumber(pub usize);
 
-/// A pattern in simple form, made of others that are named by their numbers.
+/// A pattern in simple form, made of others, which are given by their numbers.
 ///
-/// RELAX NG Specification, section 5. Leaves name what the grammar lists.
+/// RELAX NG Specification, section 5. Leaves refer to elements and patterns of the grammar.
 #[derive(PartialEq, Eq, Hash, Drop)]
 pub enum Pattern {
     NotAllowed,
@@ -29,24 +29,24 @@ pub enum Pattern {
     Data(PatternId),
 }
 
-/// What is known of a pattern once it is made.
+/// What is known of a pattern after it is made.
 #[derive(Clone, Copy, PartialEq, Eq)]
 pub struct Facts {
-    /// It matches no attributes with no items.
+    /// Whether it matches no attributes with no items.
     pub nullable: bool,
-    /// An attribute stands in it, outside its elements, lists and excepts.
+    /// Whether it contains an attribute, outside its elements, lists and excepts.
     pub attributes: bool,
-    /// With each sequence of items that it takes it takes each of its subsequences, but perhaps the empty one. Blank strings
-    /// about elements are left aside. No means that it was not found out.
+    /// Whether it takes each subsequence of each sequence of items that it takes, except perhaps the empty one. Blank
+    /// strings beside elements are ignored. False means that it is not known.
     pub subsequences: bool,
-    /// How many patterns an interleave joins that are no interleaves themselves, or 65,535 where they are more; 1 for another
-    /// pattern.
+    /// For an interleave, the number of patterns other than interleaves that it joins, at most 65,535. For any other
+    /// pattern, 1.
     pub members: u16,
-    /// Between which numbers the elements are that stand in it, outside its attributes, lists and excepts.
+    /// The range of numbers of the elements in it, outside its attributes, lists and excepts.
     pub elements: Span,
 }
 
-/// Between which numbers some are, where a number of 2^32 - 1 or more counts as 2^32 - 1.
+/// A range of numbers, where a number of 2^32 - 1 or more counts as 2^32 - 1.
 #[derive(Clone, Copy, PartialEq, Eq)]
 pub struct Span {
     least: u32,
@@ -54,7 +54,7 @@ pub struct Span {
 }
 
 impl Span {
-    /// There is none.
+    /// The empty range.
     pub const NONE: Span = Span {
         least: u32::MAX,
         greatest: 0,
@@ -66,7 +66,7 @@ impl Span {
         greatest: u32::MAX,
     };
 
-    /// This number alone. Takes no memory.
+    /// Returns the range of this number alone. Allocates nothing.
     pub fn one(number: usize) -> Span
         ensures { result ≡ one_span number }
     {
@@ -77,7 +77,7 @@ impl Span {
         }
     }
 
-    /// These and others. Takes no memory.
+    /// Returns a range that has the numbers of both. Allocates nothing.
     pub fn joined(self, others: Span) -> Span
         ensures { result ≡ joined_spans self others }
     {
@@ -87,7 +87,7 @@ impl Span {
         }
     }
 
-    /// Whether a number may be among these and among others. Takes no memory.
+    /// Returns whether a number may be in both ranges. Allocates nothing.
     pub fn may_meet(self, others: Span) -> bool
         ensures { (k : ℕ) → IsWithin self k → IsWithin others k → IsTrue result }
     {

@@ -18,11 +18,11 @@ use rng_model::OutOfMemory;
 use std::alloc::Global;
 use std::marker::Model;
 
-/// Patterns by number, from 0, each once. What a pattern is made of has smaller numbers.
+/// Patterns by number, from 0, each once. The parts of a pattern have smaller numbers.
 #[derive(Drop)]
 pub struct PatternTable {
     rows: IndexMap<Pattern, Facts>,
-    /// What each of the first patterns is copies of, by number, or `NO_UNIT`.
+    /// The units of the first patterns, by number. `NO_UNIT` means that a pattern has none other than itself.
     units: Vec<u32>,
     not_allowed: Option<PatternNumber>,
     empty: Option<PatternNumber>,
@@ -46,7 +46,7 @@ impl Model for PatternTable {
 }
 
 impl PatternTable {
-    /// No pattern. Takes no memory.
+    /// Creates an empty table. Allocates nothing.
     pub fn new(alloc: Global) -> Self
         ensures { length result ≡ 0 }
     {
@@ -58,14 +58,14 @@ impl PatternTable {
         }
     }
 
-    /// How many patterns there are. Takes no memory.
+    /// Returns the number of patterns. Allocates nothing.
     pub fn len(&self) -> usize
         ensures { result ≡ length self.now }
     {
         self.rows.len()
     }
 
-    /// The pattern of this number. Takes no memory.
+    /// Returns the pattern with this number. Allocates nothing.
     pub fn pattern(&self, number: PatternNumber) -> &Pattern
         requires { number.0 < length self.now }
         ensures found { slice_get self.now number.0 ≡ Some (node_of result.now) }
@@ -74,7 +74,7 @@ impl PatternTable {
         row_at(&self.rows, number.0).0
     }
 
-    /// What is known of the pattern of this number. Takes no memory.
+    /// Returns what is known of the pattern with this number. Allocates nothing.
     pub fn facts(&self, number: PatternNumber) -> Facts
         requires { number.0 < length self.now }
         ensures exact { (t : Table) → result ≡ facts_of (tree_of t self.now number.0) }
@@ -86,7 +86,8 @@ impl PatternTable {
         *row_at(&self.rows, number.0).1
     }
 
-    /// The pattern that matches nothing. The error is want of memory. Costs one look-up, and none when it is asked for again.
+    /// Returns the pattern that matches nothing. Fails only when out of memory. The cost is one look-up in the first
+    /// call and none in later ones.
     pub fn not_allowed(&mut self) -> Result<PatternNumber, OutOfMemory>
         ensures longer { Longer self.old self.new }
         ensures tree { IfOk result (λ n. Adds self.old self.new n.0 (λ t. s_not_allowed)) }
@@ -99,8 +100,8 @@ impl PatternTable {
         Ok(number)
     }
 
-    /// The pattern that matches no attributes with no items. The error is want of memory. Costs one look-up, and none when it
-    /// is asked for again.
+    /// Returns the pattern that matches no attributes with no items. Fails only when out of memory. The cost is one
+    /// look-up in the first call and none in later ones.
     pub fn empty(&mut self) -> Result<PatternNumber, OutOfMemory>
         ensures longer { Longer self.old self.new }
         ensures tree { IfOk result (λ n. Adds self.old self.new n.0 (λ t. s_empty)) }
@@ -113,7 +114,7 @@ impl PatternTable {
         Ok(number)
     }
 
-    /// What is known of a pattern whose parts are there.
+    /// Returns what is known of a pattern whose parts are in the table.
     fn facts_of(&self, pattern: &Pattern) -> Facts
         requires { ArePartsBelow (length self.now) (node_of pattern.now) }
         ensures { (t : Table) → result ≡ facts_of (tree_over t (tree_of t self.now) (node_of pattern.now)) }
@@ -146,7 +147,7 @@ impl PatternTable {
         }
     }
 
-    /// What is known of a choice of these members.
+    /// Returns what is known of a choice of these members.
     fn facts_of_choice(&self, members: &[PatternNumber]) -> Facts
         requires inside { All (λ m. m.0 < length self.now) members.now }
         requires two { 2 ≤ length members.now }
@@ -163,7 +164,8 @@ impl PatternTable {
         known
     }
 
-    /// The number of a pattern whose parts are there: a new one where no pattern of the table is equal to it.
+    /// Returns the number of a pattern whose parts are in the table. It is a new one if no pattern of the table is
+    /// equal.
     pub(crate) fn number_of(&mut self, pattern: Pattern) -> Result<PatternNumber, OutOfMemory>
         requires below { ArePartsBelow (length self.old) (node_of pattern) }
         requires reduced { (t : Table) → AreReduced (tree_of t self.old) (node_of pattern) }
@@ -177,7 +179,7 @@ impl PatternTable {
         Ok(PatternNumber(number))
     }
 
-    /// The number of a pattern that no pattern of the table is equal to, and whose parts are there: a new one.
+    /// Adds a pattern that is not in the table and whose parts are, and returns its number.
     pub(crate) fn add(&mut self, pattern: Pattern) -> Result<PatternNumber, OutOfMemory>
         requires below { ArePartsBelow (length self.old) (node_of pattern) }
         requires reduced { (t : Table) → AreReduced (tree_of t self.old) (node_of pattern) }
@@ -193,8 +195,8 @@ impl PatternTable {
         Ok(PatternNumber(number))
     }
 
-    /// The pattern that this one is copies of, one after the other: of a group that of its sides, where both are copies of one
-    /// pattern, and of each other pattern itself. Takes no memory.
+    /// Returns the pattern of which this one is copies, one after the other. For a group it is the unit of its sides,
+    /// if both are copies of one pattern. For any other pattern it is the pattern itself. Allocates nothing.
     pub fn unit(&self, number: PatternNumber) -> PatternNumber
         requires { number.0 < length self.now }
         ensures inside { result.0 < length self.now }
@@ -206,7 +208,7 @@ impl PatternTable {
         }
     }
 
-    /// What is kept as the unit of a pattern whose parts are there.
+    /// Returns the value to keep as the unit of a pattern whose parts are in the table.
     fn unit_of(&self, pattern: &Pattern) -> u32
         requires { ArePartsBelow (length self.now) (node_of pattern.now) }
         ensures { IsUnit self.now (λ t. tree_over t (tree_of t self.now) (node_of pattern.now)) result }
@@ -222,10 +224,10 @@ impl PatternTable {
     }
 }
 
-/// Kept of a pattern that is no copies of another one.
+/// The value that is kept for a pattern that is not copies of another one.
 const NO_UNIT: u32 = u32::MAX;
 
-/// Keeps the unit of the pattern of this number, where it is the next one.
+/// Keeps the unit of the pattern with this number, if it is the next one.
 fn keep_unit(units: &mut Vec<u32>, number: usize, unit: u32) -> Result<(), OutOfMemory>
     ensures { IsKeptLast units.old.items units.new.items number unit }
 {
@@ -244,7 +246,8 @@ const NOTHING_KNOWN: Facts = Facts {
     elements: Span::NONE,
 };
 
-/// What is known of a group or an interleave of two patterns of which this is known, with so many members.
+/// Returns what is known of a group or an interleave of two patterns, with this many members, from what is known of
+/// these.
 fn both(first: Facts, second: Facts, members: u16) -> Facts
     ensures { result ≡ both_facts first second members }
 {
@@ -260,7 +263,7 @@ fn both(first: Facts, second: Facts, members: u16) -> Facts
     }
 }
 
-/// The row at a place.
+/// Returns the row at a place.
 fn row_at(rows: &IndexMap<Pattern, Facts>, place: usize) -> (&Pattern, &Facts)
     requires { place < length rows.now.entries }
     ensures { slice_get rows.now.entries place ≡ Some (result.0.now, result.1.now) }

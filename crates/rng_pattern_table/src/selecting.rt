@@ -1,4 +1,4 @@
-// Some patterns of a table, in a table of their own.
+// Some patterns of a table, copied into a table of their own.
 ghost use Rattle.std.specs.Prelude.{◌≡◌, ◌<◌, ℕ, [], ◌∷◌, All, IfOk, length, map, take};
 ghost use Rattle.std.specs.List.{AllZip};
 ghost use Rattle.rng_model.specs.simple.Table.{Table};
@@ -15,12 +15,11 @@ use rng_model::OutOfMemory;
 use std::alloc::Global;
 
 impl PatternTable {
-    /// The patterns of these numbers and what they are made of, in a table of their own, and their numbers there, in the same
-    /// order.
+    /// Returns a table with the patterns of these numbers and their parts, and their numbers there, in the same order.
     ///
-    /// The trees are the same. So where the first of these numbers are those of a grammar's patterns (`of`), they are so there,
-    /// too. The error is want of memory. Takes time and memory in proportion to this table, and what it gives has only the rows
-    /// that are asked for.
+    /// The trees are the same. So if the first of these numbers are those of a grammar's patterns (`of`), the same
+    /// holds in the new table. Fails only when out of memory. Time and memory are linear in this table, but the result
+    /// has only the rows that are needed.
     pub fn selected(
         &self,
         alloc: Global,
@@ -40,7 +39,7 @@ impl PatternTable {
         Ok((table, places))
     }
 
-    /// Marks on these numbers, and on those of all that they are made of.
+    /// Returns marks on these numbers, and on those of all their parts.
     fn with_parts(&self, alloc: Global, numbers: &[PatternNumber]) -> Result<Vec<bool>, OutOfMemory>
         requires { All (λ n. n.0 < length self.now) numbers.now }
         ensures closed { IfOk result (λ marks. AreClosed self.now marks.items) }
@@ -58,7 +57,7 @@ impl PatternTable {
         Ok(marks)
     }
 
-    /// Marks what the pattern of this number is made of.
+    /// Marks the parts of the pattern with this number.
     fn mark_parts(&self, number: PatternNumber, marks: &mut Vec<bool>)
         requires inside { number.0 < length self.now }
         requires long { length marks.old.items ≡ length self.now }
@@ -75,7 +74,7 @@ impl PatternTable {
         }
     }
 
-    /// The marked patterns in a table of their own, and for each pattern that is marked its number there.
+    /// Returns a table with the marked patterns, and for each marked pattern its number there.
     fn copied(
         &self,
         alloc: Global,
@@ -111,7 +110,7 @@ fn mark_all(numbers: &[PatternNumber], marks: &mut Vec<bool>)
     }
 }
 
-/// The pattern with the numbers that were given for those of what it is made of.
+/// Returns the pattern with the new numbers of its parts.
 fn renumbered(
     alloc: Global,
     pattern: &Pattern,
@@ -139,7 +138,7 @@ fn renumbered(
     }
 }
 
-/// What was given for each of the numbers.
+/// Returns the new number of each of the numbers.
 fn all_given(
     alloc: Global,
     numbers: &[PatternNumber],

@@ -15,7 +15,7 @@ two_items (x ∷ []) l r a b e f = absurd (omega (arith, a))
 two_items (x ∷ (y ∷ [])) l r a b e f = cc
 two_items (x ∷ (y ∷ (z ∷ xs))) l r a b e f = absurd (omega (arith, b))
 
--- what stands between parentheses or not, behind a text
+-- a part with or without parentheses, after a text
 pub parted : (b : Bool) (old w : List ℕ) → ((old ++ cond b (codes "(") []) ++ w) ++ cond b (codes ")") [] ≡ old ++ in_parentheses_if b w
 parted true old w = simp append_assoc refl
 parted false old w = append-nil ((old ++ []) ++ w) ∙ ap (λ x. x ++ w) (append-nil old)

@@ -1,4 +1,4 @@
--- Items of the tables stand for items of the grammar, one to one.
+-- Items of the tables represent items of the grammar, one to one.
 use Rattle.std.proofs.Common.{◌≡◌, ◌∙◌, ℕ, ◌<◌, Bool, true, false, cond, List, [], ◌∷◌, ◌++◌, length, map, refl, sym, ap, subst, codes, Option, Some, None}
 use Rattle.std.specs.Prelude.{◌==◌, decimal}
 use Rattle.std.specs.List.{AllByRecursion, filter_map, list_any, position_or_len}
@@ -78,7 +78,7 @@ has_pattern numbers [] p = refl
 has_pattern numbers (variants.Element d ∷ xs) p = has_pattern numbers xs p
 has_pattern numbers (variants.Pattern q ∷ xs) p = rw (has_pattern numbers xs p) refl
 
--- items with the same numbers, and perhaps one more
+-- items with the same numbers, and possibly one more
 module _ (old new : Items) (h : AreIndexed old) (numbers : new.numbers.items ≡ old.numbers.items) where
   abbrev elements_among : List Item → List ElementId
   elements_among = filter_map element_of
@@ -103,7 +103,7 @@ module _ (old new : Items) (h : AreIndexed old) (numbers : new.numbers.items ≡
       (f ∙ ap (λ ks. ks ++ trees_among (x ∷ [])) h.trees ∙ sym (filter_map-append (tree_number old.numbers.items) old.all.items (x ∷ []))
       ∙ ap trees_among (sym all))
 
-  -- an element that is inserted among the elements, and put behind the items if it is new
+  -- an element that is inserted among the elements, and appended to the items if it is new
   module _ (e : ElementId) (trees : new.trees.keys ≡ old.trees.keys) where
     abbrev was : Bool
     was = list_any (λ d. e.0 == d.0) old.elements.keys
@@ -185,7 +185,7 @@ any_elements : (es : List ElementId) → AllByRecursion (λ e. Unit {0}) es
 any_elements [] = tt
 any_elements (e ∷ es) = (tt, any_elements es)
 
--- the name of an item is that of what it stands for
+-- the name of an item is that of its view
 pub name_is : (t : Table) (items : Items) (x : Item) → AreItems t items → IsInside t x → numbered_name items x ≡ item_name (items_seen t items) (item_at t x)
 name_is t items (variants.Element e) h i =
     ap (λ n. codes "e" ++ decimal n)

@@ -1,4 +1,4 @@
--- What the tables say of the items of a grammar.
+-- What the tables contain for the items of a grammar.
 use Rattle.std.proofs.Common.{◌≡◌, ◌∙◌, ℕ, ◌<◌, length, map, sym, ap, Option, Some, None}
 use Rattle.std.specs.Prelude.{slice_get, option_map}
 use Rattle.std.specs.Option.{unwrap_or}

@@ -1,4 +1,4 @@
--- Lines, one behind another.
+-- Lines, one after the other.
 use Rattle.std.proofs.Common.{◌≡◌, ◌∙◌, ℕ, ◌+◌, ◌≤◌, ◌<◌, List, [], ◌∷◌, ◌++◌, length, map, take, flat_map, get_or, sym, ap, append_assoc, codes}
 use Rattle.rncv_model.specs.printed.PrintedText.{line}
 use Rattle.std.proofs.lemmas.List.{flat_map_more, map-append, take_all, take_more}

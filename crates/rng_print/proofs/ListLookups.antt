@@ -1,4 +1,4 @@
--- What is looked up in lists.
+-- Look-ups in lists.
 use Rattle.std.proofs.Common.{◌≡◌, ◌∙◌, ℕ, zero, suc, ◌<◌, Bool, true, false, cond, not, nat_lt, List, [], ◌∷◌, length, refl, sym, ap, subst, Option, Some}
 use Rattle.std.proofs.Common.{None, Ok, Err, Result, position, arith}
 use Rattle.std.specs.Prelude.{All, OnOk, slice_get, slice_index_or}
@@ -18,7 +18,7 @@ get_below [] k x e = absurd (cc)
 get_below (y ∷ xs) zero x e = omega arith
 get_below (y ∷ xs) (suc k) x e = let h = get_below xs k x e in omega (arith, h)
 
--- what holds of all holds of the one that is found
+-- what holds for all holds for the one that is found
 pub all_at : {X : Type 0} (P : X → Type 0) (xs : List X) (k : ℕ) (x : X) → All P xs → slice_get xs k ≡ Some x → P x
 all_at P xs k x h e = subst P (get_or_from_slice_get xs k x x e) (h k x (get_below xs k x e))
 
@@ -27,7 +27,7 @@ each_at P [] k d h l = absurd (omega (arith, l))
 each_at P (x ∷ xs) zero d h l = h.0
 each_at P (x ∷ xs) (suc k) d h l = each_at P xs k d h.1 (omega (arith, l))
 
--- the number of what is found, or how many there are
+-- the number of what is found, or the length of the list
 pub number_is : {X : Type 0} (p : X → Bool) (xs : List X) (found : Option ℕ) (len number : ℕ) → found ≡ position p xs → len ≡ length xs
     → number ≡ unwrap_or found len
     → number ≡ position_or_len p xs
@@ -42,7 +42,7 @@ number_is p xs found len number f l n =
         let under = prefix_len-le-length (λ x. not (p x)) xs in
         omega (arith, over, under)
 
--- a test whose opposite is known
+-- a test whose negation is known
 pub is_old : (flag was : Bool) → flag ≡ not was → flag ≡ false → was ≡ true
 is_old flag true e f = refl
 is_old flag false e f = absurd (false_true (sym f ∙ e))

@@ -1,4 +1,4 @@
--- A literal, byte by byte, is the literal.
+-- Writing a literal byte by byte gives the literal.
 use Rattle.std.proofs.Common.{◌≡◌, ◌∙◌, ℕ, suc, ◌+◌, ◌≤◌, arith, ◌<◌, Bool, true, false, cond, List, [], ◌∷◌, ◌++◌, flat_map, length, drop, get_or, refl, sym}
 use Rattle.std.proofs.Common.{ap, append_assoc, codes, drop-cons}
 use Rattle.std.specs.Prelude.{◌==◌}
@@ -7,12 +7,12 @@ use Rattle.rncv_model.specs.printed.PrintedText.{delimiter, with_character, runs
 use Rattle.rng_print.specs.plain.Literals.{byte_text, open_text}
 use Rattle.rng_print.proofs.SameTests.{number_itself}
 
--- what is written of these runs where a run between these is open
+-- what is written for these runs if a run with this delimiter is open
 abbrev rest_text : ℕ → List (ℕ × List ℕ) → List ℕ
 rest_text quote [] = quote ∷ []
 rest_text quote (run ∷ runs) = cond (quote == run.0) (flat_map escaped run.1 ++ run.0 ∷ more_runs runs) (quote ∷ more_runs (run ∷ runs))
 
--- what is written in front of a character where a run between these is open, and another is wanted or not
+-- what is written in front of a character if a run is open, whether or not another one is needed
 abbrev before : Bool → ℕ → ℕ → List ℕ
 before b quote d = cond b [] (quote ∷ (codes " ~ " ++ d ∷ []))
 
@@ -55,7 +55,7 @@ begins c (run ∷ runs) = at_test (delimiter c == run.0) refl
     at_test true e = joined_is (delimiter c) (run.0, c ∷ run.1) runs e
     at_test false e = joined_is (delimiter c) (delimiter c, c ∷ []) (run ∷ runs) (number_itself (delimiter c))
 
--- a literal is what its first character stands between, and then its bytes
+-- a literal is the delimiter of its first character, and then its bytes
 pub literal_is : (c : ℕ) (cs : List ℕ) → literal (c ∷ cs) ≡ delimiter c ∷ open_text (delimiter c) (c ∷ cs)
 literal_is c cs = begins c (runs_of cs) ∙ ap (λ x. delimiter c ∷ x) (sym (open_is (c ∷ cs) (delimiter c)))
 
@@ -71,7 +71,7 @@ byte_written old new bytes total quote next i l n w h =
     ∙ ap (λ bs. old ++ open_text quote bs) (sym (drop-cons bytes i 0 l ∙ ap (λ m. get_or bytes i 0 ∷ drop m bytes) one))
     ∙ h
 
--- what the first byte stands between
+-- the delimiter of the first byte
 pub literal_begun : (old new bytes : List ℕ) (quote : ℕ) → 1 ≤ length bytes → quote ≡ delimiter (get_or bytes 0 0) → new ≡ old ++ quote ∷ []
     → new ++ open_text quote (drop 0 bytes) ≡ old ++ literal bytes
 literal_begun old new [] quote l e n = absurd (omega (arith, l))

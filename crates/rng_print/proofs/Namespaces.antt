@@ -1,4 +1,4 @@
--- Namespaces of a class, and where they stand.
+-- Namespaces of a class, and their places.
 use Rattle.std.proofs.Common.{◌≡◌, ◌∙◌, ℕ, ◌+◌, ◌<◌, length, take, get_or, cond, not, List, [], ◌∷◌, ◌++◌, map, flat_map, refl, sym, ap, Bor, Vec, Global}
 use Rattle.std.proofs.Common.{rules, bytes_eq}
 use Rattle.std.specs.List.{AllByRecursion, position_or_len}
@@ -15,7 +15,7 @@ use Rattle.rng_print.proofs.CarriedNumberings.{with_map}
 use Rattle.rng_print.proofs.SameTests.{bytes_exact, bytes_itself}
 use Rattle.rng_print.proofs.Numberings.{and_append}
 
--- a choice is seen as one of its members, each as it is seen
+-- the view of a choice is the choice of the views of its members
 pub choice_is : (class : NameClass) (members : Vec NameClass Global) (xs : List NameClass) → class ≡ Choice members → xs ≡ members.items
     → class_of class ≡ some_of (map class_of xs)
 choice_is class members xs e items = ap class_of e ∙ search (rules, the_lemmas, items)
@@ -24,7 +24,7 @@ any_names : (ns : List (Bor (List ℕ))) → AllByRecursion (λ n. Unit {0}) ns
 any_names [] = tt
 any_names (n ∷ ns) = (tt, any_names ns)
 
--- a new namespace goes last, and one that is there stays where it is
+-- a new namespace goes last, and a known one stays where it is
 pub with_namespace : (ks : List (Bor (List ℕ))) (k : Bor (List ℕ))
     → map (λ n. n.now) (insert_key (λ a b. bytes_eq a.now b.now) ks k) ≡ with_new bytes_eq (map (λ n. n.now) ks) k.now
 with_namespace ks k = with_map (λ a b. bytes_eq a.now b.now) bytes_eq (λ n. n.now) (λ n. Unit {0}) (λ a b p q. refl) ks k (any_names ks) tt

@@ -1,4 +1,4 @@
--- There is one numbering at most, and the steps find it.
+-- There is at most one numbering, and the steps find it.
 use Rattle.std.proofs.Common.{◌≡◌, ◌∙◌, ◌⊎◌, inl, inr, ℕ, zero, suc, ◌+◌, ◌≤◌, ◌<◌, Bool, true, false, cond, List, [], ◌∷◌, ◌++◌, length, flat_map, refl, sym}
 use Rattle.std.proofs.Common.{ap, subst, Some, None, append_assoc, arith}
 use Rattle.std.specs.Prelude.{◌||◌, Contains, slice_get}
@@ -47,7 +47,7 @@ all_each P [] h = tt
 all_each P (x ∷ xs) h = (h x (contains_here x xs x refl), all_each P xs (λ a c. h a (contains_later x xs a c)))
 
 module _ {A : Type 0} (same : A → A → Bool) (exact : (a b : A) → same a b ≡ true → a ≡ b) (itself : (a : A) → same a a ≡ true) where
-  -- ---- what a list has
+  -- ---- membership in a list
 
   pub has_contained : (xs : List A) (a : A) → Contains xs a → has same xs a ≡ true
   has_contained [] a c = absurd (contains_none a c)
@@ -93,7 +93,7 @@ module _ {A : Type 0} (same : A → A → Bool) (exact : (a b : A) → same a b 
       at_test true e f = e
       at_test false e f = f ∙ append_assoc w (z ∷ []) (fresh (w ++ z ∷ []) zs)
 
-  -- each is new behind those before it
+  -- each is new after those before it
   abbrev pub AreNew : List A → List A → Type 0
   AreNew w [] = Unit {0}
   AreNew w (a ∷ r) = (has same w a ≡ false) × AreNew (w ++ a ∷ []) r
@@ -107,7 +107,7 @@ module _ {A : Type 0} (same : A → A → Bool) (exact : (a b : A) → same a b 
       at_test true e h i = h
       at_test false e h i = (e, i)
 
-  -- what is among either is there
+  -- what is in either is in the result
   and_has_left : (w zs : List A) (a : A) → has same w a ≡ true → has same (and_new same w zs) a ≡ true
   and_has_left w zs a h = subst (λ (x : List A). has same x a ≡ true) (sym (and_fresh w zs)) (has_left w (fresh w zs) a h)
 
@@ -140,7 +140,7 @@ module _ {A : Type 0} (same : A → A → Bool) (exact : (a b : A) → same a b 
     | inr d ↦ has_right (line y) (flat_map line ys) a (flat_has line ys x a d i)
   ]
 
-  -- ---- what is written when so many lines are done
+  -- ---- what is written after this many lines
 
   module _ (start : List A) (line : A → List A) where
     abbrev pub written : List A → List A
@@ -152,7 +152,7 @@ module _ {A : Type 0} (same : A → A → Bool) (exact : (a b : A) → same a b 
         ∙ ap (first_times same) (sym (append_assoc start (flat_map line done) (flat_map line rest)))
         ∙ and_append [] (start ++ flat_map line done) (flat_map line rest)
 
-    -- where each thing written has its line, all that is reached is written
+    -- if everything written has its line, everything reached is written
     closed : (done : List A) → written done ≡ done → (a : A) → IsReached same start line a → has same done a ≡ true
     closed done e a (at_start {a = x} c) =
         subst (λ (y : List A). has same y a ≡ true) e
@@ -162,7 +162,7 @@ module _ {A : Type 0} (same : A → A → Bool) (exact : (a b : A) → same a b 
         (and_has_right [] (start ++ flat_map line done) a
         (has_right start (flat_map line done) a (flat_has line done x a (closed done e x r) (has_contained (line x) a c))))
 
-    -- ---- the steps, as a relation: these have lines, and these are written and have none
+    -- ---- the steps, as a relation: these have lines, and these are written without lines
 
     data Follows : List A → List A → List A → Type 0 where
       ends : {done all : List A} → all ≡ done → Follows done [] all
@@ -193,7 +193,7 @@ module _ {A : Type 0} (same : A → A → Bool) (exact : (a b : A) → same a b 
     no_items : (a : A) (xs : List A) → [] ≡ a ∷ xs → ⊥
     no_items a xs e = let n : 0 ≡ suc (length xs) = ap length e in omega (arith, n)
 
-    -- what is written behind one line more
+    -- what is written after one more line
     after_line : (done waiting : List A) (a : A) → written done ≡ done ++ a ∷ waiting
         → written (done ++ a ∷ []) ≡ (done ++ a ∷ []) ++ (waiting ++ fresh (done ++ a ∷ waiting) (line a ++ []))
     after_line done waiting a w =
@@ -225,7 +225,7 @@ module _ {A : Type 0} (same : A → A → Bool) (exact : (a b : A) → same a b 
     start_follows : (xs : List A) → IsNumbering same start line xs → Follows [] (written []) xs
     start_follows xs n = follows xs [] (written []) xs refl n.in_order n.reached refl
 
-    -- there is one numbering at most
+    -- there is at most one numbering
     pub one_numbering : (xs ys : List A) → IsNumbering same start line xs → IsNumbering same start line ys → xs ≡ ys
     one_numbering xs ys n m = one_end (start_follows xs n) ys (start_follows ys m)
 
@@ -319,7 +319,7 @@ module _ {A : Type 0} (same : A → A → Bool) (exact : (a b : A) → same a b 
     numbering_found xs n steps le = ap (λ (x : List A). numbered_from same line steps 0 (first_times same x)) (sym (append-nil start))
         ∙ steps_find (start_follows xs n) steps (omega (arith, le)) refl
 
-    -- ---- there is a numbering, where what is reached is among finitely many
+    -- ---- there is a numbering if only finitely many are reached
 
     abbrev missing : List A → List A → ℕ
     missing done [] = 0
@@ -352,7 +352,7 @@ module _ {A : Type 0} (same : A → A → Bool) (exact : (a b : A) → same a b 
       | inr d ↦ less (has same done c) (has same (done ++ a ∷ []) c) _ _ (λ k. has_left done (a ∷ []) c k) (fewer done cs a n d)
     ]
 
-    -- what is written is new behind what stands before it
+    -- what is written is new after what is before it
     new_there : (w done waiting : List A) (a : A) → AreNew w (done ++ a ∷ waiting) → has same (w ++ done) a ≡ false
     new_there w [] waiting a n = ap (λ (x : List A). has same x a) (append-nil w) ∙ n.0
     new_there w (x ∷ done) waiting a n = ap (λ (y : List A). has same y a) (sym (append_assoc w (x ∷ []) done)) ∙ new_there (w ++ x ∷ []) done waiting a n.1
@@ -375,7 +375,7 @@ module _ {A : Type 0} (same : A → A → Bool) (exact : (a b : A) → same a b 
         let more = step_on cs among n (done ++ a ∷ []) (waiting ++ fresh (done ++ a ∷ waiting) (line a ++ [])) e r (omega (arith, less, le)) in
         (more.0, next e more.1)
 
-    -- what is reached is among finitely many, so there is a numbering
+    -- only finitely many are reached, so there is a numbering
     pub numbering_there : (cs : List A) → ((a : A) → IsReached same start line a → has same cs a ≡ true) → (xs : List A) × IsNumbering same start line xs
     numbering_there cs among =
         let found = step_on cs among (missing [] cs) [] (written []) refl tt (omega arith) in
@@ -383,6 +383,6 @@ module _ {A : Type 0} (same : A → A → Bool) (exact : (a b : A) → same a b 
 
     -- ---- places
 
-    -- each is there once
+    -- each occurs once
     pub numbering_new : (xs : List A) → IsNumbering same start line xs → AreNew [] xs
     numbering_new xs n = subst (AreNew []) (sym (and_fresh [] (start ++ flat_map line xs)) ∙ sym n.in_order) (fresh_new [] (start ++ flat_map line xs))

@@ -97,7 +97,7 @@ module _ (s : Schema) (g h : Grammar) (f : SimpleForm) (is : IsSimpleFormOfSchem
   abbrev other : IsSameUpToNumbering h form
   other = only form is_form
 
-  -- ---- the pairing, there and back
+  -- ---- the pairing, in both directions
 
   to : (k : ℕ) → k < n → (j : ℕ) × (j < m) × (other.element j ≡ same.element k)
   to k l = All-contains (λ e. (j : ℕ) × (j < m) × (other.element j ≡ e.name)) rows (row k) other.all (in_rows k l)

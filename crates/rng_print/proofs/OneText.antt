@@ -18,7 +18,7 @@ one_items g xs ys n m = one_numbering same_item item_exact item_itself (item_of 
 pub one_text : (g : Grammar) (t u : List ℕ) → IsPrinted g t → IsPrinted g u → t ≡ u
 one_text g t u p q = p.is ∙ ap (text_of g) (one_items g p.items q.items p.numbered q.numbered) ∙ sym q.is
 
--- it is the one that the steps give, if there are as many as items
+-- it is the text that the steps give, if there are as many steps as items
 pub items_found : (g : Grammar) (items : List Item) → IsItemsOf g items → (steps : ℕ) → length items ≤ steps
     → numbered same_item steps (item_of g.start) (mentions g) ≡ items
 items_found g items n steps le = numbering_found same_item item_exact item_itself (item_of g.start) (mentions g) items n steps le
@@ -54,7 +54,7 @@ among_append : (cs xs ys : List Item) → AllAmong cs xs → AllAmong cs ys → 
 among_append cs [] ys h i = i
 among_append cs (x ∷ xs) ys h i = (h.0, among_append cs xs ys h.1 i)
 
--- a tree all of whose items are there
+-- a tree whose items are all there
 among_parts : (cs xs ys : List Item) → AllAmong cs (xs ++ ys) → AllAmong cs xs × AllAmong cs ys
 among_parts cs [] ys h = (tt, h)
 among_parts cs (x ∷ xs) ys h = let r = among_parts cs xs ys h.1 in ((h.0, r.0), r.1)
@@ -72,7 +72,7 @@ written_among cs (s_data_except d a) h = (h.0, tt)
 written_among cs (s_one_or_more a) h = (h.0, tt)
 written_among cs (s_joined k a b) h = (h.0, tt)
 
--- an item all of whose parts' items are there
+-- an item whose parts' items are all there
 abbrev Whole : Grammar → List Item → Item → Type 0
 Whole g cs (element k) = Has cs (element k)
 Whole g cs (pattern s) = Has cs (pattern s) × AllAmong cs (inside s)

@@ -1,4 +1,4 @@
--- Patterns are told apart by their codes, where their parts are told apart by their numbers.
+-- Codes distinguish patterns, if numbers distinguish their parts.
 use Rattle.std.proofs.Common.{◌≡◌, ◌↔◌, ◌∙◌, refl, ap, ap₂, ℕ, ◌<◌, List, [], ◌∷◌, string_bytes, arith}
 use Rattle.rng_labels.specs.plain.LabelCodes.{class_code, datatype_code, value_code}
 use Rattle.rng_labels.proofs.LabelCodes.{same_classes, same_datatypes, same_values}
@@ -14,7 +14,7 @@ use Rattle.rng_model.specs.declared.simple.Simple.{Simple}
 use Rattle.rng_model.specs.declared.simple.Simple.TheVariants as simple
 use Rattle.rng_print.specs.plain.PatternCodes.{coded, numbers_of, pattern_code}
 
--- a pattern's code reads the numbers of its parts alone
+-- the code of a pattern reads only the numbers of its parts
 pub code_below : (f g : PatternId → ℕ) (n : ℕ) (p : Simple) → AreChildrenBelow n p → ((id : PatternId) → id.0 < n → f id ≡ g id)
     → pattern_code f p ≡ pattern_code g p
 code_below f g n simple.NotAllowed h same = refl

@@ -1,4 +1,5 @@
--- Grammars that are the same up to numbering have equally many elements, and are simple forms of the same schemas.
+-- Grammars that are the same up to numbering have the same number of elements, and are simple forms of the same
+-- schemas.
 use Rattle.std.proofs.Common.{◌≡◌, ◌∙◌, ℕ, zero, suc, ◌<◌, ◌≤◌, Bool, true, false, cond, [], ◌∷◌, length, refl, sym, ap, subst, arith}
 use Rattle.std.specs.Prelude.{Contains}
 use Rattle.std.proofs.Math.Dec.{ltb}
@@ -14,12 +15,12 @@ use Rattle.rng_model.specs.schema.Unfolding.{Leaf}
 use Rattle.rng_print.specs.plain.Renumbered.{renumbered, AreSameUpToNumbering}
 use Rattle.rng_print.proofs.TreeShapes.{renamed_renumbered}
 
--- ---- as many
+-- ---- the same number of elements
 
--- numbers below n that lead to different numbers below m are no more than these
+-- if numbers below n are mapped to different numbers below m, n is at most m
 module _ (n m : ℕ) (f : ℕ → ℕ) (inside : (k : ℕ) → k < suc n → f k < suc m)
     (one_to_one : (i j : ℕ) → i < suc n → j < suc n → f i ≡ f j → i ≡ j) where
-  -- the last one leads to where one leads that led to m
+  -- the last one is mapped to the value of the one that is mapped to m
   abbrev spared : ℕ → ℕ
   spared k = cond (ltb (f k) m) (f k) (f n)
 
@@ -72,7 +73,7 @@ module _ (g h : Grammar) (s : AreSameUpToNumbering g h) where
 pub as_many : (g h : Grammar) → AreSameUpToNumbering g h → length g.elements ≡ length h.elements
 as_many g h s = omega (arith, no_more_elements g h s, no_more_elements h g (turned g h s))
 
--- an element that is not reached is paired as well: with one more, a grammar is not the same
+-- an element that is not reached is paired too: with one more element, a grammar is not the same
 one_more_element : AreSameUpToNumbering (record { start = s_empty; elements = [] }) (record { start = s_empty; elements = (any_name, s_empty) ∷ [] }) → ⊥
 one_more_element s = let same = as_many _ _ s in omega (arith, same)
 
@@ -105,6 +106,6 @@ module _ (g h : Grammar) (s : AreSameUpToNumbering g h) (f : SimpleForm) (is : I
         (subst (λ t. Contains f.elements (record { name = name j; class = c; body = t })) (named p) b.0, old.1);
   }
 
--- what is the same as a simple form of a schema is one of it
+-- a grammar that is the same as a simple form of a schema is one too
 pub is_form_too : (g h : Grammar) → AreSameUpToNumbering g h → (s : Schema) → IsSimpleGrammarOf s g → IsSimpleGrammarOf s h
 is_form_too g h same s is = (is.0, is.1, is_numbered g h same is.0 is.2)

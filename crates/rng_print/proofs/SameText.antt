@@ -1,4 +1,4 @@
--- Grammars that are the same up to the numbering of their elements have one text.
+-- Grammars that are the same up to the numbers of their elements have one text.
 use Rattle.std.proofs.Common.{◌≡◌, ◌∙◌, ℕ, ◌<◌, Bool, true, false, List, [], ◌∷◌, ◌++◌, length, map, flat_map, refl, sym, ap, subst, codes}
 use Rattle.std.specs.Prelude.{◌==◌, decimal}
 use Rattle.std.specs.List.{AllByRecursion, filter_map}
@@ -21,7 +21,7 @@ use Rattle.rng_print.proofs.CarriedNumberings.{map_append, place_map, carried}
 use Rattle.rng_print.proofs.OneText.{one_text}
 use Rattle.rng_print.proofs.TreeShapes.{IsBelow, is_below}
 
--- a test that is exact says of things carried over, and back again, what it says of them
+-- an exact test gives the same result after things are mapped and mapped back
 carried_test : {A B : Type 0} (same : A → A → Bool) (alike : B → B → Bool) → ((a b : A) → same a b ≡ true → a ≡ b) → ((a : A) → same a a ≡ true)
     → ((a b : B) → alike a b ≡ true → a ≡ b) → ((b : B) → alike b b ≡ true) → (f : A → B) (back : B → A) (a b : A) → back (f a) ≡ a → back (f b) ≡ b
     → alike (f a) (f b) ≡ same a b

@@ -1,4 +1,5 @@
--- Patterns have the same number exactly if their trees are equal, where each has the place of its code among codes that are told apart.
+-- Patterns have the same number exactly if their trees are equal, if each has the place of its code among different
+-- codes.
 use Rattle.std.proofs.Common.{◌≡◌, ◌↔◌, ◌∙◌, inl, inr, sym, ap, subst, ℕ, zero, suc, ◌<◌, ◌≤◌, List, [], ◌∷◌, ◌++◌, length, Some, None, slice_get, arith}
 use Rattle.std.proofs.Common.{length-append}
 use Rattle.std.proofs.lemmas.Bool.{cases_lt}

@@ -1,4 +1,4 @@
--- A tree of a simple grammar is known by its shape and the list of its leaves.
+-- The shape of a tree of a simple grammar and the list of its leaves determine it.
 use Rattle.std.proofs.Common.{◌≡◌, ◌∙◌, ℕ, ◌<◌, List, [], ◌∷◌, ◌++◌, map, refl, sym, ap, append_assoc}
 use Rattle.std.specs.List.{AllByRecursion}
 use Rattle.std.proofs.lemmas.List.{map-append}
@@ -117,11 +117,11 @@ renumbered_twice f g (s_value d v) = refl
 renumbered_twice f g (s_one_or_more s) = rw (renumbered_twice f g s) refl
 renumbered_twice f g (s_joined k s u) = rw (renumbered_twice f g s, renumbered_twice f g u) refl
 
--- other names for numbers that were changed are other names for the first
+-- renaming leaves that were renumbered is renaming the first leaves by both steps
 pub renamed_renumbered : {J K L : Type 0} (f : J → K) (g : K → L) (s : Simple J) → renamed g (as_tree (renumbered f s)) ≡ renamed (λ j. g (f j)) (as_tree s)
 renamed_renumbered f g s = sym (tree_of g (renumbered f s)) ∙ ap as_tree (renumbered_twice f g s) ∙ tree_of (λ j. g (f j)) s
 
--- ---- among the trees as written
+-- ---- trees as they are written
 
 abbrev simple_of : {L : Type 0} → Tree L → Simple L
 simple_of not_allowed = s_not_allowed
@@ -198,7 +198,7 @@ is_below n (s_value d v) h = tt
 is_below n (s_one_or_more s) h = is_below n s (λ l i. h l (of_one_or_more i))
 is_below n (s_joined k s u) h = (is_below n s (λ l i. h l (of_first i)), is_below n u (λ l i. h l (of_second i)))
 
--- ---- two names for the same leaves
+-- ---- two names of the same leaves
 
 module _ {L : Type 0} (f h : ℕ → L) (n m : ℕ) (pairing : ℕ → ℕ) (paired : (k : ℕ) → k < n → (pairing k < m) × (h (pairing k) ≡ f k))
     (one_to_one : (i j : ℕ) → i < m → j < m → h i ≡ h j → i ≡ j) where
@@ -213,7 +213,7 @@ module _ {L : Type 0} (f h : ℕ → L) (n m : ℕ) (pairing : ℕ → ℕ) (pai
       let one : j ≡ pairing k = one_to_one j (pairing k) b.0 both.0 (sym first ∙ sym both.1) in
       ap (λ x. x ∷ js) one ∙ ap (λ xs. pairing k ∷ xs) (same_leaves ks js a.1 b.1 rest)
 
-  -- the second tree is the first, by the numbers that are paired
+  -- the second tree is the first one with the paired numbers
   pub paired_tree : (s u : Simple ℕ) → AreLeavesBelow n (as_tree s) → AreLeavesBelow m (as_tree u) → renamed f (as_tree s) ≡ renamed h (as_tree u)
       → u ≡ renumbered pairing s
   paired_tree s u a b e =

@@ -98,7 +98,7 @@ row_6_text : text_of (of_body (s_data (record {
     lines (codes "start = e0" ∷ codes "e0 = element a { xsd:integer { minInclusive = \"-3\" } }" ∷ [])
 row_6_text = rw zero_text refl
 
--- what is shared has one line: x0 = x1, x1 and x1 = text, text
+-- a shared pattern has one line: x0 = x1, x1 and x1 = text, text
 abbrev shared : Simple ℕ
 shared = s_joined group s_text s_text
 
@@ -117,7 +117,7 @@ literal_2 = refl
 literal_3 : literal (codes "\"\"") ≡ codes "'\"\"'"
 literal_3 = refl
 
--- (a | b) | c, a | (b | c), (p:* - a) | * - (b | c) with p standing for no namespace
+-- (a | b) | c, a | (b | c), (p:* - a) | * - (b | c) where p represents no namespace
 class_1 : class_text [] (one_of (one_of (local_name (codes "a")) (local_name (codes "b")) no_classes) (local_name (codes "c")) no_classes) ≡ codes "a | b | c"
 class_1 = refl
 
@@ -138,7 +138,7 @@ keyword_text : text_of (record {
     lines (codes "namespace n0 = \"u\"" ∷ codes "start = e0" ∷ codes "e0 = element element | n0:start { empty }" ∷ [])
 keyword_text = rw zero_text refl
 
--- a value's parameters are not written, so two grammars that differ in them alone have one text
+-- the parameters of a value are not written, so two grammars that differ only in them have one text
 typed_value : List (List ℕ × List ℕ) → Grammar
 typed_value ps = of_body (s_value (record { library = []; name = codes "string"; parameters = ps }) (codes "x"))
 

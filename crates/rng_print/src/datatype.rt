@@ -7,7 +7,7 @@ ghost use Rattle.rng_print.specs.plain.Parts.{named_type_text};
 use crate::literal::write_literal;
 use rng_model::{Datatype, DatatypeValue, OutOfMemory};
 
-/// Writes a datatype with its parameters, in the order in which they are written.
+/// Writes a datatype with its parameters, in the order of the datatype.
 pub(crate) fn write_datatype(datatype: &Datatype, text: &mut Vec<u8>) -> Result<(), OutOfMemory>
     ensures { OnOk result (text.new.items ≡ text.old.items ++ datatype_text (datatype_of datatype.now)) }
 {
@@ -25,7 +25,7 @@ pub(crate) fn write_value(value: &DatatypeValue, text: &mut Vec<u8>) -> Result<(
     write_literal(value.text.as_bytes(), text)
 }
 
-/// Writes the name of a datatype: one that is built in as it is, another behind `xsd:`.
+/// Writes the name of a datatype: that of a built-in one as it is, any other after `xsd:`.
 fn write_type(library: &str, name: &str, text: &mut Vec<u8>) -> Result<(), OutOfMemory>
     ensures { OnOk result (text.new.items ≡ text.old.items ++ named_type_text library.now name.now) }
 {
@@ -35,7 +35,7 @@ fn write_type(library: &str, name: &str, text: &mut Vec<u8>) -> Result<(), OutOf
     Ok(text.extend_from_slice(name.as_bytes())?)
 }
 
-/// Writes parameters in braces, where there are any.
+/// Writes parameters in braces, if there are any.
 fn write_parameters(parameters: &[(String, String)], text: &mut Vec<u8>) -> Result<(), OutOfMemory>
     ensures { OnOk result (text.new.items ≡ text.old.items ++ parameters_text (map parameter_of parameters.now)) }
 {

@@ -1,4 +1,4 @@
-// What has a line of its own, in the order in which it is first written.
+// Items: the elements and patterns with lines of their own, in the order in which they are first written.
 ghost use Rattle.std.specs.Prelude.{◌≡◌, ◌<◌, ◌++◌, decimal, IfSome, OnOk, IfOk, length, map, option_to_list};
 ghost use Rattle.rng_model.specs.simple.Table.{IsTable, grammar_of, tree_at};
 ghost use Rattle.rng_print.specs.declared.items.Item.TheVariants as items;
@@ -12,7 +12,7 @@ use indexmap::IndexSet;
 use rng_model::{ElementId, OutOfMemory, PatternId, Simple, SimpleGrammar};
 use std::alloc::Global;
 
-/// An element, or a pattern that has parts.
+/// An element, or a pattern with parts.
 #[derive(Clone, Copy)]
 pub(crate) enum Item {
     Element(ElementId),
@@ -23,16 +23,16 @@ pub(crate) enum Item {
 #[derive(Drop)]
 pub(crate) struct Items {
     pub(crate) all: Vec<Item>,
-    /// The elements among them, by number.
+    /// The elements among them. The index of each is its number.
     pub(crate) elements: IndexSet<ElementId>,
     /// The numbers of the patterns among them.
     pub(crate) trees: IndexSet<usize>,
-    /// A number for each pattern of the grammar; equal patterns have one.
+    /// A number for each pattern of the grammar. Equal patterns have the same number.
     pub(crate) numbers: Vec<usize>,
 }
 
 impl Items {
-    /// All items of a grammar.
+    /// Finds all items of a grammar.
     #[tactic(auto, using(crate::proofs::ItemLines::all_lines))]
     pub(crate) fn of_grammar(alloc: Global, grammar: &SimpleGrammar) -> Result<Self, OutOfMemory>
         ensures items { IfOk result (AreItems grammar.now) }
@@ -56,7 +56,7 @@ impl Items {
         Ok(found)
     }
 
-    /// Adds what is written in the line of an item.
+    /// Adds the items that are written in the line of an item.
     fn add_mentions(&mut self, grammar: &SimpleGrammar, item: Item) -> Result<(), OutOfMemory>
         requires items { AreItems grammar.now self.old }
         requires inside { IsInside grammar.now item }
@@ -73,7 +73,7 @@ impl Items {
         }
     }
 
-    /// Adds what is written in the line of a pattern.
+    /// Adds the items that are written in the line of a pattern.
     fn add_parts(&mut self, grammar: &SimpleGrammar, id: PatternId) -> Result<(), OutOfMemory>
         requires items { AreItems grammar.now self.old }
         requires inside { id.0 < length grammar.now.patterns }
@@ -96,7 +96,7 @@ impl Items {
         }
     }
 
-    /// Adds what is written for a pattern within a line.
+    /// Adds the item that is written for a pattern within a line.
     fn add_written(&mut self, grammar: &SimpleGrammar, id: PatternId) -> Result<(), OutOfMemory>
         requires items { AreItems grammar.now self.old }
         requires inside { id.0 < length grammar.now.patterns }
@@ -110,7 +110,7 @@ impl Items {
         }
     }
 
-    /// Adds an item, unless it is there.
+    /// Adds an item, unless it is already there.
     fn add(&mut self, item: Item) -> Result<(), OutOfMemory>
         requires { AreIndexed self.old }
         ensures { OnOk result (AreWith self.old item self.new) }
@@ -121,7 +121,7 @@ impl Items {
         }
     }
 
-    /// Adds an element, unless it is there.
+    /// Adds an element, unless it is already there.
     fn add_element(&mut self, id: ElementId) -> Result<(), OutOfMemory>
         requires { AreIndexed self.old }
         ensures { OnOk result (AreWith self.old (items.Element id) self.new) }
@@ -132,7 +132,7 @@ impl Items {
         Ok(())
     }
 
-    /// Adds a pattern, unless an equal one is there.
+    /// Adds a pattern, unless an equal one is already there.
     fn add_pattern(&mut self, id: PatternId) -> Result<(), OutOfMemory>
         requires { AreIndexed self.old }
         ensures { OnOk result (AreWith self.old (items.Pattern id) self.new) }
@@ -144,7 +144,7 @@ impl Items {
         Ok(())
     }
 
-    /// The number of a pattern.
+    /// Returns the number of a pattern.
     fn number(&self, id: PatternId) -> usize
         ensures { result ≡ number_at self.now.numbers.items id }
     {
@@ -192,7 +192,7 @@ pub(crate) fn write_numbered(
     Ok(text.extend_from_slice(name.as_bytes())?)
 }
 
-/// The item whose name is written for a pattern, if it is one.
+/// Returns the item whose name is written for a pattern, if it is an item.
 fn item_of(grammar: &SimpleGrammar, id: PatternId) -> Option<Item>
     requires table { IsTable grammar.now }
     requires inside { id.0 < length grammar.now.patterns }

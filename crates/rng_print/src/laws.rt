@@ -1,4 +1,4 @@
-// What is promised of printed texts themselves.
+// The laws of printed texts themselves.
 ghost use Rattle.std.specs.Prelude.{◌≡◌, ℕ, List, length};
 ghost use Rattle.rng_model.specs.schema.Schema.{Schema};
 ghost use Rattle.rng_model.specs.simple.SchemaForm.{IsSimpleGrammarOf};
@@ -7,11 +7,11 @@ ghost use Rattle.rncv_model.specs.printed.PrintedText.{IsPrinted};
 ghost use Rattle.rng_print.specs.plain.Renumbered.{AreSameUpToNumbering};
 ghost use Rattle.rncv_model.specs.printed.SchemaText.{IsPrintedForm};
 
-/// The laws of the definition of printed texts. It does nothing: its contract is what it is for.
+/// States the laws of the definition of printed texts. It does nothing: its contract is what matters.
 ///
-/// Each grammar has one printed text. Grammars that are the same up to the numbers of their elements have the same text and
-/// equally many elements, and are simple forms of the same schemas. So a schema has one printed form at most, whichever of its
-/// simple forms is printed.
+/// Each grammar has one printed text. Grammars that are the same up to the numbers of their elements have the same text
+/// and the same number of elements. They are simple forms of the same schemas. So a schema has at most one printed
+/// form, whichever of its simple forms is printed.
 #[tactic(auto, using(crate::proofs::OneText::text_there))]
 pub fn printing_laws()
     ensures some { (g : Grammar) → (t : List ℕ) × IsPrinted g t }

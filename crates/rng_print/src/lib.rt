@@ -1,8 +1,8 @@
-//! The text of a simple grammar: a line for the start, for each element and for each pattern that has parts, and before them
-//! one for each namespace.
+//! The text of a simple grammar: a line for each namespace, then one for the start, for each element and for each
+//! pattern with parts.
 //!
-//! What is printed is the text that the definition gives (`rncv_model/specs/printed/PrintedText.antt`), and each grammar has one, whatever the
-//! numbers of its elements (RELAX NG Specification, section 5; Compact Syntax, "Syntax").
+//! The text is the one that the definition gives (`rncv_model/specs/printed/PrintedText.antt`). Each grammar has one,
+//! whatever the numbers of its elements (RELAX NG Specification, section 5; Compact Syntax, "Syntax").
 #![tactic(auto)]
 
 mod datatype;

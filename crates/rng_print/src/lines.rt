@@ -15,7 +15,7 @@ use crate::prefixes::Prefixes;
 use rng_model::{NameClass, OutOfMemory, PatternId, Simple, SimpleGrammar};
 use std::alloc::Global;
 
-/// What lines are written from: a grammar, its items, and the namespaces that they write as prefixes.
+/// The input for lines: a grammar, its items, and the namespaces that they write as prefixes.
 #[derive(Clone, Copy)]
 pub(crate) struct Lines<'a, 'b> {
     pub(crate) alloc: Global,
@@ -61,7 +61,7 @@ impl<'a, 'b> Lines<'a, 'b> {
         Ok(())
     }
 
-    /// Writes what stands for a pattern within a line: its name, or itself where it has no parts.
+    /// Writes the reference to a pattern within a line: its name, or the pattern itself if it has no parts.
     fn write_reference(&self, id: PatternId, text: &mut Vec<u8>) -> Result<(), OutOfMemory>
         requires items { AreItems self.now.grammar.now self.now.items.now }
         requires inside { id.0 < length self.now.grammar.now.patterns }
@@ -91,7 +91,7 @@ impl<'a, 'b> Lines<'a, 'b> {
         }
     }
 
-    /// Writes what stands for a pattern, in braces.
+    /// Writes the reference to a pattern, in braces.
     fn write_braced(&self, id: PatternId, text: &mut Vec<u8>) -> Result<(), OutOfMemory>
         requires items { AreItems self.now.grammar.now self.now.items.now }
         requires inside { id.0 < length self.now.grammar.now.patterns }
@@ -103,7 +103,7 @@ impl<'a, 'b> Lines<'a, 'b> {
         Ok(text.extend_from_slice(b" }")?)
     }
 
-    /// Writes a name class, and what stands for a pattern in braces behind it.
+    /// Writes a name class, and after it the reference to a pattern in braces.
     fn write_named(
         &self,
         class: &NameClass,
@@ -120,7 +120,7 @@ impl<'a, 'b> Lines<'a, 'b> {
         self.write_braced(body, text)
     }
 
-    /// Writes two patterns with a connector between.
+    /// Writes the references to two patterns with a connector between.
     fn write_joined(
         &self,
         left: PatternId,
@@ -140,7 +140,7 @@ impl<'a, 'b> Lines<'a, 'b> {
         self.write_reference(right, text)
     }
 
-    /// Writes what stands behind `=` in the line of a pattern.
+    /// Writes what is after `=` in the line of a pattern.
     fn write_pattern(&self, id: PatternId, text: &mut Vec<u8>) -> Result<(), OutOfMemory>
         requires items { AreItems self.now.grammar.now self.now.items.now }
         requires inside { id.0 < length self.now.grammar.now.patterns }
@@ -180,7 +180,7 @@ impl<'a, 'b> Lines<'a, 'b> {
         }
     }
 
-    /// Writes what stands behind `=` in the line of an item.
+    /// Writes what is after `=` in the line of an item.
     fn write_item(&self, item: Item, text: &mut Vec<u8>) -> Result<(), OutOfMemory>
         requires items { AreItems self.now.grammar.now self.now.items.now }
         requires inside { IsInside self.now.grammar.now item }

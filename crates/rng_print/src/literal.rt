@@ -7,8 +7,8 @@ use rng_model::OutOfMemory;
 
 /// Writes a text as a literal.
 ///
-/// Compact Syntax, "Syntax": runs of `"` stand between apostrophes, other runs between quotation marks, joined by `~`; what
-/// would not stand for itself is an escape.
+/// Compact Syntax, "Syntax": runs of `"` are between apostrophes, other runs between quotation marks, joined by `~`. A
+/// character that would not mean itself is written as an escape.
 #[tactic(auto, using(crate::proofs::Literals::byte_written))]
 pub(crate) fn write_literal(bytes: &[u8], text: &mut Vec<u8>) -> Result<(), OutOfMemory>
     ensures { OnOk result (text.new.items ≡ text.old.items ++ literal bytes.now) }
@@ -24,7 +24,7 @@ pub(crate) fn write_literal(bytes: &[u8], text: &mut Vec<u8>) -> Result<(), OutO
     Ok(text.push(quote)?)
 }
 
-/// Writes a byte of a literal in which a run is open, and answers what the run stands between that is open then.
+/// Writes a byte of a literal in which a run is open. Returns the delimiter of the run that is open after it.
 fn write_byte(quote: u8, byte: u8, text: &mut Vec<u8>) -> Result<u8, OutOfMemory>
     ensures next { IfOk result (λ next. next ≡ delimiter byte) }
     ensures text { OnOk result (text.new.items ≡ text.old.items ++ byte_text quote byte) }
@@ -39,14 +39,14 @@ fn write_byte(quote: u8, byte: u8, text: &mut Vec<u8>) -> Result<u8, OutOfMemory
     Ok(next)
 }
 
-/// What a byte of a literal stands between.
+/// Returns the delimiter of a byte of a literal.
 fn delimiter(byte: u8) -> u8
     ensures { result ≡ delimiter byte }
 {
     if byte == b'"' { b'\'' } else { b'"' }
 }
 
-/// Writes a byte, or the escape that stands for it.
+/// Writes a byte, or its escape.
 fn write_escaped(byte: u8, text: &mut Vec<u8>) -> Result<(), OutOfMemory>
     ensures { OnOk result (text.new.items ≡ text.old.items ++ escaped byte) }
 {

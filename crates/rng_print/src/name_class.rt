@@ -10,9 +10,9 @@ use crate::prefixes::Prefixes;
 use rng_model::{Name, NameClass, OutOfMemory};
 use std::alloc::Global;
 
-/// Writes a name class, each of whose choices has two members.
+/// Writes a name class whose choices all have two members.
 ///
-/// Recurses as deep as the class nests.
+/// The recursion is as deep as the class.
 pub(crate) fn write_class(
     alloc: Global,
     prefixes: &Prefixes<'_>,
@@ -61,7 +61,7 @@ pub(crate) fn write_class(
     }
 }
 
-/// Writes a name, behind the prefix of its namespace where it has one.
+/// Writes a name, after the prefix of its namespace if it has one.
 fn write_name(
     alloc: Global,
     prefixes: &Prefixes<'_>,
@@ -77,7 +77,7 @@ fn write_name(
     Ok(text.extend_from_slice(name.local.as_bytes())?)
 }
 
-/// Whether the class is a choice or has an except.
+/// Returns whether the class is a choice or has an except.
 fn is_joined(class: &NameClass) -> bool
     requires { IsPaired class.now }
     ensures { result ≡ (is_choice (class_of class.now) || is_except (class_of class.now)) }
@@ -88,7 +88,7 @@ fn is_joined(class: &NameClass) -> bool
     )
 }
 
-/// Whether the class has an except.
+/// Returns whether the class has an except.
 fn is_except(class: &NameClass) -> bool
     requires { IsPaired class.now }
     ensures { result ≡ is_except (class_of class.now) }
@@ -96,7 +96,7 @@ fn is_except(class: &NameClass) -> bool
     matches!(class, NameClass::AnyExcept(_) | NameClass::NsExcept(_, _))
 }
 
-/// Writes these bytes where it is asked for.
+/// Writes these bytes if `asked` is true.
 fn write_if(asked: bool, bytes: &[u8], text: &mut Vec<u8>) -> Result<(), OutOfMemory>
     ensures { OnOk result (text.new.items ≡ text.old.items ++ (if asked then bytes.now else [])) }
 {

@@ -21,7 +21,7 @@ pub(crate) struct Prefixes<'a> {
 }
 
 impl<'a> Prefixes<'a> {
-    /// None.
+    /// Creates a value without namespaces.
     pub(crate) fn new(alloc: Global) -> Self
         ensures { namespaces_seen result ≡ [] }
     {
@@ -30,7 +30,7 @@ impl<'a> Prefixes<'a> {
         }
     }
 
-    /// Those that the lines of these items write.
+    /// Collects the namespaces that the lines of these items write.
     pub(crate) fn of_items(
         alloc: Global,
         grammar: &'a SimpleGrammar,
@@ -46,7 +46,7 @@ impl<'a> Prefixes<'a> {
         Ok(prefixes)
     }
 
-    /// Adds those that the line of an item writes.
+    /// Adds the namespaces that the line of an item writes.
     fn add_item(&mut self, grammar: &'a SimpleGrammar, item: Item) -> Result<(), OutOfMemory>
         requires { IsInside grammar.now item }
         ensures { OnOk result
@@ -64,7 +64,7 @@ impl<'a> Prefixes<'a> {
         }
     }
 
-    /// Adds those of a name class.
+    /// Adds the namespaces of a name class.
     pub(crate) fn add_class(&mut self, class: &'a NameClass) -> Result<(), OutOfMemory>
         ensures { OnOk result (namespaces_seen self.new ≡ and_new bytes_eq (namespaces_seen self.old) (namespaces_in (class_of class.now))) }
     {
@@ -91,7 +91,7 @@ impl<'a> Prefixes<'a> {
         }
     }
 
-    /// Adds a namespace, unless it is there.
+    /// Adds a namespace, unless it is already there.
     fn add(&mut self, ns: &'a str) -> Result<(), OutOfMemory>
         ensures { OnOk result (namespaces_seen self.new ≡ with_new bytes_eq (namespaces_seen self.old) ns.now) }
     {

@@ -13,13 +13,13 @@ use rng_model::{Device, OutOfMemory, SimpleGrammar, write_whole};
 use std::alloc::Global;
 use std::io::Write;
 
-/// The text of a grammar: a schema in the compact syntax that has this simple form.
+/// Returns the text of a grammar: a schema in the compact syntax with this simple form.
 ///
-/// RELAX NG Specification, section 5, in the words of the Compact Syntax. First a line for each namespace, then `start = ..`,
-/// then a line for each element and for each pattern that has parts, in the order in which their names are first written:
-/// `e0`, `e1`, .. for elements, and `p0`, `p1`, .. for patterns; equal patterns have one line, whatever their positions. So
-/// grammars that differ in the numbers of their elements alone have the same text. Answers want of memory, and nothing else.
-/// Takes time and memory in the order of the tables and of the text.
+/// RELAX NG Specification, section 5, in the words of the Compact Syntax. First there is a line for each namespace,
+/// then `start = ..`. Then there is a line for each element and for each pattern with parts, in the order in which
+/// their names are first written. The names are `e0`, `e1`, .. for elements, and `p0`, `p1`, .. for patterns. Equal
+/// patterns have one line, whatever their positions. So grammars that differ only in the numbers of their elements have
+/// the same text. Fails only when out of memory. Time and memory are linear in the tables and in the text.
 pub fn printed_text(alloc: Global, grammar: &SimpleGrammar) -> Result<Vec<u8>, OutOfMemory>
     ensures { IfOk result (λ text. IsPrinted (grammar_of grammar.now) text.items) }
 {
@@ -38,11 +38,12 @@ pub fn printed_text(alloc: Global, grammar: &SimpleGrammar) -> Result<Vec<u8>, O
     Ok(text)
 }
 
-/// Prints a grammar: writes its text, which `printed_text` says, to a device.
+/// Prints a grammar: writes its text, that of `printed_text`, to a device.
 ///
-/// The text is made whole before its first byte is written. So after `PrintFault::Memory` the device is as it was, and after
-/// `PrintFault::Write`, which comes only where the device counted a failed call, a beginning of the text was written. Nothing
-/// is flushed. Takes what `printed_text` takes, and no more calls of the writer than the text has bytes.
+/// The text is complete before its first byte is written. So after `PrintFault::Memory` the device is unchanged. After
+/// `PrintFault::Write`, which comes only if the device counted a failed call, a beginning of the text is written.
+/// Nothing is flushed. The cost is that of `printed_text`, and at most one call of the writer for each byte of the
+/// text.
 pub fn print<W: Write>(
     alloc: Global,
     grammar: &SimpleGrammar,
@@ -50,11 +51,11 @@ pub fn print<W: Write>(
 ) -> Result<(), PrintFault>
     requires { device_failures output.old < 2 ^ 64 - 1 }
 
-    // Where it answers, no call failed, and the text is all that was written.
+    // If it returns `Ok`, no call failed, and exactly the text is written.
     ensures calm { OnOk result (device_failures output.new ≡ device_failures output.old) }
     ensures printed { OnOk result (AppendsPrinted (grammar_of grammar.now) (W.contents (device_inner output.old)) (W.contents (device_inner output.new))) }
 
-    // A fault of the device is answered only where it counted one.
+    // A fault of the device is returned only if the device counted one.
     ensures write { IsErrOf result PrintFault.Write → device_failures output.old < device_failures output.new }
     ensures beginning { IsErrOf result PrintFault.Write →
         AppendsPrintedBeginning (grammar_of grammar.now) (W.contents (device_inner output.old)) (W.contents (device_inner output.new)) }

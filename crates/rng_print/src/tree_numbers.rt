@@ -1,4 +1,4 @@
-// Numbers by which patterns of a grammar are told apart by their trees.
+// Numbers that distinguish the patterns of a grammar by their trees.
 ghost use Rattle.std.specs.Prelude.{◌≡◌, ◌++◌, [], IfOk, OnOk, Some, length, map, slice_get};
 ghost use Rattle.rng_labels.specs.plain.LabelCodes.{AreCodesApart, codes_of, part_of};
 ghost use Rattle.rng_model.specs.simple.Table.{AreChildrenBelow, IsTable};
@@ -10,9 +10,10 @@ use rng_labels::{LabelPart, place_of_code, put_class, put_datatype, put_value};
 use rng_model::{OutOfMemory, PatternId, Simple, SimpleGrammar};
 use std::alloc::{AllocError, Global};
 
-/// A number for each pattern of a grammar, by its position: two have the same number exactly if their trees are equal.
+/// Returns a number for each pattern of a grammar, by its position. Two have the same number exactly if their trees are
+/// equal.
 ///
-/// Takes time and memory in the order of the tables.
+/// Time and memory are linear in the tables.
 pub(crate) fn tree_numbers(
     alloc: Global,
     grammar: &SimpleGrammar,
@@ -30,7 +31,7 @@ pub(crate) fn tree_numbers(
     Ok(numbers)
 }
 
-/// The place of a code among these, at whose end it is put where it is new.
+/// Returns the place of a code among these. A new code is appended.
 fn number_of_code<'a>(
     codes: &mut IndexSet<Vec<LabelPart<'a>>>,
     code: Vec<LabelPart<'a>>,
@@ -43,8 +44,8 @@ fn number_of_code<'a>(
     Ok(place_of_code(codes, code)?.unwrap_or(last))
 }
 
-/// What tells a pattern from others, where the patterns before it have these numbers: its kind, the numbers of its parts, and
-/// what its label is written by.
+/// Returns what distinguishes a pattern from others, if the patterns before it have these numbers. This is its kind,
+/// the numbers of its parts, and the code of its label.
 fn pattern_code<'a>(
     alloc: Global,
     pattern: &'a Simple,
@@ -63,7 +64,7 @@ fn pattern_code<'a>(
     Ok(code)
 }
 
-/// The kind of a pattern, and the numbers of its element or of its parts, 0 where it has none.
+/// Returns the kind of a pattern, and the numbers of its element or of its parts, or 0 if it has none.
 fn numbers_of(pattern: &Simple, numbers: &[usize]) -> (usize, usize, usize)
     requires { AreChildrenBelow (length numbers.now) pattern.now }
     ensures { result ≡ numbers_of (number_at numbers.now) pattern.now }
@@ -85,7 +86,7 @@ fn numbers_of(pattern: &Simple, numbers: &[usize]) -> (usize, usize, usize)
     }
 }
 
-/// Puts the parts that the label of a pattern is written by at the end: its name class, its datatype or its value.
+/// Appends the code of the label of a pattern: of its name class, its datatype or its value.
 fn put_label<'a>(code: &mut Vec<LabelPart<'a>>, pattern: &'a Simple) -> Result<(), AllocError>
     ensures { OnOk result (map part_of code.new.items ≡ map part_of code.old.items ++ label_code pattern.now) }
 {

@@ -1,12 +1,12 @@
-//! Prints, for the files in each row of `cases.txt`, the text of their simple grammar, and then whether that text, read as a
-//! schema of one file, is printed as itself again; or the clause that the files break.
+//! Prints the text of the simple grammar of the files in each row of `cases.txt`, or the clause that the files break.
+//! Then it prints whether that text, read as a schema of one file, is printed as the same text.
 //!
-//! A row has what is asked for, and files: the name of each, a text, and how often the text stands in it. Texts of one name
-//! stand behind one another. In each of them `^` is its number, from 0, and `^+` the next one. The first file is the main one.
-//! Asked for is `text`, the whole text; `end`, how many lines it has, and the last; `again`, no more than whether it is
-//! printed as itself again; or `written`, what comes of printing the grammar to writers, and nothing else. A row of `table`
-//! has no files, but how many elements a grammar has, and its tables, as `written_grammars` reads them: of it the whole text
-//! is printed.
+//! A row has a request, and files: the name of each, a text, and how often the text is repeated in it. Consecutive
+//! texts with the same name are one file. In each text `^` is its number, from 0, and `^+` the next one. The first file
+//! is the main one. The request `text` prints the whole text, and `end` the number of its lines and the last line. The
+//! request `again` only prints whether the same text is printed for it, and `written` only the results of printing
+//! the grammar to writers. A row of `table` has no files, but the number of elements of a grammar and its tables, as
+//! `written_grammars` reads them. For it the whole text is printed.
 #![tactic(auto)]
 
 mod writers;
@@ -28,7 +28,7 @@ fn main(rt: HostRuntime) -> io::Result<()> {
     Ok(())
 }
 
-/// Prints what is asked for of the text of a row's files.
+/// Prints what is requested of the text of a row's files.
 fn print_case(rt: &(impl Print + AllocGlobal), row: &Row) -> io::Result<()> {
     if row.text(0)? == "table" {
         return print_table(rt, row.text(1)?, row.text(2)?);
@@ -40,7 +40,7 @@ fn print_case(rt: &(impl Print + AllocGlobal), row: &Row) -> io::Result<()> {
     }
 }
 
-/// Prints the text of the grammar with these tables, and whether it is printed as itself again.
+/// Prints the text of the grammar with these tables, and whether it is printed as the same text.
 fn print_table(rt: &(impl Print + AllocGlobal), count: &str, tables: &str) -> io::Result<()> {
     let Some(grammar) = read_grammar(rt.alloc(), count, tables) else {
         return println!(rt; "no grammar");
@@ -48,7 +48,7 @@ fn print_table(rt: &(impl Print + AllocGlobal), count: &str, tables: &str) -> io
     print_answer(rt, "text", text_of_grammar(rt.alloc(), &grammar))
 }
 
-/// Prints what comes of printing the simple grammar of files to writers.
+/// Prints the results of printing the simple grammar of files to writers.
 fn print_written(
     rt: &(impl Print + AllocGlobal),
     files: &[(String, Vec<u8>)],
@@ -60,7 +60,7 @@ fn print_written(
     }
 }
 
-/// Prints what is asked for of the text of files, and whether that text is printed as itself again.
+/// Prints what is requested of the text of files, and whether that text is printed as the same text.
 fn print_asked(
     rt: &(impl Print + AllocGlobal),
     asked: &str,
@@ -70,7 +70,7 @@ fn print_asked(
     print_answer(rt, asked, text_of_files(rt.alloc(), files, main))
 }
 
-/// Prints what is asked for of a text, and whether it is printed as itself again; or the fault.
+/// Prints what is requested of a text, and whether it is printed as the same text; or the fault.
 fn print_answer(
     rt: &(impl Print + AllocGlobal),
     asked: &str,
@@ -85,7 +85,7 @@ fn print_answer(
     }
 }
 
-/// Prints a text, or its number of lines and the last, or nothing.
+/// Prints a text, or the number of its lines and the last line, or nothing.
 fn print_text(rt: &impl Print, asked: &str, text: &str) -> io::Result<()> {
     match asked {
         "text" => print!(rt; "{text}"),
@@ -98,7 +98,7 @@ fn print_text(rt: &impl Print, asked: &str, text: &str) -> io::Result<()> {
     }
 }
 
-/// Prints whether a text is printed as itself again, and if not, what is printed.
+/// Prints whether the schema of a text is printed as the same text, and if not, what is printed instead.
 fn print_again(rt: &(impl Print + AllocGlobal), text: &str) -> io::Result<()> {
     let name = String::from_str(rt.alloc(), "s.rnc")?;
     let bytes = Vec::from_slice(rt.alloc(), text.as_bytes())?;
@@ -118,7 +118,7 @@ fn print_fault(rt: &impl Print, fault: SchemaFault) -> io::Result<()> {
     }
 }
 
-/// The text of the simple grammar of the schema that files make.
+/// Returns the text of the simple grammar of the schema of some files.
 fn text_of_files(
     alloc: Global,
     files: &[(String, Vec<u8>)],
@@ -127,13 +127,13 @@ fn text_of_files(
     text_of_grammar(alloc, &grammar_of_files(alloc, files, main)?)
 }
 
-/// The text of a grammar.
+/// Returns the text of a grammar.
 fn text_of_grammar(alloc: Global, grammar: &SimpleGrammar) -> Result<String, SchemaFault> {
     let bytes = printed_text(alloc, grammar).map_err(|_| SchemaFault::Memory)?;
     String::from_utf8(bytes).map_err(|_| SchemaFault::Memory)
 }
 
-/// The simple grammar of the schema that files make.
+/// Returns the simple grammar of the schema of some files.
 fn grammar_of_files(
     alloc: Global,
     files: &[(String, Vec<u8>)],

@@ -1,10 +1,10 @@
-// What a grammar is printed to.
+// Writers that a grammar is printed to.
 use rng_model::{Device, SimpleGrammar};
 use rng_print::{PrintFault, print};
 use std::io;
 use std::io::Write;
 
-/// A writer that takes one byte a call, and that fails once it has this many.
+/// A writer that takes one byte in each call, and fails when it has this many.
 #[derive(Drop)]
 struct Narrow {
     bytes: Vec<u8>,
@@ -28,7 +28,8 @@ impl Write for Narrow {
     }
 }
 
-/// Prints what comes of printing a grammar by a byte a call, and where the seventh byte fails.
+/// Prints the results of printing a grammar one byte per call, without a failure and with a failure at the seventh
+/// byte.
 pub fn print_to_writers(
     rt: &(impl Print + AllocGlobal),
     grammar: &SimpleGrammar,
@@ -37,7 +38,7 @@ pub fn print_to_writers(
     print_to_narrow(rt, grammar, "the seventh byte fails", 6)
 }
 
-/// Prints the answer, how many calls failed, and what was written, with `%0A` for its line feeds.
+/// Prints the result, how many calls failed, and what was written, with `%0A` for its line feeds.
 fn print_to_narrow(
     rt: &(impl Print + AllocGlobal),
     grammar: &SimpleGrammar,

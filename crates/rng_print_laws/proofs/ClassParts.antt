@@ -1,12 +1,12 @@
--- The parts of a name class that are no choices are, but for nesting, those of the class with its members nested in twos; so the rules on name
--- classes are broken by both or by neither.
+-- The parts of a name class that are not choices are, up to nesting, those of the class whose members are nested in
+-- twos. So both break the same rules on name classes.
 use Rattle.std.proofs.Common.{◌≡◌, ◌⊎◌, inl, inr, refl, sym, subst, List, ℕ}
 use Rattle.rng_model.specs.names.Names.{NameClass, any_name, any_except, ns_name, ns_except, name_is, one_of, NameClasses, no_classes, class_and}
 use Rattle.rng_model.specs.schema.SchemaClauses as clause
 use Rattle.rng_model.specs.schema.SchemaClauses.{IsPartOf, IsPartOfOne, IsAny, IsNamespace, IsOfDeclarations, BreaksClassExcept}
 use Rattle.rng_graph.specs.plain.InTwos.{nested, nested_after}
 
--- no choice
+-- not a choice
 abbrev pub IsSingle : NameClass → Type 0
 IsSingle any_name = Unit {0}
 IsSingle (any_except c) = Unit {0}
@@ -15,14 +15,14 @@ IsSingle (ns_except u c) = Unit {0}
 IsSingle (name_is n) = Unit {0}
 IsSingle (one_of c d cs) = ⊥
 
--- ---- what holds of a choice, however many members it has
+-- ---- choices, with any number of members
 
 after_choice : (P : NameClass → Type 0) → ((c d : NameClass) (cs : NameClasses) → P (one_of c d cs)) → (cs : NameClasses) (c d : NameClass)
     → P (nested_after (one_of c d no_classes) cs)
 after_choice P h no_classes c d = h c d no_classes
 after_choice P h (class_and x xs) c d = after_choice P h xs (one_of c d no_classes) (nested x)
 
--- ---- forth
+-- ---- to the nested class
 
 after_keeps : {d e : NameClass} (cs : NameClasses) → IsPartOf d e → IsPartOf d (nested_after e cs)
 after_keeps no_classes i = i
@@ -60,7 +60,7 @@ breaks_forth (clause.any_in_any p q a) = clause.any_in_any (part_forth p) (part_
 breaks_forth (clause.any_in_namespace p q a) = clause.any_in_namespace (part_forth p) (part_forth q) (any_forth a)
 breaks_forth (clause.namespace_in_namespace p q a) = clause.namespace_in_namespace (part_forth p) (part_forth q) (namespace_forth a)
 
--- ---- back
+-- ---- from the nested class
 
 record Source (c d : NameClass) : Type 0 where
   pub part : NameClass
@@ -106,7 +106,7 @@ mutual
   after_back no_classes e i h = inl i
   after_back (class_and x xs) e i h = rest_back x xs e (λ j. part_back x j h) h (after_back xs (one_of e (nested x) no_classes) i h)
 
--- a class is of the kind that its nested one is
+-- a class has the kind of its nested one
 abbrev NoAnyExcept : NameClass → NameClass → Type 0
 NoAnyExcept e d = d ≡ any_except e → ⊥
 
@@ -201,9 +201,9 @@ breaks_back c (clause.namespace_in_namespace p q a) =
     let s = namespace_source c p q (namespace_single a) in
     clause.namespace_in_namespace s.outer s.inner.is_part (namespace_back s.inner.part (subst IsNamespace (sym s.inner.is) a))
 
--- ---- what the rules ask of a class
+-- ---- the conditions of the rules on a class
 
--- it breaks none of those on excepts
+-- it breaks no rule on excepts
 abbrev pub IsGoodClass : NameClass → Type 0
 IsGoodClass c = ¬ (BreaksClassExcept c)
 

@@ -1,4 +1,4 @@
--- The bytes of an NCName hold no colon, so what stands before the first colon of a name is its prefix.
+-- The bytes of an NCName contain no colon, so what is before the first colon of a name is its prefix.
 use Rattle.std.proofs.Common.{◌≡◌, ◌∙◌, inl, inr, ℕ, suc, ◌+◌, Bool, true, cond, List, [], ◌∷◌, ◌++◌, length, take, drop, sym, ap, subst, refl, arith}
 use Rattle.std.specs.Prelude.{◌&&◌, not, encode_utf8_all}
 use Rattle.std.specs.List.{list_all, position_or_len}
@@ -61,7 +61,7 @@ drop_front (c ∷ p) r x = ap (λ (n : ℕ). drop n (c ∷ (p ++ x ∷ r))) one_
     one_more : suc (length p) + 1 ≡ suc (length p + 1)
     one_more = omega arith
 
--- what stands before the first colon, and what stands after it
+-- what is before the first colon, and what is after it
 pub before_colon : (p l : List ℕ) → HasNoColon p → (grammar.prefix_in (p ++ 58 ∷ l) ≡ p) × (grammar.local_in (p ++ 58 ∷ l) ≡ l)
 before_colon p l h =
     let e = colon_place p l h in

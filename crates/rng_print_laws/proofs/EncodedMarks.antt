@@ -113,7 +113,7 @@ runs_append (x ∷ xs) ys = ap (with_character x) (runs_append xs ys)
 delimiter_high : (b : ℕ) → 128 ≤ b → delimiter b ≡ 0x22
 delimiter_high b h = rw (other_number b 0x22 h (omega arith)) refl
 
--- what runs become by some bytes that stand between quotation marks
+-- what runs become with some bytes between quotation marks in front
 abbrev joined_front : List ℕ → List (ℕ × List ℕ) → List (ℕ × List ℕ)
 joined_front bs [] = (0x22, bs) ∷ []
 joined_front bs (run ∷ runs) = cond (0x22 == run.0) ((run.0, bs ++ run.1) ∷ runs) ((0x22, bs) ∷ run ∷ runs)
@@ -171,7 +171,7 @@ pub encoded_runs : (ns : List ℕ) → runs_of (encode_utf8_all ns) ≡ map enco
 encoded_runs [] = refl
 encoded_runs (c ∷ ns) = runs_append (encode_utf8 c) (encode_utf8_all ns) ∙ ap (in_front (encode_utf8 c)) (encoded_runs ns) ∙ one_run c (runs_of ns)
 
--- ---- each run stands between what is not in it
+-- ---- each run is between delimiters that are not in it
 
 abbrev pub IsRun : ℕ × List ℕ → Type 0
 IsRun run = (is_quote run.0 ≡ true) × (list_all (is_within run.0) run.1 ≡ true)

@@ -1,4 +1,4 @@
--- What is written for a character within quotes is read back as this character.
+-- What is written for a character between quotes is read back as this character.
 use Rattle.std.proofs.Common.{◌≡◌, ◌∙◌, ◌≢◌, ℕ, Bool, true, false, cond, List, [], ◌∷◌, ◌++◌, refl, sym, subst, arith, codes}
 use Rattle.std.specs.Prelude.{◌&&◌, ◌==◌}
 use Rattle.std.specs.Char.{is_digit, IsScalar}

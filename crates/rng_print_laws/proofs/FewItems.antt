@@ -1,4 +1,4 @@
--- A text has more bytes than items and than namespaces.
+-- A text has more bytes than items, and more bytes than namespaces.
 use Rattle.std.proofs.Common.{◌≡◌, ap, ℕ, ◌≤◌, ◌<◌, List, [], ◌∷◌, ◌++◌, length, flat_map, codes, arith}
 use Rattle.std.proofs.lemmas.List.{length-append}
 use Rattle.rng_model.specs.simple.Table.{Grammar}

@@ -1,4 +1,4 @@
--- The characters of a file are Chars, and so the texts that they spell: of NCNames and of segments.
+-- The characters of a file are Chars, and so are the texts that they spell: those of NCNames and of segments.
 use Rattle.std.proofs.Common.{◌≡◌, ◌∙◌, inl, inr, refl, sym, subst, ap, ℕ, ◌≤◌, ◌<◌, Bool, true, false, ◌||◌, ◌&&◌, cond, arith, List, [], ◌∷◌, ◌++◌}
 use Rattle.std.specs.Prelude.{nat_le, nat_lt}
 use Rattle.std.specs.List.{list_all, AllByRecursion}

@@ -1,4 +1,4 @@
--- A name class with its first members taken apart nests to the same class, and so does each of a tree.
+-- A name class with its first members taken apart nests to the same class. The same holds for each class in a tree.
 use Rattle.std.proofs.Common.{◌≡◌, ◌∙◌, refl, ap, ap₂, List, ◌∷◌, ◌++◌}
 use Rattle.rng_model.specs.names.Names.{NameClass, any_name, any_except, ns_name, ns_except, name_is, one_of, NameClasses, no_classes, class_and, classes_of, some_of}
 use Rattle.rng_model.specs.simple.Tree.{Simple, s_not_allowed, s_empty, s_text, s_leaf, s_attribute, s_list, s_data, s_data_except, s_value, s_one_or_more, s_joined}
@@ -9,7 +9,7 @@ use Rattle.rng_graph.specs.plain.InTwos.{nested, nested_after, in_twos}
 use Rattle.rng_simple.specs.plain.SimpleOf.{sort_of, attribute_by, list_by, except_by, join, some_of as repeated, simple_of, join_all}
 use Rattle.rng_print_laws.specs.plain.LinesSchema.{list_of, members_in, flattened, all_flattened}
 
--- one class more behind members, and others
+-- one class more after members, followed by others
 after_members : (e : NameClass) (cs : NameClasses) (x : NameClass) (xs : List NameClass)
     → nested_after e (classes_of (list_of cs ++ x ∷ xs)) ≡ nested_after (one_of (nested_after e cs) (nested x) no_classes) (classes_of xs)
 after_members e no_classes x xs = refl
@@ -42,7 +42,7 @@ mutual
       ap (λ a. nested_after (one_of e a no_classes) (classes_of (all_flattened cs))) (nested_flattened c) ∙ after_flattened cs (one_of e (nested c) no_classes)
 
 module _ {L : Type 0} where
-  -- the tree as its lines have it
+  -- the tree with classes as its lines show them
   abbrev pub with_flattened : Simple L → Simple L
   with_flattened s_not_allowed = s_not_allowed
   with_flattened s_empty = s_empty

@@ -1,4 +1,4 @@
--- What a schema that breaks no clause leaves of its clauses on its simple grammar.
+-- What the clauses of a schema that breaks none imply for its simple grammar.
 use Rattle.std.proofs.Common.{◌≡◌, ◌∙◌, refl, sym, ap, subst, ℕ, ◌<◌, ◌≤◌, List, [], length, Some, slice_get, arith}
 use Rattle.std.proofs.lemmas.List.Elements.{All-contains}
 use Rattle.std.proofs.lemmas.Option.{slice_get-get_or}
@@ -46,7 +46,7 @@ IsGoodData d = ¬ (¬ (IsKnownDatatype d))
 abbrev pub IsGoodValue : Datatype → List ℕ → Type 0
 IsGoodValue d v = (d.parameters ≡ []) × ¬ (¬ (IsAllowed d v))
 
--- what is written in the tree breaks no clause of that, and each leaf is one of the first n numbers
+-- everything written in the tree breaks no clause about it, and each leaf is one of the first n numbers
 abbrev pub IsGoodTree : ℕ → Simple ℕ → Type 0
 IsGoodTree n a = IsFine IsAttributeClass IsGoodData IsGoodValue (λ k. k < n) (as_tree a)
 
@@ -70,7 +70,7 @@ pub record IsGoodGrammar (g : Grammar) : Type 0 where
   pub start : IsGoodBody (length g.elements) g.start
   pub elements : (k : ℕ) → k < length g.elements → IsGoodElement (length g.elements) (element_at g k)
 
--- ---- what is so with other names is so
+-- ---- what holds with other names of leaves holds
 
 module _ (IsClass : NameClass → Type 0) (IsData : Datatype → Type 0) (IsValue : Datatype → List ℕ → Type 0) {L : Type 0} (IsLeaf : L → Type 0)
     (f : ℕ → L) (n : ℕ) where
@@ -122,7 +122,7 @@ module _ (s : Schema) (kept : BreaksNoClause s) where
     abbrev n : ℕ
     n = length g.elements
 
-    -- a simple form of a tree that is reached, with other names
+    -- a simple form of a tree that is reached, with other names of leaves
     last_body : (a : Simple ℕ) (t b : Tree Leaf) → IsSimpleFormOf t b → b ≡ renamed same.element (as_tree a) → IsLastSimple a
     last_body a t b form e g c st =
         form.last (renamed same.element c) (g, subst (λ d. Step g d (renamed same.element c)) (sym e) (step_renamed same.element st))

@@ -1,4 +1,4 @@
--- The names of items tell them apart.
+-- Different items have different names.
 use Rattle.std.proofs.Common.{◌≡◌, ◌∙◌, refl, sym, ap, subst, inl, inr, ℕ, ◌<◌, ◌^◌, Bool, true, List, [], ◌∷◌, length, Option, Some, None, arith}
 use Rattle.std.specs.Prelude.{◌==◌, decimal}
 use Rattle.std.specs.List.{filter_map, cons_option}

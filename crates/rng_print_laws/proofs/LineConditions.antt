@@ -1,4 +1,4 @@
--- A printable grammar's lines meet what the sentence, the nesting and the declarations ask for.
+-- The lines of a printable grammar meet the conditions of sentences, nesting and declarations.
 use Rattle.std.proofs.Common.{◌≡◌, ◌≢◌, ◌∙◌, ℕ, zero, suc, ◌<◌, ◌^◌, Bool, true, false, List, [], ◌∷◌, ◌++◌, length, flat_map, refl, sym, subst, arith}
 use Rattle.std.specs.List.{AllByRecursion, slice_index_or}
 use Rattle.std.specs.Str.{bytes_eq}
@@ -79,7 +79,7 @@ each_of P Q (x ∷ xs) f h = (f x h.0, each_of P Q xs f h.1)
 pub items_printable : (g : Grammar) → IsPrintable g → (items : List Item) → IsItemsOf g items → AllByRecursion (PrintableItem g) items
 items_printable g p items n = each_of (IsReached same_item (item_of g.start) (mentions g)) (PrintableItem g) items (reached_printable g p) n.reached
 
--- ---- what the lines ask for
+-- ---- the conditions on lines
 
 knows_type : (s : Simple ℕ) → IsPrintableTree s → KnowsType s
 knows_type s_not_allowed h = tt
@@ -130,7 +130,7 @@ shallow_item g (pattern s) h = shallow s h
 
 -- ---- the namespaces
 
--- what is new behind others is not among them
+-- what is new after others is not among them
 new_behind : (w us : List (List ℕ)) → AreNew bytes_eq bytes_exact bytes_itself w us → AllByRecursion (λ v. has bytes_eq w v ≡ false) us
 new_behind w [] n = tt
 new_behind w (u ∷ us) n = (
@@ -175,7 +175,7 @@ each_namespace Q f (i ∷ items) h = (
   each_namespace Q f items (λ u e. h u (has_right bytes_eq bytes_exact bytes_itself (f i) (flat_map f items) u e)),
 )
 
--- what holds of all namespaces holds of those of each item
+-- what holds for all namespaces holds for those of each item
 namespaces_serve : (g : Grammar) (items : List Item) (P : List ℕ → Type 0) → AllByRecursion P (namespaces g items)
     → AllByRecursion (λ i. AllByRecursion P (namespaces_of g i)) items
 namespaces_serve g items P k =

@@ -33,7 +33,7 @@ module _ (ns : List (List ℕ)) where
   abbrev pub declared : List (List ℕ) → List (Declarable × syntax.Uri)
   declared us = declared_in (map (λ u. syntax.namespace (prefix_of ns u) (syntax.literal u)) us)
 
-  -- what holds of each namespace's declaration holds of all that is declared
+  -- what holds for the declaration of each namespace holds for all that is declared
   each_declared : (P : Declarable × syntax.Uri → Type 0) (us : List (List ℕ)) → AllByRecursion (λ u. P (declaration_of u)) us → AllByRecursion P (declared us)
   each_declared P [] h = tt
   each_declared P (u ∷ us) h = (h.0, each_declared P us h.1)
@@ -58,7 +58,7 @@ module _ (ns : List (List ℕ)) where
   prefixes_apart u [] h = tt
   prefixes_apart u (v ∷ us) h = (same_prefix (prefix_of ns u) (prefix_of ns v) h.0, prefixes_apart u us h.1)
 
-  -- what is in front does not stand behind it
+  -- the first one does not occur again
   first_once : (u : List ℕ) (us : List (List ℕ)) → AllByRecursion (Apart ns u) us → (x : Declarable) (v : syntax.Uri)
       → x ≡ namespace_prefix (prefix_of ns u) → Among (x, v) (declared us) → ⊥
   first_once u us h x v is among =
@@ -89,7 +89,7 @@ module _ (ns : List (List ℕ)) where
       (each_declared (λ e. e.0 ≡ datatype_prefix q → ⊥) us
       (always (λ u. namespace_prefix (prefix_of ns u) ≡ datatype_prefix q → ⊥) (λ u e. kinds_apart _ q e) us)) refl
 
-  -- ---- which prefixes stand in the lines
+  -- ---- the prefixes in the lines
 
   module _ (Known : Declarable → Type 0) (xsd : Known (datatype_prefix (codes "xsd"))) where
     abbrev pub KnowsPrefix : List ℕ → Type 0

@@ -1,4 +1,4 @@
--- The printed lines nest as deep as their name classes, and to two at least.
+-- The printed lines nest as deep as their name classes, and at least two levels deep.
 use Rattle.std.proofs.Common.{◌≡◌, ◌∙◌, ℕ, suc, zero, ◌+◌, ◌≤◌, Bool, true, false, List, [], ◌∷◌, ◌++◌, take, flat_map, refl, sym, ap, subst, arith, codes}
 use Rattle.std.specs.Prelude.{◌||◌, max}
 use Rattle.std.specs.List.{AllByRecursion}
@@ -30,7 +30,7 @@ use Rattle.rng_print_laws.specs.plain.MarkLexemes.{word_at, lexemes_from}
 
 -- ---- room for brackets
 
--- what a token does with the room that is left
+-- the effect of a token on the room that is left
 pub data Turn : Type 0 where
   opens : Turn
   closes : Turn
@@ -43,7 +43,7 @@ turn (sign signs.CloseBrace) = closes
 turn (sign signs.CloseParenthesis) = closes
 turn _ = stays
 
--- with so much room before the marks there is so much behind them
+-- this much room before the marks leaves this much after them
 pub data Fits : ℕ → List Mark → ℕ → Type 0 where
   none : {r : ℕ} → Fits r [] r
   open_one : {r : ℕ} {m : Mark} {ms : List Mark} {e : ℕ} → turn m ≡ opens → Fits r ms e → Fits (suc r) (m ∷ ms) e
@@ -56,7 +56,7 @@ fits_append (open_one t h) g = open_one t (fits_append h g)
 fits_append (close_one t h) g = close_one t (fits_append h g)
 fits_append (stay t h) g = stay t (fits_append h g)
 
--- with one more at each place
+-- with one more level of room everywhere
 fits_more : {r e : ℕ} {ms : List Mark} → Fits r ms e → Fits (suc r) ms (suc e)
 fits_more none = none
 fits_more (open_one t h) = open_one t (fits_more h)
@@ -104,7 +104,7 @@ closes_it opens = false
 closes_it closes = true
 closes_it stays = false
 
--- a mark is a gap or a token
+-- a mark is either a gap or a token
 data Shape (m : Mark) : Type 0 where
   gap : turn m ≡ stays → ((n : ℕ) (ms : List Mark) → lexemes_from n (m ∷ ms) ≡ lexemes_from n ms) → Shape m
   token : (x : ℕ → Lexeme) → ((n : ℕ) (ms : List Mark) → lexemes_from n (m ∷ ms) ≡ x n ∷ lexemes_from (suc n) ms)
@@ -195,9 +195,9 @@ fits_nests (open_one {r} {m} {ms} t h) n = opens_step r n m ms t (shape m) (fits
 fits_nests (close_one {r} {m} {ms} t h) n = closes_step r n m ms t (shape m) (fits_nests h (suc n))
 fits_nests (stay {r} {m} {ms} t h) n = stays_step r n m ms t (shape m) (λ n. fits_nests h n)
 
--- ---- what is printed fits
+-- ---- the printed text fits
 
--- flat marks take no room
+-- flat marks need no room
 abbrev Flat : List Mark → Type 0
 Flat ms = (r : ℕ) → Fits r ms r
 
@@ -212,7 +212,7 @@ joined_fit (run ∷ runs) r = stay refl (runs_fit runs r)
 literal_fits : (w : List ℕ) → Flat (literal_marks w)
 literal_fits w r = joined_fit (runs_of w) r
 
--- any room from this on
+-- any room from this depth on
 abbrev FitsFrom : ℕ → List Mark → Type 0
 FitsFrom d ms = (r : ℕ) → d ≤ r → Fits r ms r
 

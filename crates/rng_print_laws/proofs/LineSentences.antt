@@ -48,7 +48,7 @@ lexemes_append n (marks.ns_name p ∷ ms) ns = ap (λ (x : List Lexeme). lexeme.
 lexemes_append n (segment q w ∷ ms) ns = ap (λ (x : List Lexeme). lexeme.segment w ∷ x) (lexemes_append (suc n) ms ns)
 lexemes_append n (sign s ∷ ms) ns = ap (λ (x : List Lexeme). lexeme.sign s ∷ x) (lexemes_append (suc n) ms ns)
 
--- a space or a line end behind is no token
+-- a space or a line end at the end is no token
 lexemes_space : (n : ℕ) (ms : List Mark) → lexemes_from n (ms ++ space ∷ []) ≡ lexemes_from n ms
 lexemes_space n ms = lexemes_append n ms (space ∷ []) ∙ append-nil (lexemes_from n ms)
 
@@ -115,7 +115,7 @@ name_basic : (ns : List (List ℕ)) (u l : List ℕ) (n : ℕ) → IsBasic (lexe
 name_basic ns [] l n = bare (word_class (word_is l n) refl)
 name_basic ns (c ∷ u) l n = bare (cname_class refl)
 
--- a member and those behind it
+-- a member and those after it
 and_more : (n : ℕ) (ms ks : List Mark) (t : NameClass) (b : List Lexeme) (ts : List NameClass) → IsBasic (lexemes_from (suc n) ms) t → AreMoreClasses b ts
     → lexemes_from (place_behind (suc n) ms) ks ≡ b → AreMoreClasses (lexemes_from n (space ∷ sign signs.Bar ∷ space ∷ (ms ++ ks))) (t ∷ ts)
 and_more n ms ks t b ts basic more e =
@@ -127,7 +127,7 @@ and_last : (n : ℕ) (ms : List Mark) (t : NameClass) → IsBasic (lexemes_from 
     → AreMoreClasses (lexemes_from n (space ∷ sign signs.Bar ∷ space ∷ (ms ++ []))) (t ∷ [])
 and_last n ms t basic = last_class basic (ap (λ (x : List Mark). lexeme.sign signs.Bar ∷ lexemes_from (suc n) x) (append-nil ms))
 
--- What the tokens of a member are, and what the tokens of a first member are with more behind it.
+-- the tokens of a member, and the tokens of a first member followed by more
 abbrev Basic : List (List ℕ) → names.NameClass → Type 0
 Basic ns c = (n : ℕ) → IsBasic (lexemes_from n (in_parentheses_if (is_choice c || is_except c) (class_marks ns c))) (class_of ns c)
 
@@ -145,7 +145,7 @@ first_choice n left right t us b ts first more =
     rw (lexemes_append n left right, append_assoc (lexemes_from n left) (lexemes_from (place_behind n left) right) b, listed (t ++ us), append_assoc t us ts)
     (first (lexemes_from (place_behind n left) right ++ b) (us ++ ts) more)
 
--- more behind members
+-- more members after members
 more_behind : {a : List Lexeme} {us : List NameClass} → AreMoreClasses a us → (b : List Lexeme) (ts : List NameClass) → AreMoreClasses b ts
     → AreMoreClasses (a ++ b) (us ++ ts)
 more_behind (last_class {ts = a} {a = x} {c} basic e) b ts more = more_classes basic more (ap (λ (y : List Lexeme). y ++ b) e)
@@ -205,7 +205,7 @@ mutual
 
 -- ---- datatypes
 
--- the token of a datatype's name, in front of others
+-- the token of the name of a datatype, in front of others
 record TypeToken (n : ℕ) (d : Datatype) : Type 0 where
   token : Lexeme
   is : type_of token ≡ Some (lines.type_of d.library d.name)
@@ -252,7 +252,7 @@ may_be_parameters (p ∷ ps) n =
 
 -- ---- patterns
 
--- no item's name is a keyword
+-- no name of an item is a keyword
 abbrev pub AreIdentifiers : List Item → Type 0
 AreIdentifiers items = (i : Item) → keyword_of (item_name items i) ≡ None
 
@@ -263,7 +263,7 @@ name_primary : (items : List Item) → AreIdentifiers items → (i : Item) (n : 
     → IsPrimary (lexemes_from n (word (item_name items i) ∷ [])) (syntax.ref (item_name items i))
 name_primary items ids i n = bare_primary (grammar.ref (ap (λ (x : Lexeme). x ∷ []) (identifier_is (item_name items i) n (ids i))))
 
--- the datatypes that stand in the tree itself are known
+-- the datatypes in the tree itself are known
 abbrev pub KnowsType : Simple ℕ → Type 0
 KnowsType (s_data d) = CanBeNamed d.library d.name
 KnowsType (s_value d v) = CanBeNamed d.library d.name
@@ -301,7 +301,7 @@ reference_pattern items ids s n k = one_particle (once (reference_primary items 
 braced : (n : ℕ) (ms : List Mark) (t : Pattern) → IsPattern (lexemes_from (suc n) ms) t → IsBraced (lexemes_from n (braced_marks ms)) t
 braced n ms t p = in_braces p (ap (λ (x : List Lexeme). lexeme.sign signs.OpenBrace ∷ x) (lexemes_append (suc n) ms (space ∷ sign signs.CloseBrace ∷ [])))
 
--- members about a connector
+-- members on both sides of a connector
 two_members : (items : List Item) (k : Connector) (a b : List Mark) (t u : Pattern) (n : ℕ) → IsPrimary (lexemes_from n a) t
     → ((n : ℕ) → IsPrimary (lexemes_from n b) u) → IsPattern (lexemes_from n (a ++ (connector_marks k ++ b))) (syntax.members k (t ∷ u ∷ []))
 two_members items choice a b t u n p q =

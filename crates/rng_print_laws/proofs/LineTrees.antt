@@ -1,4 +1,4 @@
--- What is written for a pattern stands for the pattern's tree, its elements named by their lines.
+-- What is written for a pattern has the pattern's tree, with its elements named by their lines.
 use Rattle.std.proofs.Common.{◌≡◌, refl, sym, ap, subst, ℕ, ◌<◌, ◌^◌, List, [], ◌∷◌, length}
 use Rattle.rng_model.specs.names.Lists.{Among, here}
 use Rattle.rng_model.specs.simple.Tree.{Datatype, Tree, leaf, value, as_tree}
@@ -22,7 +22,7 @@ pub plain_datatype : (d : Datatype) → d.parameters ≡ [] → without_paramete
 plain_datatype d e = ap (λ ps. record { library = d.library; name = d.name; parameters = ps }) (sym e)
 
 module _ (g : Grammar) (items : List Item) where
-  -- the element of this number, where its line has it
+  -- the element of this number, where its line puts it
   abbrev pub leaf_at : ℕ → Leaf
   leaf_at k = record {
     place = [];
@@ -31,16 +31,16 @@ module _ (g : Grammar) (items : List Item) where
     content = reference_pattern items (element_at g k).1;
   }
 
-  -- the tree with its elements where their lines have them
+  -- the tree with its elements where their lines put them
   abbrev pub placed : Simple ℕ → Simple Leaf
   placed a = simple_renamed leaf_at a
 
-  -- the same as its lines have it
+  -- the same with classes as its lines show them
   abbrev pub line_tree_of : Simple ℕ → Tree Leaf
   line_tree_of a = as_tree (with_flattened (placed a))
 
   module _ (numbered : IsItemsOf g items) where
-    -- the elements in a tree whose items have lines have lines
+    -- the elements in a tree whose items have lines have lines too
     pub leaf_among : (a : Simple ℕ) (k : ℕ) → AreAmong items (item_of a) → LeafIn k (as_tree a) → Among (element k) items
     leaf_among s_not_allowed k h i = elim i [ ]
     leaf_among s_empty k h i = elim i [ ]
@@ -67,7 +67,7 @@ module _ (g : Grammar) (items : List Item) where
       abbrev line_of : Item → Tree Point
       line_of i = pattern_tree (line_number items i ∷ []) (item_pattern g items i)
 
-      -- a name stands for what its line does
+      -- a name has the tree of its line
       through : (i : Item) (t : Tree Leaf) → Among i items → Unfolds r [] (line_of i) t → Unfolds r [] (leaf (a_ref (item_name items i))) t
       through i t a d = u.found refl (item_found g items numbered few r lines i a) d
 
@@ -103,7 +103,7 @@ module _ (g : Grammar) (items : List Item) where
             (u.joined_is (reference_unfolds a _ f.0 (λ j c. p j (among_left (item_of b) c)))
             (reference_unfolds b _ f.1.0 (λ j c. p j (among_right (item_of a) c))) u.none_is)
 
-        -- the start stands for its tree, and the body of an element for its own
+        -- the start has its tree, and the body of an element has its own
         pub start_tree_is : IsGoodTree n g.start → IsTreeOf r (main_start r) (line_tree_of g.start)
         start_tree_is f = (
           pattern_tree (0 ∷ []) (reference_pattern items g.start),

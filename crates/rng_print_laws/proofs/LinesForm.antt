@@ -40,7 +40,7 @@ use Rattle.rng_print_laws.proofs.LineTrees.{leaf_at, placed, line_tree_of, leaf_
 use Rattle.rng_print_laws.proofs.ListedLines.{start_among, line_among}
 use Rattle.rng_print_laws.proofs.RenamedSteps.{step_renamed}
 
--- ---- trees with other names
+-- ---- trees with other names of leaves
 
 leaf_renamed : {K L : Type 0} (f : K → L) (k : K) (a : Simple K) → LeafIn k (as_tree a) → LeafIn (f k) (as_tree (simple_renamed f a))
 leaf_renamed f k s_not_allowed i = elim i [ ]
@@ -60,7 +60,7 @@ leaf_renamed f k (s_joined m a b) (at.of_others i) = elim i [ ]
 pub below_of : (n : ℕ) (a : Simple ℕ) → IsGoodTree n a → AreLeavesBelow n (as_tree a)
 below_of n a h k i = leaf_of IsAttributeClass IsGoodData IsGoodValue (λ k. k < n) i h
 
--- ---- an element is told by the number of its line
+-- ---- the number of its line determines an element
 
 abbrev pub number_of : Item → ℕ
 number_of (element k) = k
@@ -98,7 +98,7 @@ module _ (g : Grammar) (items : List Item) where
     placed_back a h =
         renamed_twice (number_at items) (leaf_at g items) a ∙ renamed_itself (λ k. number_at items (leaf_at g items k)) a (λ k i. number_back k (h k i))
 
-    -- no rule of simplification applies in the tree with its elements where their lines have them
+    -- no rule of simplification applies in the tree with its elements where their lines put them
     pub placed_last : (a : Simple ℕ) → IsLastSimple a → ((k : ℕ) → LeafIn k (as_tree a) → Among (element k) items) → (x : RuleGroup) (b : Tree Leaf)
         → Step x (as_tree (placed g items a)) b → ⊥
     placed_last a last h x b st =
@@ -142,7 +142,7 @@ module _ (s r : Schema) (g : Grammar) (items : List Item) (good : IsGoodGrammar 
       → IsSimpleFormOf (line_tree_of g items (element_at g k).1) (as_tree (placed g items (element_at g k).1))
   body_is_form k l a = placed_is_form g items numbered (element_at g k).1 (good.elements k l).body.last (body_leaf k a)
 
-  -- what the first schema reaches is an element of the grammar, which has a line, and which the schema of the lines reaches
+  -- The first schema reaches an element of the grammar. It has a line, and the schema of the lines reaches it.
   record IsListed (l : Leaf) : Type 0 where
     pub number : ℕ
     pub below : number < n
@@ -185,7 +185,7 @@ module _ (s r : Schema) (g : Grammar) (items : List Item) (good : IsGoodGrammar 
             (leaf_renamed (leaf_at g items) o.name a o.inside);
       }
 
-  -- so each element of the grammar is
+  -- so each element of the grammar has one
   pub record HasLine (k : ℕ) : Type 0 where
     pub among : Among (element k) items
     pub reached : IsReachedBySimpleForms r (leaf_at g items k)

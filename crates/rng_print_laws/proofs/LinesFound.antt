@@ -26,7 +26,7 @@ false_by false n = refl
 abbrev pub AreItemsNew : List Item → List Item → Type 0
 AreItemsNew = AreNew same_item item_exact item_itself
 
--- what is new behind others is none of them
+-- what is new after others is none of them
 new_among : (w xs : List Item) (i : Item) → AreItemsNew w xs → Among i xs → has same_item w i ≡ false
 new_among w [] i n a = elim a [ ]
 new_among w (x ∷ xs) i n here = n.0
@@ -43,7 +43,7 @@ pub in_rest : (i j : Item) (js : List Item) → same_item i j ≡ false → Amon
 in_rest i j js e here = absurd (false_true (sym e ∙ item_itself i))
 in_rest i j js e (there b) = b
 
--- the trees of a component of the name, and of one of another name
+-- the trees of a component with the name, and of one with another name
 with_name : (y : Option (List ℕ)) (n : ℕ) (c : Component) (cs : List Component) → same_name y c.name ≡ true
     → trees_named y n (c ∷ cs) ≡ pattern_tree (n ∷ []) c.pattern ∷ trees_named y (n + 1) cs
 with_name y n c cs e = rw e refl
@@ -106,7 +106,7 @@ module _ (g : Grammar) (items : List Item) where
             ∙ ap (λ (m : ℕ). line_tree m i ∷ []) place
 
     module _ (r : Schema) (lines : IsSchemaOfLines g items r) where
-      -- what the name of an item stands for
+      -- the definition that the name of an item refers to
       abbrev pub of_item : Item → Definition
       of_item i = record { place = []; name = Some (item_name items i) }
 

@@ -1,4 +1,5 @@
--- The grammar that was printed is a simple grammar of the schema of its lines, and the only one up to the numbers of its elements.
+-- The printed grammar is a simple grammar of the schema of its lines, and the only one up to the numbers of its
+-- elements.
 use Rattle.std.proofs.Common.{◌≡◌, ◌∙◌, refl, sym, ap, subst, ℕ, zero, suc, ◌+◌, ◌<◌, ◌^◌, List, [], ◌∷◌, length, get_or, arith}
 use Rattle.std.specs.Prelude.{Contains}
 use Rattle.std.proofs.lemmas.Option.{slice_get_within, get_or_from_slice_get}

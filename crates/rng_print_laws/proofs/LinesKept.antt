@@ -133,7 +133,7 @@ module _ (s r : Schema) (g : Grammar) (items : List Item) (h : IsReprinted s r g
   pub reprinted_only : IsOnlySimpleGrammarOf r g
   reprinted_only = only_simple_grammar r g reprinted_form
 
-  -- each simple grammar of it is that one, but for the numbers of its elements
+  -- each simple grammar of the schema is this one, except for the numbers of its elements
   pub reprinted_numbers : (other : Grammar) → IsSimpleGrammarOf r other → AreSameUpToNumbering g other
   reprinted_numbers other is = same_numbering r g other reprinted_form.0 reprinted_form.1 reprinted_form.2 (only_simple_grammar r other is)
 
@@ -158,6 +158,6 @@ module _ (s r : Schema) (text : List ℕ) (h : IsReprintedAs s r text) where
     },
   )
 
--- each text that is printed for it is that one
+-- each text that is printed for the schema is this one
 pub same_text_again : (s r : Schema) (text other : List ℕ) → IsReprintedAs s r text → IsPrintedForm r other → other ≡ text
 same_text_again s r text other h p = one_form r other text p (reprinted_text s r text h).1

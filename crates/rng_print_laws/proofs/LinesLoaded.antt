@@ -1,4 +1,4 @@
--- What is answered where the file of the lines is handed in as the main one.
+-- What loading returns if the file of the lines is handed in as the main one.
 use Rattle.std.proofs.Common.{◌≡◌, refl, subst, inl, inr, ℕ, ◌≤◌, List, [], ◌∷◌, length, arith, Result, Ok, Err}
 use Rattle.std.specs.Prelude.{MatchResult}
 use Rattle.rng_model.specs.names.Lists.{here, HasTwo, first_and, both_later}
@@ -29,7 +29,7 @@ together_or_all : {k : ℕ} {r : TakenFiles} → together_break k ≡ are_taken 
 together_or_all e = cc
 
 module _ (files : List NamedFile) (main : Name) (g : Grammar) (items : List Item) (has : HasTree files main main (lines_tree g items)) where
-  -- what is answered is the schema of the lines
+  -- what loading returns is the schema of the lines
   pub lines_loaded : (result : Result loaded.Schema SchemaFault) → IsLoaded files main result
       → MatchResult result (λ r. IsSchemaOfLines g items (schema_of r)) (λ fault. fault ≡ faults.Memory)
   lines_loaded (Ok r) h =

@@ -1,4 +1,4 @@
--- The file of the lines, handed in as the main one, is taken alone, and breaks no clause of files together.
+-- The file of the lines, handed in as the main one, is taken alone, and breaks no clause about several files.
 use Rattle.std.proofs.Common.{◌≡◌, ◌∙◌, refl, sym, ap, ap₂, subst, inl, inr, ℕ, ◌<◌, Bool, true, false, cond, List, [], ◌∷◌, ◌++◌, map}
 use Rattle.std.proofs.Common.{length, Option, Some, None, slice_get, arith}
 use Rattle.std.specs.List.{fold}
@@ -64,7 +64,7 @@ items_mention g items (j ∷ js) = ap₂ (λ (xs ys : List MentionedFile). xs ++
 lines_mention : (g : Grammar) (items : List Item) → mentions_of (lines_tree g items) ≡ []
 lines_mention g items = ap₂ (λ (xs ys : List MentionedFile). xs ++ ys) (reference_mentions items g.start) (items_mention g items items)
 
--- ---- a main file that mentions none
+-- ---- a main file that mentions no other
 
 twice_none : (p q : Path) (rest : List Path) → p ≡ [] → q ≡ [] → HasTwice (p ∷ q ∷ rest)
 twice_none p q rest e f = subst (λ x. HasTwice (p ∷ x ∷ rest)) (e ∙ sym f) (at_first here)

@@ -33,7 +33,7 @@ map_among f (there a) = there (map_among f a)
 some_same : {A : Type 0} {x y : A} → ◌≡◌ (Some x) (Some y) → x ≡ y
 some_same e = cc
 
--- a pattern that has parts, or the except of a data
+-- a pattern with parts, or the except of a data
 abbrev IsWhole : Simple ℕ → Type 0
 IsWhole s_not_allowed = ⊥
 IsWhole s_empty = ⊥
@@ -100,7 +100,7 @@ module _ (g : Grammar) (items : List Item) (good : IsGoodGrammar g) (numbered : 
   good_item : (i : Item) → Among i items → IsGoodItem i
   good_item = each_item g items numbered IsGoodItem (tree_items g.start good.start.good) mention_items
 
-  -- ---- what the clauses ask of a pattern
+  -- ---- the conditions of the clauses on a pattern
 
   abbrev Asked : Pattern → Type 0
   Asked written.not_allowed = Unit {0}

@@ -1,4 +1,4 @@
--- What the lines of a grammar mention has a line, and each line stands once.
+-- What the lines of a grammar mention has a line, and each line occurs once.
 use Rattle.std.proofs.Common.{◌≡◌, sym, subst, inl, inr, zero, suc, true, List, [], ◌∷◌, ◌++◌, flat_map, arith}
 use Rattle.std.specs.Prelude.{Contains}
 use Rattle.std.specs.List.{AllByRecursion}
@@ -66,7 +66,8 @@ module _ (g : Grammar) (items : List Item) (n : IsItemsOf g items) where
   pub each_once : AreNew same_item item_exact item_itself [] items
   each_once = numbering_new same_item item_exact item_itself (item_of g.start) (mentions g) items n
 
-  -- what holds of what the start mentions, and of what a line mentions of whose item it holds, holds of each item
+  -- what holds for everything the start mentions, and passes from a line's item to everything the line mentions, holds
+  -- for each item
   pub each_item : (P : Item → Type 0) → ((i : Item) → Among i (item_of g.start) → P i) → ((j : Item) → P j → (i : Item) → Among i (mentions g j) → P i)
       → (i : Item) → Among i items → P i
   each_item P starts lines i a = reached i (all_among (IsReached same_item (item_of g.start) (mentions g)) n.reached a)

@@ -25,7 +25,7 @@ text_append (m ∷ ms) ns =
     ap (λ (x : List ℕ). mark_text escaped m ++ x) (text_append ms ns)
     ∙ sym (append_assoc (mark_text escaped m) (text_of_marks escaped ms) (text_of_marks escaped ns))
 
--- a text in front, of marks, and more behind it
+-- a text of marks in front, followed by more
 behind : (w v : List ℕ) (ms ns : List Mark) → w ≡ text_of_marks escaped ms → v ≡ text_of_marks escaped ns → w ++ v ≡ text_of_marks escaped (ms ++ ns)
 behind w v ms ns e f = rw (e, f) (sym (text_append ms ns))
 

@@ -1,4 +1,4 @@
--- The names that are made of a letter and a number: they are NCNames, no keywords, and told apart.
+-- Names made of a letter and a number: they are NCNames, not keywords, and different for different numbers.
 use Rattle.std.proofs.Common.{◌≡◌, ◌≢◌, ◌∙◌, ℕ, suc, ◌+◌, ◌≤◌, ◌<◌, ◌^◌, ◌%◌, Bool, true, false, cond, List, [], ◌∷◌, ◌++◌, length, refl, sym, ap, subst}
 use Rattle.std.proofs.Common.{Option, Some, None, arith}
 use Rattle.std.specs.Prelude.{◌&&◌, ◌||◌, ◌==◌, not, nat_le, decimal, encode_utf8_all}
@@ -81,9 +81,9 @@ digits_in_name (d ∷ ds) h =
 pub letter_number_name : (c n : ℕ) → (is_name_start c && not (is_colon c)) ≡ true → n < 2 ^ 64 → is_ncname (c ∷ decimal n) ≡ true
 letter_number_name c n s lt = and_from (is_name_start c && not (is_colon c)) _ s (digits_in_name (decimal n) (digits n lt).all)
 
--- ---- no keywords
+-- ---- they are not keywords
 
--- a digit is no letter
+-- a digit is not a letter
 no_letter : (d c : ℕ) → d ≤ 0x39 → 0x3A ≤ c → (d == c) ≡ false
 no_letter d c h i = ne_eqb d c (λ e. absurd (omega (arith, h, i, e)))
 

@@ -1,4 +1,4 @@
--- A step of simplification in a name class keeps its names, and the parentheses with which it is printed.
+-- A step of simplification in a name class keeps its names, and the parentheses of its printed text.
 use Rattle.std.proofs.Common.{◌≡◌, refl, sym, subst, ap, ℕ, ◌≤◌, max, ◌||◌, arith}
 use Rattle.rng_model.specs.names.Names.{NameClass, NameClasses}
 use Rattle.rng_model.specs.simple.ClassSteps as step
@@ -24,7 +24,7 @@ mutual
 
 -- ---- parentheses
 
--- a choice stays a choice, and what has an except has one
+-- a choice stays a choice, and a class with an except keeps one
 same_kind : {c d : NameClass} → ClassStep c d → (is_choice d ≡ is_choice c) × (is_except d ≡ is_except c)
 same_kind step.nest_class = (refl, refl)
 same_kind (step.in_any_except s) = (refl, refl)
@@ -36,7 +36,7 @@ same_kind (step.in_other_classes s) = (refl, refl)
 nested_max : (a b c d : ℕ) → max (max a (max b 0)) (max c d) ≡ max a (max b (max c d))
 nested_max a b c d = omega arith
 
--- as a member or an except it has the same parentheses
+-- the class has the same parentheses as a member or an except
 enclosed : (c d : NameClass) → (is_choice d ≡ is_choice c) × (is_except d ≡ is_except c) → parentheses d ≡ parentheses c
     → one_more_if (is_choice d || is_except d) (parentheses d) ≡ one_more_if (is_choice c || is_except c) (parentheses c)
 enclosed c d k e = rw (k.0, k.1, e) refl

@@ -1,4 +1,4 @@
--- A grammar that is printable, so that the law speaks of something.
+-- An example of a printable grammar, so the law is not vacuous.
 use Rattle.std.proofs.Common.{[], ◌∷◌, refl, arith, codes, inl, inr, rules}
 use Rattle.rng_model.specs.names.Names.{name_is}
 use Rattle.rng_model.specs.schema.Patterns.{without_parameters}
@@ -7,7 +7,7 @@ use Rattle.rng_model.specs.simple.Table.{Grammar}
 use Rattle.rng_print_laws.specs.plain.Printable.{IsText, IsName, IsPrintable}
 use Rattle.rng_print_laws.proofs.NamedDatatypes.{ascii_text, ascii_name}
 
--- an element `doc` of the namespace `urn:a`, with an attribute `kind` that is `a`, and text
+-- an element `doc` in the namespace `urn:a`, with an attribute `kind` with the value `a`, and text
 abbrev pub example : Grammar
 example = record {
   start = s_leaf 0;

@@ -1,4 +1,4 @@
--- A simple form of a schema whose components are well spelled and whose datatypes are known is printable.
+-- A simple form of a schema is printable if its components are well spelled and its datatypes are known.
 use Rattle.std.proofs.Common.{◌≡◌, refl, subst, ℕ, suc, ◌+◌, inl, inr, Bool, true, false, if◌then◌else◌, List, [], ◌∷◌, Option, Some, None}
 use Rattle.std.proofs.Common.{slice_get, codes}
 use Rattle.std.specs.List.{AllByRecursion}
@@ -39,7 +39,7 @@ type_known (types.nmtoken_is e f) n = inr (e, n)
 type_known (types.boolean_is e f) n = inr (e, n)
 type_known (types.integer_is e f) n = inr (e, n)
 
--- what is not refuted, of texts that are told apart
+-- a type that is not refuted, since texts can be compared
 known : (library name : List ℕ) → IsName name → ¬ (¬ (CanBeNamed library name)) → CanBeNamed library name
 known library name n kept = by_tests (bytes_eq library xsd_uri) (bytes_eq library []) (bytes_eq name (codes "string")) (bytes_eq name (codes "token")) refl
     refl refl refl
@@ -68,11 +68,11 @@ each_found P (x ∷ xs) f = (f 0 x refl, each_found P xs (λ k y e. f (suc k) y 
 -- ---- trees of a schema
 
 module _ (s : Schema) (good : IsWellSpelledSchema s) (kept : ¬ (BreaksDatatype s)) where
-  -- a pattern is well spelled, and what stands in it is written at the place
+  -- a pattern is well spelled, and its parts are written at the place
   abbrev IsGoodAt : Place → Pattern → Type 0
   IsGoodAt x p = IsWellSpelledPattern p × ((q : Pattern) → IsWrittenIn q p → IsWrittenAt s x q)
 
-  -- an element's class is printable, and its body so
+  -- the class and the body of an element are printable
   abbrev IsGoodPoint : Place → Point → Type 0
   IsGoodPoint x (an_element n c p) = IsPrintableClass c × IsGoodAt x p
   IsGoodPoint x (a_ref y) = Unit {0}

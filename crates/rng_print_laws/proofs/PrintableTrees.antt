@@ -1,4 +1,4 @@
--- Trees all of which is printable: the steps of simplification and the joining of bodies keep them so.
+-- Trees with only printable parts: the steps of simplification and the joining of bodies keep them so.
 use Rattle.std.proofs.Common.{◌≡◌, subst, ℕ, List, [], ◌∷◌, Some, None}
 use Rattle.rng_model.specs.simple.Tree.{Connector, Tree, not_allowed, empty, text, leaf, attribute, list, data_of, data_except, value, mixed, optional}
 use Rattle.rng_model.specs.simple.Tree.{zero_or_more, one_or_more, joined, Trees, no_trees, tree_and, as_tree}
@@ -19,7 +19,7 @@ pub some_is : {A : Type 0} {x y : A} → Some x ≡ Some y → x ≡ y
 some_is e = cc
 
 module _ {L : Type 0} (P : L → Type 0) where
-  -- its classes, datatypes and texts are printable, and each leaf is so
+  -- its classes, datatypes and texts are printable, and so is each leaf
   abbrev mutual
     pub IsGoodTree : Tree L → Type 0
     IsGoodTree not_allowed = Unit {0}
@@ -59,7 +59,7 @@ module _ {L : Type 0} (P : L → Type 0) where
     leaf_among (at.in_this i) h = leaf_of i h.0
     leaf_among (at.in_later i) h = leaf_among i h.1
 
-  -- a step keeps it
+  -- a step keeps this
   mutual
     step_good : {g : RuleGroup} {a b : Tree L} → Step g a b → IsGoodTree a → IsGoodTree b
     step_good step.nest h = ((h.0, h.1, tt), h.2.0, h.2.1)
@@ -100,7 +100,7 @@ module _ {L : Type 0} (P : L → Type 0) where
   steps_good step.no_step h = h
   steps_good (step.step_and s more) h = steps_good more (step_good s.1 h)
 
-  -- ---- the body of a definition, of such trees
+  -- ---- the body of a definition, made of such trees
 
   abbrev pub AreAllGood : List (Tree L) → Type 0
   AreAllGood [] = Unit {0}

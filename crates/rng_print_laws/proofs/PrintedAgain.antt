@@ -1,4 +1,4 @@
--- The answer of `simple` for what it printed is what it printed.
+-- The answer of `simple` for what it printed is the same text.
 use Rattle.std.proofs.Common.{◌≡◌, ap, subst, ℕ, List, Option}
 use Rattle.rnc_model.specs.loading.LoadedSchema.{AreSchema}
 use Rattle.rnc_model.specs.loading.Loading.{are_taken}
@@ -22,7 +22,7 @@ not_valid e = cc
 
 module _ (s : Schema) (text : List ℕ) (files : List NamedFile) (main : Name) (h : IsHandedInAgain s text files main) (input_old input_new : Option (List ℕ))
   where
-    -- the schema that the text is
+    -- the schema of the text
     reprinted : (r : Schema) → AreSchema (lines_alone main h.printed.grammar h.printed.is_printed.items) main r → IsReprintedAs s r text
     reprinted r a =
         record { kept = h.kept; printed = h.printed; few = h.few; lines = lines_are_schema main h.printed.grammar h.printed.is_printed.items r a }

@@ -1,4 +1,4 @@
--- What `simple` printed is a schema of the same simple form, and has itself for its answer, where printed texts are read back.
+-- What `simple` printed is a schema with the same simple form, and is its own answer, if printed texts are read back.
 use Rattle.std.proofs.Common.{◌≡◌, refl, sym, subst, ℕ, ◌≤◌, List, Option, length}
 use Rattle.rnc_model.specs.loading.LoadedSchema.{AreSchema}
 use Rattle.rnc_model.specs.loading.Loading.{TakenFiles, FilesVerdict, file_breaks, together_break, are_taken, FilesHaveOnlyVerdict}
@@ -16,7 +16,7 @@ use Rattle.rng_print_laws.proofs.LinesLoaded.{printed_alone}
 use Rattle.rng_print_laws.proofs.PrintedAgain.{not_check, not_valid, answer_alone}
 use Rattle.rng_print_laws.proofs.SameForm.{only_schema, same_form_again}
 
--- what is told of a schema of which this text is printed
+-- what is known of a schema for which this text is printed
 record IsPrintedOf (s : Schema) (text : List ℕ) : Type 0 where
   pub kept : BreaksNoClause s
   pub printed : IsPrintedForm s text
@@ -40,11 +40,12 @@ printed_of : (s : Schema) (text : List ℕ) (input_old input_new : Option (List 
 printed_of s text input_old input_new answer (run.schema_is_told t) e = told_of s text answer t e
 printed_of s text input_old input_new answer (run.document_is_judged j v) e = not_valid j.command_is
 
--- texts that are printed for the schemas that files are, and that break no clause, are read back, where they are no longer than a file may be
+-- texts that are printed for schemas of files without broken clauses are read back, if they are no longer than a file
+-- may be
 module _ (files : List NamedFile) (main : Name) (text : List ℕ) (small : length text ≤ size_limit)
     (reads : (read : TakenFiles) (s : Schema) → FilesHaveOnlyVerdict files main (are_taken read) → AreSchema read main s → BreaksNoClause s
     → (p : IsPrintedForm s text) → IsSchemaFile text (lines_tree p.grammar p.is_printed.items)) (input_old input_new : Option (List ℕ)) where
-  -- the schema that the files are, for which the text is printed
+  -- the schema of the files for which the text is printed
   read_back : (verdict : FilesVerdict) → FilesHaveOnlyVerdict files main verdict → IsAnswerTo Simple main verdict input_old input_new (printed text)
       → (s : Schema) × AreFilesOf s files main × IsPrintedFile s text
   read_back (file_breaks f clause) v e = not_refused_file e

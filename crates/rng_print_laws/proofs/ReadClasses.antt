@@ -1,4 +1,5 @@
--- The name classes of the lines, read with their namespaces, are the classes of the grammar with their first members taken apart.
+-- The name classes of the lines, read with their namespaces, are those of the grammar with their first members taken
+-- apart.
 use Rattle.std.proofs.Common.{◌≡◌, ◌∙◌, refl, sym, ap, ap₂, List, [], ◌∷◌, ◌++◌, map, ℕ}
 use Rattle.std.proofs.lemmas.List.{map-append}
 use Rattle.rng_model.specs.names.Names as names
@@ -21,7 +22,7 @@ listed_names : (cs : List names.NameClass) → list_of (names.classes_of cs) ≡
 listed_names [] = refl
 listed_names (c ∷ cs) = ap (λ (xs : List names.NameClass). c ∷ xs) (listed_names cs)
 
--- two members and more are those of their choice
+-- two or more members are those of their choice
 members_some : (c x : names.NameClass) (xs : List names.NameClass) → members_in (some_of (members_in c ++ x ∷ xs)) ≡ members_in c ++ x ∷ xs
 members_some names.any_name x xs = ap (λ (ys : List names.NameClass). names.any_name ∷ x ∷ ys) (listed_names xs)
 members_some (names.any_except c) x xs = ap (λ (ys : List names.NameClass). names.any_except c ∷ x ∷ ys) (listed_names xs)

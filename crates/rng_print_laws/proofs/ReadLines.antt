@@ -106,7 +106,7 @@ module _ (files : List ℕ → Option FileTree) where
     none_in_lines c n here b = elim b [ ]
     none_in_lines c n (there a) b = none_nested c items n a b
 
-    -- no grammar is nested in the one of the lines
+    -- no grammar is nested in that of the lines
     record IsMain (x : Place) (o : Option Place) (u : List ℕ) (cs : tree.Components) : Type 0 where
       pub place : x ≡ []
       pub outer : o ≡ None
@@ -137,7 +137,7 @@ module _ (files : List ℕ → Option FileTree) where
           only = λ x cs e. let h = is.only_there x cs e in (is_main h.3).place;
         }
 
-    -- ---- and there is one
+    -- ---- there is one
 
     pub lines_are_read : IsSchemaOf files (lines_tree g items) (schema_of_lines g items)
     lines_are_read = record {

@@ -69,7 +69,7 @@ name_then w ms h a r = then (a_word (encodes-chars w h.0)) h.1 a r
 ascii_then : (w : List ℕ) (ms : List Mark) → encode_utf8_all w ≡ w → is_ncname w ≡ true → begins_apart ms ≡ true → Read ms → Read (word w ∷ ms)
 ascii_then w ms e h a r = then (a_word e) h a r
 
--- the namespaces' prefixes are few
+-- there are few prefixes of namespaces
 abbrev AreFew : List (List ℕ) → Type 0
 AreFew ns = length ns < 2 ^ 64
 

@@ -16,7 +16,8 @@ use Rattle.rng_print_laws.proofs.LineConditions.{items_printable, tokens_read}
 use Rattle.rng_print_laws.proofs.SpelledMarks.{marks_are_decoded, marks_have_tokens, tokens_are}
 use Rattle.rng_print_laws.proofs.ReadMarks.{marks_are_read}
 
--- The printed text of a printable grammar breaks no clause of a file but that of its size, and has the tree of its lines.
+-- The printed text of a printable grammar breaks no clause of a file except that of its size, and has the tree of its
+-- lines.
 reads_back : MarksAreCut → MarksAreDecoded → (g : Grammar) (items : List Item) → IsPrintable g → IsItemsOf g items → length items < 2 ^ 64
     → length (namespaces g items) < 2 ^ 64 → IsReadAs (text_of g items) (lines_tree g items)
 reads_back cut decoded g items p n lt few =
@@ -29,8 +30,8 @@ reads_back cut decoded g items p n lt few =
       tree = subst (λ (x : List Lexeme). IsFileTree x (lines_tree g items)) (sym (tokens_are r.reads 0 1)) (tokens_read g items p n lt few 1);
     }
 
--- The printed text of a printable grammar, where it is not too long for a file, breaks no clause of a file and has the tree
--- of its lines.
+-- The printed text of a printable grammar, if it is not too long for a file, breaks no clause of a file and has the
+-- tree of its lines.
 pub printed_reads_back : MarksAreCut → MarksAreDecoded → (g : Grammar) (text : List ℕ) → IsPrintable g → (p : IsPrinted g text) → length text ≤ 1048576
     → IsReadAs text (lines_tree g p.items)
 printed_reads_back cut decoded g text h p le =

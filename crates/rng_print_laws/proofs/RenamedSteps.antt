@@ -1,4 +1,5 @@
--- A step of simplification asks nothing of the names of leaves, so one from a tree is one from the tree with other names.
+-- A step of simplification does not depend on the names of leaves, so a step of a tree is one of the tree with other
+-- names.
 use Rattle.std.proofs.Common.{◌≡◌, refl}
 use Rattle.rng_model.specs.simple.Tree.{Tree, not_allowed, empty, text, leaf, attribute, list, data_of, data_except, value, mixed, optional}
 use Rattle.rng_model.specs.simple.Tree.{zero_or_more, one_or_more, joined, Trees}

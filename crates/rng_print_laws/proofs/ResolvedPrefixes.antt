@@ -1,4 +1,4 @@
--- The declarations of the printed lines, applied, give each prefix its namespace, and break no rule.
+-- Applying the declarations of the printed lines gives each prefix its namespace, and breaks no rule.
 use Rattle.std.proofs.Common.{◌≡◌, ◌∙◌, ◌⊎◌, inl, inr, ℕ, false, List, [], ◌∷◌, ◌++◌, map, refl, sym, ap, subst, Some, None, codes}
 use Rattle.std.specs.Prelude.{cond}
 use Rattle.std.specs.List.{AllByRecursion}
@@ -45,7 +45,7 @@ tree_listed : (cs : List tree.NameClass) → trees.list_of (tree.classes_of cs) 
 tree_listed [] = refl
 tree_listed (c ∷ cs) = ap (λ (x : List tree.NameClass). c ∷ x) (tree_listed cs)
 
--- these classes, resolved, are those
+-- the first classes, resolved, are the second ones
 abbrev Become : Scope → Namespace → List syntax.NameClass → List tree.NameClass → Type 0
 Become s d [] [] = Unit {0}
 Become s d (x ∷ xs) (u ∷ us) = (class_in s d x ≡ Some u) × Become s d xs us
@@ -143,7 +143,7 @@ reference_found s items (s_data_except d a) k = refl
 reference_found s items (s_one_or_more a) k = refl
 reference_found s items (s_joined j a b) k = refl
 
--- the namespaces of a pattern's own line
+-- the namespaces in the line of a pattern
 abbrev namespaces_at : Simple ℕ → List (List ℕ)
 namespaces_at (s_attribute c a) = namespaces_in c
 namespaces_at _ = []
@@ -197,7 +197,7 @@ components_found s g ns items d t k n = rw (reference_found s items g.start t, d
 
 -- ---- declarations
 
--- no two of these have one prefix
+-- two of these do not have the same prefix
 abbrev pub Apart : List (List ℕ) → List ℕ → List ℕ → Type 0
 Apart ns u v = bytes_eq (prefix_of ns u) (prefix_of ns v) ≡ false
 
@@ -224,7 +224,7 @@ still_free s ns u (v ∷ us) a f = (rw a.0 f.0, still_free s ns u us a.1 f.1)
 abbrev lines_declarations : List (List ℕ) → List (List ℕ) → List syntax.Declaration
 lines_declarations ns us = map (λ u. syntax.namespace (prefix_of ns u) (syntax.literal u)) us
 
--- what was declared for a prefix stays
+-- what is declared for a prefix stays
 record Declared (s : Scope) (ns us : List (List ℕ)) : Type 0 where
   scope : Scope
   is : declare_all s (lines_declarations ns us) ≡ Some scope
@@ -249,7 +249,7 @@ all_declared s ns (u ∷ us) a f =
       known = (more.stays (prefix_of ns u) (apart_other ns u us a.0) ∙ rw (bytes_itself (prefix_of ns u)) refl, more.known);
     }
 
--- what is declared for all namespaces serves for some of them
+-- what is declared for all namespaces suffices for some of them
 pub file_found : (g : Grammar) (ns : List (List ℕ)) (items : List Item) → KnowsType g.start → AllByRecursion (KnowsItem g) items → AreApart ns ns
     → ((s : Scope) → KnowsAll s ns ns → AllByRecursion (λ i. KnowsAll s ns (namespaces_of g i)) items)
     → file_tree (lines.file g ns items) ≡ Some (trees.lines_tree g items)

@@ -1,4 +1,5 @@
--- Tokens that are well spelled, and how much room for brackets they leave: an opening bracket takes one, a closing one gives one back.
+-- Well spelled tokens, and the room for brackets that they leave: an opening bracket takes one place, a closing one
+-- gives one back.
 use Rattle.std.proofs.Common.{◌≡◌, ◌∙◌, refl, sym, subst, ap, ℕ, suc, ◌+◌, ◌-◌, ◌≤◌, arith, Bool, true, false, cond}
 use Rattle.std.proofs.Common.{List, [], ◌∷◌, ◌++◌, Some}
 use Rattle.std.specs.Prelude.{take}
@@ -28,7 +29,7 @@ IsWellSpelled (ns_name p) = IsName p
 IsWellSpelled (segment w) = IsText w
 IsWellSpelled (sign s) = Unit {0}
 
--- the room behind a token is so
+-- the room after a token satisfies P
 abbrev pub Behind : Lexeme → ℕ → (ℕ → Type 0) → Type 0
 Behind (sign OpenBrace) r P = (m : ℕ) × (r ≡ suc m) × P m
 Behind (sign OpenParenthesis) r P = (m : ℕ) × (r ≡ suc m) × P m
@@ -36,12 +37,12 @@ Behind (sign CloseBrace) r P = P (suc r)
 Behind (sign CloseParenthesis) r P = P (suc r)
 Behind _ r P = P r
 
--- tokens that are well spelled lead from one room to another
+-- well spelled tokens lead from one room to another
 abbrev pub Leads : List Lexeme → ℕ → ℕ → Type 0
 Leads [] r e = e ≡ r
 Leads (x ∷ ts) r e = IsWellSpelled x × Behind x r (λ m. Leads ts m e)
 
--- the tokens keep the room, and this is so
+-- the tokens keep the room, and P holds
 pub record Keeps (ts : List Lexeme) (r : ℕ) (P : Type 0) : Type 0 where
   pub keeps : (e : ℕ) → Leads ts r e → (e ≡ r) × P
 
@@ -121,7 +122,7 @@ past_word (ns_name p) i f = absurd (none_is_not_some i)
 past_word (segment v) i f = absurd (none_is_not_some i)
 past_word (sign s) i f = absurd (none_is_not_some i)
 
--- the name of a datatype has an NCName behind its prefix
+-- the name of a datatype has an NCName after its prefix
 abbrev pub IsWellSpelledName : DatatypeName → Type 0
 IsWellSpelledName string_type = Unit {0}
 IsWellSpelledName token_type = Unit {0}
@@ -146,7 +147,7 @@ past_connector And i f = record { keeps = λ e h. f.keeps e h.1 }
 past_connector Bar i f = record { keeps = λ e h. f.keeps e h.1 }
 past_connector _ i f = absurd (none_is_not_some i)
 
--- a sign that is no bracket that counts
+-- a sign that is not a brace or a parenthesis
 abbrev IsPlain : Sign → Type 0
 IsPlain OpenBrace = ⊥
 IsPlain CloseBrace = ⊥
@@ -168,7 +169,7 @@ past_other (sign OpenParenthesis) i f = false_true (sym i)
 past_other (sign CloseParenthesis) i f = false_true (sym i)
 past_other _ i f = record { keeps = λ e h. f.keeps e h.1 }
 
--- ---- tokens that nest within a limit have room for it
+-- ---- tokens that nest within a limit have that much room
 
 counted : (p : Lexeme → Bool) (x : Lexeme) (xs : List Lexeme) → p x ≡ true → count_by p (x ∷ xs) ≡ 1 + count_by p xs
 counted p x xs e = sum_by-cons (λ y. cond (p y) 1 0) x xs ∙ ap (λ (b : Bool). cond b 1 0 + count_by p xs) e

@@ -1,4 +1,4 @@
--- What is printed for a schema, handed in again, is a schema of the same simple form.
+-- What is printed for a schema, handed in again, is a schema with the same simple form.
 use Rattle.std.proofs.Common.{◌≡◌, subst, ℕ, List}
 use Rattle.rnc_model.specs.loading.LoadedSchema.{AreSchema}
 use Rattle.rnc_model.specs.loading.Loading.{TakenFiles, are_taken, FilesHaveVerdict}
@@ -26,7 +26,7 @@ have_same_form s r g is also h = (also_of s r g is also h, also_of r s g also is
 
 -- ---- the schema of the lines
 
--- files are one schema at most
+-- files have at most one schema
 module _ (one_schema : (read : TakenFiles) (main : Name) (r t : Schema) → AreSchema read main r → AreSchema read main t → r ≡ t) where
   pub only_schema : (files : List NamedFile) (main : Name) (read : TakenFiles) (s r : Schema) → FilesHaveVerdict files main (are_taken read)
       → AreSchema read main s → AreFilesOf r files main → r ≡ s

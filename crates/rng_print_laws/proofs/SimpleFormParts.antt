@@ -1,5 +1,5 @@
--- What holds of each name class, datatype and value that is written in a schema holds of those in its simple form, as far as the nesting of name
--- classes keeps it.
+-- A property of each name class, datatype and value that is written in a schema holds for those in its simple form, if
+-- changes of the nesting of name classes keep it.
 use Rattle.std.proofs.Common.{◌≡◌, refl, subst, ℕ, ◌+◌, Bool, true, false, if◌then◌else◌, List, [], ◌∷◌, Option, Some, None}
 use Rattle.rng_model.specs.names.Lists.{Among, here, there}
 use Rattle.rng_model.specs.names.Names.{NameClass}
@@ -32,7 +32,7 @@ second p = p.1
 none_is_not_some : {A B : Type 0} {x : A} → ◌≡◌ {A = Option A} None (Some x) → B
 none_is_not_some e = cc
 
--- ---- what is asked of the name classes of attributes, of datatypes, and of values
+-- ---- the conditions on the name classes of attributes, on datatypes, and on values
 
 module _ (IsClass : NameClass → Type 0) (IsData : Datatype → Type 0) (IsValue : Datatype → List ℕ → Type 0) where
   module _ {L : Type 0} (IsLeaf : L → Type 0) where
@@ -75,7 +75,7 @@ module _ (IsClass : NameClass → Type 0) (IsData : Datatype → Type 0) (IsValu
       leaf_among (at.in_this i) h = leaf_of i (first h)
       leaf_among (at.in_later i) h = leaf_among i (second h)
 
-    -- ---- the body of a definition, of trees that are so
+    -- ---- the body of a definition, made of such trees
 
     abbrev AreAllFine : List (Tree L) → Type 0
     AreAllFine [] = Unit {0}
@@ -89,7 +89,7 @@ module _ (IsClass : NameClass → Type 0) (IsData : Datatype → Type 0) (IsValu
     nested_fine k [] a e hs = none_is_not_some e
     nested_fine k (t ∷ ts) a e hs = subst IsFine (some_is refl e) (from_fine k t ts (first hs) (second hs))
 
-    -- ---- a step keeps it
+    -- ---- a step keeps the conditions
 
     module _ (keeps : (c d : NameClass) → ClassStep c d → IsClass c → IsClass d) where
       mutual
@@ -138,7 +138,7 @@ module _ (IsClass : NameClass → Type 0) (IsData : Datatype → Type 0) (IsValu
       (data_is : (x : Place) (d : Datatype) → IsWrittenAt s x (written.data_of d) → IsData d)
       (except_is : (x : Place) (d : Datatype) (p : Pattern) → IsWrittenAt s x (written.data_except d p) → IsData d)
       (value_is : (x : Place) (library name v : List ℕ) → IsWrittenAt s x (written.value library name v) → IsValue (without_parameters library name) v) where
-    -- the element is written at the place, and what stands in its body
+    -- the element is written at the place, and the parts of its body are, too
     abbrev pub IsElementAt : Place → NameClass → Pattern → Type 0
     IsElementAt x c p = IsWrittenAt s x (written.element c p) × ((q : Pattern) → IsWrittenIn q p → IsWrittenAt s x q)
 
@@ -249,7 +249,7 @@ module _ (IsClass : NameClass → Type 0) (IsData : Datatype → Type 0) (IsValu
       reached_there (from_simple_body {m} {l} {t} r u f i) =
           leaf_of IsLeafThere i (steps_fine IsLeafThere keeps f.reached (content_fine m t (reached_there r) u))
 
-      -- the start and each body of the simple form are so
+      -- the start and each body of the simple form meet the conditions
       pub start_fine : (f : SimpleForm) → IsSimpleFormOfSchema s f → IsFine IsLeafThere f.start
       start_fine f is = steps_fine IsLeafThere keeps is.start.reached (tree_fine (main_start s) is.tree is.is_tree)
 

@@ -23,7 +23,7 @@ use Rattle.rng_print_laws.proofs.EscapedCharacters.{escaped_back}
 use Rattle.rng_print_laws.proofs.EncodedMarks.{escaped_all}
 use Rattle.rng_print_laws.proofs.Colons.{HasNoColon, ncname_no_colon, before_colon}
 
--- a mark in bytes, and the same in numbers
+-- a mark in bytes, and the same mark in numbers
 pub data Spells : Mark → Mark → Type 0 where
   a_space : Spells space space
   a_line_end : Spells line_end line_end

@@ -1,4 +1,4 @@
--- The components of a schema are well spelled: those of files that are.
+-- The components of a schema of well spelled files are well spelled.
 use Rattle.std.proofs.Common.{◌≡◌, ◌∙◌, refl, sym, subst, ℕ, Bool, true, false, not, if◌then◌else◌, List, [], ◌∷◌, ◌++◌, map, Option, Some, None}
 use Rattle.std.specs.Prelude.{filter}
 use Rattle.std.specs.List.{AllByRecursion}
@@ -60,7 +60,7 @@ members_spelled interleave [] h = tt
 members_spelled k (p ∷ []) h = h.0
 members_spelled k (p ∷ (q ∷ ps)) h = (h.0, h.1.0, patterns_spelled ps h.1.1)
 
--- ---- grammars that files are
+-- ---- grammars of files
 
 whole_spelled : (p : tree.Pattern) (cs : tree.Components) → whole_grammar p ≡ Some cs → spelled.IsWellSpelledPattern p → AreWellSpelledComponents cs
 whole_spelled (tree.grammar ds) cs e h = subst AreWellSpelledComponents (some_is e) h
@@ -173,14 +173,14 @@ found_spelled f (file ∷ read) h t e = by_name (bytes_eq f file.0) (found_spell
     by_name true more e = subst IsWellSpelledFile (some_is e) h.0
     by_name false more e = more e
 
--- such a schema is well spelled
+-- the schema is well spelled
 pub loaded_spelled : (files : List NamedFile) (main : Name) (read : TakenFiles) (s : Schema) → FilesHaveOnlyVerdict files main (are_taken read)
     → AreSchema read main s → IsWellSpelledSchema s
 loaded_spelled files main read s verdict is =
     let all = taken_spelled files main verdict.is.0.taken in
     schema_spelled (tree_in read) (λ f t e. found_spelled f read all t e) is.tree (found_spelled main read all is.tree is.main_file) s is.is
 
--- and each of its simple grammars printable, where it breaks no clause
+-- each of its simple grammars is printable, if it breaks no clause
 pub files_printable : (files : List NamedFile) (main : Name) (read : TakenFiles) (s : Schema) → FilesHaveOnlyVerdict files main (are_taken read)
     → AreSchema read main s → BreaksNoClause s → (g : Grammar) → IsSimpleGrammarOf s g → IsPrintable g
 files_printable files main read s verdict is none = grammar_printable s (loaded_spelled files main read s verdict is)

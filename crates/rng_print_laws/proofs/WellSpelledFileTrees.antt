@@ -1,4 +1,4 @@
--- The tree of a schema file is well spelled: that of a syntax tree that is, with its declarations applied.
+-- The tree of a schema file is well spelled if it comes from a well spelled syntax tree with its declarations applied.
 use Rattle.std.proofs.Common.{◌≡◌, refl, subst, ℕ, suc, ◌≤◌, max, arith, Bool, true, false, ◌||◌, if◌then◌else◌}
 use Rattle.std.proofs.Common.{List, [], ◌∷◌, Option, Some, None}
 use Rattle.std.specs.Prelude.{is_none, codes}
@@ -124,7 +124,7 @@ nothing_text = record {
   datatypes = λ p l e. absurd (none_is_not_some e);
 }
 
--- ---- texts and names that are known beforehand
+-- ---- texts and names that are predefined
 
 xml_text : IsText xml_uri
 unfolding chars is_utf8 encode_utf8
@@ -148,7 +148,7 @@ token_name = (IsUtf8-from_is_utf8 (codes "token") refl, refl)
 
 -- ---- name classes
 
--- how deep parentheses nest where the class is a member or an except
+-- how deep parentheses nest if the class is a member or an except
 abbrev enclosed : names.NameClass → ℕ
 enclosed c = one_more_if (is_choice c || is_except c) (parentheses c)
 
@@ -198,7 +198,7 @@ some_fit n (c ∷ (d ∷ cs)) h =
     in_one_more : (m : ℕ) → m ≤ n → suc m ≤ suc n
     in_one_more m l = omega (arith, l)
 
--- the class of a file's tree, and the one of the syntax tree
+-- the class of the file tree fits the one of the syntax tree
 abbrev Fits : List ℕ → syntax.NameClass → tree.NameClass → Type 0
 Fits u c t = HasNames (places.class_in u t) × (parentheses (places.class_in u t) ≤ inside c) × (enclosed (places.class_in u t) ≤ around c)
 

@@ -1,4 +1,4 @@
--- Syntax trees that are well spelled: those of tokens that are, with as much room for parentheses as these take.
+-- Syntax trees are well spelled if their tokens are, with as much room for parentheses as these take.
 use Rattle.std.proofs.Common.{◌≡◌, ◌∙◌, refl, sym, subst, ap, ℕ, suc, ◌≤◌, max, Bool, true, List, [], ◌∷◌, ◌++◌, Option, Some, arith}
 use Rattle.std.specs.List.{AllByRecursion, list_all}
 use Rattle.std.specs.Str.{chars}
@@ -45,7 +45,7 @@ abbrev mutual
   AreSpelledClasses syntax.no_classes = Unit {0}
   AreSpelledClasses (syntax.class_and c cs) = IsSpelledClass c × AreSpelledClasses cs
 
--- how deep parentheses nest at most where the class is a member or an except
+-- how deep parentheses nest at most if the class is a member or an except
 abbrev mutual
   pub around : NameClass → ℕ
   around syntax.any_name = 0
@@ -59,7 +59,7 @@ abbrev mutual
   around_all syntax.no_classes = 0
   around_all (syntax.class_and c cs) = max (around c) (around_all cs)
 
--- where it stands alone
+-- the same if the class is alone
 abbrev pub inside : NameClass → ℕ
 inside syntax.any_name = 0
 inside (syntax.any_except c) = around c

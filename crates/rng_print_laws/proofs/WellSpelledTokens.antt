@@ -36,7 +36,7 @@ local_is prefix rest h = ap local_in (with_colon prefix rest) ∙ (before_colon 
 
 -- ---- pieces
 
--- the token that the piece is, if it is one, with a number
+-- the token of the piece, if it is one, with a number
 abbrev IsSpelledPiece : Piece → ℕ → Type 0
 IsSpelledPiece (gap all) n = Unit {0}
 IsSpelledPiece (token kind says all) n = IsWellSpelled (lexeme_at kind (bytes_of says) n)

@@ -1,31 +1,66 @@
-//! What is printed for a schema: the text is read back, breaks no clause and has the same simple form, so that `simple` answers
-//! it with itself (RELAX NG Specification, sections 4.12 to 4.21 and 7; RELAX NG Compact Syntax).
+//! Laws of what is printed for a schema: the text is read back, breaks no clause and has the same simple form. So the
+//! answer of `simple` for this text is the text itself (RELAX NG Specification, sections 4.12 to 4.21 and 7; RELAX NG
+//! Compact Syntax).
 //!
-//! The crate has no code that runs: each call does nothing, and its contract is laws. `reading_back_laws`: the text of a simple
-//! grammar whose names are NCNames and whose texts are made of Chars breaks no clause of the compact syntax but maybe that of
-//! its size, and its file tree is that of its lines. `printable_laws`: each simple grammar of a schema that breaks no clause is
-//! such a grammar. `reprinting_laws` and `printed_file_laws`: the schema of the lines of a printed grammar breaks no clause, and
-//! the same text is printed for it. `printed_again_laws` says this of answers.
+//! The crate has no code that runs. Each call does nothing, and its contract is laws.
 //!
-//! Order of reading, in `specs/`: `Printable` (which grammars), `LinesTree` (which tree), `ReadBack` (what it is to be read),
-//! `LinesSchema` (which schema the lines are), `HandedIn` (what it is to hand a text in again). The others are for the proofs:
-//! `PrintedMarks`, `MarkLexemes` and `LinesSyntax` (the marks of a text, their tokens, and the tree of these with its
-//! prefixes; `marks_laws` of `rnc_text` says that marks which are parted are cut into their pieces and stand for their
-//! characters), `WellSpelledFiles` and `WellSpelledSchemas` (printable, said of the tree of a file and of the components of a
-//! schema).
-//! In `proofs/`, of reading back: `EscapedCharacters` and `EncodedMarks` (escapes and runs, in bytes and in Unicode numbers), `Colons` and
-//! `NumberedNames` (names), `MarksText` (the printed text is that of its marks), `SpelledMarks` and `ReadMarks` (these are marks that are
-//! read), `LineSentences` (their tokens are a sentence), `LineNesting`, `ResolvedPrefixes` and `LineDeclarations` (the declarations), `LineConditions`,
-//! `FewItems`, `ReadsBack`; `NamedDatatypes` (those of the table can be named), `PrintableExample`.
-//! Of printable grammars: `FileCharacters` (the characters of a file are Chars), `RoomForBrackets` (how much room for brackets tokens leave),
-//! `WellSpelledSyntaxTrees` (from tokens to syntax trees), `WellSpelledTokens` (from characters to tokens), `WellSpelledFileTrees` (declarations applied),
-//! `WellSpelledComponents` (from files to the components of a schema), `PrintableClasses` and `PrintableTrees` (what a step of simplification keeps), `PrintableForms`
-//! (from components to the simple form).
-//! Of printing again: `ListedLines`, `ItemNames` and `LinesFound` (each name finds its line), `FlattenedClasses` and `ClassParts` (choices of
-//! name classes as they are written), `SimpleFormParts`, `SimpleDepths` and `GoodGrammars` (what a schema without faults leaves on its
-//! grammar), `LineTrees` (what a line stands for), `RenamedSteps`, `LinesForm` and `LinesGrammar` (the simple form of the
-//! lines), `LinesWritten` and `LinesKept` (their clauses), `ReadClasses`, `ReadLines`, `LinesTaken` and `LinesLoaded` (the file of
-//! the lines), `SameForm` (which simple form it is of), `PrintedAgain` and `PrintedTwice` (answers).
+//! - `reading_back_laws`: consider a simple grammar whose names are NCNames and whose texts are made of Chars. Its text
+//!   breaks no clause of the compact syntax, except possibly that of its size. Its file tree is that of its lines.
+//! - `printable_laws`: each simple grammar of a schema that breaks no clause is such a grammar.
+//! - `reprinting_laws` and `printed_file_laws`: the schema of the lines of a printed grammar breaks no clause, and the
+//!   same text is printed for it.
+//! - `printed_again_laws`: the same for answers.
+//!
+//! Order of reading, in `specs/`:
+//!
+//! - `Printable`: which grammars.
+//! - `LinesTree`: which tree.
+//! - `ReadBack`: what it means to be read.
+//! - `LinesSchema`: which schema the lines are.
+//! - `HandedIn`: what it means to hand a text in again.
+//!
+//! The others in `specs/` are for the proofs:
+//!
+//! - `PrintedMarks`, `MarkLexemes`, `LinesSyntax`: the marks of a text, their tokens, and the tree of these with its
+//!   prefixes. `marks_laws` of `rnc_text` says that separated marks are cut into their pieces and represent their
+//!   characters.
+//! - `WellSpelledFiles`, `WellSpelledSchemas`: the notion of printable for the tree of a file and for the components of
+//!   a schema.
+//!
+//! In `proofs/`, for reading back:
+//!
+//! - `EscapedCharacters`, `EncodedMarks`: escapes and runs, in bytes and in Unicode numbers.
+//! - `Colons`, `NumberedNames`: names.
+//! - `MarksText`: the printed text is that of its marks.
+//! - `SpelledMarks`, `ReadMarks`: these are marks that are read.
+//! - `LineSentences`: their tokens are a sentence.
+//! - `LineNesting`, `ResolvedPrefixes`, `LineDeclarations`, `LineConditions`: nesting and declarations.
+//! - `FewItems`, `ReadsBack`: the law.
+//! - `NamedDatatypes`: the datatypes of the table can be named.
+//! - `PrintableExample`: an example.
+//!
+//! For printable grammars:
+//!
+//! - `FileCharacters`: the characters of a file are Chars.
+//! - `RoomForBrackets`: how much room for brackets tokens leave.
+//! - `WellSpelledSyntaxTrees`: from tokens to syntax trees.
+//! - `WellSpelledTokens`: from characters to tokens.
+//! - `WellSpelledFileTrees`: declarations applied.
+//! - `WellSpelledComponents`: from files to the components of a schema.
+//! - `PrintableClasses`, `PrintableTrees`: what a step of simplification keeps.
+//! - `PrintableForms`: from components to the simple form.
+//!
+//! For printing again:
+//!
+//! - `ListedLines`, `ItemNames`, `LinesFound`: each name finds its line.
+//! - `FlattenedClasses`, `ClassParts`: choices of name classes as they are written.
+//! - `SimpleFormParts`, `SimpleDepths`, `GoodGrammars`: what a schema without faults implies for its grammar.
+//! - `LineTrees`: the tree of a line.
+//! - `RenamedSteps`, `LinesForm`, `LinesGrammar`: the simple form of the lines.
+//! - `LinesWritten`, `LinesKept`: their clauses.
+//! - `ReadClasses`, `ReadLines`, `LinesTaken`, `LinesLoaded`: the file of the lines.
+//! - `SameForm`: which simple form it has.
+//! - `PrintedAgain`, `PrintedTwice`: answers.
 #![tactic(auto)]
 
 mod printable;

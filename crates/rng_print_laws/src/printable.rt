@@ -1,4 +1,4 @@
-// What is promised of the simple grammars of schemas.
+// The laws of the simple grammars of schemas.
 ghost use Rattle.std.specs.Prelude.{ℕ, List};
 ghost use Rattle.rnc_model.specs.loading.LoadedSchema.{AreSchema};
 ghost use Rattle.rnc_model.specs.loading.Loading.{TakenFiles, are_taken, FilesHaveOnlyVerdict};
@@ -12,11 +12,11 @@ ghost use Rattle.rng_print_laws.specs.plain.Printable.{IsPrintable};
 ghost use Rattle.rng_print_laws.specs.plain.WellSpelledFiles.{IsWellSpelledFile};
 ghost use Rattle.rng_print_laws.specs.plain.WellSpelledSchemas.{IsWellSpelledSchema};
 
-/// The laws of printable grammars. It does nothing: its contract is what it is for.
+/// States the laws of printable grammars. It does nothing: its contract is what matters.
 ///
-/// The tree of a file that breaks no clause by itself is well spelled, and so is a schema that files are. Each simple
-/// grammar of a schema that is well spelled, and in which no datatype is unknown and no value wrong, is printable. So each
-/// simple grammar of a schema that files are, and that breaks no clause, is printable.
+/// The tree of a file that breaks no clause by itself is well spelled, and so is the schema of some files. Consider a
+/// well spelled schema without unknown datatypes and without wrong values. Each of its simple grammars is printable. So
+/// each simple grammar of a schema of files that breaks no clause is printable.
 pub fn printable_laws()
     ensures file { (bytes : List ℕ) (t : FileTree) → IsSchemaFile bytes t → IsWellSpelledFile t }
     ensures schema { (files : List NamedFile) (main : Name) (read : TakenFiles) (s : Schema) → FilesHaveOnlyVerdict files main (are_taken read)

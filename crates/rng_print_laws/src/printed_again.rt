@@ -1,4 +1,4 @@
-// What is promised of answers for printed texts.
+// The laws of answers for printed texts.
 ghost use Rattle.std.specs.Prelude.{◌≡◌, ◌≤◌, ℕ, List, Option, length};
 ghost use Rattle.rnc_model.specs.loading.SchemaFile.{Name, NamedFile, size_limit};
 ghost use Rattle.rng_model.specs.schema.Schema.{Schema};
@@ -11,15 +11,16 @@ use crate::printable::printable_laws;
 use crate::reading_back::reading_back_laws;
 use rncv_run::answer_laws;
 
-/// The laws of printed texts that are handed in again. It does nothing: its contract is what it is for.
+/// States the laws of printed texts that are handed in again. It does nothing: its contract is what matters.
 ///
-/// What `simple` prints for a schema, handed in alone as a file of any name, if it is no longer than a file may be, is a schema
-/// that breaks no clause, and has the same simple form up to the numbers of its elements (`same_form`).
+/// Consider what `simple` prints for a schema, handed in alone as a file with any name, if it is no longer than a file
+/// may be. It is a schema that breaks no clause, with the same simple form up to the numbers of its elements
+/// (`same_form`).
 ///
-/// Where a text is printed for a schema that breaks no clause, and the main file has the tree of its lines, the answer of
-/// `simple` is this text and no other. So it is where the text is handed in alone, if it is no longer than a file may be and
-/// has that tree. What `simple` answers for files has: so its answer for this text alone is the text itself, if it is no
-/// longer than a file may be.
+/// Suppose that a text is printed for a schema that breaks no clause, and that the main file has the tree of its lines.
+/// Then the answer of `simple` is this text and no other (`again`). The same holds if the text is handed in alone, is
+/// no longer than a file may be, and has that tree (`alone`). What `simple` answers for files has that tree. So its
+/// answer for this text alone is the text itself, if it is no longer than a file may be (`twice`).
 pub fn printed_again_laws()
     ensures same_form { (files : List NamedFile) (main : Name) (input_old input_new : Option (List ℕ)) (text : List ℕ)
         → IsAnswer Simple files main input_old input_new (printed text) → length text ≤ size_limit

@@ -1,4 +1,4 @@
-// What is promised of reading printed texts back.
+// The laws of reading printed texts back.
 ghost use Rattle.std.specs.Prelude.{◌≤◌, ℕ, List, length};
 ghost use Rattle.rng_model.specs.datatypes.Datatypes.{IsKnownType};
 ghost use Rattle.rng_model.specs.simple.Table.{Grammar};
@@ -9,12 +9,12 @@ ghost use Rattle.rng_print_laws.specs.views.ReadBack.{IsReadAs};
 
 use rnc_text::marks_laws;
 
-/// The laws of reading back. It does nothing: its contract is what it is for.
+/// States the laws of reading back. It does nothing: its contract is what matters.
 ///
-/// The printed text of a printable grammar, where it has at most 1,048,576 bytes, stands for characters, these are cut into
-/// tokens, the tokens are a sentence that nests within the limit, and no rule about declarations is broken. Its file tree is
-/// a plain `start`, and behind it a plain define for each element and for each pattern that has parts, with the pattern that
-/// its line shows. RELAX NG Compact Syntax, "Lexical structure" and "Syntax".
+/// Consider the printed text of a printable grammar, if it has at most 1,048,576 bytes. It decodes to characters, which
+/// are cut into tokens. The tokens are a sentence that nests within the limit, and no rule about declarations is
+/// broken. The file tree is a plain `start`, followed by a plain define for each element and for each pattern with
+/// parts. Each has the pattern that its line shows. RELAX NG Compact Syntax, "Lexical structure" and "Syntax".
 pub fn reading_back_laws()
     // The text has the tree of its lines.
     ensures read { (g : Grammar) (text : List ℕ) → IsPrintable g → (p : IsPrinted g text) → length text ≤ 1048576 → IsReadAs text (lines_tree g p.items) }

@@ -1,4 +1,4 @@
-// What is promised of the schemas that printed texts are.
+// The laws of the schemas of printed texts.
 ghost use Rattle.std.specs.Prelude.{◌≡◌, ℕ, List, Result};
 ghost use Rattle.rng_model.specs.schema.Schema.{Schema};
 ghost use Rattle.rng_model.specs.schema.SchemaClauses.{BreaksNoClause};
@@ -17,11 +17,11 @@ ghost use Rattle.rng_print_laws.specs.plain.HandedIn.{IsAgain, IsHandedInAgain, 
 ghost use Rattle.rng_print_laws.specs.plain.LinesSchema.{IsReprinted, IsReprintedAs, IsSchemaOfLines, schema_of_lines};
 ghost use Rattle.rng_print_laws.specs.plain.LinesTree.{lines_tree};
 
-/// The laws of the schema of the lines of a printed grammar. It does nothing: its contract is what it is for.
+/// States the laws of the schema of the lines of a printed grammar. It does nothing: its contract is what matters.
 ///
-/// Where the grammar is a simple form of a schema that breaks no clause, the schema of its lines breaks none, the grammar is
-/// a simple form of it, and each simple form of it is that grammar up to the numbers of its elements. So what is printed for
-/// it is the text that was printed for the first schema, and no other.
+/// Suppose that the grammar is a simple form of a schema that breaks no clause. Then the schema of its lines breaks
+/// none, and the grammar is a simple form of it. Each simple form of it is that grammar up to the numbers of its
+/// elements. So what is printed for it is the text that is printed for the first schema, and no other.
 pub fn reprinting_laws()
     ensures kept { (s r : Schema) (g : Grammar) (items : List Item) → IsReprinted s r g items → BreaksNoClause r }
     ensures form { (s r : Schema) (g : Grammar) (items : List Item) → IsReprinted s r g items → IsSimpleGrammarOf r g }
@@ -32,12 +32,12 @@ pub fn reprinting_laws()
     ensures same { (s r : Schema) (text other : List ℕ) → IsReprintedAs s r text → IsPrintedForm r other → other ≡ text }
 {}
 
-/// The laws of the file of the lines of a printed grammar. It does nothing: its contract is what it is for.
+/// States the laws of the file of the lines of a printed grammar. It does nothing: its contract is what matters.
 ///
-/// Where the main file has the tree of the lines, it is taken alone and breaks no clause of files together; what it is as a
-/// schema is the schema of the lines, and there is one. So if the lines are what is printed for a schema that breaks no
-/// clause, the schema that is loaded breaks none either, and the same is printed for it; a fault is want of memory. This
-/// holds of the text handed in alone, where it is no longer than a file may be.
+/// If the main file has the tree of the lines, it is taken alone and breaks no clause about several files. Its schema
+/// is the schema of the lines, and there is one. Suppose that the lines are what is printed for a schema that breaks no
+/// clause. Then the schema that is loaded breaks none either, and the same is printed for it. The only fault is out of
+/// memory. This also holds for the text handed in alone, if it is no longer than a file may be.
 pub fn printed_file_laws()
     ensures taken { (files : List NamedFile) (main : Name) (g : Grammar) (items : List Item) → HasTree files main main (lines_tree g items)
         → FilesHaveVerdict files main (are_taken (lines_alone main g items)) }

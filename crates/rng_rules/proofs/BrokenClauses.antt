@@ -1,4 +1,4 @@
--- Which restrictions are broken, by what was found of the parts and of the names.
+-- The restrictions that are broken, from the results for the parts and for the names.
 use Rattle.std.proofs.Common.{◌≡◌, ℕ, ◌≤◌, ◌+◌, Bool, true, false, ap, arith, Decides, ⊎_elim, subst}
 use Rattle.std.proofs.lemmas.Bool.Decides.{Decides-like, Decides-at, not_from_Decides}
 use Rattle.std.proofs.lemmas.Bool.{cases_lt}
@@ -14,11 +14,11 @@ use Rattle.rng_model.specs.restrictions.Restricted.{IsRestricted}
 use Rattle.rng_rules.specs.declared.broken.Broken.{Broken}
 use Rattle.rng_rules.proofs.PartClauses as parts
 
--- a part of the grammar is so
+-- P holds for some part of the grammar
 abbrev SomePart : Grammar → (Simple ℕ → Type 0) → Type 0
 SomePart g P = (p : Simple ℕ) × IsPart g p × P p
 
--- what each number of a clause says of the grammar
+-- what each number of a clause means for the grammar
 from_18 : (g : Grammar) → BreaksRestriction g 18 → SomePart g BreaksAttribute
 from_18 g (model.in_attribute_of part b) = (_, part, b)
 
@@ -82,7 +82,7 @@ module _ (g : Grammar) where
   broken_27 : Decides (grammar_broken g).text (BreaksRestriction g 27)
   broken_27 = Decides-like _ (λ s. model.in_text s.1 s.2) (from_27 g) (parts.text_broken g)
 
-  -- ---- from the least on
+  -- ---- from the least one on
 
   intact_18 : IsIntactBelow g 18
   intact_18 _ (model.in_attribute_of part b) = omega arith
@@ -108,7 +108,7 @@ module _ (g : Grammar) where
   at_most_27 _ (model.in_element_names part b) = omega arith
   at_most_27 _ (model.in_text part b) = omega arith
 
-  -- the clause is not broken, and none below it
+  -- the clause is not broken, and none below it is
   next_intact : (n : ℕ) (b : Bool) → IsIntactBelow g n → Decides b (BreaksRestriction g n) → b ≡ false → IsIntactBelow g (n + 1)
   next_intact n b intact decides not_so clause broken = ⊎_elim
       (λ less. omega (arith, less))
@@ -117,14 +117,14 @@ module _ (g : Grammar) where
       elim (not_from_Decides b decides not_so (subst (BreaksRestriction g) same broken)) [ ])
       (cases_lt n clause)
 
-  -- the clause is broken, and none below it
+  -- the clause is broken, and none below it is
   pub least : (n : ℕ) (b : Bool) → IsIntactBelow g n → Decides b (BreaksRestriction g n) → b ≡ true → IsLeastRestriction g n
   least n b intact decides so = record { broken = decides.0 so; least = intact }
 
   pub none_broken : IsIntactBelow g 28 → IsRestricted g
   none_broken intact clause broken = let never : ⊥ = omega (arith, intact clause broken, at_most_27 clause broken) in elim never [ ]
 
-  -- by what was found of the parts
+  -- from the result for the parts
   module _ (b : Broken) (is : b ≡ grammar_broken g) where
     at_18 : Decides b.attribute (BreaksRestriction g 18)
     at_18 = Decides-at _ _ (ap (λ b. b.attribute) is) broken_18
@@ -198,11 +198,11 @@ module _ (g : Grammar) where
     pub intact_28 : IsIntactBelow g 27 → b.text ≡ false → IsIntactBelow g 28
     intact_28 intact = next_intact 27 b.text intact at_27
 
-  -- what was found of the names decides
+  -- the result for the names decides the clause
   pub found : (P : Simple ℕ → Type 0) (b : Bool) → (b ≡ true → SomePart g P) → ((p : Simple ℕ) → IsPart g p → P p → b ≡ true) → Decides b (SomePart g P)
   found P b only all = (only, λ s. all s.0 s.1 s.2)
 
-  -- by what was found of the names
+  -- from the result for the names
   pub least_24 : (b : Bool) → IsIntactBelow g 24 → Decides b (SomePart g BreaksAttributeNames) → b ≡ true → IsLeastRestriction g 24
   least_24 b intact names = least 24 b intact (broken_24 b names)
 

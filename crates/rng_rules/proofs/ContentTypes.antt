@@ -1,4 +1,4 @@
--- The content type that is found is the one that the pattern has.
+-- The computed content type is that of the pattern.
 use Rattle.std.proofs.Common.{◌≡◌, ◌≢◌, ℕ, List, Option, Some, None, not, ◌&&◌, refl, sym, ◌∙◌, ap, ap₂, subst, Decides, true≢false}
 use Rattle.std.proofs.lemmas.Bool.Decides.{Decides-and, Decides-like}
 use Rattle.rng_model.specs.names.Names.{NameClass}
@@ -22,7 +22,7 @@ same_greater content.Complex content.Complex = refl
 same_greater content.Complex content.Simple = refl
 same_greater content.Simple u = refl
 
--- what was found of two types: the greater, if they may be grouped
+-- the result for two types: the greater one, if they may be grouped
 abbrev GroupsTo : ContentType → ContentType → Option ContentType → Type 0
 GroupsTo t u None = ¬ (AreGroupable (content_seen t) (content_seen u))
 GroupsTo t u (Some w) = AreGroupable (content_seen t) (content_seen u) × (greater (content_seen t) (content_seen u) ≡ content_seen w)
@@ -37,7 +37,7 @@ groups_to content.Simple content.Complex = λ g. elim g [ ]
 groups_to content.Simple content.Simple = λ g. elim g [ ]
 
 module _ {L : Type 0} where
-  -- what was found of a pattern is what it has
+  -- the result for a pattern is its content type
   abbrev pub ContentIs : Simple L → Option ContentType → Type 0
   ContentIs p None = (u : model.ContentType) → HasContent p u → ⊥
   ContentIs p (Some t) = HasContent p (content_seen t) × ((u : model.ContentType) → HasContent p u → u ≡ content_seen t)
@@ -108,7 +108,7 @@ module _ {L : Type 0} where
   choice_is p q (Some t) (Some v) a b =
       (subst (HasContent (s_joined tree.choice p q)) (same_greater t v) (model.of_choice a.0 b.0), λ u h. only_greater tree.choice p q _ _ a.1 b.1 u h ∙ same_greater t v)
 
-  -- a oneOrMore has what its content has, if that may stand beside itself
+  -- a oneOrMore has the type of its content, if that may be grouped with itself
   same_grouped : (t : ContentType) (o : Option ContentType) → GroupsTo t t o → (p : Simple L) → ContentIs p (Some t) → ContentIs (s_one_or_more p) o
   same_grouped t None apart p is = λ u h. elim h [ model.of_one_or_more x g ↦ apart (subst (λ s. AreGroupable s s) (is.1 _ x) g) ]
   same_grouped t (Some w) groups p is =

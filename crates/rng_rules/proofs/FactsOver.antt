@@ -1,4 +1,4 @@
--- The facts of a pattern are those that are made of its children's.
+-- The facts of a pattern are computed from those of its children.
 use Rattle.std.proofs.Common.{◌≡◌, ℕ, ◌+◌, ◌<◌, List, [], ◌∷◌, ◌++◌, length, get_or, refl, ap, ap₂, sym, ◌∙◌, arith, ⊎_elim, length-append}
 use Rattle.std.proofs.Common.{◌⊎◌, inl, inr, subst, Box, Global}
 use Rattle.std.proofs.lemmas.List.{get_or_append_left}
@@ -90,7 +90,7 @@ has_more of below more f id longer at is has = λ other g found.
     sym here ∙ ap (λ xs. get_or xs other.0 f) longer ∙ seam ∙ is ∙ ap (λ i. facts_of (of (record { 0 = i }))) (sym same))
     (cases_lt other.0 (length below))
 
--- ---- of a pattern of the table
+-- ---- a pattern of the table
 
 -- it is one of the kinds without children
 abbrev IsChildless : simple.Simple → Type 0

@@ -65,7 +65,7 @@ all_parts t bodies are =
     ap (parts_broken (F t.start))
     (ap (map F) are ∙ map_twice (λ e. e.1) F t.elements ∙ sym (map_twice (λ e. (class_of e.0, tree_at t.patterns e.1)) (λ e. facts_of e.1) t.elements))
 
--- each body stands in the table
+-- each body is in the table
 pub bodies_within : (t : Table) (bodies : List PatternId) (n : ℕ) → IsTable t → bodies ≡ map (λ e. e.1) t.elements → n ≡ length t.patterns → All (λ b. b.0 < n) bodies
 bodies_within t bodies n valid are long =
     subst (All (λ b. b.0 < n)) (sym are) (All-map (λ b. b.0 < n) (λ e. e.1) t.elements (subst (λ k. All (λ e. e.1.0 < k) t.elements) (sym long) valid.bodies))

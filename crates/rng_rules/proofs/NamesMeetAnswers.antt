@@ -1,4 +1,4 @@
--- Rows that meet are found in the groups of one name, or have a class that is no name.
+-- Rows that meet are found in the groups by name, or have a class that is not a name.
 use Rattle.std.proofs.Common.{◌≡◌, refl, ap, sym, ◌∙◌, subst, ℕ, ◌<◌, List, [], length, slice_index_or, Some, None, Option, Contains, inl, inr, arith}
 use Rattle.std.proofs.lemmas.Option.{slice_get_cases, slice_get_within}
 use Rattle.rng_model.specs.names.Names as names

@@ -1,4 +1,4 @@
--- The test of a row's sides tells whether what is reached stands on both.
+-- The test of the sides of a row says whether both sides are reached.
 use Rattle.std.proofs.Common.{◌≡◌, ◌⊎◌, ◌↔◌, inl, inr, refl, ap, ap₂, sym, ◌∙◌, subst, ℕ, ◌<◌, ◌&&◌, ◌||◌, Bool, true, false, true≢false}
 use Rattle.std.proofs.Common.{List, [], ◌∷◌, length, slice_get, slice_index_or, Some, None, Option, Contains, arith, ◌==◌, if◌then◌else◌}
 use Rattle.std.proofs.lemmas.Bool.{eqb-true, eq-eqb}
@@ -14,7 +14,7 @@ use Rattle.rng_rules.specs.views.NamesMeetSides.{Climbs, IsJoin, MeetBetween, Ar
 use Rattle.rng_rules.proofs.NamesMeetQueues.{one_only, not_there}
 use Rattle.rng_rules.proofs.NamesMeetTables.{first_of_two, second_of_two, one_of_two}
 
--- ---- the sides of a row are passed to
+-- ---- a row passes to its sides
 
 abbrev left_of : Option (ℕ × ℕ) → ℕ
 left_of None = 0
@@ -61,7 +61,7 @@ sides_passed names_of.Elements (simple.Data d) e = no_sides e
 sides_passed names_of.Attributes (simple.Value value) e = no_sides e
 sides_passed names_of.Elements (simple.Value value) e = no_sides e
 
--- what is passed to stands below
+-- a row passes only to rows below it
 pub passed_below : (p : Simple) (n : ℕ) {c : ℕ} → AreChildrenBelow n p → Contains (passed p) c → c < n
 passed_below (simple.OneOrMore a) n {c} h i = subst (λ k. k < n) (one_only a.0 c i) h
 passed_below (simple.Group a b) n {c} h i = elim (one_of_two i) [ inl e ↦ omega (arith, e, h.0) | inr e ↦ omega (arith, e, h.1) ]
@@ -77,7 +77,7 @@ passed_below (simple.Element e) n {c} h i = absurd (not_there c i)
 passed_below (simple.Data d) n {c} h i = absurd (not_there c i)
 passed_below (simple.Value value) n {c} h i = absurd (not_there c i)
 
--- all that is above a row is in the table
+-- everything above a row is in the table
 pub above_in_table : (ps : List Simple) (above : List (List ℕ)) → IsAbove ps above → AreBelow (length above) above
 above_in_table ps above is c p h = let i = (is.exact c p).0 h in omega (arith, slice_get_within ps p i.0 i.1, is.long)
 
@@ -163,11 +163,11 @@ module _ (of : NamesOf) (t : Table) (above : List (List ℕ)) (standing : List �
           meet = on_sides s.0 s.1 (let l = passed_below j.pattern row below p.0 in omega arith) (let l = passed_below j.pattern row below p.1 in omega arith) f;
         }
 
-    -- a row with marked sides is where they meet
+    -- a row with marked sides is a row where they meet
     pub found_between : (row : ℕ) → row < length standing → are_marked m1 m2 round (sides_of row) ≡ true → MeetBetween of t above first second
     found_between row h e = found_by row (sides_of row) h refl e
 
-    -- and where they meet is a row with marked sides, reached from the first
+    -- a row where they meet has marked sides and is reached from the first rows
     pub between_found : MeetBetween of t above first second → (row : ℕ) × Climbs above first row × (are_marked m1 m2 round (sides_of row) ≡ true)
     between_found m = elim m.meet [
       | inl c ↦ (
@@ -185,7 +185,7 @@ module _ (of : NamesOf) (t : Table) (above : List (List ℕ)) (standing : List �
       )
     ]
 
-    -- so the test of all that is reached from the first tells it
+    -- so the test of everything reached from the first rows decides it
     pub told : (yes : Bool) (reached : List ℕ) → ((k : ℕ) → Climbs above first k ↔ Contains reached k)
         → (yes ≡ false → (row : ℕ) → Contains reached row → are_marked m1 m2 round (sides_of row) ≡ false) → MeetBetween of t above first second → yes ≡ true
     told true reached f none m = refl

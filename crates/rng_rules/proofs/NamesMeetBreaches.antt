@@ -1,4 +1,4 @@
--- The clauses on names, told by rows that meet.
+-- The clauses on names, in terms of rows that meet.
 use Rattle.std.proofs.Common.{◌≡◌, inl, inr, refl, ap, sym, ◌∙◌, subst, ℕ, ◌<◌, List, [], ◌∷◌, length, slice_get, Some, None, Option, option_map}
 use Rattle.std.proofs.Common.{arith}
 use Rattle.std.proofs.lemmas.List.{length-map}
@@ -23,17 +23,17 @@ use Rattle.rng_rules.proofs.NamesMeetBetween.{sides_passed, passed_below}
 use Rattle.rng_rules.proofs.NamesMeetQueues.{some_same}
 use Rattle.rng_rules.proofs.RowPaths.{STree, over, standing_row, in_part, part_row, climbed_occurs, occurring_row}
 
--- between which names must not meet
+-- the connectors between whose sides names must not meet
 abbrev IsBetween : NamesOf → tree.Connector → Type 0
 IsBetween names_of.Attributes k = IsNoChoice k
 IsBetween names_of.Elements k = k ≡ tree.interleave
 
--- what has the class
+-- a pattern with the class
 abbrev HasClass : NamesOf → Grammar → STree → names.NameClass → Type 0
 HasClass names_of.Attributes g q c = (b : STree) × (q ≡ tree.s_attribute c b)
 HasClass names_of.Elements g q c = (k : ℕ) × (q ≡ tree.s_leaf k) × ClassIn g k c
 
--- either clause is broken
+-- one of the two clauses is broken
 record Breach (of : NamesOf) (g : Grammar) (p : STree) : Type 0 where
   pub connector : tree.Connector
   pub left : STree

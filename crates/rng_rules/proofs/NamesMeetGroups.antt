@@ -1,4 +1,4 @@
--- Rows with name classes, one after another, and groups of those that have one name.
+-- Rows with name classes, one after the other, and groups of those whose class is the same name.
 use Rattle.std.proofs.Common.{◌≡◌, ◌⊎◌, ◌↔◌, inl, inr, refl, ap, ap₂, sym, ◌∙◌, subst, ℕ, zero, suc, ◌+◌, ◌<◌, ◌≤◌, ◌&&◌, ◌||◌, Bool, true, false, true≢false}
 use Rattle.std.proofs.Common.{List, [], ◌∷◌, ◌++◌, length, map, take, slice_get, slice_index_or, Some, None, Option, option_map, Contains, get_or, length-append, if◌then◌else◌, ◌==◌, arith}
 use Rattle.std.specs.List.{list_any}
@@ -153,7 +153,7 @@ in_front xs y z i e =
     slice_get-get_or (xs ++ y ∷ []) i z (omega (arith, length-append xs (y ∷ [])))
     ∙ ap Some (get_or_append_left xs (y ∷ []) z i h ∙ get_or_from_slice_get xs i z z e)
 
--- what holds once a name is among the keys, and has this number
+-- a name is among the keys and has this number
 pub record IsNumbered (n : PlainName) (ks new : List PlainName) (i : ℕ) : Type 0 where
   pub apart : AreNamesApart (map plain_name_of ks) → AreNamesApart (map plain_name_of new)
   pub there : slice_get (map plain_name_of new) i ≡ Some (plain_name_of n)

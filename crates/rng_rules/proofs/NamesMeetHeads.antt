@@ -1,4 +1,4 @@
--- A row that stands by itself in one row alone meets itself exactly if that one does.
+-- A row that is a direct part of one other row only meets itself exactly if that one does.
 use Rattle.std.proofs.Common.{◌≡◌, ◌⊎◌, ◌↔◌, inl, inr, refl, ap, sym, ◌∙◌, subst, ℕ, ◌+◌, ◌<◌, ◌≤◌, false, true≢false}
 use Rattle.std.proofs.Common.{List, [], ◌∷◌, length, slice_index_or, Contains, set, arith}
 use Rattle.std.proofs.lemmas.Bool.{cases_eq, eq-eqb}
@@ -49,7 +49,7 @@ module _ (of : NamesOf) (t : Table) (above : List (List ℕ)) (is_above : IsAbov
       both_here e f = apart (subst (λ j. IsJoin of t j k k) (sym (is_only e left_in))
           (subst (λ j. IsJoin of t row k j) (sym f) (subst (λ j. IsJoin of t row j right) (sym e) join)))
 
-      -- neither side is the row itself, where it climbs to both
+      -- if the row climbs to both sides, it is not a side itself
       both_above : Climbs above (k ∷ []) left → Climbs above (k ∷ []) right → Climbs above (p ∷ []) left × Climbs above (p ∷ []) right
       both_above l r = elim (here_or_above only l) [
         | inl e ↦ elim (here_or_above only r) [
@@ -102,7 +102,7 @@ module _ (rows : declared.Rows) where
     pub inside_rows : p < length rows.standing.items
     inside_rows = let i = (are.is_above.exact k p).0 in_above in omega (arith, slice_get_within rows.grammar.now.patterns p i.0 i.1, are.long)
 
-    -- the only row of the list, of which the sides are not equal
+    -- the only row of the list, if its sides are not equal
     pub only_above : are_equal (row_sides rows p) ≡ false → IsOnlyAbove rows k p
     only_above unequal = record {
       after = comes_after rows.of rows.grammar.now (lists rows.above.items) are.is_above are.valid.falls k p in_above;
@@ -120,14 +120,14 @@ module _ (rows : declared.Rows) where
     | inr n ↦ subst (IsHead rows k) (sym (get_or-set_other heads row k head 0 n)) (after k (omega (arith, from, n)) (omega (arith, within, length-set heads row head)))
   ]
 
--- ---- a list of one
+-- ---- a list with one row
 
 pub one_item : (xs : List ℕ) → 1 ≤ length xs → length xs < 2 → slice_index_or xs 0 0 ∷ [] ≡ xs
 one_item [] h l = absurd (omega (arith, h))
 one_item (x ∷ []) h l = refl
 one_item (x ∷ (y ∷ ys)) h l = absurd (omega (arith, l))
 
--- a row alone is asked by its head
+-- the head of a single row decides
 pub group_by_head : (rows : declared.Rows) (heads group asked : List ℕ) → 1 ≤ length group → length group < 2 → AreHeads rows heads
     → slice_index_or group 0 0 < length heads → asked ≡ slice_index_or heads (slice_index_or group 0 0) 0 ∷ []
     → MeetBetween rows.of rows.grammar.now (lists rows.above.items) group group ↔ MeetBetween rows.of rows.grammar.now (lists rows.above.items) asked asked

@@ -1,4 +1,4 @@
--- The rows that stand in those between whose sides names must not meet are marked.
+-- The rows inside those between whose sides names must not meet are marked.
 use Rattle.std.proofs.Common.{◌≡◌, inl, inr, refl, ap, sym, ◌∙◌, subst, ℕ, ◌+◌, ◌<◌, List, [], ◌∷◌, ◌++◌, length, Some, None, Option, All, Contains, arith}
 use Rattle.std.proofs.lemmas.Bool.{cases_eq}
 use Rattle.std.proofs.lemmas.List.Elements.{All-append, All-same, Contains-append_left, Contains-append_right}
@@ -13,7 +13,7 @@ use Rattle.rng_rules.proofs.NamesMeetBetween.{join_sides}
 use Rattle.rng_rules.proofs.NamesMeetQueues.{All-from_contains, one_only, not_there}
 use Rattle.rng_rules.proofs.RowPaths.{children_of}
 
--- what a pattern is passed to stands in it
+-- a pattern passes only to its children
 passed_child : (p : Simple) {c : ℕ} → Contains (passed p) c → Contains (children p) c
 passed_child (simple.OneOrMore a) h = h
 passed_child (simple.Group a b) h = h
@@ -30,7 +30,7 @@ passed_child (simple.Data d) {c} h = absurd (not_there c h)
 passed_child (simple.Value value) {c} h = absurd (not_there c h)
 
 module _ (t : Table) (valid : IsTable t) (above : List (List ℕ)) (is : IsAbove t.patterns above) (start : List ℕ) where
-  -- what climbs to a row that is reached from above is reached too
+  -- a row that climbs to a row that is reached is reached too
   pub goes_under : {k y : ℕ} → Climbs above (k ∷ []) y → IsReachedBy (children_at t.patterns) start y → IsReachedBy (children_at t.patterns) start k
   goes_under {k} (at_start {x} c) h = subst (IsReachedBy (children_at t.patterns) start) (sym (one_only k x c)) h
   goes_under (onward {x} {y} r c) h =

@@ -1,4 +1,4 @@
--- A queue that is done holds what is reached, and no other; its numbers have the mark of the round.
+-- A finished queue contains exactly what is reached, and its numbers have the mark of the round.
 use Rattle.std.proofs.Common.{◌≡◌, ◌≢◌, ◌⊎◌, ◌↔◌, inl, inr, refl, ap, sym, ◌∙◌, subst, ℕ, zero, suc, ◌+◌, ◌<◌, ◌≤◌, List, [], ◌∷◌, ◌++◌, length, set, take}
 use Rattle.std.proofs.Common.{slice_get, Some, All, Contains, get_or, Option, append_assoc, append-nil, length-append, arith}
 use Rattle.std.proofs.lemmas.Bool.{cases_eq, cases_lt}
@@ -37,7 +37,7 @@ All-from_contains P xs f = λ k d h. f (get_or xs k d) (Contains-get_or xs k d h
 pub all_at : {A : Type 0} (P : A → Type 0) (xs : List A) (k : ℕ) (x : A) → All P xs → slice_get xs k ≡ Some x → P x
 all_at P xs k x all e = All-contains P xs x all (contains_at xs k x e)
 
--- one more of which it holds
+-- one more element for which P holds
 pub all_more : {A : Type 0} (P : A → Type 0) (xs : List A) (n : ℕ) (x : A) → n < length xs → x ≡ get_or xs n x → P x → All P (take n xs) → All P (take (n + 1) xs)
 all_more P xs n x h e p all = All-same P (take (n + 1) xs) (take n xs ++ x ∷ []) (take_more xs n x h ∙ ap (λ y. take n xs ++ y ∷ []) (sym e))
     (All-append P (take n xs) (x ∷ []) all (All-from_contains P (x ∷ []) (λ y c. subst P (one_only x y c) p)))
@@ -45,7 +45,7 @@ all_more P xs n x h e p all = All-same P (take (n + 1) xs) (take n xs ++ x ∷ [
 pub all_of : {A : Type 0} (P : A → Type 0) (xs : List A) (n : ℕ) → length xs ≤ n → All P (take n xs) → (x : A) → Contains xs x → P x
 all_of P xs n h all x c = All-contains P xs x (All-same P xs (take n xs) (sym (take_all n xs h)) all) c
 
--- what stands in the front of a longer list
+-- the elements of the front of a longer list
 front_at : {A : Type 0} (xs more : List A) (k : ℕ) (z : A) → slice_get (xs ++ more) k ≡ Some z → k < length xs → slice_get xs k ≡ Some z
 front_at xs more k z e h = slice_get-get_or xs k z h ∙ ap Some (sym (get_or_append_left xs more z k h) ∙ get_or_from_slice_get (xs ++ more) k z z e)
 
@@ -76,7 +76,7 @@ module _ {A : Type 0} (next : A → List A) (start : List A) where
       let at : slice_get xs n ≡ Some z = front_at xs more n z (ap (slice_get (xs ++ more)) (sym same) ∙ i) (slice_get_within xs n x e) in
       g y (subst (λ w. Contains (next w) y) (some_same at e) c)
 
-  -- the head is done once all that is next to it is in the queue
+  -- the head is done after everything next to it is in the queue
   goes_on : (xs more : List A) (n : ℕ) (x : A) → IsQueue next start xs n → slice_get xs n ≡ Some x → ((y : A) → Contains more y → Contains (next x) y)
       → ((y : A) → Contains (next x) y → Contains (xs ++ more) y) → IsQueue next start (xs ++ more) (n + 1)
   goes_on xs more n x q e f g = record {

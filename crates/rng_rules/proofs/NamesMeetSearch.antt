@@ -1,4 +1,4 @@
--- Rows that meet, of lists and one by one.
+-- Rows that meet, in lists and one by one.
 use Rattle.std.proofs.Common.{◌≡◌, inl, inr, refl, ap, sym, ◌∙◌, subst, ℕ, ◌+◌, ◌<◌, Bool, true≢false, IsTrue, IsFalse}
 use Rattle.std.proofs.Common.{List, [], ◌∷◌, ◌++◌, length, slice_index_or, All, Contains, get_or, Vec, vec_items, Result, Ok, Err, IfOk, arith}
 use Rattle.std.proofs.lemmas.Bool.{cases_lt}
@@ -30,7 +30,7 @@ group_below n all i xs below e = All-from_contains (λ k. k < n) xs (λ k c. bel
 pub none_more : {P : ℕ → Type 0} (i : ℕ) → ((k : ℕ) → k < i → ¬ (P k)) → ¬ (P i) → (k : ℕ) → k < i + 1 → ¬ (P k)
 none_more {P} i so_far one k h = elim (cases_lt k i) [ inl l ↦ so_far k l | inr l ↦ subst (λ j. ¬ (P j)) (let e : i ≡ k = omega (arith, l, h) in e) one ]
 
--- ---- one of each list
+-- ---- one row of each list
 
 module _ (above : List (List ℕ)) (start : List ℕ) where
   climbs_one : {k : ℕ} → Climbs above start k → (x : ℕ) × Contains start x × Climbs above (x ∷ []) k
@@ -69,7 +69,7 @@ module _ {of : NamesOf} {t : Table} {above : List (List ℕ)} where
     meet = elim m.meet [ inl c ↦ inl (climbs_more above first f c.0, climbs_more above second s c.1) | inr c ↦ inr (climbs_more above first f c.0, climbs_more above second s c.1) ];
   }
 
-  -- on the other side
+  -- the sides exchanged
   pub turned : {a b : ℕ} → MeetBetween of t above (a ∷ []) (b ∷ []) → MeetBetween of t above (b ∷ []) (a ∷ [])
   turned m = record {
     row = m.row;

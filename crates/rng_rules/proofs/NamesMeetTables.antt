@@ -44,7 +44,7 @@ module _ (all : List (List ℕ)) (child row : ℕ) (inside : child < length all)
       either (inl i) = Contains-append_left (get_or all c []) (row ∷ []) p i
       either (inr i) = subst (Contains (get_or all c [] ++ row ∷ [])) (sym i.0) (Contains-push (get_or all c []) row)
 
--- ---- a row in the lists of those that it is passed to
+-- ---- a row in the lists of the rows that it passes to
 
 pub one_of_two : {x z y : ℕ} → Contains (x ∷ (z ∷ [])) y → (y ≡ x) ⊎ (y ≡ z)
 one_of_two {x} {z} {y} c = elim (Contains-append_cases (x ∷ []) (z ∷ []) y c) [ inl h ↦ inl (sym (one_only x y h)) | inr h ↦ inr (sym (one_only z y h)) ]
@@ -79,9 +79,9 @@ module _ (old new newer : ℕ → ℕ → Type 0) (row a b : ℕ) where
     ],
   )
 
--- ---- rows one after another
+-- ---- rows one after the other
 
--- the lists hold what is passed from the first n rows
+-- the lists have what the first n rows pass to
 pub record IsAboveOfFirst (ps : List Simple) (n : ℕ) (all : List (List ℕ)) : Type 0 where
   pub within : n ≤ length ps
   pub long : length all ≡ n

@@ -16,7 +16,7 @@ use Rattle.rng_rules.proofs.WildcardsInChoices.{has_wildcard-Decides}
 module _ {L : Type 0} where
   -- ---- wildcards
 
-  -- an attribute of this class and this content stands in the pattern, inside no oneOrMore
+  -- the pattern contains an attribute with this class and this content, outside every oneOrMore
   abbrev Unrepeated : NameClass → Simple L → Simple L → Type 0
   Unrepeated c body p = StandsUnrepeated (s_attribute c body) p
 

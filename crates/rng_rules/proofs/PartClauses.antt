@@ -1,4 +1,4 @@
--- The clauses that are found broken of the parts of a grammar are those that it breaks.
+-- The clauses that are found broken in the parts of a grammar are those that it breaks.
 use Rattle.std.proofs.Common.{◌≡◌, ℕ, List, [], ◌∷◌, map, fold, Bool, ◌||◌, ◌⊎◌, inl, inr, refl, Decides}
 use Rattle.std.proofs.lemmas.Bool.Decides.{Decides-or, Decides-like, Decides-at}
 use Rattle.rng_model.specs.names.Lists.{Among, here, there}
@@ -18,11 +18,11 @@ use Rattle.rng_rules.proofs.PatternTests.{none}
 abbrev Element : Type 0
 Element = NameClass × Simple ℕ
 
--- the body of one of the elements is so
+-- P holds for the body of one of the elements
 abbrev SomeBody : (Simple ℕ → Type 0) → List Element → Type 0
 SomeBody P es = (e : Element) × Among e es × P e.1
 
--- one bit of what is broken
+-- one field of the broken clauses
 module _ (get : Broken → Bool) (either : (a b : Broken) → get (either_broken a b) ≡ (get a || get b)) (P : Simple ℕ → Type 0)
     (each : (p : Simple ℕ) → Decides (get (body_broken (facts_of p))) (P p)) where
   folded : (Q : Type 0) (b : Broken) (es : List Element) → Decides (get b) Q
@@ -38,11 +38,11 @@ module _ (get : Broken → Bool) (either : (a b : Broken) → get (either_broken
       split _ here p = inl (inr p)
       split x (there a) p = inr (x, a, p)
 
-  -- of the start, or of some body
+  -- the start, or some body
   parts : (g : Grammar) (Q : Type 0) → Decides (get (start_broken (facts_of g.start))) Q → Decides (get (grammar_broken g)) (Q ⊎ SomeBody P g.elements)
   parts g Q start = folded Q (start_broken (facts_of g.start)) g.elements start
 
-  -- of any part
+  -- any part
   any_part : (g : Grammar) → Decides (get (start_broken (facts_of g.start))) (P g.start) → Decides (get (grammar_broken g)) ((p : Simple ℕ) × IsPart g p × P p)
   any_part g start = Decides-like _ (λ s. elim s [ inl q ↦ (g.start, the_start, q) | inr h ↦ (h.0.1, a_body h.1, h.2) ]) (λ s. split s.0 s.1 s.2) (parts g (P g.start) start)
     where

@@ -1,4 +1,4 @@
--- The facts of a pattern decide the clauses of one pattern.
+-- The facts of a pattern decide the clauses on one pattern.
 use Rattle.std.proofs.Common.{◌≡◌, Bool, false, ◌⊎◌, inl, inr, refl, sym, ◌∙◌, ap, Decides, true≢false}
 use Rattle.std.proofs.lemmas.Bool.Decides.{Decides-and, Decides-like}
 use Rattle.rng_model.specs.simple.Tree as tree
@@ -16,7 +16,7 @@ use Rattle.rng_rules.proofs.PatternTests.{inside-Decides, somewhere-Decides}
 
 -- ---- kinds
 
--- a test that is true of kinds alone that are so, and of each
+-- a test that holds for exactly this kind
 is_kind : (k : Kind) → Decides (kinds.is_attribute k) (k ≡ attribute_kind)
 is_kind attribute_kind = (λ _. refl, λ _. refl)
 is_kind _ = (λ e. elim (true≢false (sym e)) [ ], λ e. cc)
@@ -77,10 +77,10 @@ barred_from_start-Decides _ = (λ e. elim (true≢false (sym e)) [ ], λ h. elim
 other_kind : {k : Kind} → k ≡ data_kind → kinds.is_data k ≡ false → ⊥
 other_kind is other = true≢false (sym (ap kinds.is_data is) ∙ other)
 
--- ---- clauses of what may not stand where
+-- ---- clauses on what is not allowed inside what
 
 module _ {L : Type 0} where
-  -- something inside the pattern is of a kind that is so
+  -- something inside the pattern has such a kind
   abbrev Holds : (Kind → Type 0) → Simple L → Type 0
   Holds K p = (q : Simple L) × Inside q p × K (kind_of q)
 
@@ -103,7 +103,7 @@ module _ {L : Type 0} where
       (somewhere-Decides bad_list (λ q. (kind_of q ≡ list_kind) × Holds BarredFromList q)
       (λ q. Decides-and _ _ (is_list-Decides (kind_of q)) (holds kinds.is_barred_from_list BarredFromList barred_from_list-Decides q)) p)
 
-  -- a group or an interleave that holds an attribute
+  -- a group or an interleave that contains an attribute
   abbrev JoinsAttribute : Simple L → Type 0
   JoinsAttribute p = ((kind_of p ≡ group_kind) ⊎ (kind_of p ≡ interleave_kind)) × Holds (λ k. k ≡ attribute_kind) p
 
@@ -128,7 +128,7 @@ module _ {L : Type 0} where
       (somewhere-Decides bad_one_or_more (λ q. (kind_of q ≡ one_or_more_kind) × ((r : Simple L) × Inside r q × JoinsAttribute r))
       (λ q. Decides-and _ _ (is_one_or_more-Decides (kind_of q)) (inside-Decides joins_attribute JoinsAttribute joins q)) p)
 
-  -- what stands inside a datatype stands in its except
+  -- what is inside a datatype is inside its except
   abbrev IsBadExcept : Simple L → Type 0
   IsBadExcept q = (kind_of q ≡ data_kind) × Holds BarredFromExcept q
 

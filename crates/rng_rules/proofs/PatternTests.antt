@@ -1,4 +1,4 @@
--- The tests of what stands in a pattern answer by the definitions.
+-- The tests of what a pattern contains agree with the definitions.
 use Rattle.std.proofs.Common.{Bool, false, ◌⊎◌, inl, inr, sym, Decides, true≢false}
 use Rattle.std.proofs.lemmas.Bool.Decides.{Decides-or, Decides-like}
 use Rattle.rng_model.specs.simple.Tree.{Simple, s_not_allowed, s_empty, s_text, s_leaf, s_attribute, s_list, s_data, s_data_except, s_value}
@@ -11,11 +11,11 @@ pub none : {P : Type 0} → (P → ⊥) → Decides false P
 none not = (λ e. elim (true≢false (sym e)) [ ], λ p. elim (not p) [ ])
 
 module _ {L : Type 0} (test : Simple L → Bool) (P : Simple L → Type 0) (each : (q : Simple L) → Decides (test q) (P q)) where
-  -- something that is so stands inside the pattern
+  -- P holds for something inside the pattern
   abbrev pub Within : Simple L → Type 0
   Within p = (q : Simple L) × Inside q p × P q
 
-  -- something that is so stands in the pattern
+  -- P holds for the pattern or for something inside it
   abbrev pub Standing : Simple L → Type 0
   Standing p = (q : Simple L) × StandsIn q p × P q
 

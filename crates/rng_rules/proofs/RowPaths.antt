@@ -1,4 +1,4 @@
--- What stands and what occurs in the trees of a table, row by row: no tree is walked.
+-- What the trees of a table contain and what occurs in them, row by row, without a walk over a tree.
 use Rattle.std.proofs.Common.{◌≡◌, ◌⊎◌, inl, inr, refl, ap, sym, ◌∙◌, subst, ℕ, zero, suc, ◌<◌, List, [], ◌∷◌, length, map}
 use Rattle.std.proofs.Common.{slice_get, Some, option_map, Contains, arith}
 use Rattle.std.proofs.lemmas.List.{get_or-map, length-map}
@@ -24,7 +24,7 @@ use Rattle.rng_rules.proofs.NamesMeetTables.{one_of_two, children_below}
 abbrev pub STree : Type 0
 STree = tree.Simple ℕ
 
--- what stands in what stands
+-- what is inside something inside a pattern is inside the pattern
 stands_through : {q r p : STree} → StandsIn q r → StandsIn r p → StandsIn q p
 stands_through s itself = s
 stands_through s (in_attribute i) = in_attribute (stands_through s i)
@@ -52,7 +52,7 @@ stands_cases (in_one_or_more i) = inr (inside_one_or_more i)
 stands_cases (in_left i) = inr (inside_left i)
 stands_cases (in_right i) = inr (inside_right i)
 
--- q occurs in what the pattern is made of
+-- q occurs in the parts of the pattern
 data OccursBelow (q : STree) : STree → Type 0 where
   repeated_below : {p : STree} → OccursIn q p → OccursBelow q (tree.s_one_or_more p)
   left_below : {k : tree.Connector} {p r : STree} → OccursIn q p → OccursBelow q (tree.s_joined k p r)
@@ -83,7 +83,7 @@ module _ (t : Table) (valid : IsTable t) where
   pub children_of : (i : ℕ) (r : Simple) → slice_get ps i ≡ Some r → children_at ps i ≡ children r
   children_of i r e = get_or-map children ps i r [] (slice_get_within ps i r e) ∙ ap children (get_or_from_slice_get ps i r r e)
 
-  -- ---- what stands in a part has a row that does
+  -- ---- what is inside a part has a row that is reached
 
   pub record RowAt (P : ℕ → Type 0) (q : STree) : Type 0 where
     pub place : ℕ
@@ -122,7 +122,7 @@ module _ (t : Table) (valid : IsTable t) where
             (subst (Inside q) (over n r.0 r.1) i)
       ]
 
-  -- ---- a row that is placed stands in a part
+  -- ---- a row that is reached is inside a part
 
   child_stands : {y : ℕ} (r : Simple) → Contains (children r) y → StandsIn (at y) (tree_over (tree_at ps) r)
   child_stands {y} simple.NotAllowed c = absurd (not_there y c)

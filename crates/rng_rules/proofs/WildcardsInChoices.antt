@@ -1,4 +1,4 @@
--- A wildcard in a choice, from its members.
+-- A wildcard in a choice, in terms of its members.
 use Rattle.std.proofs.Common.{◌≡◌, ℕ, ◌<◌, ◌≤◌, ◌==◌, List, [], ◌∷◌, length, map, take, get_or, Bool, true, false, ◌||◌, refl, ap, sym, ◌∙◌, arith}
 use Rattle.std.proofs.Common.{Decides, inl, inr, true≢false}
 use Rattle.std.proofs.lemmas.Bool.Decides.{Decides-or, Decides-like}
@@ -18,7 +18,7 @@ module _ {A : Type 0} where
   have_wildcard-members f [] = refl
   have_wildcard-members f (x ∷ xs) = ap (λ b. has_wildcard (f x) || b) (have_wildcard-members f xs)
 
-  -- a choice of members has what one of its members has
+  -- a choice has a wildcard if one of its members has one
   pub has_wildcard-members : (f : A → NameClass) (x : A) (xs : List A) → has_wildcard (some_of (map f (x ∷ xs))) ≡ list_any (λ x. has_wildcard (f x)) (x ∷ xs)
   has_wildcard-members f x [] = or-false (has_wildcard (f x))
   has_wildcard-members f x (y ∷ xs) = ap (λ b. has_wildcard (f x) || (has_wildcard (f y) || b)) (have_wildcard-members f xs)
@@ -38,7 +38,7 @@ module _ {A : Type 0} where
       let nowhere = ap (list_any (λ x. has_wildcard (f x))) (sym (take_all i (y ∷ xs) past)) ∙ none in
       search (arith, has_wildcard-members f y xs ∙ nowhere)
 
--- ---- the test answers by the definition
+-- ---- the test agrees with the definition
 
 absurd_test : {P : Type 0} → false ≡ true → P
 absurd_test e = elim (true≢false (sym e)) [ ]

@@ -1,4 +1,4 @@
-// Which clauses the parts of a grammar break, of those that each part breaks by itself.
+// The clauses that the parts of a grammar break, of those that a part breaks by itself.
 ghost use Rattle.std.specs.Prelude.{All, MatchOption, ◌≡◌, ◌<◌, ℕ, length, map, IfOk};
 ghost use Rattle.rng_model.specs.restrictions.Restrictions.{IsLeastRestriction};
 ghost use Rattle.rng_model.specs.simple.Table.{Grammar, grammar_of};
@@ -11,7 +11,7 @@ use crate::facts::{Facts, facts_of};
 use rng_model::{ElementId, OutOfMemory, PatternId, SimpleGrammar};
 use std::alloc::Global;
 
-/// Which clauses are broken, of those that a start or a body breaks by itself.
+/// The broken clauses, of those that a start or a body breaks by itself.
 #[derive(Clone, Copy)]
 pub struct Broken {
     /// S18.
@@ -33,7 +33,7 @@ pub struct Broken {
 }
 
 impl Broken {
-    /// The least clause that is broken, of S18 to S23.
+    /// Returns the least broken clause of S18 to S23.
     pub fn first_before_names(&self) -> Option<u8>
         ensures { (g : Grammar) → self.now ≡ grammar_broken g → MatchOption result (IsIntactBelow g 24) (IsLeastRestriction g) }
     {
@@ -55,7 +55,7 @@ impl Broken {
     }
 }
 
-/// The clauses that the start or the body of a listed element breaks. Linear in the grammar.
+/// Returns the clauses that the start or the body of a listed element breaks. Linear in the grammar.
 pub fn broken_in(alloc: Global, grammar: &SimpleGrammar) -> Result<Broken, OutOfMemory>
     ensures { IfOk result (λ broken. broken ≡ grammar_broken (grammar_of grammar.now)) }
 {
@@ -64,7 +64,7 @@ pub fn broken_in(alloc: Global, grammar: &SimpleGrammar) -> Result<Broken, OutOf
     Ok(broken_by_parts(&facts, grammar.start(), &bodies))
 }
 
-/// The body of each listed element.
+/// Returns the body of each listed element.
 fn bodies_of(alloc: Global, grammar: &SimpleGrammar) -> Result<Vec<PatternId>, OutOfMemory>
     ensures { IfOk result (λ bodies. bodies.items ≡ map (λ e. e.1) grammar.now.elements) }
 {
@@ -77,7 +77,7 @@ fn bodies_of(alloc: Global, grammar: &SimpleGrammar) -> Result<Vec<PatternId>, O
     }
 }
 
-/// The clauses that a start or one of some bodies breaks.
+/// Returns the clauses that a start or one of some bodies breaks.
 fn broken_by_parts(facts: &[Facts], start: PatternId, bodies: &[PatternId]) -> Broken
     requires start { start.0 < length facts.now }
     requires bodies { All (λ body. body.0 < length facts.now) bodies.now }
@@ -90,7 +90,7 @@ fn broken_by_parts(facts: &[Facts], start: PatternId, bodies: &[PatternId]) -> B
     broken
 }
 
-/// The clauses that one or the other breaks.
+/// Returns the clauses that one or the other breaks.
 fn broken_by_either(first: Broken, second: Broken) -> Broken
     ensures { result ≡ either_broken first second }
 {
@@ -106,21 +106,21 @@ fn broken_by_either(first: Broken, second: Broken) -> Broken
     }
 }
 
-/// The clauses that a start breaks by its facts.
+/// Returns the clauses that a start breaks, from its facts.
 fn broken_by_start(facts: Facts) -> Broken
     ensures { result ≡ start_broken facts }
 {
     broken_by_part(facts, facts.held.barred_from_start, false)
 }
 
-/// The clauses that the body of an element breaks by its facts.
+/// Returns the clauses that the body of an element breaks, from its facts.
 fn broken_by_body(facts: Facts) -> Broken
     ensures { result ≡ body_broken facts }
 {
     broken_by_part(facts, false, !facts.not_allowed & facts.content.is_none())
 }
 
-/// The clauses that a start or a body breaks by its facts, with S22 and S23 as told.
+/// Returns the clauses that a start or a body breaks, from its facts. Those for S22 and S23 are given.
 fn broken_by_part(facts: Facts, start: bool, content: bool) -> Broken
     ensures { result ≡ part_broken start content facts }
 {

@@ -2,7 +2,7 @@
 ghost use Rattle.std.specs.Prelude.{◌≡◌};
 ghost use Rattle.rng_rules.specs.plain.Facts as facts;
 
-/// What the content of an element is made of; the later of two is the greater.
+/// The content type of an element. The later of two variants is the greater.
 ///
 /// RELAX NG Specification, section 7.2.
 #[derive(Clone, Copy)]
@@ -12,7 +12,7 @@ pub enum ContentType {
     Simple,
 }
 
-/// The greater of two.
+/// Returns the greater of two.
 fn greater(first: ContentType, second: ContentType) -> ContentType
     ensures { result ≡ facts.greater first second }
 {
@@ -23,15 +23,15 @@ fn greater(first: ContentType, second: ContentType) -> ContentType
     }
 }
 
-/// The content type of a choice, if both sides have one.
+/// Returns the content type of a choice, if both sides have one.
 pub fn of_either(first: Option<ContentType>, second: Option<ContentType>) -> Option<ContentType>
     ensures { result ≡ facts.of_either first second }
 {
     Some(greater(first?, second?))
 }
 
-/// The content type of a group or an interleave, if both sides have one and these may be grouped: one is empty, or both
-/// are complex. Of a oneOrMore, both are that of its content.
+/// Returns the content type of a group or an interleave, if both sides have one and these may be grouped: one is empty,
+/// or both are complex. For a oneOrMore, both sides are its content.
 pub fn of_both(first: Option<ContentType>, second: Option<ContentType>) -> Option<ContentType>
     ensures { result ≡ facts.of_both first second }
 {
@@ -42,7 +42,7 @@ pub fn of_both(first: Option<ContentType>, second: Option<ContentType>) -> Optio
     }
 }
 
-/// The content type of an attribute: empty, if its content has one.
+/// Returns the content type of an attribute: empty, if its content has one.
 pub fn of_attribute(content: Option<ContentType>) -> Option<ContentType>
     ensures { result ≡ facts.of_attribute content }
 {

@@ -18,21 +18,22 @@ use std::alloc::Global;
 /// What is known of a pattern without looking into it again.
 #[derive(Clone, Copy)]
 pub struct Facts {
-    /// What stands in it, itself with the rest.
+    /// What the pattern contains, including itself.
     pub held: Held,
-    /// It is notAllowed.
+    /// Whether it is notAllowed.
     pub not_allowed: bool,
     /// Its content type, if it has one.
     pub content: Option<ContentType>,
-    /// An attribute with a wildcard in its name class stands in it, inside no oneOrMore.
+    /// Whether it contains an attribute with a wildcard in its name class, outside every oneOrMore.
     pub unrepeated_wildcard: bool,
-    /// Text occurs in it, through choices, groups, interleaves and oneOrMores alone.
+    /// Whether text occurs in it, reached only through choices, groups, interleaves and oneOrMores.
     pub text_occurs: bool,
-    /// An interleave that breaks S27 stands in it.
+    /// Whether it contains an interleave that breaks S27.
     pub breaks_text: bool,
 }
 
-/// The facts of each pattern of the grammar, at its position. One look at each pattern, and a few bytes for it.
+/// Returns the facts of each pattern of the grammar, at its position. The cost is one step and a few bytes for each
+/// pattern.
 pub fn facts_of(alloc: Global, grammar: &SimpleGrammar) -> Result<Vec<Facts>, OutOfMemory>
     ensures len { IfOk result (λ v. length v.items ≡ length grammar.now.patterns) }
     ensures facts { IfOk result (λ v. HasFacts (tree_at grammar.now.patterns) v.items) }
@@ -47,7 +48,7 @@ pub fn facts_of(alloc: Global, grammar: &SimpleGrammar) -> Result<Vec<Facts>, Ou
     }
 }
 
-/// The facts of a pattern, from those of its children.
+/// Returns the facts of a pattern, from those of its children.
 fn facts_over(below: &[Facts], pattern: &Simple) -> Facts
     requires { AreChildrenBelow (length below.now) pattern.now }
     ensures { (of : PatternId → tree.Simple ℕ) → HasFacts of below.now → result ≡ facts_of (tree_over of pattern.now) }
@@ -69,7 +70,7 @@ fn facts_over(below: &[Facts], pattern: &Simple) -> Facts
     }
 }
 
-/// The facts of a pattern without children, of this kind.
+/// Returns the facts of a pattern of this kind, which has no children.
 fn facts_of_leaf(kind: Kind) -> Facts
     ensures { result ≡ over.facts_of_leaf (kind_seen kind) }
 {
@@ -88,7 +89,7 @@ fn facts_of_leaf(kind: Kind) -> Facts
     }
 }
 
-/// The facts of an attribute, from those of its content.
+/// Returns the facts of an attribute, from those of its content.
 fn facts_of_attribute(class: &NameClass, body: Facts) -> Facts
     ensures { result ≡ over.facts_of_attribute (class_of class.now) body }
 {
@@ -102,7 +103,7 @@ fn facts_of_attribute(class: &NameClass, body: Facts) -> Facts
     }
 }
 
-/// The facts of a list, or of a datatype with an except, from those of what it holds.
+/// Returns the facts of a list, or of a datatype with an except, from those of its content or its except.
 fn facts_of_simple(kind: Kind, body: Facts) -> Facts
     ensures { result ≡ over.facts_of_simple (kind_seen kind) body }
 {
@@ -116,7 +117,7 @@ fn facts_of_simple(kind: Kind, body: Facts) -> Facts
     }
 }
 
-/// The facts of a oneOrMore, from those of its content.
+/// Returns the facts of a oneOrMore, from those of its content.
 fn facts_of_repeated(body: Facts) -> Facts
     ensures { result ≡ over.facts_of_repeated body }
 {
@@ -130,7 +131,7 @@ fn facts_of_repeated(body: Facts) -> Facts
     }
 }
 
-/// The facts of a group, an interleave or a choice, from those of its sides.
+/// Returns the facts of a group, an interleave or a choice, from those of its sides.
 fn facts_of_joined(kind: Kind, first: Facts, second: Facts) -> Facts
     ensures { result ≡ over.facts_of_joined (kind_seen kind) first second }
 {

@@ -1,4 +1,4 @@
-// What stands in a pattern.
+// What a pattern contains.
 ghost use Rattle.std.specs.Prelude.{◌≡◌};
 ghost use Rattle.rng_rules.specs.plain.Facts.{nothing_held};
 ghost use Rattle.rng_rules.specs.plain.FactsOver.{either_held, held_with};
@@ -9,20 +9,20 @@ use crate::kind::{
     is_barred_from_start, is_between,
 };
 
-/// What stands in a pattern, or inside one, at any depth; never behind a ref.
+/// What a pattern contains, at any depth, but not through refs. Depending on the use it includes the pattern itself.
 #[derive(Clone, Copy)]
 pub struct Held {
     /// An attribute.
     pub attribute: bool,
-    /// A group or an interleave that has an attribute inside.
+    /// A group or an interleave with an attribute inside.
     pub joined_attribute: bool,
-    /// A kind that may not stand inside an attribute.
+    /// A kind that is not allowed inside an attribute.
     pub barred_from_attribute: bool,
-    /// A kind that may not stand inside a list.
+    /// A kind that is not allowed inside a list.
     pub barred_from_list: bool,
-    /// A kind that may not stand in the except of a datatype.
+    /// A kind that is not allowed in the except of a datatype.
     pub barred_from_except: bool,
-    /// A kind that may not stand in a start.
+    /// A kind that is not allowed in a start.
     pub barred_from_start: bool,
     /// An attribute that breaks S18.
     pub breaks_attribute: bool,
@@ -34,7 +34,7 @@ pub struct Held {
     pub breaks_except: bool,
 }
 
-/// Nothing.
+/// Returns the value for nothing.
 pub fn held_by_none() -> Held
     ensures { result ≡ nothing_held }
 {
@@ -52,7 +52,7 @@ pub fn held_by_none() -> Held
     }
 }
 
-/// What stands in one or the other.
+/// Returns what one or the other contains.
 pub fn held_by_either(first: Held, second: Held) -> Held
     ensures { result ≡ either_held first second }
 {
@@ -70,7 +70,7 @@ pub fn held_by_either(first: Held, second: Held) -> Held
     }
 }
 
-/// What stands in a pattern of a kind, from what stands inside it.
+/// Returns what a pattern of a kind contains, including itself, from what is inside it.
 pub fn held_with(kind: Kind, inside: Held) -> Held
     ensures { result ≡ held_with (kind_seen kind) inside }
 {

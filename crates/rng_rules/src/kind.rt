@@ -1,4 +1,4 @@
-// Kinds of pattern, and where each is barred.
+// Kinds of pattern, and where each is not allowed.
 ghost use Rattle.std.specs.Prelude.{◌≡◌, ℕ};
 ghost use Rattle.rng_model.specs.restrictions.Restrictions.{kind_of};
 ghost use Rattle.rng_model.specs.simple.Table.{tree_over};
@@ -9,7 +9,7 @@ ghost use Rattle.rng_rules.specs.plain.Kinds.{kind_seen};
 
 use rng_model::Simple;
 
-/// A kind of pattern. A datatype is of one kind, with an except or without.
+/// A kind of pattern. A datatype has the same kind with and without an except.
 #[derive(Clone, Copy)]
 pub enum Kind {
     NotAllowed,
@@ -26,7 +26,7 @@ pub enum Kind {
     Interleave,
 }
 
-/// The kind of a pattern.
+/// Returns the kind of a pattern.
 pub fn kind_of(pattern: &Simple) -> Kind
     ensures { (of : PatternId → tree.Simple ℕ) → kind_seen result ≡ kind_of (tree_over of pattern.now) }
 {
@@ -46,21 +46,21 @@ pub fn kind_of(pattern: &Simple) -> Kind
     }
 }
 
-/// Whether the kind is a group or an interleave.
+/// Returns whether the kind is a group or an interleave.
 pub fn is_between(kind: Kind) -> bool
     ensures { result ≡ kinds.is_between (kind_seen kind) }
 {
     matches!(kind, Kind::Group | Kind::Interleave)
 }
 
-/// Whether the kind may not stand inside an attribute (RELAX NG Specification, section 7.1.1).
+/// Returns whether the kind is not allowed inside an attribute (RELAX NG Specification, section 7.1.1).
 pub fn is_barred_from_attribute(kind: Kind) -> bool
     ensures { result ≡ kinds.is_barred_from_attribute (kind_seen kind) }
 {
     matches!(kind, Kind::Ref | Kind::Attribute)
 }
 
-/// Whether the kind may not stand inside a list (section 7.1.3).
+/// Returns whether the kind is not allowed inside a list (section 7.1.3).
 pub fn is_barred_from_list(kind: Kind) -> bool
     ensures { result ≡ kinds.is_barred_from_list (kind_seen kind) }
 {
@@ -70,7 +70,7 @@ pub fn is_barred_from_list(kind: Kind) -> bool
     )
 }
 
-/// Whether the kind may not stand in the except of a datatype (section 7.1.4).
+/// Returns whether the kind is not allowed in the except of a datatype (section 7.1.4).
 pub fn is_barred_from_except(kind: Kind) -> bool
     ensures { result ≡ kinds.is_barred_from_except (kind_seen kind) }
 {
@@ -80,7 +80,7 @@ pub fn is_barred_from_except(kind: Kind) -> bool
     )
 }
 
-/// Whether the kind may not stand in a start (section 7.1.5).
+/// Returns whether the kind is not allowed in a start (section 7.1.5).
 pub fn is_barred_from_start(kind: Kind) -> bool
     ensures { result ≡ kinds.is_barred_from_start (kind_seen kind) }
 {

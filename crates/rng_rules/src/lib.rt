@@ -1,7 +1,7 @@
-//! The restrictions on schemas: section 7 of the specification, judged over a simple grammar.
+//! The restrictions on schemas, section 7 of the specification, checked on a simple grammar.
 //!
-//! `restrict` answers `Ok` exactly where the start and the bodies of the listed elements break none of the clauses
-//! S18 to S27, and else the least clause that is broken. Only want of memory keeps its answer back.
+//! `restrict` returns `Ok` exactly if the start and the bodies of the listed elements break none of the clauses S18 to
+//! S27. Otherwise it returns the least clause that is broken, or it is out of memory.
 #![tactic(auto)]
 
 mod broken;

@@ -1,4 +1,4 @@
-// Whose names must not meet: attributes in groups and interleaves, elements in interleaves.
+// Names that must not meet: those of attributes in groups and interleaves, and those of elements in interleaves.
 ghost use Rattle.std.specs.Prelude.{◌≡◌, ℕ, option_copied, IfOk, IsTrue};
 ghost use Rattle.rng_model.specs.restrictions.Restrictions.{BreaksAttributeNames, BreaksElementNames, ClassIn, IsPart};
 ghost use Rattle.rng_model.specs.simple.Table.{grammar_of};
@@ -13,13 +13,14 @@ use crate::names_meet_sides::Rows;
 use rng_model::{NameClass, OutOfMemory, Simple, SimpleGrammar};
 use std::alloc::Global;
 
-/// Whether, in a group or an interleave of the start or of the body of an element that is listed, some name lies in the
-/// classes of attributes that occur on both sides.
+/// Returns whether two attributes on the two sides of a group or an interleave have a name in common. The group or
+/// interleave is in the start or in the body of a listed element.
 ///
-/// RELAX NG Specification, section 7.3. Only want of memory is an error. Names are looked up by hashing; a class that is
-/// no name is compared with each other. Attributes that stand in no group and no interleave cost nothing more. For a name
-/// that one pattern has, the cost is what stands above the first that stands twice, in a tree nothing; for a name that
-/// several have, and for a class that is none, it is what stands above them: in a tree at most their number times the depth.
+/// RELAX NG Specification, section 7.3. Fails only when out of memory. Names are looked up by hashing. A class that is
+/// not a name is compared with each other class. An attribute outside every group and interleave adds no further cost.
+/// For a name of a single pattern, the cost is linear in the patterns above the first of them that occurs twice. In a
+/// tree it is nothing. For a name of several patterns, and for a class that is not a name, the cost is linear in the
+/// patterns above them. In a tree these are at most their number times the depth.
 pub(crate) fn attribute_names_meet(
     alloc: Global,
     grammar: &SimpleGrammar,
@@ -30,10 +31,10 @@ pub(crate) fn attribute_names_meet(
     names_meet(alloc, grammar, NamesOf::Attributes)
 }
 
-/// Whether, in an interleave of the start or of the body of an element that is listed, some name lies in the classes of
-/// elements that are referred to on both sides.
+/// Returns whether refs on the two sides of an interleave lead to elements that have a name in common. The interleave
+/// is in the start or in the body of a listed element.
 ///
-/// RELAX NG Specification, section 7.4. Only want of memory is an error. The cost is that of `attribute_names_meet`.
+/// RELAX NG Specification, section 7.4. Fails only when out of memory. The cost is that of `attribute_names_meet`.
 pub(crate) fn element_names_meet(
     alloc: Global,
     grammar: &SimpleGrammar,
@@ -46,7 +47,7 @@ pub(crate) fn element_names_meet(
     names_meet(alloc, grammar, NamesOf::Elements)
 }
 
-/// Whether names meet that must not.
+/// Returns whether names meet that must not.
 fn names_meet(alloc: Global, grammar: &SimpleGrammar, of: NamesOf) -> Result<bool, OutOfMemory>
     ensures only { IfOk result (λ yes. IsTrue yes → (p : tree.Simple ℕ) × IsPart (grammar_of grammar.now) p × Breaks of (grammar_of grammar.now) p) }
     ensures all { IfOk result (λ yes. (p : tree.Simple ℕ) → IsPart (grammar_of grammar.now) p → Breaks of (grammar_of grammar.now) p → IsTrue yes) }
@@ -60,7 +61,7 @@ fn names_meet(alloc: Global, grammar: &SimpleGrammar, of: NamesOf) -> Result<boo
     others_meet(alloc, &rows, labels.as_slice())
 }
 
-/// Whose names are judged.
+/// Whose names are checked.
 #[derive(Clone, Copy)]
 pub(crate) enum NamesOf {
     /// Those of attributes, in groups and interleaves (RELAX NG Specification, section 7.3).
@@ -70,7 +71,7 @@ pub(crate) enum NamesOf {
 }
 
 impl NamesOf {
-    /// The name class that a pattern has by itself.
+    /// Returns the name class that a pattern itself has.
     pub(crate) fn class<'a>(
         self,
         grammar: &'a SimpleGrammar,
@@ -88,7 +89,7 @@ impl NamesOf {
         }
     }
 
-    /// The two rows of a pattern between which names must not meet.
+    /// Returns the two rows of a pattern between which names must not meet.
     pub(crate) fn sides(self, pattern: &Simple) -> Option<(usize, usize)>
         ensures { result ≡ sides_at self pattern.now }
     {

@@ -1,4 +1,4 @@
-// The rows that have one name for a class, by name.
+// The rows whose class is a name, grouped by name.
 ghost use Rattle.std.specs.Prelude.{◌≡◌, ◌↔◌, ◌+◌, ◌<◌, ◌≤◌, ◌++◌, ◌∷◌, [], ℕ, List, Some, length, map, slice_get, slice_index_or, Contains, IfOk, OnOk};
 ghost use Rattle.rng_model.specs.names.Names as names;
 ghost use Rattle.rng_model.specs.declared.name.NameClass.{NameClass};
@@ -12,21 +12,21 @@ use indexmap::IndexSet;
 use rng_model::{Name, NameClass, OutOfMemory};
 use std::alloc::Global;
 
-/// A name, by the texts that another one holds.
+/// A name, borrowed from the texts of another one.
 #[derive(Clone, Copy, PartialEq, Eq, Hash)]
 pub(crate) struct PlainName<'a> {
     pub ns: &'a str,
     pub local: &'a str,
 }
 
-/// Names, and for each of them the rows that have it for a class.
+/// Names, and for each of them the rows that have it as their class.
 #[derive(Drop)]
 pub(crate) struct NameGroups<'a> {
     pub names: IndexSet<PlainName<'a>>,
     pub rows: Vec<Vec<usize>>,
 }
 
-/// Those of these rows. Linear, but for hashing.
+/// Groups these rows. Linear, apart from hashing.
 pub(crate) fn name_groups<'a>(
     alloc: Global,
     labels: &[Label<'a>],
@@ -56,7 +56,7 @@ impl<'a> NameGroups<'a> {
         }
     }
 
-    /// Adds a row that has this name for a class.
+    /// Adds a row whose class is this name.
     fn add_name(&mut self, alloc: Global, name: &'a Name, row: usize) -> Result<(), OutOfMemory>
         requires { length self.old.rows.items ≡ length self.old.names.keys }
         ensures { OnOk result ((ls : List (ℕ × NameClass)) → AreGroups ls (map plain_name_of self.old.names.keys) (lists self.old.rows.items)
@@ -86,7 +86,7 @@ fn make_room(alloc: Global, rows: &mut Vec<Vec<usize>>, number: usize) -> Result
     Ok(())
 }
 
-/// The number of a name, which it gets when it is first asked for.
+/// Returns the number of a name. A new name gets the next number.
 fn number<'a>(
     known: &mut IndexSet<PlainName<'a>>,
     name: PlainName<'a>,

@@ -1,4 +1,4 @@
-// Rows from which a search for a row that meets itself may as well begin.
+// Rows where a search for a row that meets itself may start instead.
 ghost use Rattle.std.specs.Prelude.{◌≡◌, ◌<◌, ◌+◌, ◌==◌, ℕ, length, IfOk, IfSome};
 ghost use Rattle.rng_rules.specs.views.NamesMeetHeads.{AreHeads, AreHeadsFrom, IsHead, IsOnlyAbove, are_equal};
 ghost use Rattle.rng_rules.specs.plain.NamesMeetReach.{lists};
@@ -9,8 +9,8 @@ use crate::names_meet_sides::Rows;
 use rng_model::OutOfMemory;
 use std::alloc::Global;
 
-/// For each row its head: where it stands by itself in one row alone, the head of that, and else the row. A row stands on
-/// both sides of another exactly if its head does. Linear.
+/// Returns the head of each row. If the row is a direct part of one other row only, the head is that of the other row.
+/// Otherwise it is the row itself. A row occurs on both sides of another exactly if its head does. Linear.
 pub(crate) fn heads(alloc: Global, rows: &Rows<'_>) -> Result<Vec<usize>, OutOfMemory>
     requires { AreRows rows.now }
     ensures long { IfOk result (λ heads. length heads.items ≡ length rows.now.standing.items) }
@@ -25,7 +25,7 @@ pub(crate) fn heads(alloc: Global, rows: &Rows<'_>) -> Result<Vec<usize>, OutOfM
     Ok(heads)
 }
 
-/// The head of a row, by the heads of those that come after it.
+/// Returns the head of a row, from the heads of the rows after it.
 fn head(rows: &Rows<'_>, heads: &[usize], row: usize) -> usize
     requires rows { AreRows rows.now }
     requires long { length heads.now ≡ length rows.now.standing.items }
@@ -39,7 +39,7 @@ fn head(rows: &Rows<'_>, heads: &[usize], row: usize) -> usize
     }
 }
 
-/// The row in which this one stands by itself, if it is the only one, and does not have it on both sides.
+/// Returns the row that has this one as a direct part, if it is the only one and does not have it on both sides.
 fn only_above(rows: &Rows<'_>, row: usize) -> Option<usize>
     requires rows { AreRows rows.now }
     requires below { row < length rows.now.standing.items }
@@ -51,7 +51,7 @@ fn only_above(rows: &Rows<'_>, row: usize) -> Option<usize>
     }
 }
 
-/// Whether the row has two sides that are one row.
+/// Returns whether the two sides of the row are the same row.
 fn has_equal_sides(rows: &Rows<'_>, row: usize) -> bool
     requires { row < length rows.now.standing.items }
     ensures { result ≡ are_equal (row_sides rows.now row) }

@@ -1,4 +1,4 @@
-// The rows that stand in those between whose sides names must not meet.
+// The rows inside those between whose sides names must not meet.
 ghost use Rattle.std.specs.Prelude.{◌≡◌, ◌<◌, ◌++◌, ℕ, length, slice_get, All, Contains, IfOk, OnOk, Some};
 ghost use Rattle.rng_rules.specs.plain.NamesMeetReach.{lists};
 ghost use Rattle.rng_rules.specs.views.NamesMeetSides.{AreRows, IsJoin, IsUnder, join_list, row_sides};
@@ -8,7 +8,7 @@ use crate::names_meet_sides::Rows;
 use rng_model::OutOfMemory;
 use std::alloc::Global;
 
-/// Marks for each row: a 1 if it is passed to from a row between whose sides names must not meet. Linear.
+/// Marks each row: 1 if it is reached from a row between whose sides names must not meet. Linear.
 pub(crate) fn under_joins(alloc: Global, rows: &Rows<'_>) -> Result<Vec<usize>, OutOfMemory>
     requires { AreRows rows.now }
     ensures long { IfOk result (λ marks. length marks.items ≡ length rows.now.standing.items) }
@@ -18,7 +18,7 @@ pub(crate) fn under_joins(alloc: Global, rows: &Rows<'_>) -> Result<Vec<usize>, 
     within(alloc, rows.grammar, joins.as_slice())
 }
 
-/// The rows that stand in a part, and between whose sides names must not meet.
+/// Returns the rows of parts between whose sides names must not meet.
 fn joins(alloc: Global, rows: &Rows<'_>) -> Result<Vec<usize>, OutOfMemory>
     requires { AreRows rows.now }
     ensures below { IfOk result (λ joins. All (λ k. k < length rows.now.standing.items) joins.items) }

@@ -3,24 +3,24 @@ ghost use Rattle.std.specs.Prelude.{◌≡◌, ◌<◌, ◌⊎◌, ◌↔◌, �
 ghost use Rattle.rng_model.specs.names.Names.{Overlap};
 ghost use Rattle.rng_model.specs.names.NameViews.{class_of};
 ghost use Rattle.rng_model.specs.declared.name.NameClass.{NameClass};
-ghost use Rattle.rng_rules.specs.views.NamesMeetLabels.{AreLabels, judged_class, label_list, label_of};
+ghost use Rattle.rng_rules.specs.views.NamesMeetLabels.{AreLabels, judged_class, label_list, label_of, ready_label_of};
 ghost use Rattle.rng_rules.specs.plain.NamesMeetReach.{lists};
 ghost use Rattle.rng_rules.specs.views.NamesMeetSides.{AreRows};
 
 use crate::names_meet_joins::under_joins;
 use crate::names_meet_sides::Rows;
 use rng_model::{NameClass, OutOfMemory, PatternId};
-use rng_names::overlap;
+use rng_names::PreparedClass;
 use std::alloc::Global;
 
-/// A row that has a name class by itself.
+/// A row that itself has a name class.
 #[derive(Clone, Copy)]
 pub(crate) struct Label<'a> {
     pub row: usize,
     pub class: &'a NameClass,
 }
 
-/// The rows that have name classes by themselves, of those that stand in a row between whose sides names must not meet.
+/// Returns the rows that have name classes themselves, of those inside a row between whose sides names must not meet.
 /// Linear.
 pub(crate) fn labels<'a>(alloc: Global, rows: &Rows<'a>) -> Result<Vec<Label<'a>>, OutOfMemory>
     requires { AreRows rows.now }
@@ -51,7 +51,7 @@ fn add_label<'a>(
     Ok(())
 }
 
-/// The name class that a row has by itself, if it is marked.
+/// Returns the name class that a row itself has, if the row is marked.
 fn judged_class<'a>(rows: &Rows<'a>, under: &[usize], row: usize) -> Option<&'a NameClass>
     requires { row < length under.now }
     ensures { option_copied result ≡ judged_class rows.now.of rows.now.grammar.now under.now row }
@@ -65,33 +65,57 @@ fn judged_class<'a>(rows: &Rows<'a>, under: &[usize], row: usize) -> Option<&'a 
     }
 }
 
-/// The rows whose classes have a name in common with this one.
+/// A row that itself has a name class, with this class prepared for comparisons.
+#[derive(Drop)]
+pub(crate) struct ReadyLabel<'a> {
+    pub row: usize,
+    pub class: PreparedClass<'a>,
+}
+
+/// Prepares the classes of these labels. Linear, apart from hashing.
+pub(crate) fn ready_labels<'a>(
+    alloc: Global,
+    labels: &[Label<'a>],
+) -> Result<Vec<ReadyLabel<'a>>, OutOfMemory>
+    ensures { IfOk result (λ all. map ready_label_of all.items ≡ map label_of labels.now) }
+{
+    let mut all = Vec::new(alloc);
+    for label in labels {
+        let class = PreparedClass::of(alloc, label.class)?;
+        all.push(ReadyLabel {
+            row: label.row,
+            class,
+        })?;
+    }
+    Ok(all)
+}
+
+/// Returns the rows whose classes have a name in common with this one.
 pub(crate) fn overlapping(
     alloc: Global,
-    labels: &[Label<'_>],
-    class: &NameClass,
+    labels: &[ReadyLabel<'_>],
+    class: &PreparedClass,
 ) -> Result<Vec<usize>, OutOfMemory>
     ensures { IfOk result (λ rows. (row : ℕ) → Contains rows.items row
-        ↔ ((c : NameClass) × Contains (map label_of labels.now) (row, c) × Overlap (class_of class.now) (class_of c))) }
+        ↔ ((c : NameClass) × Contains (map ready_label_of labels.now) (row, c) × Overlap (class_of class.now) (class_of c))) }
 {
     let mut rows = Vec::new(alloc);
     for label in labels {
-        add_overlapping(alloc, &mut rows, class, *label)?;
+        add_overlapping(&mut rows, class, label)?;
     }
     Ok(rows)
 }
 
 /// Adds the row if its class has a name in common with this one.
 fn add_overlapping(
-    alloc: Global,
     rows: &mut Vec<usize>,
-    class: &NameClass,
-    label: Label<'_>,
+    class: &PreparedClass,
+    label: &ReadyLabel<'_>,
 ) -> Result<(), OutOfMemory>
     ensures { OnOk result ((row : ℕ) → Contains rows.new.items row
-        ↔ (Contains rows.old.items row ⊎ ((row ≡ label.entry.row) × Overlap (class_of class.now) (class_of label.entry.class.now)))) }
+        ↔ (Contains rows.old.items row ⊎ ((row ≡ label.now.row) × Overlap (class_of class.now) (class_of label.now.class)))) }
 {
-    if overlap(alloc, class, label.class)? {
+    if class.overlaps(&label.class) {
         rows.push(label.row)?;
     }
     Ok(())

@@ -1,15 +1,15 @@
-// What is reached from numbers by going on, marked with the number of the round.
+// What is reached from numbers by repeated steps, marked with the number of the round.
 ghost use Rattle.std.specs.Prelude.{◌≡◌, ◌<◌, ◌≤◌, ◌↔◌, ℕ, [], ◌∷◌, length, slice_get, slice_index_or, All, Contains, IfOk, OnOk, Some};
 ghost use Rattle.rng_rules.specs.plain.NamesMeetReach.{Adds, AreBelow, IsMarked, IsReachedBy, lists};
 
 use rng_model::OutOfMemory;
 use std::alloc::Global;
 
-/// What is reached from the start: the start, and what is next to one so reached, once each. It gets the mark of the round,
-/// which must be greater than all marks so far.
+/// Returns what is reached from the start: the start, and everything next to a number that is reached, once each. It
+/// gets the mark of the round, which must be greater than all marks so far.
 ///
-/// `next` has for each number those that are next to it. Takes time and memory in proportion to what is reached, and does
-/// not recurse.
+/// `next` has for each number those that are next to it. Time and memory are linear in what is reached. There is no
+/// recursion.
 pub(crate) fn reach(
     alloc: Global,
     next: &[Vec<usize>],
@@ -38,7 +38,7 @@ pub(crate) fn reach(
     Ok(rows)
 }
 
-/// What is next to a number.
+/// Returns what is next to a number.
 fn next_to(next: &[Vec<usize>], k: usize) -> &[usize]
     requires { k < length next.now }
     ensures { result.now ≡ slice_index_or (lists next.now) k [] }
@@ -46,7 +46,7 @@ fn next_to(next: &[Vec<usize>], k: usize) -> &[usize]
     next[k].as_slice()
 }
 
-/// Adds those of the numbers that have not the mark of the round, and marks them.
+/// Adds the numbers that do not have the mark of the round, and marks them.
 fn add(
     marks: &mut Vec<usize>,
     rows: &mut Vec<usize>,
@@ -65,7 +65,7 @@ fn add(
     Ok(())
 }
 
-/// Adds the number if it has not the mark of the round, and marks it.
+/// Adds the number if it does not have the mark of the round, and marks it.
 fn add_one(
     marks: &mut Vec<usize>,
     rows: &mut Vec<usize>,

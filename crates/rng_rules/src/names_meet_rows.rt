@@ -1,4 +1,4 @@
-// What stands in the rows of a grammar, and what they occur in.
+// The rows of a grammar: their parts, and the rows in which they occur.
 ghost use Rattle.std.specs.Prelude.{◌≡◌, ◌<◌, ◌⊎◌, ◌↔◌, ℕ, [], ◌∷◌, length, map, slice_get, slice_index_or, All, Contains, IfOk, OnOk, Some};
 ghost use Rattle.rng_model.specs.simple.Table.{AreChildrenBelow};
 ghost use Rattle.rng_rules.specs.plain.NamesMeetReach.{IsReachedBy, lists};
@@ -8,7 +8,7 @@ use crate::names_meet_reach::reach;
 use rng_model::{ElementId, OutOfMemory, PatternId, Simple, SimpleGrammar};
 use std::alloc::Global;
 
-/// For each row a 1 if it stands in the start or in the body of an element that is listed, and a 0 if not.
+/// Returns for each row 1 if it is in the start or in the body of a listed element, and 0 if not.
 pub(crate) fn standing(alloc: Global, grammar: &SimpleGrammar) -> Result<Vec<usize>, OutOfMemory>
     ensures long { IfOk result (λ marks. length marks.items ≡ length grammar.now.patterns) }
     ensures exact { IfOk result (λ marks. (k : ℕ) → IsReachedBy (children_at grammar.now.patterns) (part_rows grammar.now) k ↔ (slice_get marks.items k ≡ Some 1)) }
@@ -18,7 +18,7 @@ pub(crate) fn standing(alloc: Global, grammar: &SimpleGrammar) -> Result<Vec<usi
     within(alloc, grammar, parts.as_slice())
 }
 
-/// For each row a 1 if it stands in one of these, or is one, and a 0 if not. Linear.
+/// Returns for each row 1 if it is one of these or inside one, and 0 if not. Linear.
 pub(crate) fn within(
     alloc: Global,
     grammar: &SimpleGrammar,
@@ -35,7 +35,7 @@ pub(crate) fn within(
     Ok(marks)
 }
 
-/// A 0 for each row.
+/// Returns a 0 for each row.
 pub(crate) fn no_marks(alloc: Global, count: usize) -> Result<Vec<usize>, OutOfMemory>
     ensures long { IfOk result (λ marks. length marks.items ≡ count) }
     ensures none { IfOk result (λ marks. (k m : ℕ) → slice_get marks.items k ≡ Some m → m ≡ 0) }
@@ -47,7 +47,7 @@ pub(crate) fn no_marks(alloc: Global, count: usize) -> Result<Vec<usize>, OutOfM
     Ok(marks)
 }
 
-/// The rows of the bodies.
+/// Returns the rows of the bodies.
 fn bodies(alloc: Global, grammar: &SimpleGrammar) -> Result<Vec<usize>, OutOfMemory>
     ensures { IfOk result (λ rows. rows.items ≡ map (λ e. e.1.0) grammar.now.elements) }
 {
@@ -58,7 +58,7 @@ fn bodies(alloc: Global, grammar: &SimpleGrammar) -> Result<Vec<usize>, OutOfMem
     Ok(rows)
 }
 
-/// For each row its children.
+/// Returns the children of each row.
 fn below(alloc: Global, grammar: &SimpleGrammar) -> Result<Vec<Vec<usize>>, OutOfMemory>
     ensures { IfOk result (λ all. lists all.items ≡ map children grammar.now.patterns) }
 {
@@ -69,7 +69,7 @@ fn below(alloc: Global, grammar: &SimpleGrammar) -> Result<Vec<Vec<usize>>, OutO
     Ok(all)
 }
 
-/// The rows that stand in a pattern by themselves.
+/// Returns the rows of the children of a pattern.
 fn children(alloc: Global, pattern: &Simple) -> Result<Vec<usize>, OutOfMemory>
     ensures { IfOk result (λ rows. rows.items ≡ children pattern.now) }
 {
@@ -93,7 +93,7 @@ fn children(alloc: Global, pattern: &Simple) -> Result<Vec<usize>, OutOfMemory>
     Ok(rows)
 }
 
-/// For each row those in which it stands by itself, of choices, groups, interleaves and oneOrMores.
+/// Returns for each row the choices, groups, interleaves and oneOrMores that have it as a direct part.
 pub(crate) fn above(alloc: Global, grammar: &SimpleGrammar) -> Result<Vec<Vec<usize>>, OutOfMemory>
     ensures { IfOk result (λ all. IsAbove grammar.now.patterns (lists all.items)) }
 {
@@ -106,7 +106,7 @@ pub(crate) fn above(alloc: Global, grammar: &SimpleGrammar) -> Result<Vec<Vec<us
     Ok(all)
 }
 
-/// Adds a row to the lists of those through which it is passed.
+/// Adds a row to the lists of the rows that it passes to.
 fn add_row(all: &mut Vec<Vec<usize>>, pattern: &Simple, row: usize) -> Result<(), OutOfMemory>
     requires { AreChildrenBelow (length all.old.items) pattern.now }
     ensures long { OnOk result (length all.new.items ≡ length all.old.items) }

@@ -4,20 +4,21 @@ ghost use Rattle.rng_model.specs.names.Names.{Overlap};
 ghost use Rattle.rng_model.specs.names.NameViews.{class_of};
 ghost use Rattle.rng_model.specs.declared.name.NameClass.{NameClass};
 ghost use Rattle.rng_names.specs.views.PlainNames.{IsPlain};
-ghost use Rattle.rng_rules.specs.views.NamesMeetLabels.{label_of};
+ghost use Rattle.rng_rules.specs.views.NamesMeetLabels.{label_of, ready_label_of};
 ghost use Rattle.rng_rules.specs.views.NamesMeetHeads.{AreHeads};
 ghost use Rattle.rng_rules.specs.plain.NamesMeetReach.{AreBelow, lists};
 ghost use Rattle.rng_rules.specs.views.NamesMeetSearch.{Meeting};
 ghost use Rattle.rng_rules.specs.views.NamesMeetSides.{AreMarks, AreRows, MeetBetween};
 
 use crate::names_meet_heads::heads;
-use crate::names_meet_labels::{Label, overlapping};
+use crate::names_meet_labels::{Label, ReadyLabel, overlapping, ready_labels};
 use crate::names_meet_sides::{Marks, Rows};
-use rng_model::{NameClass, OutOfMemory};
+use rng_model::OutOfMemory;
 use std::alloc::Global;
 
-/// Whether two rows of one group, or one and itself, stand on the two sides of a row. Linear, and takes time in proportion
-/// to what each group of two or more reaches, and to what each row alone reaches behind the first that stands in two rows.
+/// Returns whether two rows of one group, or one and itself, occur on the two sides of a row. The cost is linear in the
+/// rows and in what each group of two or more rows reaches. For a single row, it is what is reached from the first row
+/// above it that is a part of two rows.
 pub(crate) fn groups_meet(
     alloc: Global,
     rows: &Rows<'_>,
@@ -49,7 +50,8 @@ pub(crate) fn groups_meet(
     Ok(false)
 }
 
-/// Whether two of these rows, or one and itself, stand on the two sides of a row. For a row alone, its head is asked.
+/// Returns whether two of these rows, or one and itself, occur on the two sides of a row. For a single row the search
+/// starts at its head.
 fn group_meets(
     alloc: Global,
     rows: &Rows<'_>,
@@ -77,8 +79,9 @@ fn group_meets(
     }
 }
 
-/// Whether two rows stand on the two sides of a row, of which one has a class that is no name, and both have a name in
-/// common. Takes, for each class that is no name, one `overlap` for each other, and time in proportion to what is reached.
+/// Returns whether two rows occur on the two sides of a row. One of the two must have a class that is not a name, and
+/// the two classes must have a name in common. The cost is, for each class that is not a name, one comparison with each
+/// other class and the time linear in what is reached.
 pub(crate) fn others_meet(
     alloc: Global,
     rows: &Rows<'_>,
@@ -90,10 +93,26 @@ pub(crate) fn others_meet(
     ensures none { IfOk result (λ yes. IsFalse yes → (m : Meeting rows.now.of rows.now.grammar.now (lists rows.now.above.items) (map label_of labels.now))
         → IsPlain m.first.1) }
 {
+    let ready = ready_labels(alloc, labels)?;
+    ready_meet(alloc, rows, ready.as_slice())
+}
+
+/// Returns whether two such rows occur on the two sides of a row, with all classes prepared.
+fn ready_meet(
+    alloc: Global,
+    rows: &Rows<'_>,
+    labels: &[ReadyLabel<'_>],
+) -> Result<bool, OutOfMemory>
+    requires rows { AreRows rows.now }
+    requires below { (row : ℕ) (c : NameClass) → Contains (map ready_label_of labels.now) (row, c) → row < length rows.now.standing.items }
+    ensures only { IfOk result (λ yes. IsTrue yes → Meeting rows.now.of rows.now.grammar.now (lists rows.now.above.items) (map ready_label_of labels.now)) }
+    ensures none { IfOk result (λ yes. IsFalse yes → (m : Meeting rows.now.of rows.now.grammar.now (lists rows.now.above.items) (map ready_label_of labels.now))
+        → IsPlain m.first.1) }
+{
     let mut marks = rows.marks(alloc)?;
     let mut round = 1;
     for label in labels {
-        if one_meets(alloc, rows, &mut marks, round, labels, *label)? {
+        if one_meets(alloc, rows, &mut marks, round, labels, label)? {
             return Ok(true);
         }
         round += 1;
@@ -101,38 +120,28 @@ pub(crate) fn others_meet(
     Ok(false)
 }
 
-/// Whether this row, if its class is no name, stands with another one on the two sides of a row.
+/// Returns whether this row, if its class is not a name, and another one occur on the two sides of a row.
 fn one_meets(
     alloc: Global,
     rows: &Rows<'_>,
     marks: &mut Marks,
     round: usize,
-    labels: &[Label<'_>],
-    label: Label<'_>,
+    labels: &[ReadyLabel<'_>],
+    label: &ReadyLabel<'_>,
 ) -> Result<bool, OutOfMemory>
     requires rows { AreRows rows.now }
-    requires below { (row : ℕ) (c : NameClass) → Contains (map label_of labels.now) (row, c) → row < length rows.now.standing.items }
-    requires there { Contains (map label_of labels.now) (label_of label) }
+    requires below { (row : ℕ) (c : NameClass) → Contains (map ready_label_of labels.now) (row, c) → row < length rows.now.standing.items }
+    requires there { Contains (map ready_label_of labels.now) (ready_label_of label.now) }
     requires marks { AreMarks (length rows.now.standing.items) round marks.old }
     ensures marks { OnOk result (AreMarks (length rows.now.standing.items) (round + 1) marks.new) }
-    ensures only { IfOk result (λ yes. IsTrue yes → Meeting rows.now.of rows.now.grammar.now (lists rows.now.above.items) (map label_of labels.now)) }
-    ensures none { IfOk result (λ yes. IsFalse yes → (m : Meeting rows.now.of rows.now.grammar.now (lists rows.now.above.items) (map label_of labels.now))
-        → m.first ≡ label_of label.entry → IsPlain m.first.1) }
+    ensures only { IfOk result (λ yes. IsTrue yes → Meeting rows.now.of rows.now.grammar.now (lists rows.now.above.items) (map ready_label_of labels.now)) }
+    ensures none { IfOk result (λ yes. IsFalse yes → (m : Meeting rows.now.of rows.now.grammar.now (lists rows.now.above.items) (map ready_label_of labels.now))
+        → m.first ≡ ready_label_of label.now → IsPlain m.first.1) }
 {
-    if is_name(label.class) {
+    if label.class.is_name() {
         return Ok(false);
     }
-    let others = overlapping(alloc, labels, label.class)?;
+    let others = overlapping(alloc, labels, &label.class)?;
     let alone = [label.row];
     rows.meet(alloc, marks, round, alone.as_slice(), others.as_slice())
-}
-
-/// Whether the class is a name.
-fn is_name(class: &NameClass) -> bool
-    ensures { IsTrue result ↔ IsPlain class.now }
-{
-    match class {
-        NameClass::Name(_) => true,
-        _ => false,
-    }
 }

@@ -1,4 +1,4 @@
-// Whether what is reached from two lists of rows stands on the two sides of a row.
+// Whether the rows reached from two lists occur on the two sides of a row.
 ghost use Rattle.std.specs.Prelude.{◌≡◌, ◌<◌, ◌+◌, ℕ, length, All, Contains, IfOk, OnOk, IfSome, IsTrue, IsFalse, true};
 ghost use Rattle.rng_rules.specs.plain.NamesMeetReach.{AreBelow, lists};
 ghost use Rattle.rng_rules.specs.views.NamesMeetSides.{AreMarks, AreRows, MeetBetween, are_marked, row_sides};
@@ -9,14 +9,14 @@ use crate::names_meet_rows::{above, no_marks, standing};
 use rng_model::{OutOfMemory, PatternId, SimpleGrammar};
 use std::alloc::Global;
 
-/// The rows of a grammar, made ready for a search.
+/// The rows of a grammar, prepared for a search.
 #[derive(Drop)]
 pub(crate) struct Rows<'a> {
     pub grammar: &'a SimpleGrammar,
     pub of: NamesOf,
-    /// For each row those in which it stands by itself, of choices, groups, interleaves and oneOrMores.
+    /// For each row the choices, groups, interleaves and oneOrMores that have it as a direct part.
     pub above: Vec<Vec<usize>>,
-    /// For each row a 1 if it stands in the start or in the body of an element that is listed.
+    /// For each row 1 if it is in the start or in the body of a listed element, and 0 if not.
     pub standing: Vec<usize>,
 }
 
@@ -28,7 +28,7 @@ pub(crate) struct Marks {
 }
 
 impl<'a> Rows<'a> {
-    /// Those of a grammar. Linear.
+    /// Prepares the rows of a grammar. Linear.
     pub(crate) fn new(
         alloc: Global,
         grammar: &'a SimpleGrammar,
@@ -47,7 +47,7 @@ impl<'a> Rows<'a> {
         })
     }
 
-    /// Marks of no round for each row.
+    /// Returns marks of no round for each row.
     pub(crate) fn marks(&self, alloc: Global) -> Result<Marks, OutOfMemory>
         ensures { IfOk result (AreMarks (length self.now.standing.items) 1) }
     {
@@ -57,8 +57,8 @@ impl<'a> Rows<'a> {
         })
     }
 
-    /// Whether a row that stands in a part has, on one side, what is reached from the first rows, and on the other
-    /// what is reached from the second. Takes time in proportion to what is reached.
+    /// Returns whether the two searches meet at some row of a part: one side is reached from the first rows, and the
+    /// other side from the second rows. The cost is linear in what is reached.
     pub(crate) fn meet(
         &self,
         alloc: Global,
@@ -86,7 +86,8 @@ impl<'a> Rows<'a> {
         Ok(self.is_one_met(reached.as_slice(), marks, round))
     }
 
-    /// Whether one of the rows has sides with the mark of the round, one among the first and one among the second.
+    /// Returns whether one of the rows has sides with the mark of the round, one among the first and one among the
+    /// second.
     fn is_one_met(&self, reached: &[usize], marks: &Marks, round: usize) -> bool
         requires below { All (λ k. k < length self.now.standing.items) reached.now }
         requires first { length marks.now.first.items ≡ length self.now.standing.items }
@@ -104,7 +105,7 @@ impl<'a> Rows<'a> {
         false
     }
 
-    /// Whether the sides of the row have the mark of the round, one among the first and one among the second.
+    /// Returns whether the sides of the row have the mark of the round, one among the first and one among the second.
     fn is_met(&self, row: usize, marks: &Marks, round: usize) -> bool
         requires below { row < length self.now.standing.items }
         requires first { length marks.now.first.items ≡ length self.now.standing.items }
@@ -120,7 +121,7 @@ impl<'a> Rows<'a> {
         }
     }
 
-    /// The sides of a row that stands in a part.
+    /// Returns the sides of a row of a part.
     pub(crate) fn sides(&self, row: usize) -> Option<(usize, usize)>
         requires { row < length self.now.standing.items }
         ensures sides { result ≡ row_sides self.now row }

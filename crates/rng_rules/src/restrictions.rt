@@ -1,4 +1,4 @@
-// The restrictions, judged.
+// The check of the restrictions.
 ghost use Rattle.std.specs.Prelude.{MatchOption, IfErr, IfOk, OnOk};
 ghost use Rattle.rng_model.specs.restrictions.Restrictions.{IsLeastRestriction};
 ghost use Rattle.rng_model.specs.simple.Table.{grammar_of};
@@ -9,11 +9,12 @@ use crate::names_meet::{attribute_names_meet, element_names_meet};
 use rng_model::{OutOfMemory, SchemaFault, SimpleGrammar};
 use std::alloc::Global;
 
-/// Whether a simple grammar keeps the restrictions of RELAX NG Specification, section 7: clauses S18 to S27.
+/// Checks that a simple grammar keeps the restrictions of RELAX NG Specification, section 7: clauses S18 to S27.
 ///
-/// Judged are the start and the body of each listed element, whether or not a ref leads to it, and nothing else that
-/// the tables hold. An error is the least clause that is broken, or want of memory. Each pattern of the table is looked
-/// at a fixed number of times.
+/// It checks the start and the body of each listed element, whether or not a ref leads to it, and nothing else in the
+/// tables. An error is the least clause that is broken, or out of memory. For S24 and S26 names are looked up by
+/// hashing, and each class that is not a name is compared with each other class. For the other clauses the cost is
+/// linear in the table.
 pub fn restrict(alloc: Global, grammar: &SimpleGrammar) -> Result<(), SchemaFault>
     ensures kept { OnOk result (IsRestricted (grammar_of grammar.now)) }
     ensures broken { IfErr result (IsRestrictionFault (grammar_of grammar.now)) }
@@ -24,7 +25,7 @@ pub fn restrict(alloc: Global, grammar: &SimpleGrammar) -> Result<(), SchemaFaul
     }
 }
 
-/// The least clause that is broken.
+/// Returns the least clause that is broken.
 fn first_broken(alloc: Global, grammar: &SimpleGrammar) -> Result<Option<u8>, OutOfMemory>
     ensures { IfOk result (λ found. MatchOption found (IsRestricted (grammar_of grammar.now)) (IsLeastRestriction (grammar_of grammar.now))) }
 {

@@ -5,7 +5,8 @@ ghost use Rattle.rng_rules.specs.plain.Facts as facts;
 
 use rng_model::NameClass;
 
-/// Whether `*` or `p:*` is written in the class, with an except or without. A choice of no members is seen as `* - *`.
+/// Returns whether `*` or `p:*` is written in the class, with or without an except. A choice without members is seen as
+/// `* - *`.
 pub fn has_wildcard(class: &NameClass) -> bool
     ensures { result ≡ facts.has_wildcard (class_of class.now) }
 {

@@ -1,6 +1,6 @@
-//! Prints which restriction the grammar in each row of `cases.txt` breaks first, a line a row.
+//! Prints the first restriction that the grammar in each row of `cases.txt` breaks, one line per row.
 //!
-//! A row has how many elements a grammar has, and its tables, as `written_grammars` reads them.
+//! A row has the number of elements of a grammar, and its tables, as `written_grammars` reads them.
 #![tactic(auto)]
 
 use case_rows::rows;
@@ -16,7 +16,7 @@ fn main(rt: HostRuntime) -> io::Result<()> {
     Ok(())
 }
 
-/// Prints what is answered of a grammar.
+/// Prints the result for a grammar.
 fn print_answer(rt: &(impl Print + AllocGlobal), count: &str, tables: &str) -> io::Result<()> {
     let Some(grammar) = read_grammar(rt.alloc(), count, tables) else {
         return println!(rt; "no grammar");

@@ -1,4 +1,4 @@
--- What holds at one of the places of a schema.
+-- Properties of one of the places of a schema.
 use Rattle.std.proofs.Common.{◌≡◌, refl, sym, ap, ◌∙◌, ℕ, List, [], ◌∷◌, map, Bool, true, false, cond, ◌||◌, ◌&&◌}
 use Rattle.std.specs.Cmp.{both_ways}
 use Rattle.std.specs.Cmp.Derive.{both_true}
@@ -19,14 +19,14 @@ any_mapped test f (x ∷ xs) = ap (λ b. test (f x) || b) (any_mapped test f xs)
 
 -- ---- definitions, place by place
 
--- one more place is gone to, which may be the given one
+-- one more place is visited, which may be the given one
 pub one_more_place : (a b f n d new : Bool) → d ≡ (a && f) → (b ≡ true → n ≡ f) → new ≡ cond b n d → new ≡ ((a || b) && f)
 one_more_place true true f n d new before here e = e ∙ here refl
 one_more_place false true f n d new before here e = e ∙ here refl
 one_more_place true false f n d new before here e = e ∙ before
 one_more_place false false f n d new before here e = e ∙ before
 
--- what is defined at a place is so once each place was gone to
+-- what is defined at a place is found once each place is visited
 pub defined_at_all : (s : Schema) (xs : List Place) → AreItsPlaces s xs → (x : Place) (y : List ℕ) → (list_any (bytes_eq x) xs && defines s x y) ≡ defines s x y
 defined_at_all s xs places x y = both_ways (list_any (bytes_eq x) xs && defines s x y) (defines s x y) to from where
   to : (list_any (bytes_eq x) xs && defines s x y) ≡ true → defines s x y ≡ true

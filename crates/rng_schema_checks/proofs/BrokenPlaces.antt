@@ -1,4 +1,4 @@
--- A clause of components is broken where its test passes at a place.
+-- A clause about components is broken if its test passes at a place.
 use Rattle.std.proofs.Common.{◌≡◌, ◌↔◌, inl, inr, refl, sym, ap, ◌∙◌, ℕ, List, [], true, not, Option, Some, None, is_some, IsTrue, arith}
 use Rattle.std.specs.List.{list_any}
 use Rattle.std.proofs.lemmas.Bool.{not_from_false, or_cases, or_left, or_right}

@@ -47,7 +47,7 @@ later_plain : (names : List Name) {c : Component} {cs : List Component} → IsPl
 later_plain names (inl p) = inl (p.0, there p.1, p.2, p.3)
 later_plain names (inr h) = inr (both_later h)
 
--- what is found once the name of the first is among these
+-- what is found once the name of the first component is among the names
 plain_after : (names : List Name) (c : Component) (cs : List Component) → c.method ≡ methods.Plain
     → IsPlainAs (names ++ c.name ∷ []) cs ⊎ HasTwo AreBothPlain cs → IsPlainAs names (c ∷ cs) ⊎ HasTwo AreBothPlain (c ∷ cs)
 plain_after names c cs plain (inl p) = elim (or_cases (has names p.0.name) (same_name p.0.name c.name) (sym (has_more names c.name p.0.name) ∙ p.3)) [
@@ -56,7 +56,7 @@ plain_after names c cs plain (inl p) = elim (or_cases (has names p.0.name) (same
 ]
 plain_after names c cs plain (inr h) = inr (both_later h)
 
--- what is found of the first and of those behind it
+-- what is found for the first component and those after it
 module _ (names : List Name) (c : Component) (cs : List Component) where
   plain_step : (b : Bool) → is_plain c.method ≡ b
       → (two_plain (names ++ c.name ∷ []) cs ≡ true → IsPlainAs (names ++ c.name ∷ []) cs ⊎ HasTwo AreBothPlain cs)
@@ -73,7 +73,7 @@ pub plain_found : (names : List Name) (cs : List Component) → two_plain names 
 plain_found names [] e = false_is_no_truth e
 plain_found names (c ∷ cs) e = plain_step names c cs (is_plain c.method) refl (plain_found (names ++ c.name ∷ []) cs) (plain_found names cs) e
 
--- the first of them, where it has `=`, and where it has not
+-- the first component, with `=` and without
 step_plain : (names : List Name) (c : Component) (cs : List Component) → c.method ≡ methods.Plain
     → two_plain names (c ∷ cs) ≡ (has names c.name || two_plain (names ++ c.name ∷ []) cs)
 step_plain names c cs plain = ap (λ m. cond (is_plain m) (has names c.name || two_plain (names ++ c.name ∷ []) cs) (two_plain names cs)) plain

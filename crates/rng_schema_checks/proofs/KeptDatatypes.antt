@@ -1,4 +1,5 @@
--- Each datatype of a schema is known, and each value one of its datatype, where it breaks the clause of datatypes in no place.
+-- If a schema breaks the clause about datatypes at no place, each datatype is known, and each value is one of its
+-- datatype.
 use Rattle.std.proofs.Common.{◌≡◌, refl, ℕ, List, Bool, true, false, Option, Some, None}
 use Rattle.rng_model.specs.simple.Tree.{Datatype}
 use Rattle.rng_model.specs.schema.Patterns.{Place, Pattern, data_of, data_except, value, without_parameters}
@@ -8,7 +9,7 @@ use Rattle.rng_model.specs.datatypes.DatatypeTests.{text_tests, type_of}
 use Rattle.rng_model.specs.schema.SchemaClauses.{BreaksDatatype, of_data, of_data_except, of_value}
 use Rattle.rng_model.proofs.DatatypeTests.{allowed_decided, not_known, type_of-sound}
 
--- what a test decides holds where it is not refuted
+-- a decidable statement holds if it is not refuted
 decided : {P : Type 0} (b : Bool) → (b ≡ true → P) → (P → b ≡ true) → ¬ (¬ P) → P
 decided {P} b found met n = by_test b refl where
   by_test : (a : Bool) → b ≡ a → P

@@ -1,4 +1,4 @@
--- What the search for a datatype tells of it.
+-- What the search for a datatype returns.
 use Rattle.std.proofs.Common.{◌≡◌, ◌↔◌, ℕ, List, true, not, Option, Some, None, is_some, Result, Ok, Err, refl, sym, ap}
 use Rattle.std.specs.Result.{is_err}
 use Rattle.rng_model.specs.simple.Tree.{Datatype}

@@ -1,4 +1,4 @@
--- The least clause that is broken, found one after the other.
+-- The least clause that is broken, found by checking one after the other.
 use Rattle.std.proofs.Common.{◌≡◌, inl, inr, sym, subst, ◌∙◌, ◌↔◌, Bool, false, IsTrue, ℕ, ◌+◌, ◌≤◌, arith}
 use Rattle.std.proofs.Math.Nat.{eq-or-lt_of_le}
 use Rattle.rng_model.specs.schema.Schema.{Schema}
@@ -6,7 +6,7 @@ use Rattle.rng_model.specs.schema.SchemaClauses.{BreaksSchemaClause, in_name_cla
 use Rattle.rng_schema_checks.proofs.ListTests.{false_is_no_truth}
 
 module _ (s : Schema) where
-  -- each clause that is broken has this number at least
+  -- each broken clause has at least this number
   abbrev pub AreFrom : ℕ → Type 0
   AreFrom n = (clause : ℕ) → BreaksSchemaClause s clause → n ≤ clause
 
@@ -25,6 +25,6 @@ module _ (s : Schema) where
     | inr l ↦ omega (arith, l)
   ]
 
-  -- a clause that is told not to be broken is not
+  -- a clause that is reported as kept is not broken
   pub unbroken : (n : ℕ) {b : Bool} → b ≡ false → IsTrue b ↔ BreaksSchemaClause s n → ¬ (BreaksSchemaClause s n)
   unbroken n kept tells broken = false_is_no_truth (sym kept ∙ tells.1 broken)

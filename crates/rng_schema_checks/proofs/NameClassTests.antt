@@ -12,7 +12,7 @@ use Rattle.rng_schema_checks.specs.plain.ClassTests.{ClassTest, passes, has_part
 use Rattle.rng_schema_checks.specs.plain.ClassTests.{any_test, wildcard_test, declaration_test, is_barred}
 use Rattle.rng_schema_checks.proofs.ListTests.{false_is_no_truth}
 
--- ---- what stands in a class
+-- ---- the parts of a class
 
 -- a class that passes a test and is part of this one
 abbrev pub HasPart : ClassTest → NameClass → Type 0
@@ -126,7 +126,7 @@ declaration_passes (names_of_it_but {u} e) = as_same u barred_uri e
 
 -- ---- excepts
 
--- what breaks the rule in a class breaks it in a class that this is part of
+-- what breaks the rule in a class breaks it in every class that contains it
 module _ {c whole : NameClass} (lift : (d : NameClass) → IsPartOf d c → IsPartOf d whole) where
   breaks_around : BreaksClassExcept c → BreaksClassExcept whole
   breaks_around (any_in_any {d} {e} i j a) = any_in_any (lift (any_except e) i) j a

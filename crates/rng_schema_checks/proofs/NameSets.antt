@@ -1,4 +1,4 @@
--- What a set holds after one more key is put there.
+-- The keys of a set after one more is inserted.
 use Rattle.std.proofs.Common.{◌≡◌, refl, sym, ap, ◌∙◌, ℕ, List, [], ◌∷◌, ◌++◌, Bool, true, false, cond, ◌||◌, Option, Some, None, map, Bor}
 use Rattle.std.specs.List.{list_any}
 use Rattle.std.specs.Option.{option_eq}
@@ -12,7 +12,7 @@ use Rattle.rng_model.specs.schema.Schema.{same_name}
 use Rattle.rng_schema_checks.specs.plain.GrammarTests.{Name, has, seen_name}
 use Rattle.rng_schema_checks.proofs.ListTests.{any_found, any_met, same_name-found}
 
--- ---- a test that tells no equal keys apart
+-- ---- a test that does not distinguish equal keys
 
 module _ {K : Type 0} (eq : K → K → Bool) (test : K → Bool) (same : (k m : K) → eq k m ≡ true → test k ≡ test m) where
   or_there : (b : Bool) (ks : List K) → (b ≡ true → list_any test ks ≡ true) → list_any test ks ≡ (list_any test ks || b)
@@ -30,7 +30,7 @@ module _ {K : Type 0} (eq : K → K → Bool) (test : K → Bool) (same : (k m :
   pub any_inserted : (ks : List K) (k : K) → list_any test (insert_key eq ks k) ≡ (list_any test ks || test k)
   any_inserted ks k = inserted ks k (list_any (eq k) ks) refl
 
--- ---- names, of which a start has none
+-- ---- names; a start has none
 
 abbrev KeptName : Type 0
 KeptName = Option (Bor (List ℕ))

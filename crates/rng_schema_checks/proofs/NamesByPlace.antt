@@ -1,4 +1,4 @@
--- What a map by places finds.
+-- What a map by places returns.
 use Rattle.std.proofs.Common.{◌≡◌, refl, sym, ap, ◌∙◌, ℕ, Bool, true, false, cond, List, [], ◌∷◌, Option, Some, None, Bor}
 use Rattle.std.specs.Map.{lookup}
 use Rattle.std.specs.Option.{option_copied}

@@ -1,4 +1,4 @@
--- What is written in the grammar at a place, and what it defines, as tests find it.
+-- Tests find what is written in the grammar at a place, and what it defines.
 use Rattle.std.proofs.Common.{◌≡◌, refl, sym, subst, ℕ, List, Bool, true, false, not, Option, Some, None}
 use Rattle.std.proofs.lemmas.Bool.{not_from_false}
 use Rattle.rng_model.specs.names.Lists.{Among}
@@ -54,7 +54,7 @@ module _ (s : Schema) (x : Place) where
   pub lacks_it : (y : List ℕ) → ¬ (IsDefinedAt s x y) → lacks (defines s x) y ≡ true
   lacks_it y n = not_from_false (defines s x y) (refuted (defines s x y) (λ e. n (defined_found y e)))
 
--- no grammar at this place, where there is one, defines the name
+-- the grammar at this place, if there is a place, does not define the name
 module _ (s : Schema) (y : List ℕ) where
   abbrev pub IsLackedAround : Option Place → Type 0
   IsLackedAround o = (z : Place) → o ≡ Some z → ¬ (IsDefinedAt s z y)

@@ -1,4 +1,4 @@
--- The test of patterns passes where it does for one that is written.
+-- The test of a pattern passes if it passes for a pattern that is written in it.
 use Rattle.std.proofs.Common.{◌≡◌, inl, inr, Bool, true, ◌||◌}
 use Rattle.std.proofs.lemmas.Bool.{or_cases, or_left, or_right}
 use Rattle.rng_model.specs.schema.Patterns.{Pattern, Patterns, not_allowed, empty, text, element, attribute, list, data_of, data_except, value, mixed}

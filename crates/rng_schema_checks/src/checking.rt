@@ -1,4 +1,4 @@
-// Which clause of components a schema breaks.
+// Checking which clause of components a schema breaks.
 ghost use Rattle.std.specs.Prelude.{◌≡◌, ◌↔◌, ℕ, IfOk, IsTrue, List, map};
 ghost use Rattle.rng_model.specs.schema.Patterns as patterns;
 ghost use Rattle.rng_model.specs.schema.SchemaClauses.{BreaksSchemaClause};
@@ -18,22 +18,22 @@ use rng_load::Schema;
 use rng_model::{Component, OutOfMemory, Place, SchemaFault};
 use std::alloc::Global;
 
-/// A clause of the components of a schema, of which each grammar is judged by itself.
+/// A clause about the components of a schema. Each grammar is checked by itself.
 #[derive(Clone, Copy)]
 enum ComponentClause {
-    /// 11
+    /// Clause 11.
     NameClasses,
-    /// 12
+    /// Clause 12.
     Datatypes,
-    /// 13
+    /// Clause 13.
     Combinations,
-    /// 14
+    /// Clause 14.
     Starts,
-    /// 15
+    /// Clause 15.
     Refs,
 }
 
-/// What the grammars of a schema are judged by.
+/// Checks the grammars of a schema.
 #[derive(Clone, Copy)]
 struct Judge<'a, 'd> {
     alloc: Global,
@@ -41,12 +41,19 @@ struct Judge<'a, 'd> {
     definitions: &'d Definitions<'a>,
 }
 
-/// Whether the components of a schema keep the clauses 11 to 15, at all places, reached from the start or not.
+/// Checks that the components of a schema keep the clauses 11 to 15, at all places, whether reached from the start or
+/// not.
 ///
-/// `Clause` is the least of them that is broken: 11 where a name class is not allowed, 12 where a datatype is not known or a value not one of
-/// its datatype, 13 where two components of one name have `=` or one has `|=` and one `&=`, 14 where a grammar has no start, 15 where a ref
-/// finds no definition. `Memory` only where there was no memory. Linear in the schema, but for hashing; recurses as deep as patterns and
-/// name classes nest.
+/// Fails with `Clause` for the least clause that is broken:
+///
+/// - 11 if a name class is not allowed;
+/// - 12 if a datatype is not known, or a value is not one of its datatype;
+/// - 13 if two components of one name have `=`, or one has `|=` and one `&=`;
+/// - 14 if a grammar has no start;
+/// - 15 if a ref has no definition.
+///
+/// Fails with `Memory` only when out of memory. Takes time linear in the schema, apart from hash collisions. Recurses
+/// as deep as patterns and name classes nest.
 ///
 /// RELAX NG Specification, sections 4.16 to 4.18.
 pub fn check_components(alloc: Global, schema: &Schema) -> Result<(), SchemaFault>
@@ -62,7 +69,7 @@ pub fn check_components(alloc: Global, schema: &Schema) -> Result<(), SchemaFaul
 }
 
 impl<'a, 'd> Judge<'a, 'd> {
-    /// The least clause that is broken, if one is.
+    /// Fails with the least clause that is broken, if there is one.
     fn check(self) -> Result<(), SchemaFault>
         requires defined { (x : patterns.Place) (y : List ℕ) → defines_in self.definitions.now x y ≡ defines (schema_of self.schema.now) x y }
         ensures { AreComponentsJudged (schema_of self.entry.schema.now) result }
@@ -113,7 +120,7 @@ impl<'a, 'd> Judge<'a, 'd> {
         }
     }
 
-    /// The rule of the refs of the grammar at this place.
+    /// The rule for the refs of the grammar at this place.
     fn refs_at(self, place: &'a Place) -> Rule<'a, 'd>
         requires defined { (x : patterns.Place) (y : List ℕ) → defines_in self.definitions.now x y ≡ defines (schema_of self.schema.now) x y }
         ensures { rule_test result ≡ ref_test (defines (schema_of self.entry.schema.now) (place_of place.now)) (defines_if (schema_of self.entry.schema.now) ((schema_of self.entry.schema.now).outer (place_of place.now))) }
@@ -124,7 +131,7 @@ impl<'a, 'd> Judge<'a, 'd> {
         })
     }
 
-    /// The names that the grammar around the one at this place defines, where there is one.
+    /// The names that the grammar around the one at this place defines, if there is one.
     fn names_around(self, place: &'a Place) -> Option<&'d DefinedNames<'a>>
         requires defined { (x : patterns.Place) (y : List ℕ) → defines_in self.definitions.now x y ≡ defines (schema_of self.schema.now) x y }
         ensures { (y : List ℕ) → finds result y ≡ defines_if (schema_of self.entry.schema.now) ((schema_of self.entry.schema.now).outer (place_of place.now)) y }
@@ -136,7 +143,7 @@ impl<'a, 'd> Judge<'a, 'd> {
     }
 }
 
-/// Whether a pattern in the components breaks the rule.
+/// Whether some pattern in the components breaks the rule.
 fn break_rule(rule: &Rule<'_, '_>, components: &[Component]) -> bool
     ensures { result ≡ some_has (rule_test rule.now) (map schema_component_of components.now) }
 {

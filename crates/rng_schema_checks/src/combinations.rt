@@ -1,4 +1,4 @@
-// How components of one name are combined, and starts.
+// How components of one name are combined, and whether there is a start.
 ghost use Rattle.std.specs.Prelude.{◌≡◌, ◌∷◌, ◌++◌, ◌||◌, [], List, ℕ, IfOk, IsTrue, OnOk, Option, map, not, option_map};
 ghost use Rattle.std.specs.List.{list_any};
 ghost use Rattle.rng_model.specs.schema.Schema.{is_interleaved, same_name};
@@ -9,7 +9,8 @@ use indexmap::IndexSet;
 use rng_model::{Component, Method, OutOfMemory};
 use std::alloc::Global;
 
-/// Whether two components of one name, or of the start, have `=`, or one has `|=` and one `&=`. Linear, but for hashing.
+/// Whether two components of one name, or of the start, have `=`, or one has `|=` and one `&=`. Takes linear time,
+/// apart from hash collisions.
 ///
 /// RELAX NG Specification, section 4.17.
 pub fn breaks_combination(alloc: Global, components: &[Component]) -> Result<bool, OutOfMemory>
@@ -18,7 +19,7 @@ pub fn breaks_combination(alloc: Global, components: &[Component]) -> Result<boo
     Ok(has_two_plain(alloc, components)? || has_both_methods(alloc, components)?)
 }
 
-/// Whether the grammar of these components has no start. Takes no memory.
+/// Whether a grammar with these components has no start. Allocates nothing.
 ///
 /// RELAX NG Specification, section 4.18.
 pub fn lacks_start(components: &[Component]) -> bool
@@ -48,7 +49,7 @@ fn has_two_plain(alloc: Global, components: &[Component]) -> Result<bool, OutOfM
     Ok(false)
 }
 
-/// Whether one of the components has `|=`, and one of the same name `&=`.
+/// Whether one of the components has `|=`, and one of the same name has `&=`.
 fn has_both_methods(alloc: Global, components: &[Component]) -> Result<bool, OutOfMemory>
     ensures { IfOk result (λ broken. broken ≡ both_methods (map schema_component_of components.now)) }
 {
@@ -81,7 +82,7 @@ fn interleaved_names(
     Ok(names)
 }
 
-/// Puts a name at the end of these, unless it is there. Answers whether it is new.
+/// Appends a name, unless the set has it. Returns whether it is new.
 fn note<'a>(
     names: &mut IndexSet<Option<&'a str>>,
     name: Option<&'a str>,
@@ -100,14 +101,14 @@ fn has<'a>(names: &IndexSet<Option<&'a str>>, name: Option<&'a str>) -> bool
     names.contains(&name)
 }
 
-/// The name of a component; a start has none.
+/// The name of a component. A start has none.
 fn name_of(component: &Component) -> Option<&str>
     ensures { seen_name result ≡ (schema_component_of component.now).name }
 {
     component.name.as_deref()
 }
 
-/// Whether it is `=`.
+/// Whether the method is `=`.
 fn is_plain(method: Method) -> bool
     ensures { result ≡ is_plain method }
 {
@@ -117,7 +118,7 @@ fn is_plain(method: Method) -> bool
     }
 }
 
-/// Whether it is `|=`.
+/// Whether the method is `|=`.
 fn is_choice(method: Method) -> bool
     ensures { result ≡ is_choice method }
 {
@@ -127,7 +128,7 @@ fn is_choice(method: Method) -> bool
     }
 }
 
-/// Whether it is `&=`.
+/// Whether the method is `&=`.
 fn is_interleaved(method: Method) -> bool
     ensures { result ≡ is_interleaved method }
 {

@@ -1,4 +1,4 @@
-// Datatypes that are not known, and values that are not allowed.
+// Unknown datatypes, and values that are not allowed.
 ghost use Rattle.std.specs.Prelude.{◌≡◌};
 ghost use Rattle.rng_model.specs.datatypes.DatatypeViews.{datatype_of};
 ghost use Rattle.rng_schema_checks.specs.plain.PatternTests.{is_refused, is_unknown};
@@ -6,7 +6,7 @@ ghost use Rattle.rng_schema_checks.specs.plain.PatternTests.{is_refused, is_unkn
 use rng_model::Datatype;
 use rng_types::{Builtin, Datatype as _};
 
-/// Whether no library has the datatype, or it does not take its parameters. Takes no memory.
+/// Whether no library has the datatype, or the datatype does not take its parameters. Allocates nothing.
 ///
 /// RELAX NG Specification, section 4.16.
 pub fn is_unknown(datatype: &Datatype) -> bool
@@ -20,7 +20,8 @@ pub fn is_unknown(datatype: &Datatype) -> bool
     .is_err()
 }
 
-/// Whether the datatype of this library and name, without parameters, is not known or does not allow the text. Takes no memory.
+/// Whether the datatype of this library and name, without parameters, is unknown or does not allow the text. Allocates
+/// nothing.
 ///
 /// RELAX NG Specification, sections 4.16 and 6.2.9.
 pub fn is_refused(library: &str, name: &str, text: &str) -> bool

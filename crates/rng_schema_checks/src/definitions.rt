@@ -1,4 +1,4 @@
-// Which names the grammars of a schema define.
+// The names that the grammars of a schema define.
 ghost use Rattle.std.specs.Prelude.{◌≡◌, ◌||◌, ℕ, IfOk, List, OnOk, Some, if◌then◌else◌, map};
 ghost use Rattle.std.specs.List.{list_any};
 ghost use Rattle.std.specs.Str.{bytes_eq};
@@ -26,7 +26,7 @@ pub struct Definitions<'a> {
 }
 
 impl<'a> DefinedNames<'a> {
-    /// Those that these components define.
+    /// Gathers the names that these components define.
     fn of_components(alloc: Global, components: &'a [Component]) -> Result<Self, OutOfMemory>
         ensures { IfOk result (λ names. (y : List ℕ) → has_name names y ≡ list_any (is_named (Some y)) (map schema_component_of components.now)) }
     {
@@ -59,7 +59,7 @@ impl<'a> DefinedNames<'a> {
 }
 
 impl<'a> Definitions<'a> {
-    /// Those of a schema. Linear, but for hashing.
+    /// Gathers the names of all grammars of a schema. Takes linear time, apart from hash collisions.
     pub fn of_schema(alloc: Global, schema: &'a Schema) -> Result<Self, OutOfMemory>
         ensures { IfOk result (λ all. (x : patterns.Place) (y : List ℕ) → defines_in all x y ≡ defines (schema_of schema.now) x y) }
     {
@@ -73,7 +73,7 @@ impl<'a> Definitions<'a> {
         Ok(all)
     }
 
-    /// Puts the names that the grammar at this place defines there, for those that are there.
+    /// Puts the names that the grammar at this place defines, and replaces those that are there.
     fn put(&mut self, place: &'a Place, names: DefinedNames<'a>) -> Result<(), OutOfMemory>
         ensures { OnOk result ((x : patterns.Place) (y : List ℕ) → defines_in self.new x y ≡ (if bytes_eq x (place_of place.now) then has_name names.entry y else defines_in self.old x y)) }
     {
@@ -81,7 +81,7 @@ impl<'a> Definitions<'a> {
         Ok(())
     }
 
-    /// The names that the grammar at this place defines; `None` where there is no grammar.
+    /// The names that the grammar at this place defines, or `None` if there is no grammar.
     pub fn names_at(&self, place: &'a Place) -> Option<&DefinedNames<'a>>
         ensures { (y : List ℕ) → finds result y ≡ defines_in self.now (place_of place.now) y }
     {
@@ -89,7 +89,7 @@ impl<'a> Definitions<'a> {
     }
 }
 
-/// The components of the grammar at this place; none where there is no grammar.
+/// The components of the grammar at this place, or no components if there is no grammar.
 pub fn components_at<'a>(schema: &'a Schema, place: &Place) -> &'a [Component]
     ensures { map schema_component_of result.now ≡ components_at (schema_of schema.now) (place_of place.now) }
 {

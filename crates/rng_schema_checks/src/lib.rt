@@ -1,7 +1,7 @@
-//! The rules that the components of a schema keep, each by itself: its name classes, its datatypes, how components of one name are combined,
-//! and what its refs find (RELAX NG Specification, sections 4.16 to 4.18).
+//! Checks of the components of a schema, each by itself: its name classes, its datatypes, how components of one name
+//! are combined, and whether refs have definitions (RELAX NG Specification, sections 4.16 to 4.18).
 //!
-//! They are judged at all places, reached from the start or not.
+//! The components at all places are checked, whether reached from the start or not.
 #![tactic(auto)]
 
 mod checking;

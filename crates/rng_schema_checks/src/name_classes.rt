@@ -6,19 +6,19 @@ ghost use Rattle.rng_schema_checks.specs.plain.RuleTests.{part_test};
 
 use rng_model::{Name, NameClass};
 
-/// What is sought in a name class.
+/// What to search for in a name class.
 #[derive(Clone, Copy)]
 enum Part {
-    /// `*`, with an except or without.
+    /// `*`, with or without an except.
     Any,
-    /// The same, or `p:*`, with an except or without.
+    /// `*` or `p:*`, with or without an except.
     AnyOrNamespace,
-    /// The name `xmlns` without namespace, or a name or `p:*` of the namespace of declarations.
+    /// The name `xmlns` without a namespace, or a name or `p:*` of the namespace of declarations.
     Declaration,
 }
 
 impl Part {
-    /// Whether `*` is sought.
+    /// Whether the search is for `*`.
     fn is_any(self) -> bool
         ensures { result ≡ (part_test self).any }
     {
@@ -28,7 +28,7 @@ impl Part {
         }
     }
 
-    /// Whether `p:*` is sought, of this namespace.
+    /// Whether the search is for `p:*` of this namespace.
     fn is_namespace(self, uri: &str) -> bool
         ensures { result ≡ (part_test self).namespace uri.now }
     {
@@ -39,7 +39,7 @@ impl Part {
         }
     }
 
-    /// Whether this name is sought.
+    /// Whether the search is for this name.
     fn is_name(self, name: &Name) -> bool
         ensures { result ≡ (part_test self).name (name_of name.now) }
     {
@@ -50,7 +50,7 @@ impl Part {
     }
 }
 
-/// Whether no attribute may be of this namespace.
+/// Whether no attribute may be in this namespace.
 fn is_barred(uri: &str) -> bool
     ensures { result ≡ is_barred uri.now }
 {
@@ -64,8 +64,8 @@ fn is_barred_name(name: &Name) -> bool
     is_barred(name.ns.as_str()) || (name.ns.as_str() == "" && name.local.as_str() == "xmlns")
 }
 
-/// Whether the class of an attribute names a declaration: in it, or in an except of it, stands the name `xmlns` without namespace, or a
-/// name or `p:*` of `http://www.w3.org/2000/xmlns`. Takes no memory.
+/// Whether the class of an attribute contains a declaration, including its excepts: the name `xmlns` without a
+/// namespace, or a name or `p:*` of `http://www.w3.org/2000/xmlns`. Allocates nothing.
 ///
 /// RELAX NG Specification, section 4.16.
 pub fn has_declaration(class: &NameClass) -> bool
@@ -74,8 +74,8 @@ pub fn has_declaration(class: &NameClass) -> bool
     has_part(class, Part::Declaration)
 }
 
-/// Whether, in the class, inside an except of `*` there is a `*`, or inside one of `p:*` a `*` or a `q:*`. A choice of no members is
-/// `* - *`. Linear, and takes no memory.
+/// Whether the class contains an except of `*` with a `*` in it, or an except of `p:*` with a `*` or a `q:*` in it. A
+/// choice of no members is `* - *`. Takes linear time, and allocates nothing.
 ///
 /// RELAX NG Specification, section 4.16.
 pub fn breaks_except(class: &NameClass) -> bool
@@ -98,7 +98,7 @@ pub fn breaks_except(class: &NameClass) -> bool
     }
 }
 
-/// Whether what is sought is the class or stands in it, in its excepts too. A choice of no members is `* - *`.
+/// Whether the class contains the part, including its excepts. A choice of no members is `* - *`.
 fn has_part(class: &NameClass, part: Part) -> bool
     ensures { result ≡ has_part (part_test part) (class_of class.now) }
 {

@@ -13,27 +13,27 @@ use crate::definitions::DefinedNames;
 use crate::name_classes::{breaks_except, has_declaration};
 use rng_model::{Datatype, DatatypeValue, NameClass, SchemaPattern};
 
-/// A rule that patterns keep, each by itself.
+/// A rule that each pattern keeps by itself.
 #[derive(Clone, Copy)]
 pub enum Rule<'a, 'd> {
-    /// Excepts hold no more than they may, and no attribute is a declaration. RELAX NG Specification, section 4.16.
+    /// Excepts contain only what is allowed, and no attribute is a declaration. RELAX NG Specification, section 4.16.
     NameClasses,
     /// Each datatype is known, and each value is one of its datatype. RELAX NG Specification, section 4.16.
     Datatypes,
-    /// Each ref finds a definition. RELAX NG Specification, section 4.18.
+    /// Each ref has a definition. RELAX NG Specification, section 4.18.
     Refs(Scope<'a, 'd>),
 }
 
-/// The names that the refs of a grammar may find.
+/// The names that the refs of a grammar may refer to.
 #[derive(Clone, Copy)]
 pub struct Scope<'a, 'd> {
-    /// Those that the grammar defines.
+    /// The names that the grammar defines.
     pub names: Option<&'d DefinedNames<'a>>,
-    /// Those that the grammar around it defines, where there is one.
+    /// The names that the grammar around it defines, if there is one.
     pub outer: Option<&'d DefinedNames<'a>>,
 }
 
-/// Whether the name is one of these, where there are any.
+/// Whether the name is one of these, if there are any.
 fn is_defined(names: Option<&DefinedNames<'_>>, name: &str) -> bool
     ensures { result ≡ finds names.entry name.now }
 {
@@ -104,8 +104,8 @@ impl Rule<'_, '_> {
         }
     }
 
-    /// Whether the pattern, or one that stands in it, breaks the rule; the components of a nested grammar stand at its own place. Linear,
-    /// and takes no memory.
+    /// Whether the pattern or one inside it breaks the rule. The components of a nested grammar are not inside, since
+    /// they are at its own place. Takes linear time, and allocates nothing.
     #[cycle(patterns)]
     pub fn is_broken_in(&self, pattern: &SchemaPattern) -> bool
         ensures { result ≡ has_written (rule_test self.now) (schema_pattern_of pattern.now) }
@@ -144,7 +144,7 @@ impl Rule<'_, '_> {
         }
     }
 
-    /// Whether one of the patterns breaks the rule, or one that stands in them.
+    /// Whether one of the patterns, or one inside them, breaks the rule.
     #[cycle(patterns)]
     fn is_broken_among(&self, members: &[SchemaPattern]) -> bool
         ensures { result ≡ some_has_written (rule_test self.now) (patterns_of (map schema_pattern_of members.now)) }

@@ -1,4 +1,4 @@
--- Corresponding trees: they differ in their leaves alone, and those are paired.
+-- Corresponding trees: they differ only in their leaves, which are paired.
 use Rattle.std.proofs.Common.{List, ℕ}
 use Rattle.rng_model.specs.names.Names.{NameClass}
 use Rattle.rng_model.specs.simple.Tree.{Datatype, Connector, choice, group, interleave, Tree, not_allowed, empty, text, leaf, attribute, list, data_of, data_except}
@@ -33,7 +33,7 @@ mutual
     and_more : {a : Tree K} {b : Tree L} {ts : Trees K} {us : Trees L} → Corresponds R a b → AllCorrespond R ts us
         → AllCorrespond R (tree_and a ts) (tree_and b us)
 
--- a tree and itself
+-- a tree corresponds to itself
 module _ {L : Type 0} (R : L → L → Type 0) (same : (l : L) → R l l) where
   mutual
     pub corresponds_itself : (a : Tree L) → Corresponds R a a
@@ -56,7 +56,7 @@ module _ {L : Type 0} (R : L → L → Type 0) (same : (l : L) → R l l) where
     all_correspond_itself no_trees = no_more
     all_correspond_itself (tree_and a ts) = and_more (corresponds_itself a) (all_correspond_itself ts)
 
--- a tree and the same with its leaves renamed
+-- a tree corresponds to itself with renamed leaves
 module _ {K L : Type 0} (R : K → L → Type 0) (g : K → L) where
   mutual
     pub corresponds_renamed : (a : Tree K) → ((k : K) → LeafIn k a → R k (g k)) → Corresponds R a (renamed g a)
@@ -82,7 +82,7 @@ module _ {K L : Type 0} (R : K → L → Type 0) (g : K → L) where
     all_correspond_renamed (tree_and a ts) n =
         and_more (corresponds_renamed a (λ k i. n k (f.in_this i))) (all_correspond_renamed ts (λ k i. n k (f.in_later i)))
 
--- the other way round
+-- in the other direction
 module _ {K L : Type 0} (R : K → L → Type 0) where
   mutual
     pub turned : {a : Tree K} {b : Tree L} → Corresponds R a b → Corresponds (λ l k. R k l) b a

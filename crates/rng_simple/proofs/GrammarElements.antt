@@ -1,4 +1,4 @@
--- Elements of a grammar, one more at a time.
+-- Elements of a grammar, one by one.
 use Rattle.std.proofs.Common.{◌≡◌, inl, inr, sym, subst, ℕ, List, [], ◌∷◌, ◌++◌, arith}
 use Rattle.std.proofs.Common.{length-append}
 use Rattle.std.proofs.lemmas.Option.{slice_get_within}
@@ -30,7 +30,7 @@ module _ (classes : List names.NameClass) (contents places : List ℕ) where
         ];
       }))
 
--- the same by other names
+-- the same under equal names
 pub copies_as : (classes more_classes : List names.NameClass) (contents more_contents places more_places listed more_listed : List ℕ)
     (es : List (NameClass × PatternId)) → classes ≡ more_classes → contents ≡ more_contents → places ≡ more_places → listed ≡ more_listed
     → AreElementCopies classes contents places listed es → AreElementCopies more_classes more_contents more_places more_listed es

@@ -1,4 +1,4 @@
--- A grammar that is made of a graph's numbers is the simple form of the schema, up to numbering.
+-- A grammar that is made of the numbers of a graph is the simple form of the schema, up to numbering.
 use Rattle.std.proofs.Common.{◌≡◌, refl, ap, sym, ◌∙◌, subst, ℕ, ◌<◌, List, length, map, slice_get, slice_index_or, Some, Contains, All, true, arith}
 use Rattle.std.proofs.lemmas.List.{length-map, get_or-map}
 use Rattle.std.proofs.lemmas.List.Elements.{All-map}
@@ -61,7 +61,7 @@ module _ (s : Schema) (ds : List Definition) (ls : List Leaf) (g : Graph) (is : 
       let k = found_contained ls m (known s ds ls g is (reached_is_met s r)) in
       ap (element_at ls) (leaf_number_is ls is.elements_apart k.0 m k.1) ∙ get_or_from_slice_get ls k.0 m no_element k.1
 
-  -- ---- what the tables have is the simple form of the tree, with numbers for the elements
+  -- ---- the tables have the simple form of the tree, with numbers instead of elements
 
   first_number : (t : Tree Leaf) → IsTreeOf s (main_start s) t → values 0 ≡ simple_renamed (leaf_number ls) (simple_of t)
   first_number t d =
@@ -85,7 +85,7 @@ module _ (s : Schema) (ds : List Definition) (ls : List Leaf) (g : Graph) (is : 
       e ∙ sym (simple_resolved s ds ls g is values r.2) ∙ c ∙ sym (with_renamed (leaf_number ls) s_leaf t)
       ∙ ap (simple_renamed (leaf_number ls)) (with_leaves t)
 
-  -- ---- with the elements for their numbers, it is the simple form of the tree
+  -- ---- with elements instead of numbers, it is the simple form of the tree
 
   named_back : (t : Tree Leaf) → ((m : Leaf) → LeafIn m t → IsReachedByTrees s m)
       → simple_renamed (element_at ls) (simple_renamed (leaf_number ls) (simple_of t)) ≡ simple_of t
@@ -151,7 +151,7 @@ module _ (s : Schema) (ds : List Definition) (ls : List Leaf) (g : Graph) (is : 
     is_leaf : (i : ℕ) (l : i < length seen) → element_at listed i ≡ (seen_is i l).leaf
     is_leaf i l = listed_at i l ∙ get_or_from_slice_get ls (slice_index_or seen i 0) (seen_is i l).leaf no_element (seen_is i l).there
 
-    -- the grammar's numbers stand for what the graph's numbers stand for
+    -- the numbers of the grammar represent the same elements as the numbers of the graph
     same_named : (u v : Simple ℕ) → AreLeavesBelow (length seen) (as_tree u) → simple_renamed (λ n. slice_index_or seen n 0) u ≡ v
         → simple_renamed (element_at listed) u ≡ simple_renamed (element_at ls) v
     same_named u v below e =
@@ -199,14 +199,14 @@ module _ (s : Schema) (ds : List Definition) (ls : List Leaf) (g : Graph) (is : 
       each = listed_as;
     }
 
-    -- the grammar is the simple form of the schema, up to numbering, and so is each simple form of it
+    -- the grammar is the simple form of the schema, up to numbering, and so is every other simple form
     pub is_grammar : IsSimpleGrammarOf s made
     is_grammar = is_simple_grammar s keeps listed first simples made numbering first_is bodies_are
 
     pub is_only_grammar : IsOnlySimpleGrammarOf s made
     is_only_grammar = only_simple_grammar s made is_grammar
 
--- ---- what is made of the graph of a schema, in an order of all its definitions
+-- ---- the result for the graph of a schema, in an order of all its definitions
 
 module _ (s : Schema) (g : declared.Graph) (is : IsGraphOfSchema s g) (js : List ℕ) (o : IsWholeOrder (graph_of g) js) (made : Grammar)
     (m : IsMadeOf (classes_of g) (graph_of g) js made) where
@@ -224,6 +224,6 @@ module _ (s : Schema) (g : declared.Graph) (is : IsGraphOfSchema s g) (js : List
   made_is_grammar =
       is_grammar s is.definitions is.elements (graph_of g) is.is o.order within whole m.values m.filled (classes_of g) classes_are m.seen made m.grammar
 
-  -- and the only one
+  -- and it is the only one
   pub made_is_only_grammar : IsOnlySimpleGrammarOf s made
   made_is_only_grammar = only_simple_grammar s made made_is_grammar

@@ -1,5 +1,5 @@
--- What simplification keeps: a leaf of a part that stands beside no notAllowed, outside choices, is a leaf of the simple form of the
--- whole; and what is made of such parts is not notAllowed.
+-- What simplification keeps: a leaf of a part with no notAllowed beside it, outside choices, is a leaf of the simple
+-- form of the whole; and what is made of such parts is not notAllowed.
 use Rattle.std.proofs.Common.{◌≡◌, ◌⊎◌, inl, inr, refl, List, ℕ}
 use Rattle.rng_model.specs.names.Names.{NameClass}
 use Rattle.rng_model.specs.simple.Tree.{Datatype, Connector, choice, group, interleave, Tree, empty, text, leaf, attribute, list, data_of, data_except}
@@ -80,7 +80,7 @@ module _ {L : Type 0} where
   abbrev IsSomething : Simple L → Type 0
   IsSomething s = sort_of s ≡ nothing → ⊥
 
-  -- beside it the other side is kept
+  -- the other side is kept beside it
   abbrev Keeps : Connector → Simple L → Type 0
   Keeps k s = (k ≡ choice → ⊥) → IsSomething s
 
@@ -236,7 +236,7 @@ module _ {L : Type 0} where
       let sides : Keeps k (join k (simple_of a) (simple_of b)) = λ o. both_something k (simple_of a) (simple_of b) (m o).0.holds (m o).1.holds in
       record { there = among_kept ts k (join k (simple_of a) (simple_of b)) sides n i }
 
-  -- ---- each kind of tree: where it is allowed
+  -- ---- each kind of tree: when it is allowed
 
   pub empty_allowed : IsAllowed empty
   unfolding simple_of

@@ -1,4 +1,4 @@
--- Each datatype of the simple form of a schema is known, where the schema breaks the clause of datatypes nowhere.
+-- If a schema breaks the clause about datatypes nowhere, each datatype of its simple form is known.
 use Rattle.std.proofs.Common.{◌≡◌, refl, subst, ℕ, ◌+◌, Bool, true, false, if◌then◌else◌, List, [], ◌∷◌, Option, Some, None, get_or, slice_get}
 use Rattle.std.proofs.lemmas.List.Elements.{All-contains, All-from_get_or}
 use Rattle.std.proofs.lemmas.Option.{slice_get-get_or}
@@ -40,7 +40,7 @@ second p = p.1
 -- ---- trees whose datatypes are known
 
 module _ {L : Type 0} (P : L → Type 0) where
-  -- each datatype is known, that of a value has no parameters, and each leaf is so
+  -- each datatype is known, that of a value has no parameters, and each leaf has this property
   abbrev mutual
     pub IsKnownTree : Tree L → Type 0
     IsKnownTree not_allowed = Unit {0}
@@ -80,7 +80,7 @@ module _ {L : Type 0} (P : L → Type 0) where
     leaf_among (at.in_this i) h = leaf_of i (first h)
     leaf_among (at.in_later i) h = leaf_among i (second h)
 
-  -- a step keeps it
+  -- a step preserves this
   mutual
     step_known : {g : RuleGroup} {a b : Tree L} → Step g a b → IsKnownTree a → IsKnownTree b
     step_known step.nest h = ((first h, (first (second h), tt)), (first (second (second h)), second (second (second h))))
@@ -121,7 +121,7 @@ module _ {L : Type 0} (P : L → Type 0) where
   steps_known step.no_step h = h
   steps_known (step.step_and s more) h = steps_known more (step_known s.1 h)
 
-  -- ---- the body of a definition, of trees that are known
+  -- ---- the body of a definition, made of trees with known datatypes
 
   abbrev AreAllKnown : List (Tree L) → Type 0
   AreAllKnown [] = Unit {0}
@@ -138,7 +138,7 @@ module _ {L : Type 0} (P : L → Type 0) where
 -- ---- trees of a schema
 
 module _ (s : Schema) (kept : ¬ (BreaksDatatype s)) where
-  -- what stands in the body of an element is written at its place
+  -- what is in the body of an element is written at its place
   abbrev IsPointThere : Place → Point → Type 0
   IsPointThere x (an_element n c p) = (q : Pattern) → IsWrittenIn q p → IsWrittenAt s x q
   IsPointThere x (a_ref y) = Unit {0}

@@ -1,4 +1,4 @@
--- Tables of which each pattern is used name known datatypes alone, where the grammar that they stand for does.
+-- If each pattern of a table is used, and the grammar that it represents has only known datatypes, so has the table.
 use Rattle.std.proofs.Common.{ℕ, List, [], ◌∷◌, subst, length, get_or, All}
 use Rattle.std.proofs.lemmas.List.Elements.{All-from_get_or, All-head, All-tail}
 use Rattle.std.proofs.lemmas.Option.{slice_get-get_or}
@@ -14,7 +14,7 @@ use Rattle.rng_model.specs.declared.simple.Simple.TheVariants as simple
 use Rattle.rng_model.proofs.Table.{tree_at-over_children}
 use Rattle.rng_simple.specs.plain.KnownDatatypes.{AreDatatypesKnown, AreGrammarDatatypesKnown}
 
--- what is in a tree whose datatypes are known is such a tree
+-- the parts of a tree with known datatypes have known datatypes
 known_inside : {q p : Simple ℕ} → StandsIn q p → AreDatatypesKnown p → AreDatatypesKnown q
 known_inside restrictions.itself h = h
 known_inside (restrictions.in_attribute i) h = known_inside i h
@@ -32,7 +32,7 @@ part_known : {g : Grammar} {p : Simple ℕ} → IsPart g p → AreGrammarDatatyp
 part_known the_start h = h.start
 part_known (a_body i) h = all_among (λ e. AreDatatypesKnown e.1) i h.bodies
 
--- the datatype of a pattern is known, where those of its tree are
+-- the datatype of a pattern is known if those of its tree are
 pattern_known : (of : PatternId → Simple ℕ) (p : declared.Simple) → AreDatatypesKnown (tree_over of p) → IsDatatypeKnown p
 pattern_known of simple.NotAllowed h = tt
 pattern_known of simple.Empty h = tt

@@ -1,4 +1,4 @@
--- Rows that are copied with all that is reached make the grammar of the graph.
+-- The copied rows, with everything that is reached, make the grammar of the graph.
 use Rattle.std.proofs.Common.{◌≡◌, ◌↔◌, refl, ap, sym, ◌∙◌, subst, ℕ, ◌<◌, List, [], ◌∷◌, length, slice_get, slice_index_or, Some, Bool, true, All}
 use Rattle.std.proofs.Common.{Contains, arith}
 use Rattle.std.proofs.lemmas.List.{length-map}
@@ -69,7 +69,7 @@ module _ (l : Labels) (rs : List Row) (rows : AreRows l rs) (contents : List ℕ
   next_marked i y r e m c =
       (marks y).0 (onward ((marks i).1 m) (subst (λ q. Contains (nexts (content_of contents) q) y) (sym (get_or_from_slice_get rs i r row.Empty e)) c))
 
-  -- the children of what is marked are marked
+  -- the children of a marked row are marked
   pub closed : (i : ℕ) (r : Row) → slice_get rs i ≡ Some r → slice_get reached i ≡ Some true → AllChildren (λ a. slice_get reached a ≡ Some true) r
   closed i r e m =
       children_map (λ a. (a < i) × (slice_get reached a ≡ Some true)) (λ a. slice_get reached a ≡ Some true) r (λ a h. h.1)
@@ -98,7 +98,7 @@ module _ (l : Labels) (rs : List Row) (rows : AreRows l rs) (contents : List ℕ
     body_copied : (k : ℕ) → Contains listed k → IsCopied ps listed (place_of places (content_of contents k)) (tree_at l rs (content_of contents k))
     body_copied k c = are.copied (content_of contents k) (below k) (body_marked k c)
 
-    -- the element that stands at a number
+    -- the element with a number
     listed_there : (n : ℕ) (e : NameClass × PatternId) → slice_get es n ≡ Some e → slice_get listed n ≡ Some (listed_at listed n)
     listed_there n e is = slice_get-get_or listed n 0 (omega (arith, slice_get_within es n e is, copies.count))
 

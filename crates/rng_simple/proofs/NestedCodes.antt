@@ -1,4 +1,4 @@
--- Name classes that are one once they are nested in twos, by their codes.
+-- Name classes that are equal once they are nested in twos, by their codes.
 use Rattle.std.proofs.Common.{◌≡◌, refl, ap, sym, ◌∙◌, List, [], ◌∷◌}
 use Rattle.rng_model.specs.names.Names.{NameClass, any_name, any_except, ns_name, ns_except, name_is, one_of, NameClasses, no_classes, class_and}
 use Rattle.rng_graph.specs.plain.InTwos.{nested, nested_after}
@@ -35,7 +35,7 @@ mutual
   after_code no_classes c rest = refl
   after_code (class_and d ds) c rest = after_code ds (one_of c (nested d) no_classes) rest ∙ ap (class_code c) (code_nested d (either ∷ more_code ds rest))
 
--- classes have one code exactly if they are one once they are nested
+-- classes have one code exactly if they are equal once they are nested
 pub same_classes : (c d : NameClass) → class_code c [] ≡ class_code d [] → nested c ≡ nested d
 same_classes c d e = codes.same_classes (nested c) (nested d) (nested_is c) (nested_is d) (code_nested c [] ∙ e ∙ sym (code_nested d []))
 

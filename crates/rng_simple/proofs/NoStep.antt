@@ -1,4 +1,4 @@
--- A tree in which no rule applies is its own value.
+-- A tree to which no rule applies is its own value.
 use Rattle.std.proofs.Common.{◌≡◌, refl, subst}
 use Rattle.rng_model.specs.names.Names.{NameClass}
 use Rattle.rng_model.specs.simple.Tree.{Datatype, Connector, choice, group, interleave}
@@ -11,7 +11,7 @@ use Rattle.rng_simple.specs.plain.SimpleOf.{Sort, sort_of, attribute_by, list_by
 use Rattle.rng_graph.proofs.SimpleClass.{class_unchanged}
 use Rattle.rng_simple.proofs.TreeSplits.{Sorted, is_nothing, is_blank, is_proper, sorted, proper_is_not_empty}
 
--- no step of either group leads on
+-- no step of either group is possible
 abbrev pub HasNoStep : {L : Type 0} → Tree L → Type 0
 HasNoStep a = (g : RuleGroup) (b : Tree _) → Step g a b → ⊥
 

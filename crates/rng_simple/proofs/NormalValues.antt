@@ -1,4 +1,4 @@
--- No rule applies in the value.
+-- No rule applies to the value.
 use Rattle.std.proofs.Common.{◌≡◌, refl, List, ℕ}
 use Rattle.rng_model.specs.names.Names.{NameClass}
 use Rattle.rng_model.specs.simple.Tree.{Datatype, Connector, choice, group, interleave}

@@ -1,4 +1,4 @@
--- A numbering is the simple form of the schema, up to numbering; and so is every other simple form of it.
+-- A numbering is the simple form of the schema, up to numbering, and so is every other simple form of it.
 use Rattle.std.proofs.Common.{◌≡◌, refl, ap, sym, ◌∙◌, subst, ℕ, ◌<◌, List, length, map, All, Some, slice_get, slice_index_or, Contains, arith}
 use Rattle.std.proofs.lemmas.List.{get_or_default}
 use Rattle.std.proofs.lemmas.List.Elements.{All-map, All-weaker, All-contains, Contains-get_or}
@@ -50,7 +50,7 @@ module _ (s : Schema) (keeps : KeepsExpansion s) (ls : List Leaf) (start : Simpl
   abbrev pub form : SimpleForm
   form = record { start = as_tree start; elements = map (element_form simples) ls }
 
-  -- a leaf of what a numbered tree stands for is listed
+  -- a leaf of the tree that a numbered tree represents is listed
   leaf_listed : (u : Simple ℕ) (a : Tree Leaf) → AreLeavesBelow (length ls) (as_tree u) → a ≡ as_tree (simple_renamed (element_at ls) u) → (l : Leaf)
       → LeafIn l a → Contains ls l
   leaf_listed u a below e l i =
@@ -125,7 +125,7 @@ module _ (s : Schema) (keeps : KeepsExpansion s) (ls : List Leaf) (start : Simpl
   pub is_simple_grammar : IsSimpleGrammarOf s g
   is_simple_grammar = (form, is_form, is_numbered)
 
--- each simple form of the schema is the grammar, if one is
+-- if one simple form of the schema is the grammar, each is
 pub only_simple_grammar : (s : Schema) (g : Grammar) → IsSimpleGrammarOf s g → IsOnlySimpleGrammarOf s g
 only_simple_grammar s g one other is = numbered one.0 one.1 one.2 where
   numbered : (form : SimpleForm) → IsSimpleFormOfSchema s form → IsSameUpToNumbering g form → IsSameUpToNumbering g other

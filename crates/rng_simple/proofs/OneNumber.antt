@@ -1,4 +1,4 @@
--- In a table in which no row stands twice, and no label, numbers are equal exactly if trees are.
+-- In a table whose rows and labels are distinct, numbers are equal exactly if their trees are.
 use Rattle.std.proofs.Common.{◌≡◌, ◌↔◌, refl, ap, sym, ◌∙◌, ℕ, zero, suc, ◌<◌, List, length, Some, arith}
 use Rattle.rng_model.specs.simple.Tree.{Simple}
 use Rattle.rng_graph.proofs.Graphs.{found}
@@ -7,7 +7,7 @@ use Rattle.rng_simple.specs.declared.rows.Row.{Row}
 use Rattle.rng_simple.specs.declared.rows.Row.TheVariants as row
 use Rattle.rng_simple.proofs.RowTrees.{tree_at-over_children}
 
--- no label stands twice
+-- the labels are distinct
 pub record AreDistinctLabels (l : Labels) : Type 0 where
   pub classes : (c d : ℕ) → c < length l.classes → d < length l.classes → class_at l c ≡ class_at l d → c ≡ d
   pub datatypes : (c d : ℕ) → c < length l.datatypes → d < length l.datatypes → datatype_at l c ≡ datatype_at l d → c ≡ d
@@ -17,7 +17,7 @@ abbrev TellApart : (ℕ → Simple ℕ) → ℕ → ℕ → Type 0
 TellApart of m n = (a b : ℕ) → a < m → b < n → of a ≡ of b → a ≡ b
 
 module _ (l : Labels) (apart : AreDistinctLabels l) where
-  -- rows of one tree are one row, if their children are told apart by their trees
+  -- rows with equal trees are equal, if their children are distinguished by their trees
   same_row : (of : ℕ → Simple ℕ) (m n : ℕ) (r q : Row) → AreChildrenBelow m r → AreChildrenBelow n q → IsLabelled l r → IsLabelled l q → TellApart of m n
       → row_tree l of r ≡ row_tree l of q → r ≡ q
   same_row of m n row.NotAllowed row.NotAllowed x y u v t e = refl

@@ -1,4 +1,4 @@
--- A queue that is done holds what is reached, and no other.
+-- A queue that is done contains exactly what is reached.
 use Rattle.std.proofs.Common.{◌≡◌, ◌⊎◌, ◌↔◌, inl, inr, ap, sym, ◌∙◌, subst, ℕ, ◌+◌, ◌<◌, ◌≤◌, List, ◌++◌, length, slice_get, Some, All, Contains}
 use Rattle.std.proofs.Common.{length-append, get_or, Option, arith}
 use Rattle.std.proofs.lemmas.List.Elements.{All-contains, All-append, Contains-append_left, Contains-get_or}
@@ -19,7 +19,7 @@ All-from_contains P xs f = λ k d h. f (get_or xs k d) (Contains-get_or xs k d h
 some_same : {A : Type 0} {o : Option A} {x y : A} → o ≡ Some x → o ≡ Some y → x ≡ y
 some_same e f = cc
 
--- what stands in the front of a longer list
+-- the members of the front of a longer list
 front_at : {A : Type 0} (xs more : List A) (k : ℕ) (z : A) → slice_get (xs ++ more) k ≡ Some z → k < length xs → slice_get xs k ≡ Some z
 front_at xs more k z e h = slice_get-get_or xs k z h ∙ ap Some (sym (get_or_append_left xs more z k h) ∙ get_or_from_slice_get (xs ++ more) k z z e)
 
@@ -48,7 +48,7 @@ module _ {A : Type 0} (next : A → List A) (start : List A) where
       let at : slice_get xs n ≡ Some z = front_at xs more n z (ap (slice_get (xs ++ more)) (sym same) ∙ i) (slice_get_within xs n x e) in
       g y (subst (λ w. Contains (next w) y) (some_same at e) c)
 
-  -- the head is done once all that is next to it is in the queue
+  -- the head is done once everything next to it is in the queue
   pub goes_on : (xs more : List A) (n : ℕ) (x : A) → IsQueue next start xs n → slice_get xs n ≡ Some x → ((y : A) → Contains more y → Contains (next x) y)
       → ((y : A) → Contains (next x) y → Contains (xs ++ more) y) → IsQueue next start (xs ++ more) (n + 1)
   goes_on xs more n x q e f g = record {

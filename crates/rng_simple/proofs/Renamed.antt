@@ -1,4 +1,4 @@
--- Simple trees with renamed leaves, and where the leaves of two that were joined come from.
+-- Simple trees with renamed leaves, and where the leaves of two joined trees come from.
 use Rattle.std.proofs.Common.{◌≡◌, ◌⊎◌, inl, inr, refl, ap, ap₂}
 use Rattle.rng_model.specs.simple.Tree.{Connector, choice, group, interleave, attribute, list, data_except, one_or_more, joined, no_trees, as_tree}
 use Rattle.rng_model.specs.simple.Tree.{Simple, s_not_allowed, s_empty, s_text, s_leaf, s_attribute, s_list, s_data, s_data_except, s_value, s_one_or_more, s_joined}
@@ -9,7 +9,7 @@ use Rattle.rng_simple.specs.plain.Renamed.{simple_renamed}
 use Rattle.rng_simple.proofs.TreeSplits.{Sorted, is_nothing, is_blank, is_proper, sorted}
 
 module _ {K L : Type 0} where
-  -- renaming is the same before and after
+  -- renaming commutes with `as_tree`
   pub as_tree_renamed : (g : K → L) (s : Simple K) → as_tree (simple_renamed g s) ≡ renamed g (as_tree s)
   as_tree_renamed g s_not_allowed = refl
   as_tree_renamed g s_empty = refl
@@ -43,7 +43,7 @@ module _ {K L : Type 0} where
     pub inside : LeafIn name (as_tree s)
     pub is : g name ≡ l
 
-  -- a leaf of a renamed tree was one before
+  -- a leaf of a renamed tree is the image of a leaf
   pub origin : (g : K → L) (s : Simple K) (l : L) → LeafIn l (as_tree (simple_renamed g s)) → Origin g s l
   origin g s_not_allowed l i = elim i [ ]
   origin g s_empty l i = elim i [ ]
@@ -59,7 +59,7 @@ module _ {K L : Type 0} where
   origin g (s_joined k s u) l (f.of_second i) = let o = origin g u l i in record { name = o.name; inside = f.of_second o.inside; is = o.is }
   origin g (s_joined k s u) l (f.of_others i) = elim i [ ]
 
-  -- the rules ask nothing of the names
+  -- the rules do not depend on names
   pub renamed_sort : (g : K → L) (s : Simple K) → sort_of (simple_renamed g s) ≡ sort_of s
   renamed_sort g s_not_allowed = refl
   renamed_sort g s_empty = refl
@@ -118,7 +118,7 @@ module _ {L : Type 0} where
   both_leaves k l (is_proper p) (is_proper q) (f.of_second i) = inr i
   both_leaves k l (is_proper p) (is_proper q) (f.of_others i) = elim i [ ]
 
-  -- a leaf of two sides that were joined is one of a side
+  -- a leaf of two joined sides is a leaf of a side
   pub join_leaves : (k : Connector) (l : L) (s u : Simple L) → LeafIn l (as_tree (join k s u)) → LeafIn l (as_tree s) ⊎ LeafIn l (as_tree u)
   join_leaves choice l s u = choice_leaves l (sorted s) (sorted u)
   join_leaves group l s u = both_leaves group l (sorted s) (sorted u)

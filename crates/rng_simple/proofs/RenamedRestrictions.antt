@@ -1,4 +1,5 @@
--- The restrictions do not depend on how the elements are named: a pattern breaks one exactly if it does with other names for its leaves.
+-- The restrictions do not depend on the names of elements: a pattern breaks one exactly if it breaks it with renamed
+-- leaves.
 use Rattle.std.proofs.Common.{◌≡◌, ◌⊎◌, inl, inr, refl, ap, sym, ◌∙◌, subst}
 use Rattle.rng_model.specs.names.Names.{NameClass}
 use Rattle.rng_model.specs.simple.Tree as tree
@@ -10,7 +11,7 @@ use Rattle.rng_model.specs.restrictions.Restrictions.{BreaksWildcard, BreaksElem
 use Rattle.rng_simple.specs.plain.Renamed.{simple_renamed}
 
 module _ {L : Type 0} where
-  -- what stands in a pattern that stands in a third stands in this
+  -- being inside a pattern is transitive
   pub deeper : {p q o : Simple L} → StandsIn q o → StandsIn p q → StandsIn p o
   deeper r.itself s = s
   deeper (r.in_attribute w) s = r.in_attribute (deeper w s)
@@ -20,7 +21,7 @@ module _ {L : Type 0} where
   deeper (r.in_left w) s = r.in_left (deeper w s)
   deeper (r.in_right w) s = r.in_right (deeper w s)
 
-  -- what occurs in a pattern stands in it
+  -- what occurs in a pattern is inside it
   occurs_stands : {p o : Simple L} → OccursIn p o → StandsIn p o
   occurs_stands r.occurs_itself = r.itself
   occurs_stands (r.occurs_repeated w) = r.in_one_or_more (occurs_stands w)
@@ -44,7 +45,7 @@ module _ {K L : Type 0} (f : K → L) where
   same_kind (s_one_or_more p) = refl
   same_kind (s_joined k p q) = refl
 
-  -- ---- forth
+  -- ---- from a pattern to the renamed one
 
   stands : {q p : Simple K} → StandsIn q p → StandsIn (re q) (re p)
   stands r.itself = r.itself
@@ -90,9 +91,9 @@ module _ {K L : Type 0} (f : K → L) where
   content (r.of_one_or_more h g) = r.of_one_or_more (content h) g
   content (r.of_choice h i) = r.of_choice (content h) (content i)
 
-  -- ---- back
+  -- ---- from the renamed pattern back
 
-  -- the pattern is the renamed one of a pattern of which this holds
+  -- the pattern is the renamed one of a pattern with this property
   record Image (P : Simple K → Type 0) (q : Simple L) : Type 0 where
     pub pattern : Simple K
     pub is : re pattern ≡ q
@@ -182,7 +183,7 @@ module _ {K L : Type 0} (f : K → L) where
   content_back (s_joined k p q) (r.of_both n h i g) = r.of_both n (content_back p h) (content_back q i) g
   content_back (s_joined k p q) (r.of_choice h i) = r.of_choice (content_back p h) (content_back q i)
 
-  -- what a pattern is whose renamed one is this
+  -- the kind of a pattern, by its renamed one
   kind_back : (o : Simple K) {q : Simple L} {k : Kind} → re o ≡ q → kind_of q ≡ k → kind_of o ≡ k
   kind_back o e h = sym (same_kind o) ∙ ap kind_of e ∙ h
 
@@ -268,7 +269,7 @@ module _ {K L : Type 0} (f : K → L) where
   not_allowed_back (s_one_or_more p) e = absurd (cc)
   not_allowed_back (s_joined k p q) e = absurd (cc)
 
-  -- what stands in a renamed pattern that is this one
+  -- what is inside a renamed pattern
   stands_from : (o : Simple K) {q a : Simple L} → re o ≡ a → StandsIn q a → Image (λ p. StandsIn p o) q
   stands_from o {q} e w = stands_back o (subst (StandsIn q) (sym e) w)
 
@@ -278,7 +279,7 @@ module _ {K L : Type 0} (f : K → L) where
   occurs_from : (o : Simple K) {q a : Simple L} → re o ≡ a → OccursIn q a → Image (λ p. OccursIn p o) q
   occurs_from o {q} e w = occurs_back o (subst (OccursIn q) (sym e) w)
 
-  -- ---- the clauses, forth
+  -- ---- the clauses, from a pattern to the renamed one
 
   barred : (B : Kind → Type 0) (o : Simple K) → B (kind_of o) → B (kind_of (re o))
   barred B o h = subst B (sym (same_kind o)) h
@@ -376,7 +377,7 @@ module _ {K L : Type 0} (f : K → L) where
     overlap = b.overlap;
   }
 
-  -- ---- the clauses, back
+  -- ---- the clauses, from the renamed pattern back
 
   pub attribute_from : (p : Simple K) → BreaksAttribute (re p) → BreaksAttribute p
   attribute_from p b =

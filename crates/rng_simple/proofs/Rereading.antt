@@ -1,4 +1,4 @@
--- What a tree matches by one reading of its leaves, each tree that corresponds to it matches by another.
+-- What a tree matches by one reading of its leaves, each corresponding tree matches by another one.
 use Rattle.std.proofs.Common.{List, ℕ}
 use Rattle.rng_model.specs.names.Names.{Name, NameClass}
 use Rattle.rng_model.specs.simple.Tree.{Connector, Tree, Trees}
@@ -9,7 +9,7 @@ use Rattle.rng_simple.proofs.CorrespondingTrees.{Corresponds, AllCorrespond}
 use Rattle.rng_simple.proofs.CorrespondingTrees as s
 
 module _ {K L : Type 0} (R : K → L → Type 0) (A : Leaves (Unit {0}) K) (B : Leaves (Unit {0}) L) (In : NameClass → Name → Type 0) (texts : Texts) where
-  -- a body for the other reading, and what makes an element of it
+  -- a body for the other reading, with an element for each match of it
   pub record Body (x : Unit {0}) (l : L) (c : NameClass) (a : Tree K) : Type 0 where
     pub place : Unit {0}
     pub other : Tree L

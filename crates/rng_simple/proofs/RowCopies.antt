@@ -1,4 +1,4 @@
--- Rows that are copied one after another, with new numbers.
+-- Rows copied one after another, with new numbers.
 use Rattle.std.proofs.Common.{◌≡◌, inl, inr, refl, ap, ap₂, sym, ◌∙◌, subst, ℕ, ◌+◌, ◌<◌, ◌≤◌, List, [], ◌∷◌, ◌++◌, length, slice_get, slice_index_or}
 use Rattle.std.proofs.Common.{Some, Bool, true, All, Contains, arith}
 use Rattle.std.proofs.Common.{length-append}
@@ -170,14 +170,14 @@ distinct_own xs (row.Choice a b) d n = subst AreDistinctNumbers (sym (append-nil
 distinct_own xs (row.Group a b) d n = subst AreDistinctNumbers (sym (append-nil xs)) d
 distinct_own xs (row.Interleave a b) d n = subst AreDistinctNumbers (sym (append-nil xs)) d
 
--- its new number stands for it
+-- its new number represents it
 own_name : (xs : List ℕ) (r : Row) (k : ℕ) → r ≡ row.Element k → listed_at (xs ++ own_elements r) (length xs) ≡ k
 own_name xs r k e = ap (λ q. listed_at (xs ++ own_elements q) (length xs)) e ∙ get_or_push xs k 0 (length xs) refl
 
 own_number : (xs : List ℕ) (r : Row) (k : ℕ) → r ≡ row.Element k → length xs < length (xs ++ own_elements r)
 own_number xs r k e = omega (arith, ap (λ q. length (xs ++ own_elements q)) e, length-append xs (k ∷ []))
 
--- ---- what is copied stays so
+-- ---- copies are kept
 
 listed_more : (m n : ℕ) (p : Simple) → m ≤ n → IsLeafListed m p → IsLeafListed n p
 listed_more m n (simple.Element e) h l = omega (arith, h, l)
@@ -226,7 +226,7 @@ module _ (l : Labels) (f g : ℕ → tree.Simple ℕ) (n : ℕ) where
   same_row_tree (row.Data d) h = refl
   same_row_tree (row.Value v) h = refl
 
--- the tree of a row stays when patterns, places and elements come after
+-- the tree of a row is kept when patterns, places and elements are appended
 module _ (l : Labels) (ps qs : List Simple) (places more listed new : List ℕ) (i : ℕ) (longer : length ps ≤ length qs)
     (stays : (m : ℕ) → m < length ps → tree_numbered qs m ≡ tree_numbered ps m) (keeps : (a : ℕ) → a < i → place_of more a ≡ place_of places a)
     (names : (n k : ℕ) → slice_get listed n ≡ Some k → slice_get new n ≡ Some k) where
@@ -252,7 +252,7 @@ own_listed xs r k e = slice_get-get_or (xs ++ own_elements r) (length xs) 0 (own
 
 -- ---- one more row
 
--- at first nothing is copied
+-- at the start nothing is copied
 pub none_copied : (l : Labels) (rs : List Row) (reached : List Bool) → AreCopied l rs reached 0 [] [] []
 none_copied l rs reached = record {
   long = refl;
@@ -276,7 +276,7 @@ module _ (l : Labels) (rs : List Row) (reached : List Bool) (i : ℕ) (places li
   here : (j x : ℕ) → j ≡ i → place_of (places ++ x ∷ []) j ≡ x
   here j x e = get_or_push places x 0 j (omega (arith, are.long, e))
 
-  -- one that is not reached
+  -- a row that is not reached
   pub skipped : (slice_get reached i ≡ Some true → ⊥) → AreCopied l rs reached (i + 1) (places ++ 0 ∷ []) ps listed
   skipped n = record {
     long = omega (arith, are.long, length-append places (0 ∷ []));
@@ -303,7 +303,7 @@ module _ (l : Labels) (rs : List Row) (reached : List Bool) (i : ℕ) (places li
     ];
   }
 
-  -- one that is
+  -- a row that is reached
   module _ (r : Row) (p : Simple) (falls : Falls rs) (apart : AreDistinctRows rs) (found : slice_get rs i ≡ Some r) (is : slice_get reached i ≡ Some true)
       (children : AllChildren (λ a. (a < i) × (slice_get reached a ≡ Some true)) r) (copy : IsRowCopy l places listed r p) where
     abbrev qs : List Simple
@@ -419,7 +419,7 @@ module _ (l : Labels) (rs : List Row) (reached : List Bool) (i : ℕ) (places li
       ];
     }
 
--- the same lists by other names
+-- the same lists under equal names
 pub copied_as : (l : Labels) (rs : List Row) (reached : List Bool) (i : ℕ) (places more_places listed more_listed : List ℕ) (ps qs : List Simple)
     → more_places ≡ places → qs ≡ ps → more_listed ≡ listed → AreCopied l rs reached i places ps listed → AreCopied l rs reached i more_places qs more_listed
 copied_as l rs reached i places more_places listed more_listed ps qs e f g are =
@@ -441,6 +441,6 @@ both_children P i (row.Element k) b h = tt
 both_children P i (row.Data d) b h = tt
 both_children P i (row.Value v) b h = tt
 
--- an index tells rows apart
+-- rows with an index are distinct
 pub index_apart : {S : Type 0} (rs : List Row) (numbers : HashMap Row ℕ S) → IsIndex rs numbers → AreDistinctRows rs
 index_apart rs numbers is i j r e f = some_is ((is r i).1 e) ((is r j).1 f)

@@ -1,4 +1,4 @@
--- An index of rows, with one more.
+-- An index of rows, when one more is added.
 use Rattle.std.proofs.Common.{◌≡◌, ◌↔◌, ◌⊎◌, inl, inr, refl, ap, sym, ◌∙◌, ℕ, Bool, true, false, cond, List, [], ◌∷◌, ◌++◌, length, length-append}
 use Rattle.std.proofs.Common.{slice_get, Option, Some, None, rules, arith}
 use Rattle.std.proofs.lemmas.Bool.{cases_lt}

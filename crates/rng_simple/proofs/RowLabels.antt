@@ -23,7 +23,7 @@ module _ {A L : Type 0} (code : A → List Part) (label : A → L) where
   label_there (y ∷ ys) k l zero e f = ap Some (f y (some_is e))
   label_there (y ∷ ys) k l (suc n) e f = label_there ys k l n e f
 
-  -- where the code of a label stands, its label does
+  -- a label has the index of its code
   pub label_found : (none : L) (xs : List A) (k : List Part) (l : L) (codes : List (List Part)) (n : ℕ) → codes ≡ map code xs → slice_get codes n ≡ Some k
       → ((y : A) → code y ≡ k → label y ≡ l) → (n < length (map label xs)) × (get_or (map label xs) n none ≡ l)
   label_found none xs k l codes n e f g =
@@ -35,7 +35,7 @@ module _ {A L : Type 0} (code : A → List Part) (label : A → L) where
       → ys ≡ xs ++ x ∷ [] → new ≡ map code ys
   codes_more xs ys x old new k e f g h = f ∙ ap₂ (λ cs c. cs ++ c ∷ []) e g ∙ sym (ap (map code) h ∙ map_push code xs x)
 
-  -- labels are told apart
+  -- labels are distinct
   pub labels_apart : (none : L) (xs : List A) (codes : List (List Part)) → AreCodes (map code xs) codes → ((x y : A) → label x ≡ label y → code x ≡ code y)
       → (c d : ℕ) → c < length (map label xs) → d < length (map label xs) → get_or (map label xs) c none ≡ get_or (map label xs) d none → c ≡ d
   labels_apart none xs codes are one c d h k e =

@@ -1,4 +1,5 @@
--- The elements that are reached through simple forms are those whose row is reached, row by row: no tree is walked.
+-- The elements that are reached through simple forms are those with a reached row. So it is enough to walk the rows; no
+-- tree is walked.
 use Rattle.std.proofs.Common.{◌≡◌, ◌⊎◌, inl, inr, refl, ap, sym, ◌∙◌, subst, ℕ, zero, suc, ◌<◌, List, [], ◌∷◌, length, map, slice_get, slice_index_or}
 use Rattle.std.proofs.Common.{Some, Contains, arith}
 use Rattle.std.proofs.lemmas.Bool.{cases_lt}
@@ -36,7 +37,7 @@ module _ (l : Labels) (rs : List Row) (falls : Falls rs) (content : ℕ → ℕ)
   tree_is : (i : ℕ) → i < length rs → tree_at l rs i ≡ row_tree l (tree_at l rs) (slice_index_or rs i row.Empty)
   tree_is i h = tree_at-over_children l rs i (slice_index_or rs i row.Empty) falls (row_at i h)
 
-  -- ---- the leaves of a row that is reached are reached
+  -- ---- the leaves of a reached row are reached
 
   abbrev Stands : ℕ → Type 0
   Stands i = (i < length rs) × ((k : ℕ) → LeafIn k (as_tree (tree_at l rs i)) → IsNumberReached (tree_at l rs first) (λ j. tree_at l rs (content j)) k)
@@ -74,7 +75,7 @@ module _ (l : Labels) (rs : List Row) (falls : Falls rs) (content : ℕ → ℕ)
       onward_stands (slice_index_or rs i row.Empty) i j h.0 (falls i (slice_index_or rs i row.Empty) (row_at i h.0))
       (λ k m. h.1 k (subst (λ u. LeafIn k (as_tree u)) (sym (tree_is i h.0)) m)) c
 
-  -- ---- a leaf of a row that is reached has a row that is reached
+  -- ---- a leaf of a reached row has a reached row
 
   pub record HasRow (k : ℕ) : Type 0 where
     pub place : ℕ
@@ -110,7 +111,7 @@ module _ (l : Labels) (rs : List Row) (falls : Falls rs) (content : ℕ → ℕ)
       down (slice_index_or rs n row.Empty) n k (row_at n h) w (λ y p c j. leaf_row bound y k (omega (arith, p, m)) (omega (arith, p, h)) (onward w c) j)
       (falls n (slice_index_or rs n row.Empty) (row_at n h)) (subst (λ u. LeafIn k (as_tree u)) (tree_is n h) i)
 
-  -- an element that is reached has a row that is
+  -- an element that is reached has a reached row
   pub leaf_has_row : {k : ℕ} → IsNumberReached (tree_at l rs first) (λ j. tree_at l rs (content j)) k → HasRow k
   leaf_has_row (in_first {k} i) = leaf_row (length rs) first k first_below first_below (at_start (0, omega arith, refl)) i
   leaf_has_row (in_body {j} {k} r i) =
@@ -120,14 +121,14 @@ module _ (l : Labels) (rs : List Row) (falls : Falls rs) (content : ℕ → ℕ)
       subst (λ q. Contains (nexts content q) (content j)) (row_is h.place j h.there) (0, omega arith, refl) in
       leaf_row (length rs) (content j) k (contents_below j) (contents_below j) (onward h.reached next) i
 
-  -- and the element of a row that is reached is
+  -- and the element of a reached row is reached
   pub row_has_leaf : {i : ℕ} (k : ℕ) → IsReachedBy (row_next rs content) (first ∷ []) i → slice_get rs i ≡ Some (row.Element k)
       → IsNumberReached (tree_at l rs first) (λ j. tree_at l rs (content j)) k
   row_has_leaf {i} k w e = let h = stands w in h.1 k (subst (λ u. LeafIn k (as_tree u)) (sym (tree_at-over_children l rs i (row.Element k) falls e)) at.here)
 
--- ---- the same by other words
+-- ---- the same in other terms
 
--- what goes on alike reaches alike
+-- equal successors reach the same
 pub reach_same : {A : Type 0} (next other : A → List A) (start : List A) → ((x : A) → next x ≡ other x) → {x : A} → IsReachedBy next start x
     → IsReachedBy other start x
 reach_same next other start e (at_start c) = at_start c

@@ -1,4 +1,4 @@
--- A table of rows that grows, by a row or by labels.
+-- A table of rows grows by a row or by labels.
 use Rattle.std.proofs.Common.{◌≡◌, inl, inr, refl, ap, sym, ◌∙◌, subst, ℕ, ◌<◌, ◌≤◌, List, [], ◌∷◌, ◌++◌, length, get_or, slice_get, Option, Some, None, arith}
 use Rattle.std.proofs.Common.{length-append}
 use Rattle.std.proofs.lemmas.Bool.{cases_lt, cases_eq}
@@ -50,7 +50,7 @@ module _ (l : Labels) (rs : List Row) (r : Row) (rows : AreRows l rs) (below : A
     simple = simple_after;
   }
 
-  -- what a row that is put there gives
+  -- the result of adding a row
   pub record IsPut (qs : List Row) (id : ℕ) : Type 0 where
     pub rows_after : AreRows l qs
     pub long : length rs ≤ length qs
@@ -158,7 +158,7 @@ relabelled t u is more same index coded = record {
   same = λ i. ap (λ rs. tree_at (labels_of u) rs i) same ∙ trees_stay (labels_of t) (labels_of u) more t.rows.items is.rows.labelled i;
 }
 
--- ---- what a row is as a side
+-- ---- a row as a side
 
 pub row_sort : (l : Labels) (of : ℕ → Simple ℕ) (r : Row) → (r ≡ row.NotAllowed → ⊥) → (r ≡ row.Empty → ⊥) → proper ≡ sort_of (row_tree l of r)
 row_sort l of row.NotAllowed n e = absurd (n refl)

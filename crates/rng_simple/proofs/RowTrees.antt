@@ -24,22 +24,22 @@ module _ (l : Labels) where
   reads_below (row.Interleave a b) i h f g same = ap₂ (s_joined interleave) (same a h.0) (same b h.1)
   reads_below _ i h f g same = refl
 
-  -- a row's tree is the one over the trees of its children
+  -- the tree of a row is made of the trees of its children
   pub tree_at-over_children : (rs : List Row) (i : ℕ) (r : Row) → Falls rs → slice_get rs i ≡ Some r → tree_at l rs i ≡ row_tree l (tree_at l rs) r
   unfolding trees
   tree_at-over_children rs i r falls found = numbered.tree_of-over_children s_not_allowed (row_tree l) rs i r (reads_below r i (falls i r found)) found
 
-  -- a row that is added at the end stands for its tree over those so far
+  -- the tree of an appended row is made of the trees so far
   pub tree_of_pushed : (rs qs : List Row) (r : Row) (i : ℕ) → qs ≡ rs ++ r ∷ [] → i ≡ length rs → tree_at l qs i ≡ row_tree l (tree_at l rs) r
   unfolding trees
   tree_of_pushed rs qs r i more at = numbered.tree_of_pushed s_not_allowed (row_tree l) rs qs r i more at
 
-  -- and changes no other tree
+  -- and no other tree changes
   pub tree_stays_after_push : (rs qs : List Row) (r : Row) (i : ℕ) → qs ≡ rs ++ r ∷ [] → i < length rs → tree_at l qs i ≡ tree_at l rs i
   unfolding trees
   tree_stays_after_push rs qs r i more inside = numbered.tree_stays s_not_allowed (row_tree l) rs qs (r ∷ []) i more inside
 
-  -- past the end stands notAllowed
+  -- past the end is notAllowed
   pub length-trees : (rs : List Row) → length (trees l rs) ≡ length rs
   unfolding trees
   length-trees rs = numbered.length-trees s_not_allowed (row_tree l) rs

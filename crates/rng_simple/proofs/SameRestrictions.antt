@@ -1,4 +1,4 @@
--- The simple grammars of a schema break the same restrictions, as they differ in the numbers of their elements alone.
+-- The simple grammars of a schema break the same restrictions, since they differ only in the numbers of their elements.
 use Rattle.std.proofs.Common.{◌≡◌, refl, ap, sym, ◌∙◌, subst, ℕ, zero, suc, ◌<◌, List, [], ◌∷◌, length, slice_get, Some, Contains, arith}
 use Rattle.std.proofs.lemmas.List.Elements.{All-contains}
 use Rattle.std.proofs.lemmas.Option.{slice_get_within}
@@ -26,7 +26,7 @@ use Rattle.rng_simple.proofs.RenamedRestrictions.{attribute_names_forth, wildcar
 use Rattle.rng_simple.proofs.RenamedRestrictions.{attribute_from, one_or_more_from, list_from, except_from, start_from, content_from}
 use Rattle.rng_simple.proofs.RenamedRestrictions.{attribute_names_from, wildcard_from, element_names_from, text_from}
 
--- what is among a list is found in it, and what is found is among it
+-- the members of a list are those that are found at its indices
 among_at : {A : Type 0} {x : A} {xs : List A} → Among x xs → (k : ℕ) × (slice_get xs k ≡ Some x)
 among_at lists.here = (0, refl)
 among_at (lists.there a) = let k = among_at a in (suc k.0, k.1)
@@ -36,7 +36,7 @@ at_among [] k x e = let h = slice_get_within [] k x e in absurd (omega arith)
 at_among (y ∷ xs) zero x e = subst (λ z. Among z (y ∷ xs)) (some_is (sym e) refl) lists.here
 at_among (y ∷ xs) (suc k) x e = lists.there (at_among xs k x e)
 
--- a leaf that stands in a pattern is a leaf of its tree
+-- a leaf inside a pattern is a leaf of its tree
 leaf_in : {k : ℕ} {p : Simple ℕ} → StandsIn (s_leaf k) p → LeafIn k (as_tree p)
 leaf_in r.itself = at.here
 leaf_in (r.in_attribute w) = at.of_attribute (leaf_in w)
@@ -47,7 +47,7 @@ leaf_in (r.in_left w) = at.of_first (leaf_in w)
 leaf_in (r.in_right w) = at.of_second (leaf_in w)
 
 module _ (s : Schema) (f : SimpleForm) (form : IsSimpleFormOfSchema s f) where
-  -- an element of a simple form is told by its name
+  -- an element of a simple form is determined by its name
   one_element : (e d : Element) → Contains f.elements e → Contains f.elements d → e.name ≡ d.name → e ≡ d
   one_element e d c b same =
       let x = All-contains (IsElementOf s) f.elements e form.elements c in

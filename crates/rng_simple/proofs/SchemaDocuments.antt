@@ -1,4 +1,5 @@
--- A grammar that is the simple form of a schema, up to numbering, has the documents of the schema as it is written.
+-- If a grammar is the simple form of a schema, up to numbering, it has the same documents as the schema as it is
+-- written.
 use Rattle.std.proofs.Common.{◌≡◌, ◌↔◌, ◌∙◌, refl, sym, ap, subst, List, ℕ, ◌<◌, length, slice_get, get_or, Some, ◌∷◌, []}
 use Rattle.std.proofs.lemmas.List.Elements.{All-contains}
 use Rattle.std.proofs.lemmas.Option.{slice_get-get_or}
@@ -65,7 +66,7 @@ module _ (s : Schema) (texts : Texts) where
     abbrev HasNumber : ℕ → Leaf → Type 0
     HasNumber k l = l ≡ same.element k
 
-    -- what the grammar lists is of the form
+    -- what the grammar lists is in the form
     of_form : (k : ℕ) (c : NameClass) (p : Simple ℕ) → slice_get g.elements k ≡ Some (c, p)
         → IsElementOf s (record { name = same.element k; class = c; body = renamed same.element (as_tree p) })
     of_form k c p e = All-contains (IsElementOf s) form.elements _ is.elements (same.bodies k c p e).0
@@ -142,7 +143,7 @@ module _ (s : Schema) (texts : Texts) where
         (corresponds_itself IsItself (λ m. refl) form.start) in
         (is.is_tree.0, is.is_tree.1, to_written s texts (unsimplified s texts is.start _ _ down) is.is_tree.2)
 
--- whatever is known of texts
+-- for any knowledge of texts
 pub same_documents_over : (s : Schema) (g : Grammar) → IsSimpleGrammarOf s g → (texts : Texts) (root : Item) → IsValidBy g texts root ↔ IsValidOver s texts root
 same_documents_over s g e texts root = (grammar_to_written s texts g e.0 e.1 e.2 root, written_to_grammar s texts g e.0 e.1 e.2 root)
 

@@ -1,4 +1,4 @@
--- Each tree has one simple form, and the function gives it.
+-- Each tree has exactly one simple form, and the function returns it.
 use Rattle.std.proofs.Common.{◌≡◌, ap, ◌∙◌, sym}
 use Rattle.rng_model.specs.simple.Tree.{Tree, as_tree}
 use Rattle.rng_model.specs.simple.Simplification.{IsSimpleFormOf}

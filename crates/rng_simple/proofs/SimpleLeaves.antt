@@ -1,5 +1,5 @@
--- The leaves of a simple form are leaves of the tree; what is reached through simple forms is reached; and the plain function
--- on patterns with numbers in place of leaves.
+-- The leaves of a simple form are leaves of the tree. What is reached through simple forms is reached. And the plain
+-- function on patterns with numbers instead of leaves.
 use Rattle.std.proofs.Common.{◌≡◌, ◌⊎◌, inl, inr, refl, ap, ap₂, ◌∙◌, sym, subst}
 use Rattle.rng_model.specs.names.Names.{NameClass}
 use Rattle.rng_model.specs.simple.Tree.{Datatype, Connector, choice, interleave, Tree, not_allowed, empty, text, leaf, attribute, list, data_of, data_except}
@@ -86,7 +86,7 @@ pub simply_is_reached : (s : Schema) {l : Leaf} → IsReachedBySimpleForms s l �
 simply_is_reached s (from_simple_start d f i) = from_start d (form_leaves f i)
 simply_is_reached s (from_simple_body r d f i) = from_element (simply_is_reached s r) d (form_leaves f i)
 
--- ---- numbers in place of leaves
+-- ---- numbers instead of leaves
 
 module _ {K L : Type 0} (f : K → L) where
   attribute_renamed : (x : Sort) (c : NameClass) (s : Simple K) → simple_renamed f (attribute_by x c s) ≡ attribute_by x c (simple_renamed f s)
@@ -116,7 +116,7 @@ module _ {K L : Type 0} (f : K → L) where
     mutual
       unfolding simple_with join_all_with
 
-      -- the function on numbers gives, renamed, what the function on leaves gives
+      -- the renamed result of the function on numbers is the result of the function on leaves
       pub with_renamed : (a : Tree P) → simple_renamed f (simple_with g a) ≡ simple_with (λ l. simple_renamed f (g l)) a
       with_renamed not_allowed = refl
       with_renamed empty = refl
@@ -146,7 +146,7 @@ module _ {K L : Type 0} (f : K → L) where
           all_with_renamed k (join k s (simple_with g a)) _
           (join_renamed k f s (simple_with g a) ∙ ap (λ z. join k z (simple_renamed f (simple_with g a))) e ∙ ap (λ z. join k u z) (with_renamed a)) ts
 
--- ---- trees with renamed leaves: only what is said of the leaves matters
+-- ---- trees with renamed leaves: only the values of the leaves matter
 
 module _ {K L M : Type 0} (f : K → L) (h : L → Simple M) (g : K → Simple M) where
   mutual

@@ -1,4 +1,4 @@
--- Simple forms of members, and of what is read in a table that grows.
+-- Simple forms of members, and of patterns that are read in a table that grows.
 use Rattle.std.proofs.Common.{◌≡◌, refl, ap, ap₂, sym, ◌∙◌, ℕ, ◌<◌, ◌+◌, ◌≤◌, suc, List, [], ◌∷◌, length, map, drop, get_or, slice_index_or, rules, arith}
 use Rattle.std.proofs.Math.Seq.{drop-cons}
 use Rattle.std.proofs.lemmas.Option.{slice_get_within}
@@ -46,7 +46,7 @@ module _ (values : ℕ → Simple ℕ) (k : Connector) where
       → u ≡ join k s (spot_simple values r) → joined_simple values k u more ≡ total
   next_joined s u total r rs more e i f = ap (λ x. joined_simple values k x more) f ∙ sym (ap (joined_simple values k s) e) ∙ i
 
--- what is left of a list, seen by a function, begins with what stands there
+-- the rest of a mapped list begins with the member at the index
 pub next_is : {A B : Type 0} (f : A → B) (xs : List A) (i : ℕ) (x : A) → i < length xs → x ≡ get_or xs i x → map f (drop i xs) ≡ f x ∷ map f (drop (i + 1) xs)
 next_is f xs i x h e =
     let after : suc i ≡ i + 1 = omega arith in
@@ -63,12 +63,12 @@ join_none choice s = refl
 join_none group s = refl
 join_none interleave s = refl
 
--- members are joined to what no members are
+-- joining members to the result for no members
 pub all_joined : (values : ℕ → Simple ℕ) (k : Connector) (ts : List (Tree Spot)) → joined_simple values k (none_of k) ts ≡ spot_simple values (members k ts)
 all_joined values k [] = no_members_are values k
 all_joined values k (a ∷ ts) = ap (λ s. joined_simple values k s ts) (join_none k (spot_simple values a)) ∙ sym (members_are values k a ts)
 
--- components are members, where there is one
+-- components are joined as members, if there is one
 pub components_are : (values : ℕ → Simple ℕ) (k : Connector) (ts : List (Tree Spot)) → 1 ≤ length ts
     → spot_simple values (members k ts) ≡ spot_simple values (combined k ts)
 components_are values k [] h = absurd (omega arith)

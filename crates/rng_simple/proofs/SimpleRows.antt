@@ -1,4 +1,4 @@
--- Rows that are filled along an order, and rows of bodies, one after another.
+-- Rows that are filled in along an order, and rows of bodies, one after another.
 use Rattle.std.proofs.Common.{◌≡◌, inl, inr, ap, sym, ◌∙◌, subst, ℕ, ◌+◌, ◌<◌, ◌≤◌, List, [], ◌∷◌, ◌++◌, length, take, set, get_or, slice_get, slice_index_or}
 use Rattle.std.proofs.Common.{Some, arith, length-append}
 use Rattle.std.proofs.lemmas.Bool.{cases_lt, cases_eq}
@@ -50,7 +50,7 @@ empty_content : (g : Graph) (values : ℕ → Simple ℕ) (k : ℕ) → length g
 unfolding simple_with
 empty_content g values k h = sym (ap (spot_simple values) (get_or_past g.contents k empty h))
 
--- past the end of the rows is empty, and so is what stands past the end of the bodies
+-- past the end of the rows is empty, and so is everything past the end of the bodies
 pub contents_past : (g : Graph) (values : ℕ → Simple ℕ) (t : RowTable) (rows : List ℕ) (n k : ℕ) → IsRowTable t → length rows ≡ n → length g.contents ≡ n
     → n ≤ k
     → tree_of t (slice_index_or rows k 0) ≡ content_simple g values k

@@ -1,4 +1,4 @@
--- Tables of simple forms that are filled along an order are right: by definitions, and by the numbers of a graph.
+-- Tables of simple forms that are filled in along an order are right: by definitions, and by the numbers of a graph.
 use Rattle.std.proofs.Common.{◌≡◌, refl, ap, sym, ◌∙◌, ℕ, List, length, Contains}
 use Rattle.rng_model.specs.simple.Tree.{Tree, leaf, Simple, s_leaf, s_not_allowed}
 use Rattle.rng_model.specs.schema.Patterns.{Place, Point}
@@ -18,7 +18,7 @@ use Rattle.rng_simple.specs.plain.GrammarBy.{spot_simple}
 use Rattle.rng_simple.proofs.PointSimples.{simple_is}
 use Rattle.rng_simple.proofs.SimpleLeaves.{simple_same}
 
--- ---- by definitions, with any name for each element
+-- ---- by definitions, with any names for the elements
 
 module _ (s : Schema) {L : Type 0} (name : Leaf → Simple L) (table : Definition → Simple L) where
   named_right : (x : Place) (a : Tree Point) (t : Tree Leaf) → Unfolds s x a t
@@ -35,7 +35,7 @@ module _ (s : Schema) {L : Type 0} (name : Leaf → Simple L) (table : Definitio
       → IsRight s (simple_with name) table d
   simples_right o f = filled_right (Simple L) s (simple_with name) name s_not_allowed is_named table (simple_at s name table) named_right o f
 
-  -- so is the simple form of a body whose mentioned definitions the table has right
+  -- so is the simple form of a body, if the table is right for the definitions that it mentions
   pub simple_right : (P : Definition → Type 0) → ((d : Definition) → P d → IsRight s (simple_with name) table d) → (x : Place) (a : Tree Point)
       → ((l : Point) → LeafIn l a → IsSettled P (aim s x l)) → (t : Tree Leaf) → Unfolds s x a t → simple_at s name table x a ≡ simple_with name t
   simple_right P right x a =
@@ -58,7 +58,7 @@ module _ (s : Schema) (ds : List Definition) (ls : List Leaf) (g : Graph) (is : 
       ap (λ o. of_aim leaf_name s_not_allowed (table_of s ds ls g is values) (definition_aim o)) d.1
       ∙ ap values (number_is ds is.definitions_apart j d.0 d.1)
 
-  -- the simple form of a body by its numbers is that by its definitions
+  -- the simple form of a body by numbers equals that by definitions
   pub simple_resolved : (values : ℕ → Simple ℕ) {x : Place} {a : Tree Point} {r : Tree Spot} → IsResolved s ds ls x a r
       → simple_at s leaf_name (table_of s ds ls g is values) x a ≡ spot_simple values r
   simple_resolved values {x} {a} {r} e =
@@ -66,7 +66,7 @@ module _ (s : Schema) (ds : List Definition) (ls : List Leaf) (g : Graph) (is : 
       sym (simple_same (aim s x) G (λ l. G (aim s x l)) a (λ l i. refl)) ∙ ap (simple_with G) e.same
       ∙ simple_same (aim_at ds ls) G (of_spot (λ k. s_leaf k) values) r (λ p i. simple_at_spot values p (e.below p i))
 
--- only the entries of what a body mentions matter
+-- only the entries of mentioned definitions matter
 spot_same : (v w : ℕ → Simple ℕ) (r : Tree Spot) → ((i : ℕ) → LeafIn (at_definition i) r → v i ≡ w i) → (p : Spot) → LeafIn p r
     → of_spot (λ k. s_leaf k) v p ≡ of_spot (λ k. s_leaf k) w p
 spot_same v w r h (at_element k) i = refl

@@ -1,4 +1,4 @@
--- What the parts of the simplification of a schema say together.
+-- The parts of the simplification of a schema, put together.
 use Rattle.std.proofs.Common.{inl, inr, sym, subst, arith, ℕ, ◌≤◌}
 use Rattle.std.proofs.lemmas.Bool.{cases_lt}
 use Rattle.rng_model.specs.schema.Least.{IsLeast}
@@ -11,7 +11,7 @@ use Rattle.rng_schema_checks.specs.plain.Judged.{IsComponentFault, last_clause}
 use Rattle.rng_graph.specs.views.ExpansionOrder.{IsExpansionFault}
 use Rattle.rng_model.specs.simple.SimplifiedSchema.{IsSchemaFault}
 
--- no clause of components is broken
+-- no clause about components is broken
 abbrev pub KeepsComponents : Schema → Type 0
 KeepsComponents s = (clause : ℕ) → clause ≤ last_clause → ¬ (BreaksSchemaClause s clause)
 
@@ -25,7 +25,7 @@ module _ (s : Schema) where
   none_is_broken keeps kept clause (clauses.in_expansion c) = kept.0 c
   none_is_broken keeps kept clause (clauses.in_depth c) = kept.1 c
 
-  -- those of components come first, and then 16
+  -- the clauses about components come first, and then 16
   after_components : KeepsComponents s → (clause : ℕ) → BreaksSchemaClause s clause → 16 ≤ clause
   after_components keeps clause b = elim (cases_lt clause 16) [
     | inl h ↦ absurd (keeps clause (omega (arith, h)) b)

@@ -1,4 +1,4 @@
--- A step changes no list of texts that a tree has.
+-- A step does not change the lists of texts that a tree has.
 use Rattle.std.proofs.Common.{◌≡◌, refl, ◌∙◌, sym, subst, List, [], ℕ, ◌⊎◌, inl, inr}
 use Rattle.rng_model.specs.simple.Tree.{Connector, choice, group, interleave, Tree, not_allowed, empty, text, mixed, joined, Trees, no_trees, tree_and}
 use Rattle.rng_model.specs.simple.Simplification.{RuleGroup, HasNotAllowed, Step, StepAmong}
@@ -9,7 +9,7 @@ use Rattle.rng_model.specs.matching.Lex.{Lex, LexOne, LexAll, Repeats, once, aga
 use Rattle.rng_simple.proofs.ThreeParts.{shares_left, shares_right, nothing_right, nothing_left, with_nothing, after_nothing}
 use Rattle.rng_simple.proofs.NestedNames.{shift, unshift, either}
 
--- each of the lists may be exchanged
+-- each of the lists may be replaced
 pub repeats : (P Q : List (List ℕ) → Type 0) → ((ws : List (List ℕ)) → P ws → Q ws) → {ws : List (List ℕ)} → Repeats P ws → Repeats Q ws
 repeats P Q f (once d) = once (f _ d)
 repeats P Q f (again d e h) = again (f _ d) (repeats P Q f e) h
@@ -27,7 +27,7 @@ module _ (L : Type 0) (texts : Texts) where
   abbrev Under : Tree L → Tree L → Type 0
   Under a b = (ws : List (List ℕ)) → Has a ws → Has b ws
 
-  -- `,` and `&` as one: this is what `Lex` says of them
+  -- `,` and `&` as one, as `Lex` treats them
   from_all : (k : Connector) → (k ≡ choice → ⊥) → (a b : Tree L) (ts : Trees L) (ws : List (List ℕ)) → LexAll texts k (tree_and a (tree_and b ts)) ws
       → Has (joined k a b ts) ws
   from_all choice n a b ts ws h = absurd (n refl)

@@ -1,4 +1,4 @@
--- A step changes nothing that a tree matches, however its leaves are read.
+-- A step does not change what a tree matches, however its leaves are read.
 use Rattle.std.proofs.Common.{◌≡◌, refl, subst, List, ◌++◌, ℕ}
 use Rattle.rng_model.specs.names.Names.{Name, NameClass}
 use Rattle.rng_model.specs.simple.Tree.{Datatype, Connector, choice, group, interleave, Tree, not_allowed, empty, text, attribute, list, data_of, data_except, mixed}
@@ -16,7 +16,7 @@ module _ {X L : Type 0} (leaves : Leaves X L) (In : NameClass → Name → Type 
   abbrev M : X → Tree L → List Attribute → List Item → Type 0
   M = Matches leaves In texts
 
-  -- what a matches, b matches
+  -- b matches everything that a matches
   abbrev Under : X → Tree L → Tree L → Type 0
   Under x a b = (xs : List Attribute) (ns : List Item) → M x a xs ns → M x b xs ns
 

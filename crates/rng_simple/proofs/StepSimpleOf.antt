@@ -1,4 +1,4 @@
--- Each step keeps the value that the function gives.
+-- Each step keeps the result of the function.
 use Rattle.std.proofs.Common.{◌≡◌, refl, ap, ◌∙◌}
 use Rattle.rng_model.specs.simple.Tree.{Connector, choice, group, interleave}
 use Rattle.rng_model.specs.simple.Tree.{Tree, Trees, no_trees, tree_and}

@@ -9,7 +9,7 @@ pub record Regrouped {A : Type 0} (xs ys zs os : List A) : Type 0 where
   pub inner : Interleaves xs ys two
   pub outer : Interleaves two zs os
 
--- xs with (ys with zs) is (xs with ys) with zs
+-- if xs interleaves with (ys with zs), then (xs with ys) interleaves with zs
 pub to_left : {A : Type 0} {xs ys zs ws os : List A} → Interleaves xs ws os → Interleaves ys zs ws → Regrouped xs ys zs os
 to_left done done = record { two = _; inner = done; outer = done }
 to_left (left i) j = let r = to_left i j in record { two = _; inner = left r.inner; outer = left r.outer }

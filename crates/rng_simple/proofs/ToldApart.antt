@@ -1,4 +1,4 @@
--- The patterns of a grammar that is made of rows are told apart by their trees.
+-- The patterns of a grammar that is made of rows are distinguished by their trees.
 use Rattle.std.proofs.Common.{◌≡◌, ap, ap₂, sym, ◌∙◌, ℕ, ◌<◌, List, [], length, Bool}
 use Rattle.rng_model.specs.names.Names.{any_name}
 use Rattle.rng_model.specs.simple.Tree as tree

@@ -1,4 +1,4 @@
--- Splitting a simple tree by what the rules ask of it.
+-- Cases of a simple tree, by what the rules need to know of it.
 use Rattle.std.proofs.Common.{◌≡◌, refl}
 use Rattle.rng_model.specs.simple.Tree.{not_allowed, empty}
 use Rattle.rng_model.specs.simple.Tree.{Simple, s_not_allowed, s_empty, as_tree}

@@ -1,4 +1,4 @@
--- Each pattern of the tables that are made of rows stands in the start, or in the body of an element.
+-- Each pattern of the tables that are made of rows is in the start or in the body of an element.
 use Rattle.std.proofs.Common.{◌≡◌, ◌↔◌, refl, ap, subst, ℕ, zero, suc, ◌<◌, List, [], ◌∷◌, length, map, slice_get, slice_index_or, Some, Bool, true}
 use Rattle.std.proofs.Common.{Contains, inl, inr, arith}
 use Rattle.std.proofs.lemmas.Option.{slice_get_within, slice_get-get_or}
@@ -25,7 +25,7 @@ use Rattle.rng_simple.specs.declared.rows.Row.TheVariants as row
 use Rattle.rng_simple.proofs.RenamedRestrictions.{deeper}
 use Rattle.rng_simple.proofs.RowReach.{one_only, one_of_two, not_there}
 
--- what is found in a list is among it, and so is its image
+-- what is found in a list is a member, and so is its image
 found_among : {A B : Type 0} (f : A → B) (xs : List A) (i : ℕ) (x : A) → slice_get xs i ≡ Some x → Among (f x) (map f xs)
 found_among f [] i x e = let h = slice_get_within [] i x e in absurd (omega arith)
 found_among f (y ∷ xs) zero x e = let same : y ≡ x = cc in subst (λ z. Among (f z) (map f (y ∷ xs))) same lists.here
@@ -44,7 +44,7 @@ module _ (l : Labels) (rs : List Row) (rows : AreRows l rs) (contents : List ℕ
   abbrev made_table : Table
   made_table = record { patterns = ps; elements = es; start = start }
 
-  -- its pattern stands in a part of the grammar
+  -- its pattern is in a part of the grammar
   abbrev Stands : ℕ → Type 0
   Stands i = (i < length rs) × (part : Simple ℕ) × IsPart (grammar_of made_table) part × StandsIn (of i) part
 

@@ -1,6 +1,6 @@
--- A pattern as it is written matches what its unfolded tree matches, where an element of the tree is read by the tree of its body, or
--- by the simple form of that. What matches is not notAllowed, so that a leaf which takes part in a match is one of the simple form
--- too: of the elements, only those that are reached through simple forms need trees.
+-- A pattern as it is written matches what its unfolded tree matches, if an element of the tree is read by the tree of
+-- its body, or by the simple form of that tree. What matches is not notAllowed, so a leaf that takes part in a match is
+-- also one of the simple form. So only the elements that are reached through simple forms need trees.
 use Rattle.std.proofs.Common.{◌≡◌, refl, sym, ap, subst, List, [], ℕ, ◌∷◌, Option, Some, None, inl, inr}
 use Rattle.rng_model.specs.names.Names.{NameClass, In}
 use Rattle.rng_model.specs.simple.Tree.{Connector, choice, Tree, not_allowed, leaf, Trees}
@@ -38,7 +38,7 @@ pub data HasSimpleForm (s : Schema) : Unit {0} → Leaf → NameClass → Unit {
 
 -- ---- points
 
--- what stands at a point for another tree is no element
+-- what is looked up in the grammar around is no element
 no_outside : (y : List ℕ) (o : Option Place) {m : Leaf} → outside y o ≡ to_element m → ⊥
 no_outside y None e = cc
 no_outside y (Some z) e = cc
@@ -74,7 +74,7 @@ module _ (s : Schema) (texts : Texts) where
 
   -- ---- from the tree to the pattern
 
-  -- down what is looked up, to where the tree begins
+  -- through what is looked up, to where the tree begins
   pub via : {x : Place} {a : Tree Point} {t : Tree Leaf} {xs : List Attribute} {ns : List Item} → Unfolds s x a t
       → ((y : Place) (b : Tree Point) → IsRoot s y b → Unfolds s y b t → Written y b xs ns) → Written x a xs ns
   via (u.element_is e) f = f _ _ (λ d g. not_both e g) (u.element_is e)
@@ -153,14 +153,14 @@ module _ (s : Schema) (texts : Texts) where
     from_weakly (m.blank_text d h) v = m.blank_text (via v (from_root d)) h
     from_weakly (m.nothing_there d) v = m.nothing_there (via v (from_root d))
 
-  -- what the tree matches, the pattern does
+  -- the pattern matches what the tree matches
   pub to_written : {o : Unit {0}} {x : Place} {a : Tree Point} {t : Tree Leaf} {xs : List Attribute} {ns : List Item} → Unfolded o t xs ns → Unfolds s x a t
       → Written x a xs ns
   to_written d v = via v (from_root d)
 
   -- ---- from the pattern to the tree
 
-  -- what is looked up is found once, at its place
+  -- what is looked up is found only once, at its place
   found_again : {x z : Place} {p : Point} {a : Tree Point} {d : Definition} {b : Tree Point} {t : Tree Leaf} → IsFound s x p z a → aim s x p ≡ to_definition d
       → body s d ≡ Some b → Unfolds s d.place b t → Unfolds s z a t
   found_again {a = a} {t = t} (is_found e f g) h b v = subst (λ z. Unfolds s z a t) (sym g) (moved s (one_definition h e) b f v)
@@ -171,7 +171,7 @@ module _ (s : Schema) (texts : Texts) where
   not_found : {x z : Place} {p : Point} {a : Tree Point} {l : Leaf} → IsFound s x p z a → aim s x p ≡ to_element l → ⊥
   not_found (is_found e f g) h = not_both h e
 
-  -- the tree of what matches something is not notAllowed once it is simplified
+  -- if a tree matches something, its simple form is not notAllowed
   mutual
     allowed : {x : Place} {a : Tree Point} {xs : List Attribute} {ns : List Item} → Written x a xs ns → (t : Tree Leaf) → Unfolds s x a t → IsAllowed t
     allowed m.empty_is t u.empty_is = kept.empty_allowed
@@ -233,7 +233,7 @@ module _ (s : Schema) (texts : Texts) where
 
   -- ---- from the pattern to the tree, by the simple forms of bodies
 
-  -- what is written of an element is what its leaf says
+  -- what is written of an element is what its leaf has
   class_is : {x y : Place} {p : Point} {c : NameClass} {a : Tree Point} {l : Leaf} → IsWrittenElement s x p c y a → aim s x p ≡ to_element l → c ≡ l.class
   class_is (is_written g) e = ap (λ k. k.class) (one_element refl e)
 
@@ -241,8 +241,8 @@ module _ (s : Schema) (texts : Texts) where
       → IsBodyOf s l t → Unfolds s y a t
   body_is {t = t} (is_written {x} g) e v = subst (λ b. Unfolds s x b t) (sym g) (subst (λ k. IsBodyOf s k t) (sym (one_element refl e)) v)
 
-  -- What the pattern matches, the tree does; R holds of the leaves of its simple form, and each element with R has a tree whose simple
-  -- form has only leaves with R.
+  -- The tree matches what the pattern matches. R holds for the leaves of its simple form, and each element with R has a
+  -- tree whose simple form has only leaves with R.
   module _ (R : Leaf → Type 0) (tree_at : (l : Leaf) → R l → (t : Tree Leaf) × IsBodyOf s l t × ((k : Leaf) → FormHas k t → R k)) where
     mutual
       pub to_tree : {x : Place} {a : Tree Point} {xs : List Attribute} {ns : List Item} → Written x a xs ns → (t : Tree Leaf) → Unfolds s x a t

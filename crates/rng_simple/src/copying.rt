@@ -1,4 +1,4 @@
-// Rows, with new numbers, in the tables of a grammar.
+// Copying rows into the tables of a grammar, with new numbers.
 ghost use Rattle.std.specs.Prelude.{◌≡◌, ◌<◌, ◌++◌, ℕ, filter, length, slice_get, string_bytes, true, IfOk, OnOk, Some};
 ghost use Rattle.rng_model.specs.simple.Table.{IsPaired};
 ghost use Rattle.rng_model.specs.datatypes.DatatypeViews.{datatype_of};
@@ -14,7 +14,8 @@ use crate::simple_parts::row_of;
 use rng_model::{Datatype, DatatypeValue, ElementId, NameClass, PatternId, Simple};
 use std::alloc::{AllocError, Global};
 
-/// A row as a pattern: its children by the places that they have, its element by its place in the list, where it is put.
+/// The row as a pattern. `places` maps its children to patterns. Appends the element of the row, if it has one, to
+/// `listed`.
 pub fn copied_row(
     alloc: Global,
     table: &FinishedRows<'_>,
@@ -118,17 +119,17 @@ fn same_datatype(alloc: Global, datatype: &Datatype) -> Result<Datatype, AllocEr
     })
 }
 
-/// Rows as the patterns of a grammar.
+/// The patterns of a grammar, made of rows.
 #[derive(Drop)]
 pub struct CopiedRows {
-    /// For each row the place of its pattern, if it is reached.
+    /// For each row the number of its pattern, if the row is reached.
     pub places: Vec<usize>,
     pub patterns: Vec<Simple>,
     /// The elements that are reached, by their numbers in the graph.
     pub listed: Vec<usize>,
 }
 
-/// The rows that are reached, in their order.
+/// Copies the reached rows, in their order.
 pub fn copied_rows(
     alloc: Global,
     table: &FinishedRows<'_>,
@@ -162,7 +163,7 @@ pub fn copied_rows(
     })
 }
 
-/// How many rows are reached.
+/// The number of reached rows.
 fn reached_count(reached: &[bool]) -> usize
     ensures { result ≡ length (filter (λ b. b) reached.now) }
 {

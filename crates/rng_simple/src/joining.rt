@@ -1,4 +1,5 @@
-// Patterns in simple form made of others in simple form, by the rules of sections 4.20 and 4.21 of the RELAX NG Specification.
+// Making patterns in simple form from others in simple form, by the rules of sections 4.20 and 4.21 of the RELAX NG
+// Specification.
 ghost use Rattle.std.specs.Prelude.{◌≡◌, ◌<◌, IfOk, OnOk};
 ghost use Rattle.rng_model.specs.simple.Tree as tree;
 ghost use Rattle.rng_model.specs.datatypes.DatatypeViews.{datatype_of};
@@ -13,7 +14,7 @@ use crate::rows::Row;
 use rng_model::{Datatype, NameClass};
 use std::alloc::AllocError;
 
-/// What stands between members.
+/// The connector between members.
 #[derive(Clone, Copy)]
 pub enum Connector {
     Choice,
@@ -21,7 +22,7 @@ pub enum Connector {
     Interleave,
 }
 
-/// Two sides about a connector.
+/// Two sides with a connector between them.
 pub fn join(
     table: &mut RowTable<'_>,
     connector: Connector,
@@ -42,7 +43,7 @@ pub fn join(
     }
 }
 
-/// A choice, with empty on its first side.
+/// A choice of two sides. If one side is `empty`, it comes first.
 fn choice(table: &mut RowTable<'_>, a: usize, b: usize) -> Result<usize, AllocError>
     requires table { IsRowTable table.old }
     requires first { a < row_count table.old }
@@ -147,7 +148,7 @@ pub fn data<'a>(table: &mut RowTable<'a>, datatype: &'a Datatype) -> Result<usiz
     table.put(Row::Data(datatype))
 }
 
-/// A datatype, and what it excepts.
+/// A datatype without the texts that a pattern matches.
 pub fn data_except<'a>(
     table: &mut RowTable<'a>,
     datatype: &'a Datatype,

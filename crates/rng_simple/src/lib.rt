@@ -1,8 +1,8 @@
-//! From a schema, or from the graph of one, to its simple form (RELAX NG Specification, sections 4.12 to 4.21).
+//! From a schema, or from its graph, to its simple form (RELAX NG Specification, sections 4.12 to 4.21).
 //!
-//! The answer is a grammar in the simple syntax of section 5: the simple form of the schema, which is the only one up to the
-//! numbers of its elements. A schema that breaks one of the clauses 11 to 17 has none, and the least of them is told; a graph
-//! always has one. Else only want of memory is a fault.
+//! The result is a grammar in the simple syntax of section 5. It is the simple form of the schema, which is unique up
+//! to the numbers of its elements. A schema that breaks one of the clauses 11 to 17 has none, and the call fails with
+//! the least of them. A graph always has a simple form. The only other failure is out of memory.
 #![tactic(auto)]
 
 mod copying;

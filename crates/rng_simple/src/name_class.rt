@@ -35,7 +35,7 @@ pub fn nested(alloc: Global, class: &NameClass) -> Result<NameClass, AllocError>
     }
 }
 
-/// A choice of these members, nested in twos from the left. One of no members holds no name.
+/// A choice of these members, nested in twos from the left. A choice of no members contains no name.
 #[cycle(classes)]
 fn nested_members(alloc: Global, members: &[NameClass]) -> Result<NameClass, AllocError>
     ensures nested { IfOk result (λ copy. class_of copy ≡ nested_tree (some_of (map class_of members.now))) }

@@ -1,4 +1,4 @@
-// Which rows are reached from the row of the start.
+// The rows that are reached from the row of the start.
 ghost use Rattle.std.specs.Prelude.{◌≡◌, ◌<◌, ◌↔◌, ℕ, [], ◌∷◌, length, map, slice_get, true, IfOk, Some};
 ghost use Rattle.rng_graph.specs.plain.Search.{lists};
 ghost use Rattle.rng_simple.specs.plain.RowReach.{content_of, nexts, row_next};
@@ -12,7 +12,8 @@ use crate::simple_parts::row_of;
 use crate::worklist::collect;
 use std::alloc::{AllocError, Global};
 
-/// A mark for each row that is reached: the first, the children of one so reached, and of an element's row that of its body.
+/// A mark for each row that is reached: the first row, the children of each reached row, and the row of the body of
+/// each reached element.
 pub fn reached_rows(
     alloc: Global,
     table: &RowTable<'_>,
@@ -43,7 +44,7 @@ fn next_rows(alloc: Global, rows: &[Row], contents: &[usize]) -> Result<Vec<Vec<
     Ok(all)
 }
 
-/// The children of a row, or the row of its element's body.
+/// The children of a row, or the row of the body of its element.
 fn rows_next_to(alloc: Global, row: Row, contents: &[usize]) -> Result<Vec<usize>, AllocError>
     ensures { IfOk result (λ next. next.items ≡ nexts (content_of contents.now) row) }
 {

@@ -1,4 +1,4 @@
-// A table of patterns in simple form, in which equal rows have one number.
+// A table of patterns in simple form. Equal rows have one number.
 ghost use Rattle.std.specs.Prelude.{◌≡◌, ◌<◌, length, string_bytes, IfOk, OnOk};
 ghost use Rattle.rng_model.specs.schema.Patterns.{without_parameters};
 ghost use Rattle.rng_model.specs.simple.Tree.{IsSimpleBody};
@@ -16,10 +16,11 @@ use rng_model::{Datatype, DatatypeValue, NameClass};
 use std::alloc::{AllocError, Global};
 use std::collections::HashMap;
 
-/// The number of the row that is empty.
+/// The number of the row of `empty`.
 pub const EMPTY: usize = 0;
 
-/// Patterns in simple form, of which the first is `empty`. No row stands twice, no label does, and children stand before their parents.
+/// Patterns in simple form. The first one is `empty`. Rows and labels are distinct, and children come before their
+/// parents.
 #[derive(Drop)]
 pub struct RowTable<'a> {
     pub alloc: Global,
@@ -28,13 +29,13 @@ pub struct RowTable<'a> {
     pub classes: Vec<&'a NameClass>,
     pub datatypes: Vec<&'a Datatype>,
     pub values: Vec<&'a DatatypeValue>,
-    /// What tells the labels of each kind apart, in their order.
+    /// The codes of the labels of each kind, in order. Equal labels have equal codes.
     pub class_codes: IndexSet<Vec<LabelPart<'a>>>,
     pub datatype_codes: IndexSet<Vec<LabelPart<'a>>>,
     pub value_codes: IndexSet<Vec<LabelPart<'a>>>,
 }
 
-/// The rows of a table and their labels, to which no more are added.
+/// The rows of a table and their labels, when nothing more is added.
 #[derive(Drop)]
 pub struct FinishedRows<'a> {
     pub rows: Vec<Row>,
@@ -43,7 +44,7 @@ pub struct FinishedRows<'a> {
     pub values: Vec<&'a DatatypeValue>,
 }
 
-/// What the rules of simplification ask of a side.
+/// What the rules of simplification need to know of a side.
 #[derive(Clone, Copy)]
 pub enum Sort {
     NotAllowed,
@@ -52,7 +53,7 @@ pub enum Sort {
 }
 
 impl<'a> RowTable<'a> {
-    /// The table of `empty` alone.
+    /// Creates a table with only `empty`.
     pub fn new(alloc: Global) -> Result<RowTable<'a>, AllocError>
         ensures { IfOk result IsRowTable }
     {
@@ -72,7 +73,7 @@ impl<'a> RowTable<'a> {
         })
     }
 
-    /// The number of a row whose children and labels are there.
+    /// Returns the number of a row, and adds the row if it is new. Its children and labels must be in the table.
     pub fn put(&mut self, row: Row) -> Result<usize, AllocError>
         requires table { IsRowTable self.old }
         requires below { AreChildrenBelow (row_count self.old) row }
@@ -86,7 +87,7 @@ impl<'a> RowTable<'a> {
         Ok(id)
     }
 
-    /// The rows and their labels, without what finds the number of a row.
+    /// Keeps the rows and their labels, and frees the indexes by which numbers are found.
     pub fn finished(self) -> FinishedRows<'a>
         ensures rows { result.rows.items ≡ self.entry.rows.items }
         ensures labels { finished_labels result ≡ labels_of self.entry }
@@ -99,7 +100,7 @@ impl<'a> RowTable<'a> {
         }
     }
 
-    /// What a row is as a side.
+    /// Returns what the rules of simplification need to know of a row as a side.
     pub fn sort(&self, id: usize) -> Sort
         requires table { IsRowTable self.now }
         requires there { id < row_count self.now }
@@ -112,7 +113,8 @@ impl<'a> RowTable<'a> {
         }
     }
 
-    /// The number of a name class; equal ones have one, with the members of each choice nested in twos.
+    /// Returns the number of a name class, and adds the class if it is new. Classes have one number if they are equal
+    /// with the members of each choice nested in twos.
     pub fn class_label(&mut self, class: &'a NameClass) -> Result<usize, AllocError>
         requires table { IsRowTable self.old }
         ensures table { OnOk result (IsRelabelled self.old self.new) }
@@ -129,7 +131,7 @@ impl<'a> RowTable<'a> {
         Ok(label)
     }
 
-    /// The number of a datatype; equal ones have one.
+    /// Returns the number of a datatype, and adds the datatype if it is new. Equal ones have one number.
     pub fn datatype_label(&mut self, datatype: &'a Datatype) -> Result<usize, AllocError>
         requires table { IsRowTable self.old }
         ensures table { OnOk result (IsRelabelled self.old self.new) }
@@ -146,7 +148,7 @@ impl<'a> RowTable<'a> {
         Ok(label)
     }
 
-    /// The number of a value; equal ones have one.
+    /// Returns the number of a value, and adds the value if it is new. Equal ones have one number.
     pub fn value_label(&mut self, value: &'a DatatypeValue) -> Result<usize, AllocError>
         requires table { IsRowTable self.old }
         ensures table { OnOk result (IsRelabelled self.old self.new) }

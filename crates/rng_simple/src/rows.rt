@@ -1,11 +1,11 @@
-// Patterns in simple form whose children have numbers, and the number of each.
+// Patterns in simple form whose children are numbers, and the number of each pattern.
 ghost use Rattle.std.specs.Prelude.{◌≡◌, slice_get, IfOk, OnOk, Some};
 ghost use Rattle.rng_simple.specs.views.RowIndex.{IsIndex, number_of_row, with_row};
 
 use std::alloc::AllocError;
 use std::collections::HashMap;
 
-/// A pattern in simple form: its children, element, name class, datatype and value by their numbers.
+/// A pattern in simple form. Its children, element, name class, datatype and value are numbers.
 #[derive(Clone, Copy, PartialEq, Eq, Hash)]
 pub enum Row {
     NotAllowed,
@@ -23,7 +23,7 @@ pub enum Row {
     Interleave(usize, usize),
 }
 
-/// The number of a row, which it gets when it is first asked for.
+/// Returns the number of a row. A new row gets the next number.
 pub fn number(
     rows: &mut Vec<Row>,
     numbers: &mut HashMap<Row, usize>,

@@ -33,13 +33,17 @@ struct GrammarTables {
     start: PatternId,
 }
 
-/// The simple form of the schema whose graph this is, and whose datatypes are known, by the rules of sections 4.12 to 4.21 of the RELAX NG Specification. The
-/// order has all definitions, each after those that its body mentions outside elements.
+/// Builds the simple form of the schema of this graph by the rules of sections 4.12 to 4.21 of the RELAX NG
+/// Specification.
 ///
-/// The answer is in the simple syntax of section 5, and it is the only simple form of the schema, up to the numbers of its
-/// elements. Each definition and each element is simplified once, equal patterns have one number, and elements that the start
-/// does not reach are not in it. The only fault is want of memory. Takes time and memory in proportion to the graph, but for
-/// hashing, and recurses as deep as a single body nests. The graph and the order are let go of before the grammar is made.
+/// The datatypes of the schema must be known. The order has all definitions, each after those that its body mentions
+/// outside elements.
+///
+/// The result is in the simple syntax of section 5. It is the only simple form of the schema, up to the numbers of its
+/// elements. Each definition and each element is simplified once, equal patterns have one number, and elements that the
+/// start does not reach are left out. Fails only when out of memory. Takes time and memory linear in the graph, apart
+/// from hash collisions. Recurses as deep as a single body nests. To limit memory, the graph and the order are freed
+/// before the grammar is made.
 pub(crate) fn simple_grammar(
     alloc: Global,
     graph: Graph<'_>,
@@ -57,8 +61,8 @@ pub(crate) fn simple_grammar(
     Ok(SimpleGrammar::new(tables.patterns, tables.elements, tables.start))
 }
 
-/// The tables of the grammar of a graph whose definitions are taken in this order. Once all is in rows, of the graph only the name classes of
-/// its elements are kept.
+/// The tables of the grammar of a graph. The definitions are taken in this order. Once everything is in rows, only the
+/// name classes of the elements are kept from the graph.
 fn made_tables(
     alloc: Global,
     graph: Graph<'_>,
@@ -107,8 +111,8 @@ fn element_classes<'a>(alloc: Global, graph: &Graph<'a>) -> Result<Vec<&'a NameC
     Ok(classes)
 }
 
-/// The elements that are listed, the name classes of all being `classes`, the rows of their bodies `contents`, and the places of
-/// the rows `places`.
+/// The listed elements with their name classes and bodies. `classes` has the name classes of all elements, `contents`
+/// the rows of their bodies, and `places` the patterns of the rows.
 fn grammar_elements(
     alloc: Global,
     classes: &[&NameClass],
@@ -127,7 +131,8 @@ fn grammar_elements(
     Ok(elements)
 }
 
-/// The name class of an element in simple form. A number past the elements, which no body of a graph has, has any name.
+/// The name class of an element in simple form. For a number past the elements, which no body of a graph has, it is any
+/// name.
 fn element_class(
     alloc: Global,
     classes: &[&NameClass],

@@ -14,17 +14,21 @@ use rng_model::{SchemaFault, SimpleGrammar};
 use rng_schema_checks::check_components;
 use std::alloc::Global;
 
-/// The simple form of a schema, by the rules of sections 4.12 to 4.15 and 4.17 to 4.21 of the RELAX NG Specification; or the first clause that it
-/// breaks.
+/// Returns the simple form of a schema, by the rules of sections 4.12 to 4.15 and 4.17 to 4.21 of the RELAX NG
+/// Specification.
 ///
-/// The answer is in the simple syntax of section 5, it is the only simple form of the schema, up to the numbers of its elements, its tables hold no
-/// pattern that does not stand in the start or in an element, equal patterns have one number in them, and a document is valid by it exactly if it is
-/// valid by the schema as it is written. Each of its datatypes is one of the table, with parameters that it takes, and that of a value has none.
-/// `Clause` is answered exactly where one of the clauses 11 to 17 is broken, and names the least: a name class, a datatype, components of one name that do not combine, a grammar without a start, a ref without a definition, at
-/// any place, reached or not; or an expansion that loops outside elements, or that is deeper than 1,000, of what is reached. `File` is not answered,
-/// `Memory` only for want of it.
+/// The result is in the simple syntax of section 5. It is the only simple form of the schema, up to the numbers of its
+/// elements. A document is valid by it exactly if it is valid by the schema as it is written. Each pattern of its
+/// tables is in the start or in an element, and equal patterns have one number. Each datatype is known and takes its
+/// parameters, and the datatype of a value has none.
 ///
-/// Takes time and memory in proportion to the schema, but for hashing, and recurses as deep as one component nests.
+/// Fails with `Clause` exactly if one of the clauses 11 to 17 is broken, and reports the least of them. Clauses 11 to
+/// 15 are broken at any place, whether reached or not: by a name class, by a datatype, by components of one name that
+/// do not combine, by a grammar without a start, or by a ref without a definition. Clauses 16 and 17 are broken by what
+/// is reached: by an expansion that loops outside elements, or by one that is deeper than 1,000. Never fails with
+/// `File`. Fails with `Memory` only when out of memory.
+///
+/// Takes time and memory linear in the schema, apart from hash collisions. Recurses as deep as one component nests.
 pub fn simplify(alloc: Global, schema: &Schema) -> Result<SimpleGrammar, SchemaFault>
     ensures syntax { IfOk result (λ g. IsInSimpleSyntax (grammar_of g)) }
     ensures used { IfOk result AreAllUsed }

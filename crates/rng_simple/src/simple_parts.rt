@@ -1,4 +1,4 @@
-// The simple form of a graph's patterns, from the leaves up.
+// The simple forms of the patterns of a graph, from the leaves up.
 ghost use Rattle.std.specs.Prelude.{◌≡◌, ◌<◌, map, slice_index_or, IfOk, OnOk};
 ghost use Rattle.rng_graph.specs.views.GraphView.{combined, graph_body_of, graph_pattern_of, members};
 ghost use Rattle.rng_simple.specs.plain.GrammarBy.{spot_simple};
@@ -77,7 +77,7 @@ pub fn simple_part<'a>(
     }
 }
 
-/// Members about a connector, nested in twos from the left.
+/// Members with a connector, nested in twos from the left.
 ///
 /// RELAX NG Specification, section 4.12.
 #[cycle(parts)]
@@ -103,7 +103,7 @@ fn simple_members<'a>(
     Ok(joined)
 }
 
-/// A connector without members.
+/// The simple form of no members with this connector.
 #[tactic(auto, using(crate::proofs::SimpleParts::empty_is, crate::proofs::SimpleParts::empty_below))]
 fn no_members(table: &mut RowTable<'_>, connector: Connector) -> Result<usize, AllocError>
     requires table { IsRowTable table.old }
@@ -117,7 +117,7 @@ fn no_members(table: &mut RowTable<'_>, connector: Connector) -> Result<usize, A
     }
 }
 
-/// The simple form of a definition's body.
+/// The simple form of the body of a definition.
 pub fn simple_body<'a>(
     table: &mut RowTable<'a>,
     parts: &[usize],
@@ -135,7 +135,7 @@ pub fn simple_body<'a>(
     }
 }
 
-/// The patterns of components about a connector, nested in twos from the left.
+/// The patterns of components with a connector, nested in twos from the left.
 ///
 /// RELAX NG Specification, section 4.17.
 fn simple_components<'a>(
@@ -157,7 +157,7 @@ fn simple_components<'a>(
     }
 }
 
-/// The row that stands at a place, and `empty` past the end.
+/// The row at a place of the list, or `empty` past its end.
 pub fn row_of(rows: &[usize], place: usize) -> usize
     ensures { result ≡ slice_index_or rows.now place 0 }
 {

@@ -11,9 +11,10 @@ use crate::simple_parts::{simple_body, simple_part};
 use rng_graph::Graph;
 use std::alloc::{AllocError, Global};
 
-/// The row of each definition of an order in which each comes after those that its body mentions; `empty` for the others.
+/// The row of each definition of an order in which each comes after those that its body mentions. The others have
+/// `empty`.
 ///
-/// Takes time in proportion to the bodies.
+/// Takes time linear in the bodies.
 pub fn definition_rows<'a>(
     alloc: Global,
     table: &mut RowTable<'a>,
@@ -36,9 +37,9 @@ pub fn definition_rows<'a>(
     Ok(rows)
 }
 
-/// The row of each element's body, the definitions having these rows.
+/// The row of the body of each element, given the rows of the definitions.
 ///
-/// Takes time in proportion to the bodies.
+/// Takes time linear in the bodies.
 pub fn content_rows<'a>(
     alloc: Global,
     table: &mut RowTable<'a>,

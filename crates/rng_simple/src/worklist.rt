@@ -1,13 +1,13 @@
-// What is reached from a start by going on.
+// The numbers that are reached from a start by following numbers to the next ones.
 ghost use Rattle.std.specs.Prelude.{◌≡◌, ◌<◌, ◌↔◌, ℕ, [], ◌∷◌, length, slice_get, slice_index_or, All, IfOk, OnOk, Some, true};
 ghost use Rattle.rng_graph.specs.plain.Search.{AreMentionsBelow, lists};
 ghost use Rattle.rng_simple.specs.plain.Worklist.{Adds, IsMarked, IsReachedBy};
 
 use std::alloc::{AllocError, Global};
 
-/// A mark for each number that is reached from the start: those of the start, and what is next to one so reached.
+/// Marks each number that is reached from the start: those of the start, and those next to a reached number.
 ///
-/// `next` has for each number those that are next to it. Takes time and memory in proportion to all of them, and does not
+/// `next` has for each number those that are next to it. Takes time and memory linear in all of them, and does not
 /// recurse.
 pub fn collect(alloc: Global, next: &[Vec<usize>], start: &[usize]) -> Result<Vec<bool>, AllocError>
     requires next { AreMentionsBelow (lists next.now) }
@@ -40,7 +40,7 @@ fn no_marks(alloc: Global, n: usize) -> Result<Vec<bool>, AllocError>
     Ok(marks)
 }
 
-/// What is next to a number.
+/// The numbers next to a number.
 fn next_to(next: &[Vec<usize>], k: usize) -> &[usize]
     requires { k < length next.now }
     ensures { result.now ≡ slice_index_or (lists next.now) k [] }

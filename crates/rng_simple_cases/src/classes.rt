@@ -2,7 +2,7 @@
 use rng_model::{Name, NameClass};
 use std::io;
 
-/// Prints a name class, each namespace but the empty one in braces before a local name, and choices in parentheses.
+/// Prints a name class, each namespace except the empty one in braces before a local name, and choices in parentheses.
 #[cycle(classes)]
 pub fn print_class(rt: &impl Print, class: &NameClass) -> io::Result<()> {
     match class {

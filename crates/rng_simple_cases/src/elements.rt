@@ -9,14 +9,14 @@ pub struct Mentioned {
 }
 
 impl Mentioned {
-    /// None.
+    /// Creates an empty list.
     pub fn new(alloc: Global) -> Self {
         Mentioned {
             elements: Vec::new(alloc),
         }
     }
 
-    /// The number of an element, which it gets when it is first asked for.
+    /// Returns the number of an element. A new element gets the next number.
     pub fn number(&mut self, element: ElementId) -> Result<usize, AllocError> {
         if let Some(number) = self.elements.iter().position(|known| *known == element) {
             return Ok(number);
@@ -26,7 +26,7 @@ impl Mentioned {
         Ok(number)
     }
 
-    /// The element with a number.
+    /// Returns the element with a number.
     pub fn get(&self, number: usize) -> Option<ElementId> {
         self.elements.get(number).copied()
     }

@@ -5,11 +5,11 @@ use crate::patterns::print_pattern;
 use rng_model::{ElementId, PatternId, SimpleGrammar};
 use std::io;
 
-/// How many patterns or elements are looked for.
+/// The most patterns or elements that are counted.
 const MOST: usize = 1_000_000;
 
-/// Prints the start, and then each element, its name class and its body in braces; and how many are listed that nothing
-/// mentions, if any are.
+/// Prints the start, and then each element, its name class and its body in braces. If some listed elements are never
+/// mentioned, prints how many.
 pub fn print_form(rt: &(impl Print + AllocGlobal), grammar: &SimpleGrammar) -> io::Result<()> {
     let mut mentioned = Mentioned::new(rt.alloc());
     print_pattern(rt, grammar, &mut mentioned, grammar.start())?;

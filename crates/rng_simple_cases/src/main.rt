@@ -1,10 +1,11 @@
-//! Prints what `rng_load` and then `rng_simple` answer for the files in the rows of `cases.txt`, a line a row: the clause that
-//! is broken, or the simple form.
+//! Prints what `rng_load` and then `rng_simple` return for the files in the rows of `cases.txt`, one line per row: the
+//! clause that is broken, or the simple form.
 //!
-//! A row has what is asked for, and files: the name of each, a text, and how often the text stands in it. Texts of one name
-//! stand behind one another. In each of them `^` is its number, from 0, and `^+` the next one. The first file is the main one.
-//! Asked for is `form`, the start and then each element, its name class and its body, an element being `eN` where it is
-//! mentioned, by the order in which they are first mentioned; or `size`, how many patterns and elements the tables have.
+//! A row has a request, and files: the name of each, a text, and how often the text is repeated in it. Consecutive
+//! texts with the same name are one file. In each text `^` is its number, from 0, and `^+` the next one. The first file
+//! is the main one. The request `form` prints the start and then each element, its name class and its body. An element
+//! is `eN`, numbered in the order in which elements are first mentioned. The request `size` prints how many patterns
+//! and elements the tables have.
 #![tactic(auto)]
 
 mod classes;
@@ -27,7 +28,7 @@ fn main(rt: HostRuntime) -> io::Result<()> {
     Ok(())
 }
 
-/// Prints what is asked for of the simple form of a row's files, or why they have none.
+/// Prints what is requested of the simple form of a row's files, or why they have none.
 fn print_answer(rt: &(impl Print + AllocGlobal), row: &Row) -> io::Result<()> {
     let files = files_of(rt.alloc(), row)?;
     match simplified(rt.alloc(), files.as_slice(), row.text(1)?) {
@@ -39,7 +40,7 @@ fn print_answer(rt: &(impl Print + AllocGlobal), row: &Row) -> io::Result<()> {
     }
 }
 
-/// The simple form of the schema that files make.
+/// Returns the simple form of the schema of some files.
 fn simplified(
     alloc: Global,
     files: &[(String, Vec<u8>)],

@@ -4,7 +4,7 @@ use crate::elements::Mentioned;
 use rng_model::{Datatype, PatternId, Simple, SimpleGrammar};
 use std::io;
 
-/// Prints a pattern as a tree, a pair in parentheses.
+/// Prints a pattern as a tree, each pair in parentheses.
 #[cycle(patterns)]
 pub fn print_pattern(
     rt: &impl Print,

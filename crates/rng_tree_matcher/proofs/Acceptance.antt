@@ -1,4 +1,4 @@
--- Derivatives by items and attributes, where elements stand for themselves alone.
+-- Derivatives by items and attributes, without blank strings beside elements.
 use Rattle.std.proofs.Common.{◌≡◌, ◌⊎◌, inl, inr, ⊎_elim, ℕ, List, [], ◌∷◌, ◌++◌, true, false, refl, sym, ap, ◌∙◌, subst}
 use Rattle.std.proofs.lemmas.List.{append-nil}
 use Rattle.std.proofs.lemmas.Bool.{and_from, and_parts, or_cases, or_left, or_right}
@@ -158,7 +158,7 @@ module _ (g : Grammar) (tests : TextTests) where
     back = λ ns h. ⊎_elim (λ x. inl (a.back ns x)) (λ x. inr (b.back ns x)) h;
   }
 
-  -- the item goes to the first side
+  -- the first side takes the item
   first_forth : (n : Item) (p q d : tree.Simple ℕ) → IsAfterItem g tests n p d → (ns : List Item) → Accepts g tests (tree.s_joined group d q) [] ns
       → Accepts g tests (tree.s_joined group p q) [] (n ∷ ns)
   first_forth n p q d a ns h =
@@ -173,7 +173,8 @@ module _ (g : Grammar) (tests : TextTests) where
         items = ap (λ l. n ∷ l) h.items;
       }
 
-  -- a match of a group of which an item is the first: the first side has it, or the second where the first has nothing
+  -- a match of a group whose first item is this one: the first side has the item, or the second side if the first has
+  -- nothing
   ways : (n : Item) (p q d : tree.Simple ℕ) → IsAfterItem g tests n p d → (ns ms os : List Item) → ms ++ os ≡ n ∷ ns → Accepts g tests p [] ms
       → Accepts g tests q [] os → Accepts g tests (tree.s_joined group d q) [] ns ⊎ (Accepts g tests p [] [] × Accepts g tests q [] (n ∷ ns))
   ways n p q d a ns [] os e h k = inr (h, along q refl e k)
@@ -266,7 +267,7 @@ module _ (g : Grammar) (tests : TextTests) where
     back = λ xs ns m. ⊎_elim (λ x. inl (f.back xs ns x)) (λ x. inr (h.back xs ns x)) m;
   }
 
-  -- the attribute went to the first side, or to the second
+  -- the first side has the attribute, or the second side
   sides : (a : Attribute) (p q d e : tree.Simple ℕ) → IsAfterAttribute g tests a p d → IsAfterAttribute g tests a q e
       → (xs ys zs : List Attribute) (ms ns os : List Item) → Interleaves xs ys (a ∷ zs) → ms ++ ns ≡ os → Accepts g tests p xs ms → Accepts g tests q ys ns
       → Accepts g tests (tree.s_joined choice (tree.s_joined group d q) (tree.s_joined group p e)) zs os

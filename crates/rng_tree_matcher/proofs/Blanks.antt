@@ -1,5 +1,5 @@
--- Matching with blank strings, and without: where the items hold an element, blank strings go; where they hold none, they
--- are as they were.
+-- Matching with and without blank strings: if the items contain an element, blank strings are removed; otherwise the
+-- items are unchanged.
 use Rattle.std.proofs.Common.{◌≡◌, inl, inr, ⊎_elim, ℕ, List, [], ◌∷◌, ◌++◌, Bool, true, false, cond, refl, sym, ap, ◌∙◌, subst, append_assoc}
 use Rattle.std.proofs.lemmas.List.{append-nil}
 use Rattle.rng_model.specs.simple.Tree as tree
@@ -17,7 +17,7 @@ use Rattle.rng_model.specs.matching.WellFormed.{Separate}
 use Rattle.rng_model.specs.matching.WellFormed as w
 use Rattle.rng_model.proofs.OneSidedInterleavings.{left_alone, left_is_all}
 
--- the second list is the first with elements padded
+-- the second list is the first one with elements padded
 data Spread : List Item → List Item → Type 0 where
   nil : Spread [] []
   string : {s : List ℕ} {ms ns : List Item} → Spread ms ns → Spread (a_text s ∷ ms) (a_text s ∷ ns)
@@ -67,7 +67,7 @@ spread w.string (keep_text p none) h = absurd (cc)
 spread (w.string_element s) (keep_text p (keep_element d)) h = string (spread_element _ _ _ s d)
 spread (w.element s) (keep_element d) h = spread_element _ _ _ s d
 
--- strings alone are spread as they are
+-- lists of strings only are unchanged
 texts_spread : (ns : List Item) → AllTexts ns → Spread ns ns
 texts_spread [] all = nil
 texts_spread (a_text s ∷ ns) (text_and all) = string (texts_spread ns all)
@@ -129,7 +129,7 @@ module _ (g : Grammar) (tests : TextTests) where
       m.element_is l i e v (subst (λ l. Padded is_blank (an_element q ys kids) l) (sym (append-nil os) ∙ c) p)
   leaf_out k n ns (m.stands_for s d) spread = elim s [ ]
 
-  -- blank strings come back
+  -- blank strings are put back
   out : (s : tree.Simple ℕ) (xs : List Attribute) (ms ns : List Item) → Accepts g tests s xs ms → Spread ms ns → ByRules s xs ns
   out tree.s_not_allowed xs ms ns h s = absurd h
   out tree.s_empty xs ms ns h s =
@@ -152,9 +152,9 @@ module _ (g : Grammar) (tests : TextTests) where
       (document.in_order r.joined)
   out (tree.s_joined interleave p q) xs ms ns h s = absurd h
 
--- ---- blank strings go
+-- ---- blank strings are removed
 
--- a list that is kept of two lists, in two
+-- what is kept of the concatenation of two lists, in two parts
 record Parts (R : List Item → List Item → Type 0) (xs ys ms : List Item) : Type 0 where
   front : List Item
   rest : List Item
@@ -162,7 +162,7 @@ record Parts (R : List Item → List Item → Type 0) (xs ys ms : List Item) : T
   rest_is : R ys rest
   joined : front ++ rest ≡ ms
 
--- what is kept of lists of items, by which a match stays one
+-- a way to keep part of lists of items, under which a match stays a match
 record Keeps (R : List Item → List Item → Type 0) : Type 0 where
   of_nothing : (ms : List Item) → R [] ms → ms ≡ []
   of_texts : (ns ms : List Item) → AllTexts ns → R ns ms → AllTexts ms
@@ -213,7 +213,7 @@ drops_padded q xs kids os ms (document.both_sides {s = s} p r) (keep_text b (kee
 drops_keeps : Keeps Drops
 drops_keeps = record { of_nothing = drops_nothing; of_texts = drops_texts; of_two = drops_two; of_padded = drops_padded }
 
--- strings alone are kept as they are
+-- lists of strings only are kept unchanged
 abbrev Stays : List Item → List Item → Type 0
 Stays ns ms = AllTexts ns × (ns ≡ ms)
 
@@ -248,7 +248,7 @@ module _ (g : Grammar) (tests : TextTests) (R : List Item → List Item → Type
       (an_element q ys kids, refl, keeps.of_padded q ys kids ns ms p kept, m.element_is l i e v document.alone)
   leaf_in k xs ns ms (m.stands_for s d) kept = elim s [ ]
 
-  -- a match stays one
+  -- a match stays a match
   kept_in : (s : tree.Simple ℕ) → IsDerivable s → (xs : List Attribute) (ns ms : List Item) → ByRules g tests s xs ns → R ns ms → Accepts g tests s xs ms
   kept_in tree.s_not_allowed h xs ns ms d kept = elim d [ ]
   kept_in tree.s_empty h xs ns ms m.empty_is kept = (refl, keeps.of_nothing ms kept)
@@ -319,7 +319,7 @@ module _ (g : Grammar) (tests : TextTests) where
   plainly p xs ns h (m.blank_text d b) = absurd (cc)
   plainly p xs ns h (m.nothing_there d) = absurd (cc)
 
-  -- what is said of content that holds an element
+  -- the claim for content that contains an element
   as_content : (p : tree.Simple ℕ) (xs : List Attribute) (ns : List Item) → has_element ns ≡ true → Accepts g tests p xs ns → Contains g tests p xs ns
   as_content p xs [] h d = absurd (cc)
   as_content p xs (a_text s ∷ []) h d = absurd (cc)
@@ -357,7 +357,7 @@ module _ (g : Grammar) (tests : TextTests) where
   content_out p xs ns (w.element apart) false e d = absurd (cc)
   content_out p xs ns (w.string_element apart) false e d = absurd (cc)
 
-  -- attributes and children weakly match exactly if they match without the blank strings about elements
+  -- attributes and children weakly match exactly if they match without the blank strings beside elements
   pub weakly_in : (p : tree.Simple ℕ) → IsDerivable p → (xs : List Attribute) (ns : List Item) → Separate ns → WeaklyByRules g tests p xs ns
       → Contains g tests p xs (content ns)
   weakly_in p h xs ns apart d = content_in p h xs ns apart (has_element ns) refl d
@@ -365,7 +365,7 @@ module _ (g : Grammar) (tests : TextTests) where
   pub weakly_out : (p : tree.Simple ℕ) (xs : List Attribute) (ns : List Item) → Separate ns → Contains g tests p xs (content ns) → WeaklyByRules g tests p xs ns
   weakly_out p xs ns apart d = content_out p xs ns apart (has_element ns) refl d
 
-  -- one item alone matches by the rules exactly if it does so plainly
+  -- one item alone matches by the rules exactly if it matches without blank strings
   pub alone_in : (p : tree.Simple ℕ) → IsDerivable p → (n : Item) → ByRules g tests p [] (n ∷ []) → Accepts g tests p [] (n ∷ [])
   alone_in p h (a_text s) d = texts_in p h [] _ (one_text s) d
   alone_in p h (an_element q xs kids) d = drop_blanks p h [] _ d

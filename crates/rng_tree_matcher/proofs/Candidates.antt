@@ -1,4 +1,4 @@
--- The elements that may have a name, tested one after another.
+-- The elements that may have a name, tested one after the other.
 use Rattle.std.proofs.Common.{◌≡◌, ◌↔◌, ◌⊎◌, ⊎_elim, inl, inr, ℕ, ◌<◌, ◌^◌, List, [], ◌∷◌, ◌++◌}
 use Rattle.std.proofs.Common.{Bool, true, false, cond, ◌||◌, nat_eq, IsTrue, refl, ap, sym, ◌∙◌, subst}
 use Rattle.std.proofs.lemmas.Bool.{cases_eq, ne_eqb, eq-eqb, eqb-true}
@@ -16,15 +16,15 @@ use Rattle.rng_tree_matcher.specs.plain.Content.{TakesNode}
 use Rattle.rng_tree_matcher.proofs.Content.{in_table}
 use Rattle.std.proofs.lemmas.Bool.{or_cases}
 
--- a list that is one longer has the last number, and what it had
+-- a list with one more number at the end has this number and those that it had
 has_more : (xs : List ℕ) (last k : ℕ) → has_number (xs ++ last ∷ []) k ≡ true → (has_number xs k ≡ true) ⊎ (k ≡ last)
 has_more xs last k e =
     let both = or_cases (has_number xs k) (nat_eq k last || false) (sym (list_any-append (λ x. nat_eq k x) xs (last ∷ [])) ∙ e) in
     ⊎_elim (λ h. inl h) (λ h. ⊎_elim (λ d. inr (eqb-true k last d)) (λ d. absurd (cc)) (or_cases (nat_eq k last) false h)) both
 
--- S holds of what was found before
+-- S holds for what was found first
 module _ (S P : ℕ → Type 0) where
-  -- the last candidate was taken in
+  -- the last candidate is added
   pub candidate_in : (old new : ℕ → Bool) (xs : List ℕ) (last : ℕ) → P last → ((k : ℕ) → new k ≡ cond (nat_eq last k) true (old k)) →
       ((k : ℕ) → IsTrue (old k) ↔ (S k ⊎ ((has_number xs k ≡ true) × P k))) → (k : ℕ) → IsTrue (new k) ↔ (S k ⊎ ((has_number (xs ++ last ∷ []) k ≡ true) × P k))
   candidate_in old new xs last holds grown so_far k = (
@@ -50,7 +50,7 @@ module _ (S P : ℕ → Type 0) where
       had : old k ≡ true → new k ≡ true
       had was = grown k ∙ kept_true (nat_eq last k) (old k) was
 
-  -- the last candidate was left out
+  -- the last candidate is left out
   pub candidate_out : (old : ℕ → Bool) (xs : List ℕ) (last : ℕ) → (P last → ⊥) → ((k : ℕ) → IsTrue (old k) ↔ (S k ⊎ ((has_number xs k ≡ true) × P k)))
       → (k : ℕ) → IsTrue (old k) ↔ (S k ⊎ ((has_number (xs ++ last ∷ []) k ≡ true) × P k))
   candidate_out old xs last not so_far k = (
@@ -61,7 +61,7 @@ module _ (S P : ℕ → Type 0) where
         h,
   )
 
--- two lists of candidates, one after the other, from nothing
+-- two lists of candidates, one after the other, starting with nothing
 pub both_found : (P : ℕ → Type 0) (none first last : ℕ → Bool) (xs ys : List ℕ) (k : ℕ) → none k ≡ false
     → (IsTrue (first k) ↔ (IsTrue (none k) ⊎ ((has_number xs k ≡ true) × P k))) →
     (IsTrue (last k) ↔ (IsTrue (first k) ⊎ ((has_number ys k ≡ true) × P k))) → (P k → has_number (xs ++ ys) k ≡ true) → IsTrue (last k) ↔ P k

@@ -1,4 +1,4 @@
--- The children of an element, one after another.
+-- The children of an element, one after the other.
 use Rattle.std.proofs.Common.{◌≡◌, ℕ, ◌+◌, ◌<◌, ◌≤◌, arith, List, [], ◌∷◌, ◌++◌, map, length, take, get_or, Some, option_map, ◌↔◌, IsTrue, Bool, true, false, All}
 use Rattle.std.proofs.Common.{◌&&◌, ap, sym, ◌∙◌, subst, Vec, Global, rules}
 use Rattle.std.proofs.lemmas.List.{length-map, take_all}
@@ -35,7 +35,7 @@ pub element_is : (item : Item) (name : Name) (attrs : Vec Attr Global) (children
     → item_of item ≡ an_element (name_of name) (map attribute_of attrs.items) (items_of (map item_of children.items))
 element_is item name attrs children e = ap item_of e ∙ search (rules, the_lemmas)
 
--- what is known of an element that is well formed
+-- what is known of a well-formed element
 pub record Parts (attrs : List Attr) (children : List Item) : Type 0 where
   pub apart : Separate (list_of (items_of (map item_of children)))
   pub children_are : AreWellFormed (items_of (map item_of children))
@@ -46,7 +46,7 @@ parts_of item name attrs children e well =
     let parts = subst IsWellFormed (element_is item name attrs children e) well in
     record { apart = parts.1; children_are = parts.2 }
 
--- a child of it
+-- a child of the element
 pub child_well_formed : (children : List Item) (i : ℕ) (child : Item) → AreWellFormed (items_of (map item_of children)) → i < length children
     → child ≡ get_or children i child → IsWellFormed (item_of child)
 child_well_formed children i child all inside is =
@@ -93,7 +93,7 @@ all_children g drops children i symbols past is stand =
     ∙ ap (λ b. kept b (map item_of children)) flag in
     subst (λ ns. Stands (content ns)) (sym (list_of-items (map item_of children))) (subst Stands kept_all stand)
 
--- the elements that take a node's attributes and content are those that the node matches
+-- the elements that take the attributes and content of a node are those that the node matches
 pub element_answer : {Z : Type 0} (t : Table) → All IsOfFirstKind t.patterns → (item : Item) (name : Name) (attrs : Vec Attr Global) (children : Vec Item Global) (symbols : List Symbol)
     (found : HashSet ℕ Z) → item ≡ Element name attrs children → IsWellFormed (item_of item) →
     StandForItems (grammar_of t) symbols (content (list_of (items_of (map item_of children.items))))

@@ -1,4 +1,4 @@
--- From the content of an element to the element, and from there to the symbol that stands for it.
+-- From the content of an element to the element, and from there to the symbol that represents it.
 use Rattle.std.proofs.Common.{◌≡◌, ◌↔◌, ℕ, suc, zero, ◌<◌, ◌^◌, List, [], ◌∷◌, ◌++◌, length, drop, slice_get, Option, Some, None, option_map, unwrap_or, Bool, All}
 use Rattle.std.proofs.Common.{true, false, cond, ◌&&◌, nat_eq, IsTrue, refl, ap, sym, ◌∙◌, subst, ⊎_elim, inl, inr}
 use Rattle.std.proofs.lemmas.List.{append-nil}
@@ -71,7 +71,7 @@ contains_after g tests xs p q after (a_text s ∷ []) =
 contains_after g tests xs p q after (a_text s ∷ n ∷ ns) = after (a_text s ∷ n ∷ ns)
 contains_after g tests xs p q after (an_element r ys kids ∷ ns) = after (an_element r ys kids ∷ ns)
 
--- what is said of two or more items, or of one element
+-- the claim for two or more items, or for one element
 pub many_items : (g : Grammar) (tests : TextTests) (p : tree.Simple ℕ) (n o : Item) (ns : List Item)
     → Contains g tests p [] (n ∷ o ∷ ns) ↔ Accepts g tests p [] (n ∷ o ∷ ns)
 many_items g tests p (a_text s) o ns = (λ h. h, λ h. h)
@@ -84,7 +84,7 @@ one_element g tests p (an_element q xs kids) e = (λ h. h, λ h. h)
 
 -- ---- elements of the grammar
 
--- what the table of a grammar lists
+-- what the table of a grammar contains
 pub listed : (t : Table) (k : ℕ) (e : NameClass × PatternId) → slice_get t.elements k ≡ Some e
     → slice_get (grammar_of t).elements k ≡ Some (class_of e.0, tree_at t.patterns e.1)
 listed t k e found = slice_get-map (λ (x : NameClass × PatternId). (class_of x.0, tree_at t.patterns x.1)) t.elements k
@@ -94,7 +94,7 @@ pub none_listed : (t : Table) (k : ℕ) → slice_get t.elements k ≡ None → 
 none_listed t k none = slice_get-map (λ (x : NameClass × PatternId). (class_of x.0, tree_at t.patterns x.1)) t.elements k
     ∙ ap (λ o. option_map (λ (x : NameClass × PatternId). (class_of x.0, tree_at t.patterns x.1)) o) none
 
--- an element that the grammar lists stands in the table
+-- an element that the grammar lists is in the table
 pub record InTable (t : Table) (k : ℕ) (c : names.NameClass) (s : tree.Simple ℕ) : Type 0 where
   pub entry : NameClass × PatternId
   pub found : slice_get t.elements k ≡ Some entry
@@ -151,7 +151,7 @@ its_elements t kinds elements q xs kids apart has = record {
 
 -- ---- one element of the grammar against a node
 
--- its class and its body are at hand
+-- if its class and its body are known
 pub takes_answer : (t : Table) (tests : TextTests) (k : ℕ) (e : NameClass × PatternId) (q : names.Name) (xs : List Attribute) (ns : List Item) (takes : Bool)
     → slice_get t.elements k ≡ Some e → In (class_of e.0) q →
     (IsTrue takes ↔ Contains (grammar_of t) tests (tree_at t.patterns e.1) xs ns) → IsTrue takes ↔ TakesNode (grammar_of t) tests k q xs ns
@@ -165,7 +165,7 @@ takes_answer t tests k e q xs ns takes found named test = (
       test.1 (subst (λ p. Contains (grammar_of t) tests p xs ns) body h.contains),
 )
 
--- the class does not hold the name
+-- if the class does not hold the name
 pub other_name : (t : Table) (tests : TextTests) (k : ℕ) (e : NameClass × PatternId) (q : names.Name) (xs : List Attribute) (ns : List Item)
     → slice_get t.elements k ≡ Some e → (In (class_of e.0) q → ⊥) → TakesNode (grammar_of t) tests k q xs ns → ⊥
 other_name t tests k e q xs ns found not h =
@@ -175,7 +175,7 @@ other_name t tests k e q xs ns found not h =
     let class : h.class ≡ class_of e.0 = sym there.class_is ∙ ap (λ (x : NameClass × PatternId). class_of x.0) same in
     not (subst (λ c. In c q) class h.named)
 
--- the table has no such element
+-- if the table has no such element
 pub no_element : (t : Table) (tests : TextTests) (k : ℕ) (q : names.Name) (xs : List Attribute) (ns : List Item) → slice_get t.elements k ≡ None
     → TakesNode (grammar_of t) tests k q xs ns → ⊥
 no_element t tests k q xs ns none h =

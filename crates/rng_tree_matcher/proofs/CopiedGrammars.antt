@@ -1,4 +1,4 @@
--- A grammar's patterns, copied in their order, stand for the trees that they stand for in the grammar.
+-- The patterns of a grammar, copied in order, have the same trees as in the grammar.
 use Rattle.std.proofs.Common.{◌≡◌, ℕ, ◌+◌, ◌<◌, ◌≤◌, ⊎_elim, List, [], ◌∷◌, length, slice_get, Some, None, refl, ap, ap₂, sym, ◌∙◌, arith}
 use Rattle.std.proofs.lemmas.Option.{slice_get-get_or}
 use Rattle.std.proofs.lemmas.Bool.{cases_lt}
@@ -48,7 +48,7 @@ agrees_more t rs ss p position at long longer found kind below is_over pushed ag
     ap (λ k. tree_of t ss k) here ∙ same ∙ ap (λ k. tree_at t.patterns (record { 0 = k })) (at ∙ sym here))
     (cases_lt i (length rs))
 
--- a look-up that finds nothing was past the end
+-- a look-up that finds nothing is past the end
 pub past_from_none : {X : Type 0} (xs : List X) (i : ℕ) → slice_get xs i ≡ None → length xs ≤ i
 past_from_none {X} [] i e = omega arith
 past_from_none {X} (x ∷ xs) i e = ⊎_elim

@@ -1,4 +1,4 @@
--- Each pattern that a table numbers is of a kind that is derived.
+-- Each pattern with a number in a table is of a kind that is derived.
 use Rattle.std.proofs.Common.{ℕ, suc, zero, List, [], ◌∷◌, ◌++◌, get_or, fold, slice_get, Option, Some, None, All}
 use Rattle.std.proofs.lemmas.List.Elements.{All-head, All-tail}
 use Rattle.rng_model.specs.simple.Tree as tree
@@ -15,7 +15,7 @@ use Rattle.rng_tree_matcher.specs.declared.pattern_table.Node.{Node}
 use Rattle.rng_tree_matcher.specs.declared.pattern_table.Node.TheVariants as node
 use Rattle.rng_tree_matcher.specs.declared.pattern_table.TableEntry.{TableEntry}
 
--- each tree of the list is, and so is what stands past its end
+-- each tree of the list is derivable, and so is the tree past its end
 abbrev AllDerivable : List (tree.Simple ℕ) → Type 0
 AllDerivable ts = (i : ℕ) → IsDerivable (get_or ts i tree.s_not_allowed)
 
@@ -25,7 +25,7 @@ derivable_push [] x all h (suc i) = tt
 derivable_push (y ∷ ts) x all h zero = all zero
 derivable_push (y ∷ ts) x all h (suc i) = derivable_push ts x (λ k. all (suc k)) h i
 
--- ---- of a grammar
+-- ---- a grammar
 
 pattern_derivable : (of : PatternId → tree.Simple ℕ) → ((k : PatternId) → IsDerivable (of k)) → (p : Simple) → IsOfFirstKind p
     → IsDerivable (table.tree_over of p)
@@ -56,7 +56,7 @@ pub grammar_derivable : (t : Table) → All IsOfFirstKind t.patterns → (id : P
 unfolding table.trees
 grammar_derivable t kinds id = table_from [] t.patterns kinds none_derivable id.0
 
--- ---- of the patterns of a table
+-- ---- the patterns of a table
 
 found_derivable : (t : Table) → All IsOfFirstKind t.patterns → (found : Option Simple) → IsDerivable (attribute_found t found)
 found_derivable t kinds None = tt

@@ -1,4 +1,4 @@
--- Derivatives by attributes and by symbols, one after another.
+-- Derivatives by attributes and by symbols, one after the other.
 use Rattle.std.proofs.Common.{◌≡◌, ◌↔◌, ℕ, suc, zero, ◌+◌, ◌<◌, ◌≤◌, List, [], ◌∷◌, ◌++◌, map, length, drop, take, get_or, All}
 use Rattle.std.proofs.Common.{slice_get, Some, Bool, ◌||◌, IsTrue, refl, ap, sym, ◌∙◌, subst, arith}
 use Rattle.std.proofs.lemmas.List.{drop_all, take_more}
@@ -71,7 +71,7 @@ module _ (t : Table) where
 
   -- ---- symbols
 
-  -- after a symbol that stands for an item
+  -- after a symbol that represents an item
   pub item_step : (s : Symbol) (n : Item) (p q : tree.Simple ℕ) → StandsForItem (grammar_of t) s n → IsDerivative (grammar_of t) s p q → (tests : TextTests)
       → IsAfterItem (grammar_of t) tests n p q
   item_step (symbol.Attribute a) n p q stands d = absurd stands

@@ -1,4 +1,4 @@
--- One step of a derivative: from those of the sides of a choice or a group to its own.
+-- One step of a derivative: from those of the sides of a choice or a group to that of the whole.
 use Rattle.std.proofs.Common.{◌≡◌, ℕ, ◌<◌, List, [], length, slice_get, Some, true, false, Bor, refl, ap, ap₂, sym, ◌∙◌, arith, subst}
 use Rattle.std.proofs.lemmas.List.{append-nil}
 use Rattle.std.proofs.lemmas.Option.{slice_get_within}
@@ -22,13 +22,13 @@ use Rattle.rng_tree_matcher.proofs.GrowingTables.{IsAfter-longer, Longer-trans, 
 use Rattle.rng_tree_matcher.proofs.Acceptance.{Same-trans, Same-is, choice_same, IsAfterItem-same, IsAfterAttribute-same, choice_after, choice_after_attribute}
 use Rattle.rng_tree_matcher.proofs.Acceptance.{group_after, group_after_first, group_after_attribute}
 
--- the symbol stands for an item
+-- the symbol represents an item
 abbrev pub IsContent : Symbol → Type 0
 IsContent (symbol.Attribute a) = ⊥
 IsContent (symbol.Text s) = Unit {0}
 IsContent (symbol.Element es) = Unit {0}
 
--- the symbol stands for an attribute
+-- the symbol represents an attribute
 abbrev pub IsAttribute : Symbol → Type 0
 IsAttribute (symbol.Attribute a) = Unit {0}
 IsAttribute (symbol.Text s) = ⊥
@@ -65,7 +65,7 @@ module _ (g : Grammar) where
   derive_sides (symbol.Element es) p q d e attribute x y = absurd attribute
 
 module _ (t : Table) where
-  -- what was built matches the same once patterns were added
+  -- what is built matches the same after patterns are added
   built_stays : (rs ms ss : List TableEntry) (number : ℕ) (f : tree.Simple ℕ → tree.Simple ℕ → tree.Simple ℕ) (a b : ℕ) → a < length rs → b < length rs
       → AddsPattern rs ms (λ u. f (tree_of u rs a) (tree_of u rs b)) number → Longer ms ss → (tests : TextTests)
       → Same (grammar_of t) tests (tree_of t ss number) (f (tree_of t ss a) (tree_of t ss b))
@@ -77,13 +77,13 @@ module _ (t : Table) where
       (subst (λ p. Same (grammar_of t) tests p (f (tree_of t rs a) (tree_of t rs b))) (sym (tree_stays t ms ss number longer built.inside))
       (built.same t (grammar_of t) tests))
 
-  -- the pattern at parent is f of its sides, once patterns were added too
+  -- the pattern at parent is f of its sides, also after patterns are added
   sides_stay : (rs ss : List TableEntry) (parent a b : ℕ) (f : tree.Simple ℕ → tree.Simple ℕ → tree.Simple ℕ) → Longer rs ss → parent < length rs
       → a < length rs → b < length rs → tree_of t rs parent ≡ f (tree_of t rs a) (tree_of t rs b) → f (tree_of t ss a) (tree_of t ss b) ≡ tree_of t ss parent
   sides_stay rs ss parent a b f longer inside a_in b_in is = ap₂ f (tree_stays t rs ss a longer a_in) (tree_stays t rs ss b longer b_in) ∙ sym is
       ∙ sym (tree_stays t rs ss parent longer inside)
 
-  -- the derivative of the first side is at hand
+  -- the derivative of the first side is known
   first_is : (rs : List TableEntry) (s : Symbol) (parent left : ℕ) (r : TableEntry) (x : ℕ) → IsFirstAfter t rs s parent left → slice_get rs parent ≡ Some r
       → first_side r.node ≡ Some x → IsAfter t rs s x left
   first_is rs s parent left r x first found side =
@@ -93,7 +93,7 @@ module _ (t : Table) where
       let is : first.first ≡ x = cc in
       subst (λ k. IsAfter t rs s k left) is first.after
 
-  -- the sides of a choice or a group that was found stand inside
+  -- the sides of a choice or a group that is found are inside the table
   parent_inside : (rs : List TableEntry) (parent : ℕ) (r : TableEntry) → slice_get rs parent ≡ Some r → parent < length rs
   parent_inside rs parent r found = slice_get_within rs parent r found
 
@@ -211,7 +211,7 @@ module _ (t : Table) where
             (sides_stay rs ss parent x y (tree.s_joined group) all inside x_in y_in (at ∙ ap (tree_over t (tree_of t rs)) is)) whole_is;
       }
 
--- a symbol that is no attribute
+-- a symbol that is not an attribute
 pub content_from : (s : Symbol) → ((a : Bor Attr) → s ≡ symbol.Attribute a → ⊥) → IsContent s
 content_from (symbol.Attribute a) not = absurd (not a refl)
 content_from (symbol.Text x) not = tt

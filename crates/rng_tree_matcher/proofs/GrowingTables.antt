@@ -1,4 +1,4 @@
--- Derivatives stay derivatives as patterns are added, and first sides are walked back up.
+-- Derivatives stay derivatives as patterns are added, and the walk back up from first sides.
 use Rattle.std.proofs.Common.{rules, ◌≡◌, ℕ, ◌<◌, ◌≤◌, List, [], ◌∷◌, ◌++◌, length, slice_get, get_or, Some, nat_eq, All, refl, ap, sym, ◌∙◌, arith}
 use Rattle.std.proofs.Common.{length-append, append_assoc, subst, ⊎_elim}
 use Rattle.std.proofs.lemmas.List.{get_or_append_left}
@@ -23,7 +23,7 @@ Longer-trans rs ss ts p q = (p.0 ++ q.0, q.1 ∙ ap (λ xs. xs ++ q.0) p.1 ∙ a
 pub Longer-length : (rs ss : List TableEntry) → Longer rs ss → length rs ≤ length ss
 Longer-length rs ss p = omega (arith, length-append rs p.0, ap length p.1)
 
--- what was found is found
+-- what is found stays found
 pub found_stays : (rs ss : List TableEntry) (i : ℕ) (r : TableEntry) → Longer rs ss → slice_get rs i ≡ Some r → slice_get ss i ≡ Some r
 found_stays rs ss i r p e =
     let inside = slice_get_within rs i r e in
@@ -34,7 +34,7 @@ found_stays rs ss i r p e =
 pub IsFirstSide-longer : (rs ss : List TableEntry) (parent first : ℕ) → Longer rs ss → IsFirstSide rs parent first → IsFirstSide ss parent first
 IsFirstSide-longer rs ss parent first p h = record { entry = h.entry; found = found_stays rs ss parent h.entry p h.found; side = h.side; below = h.below }
 
--- the last first side stands no higher than the top
+-- the last first side is not above the top
 pub bottom_below : (rs : List TableEntry) (top : ℕ) (parents : List ℕ) (bottom : ℕ) → AreFirstSides rs top parents bottom → bottom ≤ top
 bottom_below rs top parents bottom at_top = omega arith
 bottom_below rs top all first (further {parents = ps} {parent = p} first_sides side parts) = omega (arith, bottom_below rs top ps p first_sides, side.below)
@@ -62,7 +62,7 @@ AreFirstSides-pop rs top all parents parent first (further {parents = ps} {paren
     let Side : ℕ → Type 0 = λ x. IsFirstSide rs x first in
     (subst (λ xs. Ends xs parent) same.0 (subst (λ x. Ends ps x) same.1 first_sides), subst Side same.1 side)
 
--- without parents the first sides end at the top
+-- if there are no parents, the first sides end at the top
 pub AreFirstSides-empty : (rs : List TableEntry) (top : ℕ) (all : List ℕ) (first : ℕ) → AreFirstSides rs top all first → all ≡ [] → first ≡ top
 AreFirstSides-empty rs top all first at_top e = refl
 AreFirstSides-empty rs top all first (further {parents = ps} {parent = p} first_sides side parts) e =
@@ -102,11 +102,11 @@ AreCopied-longer t rs ss p copied = let more = Longer-length rs ss p in
     let long = copied.long in
     record { table = copied.table; kinds = copied.kinds; long = omega arith; trees = λ i h. tree_stays t rs ss i p (omega arith) ∙ copied.trees i h }
 
--- what holds of each item holds of one that was found
+-- what holds for each item holds for one that is found
 pub All-found : {X : Type 0} (P : X → Type 0) (xs : List X) (i : ℕ) (x : X) → All P xs → slice_get xs i ≡ Some x → P x
 All-found P xs i x all e = subst P (get_or_from_slice_get xs i x x e) (all i x (slice_get_within xs i x e))
 
--- the body of an element that was found stands among the patterns
+-- the body of an element that is found is among the patterns
 pub body_inside : (t : Table) (rs : List TableEntry) (k : ℕ) (e : NameClass × PatternId) → AreCopied t rs → Some e ≡ slice_get t.elements k → e.1.0 < length rs
 body_inside t rs k e copied found =
     let body = All-found (λ e. e.1.0 < length t.patterns) t.elements k e copied.table.bodies (sym found) in

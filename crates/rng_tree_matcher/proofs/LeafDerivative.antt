@@ -37,7 +37,7 @@ use Rattle.rng_tree_matcher.proofs.Acceptance.{nullable_in, nullable_out, none_a
 use Rattle.rng_tree_matcher.proofs.Acceptance.{other_after, none_after_attribute, empty_after_attribute, text_after_attribute, element_after_attribute}
 use Rattle.rng_tree_matcher.proofs.Acceptance.{attribute_after_attribute, other_after_attribute}
 
--- an attribute fits where the class holds its name and the body takes its value
+-- an attribute fits if the class holds its name and the body takes its value
 pub fits_in : (g : Grammar) (tests : TextTests) (c : names.NameClass) (p : tree.Simple ℕ) (a : Attribute) → IsDerivable p → Fits g tests c p a
     → In c a.name × TakesText g tests p [] a.content
 fits_in g tests c p a kind (m.attribute_is i d) = (i, weak_text_in g tests p kind [] a.content d)
@@ -46,7 +46,7 @@ pub fits_out : (g : Grammar) (tests : TextTests) (c : names.NameClass) (p : tree
     → Fits g tests c p a
 fits_out g tests c p a i d = m.attribute_is i (weak_text_out g tests p [] a.content d)
 
--- after an attribute, where a test says whether it fits
+-- after an attribute, if a test says whether it fits
 pub after_test : (g : Grammar) (tests : TextTests) (c : names.NameClass) (p : tree.Simple ℕ) (a : Attribute) (takes : Bool)
     → (IsTrue takes → Fits g tests c p a) → (Fits g tests c p a → IsTrue takes)
     → IsAfterAttribute g tests a (tree.s_attribute c p) (cond takes tree.s_empty tree.s_not_allowed)
@@ -58,7 +58,7 @@ pub after_other_name : (g : Grammar) (tests : TextTests) (c : names.NameClass) (
     → IsAfterAttribute g tests a (tree.s_attribute c p) tree.s_not_allowed
 after_other_name g tests c p a kind not = other_after_attribute g tests a c p (λ h. not (fits_in g tests c p a kind h).0)
 
--- after an attribute whose name the class holds, where a test says whether the body takes its value
+-- after an attribute whose name the class holds, if a test says whether the body takes its value
 pub after_value : (g : Grammar) (tests : TextTests) (c : names.NameClass) (p : tree.Simple ℕ) (a : Attribute) (takes : Bool) → IsDerivable p → In c a.name
     → (IsTrue takes ↔ TakesText g tests p [] a.content) → IsAfterAttribute g tests a (tree.s_attribute c p) (cond takes tree.s_empty tree.s_not_allowed)
 after_value g tests c p a takes kind i test =
@@ -129,7 +129,7 @@ module _ (g : Grammar) where
       → IsAfterItem g tests n (tree.s_leaf k) (cond (contains nat_eq es k) tree.s_empty tree.s_not_allowed)
   element_left es n k small is tests = leaf_after_test tests n k (contains nat_eq es k) (is.each tests k small)
 
--- an attribute pattern, or what was found in its place, after an item
+-- an attribute pattern, or what is found in its place, after an item
 pub found_left : (t : Table) (s : Symbol) (found : Option Simple) → (IsAttribute s → ⊥)
     → IsDerivative (grammar_of t) s (attribute_found t found) tree.s_not_allowed
 found_left t s None not = nothing_left (grammar_of t) s
@@ -167,7 +167,7 @@ module _ (t : Table) (rs : List TableEntry) (s : Symbol) (number : ℕ) where
       record { left = tree.s_empty; tree = λ of. refl; below = λ k. tt; is = subst (λ q. IsDerivative (grammar_of t) s q tree.s_empty) (sym e) d }
   left_empty_if false p e d = left_none p e d
 
--- ---- from what a match on the symbol tells
+-- ---- from a match on the symbol
 
 pub not_text : (s : Symbol) → ((x : Bor (List ℕ)) → s ≡ symbol.Text x → ⊥) → IsText s → ⊥
 not_text (symbol.Attribute a) not is = is
@@ -204,7 +204,7 @@ not_node (symbol.Attribute a) not is = is
 not_node (symbol.Text x) not is = is
 not_node (symbol.Element es) not is = not es refl
 
--- the answer of a test of one string
+-- the result of a test of one string
 taken_in : (a b c : Bool) → (a || (b && c)) ≡ true → (a ≡ true) ⊎ ((b ≡ true) × (c ≡ true))
 taken_in true b c e = inl refl
 taken_in false true c e = inr (refl, e)

@@ -1,4 +1,4 @@
--- The table of local names lists each element, one after another.
+-- The table of local names lists each element, one after the other.
 use Rattle.std.proofs.Common.{◌≡◌, ℕ, ◌+◌, ◌<◌, ◌≤◌, ⊎_elim, List, [], ◌∷◌, ◌++◌, length, slice_get, Option, Some, None, Bool, true, false, cond, nat_eq}
 use Rattle.std.proofs.Common.{refl, ap, sym, ◌∙◌, arith, rules, subst, Bor, Vec, Global}
 use Rattle.std.proofs.lemmas.Bool.{cases_lt, eq-eqb, or_left, or_right}
@@ -34,7 +34,7 @@ kept_old : (b : Bool) (xs : List ℕ) (n k : ℕ) → has_number xs k ≡ true �
 kept_old true xs n k h = has_front xs (n ∷ []) k h
 kept_old false xs n k h = h
 
--- what a list has, it has with more after it or before it
+-- a list has what a part of it has
 pub has_back : (xs ys : List ℕ) (k : ℕ) → has_number ys k ≡ true → has_number (xs ++ ys) k ≡ true
 has_back xs ys k h = list_any-append (λ x. nat_eq k x) xs ys ∙ or_right (has_number xs k) (has_number ys k) h
 
@@ -60,20 +60,20 @@ lists_more t old new n e lists found grown = λ k f less at. ⊎_elim
     ∙ has_last (old o) n)
     (cases_lt k n)
 
--- a number more under a local name
+-- one more number under a local name
 pub one_named : {Z : Type 0} (old new : HashMap (Bor (List ℕ)) (Vec ℕ Global) Z) (others : List ℕ) (n : ℕ) (local : List ℕ) →
     ((q : List ℕ) → listed_under new q ≡ cond (bytes_eq q local) (listed_under old q ++ n ∷ []) (listed_under old q)) →
     (o : Option (List ℕ)) → place_of new others o ≡ cond (is_same_place o (Some local)) (place_of old others o ++ n ∷ []) (place_of old others o)
 one_named old new others n local grown (Some q) = grown q
 one_named old new others n local grown None = refl
 
--- a number more among the others
+-- one more number among the others
 pub one_other : {Z : Type 0} (table : HashMap (Bor (List ℕ)) (Vec ℕ Global) Z) (old new : List ℕ) (n : ℕ) → new ≡ old ++ n ∷ [] →
     (o : Option (List ℕ)) → place_of table new o ≡ cond (is_same_place o None) (place_of table old o ++ n ∷ []) (place_of table old o)
 one_other table old new n grown (Some q) = refl
 one_other table old new n grown None = grown
 
--- a class that is not one name has no local name alone
+-- a class that is not one name has no local name of its own
 pub no_local : (c : NameClass) → ((n : declared.Name) → c ≡ classes.Name n → ⊥) → local_of c ≡ None
 no_local (classes.Name n) not = absurd (not n refl)
 no_local classes.Any not = refl
@@ -82,7 +82,7 @@ no_local (classes.Ns _) not = refl
 no_local (classes.NsExcept' _ _ _) not = refl
 no_local (classes.Choice' _ _) not = refl
 
--- past the last element there is none to list
+-- there is no element to list past the last one
 pub lists_all : (t : Table) (place : Option (List ℕ) → List ℕ) (n m : ℕ) → ListsFirst t place n → slice_get t.elements n ≡ None → ListsFirst t place m
 lists_all t place n m lists none = λ k f less at.
     let past : length t.elements ≤ n = past_from_none t.elements n none in
@@ -92,7 +92,7 @@ lists_all t place n m lists none = λ k f less at.
 pub lists_fewer : (t : Table) (place : Option (List ℕ) → List ℕ) (n m : ℕ) → ListsFirst t place n → m ≤ n → ListsFirst t place m
 lists_fewer t place n m lists fewer = λ k f less at. lists k f (omega arith) at
 
--- an element that stands at the place of its class is a candidate for each name that the class holds
+-- an element at the place of its class is a candidate for each name that the class holds
 pub held_candidate : (table : ElementNames) (c : NameClass) (q : names.Name) (k : ℕ) → In (class_of c) q
     → has_number (place_of table.by_local table.others.items (local_of c)) k ≡ true → has_number (candidates table q.local) k ≡ true
 held_candidate table (classes.Name only) q k i h =

@@ -20,24 +20,24 @@ use Rattle.rng_tree_matcher.specs.declared.pattern_table.TableEntry.{TableEntry}
 abbrev entry_over : Table → (ℕ → tree.Simple ℕ) → TableEntry → tree.Simple ℕ
 entry_over t of r = tree_over t of r.node
 
--- a pattern's tree reads those of its sides alone
+-- the tree of a pattern reads only those of its sides
 node_reads : (t : Table) (n : Node) (i : ℕ) → AreSidesBelow i n → (f g : ℕ → tree.Simple ℕ) → ((k : ℕ) → k < i → f k ≡ g k) → tree_over t f n ≡ tree_over t g n
 node_reads t (node.Group a b) i h f g same = ap₂ (tree.s_joined group) (same a h.0) (same b h.1)
 node_reads t (node.Choice a b) i h f g same = ap₂ (tree.s_joined choice) (same a h.0) (same b h.1)
 node_reads t _ i h f g same = refl
 
--- patterns that were added change no tree
+-- adding patterns changes no tree
 pub tree_stays : (t : Table) (rs ss : List TableEntry) (i : ℕ) → Longer rs ss → i < length rs → tree_of t ss i ≡ tree_of t rs i
 unfolding trees
 tree_stays t rs ss i longer h = numbered.tree_stays s_not_allowed (entry_over t) rs ss longer.0 i longer.1 h
 
--- a pattern's tree is the one over the trees of its sides
+-- the tree of a pattern is the one over the trees of its sides
 pub tree_of-over_children : (t : Table) (rs : List TableEntry) (i : ℕ) (r : TableEntry) → AreSidesBelow i r.node → slice_get rs i ≡ Some r
     → tree_of t rs i ≡ tree_over t (tree_of t rs) r.node
 unfolding trees
 tree_of-over_children t rs i r below found = numbered.tree_of-over_children s_not_allowed (entry_over t) rs i r (node_reads t r.node i below) found
 
--- a pattern that is added at the end stands for its tree over those so far
+-- the tree of a pattern that is added at the end is the one over those so far
 pub tree_of_pushed : (t : Table) (rs : List TableEntry) (r : TableEntry) → tree_of t (rs ++ r ∷ []) (length rs) ≡ tree_over t (tree_of t rs) r.node
 unfolding trees
 tree_of_pushed t rs r = numbered.tree_of_pushed s_not_allowed (entry_over t) rs (rs ++ r ∷ []) r (length rs) refl refl

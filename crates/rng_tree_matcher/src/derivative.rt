@@ -16,7 +16,7 @@ use rng_names::contains;
 use std::alloc::Global;
 use std::collections::{HashMap, HashSet};
 
-/// What a pattern takes: an attribute, a string, or an element that matches these elements of the grammar.
+/// What a pattern takes: an attribute, a string, or an element, given by the elements of the grammar that it matches.
 #[derive(Drop)]
 pub enum Symbol<'a> {
     Attribute(&'a Attr),
@@ -24,10 +24,10 @@ pub enum Symbol<'a> {
     Element(HashSet<usize>),
 }
 
-/// The derivatives by one symbol that are known, by number.
+/// The known derivatives by one symbol, by number.
 pub type Memo = HashMap<usize, usize>;
 
-/// The number of what is left of a pattern after a symbol.
+/// Returns the number of what is left of a pattern after a symbol.
 #[cycle(derivative)]
 pub fn after(
     alloc: Global,
@@ -53,8 +53,8 @@ pub fn after(
     Ok(left)
 }
 
-/// The groups and choices from a pattern down along first sides, and the first side of the last of them, which is no
-/// group or choice or has a known derivative.
+/// Returns the groups and choices from a pattern down along first sides, and the first side of the last of them. That
+/// one is not a group or a choice, or has a known derivative.
 fn first_sides(
     alloc: Global,
     table: &PatternTable,
@@ -74,7 +74,7 @@ fn first_sides(
     Ok((parents, bottom))
 }
 
-/// The first side of a pattern without a known derivative.
+/// Returns the first side of a pattern without a known derivative.
 fn unknown_first(table: &PatternTable, memo: &Memo, number: usize) -> Option<usize>
     requires { number < length table.now }
     ensures { MatchOption result (IsBottom table.now memo.now number) (IsFirstSide table.now number) }
@@ -88,7 +88,7 @@ fn unknown_first(table: &PatternTable, memo: &Memo, number: usize) -> Option<usi
     }
 }
 
-/// The derivative of a pattern that has a known one, or is no group and no choice.
+/// Returns the derivative of a pattern that has a known one, or is not a group or a choice.
 #[cycle(derivative)]
 fn after_bottom(
     alloc: Global,
@@ -114,7 +114,7 @@ fn after_bottom(
     Ok(left)
 }
 
-/// The derivative of a group or choice whose first side has this derivative.
+/// Returns the derivative of a group or choice whose first side has this derivative.
 #[cycle(derivative)]
 fn after_parent(
     alloc: Global,
@@ -157,7 +157,7 @@ fn after_parent(
     }
 }
 
-/// The derivative of a pattern that is no group and no choice.
+/// Returns the derivative of a pattern that is not a group or a choice.
 #[cycle(derivative)]
 fn after_leaf(
     alloc: Global,
@@ -177,7 +177,7 @@ fn after_leaf(
     Ok(left)
 }
 
-/// The derivative of a pattern that is no group and no choice, as a node.
+/// Returns the derivative of a pattern that is not a group or a choice, as a node.
 #[cycle(derivative)]
 fn leaf_after(
     alloc: Global,
@@ -212,14 +212,14 @@ fn leaf_after(
     }
 }
 
-/// What is left of a pattern that takes one thing or none.
+/// Returns what is left of a pattern that takes one thing: empty if it takes it, else notAllowed.
 fn empty_if(takes: bool) -> Node
     ensures { result ≡ (if takes then Node.Empty else Node.NotAllowed) }
 {
     if takes { Node::Empty } else { Node::NotAllowed }
 }
 
-/// Whether an attribute pattern of the grammar matches an attribute.
+/// Returns whether an attribute pattern of the grammar matches an attribute.
 #[cycle(derivative)]
 fn takes_attribute(
     alloc: Global,
@@ -243,7 +243,7 @@ fn takes_attribute(
     }
 }
 
-/// Whether a pattern weakly matches one string alone.
+/// Returns whether a pattern weakly matches one string alone.
 #[cycle(derivative)]
 pub fn takes_text(
     alloc: Global,
@@ -265,7 +265,7 @@ pub fn takes_text(
     Ok(is_taken(alone, empty, text))
 }
 
-/// Whether a string is taken weakly: as it is, or as a blank one in place of nothing.
+/// Returns whether a string is taken weakly: as it is, or ignored because it is blank.
 fn is_taken(alone: bool, empty: bool, text: &str) -> bool
     ensures { result ≡ (alone || (empty && is_blank text.now)) }
 {

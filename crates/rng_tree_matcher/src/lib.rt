@@ -1,9 +1,9 @@
 //! Whether a document matches a simple grammar, by derivatives of patterns.
 //!
-//! `is_valid` answers true exactly where the document is valid by the inference rules of the specification, for every grammar
-//! and every well-formed document. A pattern's derivative by an item matches what may follow that item; patterns are
-//! numbered and equal ones share a number, so that each is judged once for an item, however often the grammar's tree holds
-//! it. Only want of memory keeps the answer back.
+//! `is_valid` returns true exactly if the document is valid by the inference rules of the specification. It serves
+//! every well-formed document, and every grammar without list, data, value, oneOrMore and interleave. The derivative of
+//! a pattern by an item matches what may follow that item. Patterns are numbered and equal ones share a number. So each
+//! is judged once for an item, however often it occurs in the grammar's tree. It fails only when out of memory.
 #![tactic(auto)]
 
 mod derivative;

@@ -1,4 +1,4 @@
-// Which texts are blank, and which elements may have a name.
+// Blank texts, and the elements that may have a name.
 ghost use Rattle.std.specs.Prelude.{◌≡◌, ◌↔◌, ◌++◌, ◌∷◌, [], ℕ, List, Option, IsTrue, IfOk, OnOk, string_bytes, if◌then◌else◌};
 ghost use Rattle.std.specs.Str.{bytes_eq};
 ghost use Rattle.rng_model.specs.datatypes.Texts.{is_blank};
@@ -8,7 +8,7 @@ use rng_model::{ElementId, Name, NameClass, OutOfMemory, SimpleGrammar};
 use std::alloc::Global;
 use std::collections::HashMap;
 
-/// Whether a text is nothing but spaces, tabs and line ends.
+/// Returns whether a text contains only spaces, tabs and line ends.
 pub fn is_blank(text: &str) -> bool
     ensures { result ≡ is_blank text.now }
 {
@@ -17,17 +17,17 @@ pub fn is_blank(text: &str) -> bool
         .all(|byte| matches!(*byte, b' ' | b'\t' | b'\n' | b'\r'))
 }
 
-/// The elements of a grammar by what their class may hold.
+/// The elements of a grammar by the names that their classes may hold.
 #[derive(Drop)]
 pub struct ElementNames<'a> {
-    /// Those whose class is one name, under its local name.
+    /// Those whose class is one name, by its local name.
     by_local: HashMap<&'a str, Vec<usize>>,
     /// The others.
     others: Vec<usize>,
 }
 
 impl<'a> ElementNames<'a> {
-    /// The elements of a grammar, each under its name, or among the others.
+    /// Lists the elements of a grammar, each under its local name or among the others.
     pub fn new(alloc: Global, grammar: &'a SimpleGrammar) -> Result<Self, OutOfMemory>
         ensures { IfOk result (ListsElements grammar.now) }
     {
@@ -42,7 +42,7 @@ impl<'a> ElementNames<'a> {
         Ok(ElementNames { by_local, others })
     }
 
-    /// The elements whose class is one name, with the local name of this one.
+    /// Returns the elements whose class is one name, with the local name of this one.
     pub fn named(&self, name: &Name) -> &[usize]
         ensures { result.now ≡ listed_under self.now.by_local (string_bytes name.now.local) }
     {
@@ -52,7 +52,7 @@ impl<'a> ElementNames<'a> {
         }
     }
 
-    /// The elements whose class is not one name.
+    /// Returns the elements whose class is not one name.
     pub fn others(&self) -> &[usize]
         ensures { result.now ≡ self.now.others.items }
     {
@@ -60,7 +60,7 @@ impl<'a> ElementNames<'a> {
     }
 }
 
-/// Adds the number of an element at the place of its class.
+/// Adds the number of an element to the list for its class.
 fn list_element<'a>(
     by_local: &mut HashMap<&'a str, Vec<usize>>,
     others: &mut Vec<usize>,
@@ -76,7 +76,7 @@ fn list_element<'a>(
     }
 }
 
-/// Adds a number under a local name.
+/// Adds a number to the list for a local name.
 fn list_under<'a>(
     by_local: &mut HashMap<&'a str, Vec<usize>>,
     local: &'a str,

@@ -10,7 +10,7 @@ use std::alloc::Global;
 use std::collections::HashMap;
 use std::marker::Model;
 
-/// One pattern, its sides named by their numbers.
+/// One pattern, with its sides given by their numbers.
 #[derive(Clone, Copy, PartialEq, Eq, Hash)]
 pub enum Node {
     NotAllowed,
@@ -30,7 +30,7 @@ pub struct TableEntry {
     pub nullable: bool,
 }
 
-/// Patterns by number, from 0. The sides of each stand before it.
+/// Patterns by number, from 0. The sides of each are before it.
 #[derive(Drop)]
 pub struct PatternTable {
     patterns: Vec<TableEntry>,
@@ -51,7 +51,7 @@ impl Model for PatternTable {
 }
 
 impl PatternTable {
-    /// No pattern.
+    /// Creates an empty table. Allocates nothing.
     pub fn new(alloc: Global) -> Self
         ensures { length result ≡ 0 }
     {
@@ -61,14 +61,14 @@ impl PatternTable {
         }
     }
 
-    /// How many patterns.
+    /// Returns the number of patterns.
     pub fn len(&self) -> usize
         ensures { result ≡ length self.now }
     {
         self.patterns.len()
     }
 
-    /// The pattern of this number.
+    /// Returns the pattern with this number.
     pub fn at(&self, number: usize) -> TableEntry
         requires { number < length self.now }
         ensures found { slice_get self.now number ≡ Some result }
@@ -79,7 +79,7 @@ impl PatternTable {
         self.patterns[number]
     }
 
-    /// Whether a pattern whose sides are there matches no attribute and no item.
+    /// Returns whether a pattern whose sides are in the table matches no attribute and no item.
     fn is_nullable(&self, node: Node) -> bool
         requires { AreSidesBelow (length self.now) node }
         ensures { (t : Table) → result ≡ is_nullable (tree_over t (tree_of t self.now) node) }
@@ -92,7 +92,7 @@ impl PatternTable {
         }
     }
 
-    /// Adds a pattern whose sides are there.
+    /// Adds a pattern whose sides are in the table.
     pub fn push(&mut self, node: Node) -> Result<usize, OutOfMemory>
         requires { AreSidesBelow (length self.old) node }
         ensures longer { OnOk result (Longer self.old self.new) }
@@ -107,7 +107,8 @@ impl PatternTable {
         Ok(number)
     }
 
-    /// The number that a pattern has. What the map says is a hint, and is compared with the pattern itself.
+    /// Returns the number of a pattern, if it has one. The number in the map is only a hint, and is compared with the
+    /// pattern itself.
     fn known(&self, node: Node) -> Option<usize>
         ensures inside { IfSome result (λ number. number < length self.now) }
         ensures tree { IfSome result (λ number. (t : Table) → tree_of t self.now number ≡ tree_over t (tree_of t self.now) node) }
@@ -120,7 +121,7 @@ impl PatternTable {
         }
     }
 
-    /// The number of a pattern, a new one where it has none.
+    /// Returns the number of a pattern, a new one if it has none.
     pub fn number_of(&mut self, node: Node) -> Result<usize, OutOfMemory>
         requires { AreSidesBelow (length self.old) node }
         ensures { IfOk result (AddsPattern self.old self.new (λ t. tree_over t (tree_of t self.old) node)) }
@@ -131,7 +132,7 @@ impl PatternTable {
         }
     }
 
-    /// A choice of two patterns, without one that matches nothing and without the same one twice.
+    /// Returns a choice of two patterns, without one that matches nothing and without the same one twice.
     pub fn choice(&mut self, first: usize, second: usize) -> Result<usize, OutOfMemory>
         requires first { first < length self.old }
         requires second { second < length self.old }
@@ -150,7 +151,7 @@ impl PatternTable {
         }
     }
 
-    /// Two patterns one after another, without an empty one.
+    /// Returns two patterns one after the other, without an empty one.
     pub fn group(&mut self, first: usize, second: usize) -> Result<usize, OutOfMemory>
         requires first { first < length self.old }
         requires second { second < length self.old }
@@ -169,7 +170,7 @@ impl PatternTable {
     }
 }
 
-/// The patterns of a grammar, each at its position.
+/// Returns a table with the patterns of a grammar, each at its position.
 pub fn table_of(alloc: Global, grammar: &SimpleGrammar) -> Result<PatternTable, OutOfMemory>
     requires table { IsTable grammar.now }
     requires kinds { All IsOfFirstKind grammar.now.patterns }
@@ -185,7 +186,7 @@ pub fn table_of(alloc: Global, grammar: &SimpleGrammar) -> Result<PatternTable, 
     }
 }
 
-/// The node of the grammar's pattern at a position.
+/// Returns the node of the grammar's pattern at a position.
 fn node_of(pattern: &Simple, position: PatternId) -> Node
     ensures { result ≡ node_for pattern.now position }
 {

@@ -1,4 +1,4 @@
-// Which elements of a grammar a node of a document matches, from the leaves up.
+// The elements of a grammar that a node of a document matches, from the leaves up.
 ghost use Rattle.std.specs.Prelude.{All, ◌≡◌, ◌↔◌, ◌<◌, ◌&&◌, length, map, IsTrue, IfOk, OnOk};
 ghost use Rattle.std.specs.List.{list_any};
 ghost use Rattle.rng_model.specs.simple.Table.{IsValidBy, grammar_of};
@@ -21,13 +21,14 @@ use rng_names::contains;
 use std::alloc::Global;
 use std::collections::{HashMap, HashSet};
 
-/// Whether the document with this root is valid by the grammar.
+/// Returns whether the document with this root is valid by the grammar.
 ///
-/// The grammar has no list, data, value, oneOrMore and interleave yet. RELAX NG Specification, section 6.3. Each node is judged once against each element of the grammar with its name, by
-/// its attributes and children in turn; an item takes each numbered pattern once, so time and memory grow with the
-/// document and the numbered patterns and not with the trees that these stand for. Where n children of an element may
-/// each stand in many places of its body, memory grows as n squared and time as n cubed. Recursion goes as deep as the
-/// document and as the second sides of groups and choices. `OutOfMemory` where a growth was refused, and never else.
+/// The grammar has no list, data, value, oneOrMore and interleave. RELAX NG Specification, section 6.3. Each node is
+/// judged once against each element of the grammar with its name, by its attributes and children in turn. An item takes
+/// each numbered pattern once. So time and memory grow with the document and the numbered patterns and not with the
+/// trees that these represent. If n children of an element may each be in many places of its body, memory grows as n
+/// squared and time as n cubed. The recursion is as deep as the document and as the second sides of groups and choices.
+/// Fails only when out of memory.
 pub fn is_valid(alloc: Global, grammar: &SimpleGrammar, root: &Item) -> Result<bool, OutOfMemory>
     requires kinds { All IsOfFirstKind grammar.now.patterns }
     requires well_formed { IsWellFormed (item_of root.now) }
@@ -41,7 +42,7 @@ pub fn is_valid(alloc: Global, grammar: &SimpleGrammar, root: &Item) -> Result<b
     Ok(table.at(rest).nullable)
 }
 
-/// An item as patterns take it: an element by its children, without blank strings where there is an element.
+/// Returns an item as patterns take it: an element by its children, without blank strings if one of them is an element.
 fn symbol_of<'a>(
     alloc: Global,
     grammar: &SimpleGrammar,
@@ -77,21 +78,21 @@ fn symbol_of<'a>(
     }
 }
 
-/// Whether some item is an element.
+/// Returns whether some item is an element.
 fn has_element(items: &[Item]) -> bool
     ensures { result ≡ list_any (λ item. is_element (item_of item)) items.now }
 {
     items.iter().any(is_element)
 }
 
-/// Whether an item is an element.
+/// Returns whether an item is an element.
 fn is_element(item: &Item) -> bool
     ensures { result ≡ is_element (item_of item.now) }
 {
     matches!(item, Item::Element { .. })
 }
 
-/// Whether a child is a blank string that is left out.
+/// Returns whether a child is a blank string that is left out.
 fn is_dropped(drops_blanks: bool, child: &Item) -> bool
     ensures { result ≡ (drops_blanks && is_blank_text (item_of child.now)) }
 {
@@ -101,7 +102,7 @@ fn is_dropped(drops_blanks: bool, child: &Item) -> bool
     }
 }
 
-/// The elements of the grammar that a node with this name, these attributes and this content matches.
+/// Returns the elements of the grammar that a node with this name, these attributes and this content matches.
 fn elements_of(
     alloc: Global,
     grammar: &SimpleGrammar,
@@ -151,7 +152,7 @@ fn add_elements(
     Ok(())
 }
 
-/// Whether an element of the grammar matches a node.
+/// Returns whether an element of the grammar matches a node.
 fn takes_element(
     alloc: Global,
     grammar: &SimpleGrammar,
@@ -175,7 +176,7 @@ fn takes_element(
     takes_content(alloc, grammar, table, content, left)
 }
 
-/// What is left of a pattern after attributes.
+/// Returns what is left of a pattern after attributes.
 fn after_attributes(
     alloc: Global,
     grammar: &SimpleGrammar,
@@ -196,7 +197,7 @@ fn after_attributes(
     Ok(left)
 }
 
-/// Whether a pattern weakly matches the content of an element.
+/// Returns whether a pattern weakly matches the content of an element.
 fn takes_content(
     alloc: Global,
     grammar: &SimpleGrammar,
@@ -219,7 +220,7 @@ fn takes_content(
     }
 }
 
-/// Whether a pattern matches these items.
+/// Returns whether a pattern matches these items.
 fn takes_all(
     alloc: Global,
     grammar: &SimpleGrammar,
@@ -239,7 +240,7 @@ fn takes_all(
     Ok(table.at(left).nullable)
 }
 
-/// What is left of a pattern after one symbol.
+/// Returns what is left of a pattern after one symbol.
 fn after_one(
     alloc: Global,
     grammar: &SimpleGrammar,

@@ -1,4 +1,4 @@
--- Numerals: what `parse` answers where they are short enough.
+-- Numerals: what `parse` returns if they are short enough.
 use Rattle.std.proofs.Common.{◌^◌, codes, nat_le, ◌==◌, ◌≡◌, ℕ, zero, suc, ◌<◌, ◌≤◌, List, [], ◌∷◌, ◌++◌, length, Bool, true, false, ◌&&◌, Some, None, Result}
 use Rattle.std.proofs.Common.{Ok, Err, ℤ, pos, neg_ℤ, cond, refl, ap, ◌∙◌, rules, arith}
 use Rattle.std.specs.Char.{is_ascii_digit}
@@ -37,7 +37,7 @@ IsShort-from most ds e =
     let more = and_parts (list_all is_ascii_digit ds) (nat_le (length ds) most) parts.1 in
     record { some = some_digits ds parts.0; digits = more.0; short = leb-true (length ds) most more.1 }
 
--- what `parse` answers at a length
+-- what `parse` returns for a length
 pub length-parsed : {E : Type 0} (bs : List ℕ) (r : Result ℕ E) → ParsesUnsigned 64 10 bs r → is_decimal most_length_digits bs ≡ true
     → result_ok r ≡ length_of bs
 unfolding length_of
@@ -47,7 +47,7 @@ length-parsed bs r h e =
     let answer = parse_gives own 64 bs r h is.digits is.some (omega (arith, small)) in
     rw (answer, e) refl
 
--- how large the bits of a signed number are
+-- a bound on the bits of a negative number
 mag_neg : (n : ℕ) → mag (neg_ℤ (pos n)) ≤ n
 mag_neg zero = omega arith
 mag_neg (suc n) = omega arith
@@ -64,7 +64,7 @@ parsed_by : {E : Type 0} (bs : List ℕ) (r : Result ℤ E) → ParsesSigned w12
 parsed_by bs (Ok x) h is = ap Some h.1
 parsed_by bs (Err e) h is = absurd (h is)
 
--- what `parse` answers at an integer
+-- what `parse` returns for an integer
 pub integer-parsed : {E : Type 0} (bs : List ℕ) (r : Result ℤ E) → ParsesSigned w128 10 bs r → is_decimal most_digits (without_leading_sign bs) ≡ true
     → result_ok r ≡ integer_of bs
 unfolding integer_of
@@ -74,7 +74,7 @@ integer-parsed bs r h e =
     digits_value_short own (without_leading_sign bs) most_digits is.digits is.short in
     parsed_by bs r h ((is.some, own.to (without_leading_sign bs) is.digits), signed_fits bs small) ∙ rw e refl
 
--- nothing, or a space inside, is no truth value
+-- an empty text, or one with a space inside, is not a truth value
 pub truth-spaced : (v w : List ℕ) → truth_of (v ++ 32 ∷ w) ≡ None
 unfolding truth_of
 truth-spaced v w =
@@ -89,7 +89,7 @@ pub truth-empty : truth_of [] ≡ None
 unfolding truth_of
 truth-empty = refl
 
--- nor a number
+-- and not a number
 sign_spaced : (v w : List ℕ) → list_all is_ascii_digit (without_leading_sign (v ++ 32 ∷ w)) ≡ false
 sign_spaced [] w = refl
 sign_spaced (c ∷ v) w = by_sign (c == 45) (c == 43) refl refl

@@ -1,4 +1,4 @@
--- What is found for a datatype: its type, or the fault that it has.
+-- The result for a datatype: its type, or the fault that it has.
 use Rattle.std.proofs.Common.{◌≡◌, inl, inr, [], Bool, true, false, Option, Some, None, Result, Ok, Err, if◌then◌else◌}
 use Rattle.std.proofs.Common.{codes, refl, sym, ap, subst, ◌∙◌, ◌↔◌}
 use Rattle.std.specs.Str.{bytes_eq}
@@ -17,12 +17,12 @@ use Rattle.rng_types.specs.views.View.{seen}
 use Rattle.rng_types.specs.views.Fault.{HasFault}
 use Rattle.rng_types.specs.views.Finding.{or_bad, chosen, find_type}
 
--- an answer is right: the datatype is that type, or has that fault
+-- a result is right: the datatype is that type, or has that fault
 abbrev IsRight : Datatype → Result BuiltInType TypeFault → Type 0
 IsRight d (Ok t) = HasType d t
 IsRight d (Err f) = HasFault f d
 
--- ---- what is found is right
+-- ---- the result is right
 
 type_then : (d : Datatype) (t : BuiltInType) → type_named d.library d.name ≡ Some t → (o : Option BuiltInType) → with_parameters t d.parameters ≡ o
     → IsRight d (or_bad o)
@@ -80,7 +80,7 @@ one_is_right d (Ok t) (Err f) a b = absurd (typed_is_right d t f a b)
 one_is_right d (Err f) (Ok t) a b = absurd (typed_is_right d t f b a)
 one_is_right d (Err f) (Err g) a b = ap Err (one_fault d f g a b)
 
--- an answer is found exactly if it is right
+-- a result is found exactly if it is right
 pub found_if_right : (d : Datatype) (r : Result BuiltInType TypeFault) → (find_type d.library d.name d.parameters ≡ r) ↔ IsRight d r
 found_if_right d r =
     (λ e. subst (IsRight d) e (find_right d), λ right. one_is_right d (find_type d.library d.name d.parameters) r (find_right d) right)

@@ -28,17 +28,17 @@ joined_other f d [] nil spaced utf8 e = nil
 joined_other f d (p ∷ []) nil spaced utf8 e = search rules
 joined_other f d (p ∷ q ∷ ps) nil spaced utf8 e = spaced p (join_with_byte 32 (q ∷ ps)) utf8.0
 
--- without an only piece, it is empty or has a space
+-- if there is not exactly one piece, it is empty or has a space
 pub collapse-other : {A : Type 0} (f : List ℕ → A) (d : A) (s : List ℕ) → f [] ≡ d → ((v w : List ℕ) → IsUtf8 v → f (v ++ 32 ∷ w) ≡ d) → IsUtf8 s
     → None ≡ only (pieces s) → f (collapse s) ≡ d
 unfolding collapse
 collapse-other f d s nil spaced utf8 e = joined_other f d (pieces s) nil spaced (IsUtf8-pieces s utf8) e
 
--- a test that fails at the space fails of a text with a space inside
+-- a test that fails at the space fails for a text with a space inside
 pub all_fails : (p : ℕ → Bool) (v w : List ℕ) → p 32 ≡ false → list_all p (v ++ 32 ∷ w) ≡ false
 all_fails p v w e = list_all-append p v (32 ∷ w) ∙ and_right (list_all p v) (list_all p (32 ∷ w)) (and_left (p 32) (list_all p w) e)
 
--- so it is not a text whose bytes all pass
+-- so the text is different from one whose bytes all pass
 pub differs : (p : ℕ → Bool) (v w x : List ℕ) → p 32 ≡ false → list_all p x ≡ true → bytes_eq (v ++ 32 ∷ w) x ≡ false
 differs p v w x e all = by_cases (bytes_eq (v ++ 32 ∷ w) x) refl
   where
@@ -70,7 +70,7 @@ length-joined first (w ∷ ws) utf8 all =
       length-joined w ws all.0 all.1,
     )
 
--- how many characters a collapsed text has
+-- the number of characters in a collapsed text
 pub length-collapse : (s first : List ℕ) (ws : List (List ℕ)) → IsUtf8 s → pieces s ≡ first ∷ ws
     → length (chars (collapse s)) ≡ length (chars first) + spaced_count ws
 unfolding collapse
@@ -85,7 +85,7 @@ spaced_fit : (ws : List (List ℕ)) → AllByRecursion IsUtf8 ws → spaced_coun
 spaced_fit [] all = omega arith
 spaced_fit (w ∷ ws) all = omega (arith, chars_fit w all.0, spaced_fit ws all.1)
 
--- they are no more than the bytes of the text
+-- they are at most as many as the bytes of the text
 pub count_fits : (s first : List ℕ) (ws : List (List ℕ)) → IsUtf8 s → pieces s ≡ first ∷ ws → length (chars first) + spaced_count ws ≤ length s
 count_fits s first ws utf8 e =
     let all : AllByRecursion IsUtf8 (first ∷ ws) = subst (AllByRecursion IsUtf8) e (IsUtf8-pieces s utf8) in

@@ -18,11 +18,11 @@ pub is_some-text_if : (passes : Bool) (s : List ℕ) → is_some (text_if passes
 is_some-text_if true s = refl
 is_some-text_if false s = refl
 
--- by the only piece
+-- with exactly one piece
 pub allows-only : (good : List ℕ → Bool) (s w : List ℕ) → Some w ≡ only (pieces s) → good w ≡ is_some (text_if (good (collapse s)) (collapse s))
 allows-only good s w e = ap good (sym (collapse-only s w e)) ∙ sym (is_some-text_if (good (collapse s)) (collapse s))
 
--- without one nothing that the test takes is left
+-- otherwise the test takes nothing
 pub allows-other : (good : List ℕ → Bool) (s : List ℕ) → good [] ≡ false → ((v w : List ℕ) → IsUtf8 v → good (v ++ 32 ∷ w) ≡ false) → IsUtf8 s
     → None ≡ only (pieces s) → false ≡ is_some (text_if (good (collapse s)) (collapse s))
 allows-other good s nil spaced utf8 e = sym (collapse-other good false s nil spaced utf8 e) ∙ sym (is_some-text_if (good (collapse s)) (collapse s))
@@ -37,11 +37,11 @@ chars_none : chars [] ≡ []
 unfolding chars
 chars_none = refl
 
--- a text whose characters pass a test, and are as many as allowed
+-- a text whose characters pass a test, and whose number of characters is allowed
 abbrev pub passes : (List ℕ → Bool) → Lengths → List ℕ → Bool
 passes is_word l w = is_word (chars w) && fits l w
 
--- what is allowed of the texts that collapse to such a text, by the only piece
+-- what is allowed of the texts that collapse to such a text, with exactly one piece
 module _ (is_word : List ℕ → Bool) (l : Lengths) (s : List ℕ) where
   abbrev IsAllowed : Bool → Type 0
   IsAllowed b = b ≡ is_some (text_if (passes is_word l (collapse s)) (collapse s))
@@ -68,7 +68,7 @@ pub nmtoken_space : (v w : List ℕ) → is_nmtoken (v ++ 32 ∷ w) ≡ false
 nmtoken_space [] w = refl
 nmtoken_space (c ∷ v) w = all_fails is_name_char (c ∷ v) w refl
 
--- where the first text is allowed, the two are equal if they are one
+-- if the first text is allowed, the two are equal in the datatype if they are the same
 texts_equal_by : (x y : List ℕ) (gx gy same : Bool) → gx ≡ true → bytes_eq x y ≡ same → (same ≡ true → gy ≡ true)
     → bytes_eq x y ≡ are_equal (text_if gx x) (text_if gy y)
 texts_equal_by x y false gy same e is more = search rules
@@ -82,7 +82,7 @@ texts_equal good x y allowed =
     let passes : good x ≡ true = sym (is_some-text_if (good x) x) ∙ allowed in
     texts_equal_by x y (good x) (good y) (bytes_eq x y) passes refl (λ e. ap good (sym ((bytes_eq-Decides x y).0 e)) ∙ passes)
 
--- where it is not, they are not
+-- if it is not allowed, they are not equal
 pub never_equal : (a b : Option Value) → is_some a ≡ false → are_equal a b ≡ false
 never_equal None b e = refl
 never_equal (Some a) b e = search rules

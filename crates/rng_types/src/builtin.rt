@@ -1,4 +1,4 @@
-// All datatypes, and which one a schema names.
+// All datatypes, and how a schema names them.
 ghost use Rattle.std.specs.Prelude.{◌≡◌, ◌↔◌, map};
 ghost use Rattle.rng_model.specs.datatypes.DatatypeViews.{parameter_of};
 ghost use Rattle.rng_model.specs.datatypes.Datatypes.{BuiltInType, HasType, is_allowed_by, are_equal_by};
@@ -27,23 +27,24 @@ pub enum Builtin {
     Integer(Integer),
 }
 
-/// Why there is no datatype of some library, name and parameters.
+/// Why a library, a name and parameters name no datatype.
 #[derive(Clone, Copy, Debug)]
 pub enum TypeFault {
-    /// There is no library of that uri.
+    /// There is no library with that URI.
     UnknownLibrary,
-    /// The library has no datatype of that name.
+    /// The library has no datatype with that name.
     UnknownType,
     /// The datatype does not take these parameters.
     BadParameter,
 }
 
 impl Builtin {
-    /// The datatype of that library and name, with those parameters.
+    /// Returns the datatype of this library and name, with these parameters.
     ///
-    /// The library that is built in has the empty uri, and the other is `http://www.w3.org/2001/XMLSchema-datatypes`.
-    /// It answers a datatype exactly if there is one, with the bounds that the parameters write, and each fault exactly
-    /// where it holds: no two hold of one datatype. It takes no memory, and reads the parameters a few times.
+    /// The built-in library has the empty URI, and the other one is `http://www.w3.org/2001/XMLSchema-datatypes`.
+    /// Returns a datatype exactly if there is one, with the bounds that the parameters write. Returns each fault
+    /// exactly if it holds. No two faults hold of one datatype. Allocates nothing. The cost is a few passes over the
+    /// parameters.
     pub fn find(lib: &str, name: &str, params: &[(String, String)]) -> Result<Builtin, TypeFault>
         ensures found { (t : BuiltInType) → (seen built_in_type_of result ≡ Ok t) ↔ HasType (datatype_at lib.now name.now params.now) t }
         ensures fault { (f : TypeFault) → (result ≡ Err f) ↔ HasFault f (datatype_at lib.now name.now params.now) }
@@ -64,7 +65,7 @@ fn find_type(lib: &str, name: &str, params: &[(String, String)]) -> Result<Built
     }
 }
 
-// the datatype of the library that is built in
+// the datatype of the built-in library
 #[tactic(auto, unfolding(rng_model::specs::datatypes::DatatypeTests::plain_type_named))]
 fn plain(name: &str, params: &[(String, String)]) -> Result<Builtin, TypeFault>
     ensures { seen built_in_type_of result ≡ chosen (plain_type_named name.now) (map parameter_of params.now) }
@@ -76,7 +77,7 @@ fn plain(name: &str, params: &[(String, String)]) -> Result<Builtin, TypeFault>
     }
 }
 
-// the datatype of the library of XML Schema
+// the datatype of the XML Schema library
 #[tactic(auto, unfolding(rng_model::specs::datatypes::DatatypeTests::xsd_type_named))]
 fn xsd(name: &str, params: &[(String, String)]) -> Result<Builtin, TypeFault>
     ensures { seen built_in_type_of result ≡ chosen (xsd_type_named name.now) (map parameter_of params.now) }

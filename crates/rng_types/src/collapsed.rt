@@ -1,4 +1,4 @@
-// Texts seen as their collapsed forms, which are never built.
+// Texts compared and counted in their collapsed forms, which are never built.
 ghost use Rattle.std.specs.Prelude.{◌≡◌, length, option_copied};
 ghost use Rattle.std.specs.Str.{chars};
 ghost use Rattle.rng_model.specs.datatypes.Blanks.{pieces, collapse};
@@ -6,7 +6,7 @@ ghost use Rattle.rng_types.specs.plain.Pieces.{only};
 
 use rng_model::Pieces;
 
-// the only piece between the blanks of the text
+// the piece between the blanks of the text, if there is only one
 pub(crate) fn only_piece(text: &str) -> Option<&str>
     ensures { option_copied result ≡ only (pieces text.now) }
 {
@@ -18,14 +18,14 @@ pub(crate) fn only_piece(text: &str) -> Option<&str>
     }
 }
 
-// how many characters the text has
+// the number of characters in the text
 pub(crate) fn char_count(text: &str) -> usize
     ensures { result ≡ length (chars text.now) }
 {
     text.chars().count()
 }
 
-// how many characters the text has once it is collapsed
+// the number of characters in the collapsed text
 pub(crate) fn collapsed_char_count(text: &str) -> usize
     ensures { result ≡ length (chars (collapse text.now)) }
 {

@@ -1,11 +1,11 @@
-// Bounds on how many characters a text has.
+// Bounds on the number of characters of a text.
 ghost use Rattle.std.specs.Prelude.{◌≡◌, ℕ, true};
 ghost use Rattle.rng_model.specs.datatypes.Facets.{is_at_least, is_at_most, is_within};
 ghost use Rattle.rng_types.specs.views.View.{lengths_of};
 
-/// The least and the greatest number of characters of a text, where there is one.
+/// The least and the greatest number of characters of a text, if there is one. Both are inclusive.
 ///
-/// XML Schema Part 2, sections 4.3.2 and 4.3.3. A least one above the greatest allows nothing.
+/// XML Schema Part 2, sections 4.3.2 and 4.3.3. A least number above the greatest one allows nothing.
 #[derive(Clone, Copy, Debug)]
 pub struct Lengths {
     pub min: Option<usize>,
@@ -13,7 +13,7 @@ pub struct Lengths {
 }
 
 impl Lengths {
-    /// Whether so many characters are within the bounds.
+    /// Returns whether this number of characters is within the bounds.
     pub fn allow(&self, len: usize) -> bool
         ensures { result ≡ is_within (lengths_of self.now) len }
     {

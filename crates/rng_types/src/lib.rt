@@ -1,7 +1,7 @@
-//! The datatypes of schemas: which texts each allows, and which texts it takes for equal.
+//! The datatypes of schemas: which texts each allows, and which texts are equal in it.
 //!
-//! Each datatype answers by the table of `rng_model/specs/datatypes/Datatypes.antt`, and proves the laws of `Datatype`: texts that
-//! are equal are allowed, and on allowed texts to be equal is an equivalence. No call takes memory.
+//! Each datatype follows the table of `rng_model/specs/datatypes/Datatypes.antt` and proves the laws of `Datatype`:
+//! equal texts are allowed, and equality of allowed texts is an equivalence. No call allocates memory.
 #![tactic(auto)]
 
 mod builtin;

@@ -12,15 +12,15 @@ ghost use Rattle.rng_types.specs.views.View.{bounds_of};
 use crate::collapsed::only_piece;
 use crate::runs::{is_blank, past_blanks};
 
-/// The greatest number of digits of an integer.
+/// The most digits that an integer may have.
 const MOST_DIGITS: usize = 38;
 
-/// The greatest number of digits of a length.
+/// The most digits that a length may have.
 const MOST_LENGTH_DIGITS: usize = 9;
 
-/// The least and the greatest integer, where there is one. Both are inclusive.
+/// The least and the greatest integer, if there is one. Both are inclusive.
 ///
-/// XML Schema Part 2, sections 4.3.7 and 4.3.10. A least one above the greatest allows nothing.
+/// XML Schema Part 2, sections 4.3.7 and 4.3.10. A least integer above the greatest one allows nothing.
 #[derive(Clone, Copy, Debug)]
 pub struct Bounds {
     pub min: Option<i128>,
@@ -28,7 +28,7 @@ pub struct Bounds {
 }
 
 impl Bounds {
-    /// Whether the number is within the bounds.
+    /// Returns whether the number is within the bounds.
     pub fn allow(&self, n: i128) -> bool
         ensures { result ≡ is_inside (bounds_of self.now) n }
     {
@@ -61,7 +61,7 @@ fn is_no_more(max: Option<i128>, n: i128) -> bool
     }
 }
 
-// the truth value that the text stands for once it is collapsed
+// the truth value that the collapsed text writes
 pub(crate) fn truth(text: &str) -> Option<bool>
     ensures { result ≡ truth_of (collapse text.now) }
 {
@@ -83,7 +83,7 @@ fn truth_in(text: &str) -> Option<bool>
     }
 }
 
-// the number that the text stands for once it is collapsed
+// the number that the collapsed text writes
 pub(crate) fn integer(text: &str) -> Option<i128>
     ensures { result ≡ integer_of (collapse text.now) }
 {

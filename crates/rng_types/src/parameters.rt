@@ -42,14 +42,14 @@ pub(crate) fn bounds(params: &[(String, String)]) -> Result<Bounds, TypeFault>
     }
 }
 
-// Each parameter is a bound on lengths, and none stands twice
+// each parameter is a bound on lengths, and none occurs twice
 fn takes_lengths(params: &[(String, String)]) -> bool
     ensures { result ≡ takes_lengths (map parameter_of params.now) }
 {
     are_lengths(params) && stands_once(params, "minLength") && stands_once(params, "maxLength")
 }
 
-// each parameter is a bound on numbers, and none stands twice
+// each parameter is a bound on numbers, and none occurs twice
 fn takes_bounds(params: &[(String, String)]) -> bool
     ensures { result ≡ takes_bounds (map parameter_of params.now) }
 {
@@ -90,7 +90,7 @@ fn is_named(param: &(String, String), name: &str) -> bool
     param.0.as_str() == name
 }
 
-// no two parameters have the name
+// at most one parameter has the name
 fn stands_once(params: &[(String, String)], name: &str) -> bool
     ensures { result ≡ stands_once name.now (map parameter_of params.now) }
 {

@@ -1,11 +1,11 @@
-// The datatypes of the library that is built in.
+// The datatypes of the built-in library.
 ghost use Rattle.rng_model.specs.datatypes.Datatypes.{plain_string, plain_token, is_allowed_by, are_equal_by};
 ghost use Rattle.rng_model.proofs.ValueLaws as laws;
 
 use crate::datatype::Datatype;
 use crate::runs::is_same_collapsed;
 
-/// `string` of the library that is built in: every text, and each is equal to itself alone.
+/// `string` of the built-in library: every text is allowed, and each is equal only to itself.
 ///
 /// RELAX NG Specification, section 6.2.9.
 #[derive(Clone, Copy, Debug)]
@@ -33,7 +33,7 @@ impl Datatype for PlainString {
     }
 }
 
-/// `token` of the library that is built in: every text, and texts are equal that collapse to the same.
+/// `token` of the built-in library: every text is allowed, and texts that collapse to the same text are equal.
 ///
 /// RELAX NG Specification, section 6.2.9.
 #[derive(Clone, Copy, Debug)]

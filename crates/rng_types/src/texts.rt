@@ -12,7 +12,7 @@ use crate::runs::is_same_collapsed;
 use crate::words::{ascii_word, starts_name};
 use rng_model::{is_name_char, is_ncname};
 
-/// `string`: every text whose characters are as many as allowed, and each is equal to itself alone.
+/// `string`: every text whose number of characters is allowed. Each text is equal only to itself.
 ///
 /// XML Schema Part 2, section 3.2.1.
 #[derive(Clone, Copy, Debug)]
@@ -42,8 +42,8 @@ impl Datatype for XsdString {
     }
 }
 
-/// `token`: every text that has as many characters as allowed once it is collapsed, and texts are equal that collapse
-/// to the same.
+/// `token`: every text whose number of characters, once it is collapsed, is allowed. Texts that collapse to the same
+/// text are equal.
 ///
 /// XML Schema Part 2, section 3.3.2.
 #[derive(Clone, Copy, Debug)]
@@ -73,8 +73,8 @@ impl Datatype for XsdToken {
     }
 }
 
-/// `NCName`: every text that collapses to a name without a colon, with as many characters as allowed. Texts are equal
-/// that collapse to the same.
+/// `NCName`: every text that collapses to a name without a colon, with an allowed number of characters. Texts that
+/// collapse to the same text are equal.
 ///
 /// XML Schema Part 2, section 3.3.7.
 #[derive(Clone, Copy, Debug)]
@@ -112,8 +112,8 @@ impl Datatype for NcName {
     }
 }
 
-/// `NMTOKEN`: every text that collapses to one or more characters of names, as many as allowed. Texts are equal that
-/// collapse to the same.
+/// `NMTOKEN`: every text that collapses to one or more name characters, in an allowed number. Texts that collapse to
+/// the same text are equal.
 ///
 /// XML Schema Part 2, section 3.3.4.
 #[derive(Clone, Copy, Debug)]
@@ -149,7 +149,7 @@ impl Datatype for NmToken {
     }
 }
 
-// the text is one or more characters of names
+// whether the text is one or more name characters
 fn is_nmtoken(text: &str) -> bool
     ensures { result ≡ is_nmtoken (chars text.now) }
 {

@@ -6,7 +6,8 @@ ghost use Rattle.rng_types.specs.views.View.{bounds_of};
 use crate::datatype::Datatype;
 use crate::numerals::{Bounds, integer, is_integer, truth};
 
-/// `boolean`: `true` and `1`, which are equal, and `false` and `0`, which are equal, with blanks around them or not.
+/// `boolean`: `true` and `1`, which are equal, and `false` and `0`, which are equal, with or without blanks around
+/// them.
 ///
 /// XML Schema Part 2, section 3.2.2.
 #[derive(Clone, Copy, Debug)]
@@ -37,10 +38,10 @@ impl Datatype for Boolean {
     }
 }
 
-/// `integer`: a sign, which may be left out, and 1 to 38 digits, with blanks around them or not, within the bounds.
-/// Texts are equal that write the same number.
+/// `integer`: an optional sign and 1 to 38 digits, with or without blanks around them, within the bounds. Texts that
+/// write the same number are equal.
 ///
-/// XML Schema Part 2, section 3.3.13, whose numerals have any number of digits.
+/// XML Schema Part 2, section 3.3.13, where numerals have any number of digits.
 #[derive(Clone, Copy, Debug)]
 pub struct Integer {
     pub bounds: Bounds,

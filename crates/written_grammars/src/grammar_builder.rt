@@ -1,4 +1,4 @@
-// Grammars, built of what fits.
+// Grammars, built from what fits.
 ghost use Rattle.std.specs.Bool.{OnTrue};
 ghost use Rattle.rng_model.specs.datatypes.Datatypes.{IsKnownDatatype};
 ghost use Rattle.rng_model.specs.simple.Table.{AreChildrenBelow, IsClassPaired, IsDatatypeKnown, IsLeafListed, IsPaired};
@@ -9,7 +9,7 @@ use rng_types::Builtin;
 use std::alloc::Global;
 use std::marker::Model;
 
-/// A grammar that is being built, with refs to this many elements; it notes what it could not take.
+/// A grammar that is being built, with refs to this many elements. It records whether something was rejected.
 #[derive(Drop)]
 pub struct GrammarBuilder {
     patterns: Vec<Simple>,
@@ -38,6 +38,7 @@ impl Model for GrammarBuilder {
 }
 
 impl GrammarBuilder {
+    /// Creates a builder without patterns, for a grammar with this many elements.
     pub fn new(alloc: Global, count: usize) -> Self {
         GrammarBuilder {
             patterns: Vec::new(alloc),
@@ -47,7 +48,7 @@ impl GrammarBuilder {
         }
     }
 
-    /// Adds a pattern whose children are there.
+    /// Adds a pattern whose children are there, or rejects it.
     pub fn add(&mut self, pattern: Simple) {
         if !fits(&pattern, self.patterns.len(), self.count) {
             self.is_whole = false;
@@ -58,17 +59,17 @@ impl GrammarBuilder {
         }
     }
 
-    /// Notes that something was not taken.
+    /// Records that something was rejected.
     pub fn refuse(&mut self) {
         self.is_whole = false;
     }
 
-    /// The last pattern.
+    /// Returns the last pattern.
     pub fn last(&self) -> PatternId {
         PatternId(self.patterns.len().saturating_sub(1))
     }
 
-    /// Adds the next element, with any name class whose choices have two members each.
+    /// Adds the next element. The choices of its name class must have two members each.
     pub fn list(&mut self, class: NameClass, body: PatternId) {
         if body.0 >= self.patterns.len() || !is_paired(&class) {
             self.is_whole = false;
@@ -79,7 +80,7 @@ impl GrammarBuilder {
         }
     }
 
-    /// The grammar, where all was taken and all its elements are listed.
+    /// Returns the grammar, if nothing was rejected and all its elements are listed.
     pub fn finish(self, start: PatternId) -> Option<SimpleGrammar> {
         if !self.is_whole || self.elements.len() != self.count || start.0 >= self.patterns.len() {
             return None;
@@ -88,7 +89,7 @@ impl GrammarBuilder {
     }
 }
 
-/// Whether each choice in a class has two members.
+/// Returns true only if each choice in a class has two members.
 fn is_paired(class: &NameClass) -> bool
     ensures { OnTrue result (IsPaired class.now) }
 {
@@ -102,14 +103,15 @@ fn is_paired(class: &NameClass) -> bool
     }
 }
 
-/// Whether a datatype is known, with parameters that it takes.
+/// Returns true only if a datatype is known, with parameters that it takes.
 fn is_known(library: &str, name: &str, parameters: &[(String, String)]) -> bool
     ensures { OnTrue result (IsKnownDatatype (datatype_at library.now name.now parameters.now)) }
 {
     Builtin::find(library, name, parameters).is_ok()
 }
 
-/// Whether the children of a pattern are below `next`, its ref below `count`, its name class is paired, and its datatype is known.
+/// Returns true only if the children of a pattern are below `next`, its ref is below `count`, its name class is paired,
+/// and its datatype is known.
 fn fits(pattern: &Simple, next: usize, count: usize) -> bool
     ensures tables { OnTrue result (AreChildrenBelow next pattern.now × IsLeafListed count pattern.now × IsClassPaired pattern.now) }
     ensures known { OnTrue result (IsDatatypeKnown pattern.now) }

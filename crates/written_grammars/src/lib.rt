@@ -1,4 +1,4 @@
-//! Simple grammars from rows of cases, whatever their tables, for the programs that call a crate on them.
+//! Simple grammars from rows of cases, with any tables, for the programs that call a crate on them.
 #![tactic(auto)]
 
 mod grammar_builder;

@@ -5,11 +5,11 @@ use rng_model::{
 };
 use std::alloc::{AllocError, Global};
 
-/// The grammar with this many elements whose tables are written so: its patterns and elements, parted by `; `.
+/// Reads the grammar with this many elements and these tables: its patterns and elements, separated by `; `.
 ///
-/// The patterns are `notAllowed`, `empty`, `text`, `data`, `value`, `eN` for a ref to the element N, `@CLASS N`, `list N`,
-/// `except N`, `N+`, `N,M`, `N&M` and `N|M`, and `attributes K` for K lists of 500 attributes of different names with the pattern 0
-/// each, joined by groups. An element is `CLASS N`, its body N; `start N` is the start.
+/// The patterns are `notAllowed`, `empty`, `text`, `data`, `value`, `eN` for a ref to the element N, `@CLASS N`, `list
+/// N`, `except N`, `N+`, `N,M`, `N&M` and `N|M`. `attributes K` is K lists of 500 attributes with different names and
+/// the pattern 0 each, joined by groups. An element is `CLASS N`, with the body N. `start N` is the start.
 pub fn read_grammar(alloc: Global, count: &str, tables: &str) -> Option<SimpleGrammar> {
     let mut builder = GrammarBuilder::new(alloc, number_of(count));
     let mut start = PatternId(0);
@@ -46,18 +46,18 @@ fn add_made(builder: &mut GrammarBuilder, made: Result<Simple, AllocError>) {
     }
 }
 
-/// An attribute of names of this class.
+/// Returns an attribute with names of this class.
 fn attribute_of(alloc: Global, class: &str, body: PatternId) -> Result<Simple, AllocError> {
     let class = class_of(alloc, class)?;
     Ok(Simple::Attribute(Box::new(alloc, class)?, body))
 }
 
-/// A datatype that excepts a pattern.
+/// Returns a datatype that excepts a pattern.
 fn except_of(alloc: Global, body: PatternId) -> Result<Simple, AllocError> {
     Ok(Simple::DataExcept(some_datatype(alloc)?, body))
 }
 
-/// A pattern that is one word.
+/// Returns a pattern that is one word.
 fn pattern_of(alloc: Global, word: &str) -> Result<Simple, AllocError> {
     if let Some((first, second)) = word.split_once(',') {
         return Ok(Simple::Group(place(first), place(second)));
@@ -89,7 +89,7 @@ fn number_of(digits: &str) -> usize {
     digits.parse::<usize>().unwrap_or(0)
 }
 
-/// The datatype `token` of the library that is built in.
+/// Returns the datatype `token` of the built-in library.
 fn some_datatype(alloc: Global) -> Result<Box<Datatype>, AllocError> {
     let datatype = Datatype {
         library: String::new(alloc),
@@ -99,7 +99,7 @@ fn some_datatype(alloc: Global) -> Result<Box<Datatype>, AllocError> {
     Ok(Box::new(alloc, datatype)?)
 }
 
-/// The empty text of that datatype.
+/// Returns the empty text as a value of that datatype.
 fn some_value(alloc: Global) -> Result<Simple, AllocError> {
     let value = DatatypeValue {
         library: String::new(alloc),
@@ -109,7 +109,7 @@ fn some_value(alloc: Global) -> Result<Simple, AllocError> {
     Ok(Simple::Value(Box::new(alloc, value)?))
 }
 
-/// A name class: `*`, `NS:*`, a name, `*-NAME` for every name but one, or `A|B` for two classes.
+/// Returns a name class: `*`, `NS:*`, a name, `*-NAME` for every name but one, or `A|B` for two classes.
 fn class_of(alloc: Global, written: &str) -> Result<NameClass, AllocError> {
     if let Some((first, second)) = written.split_once('|') {
         let members = vec![in alloc; one_class(alloc, first)?, one_class(alloc, second)?]?;
@@ -118,7 +118,7 @@ fn class_of(alloc: Global, written: &str) -> Result<NameClass, AllocError> {
     one_class(alloc, written)
 }
 
-/// A name class that is no choice.
+/// Returns a name class that is not a choice.
 fn one_class(alloc: Global, written: &str) -> Result<NameClass, AllocError> {
     if let Some(name) = written.strip_prefix("*-") {
         return Ok(NameClass::AnyExcept(Box::new(alloc, named(alloc, name)?)?));
@@ -130,7 +130,7 @@ fn one_class(alloc: Global, written: &str) -> Result<NameClass, AllocError> {
     }
 }
 
-/// The class of a name without a namespace.
+/// Returns the class of a name without a namespace.
 fn named(alloc: Global, local: &str) -> Result<NameClass, AllocError> {
     Ok(NameClass::Name(Name {
         ns: String::new(alloc),
@@ -138,7 +138,7 @@ fn named(alloc: Global, local: &str) -> Result<NameClass, AllocError> {
     }))
 }
 
-/// Adds lists of attributes, each joined by a group with what stands before it.
+/// Adds lists of attributes, each joined by a group to the pattern before it.
 fn add_attributes(alloc: Global, builder: &mut GrammarBuilder, lists: usize) {
     for list in 0..lists {
         let before = builder.last();
@@ -147,7 +147,7 @@ fn add_attributes(alloc: Global, builder: &mut GrammarBuilder, lists: usize) {
     }
 }
 
-/// Adds a list of attributes of different names, joined by groups.
+/// Adds a list of attributes with different names, joined by groups.
 fn add_list(alloc: Global, builder: &mut GrammarBuilder, list: usize) {
     builder.add(Simple::Empty);
     for number in 0..500 {

@@ -11,6 +11,16 @@ DESCRIPTION = """A language server for RELAX NG schemas in the compact syntax, a
 standard streams, and reads no file but schemas. The variable RNCV_LIBRARY names the library. docs/EDITORS.md says how to set up editors."""
 
 
+def failed(why: str) -> int:
+    """Tells why the server ends, where there is a standard error, and answers the exit status."""
+    if sys.stderr is not None:
+        try:
+            print(f"rncv-lsp: {why}", file=sys.stderr, flush=True)
+        except OSError:
+            pass
+    return 1
+
+
 def main() -> None:
     """Runs the server, and ends the process with its status."""
     parser = argparse.ArgumentParser(prog="rncv-lsp", description=DESCRIPTION)
@@ -22,6 +32,8 @@ def main() -> None:
     except ImportError as error:
         print(f"rncv-lsp: {error}: it wants the folder `tools` around it, as in the repository", file=sys.stderr)
         sys.exit(2)
+    if sys.stdin is None or sys.stdout is None:
+        sys.exit(failed("a standard stream is closed"))
     source, sink = sys.stdin.buffer, sys.stdout.buffer
     # What anything else prints goes elsewhere.
     sys.stdout = sys.stderr
@@ -29,5 +41,7 @@ def main() -> None:
         status = Server(source, sink).run()
     except KeyboardInterrupt:
         status = 130
+    except OSError as error:
+        status = failed(f"standard input: {error.strerror}")
     # Threads that judge are not waited for.
     os._exit(status)

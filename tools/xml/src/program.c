@@ -50,7 +50,8 @@ static bool write_all(int file, const char *bytes, size_t length) {
         if (written < 0 && errno == EINTR) {
             continue;
         }
-        if (written < 0) {
+        if (written <= 0) {
+            errno = written == 0 ? EIO : errno;
             return false;
         }
         bytes += written;

@@ -1,7 +1,7 @@
--- Where a line is cut, from left to right, and what its escapes stand for.
+-- Where a line is cut, from left to right, and what its escapes represent.
 use Rattle.std.specs.Prelude.{ℕ, ◌==◌, if◌then◌else◌, List, [], ◌∷◌, ◌++◌, Option, Some, None}
 
--- what stands after this byte in front
+-- the bytes after the first one, if that is this byte
 abbrev pub behind : ℕ → List ℕ → Option (List ℕ)
 behind k [] = None
 behind k (c ∷ cs) = if c == k then Some cs else None
@@ -19,17 +19,17 @@ unfoldable pub at_byte : ℕ → List ℕ → Option (List ℕ × List ℕ)
 at_byte k [] = None
 at_byte k (c ∷ cs) = if c == k then Some ([], cs) else at_front c (at_byte k cs)
 
--- after a backslash: what the escape stands for, and the rest
+-- after a backslash: the character that the escape represents, and the rest
 abbrev pub escape_of : List ℕ → Option (ℕ × List ℕ)
 escape_of [] = None
 escape_of (c ∷ cs) = if c == 110 then Some (10, cs) else (if c == 116 then Some (9, cs) else (if c == 92 then Some (92, cs) else None))
 
--- with this in front, where there is something
+-- with this in front, if there is something
 abbrev pub in_front : List ℕ → Option (List ℕ) → Option (List ℕ)
 in_front front None = None
 in_front front (Some rest) = Some (front ++ rest)
 
--- what a text stands for, its escapes replaced
+-- the characters of a text with its escapes replaced
 unfoldable mutual
   pub unescaped : List ℕ → Option (List ℕ)
   unescaped [] = Some []

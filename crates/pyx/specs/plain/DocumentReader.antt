@@ -11,14 +11,14 @@ use Rattle.pyx.specs.plain.Cuts.{behind}
 use Rattle.pyx.specs.plain.LineReader.{said_of}
 use Rattle.pyx.specs.plain.TagReader.{Declared, Element, declared_by, same_written, tag_read}
 
--- a tag: its name, and its `A` lines by what they are, each in order; and how many bytes its lines have
+-- a tag: its name, its `A` lines (declarations, and others), each in order, and the number of bytes in its lines
 pub record Tag : Type 0 where
   pub name : WrittenName
   pub declared : List WrittenAttribute
   pub others : List WrittenAttribute
   pub bytes : ℕ
 
--- an element whose end was not read
+-- an element whose end has not been read
 pub record Open : Type 0 where
   pub name : WrittenName
   pub declared : List WrittenAttribute
@@ -41,7 +41,7 @@ tag_bytes (Some t) = t.bytes
 
 -- ---- turns
 
--- what reading gives, and the events that were handed out
+-- the result of reading, and the events that were handed out
 abbrev pub Turn : Type 0 → Type 0
 Turn A = Result A Fault × List Event
 
@@ -58,7 +58,7 @@ abbrev pub go_on : {A B : Type 0} → Result A Fault → List Event → (A → T
 go_on (Ok a) es f = after_events es (f a)
 go_on (Err e) es f = (Err e, es)
 
--- a turn, and then another
+-- a turn, followed by another
 abbrev pub followed : {A B : Type 0} → Turn A → (A → Turn B) → Turn B
 followed turn f = go_on turn.0 turn.1 f
 
@@ -79,15 +79,15 @@ abbrev pub close_tag : Option Tag → State → Turn State
 close_tag None s = silent s
 close_tag (Some t) s = tag_closed (tag_read (declared_in s.opened) t.name t.declared t.others) t s
 
--- a line with these bytes comes next: unless it belongs to the tag, the tag is whole
+-- a line with these bytes comes next: unless it belongs to the tag, the tag is complete
 unfoldable pub tag_ended : List ℕ → State → Turn State
 tag_ended bytes s = if is_some (behind 65 bytes) then silent s else close_tag s.tag s
 
--- the joined text is whole
+-- the joined text is complete
 unfoldable pub text_ended : State → Turn State
 text_ended s = if length s.joined == 0 then silent s else (Ok (record s { joined = [] }), record { line = s.count; kind = a_string s.joined } ∷ [])
 
--- ---- what a line says
+-- ---- the content of a line
 
 abbrev pub begin_tag : ℕ → WrittenName → State → State
 begin_tag bytes name s = record s { tag = Some (record { name = name; declared = []; others = []; bytes = bytes }); root = true }
@@ -116,7 +116,7 @@ unfoldable pub joined_by : List ℕ → State → Turn State
 joined_by value s = if is_outside s then fault 9 s.count else
     (if nat_le (length s.joined + length value) text_limit then silent (record s { joined = s.joined ++ value }) else fault 10 s.count)
 
--- the elements around the innermost
+-- the elements around the innermost one
 abbrev pub around : List Open → List Open
 around [] = []
 around (o ∷ outer) = outer
@@ -130,7 +130,7 @@ end_in (o ∷ outer) name s = if same_written o.name name
 unfoldable pub ended : WrittenName → State → Turn State
 ended name s = end_in s.opened name s
 
--- a line of so many bytes that says this
+-- a line of this many bytes with this content
 unfoldable pub said_read : ℕ → Said → State → Turn State
 said_read bytes (lines.start name) s = started bytes name s
 said_read bytes (lines.attribute name value) s = attributed bytes (record { name = name; content = value }) s
@@ -163,7 +163,7 @@ abbrev pub fault_at_end : Option Tag → State → Option Fault
 fault_at_end (Some t) s = unfinished s.count (tag_read (declared_in s.opened) t.name t.declared t.others)
 fault_at_end None s = if s.root && is_outside s then None else Some (record { clause = 13; line = s.count })
 
--- nothing comes behind these lines
+-- the document ends after these lines
 unfoldable pub at_end : State → Option Fault
 at_end s = fault_at_end s.tag s
 

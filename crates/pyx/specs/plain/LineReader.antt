@@ -1,4 +1,5 @@
--- What one line says, read from left to right, or the first clause that it breaks by itself in the order in which they are judged.
+-- The content of one line, read from left to right, or the first clause that it breaks by itself, in the order in which
+-- clauses are judged.
 use Rattle.std.specs.Prelude.{ℕ, nat_le, Bool, ◌&&◌, List, Option, Some, None, length, Result, Ok, Err, if◌then◌else◌}
 use Rattle.std.specs.List.{list_all}
 use Rattle.std.specs.Str.{chars, is_utf8}
@@ -22,7 +23,7 @@ are_ncnames (Some p) bytes = is_ncname (chars p.0) && is_ncname (chars p.1)
 unfoldable pub is_name : List ℕ → Bool
 is_name bytes = are_ncnames (at_byte 58 bytes) bytes
 
--- what was read, or the clause that is broken
+-- the result of reading, or the clause that is broken
 abbrev pub Read : Type 0 → Type 0
 Read A = Result A ℕ
 

@@ -1,4 +1,4 @@
--- Slots of local names: names that are one have one slot.
+-- Slots of names: equal names have the same slot.
 use Rattle.std.specs.Prelude.{◌≡◌, ℕ, ◌*◌, ◌/◌, ◌%◌, ◌^◌, List, Bool, false, true, bit_xor, slice_index_or}
 use Rattle.std.specs.List.{AllByRecursion, fold}
 use Rattle.rng_model.specs.matching.Document.{Attribute}
@@ -17,6 +17,9 @@ slot_of local = hash_of local % 4096
 abbrev pub is_met : List Bool → List ℕ → Bool
 is_met slots local = slice_index_or slots (slot_of local) false
 
--- the slots of all are
+-- the slots of all names are set
 abbrev pub AreMet : List Bool → List Attribute → Type 0
 AreMet slots attrs = AllByRecursion (λ a. is_met slots a.name.local ≡ true) attrs
+
+abbrev pub AreAllMet : List Bool → List (List ℕ) → Type 0
+AreAllMet slots names = AllByRecursion (λ name. is_met slots name ≡ true) names

@@ -1,4 +1,4 @@
--- What a whole tag says: its declarations applied, or the first clause that it breaks.
+-- The content of a whole tag: its declarations applied, or the first clause that it breaks.
 use Rattle.std.specs.Prelude.{ℕ, ◌==◌, Bool, true, false, not, ◌&&◌, ◌||◌, List, [], ◌∷◌, length, codes, Option, Some, None, Result, Ok, Err, if◌then◌else◌}
 use Rattle.std.specs.Str.{bytes_eq}
 use Rattle.rng_model.specs.names.Names.{Name}
@@ -12,7 +12,7 @@ Declared = List (List WrittenAttribute)
 
 -- ---- declarations
 
--- which prefix is declared, or the default namespace: by `xmlns` alone the latter
+-- which prefix is declared, or the default namespace (`xmlns` alone declares it)
 abbrev pub declared_prefix : Option (List ℕ) → List ℕ → Option (Option (List ℕ))
 declared_prefix None local = if bytes_eq local xmlns then Some None else None
 declared_prefix (Some p) local = if bytes_eq p xmlns then Some (Some local) else None
@@ -36,7 +36,7 @@ unfoldable pub any_forbidden : List WrittenAttribute → Bool
 any_forbidden [] = false
 any_forbidden (a ∷ more) = is_forbidden a || any_forbidden more
 
--- ---- what a name stands for
+-- ---- names and their namespaces
 
 abbrev pub same_prefix : Option (List ℕ) → Option (List ℕ) → Bool
 same_prefix None None = true
@@ -48,12 +48,12 @@ abbrev pub declares : Option (Option (List ℕ)) → Option (List ℕ) → Bool
 declares None p = false
 declares (Some q) p = same_prefix q p
 
--- as what the tag declares the prefix, or the default namespace
+-- the namespace that the tag declares for the prefix, or the default one
 unfoldable pub found_in : Option (List ℕ) → List WrittenAttribute → Option (List ℕ)
 found_in p [] = None
 found_in p (a ∷ more) = if declares (declared_by a.name) p then Some a.content else found_in p more
 
--- what is declared beforehand
+-- the declarations that hold before any other
 abbrev pub beforehand : Option (List ℕ) → Option (List ℕ)
 beforehand None = Some []
 beforehand (Some p) = if bytes_eq p (codes "xml") then Some xml_uri else None
@@ -89,7 +89,7 @@ unfoldable pub expanded : Declared → List WrittenAttribute → Option (List At
 expanded scope [] = Some []
 expanded scope (a ∷ more) = and_more (attribute_name scope a.name) a.content (expanded scope more)
 
--- ---- names that stand twice
+-- ---- names that occur twice
 
 abbrev pub same_written : WrittenName → WrittenName → Bool
 same_written a b = same_prefix a.prefix b.prefix && bytes_eq a.local b.local
@@ -115,7 +115,7 @@ is_named_twice (a ∷ more) = is_named_in a.name more || is_named_twice more
 
 -- ---- the tag
 
--- a start, its names expanded
+-- a start with expanded names
 pub record Element : Type 0 where
   pub name : Name
   pub attrs : List Attribute
@@ -129,8 +129,9 @@ abbrev pub with_name : Option Name → List WrittenAttribute → Option (List At
 with_name None declared attrs = Err 11
 with_name (Some name) declared attrs = with_attributes name declared attrs
 
--- A tag with this name, these declarations and these other `A` lines, inside the tags that declare these. Two of the `A` lines have one name as
--- they are written, if two of the declarations have, or if two attributes have one name.
+-- A tag with this name, these declarations and these other `A` lines, inside the tags that declare these. Two of the
+-- `A` lines have the same name as they are written if two of the declarations have, or if two attributes have the same
+-- name.
 unfoldable pub tag_read : Declared → WrittenName → List WrittenAttribute → List WrittenAttribute → Result Element ℕ
 tag_read outer name declared others = if any_forbidden declared then Err 11
     else with_name (element_name (declared ∷ outer) name) declared (expanded (declared ∷ outer) others)

@@ -9,7 +9,7 @@ use Rattle.pyx.specs.plain.Pieces.{Progress}
 abbrev pub plus : ℕ → ℕ → ℕ
 plus a b = min (a + b) (2 ^ 64 - 1)
 
--- names as they are written, and what values stand for
+-- names as they are written, and values with escapes replaced
 unfoldable pub declarations_held : List WrittenAttribute → ℕ
 declarations_held [] = 0
 declarations_held (a ∷ more) = plus (plus (name_length a.name) (length a.content)) (declarations_held more)

@@ -1,5 +1,5 @@
--- What the values of the code are, and what a call that may run out of memory answers.
-use Rattle.std.specs.Prelude.{◌≡◌, List, [], map, if◌then◌else◌}
+-- The views of the values of the code, and the results of calls that may run out of memory.
+use Rattle.std.specs.Prelude.{◌≡◌, ℕ, List, [], map, if◌then◌else◌}
 use Rattle.std.specs.Prelude.{Result, Ok, Err, Option, Some, None, string_bytes}
 use Rattle.rng_model.specs.documents.Lines as lines
 use Rattle.rng_model.specs.documents.PyxFaults.{Fault}
@@ -19,9 +19,9 @@ use Rattle.pyx.specs.plain.Pieces.{Progress}
 abbrev pub line_of : Line → lines.Line
 line_of l = record { bytes = l.bytes.now; ended = l.ended }
 
-abbrev pub tag_of : Tag → reader.Tag
-tag_of t = record {
-  name = written_of (string_bytes t.name);
+abbrev pub tag_of : List ℕ → Tag → reader.Tag
+tag_of name t = record {
+  name = written_of name;
   declared = map written_attribute t.declarations.items;
   others = map written_attribute t.others.items;
   bytes = t.bytes;
@@ -29,29 +29,29 @@ tag_of t = record {
 
 abbrev pub state_of : State → reader.State
 state_of s = record {
-  tag = if s.in_tag then Some (tag_of s.tag) else None;
+  tag = if s.in_tag then Some (tag_of s.elements.begun s.tag) else None;
   opened = s.elements.opened;
   joined = string_bytes s.joined;
   root = s.root;
   count = s.lines;
 }
 
--- what a fault says of a document: nothing, where memory ran out
+-- the fault that is broken in a document; none if memory ran out
 abbrev pub broken_by : PyxFault → Option Fault
 broken_by faults_at.Memory = None
 broken_by (faults_at.At clause line) = Some (record { clause = clause; line = line })
 
--- What a call answered is what this turn gives, unless memory ran out.
+-- The call returned what this turn gives, unless memory ran out.
 abbrev pub Takes : {A S : Type 0} → Result A PyxFault → S → (List Event → Type 0) → Turn S → Type 0
 Takes (Ok x) new handed turn = (turn.0 ≡ Ok new) × handed turn.1
 Takes (Err faults_at.Memory) new handed turn = Unit {0}
 Takes (Err (faults_at.At clause line)) new handed turn = (turn.0 ≡ Err (record { clause = clause; line = line })) × handed turn.1
 
--- The same of a call that hands out nothing.
+-- The same for a call that hands out nothing.
 abbrev pub Adds : {A S : Type 0} → Result A PyxFault → S → Turn S → Type 0
 Adds result new turn = Takes result new (λ es. es ≡ []) turn
 
--- What a call answered is this fault, or none, unless memory ran out.
+-- The call returned this fault, or none, unless memory ran out.
 abbrev pub IsFault : PyxFault → Option Fault → Type 0
 IsFault faults_at.Memory fault = Unit {0}
 IsFault (faults_at.At clause line) fault = fault ≡ Some (record { clause = clause; line = line })
@@ -63,7 +63,7 @@ EndsBy (Err e) fault = IsFault e fault
 abbrev pub progress_of : Pieces → Progress
 progress_of p = record { begun = p.begun.items; state = state_of p.state }
 
--- What a call that ends a document answered is what this turn gives, unless memory ran out.
+-- The call that ends a document returned what this turn gives, unless memory ran out.
 abbrev pub Concludes : {A S : Type 0} → Result A PyxFault → (List Event → Type 0) → Turn S → Type 0
 Concludes (Ok x) handed turn = ((s : _) × (turn.0 ≡ Ok s)) × handed turn.1
 Concludes (Err faults_at.Memory) handed turn = Unit {0}

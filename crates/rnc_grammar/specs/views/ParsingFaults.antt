@@ -1,4 +1,4 @@
--- Which file tree tokens or a syntax tree have, and which clause they break where they have none.
+-- Which file tree tokens or a syntax tree have, or which clause they break.
 use Rattle.std.specs.Prelude.{◌≡◌, ◌⊎◌, List, Option, Some, None}
 use Rattle.rnc_model.specs.declarations.DeclarationRules.{BreaksDeclarationRule}
 use Rattle.rnc_model.specs.declarations.Declarations.{file_tree}
@@ -17,7 +17,7 @@ pub record IsResolved (f : File) (t : FileTree) : Type 0 where
   pub kept : ¬ (BreaksDeclarationRule f)
   pub tree : file_tree f ≡ Some t
 
--- this fault, unless memory ran out: it breaks a rule about declarations
+-- it breaks a rule about declarations and has this fault, unless memory ran out
 abbrev pub IsFaultOfTree : File → ParseFault → Type 0
 IsFaultOfTree f faults.Memory = Unit {0}
 IsFaultOfTree f (faults.At c number) = ⊥
@@ -25,7 +25,7 @@ IsFaultOfTree f (faults.Clause c) = (c ≡ 8) × BreaksDeclarationRule f
 
 -- ---- tokens
 
--- this fault, unless memory ran out
+-- the tokens have this fault, unless memory ran out
 abbrev pub IsFaultOf : List Lexeme → ParseFault → Type 0
 IsFaultOf ts faults.Memory = Unit {0}
 IsFaultOf ts (faults.At c number) = (c ≡ 6) × BreaksGrammarAt ts number
@@ -33,7 +33,7 @@ IsFaultOf ts (faults.Clause c) = ((c ≡ 7) × BreaksNesting ts) ⊎ ((c ≡ 8) 
 
 -- ---- both
 
--- what a fault says of them: nothing, where memory ran out
+-- what a fault says: nothing if memory ran out
 abbrev pub unless_memory : ParseFault → Option ParseFault
 unless_memory faults.Memory = None
 unless_memory (faults.At c number) = Some (faults.At c number)

@@ -1,4 +1,4 @@
--- What the calls that apply declarations answer.
+-- What the calls that apply declarations return.
 use Rattle.std.specs.Prelude.{◌≡◌, ℕ, List, [], ◌∷◌, Result, Ok, Err, Option, Some, None, option_map, string_bytes}
 use Rattle.std.specs.HashMap.{HashMap, get_by}
 use Rattle.std.specs.Str.{bytes_eq}
@@ -13,17 +13,17 @@ use Rattle.rnc_model.specs.declarations.Declarations.{◌>>=◌, default_of}
 use Rattle.rnc_model.specs.declarations.FileTree.{Namespace, given}
 use Rattle.rnc_grammar.specs.views.View.{namespace_of}
 
--- what a call returned, seen by the view, is what the definition answers, unless memory ran out
+-- a call returns what the definition returns, as the view sees it, unless memory runs out
 abbrev pub Resolves : {X Y : Type 0} → (X → Y) → Result X ScopeFault → Option Y → Type 0
 Resolves view (Ok x) found = found ≡ Some (view x)
 Resolves view (Err Broken) found = found ≡ None
 Resolves view (Err Memory) found = Unit {0}
 
--- what a table has under each text, seen by the view
+-- the entry of a table under each text, as the view sees it
 abbrev pub table_view : {X Y Z : Type 0} → (X → Y) → HashMap (Bor (List ℕ)) X Z → List ℕ → Option Y
 table_view view table text = option_map view (get_by (λ k. bytes_eq text k.now) table)
 
--- what is declared, apart from where it lies in memory
+-- what is declared, without its place in memory
 abbrev pub scope_view : Scope → declarations.Scope
 scope_view s = record {
   default = option_map namespace_of s.default;
@@ -31,12 +31,12 @@ scope_view s = record {
   datatypes = table_view string_bytes s.datatypes;
 }
 
--- the namespace of names without a prefix: the default one in an element's class, and none in an attribute's
+-- the namespace of names without a prefix: the default one in the class of an element, and none in that of an attribute
 abbrev pub namespace_at : declarations.Scope → Unprefixed → Namespace
 namespace_at s places.Default = default_of s
 namespace_at s places.None = given []
 
--- every one of them, where each has an answer
+-- the results for all members, if each has one
 abbrev pub each : {A B : Type 0} → (A → Option B) → List A → Option (List B)
 each f [] = Some []
 each f (x ∷ xs) = f x >>= λ y. each f xs >>= λ ys. Some (y ∷ ys)

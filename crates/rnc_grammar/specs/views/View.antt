@@ -1,4 +1,4 @@
--- What the file trees of the code are, apart from where they lie in memory.
+-- Views of the file trees of the code, without their place in memory.
 use Rattle.std.specs.Prelude.{ℕ, List, map, Option, Some, None, option_map, string_bytes}
 use Rattle.rng_model.specs.simple.Tree.{choice, group, interleave}
 use Rattle.rnc_grammar.specs.declared.file_tree.Namespace.{Namespace}
@@ -27,7 +27,7 @@ namespace_of (namespaces.Given uri) = tree.given (string_bytes uri)
 abbrev pub name_of : ExpandedName → tree.Name
 name_of n = record { namespace = namespace_of n.namespace; local = string_bytes n.local }
 
--- one level of a name class, with each class inside already seen
+-- one level of a name class, if the classes inside are viewed already
 abbrev pub class_step : NameClass-F tree.NameClass → tree.NameClass
 class_step NameClass-F.Any = tree.any_name
 class_step (NameClass-F.AnyExcept c) = tree.any_except c.value
@@ -48,12 +48,12 @@ parameters_of d = map (λ p. (string_bytes p.0, string_bytes p.1)) d.parameters.
 abbrev pub mention_of : Mention → tree.Mention
 mention_of m = record { href = string_bytes m.href; namespace = namespace_of m.namespace; token = m.token }
 
--- a datatype, with what it excepts, if it does
+-- a datatype with the pattern that it excludes, if there is one
 abbrev pub data_of : Datatype → Option tree.Pattern → tree.Pattern
 data_of d None = tree.data_of (type_of d.type_name) (parameters_of d)
 data_of d (Some p) = tree.data_except (type_of d.type_name) (parameters_of d) p
 
--- one level of a pattern, with the patterns and components inside already seen
+-- one level of a pattern, if the patterns and components inside are viewed already
 abbrev pub pattern_step : Pattern-F tree.Component tree.Pattern → tree.Pattern
 pattern_step (Pattern-F.Element c p) = tree.element (class_of c.value) p.value
 pattern_step (Pattern-F.Attribute c p) = tree.attribute (class_of c.value) p.value

@@ -12,10 +12,10 @@ number_of (Ordinary c) = c
 abbrev pub numbers_of : List Character → List ℕ
 numbers_of cs = map number_of cs
 
--- the decoded text of characters, in UTF-8
+-- the decoded text of some characters, in UTF-8
 abbrev pub bytes_of : List Character → List ℕ
 bytes_of cs = encode_utf8_all (numbers_of cs)
 
--- how many bytes the decoded text of characters has
+-- the number of bytes of the decoded text of some characters
 abbrev pub byte_length : List Character → ℕ
 byte_length cs = length (bytes_of cs)

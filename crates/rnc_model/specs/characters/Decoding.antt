@@ -1,6 +1,6 @@
--- From the bytes of a file to characters (RELAX NG Compact Syntax, "Lexical structure"): the bytes are UTF-8, a CR LF, a CR
--- and an LF are one line end each, and an escape `\x{H}` stands for the character whose number is H. Here a CR or LF that
--- came of an escape ends no line.
+-- From the bytes of a file to characters (RELAX NG Compact Syntax, "Lexical structure"). The bytes are UTF-8. A CR LF,
+-- a CR and an LF are one line end each. An escape `\x{H}` represents the character with the number H. A CR or LF that
+-- an escape writes does not end a line.
 use Rattle.std.specs.Prelude.{◌≡◌, ◌⊎◌, ◌==◌, ◌≢◌, ℕ, ◌+◌, ◌*◌, ◌<◌, ◌≤◌, true, List, [], ◌∷◌, ◌++◌, length, Some}
 use Rattle.std.specs.List.{fold, list_all, slice_get}
 use Rattle.std.specs.Char.{is_digit, digit_value}
@@ -19,7 +19,7 @@ pub record AreDigits (digits : List ℕ) : Type 0 where
 abbrev pub hexadecimal : List ℕ → ℕ
 hexadecimal digits = fold (λ n c. n * 16 + digit_value c) 0 digits
 
--- `\`, one `x` or more and `{` are in front, so that here an escape begins, be it a good or a bad one
+-- the numbers begin with `\`, one or more `x`, and `{`, so an escape begins here, whether it is good or bad
 pub record OpensEscape (numbers : List ℕ) : Type 0 where
   pub more : List ℕ
   pub rest : List ℕ
@@ -30,14 +30,14 @@ pub record OpensEscape (numbers : List ℕ) : Type 0 where
 pub data Begins : List ℕ → Character → List ℕ → Type 0 where
   -- a CR LF is one line end
   carriage_return_line_feed : {numbers rest : List ℕ} → numbers ≡ 0xD ∷ 0xA ∷ rest → Begins numbers LineEnd rest
-  -- so is a CR that no LF follows
+  -- a CR without an LF after it is a line end
   carriage_return : {numbers rest : List ℕ} → numbers ≡ 0xD ∷ rest → slice_get rest 0 ≢ Some 0xA → Begins numbers LineEnd rest
-  -- and an LF
+  -- an LF is a line end
   line_feed : {numbers rest : List ℕ} → numbers ≡ 0xA ∷ rest → Begins numbers LineEnd rest
-  -- `\x{`, digits and `}`, for the Char with that number (XML 1.0 Fifth Edition, section 2.2)
+  -- `\x{`, digits and `}` are the Char with that number (XML 1.0 Fifth Edition, section 2.2)
   escape : {numbers : List ℕ} {c : ℕ} {rest : List ℕ} {digits : List ℕ} → AreDigits digits → c ≡ hexadecimal digits → is_xml_char c ≡ true
       → numbers ≡ 0x5C ∷ 0x78 ∷ 0x7B ∷ (digits ++ 0x7D ∷ rest) → Begins numbers (Ordinary c) rest
-  -- any other Char at which no escape begins
+  -- any other Char, if no escape begins here
   other : {numbers : List ℕ} {c : ℕ} {rest : List ℕ} → c ≢ 0xD → c ≢ 0xA → is_xml_char c ≡ true → ¬ (OpensEscape numbers) → numbers ≡ c ∷ rest
       → Begins numbers (Ordinary c) rest
 
@@ -52,17 +52,17 @@ pub record IsSpelling (bytes : List ℕ) (numbers : List ℕ) : Type 0 where
   pub scalars : all_scalars numbers ≡ true
   pub spelled : encode_utf8_all numbers ≡ bytes
 
--- the bytes of a file stand for these characters
+-- the bytes of a file represent these characters
 pub record IsDecoded (bytes : List ℕ) (characters : List Character) : Type 0 where
   pub numbers : List ℕ
   pub spelling : IsSpelling bytes numbers
   pub decoded : Decodes numbers characters []
 
--- clause S3: the bytes are not UTF-8, and the longest front that is ends at the offset
+-- clause S3: the bytes are not UTF-8, and the longest front that is UTF-8 ends at the offset
 abbrev pub BreaksUtf8At : List ℕ → ℕ → Type 0
 BreaksUtf8At bytes offset = ¬ (IsUtf8 bytes) × IsValidUpTo bytes offset
 
--- clause S4: the bytes are UTF-8, and at the offset, up to which they are characters, no character begins
+-- clause S4: the bytes are UTF-8, they are characters up to the offset, and no character begins at the offset
 pub record BreaksCharactersAt (bytes : List ℕ) (offset : ℕ) : Type 0 where
   pub numbers : List ℕ
   pub spelling : IsSpelling bytes numbers
@@ -73,6 +73,6 @@ pub record BreaksCharactersAt (bytes : List ℕ) (offset : ℕ) : Type 0 where
   pub nothing : (c : Character) (after : List ℕ) → ¬ (Begins rest c after)
   pub offset_is : offset + length (encode_utf8_all rest) ≡ length bytes
 
--- a clause of these two, and the offset at which the bytes break it
+-- one of these two clauses, and the offset where the bytes break it
 abbrev pub BreaksTextAt : List ℕ → ℕ → ℕ → Type 0
 BreaksTextAt bytes clause offset = ((clause ≡ 3) × BreaksUtf8At bytes offset) ⊎ ((clause ≡ 4) × BreaksCharactersAt bytes offset)

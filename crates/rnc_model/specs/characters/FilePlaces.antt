@@ -10,12 +10,12 @@ abbrev pub starts_with_line_feed : List ℕ → Bool
 starts_with_line_feed [] = false
 starts_with_line_feed (c ∷ cs) = c == 0xA
 
--- a line ends behind a character that these follow: behind an LF, and behind a CR that no LF follows
+-- a line ends after a character that these characters follow: after an LF, and after a CR without an LF after it
 abbrev pub ends_line : ℕ → List ℕ → Bool
 ends_line c rest = (c == 0xA) || ((c == 0xD) && not (starts_with_line_feed rest))
 
--- The line and the column of what is behind these characters, and in front of those after them, where the first of them is at this line and column:
--- behind a line end the next line begins, and behind any other character the next column.
+-- The line and the column after these characters, which the others follow. The first of these characters is at the
+-- given line and column. After a line end the next line begins, and after any other character the next column.
 unfoldable pub position : ℕ → ℕ → List ℕ → List ℕ → ℕ × ℕ
 position line column [] after = (line, column)
 position line column (c ∷ before) after =
@@ -26,7 +26,7 @@ pub record IsPlaceBetween (before after : List ℕ) (p : FilePlace) : Type 0 whe
   pub offset_is : p.offset ≡ length (encode_utf8_all before)
   pub position_is : position 1 1 before after ≡ (p.line, p.column)
 
--- the place behind the decoded characters with which a file begins
+-- the place after these decoded characters, which are the first of the file
 pub record IsPlaceBehind (bytes : List ℕ) (front : List Character) (p : FilePlace) : Type 0 where
   pub before : List ℕ
   pub after : List ℕ

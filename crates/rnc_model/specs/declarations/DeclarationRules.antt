@@ -1,12 +1,13 @@
--- The rules about the declarations of a schema file, and which of them it breaks (RELAX NG Compact Syntax, "Declarations" and "Syntax";
--- Namespaces in XML 1.0, section 3). Another prefix than `xml`, or the default, may be declared as the uri of `xml` (profile).
+-- The rules about the declarations of a schema file, and which of them a file breaks (RELAX NG Compact Syntax,
+-- "Declarations" and "Syntax"; Namespaces in XML 1.0, section 3). A prefix other than `xml`, or the default, may be
+-- declared as the URI of `xml` (profile).
 use Rattle.std.specs.Prelude.{◌≢◌, ℕ, List, [], ◌∷◌, ◌++◌, Option, Some, None, codes, flat_map}
 use Rattle.rng_model.specs.datatypes.Datatypes.{xsd_uri}
 use Rattle.rng_model.specs.names.Lists.{Among}
 use Rattle.rng_model.specs.documents.PyxNamespaces.{xml_uri}
 use Rattle.rnc_model.specs.grammar.Syntax as syntax
 
--- what can be declared; a namespace prefix and a datatype prefix of one spelling are two
+-- what can be declared; a namespace prefix and a datatype prefix with the same spelling are distinct
 pub data Declarable : Type 0 where
   namespace_prefix : List ℕ → Declarable
   datatype_prefix : List ℕ → Declarable
@@ -14,7 +15,7 @@ pub data Declarable : Type 0 where
 
 -- ---- what is declared
 
--- what a declaration declares, and as which uri
+-- what a declaration declares, and as which URI
 abbrev pub declared_by : syntax.Declaration → List (Declarable × syntax.Uri)
 declared_by (syntax.namespace p u) = (namespace_prefix p, u) ∷ []
 declared_by (syntax.default_namespace None u) = (default_namespace, u) ∷ []
@@ -25,15 +26,15 @@ declared_by (syntax.datatypes p u) = (datatype_prefix p, syntax.literal u) ∷ [
 abbrev pub declared_in : List syntax.Declaration → List (Declarable × syntax.Uri)
 declared_in ds = flat_map declared_by ds
 
--- it is declared in these declarations, as this uri
+-- these declarations declare it as this URI
 abbrev pub IsDeclaredAs : Declarable → syntax.Uri → List syntax.Declaration → Type 0
 IsDeclaredAs x u ds = Among (x, u) (declared_in ds)
 
--- it is declared in none of them
+-- none of them declares it
 abbrev pub IsUndeclared : Declarable → List syntax.Declaration → Type 0
 IsUndeclared x ds = (u : syntax.Uri) → ¬ (IsDeclaredAs x u ds)
 
--- it stands here twice, with one uri or with two
+-- it is in the list twice, with the same URI or with two
 pub data IsTwiceIn (x : Declarable) : List (Declarable × syntax.Uri) → Type 0 where
   at_first : {u v : syntax.Uri} {es : List (Declarable × syntax.Uri)} → Among (x, v) es → IsTwiceIn x ((x, u) ∷ es)
   later : {e : Declarable × syntax.Uri} {es : List (Declarable × syntax.Uri)} → IsTwiceIn x es → IsTwiceIn x (e ∷ es)
@@ -42,7 +43,7 @@ pub data IsTwiceIn (x : Declarable) : List (Declarable × syntax.Uri) → Type 0
 abbrev pub IsDeclaredTwice : Declarable → List syntax.Declaration → Type 0
 IsDeclaredTwice x ds = IsTwiceIn x (declared_in ds)
 
--- ---- which prefixes stand in a tree
+-- ---- the prefixes in a tree
 
 -- the prefix of a name, if it has one
 abbrev pub prefixes_of_name : syntax.Name → List Declarable
@@ -50,7 +51,7 @@ prefixes_of_name (syntax.unprefixed l) = []
 prefixes_of_name (syntax.prefixed p l) = namespace_prefix p ∷ []
 
 abbrev mutual
-  -- the prefixes of the names and of the `p:*` in a name class, excepts and choices among them
+  -- the prefixes of the names and of the `p:*` in a name class, including its excepts and choices
   pub prefixes_of_class : syntax.NameClass → List Declarable
   prefixes_of_class syntax.any_name = []
   prefixes_of_class (syntax.any_except c) = prefixes_of_class c
@@ -75,7 +76,7 @@ prefixes_of_inherit None = []
 prefixes_of_inherit (Some p) = namespace_prefix p ∷ []
 
 abbrev mutual
-  -- the prefixes of the names, datatypes and `inherit`s that stand in a pattern
+  -- the prefixes of the names, datatypes and `inherit`s in a pattern
   pub prefixes_of_pattern : syntax.Pattern → List Declarable
   prefixes_of_pattern (syntax.element c p) = prefixes_of_class c ++ prefixes_of_pattern p
   prefixes_of_pattern (syntax.attribute c p) = prefixes_of_class c ++ prefixes_of_pattern p
@@ -114,7 +115,7 @@ abbrev pub prefixes_of_body : syntax.Body → List Declarable
 prefixes_of_body (syntax.pattern_body p) = prefixes_of_pattern p
 prefixes_of_body (syntax.grammar_body cs) = prefixes_of_components cs
 
--- it stands in this body
+-- the prefix is in this body
 abbrev pub IsPrefixIn : Declarable → syntax.Body → Type 0
 IsPrefixIn x b = Among x (prefixes_of_body b)
 
@@ -128,15 +129,15 @@ pub data BreaksDeclarationRule (f : syntax.File) : Type 0 where
   datatype_prefix_twice : {p : List ℕ} → IsDeclaredTwice (datatype_prefix p) f.declarations → BreaksDeclarationRule f
   -- the default namespace is declared twice
   default_namespace_twice : IsDeclaredTwice default_namespace f.declarations → BreaksDeclarationRule f
-  -- `xml` is declared as anything but the literal of its own uri
+  -- `xml` is declared as anything except the literal of its own URI
   xml_as_another : {u : syntax.Uri} → IsDeclaredAs (namespace_prefix (codes "xml")) u f.declarations → u ≢ syntax.literal xml_uri → BreaksDeclarationRule f
-  -- `xsd` is declared as another literal than that of its own uri
+  -- `xsd` is declared as anything except the literal of its own URI
   xsd_as_another : {u : syntax.Uri} → IsDeclaredAs (datatype_prefix (codes "xsd")) u f.declarations → u ≢ syntax.literal xsd_uri → BreaksDeclarationRule f
   -- `xmlns` is declared
   xmlns_declared : {u : syntax.Uri} → IsDeclaredAs (namespace_prefix (codes "xmlns")) u f.declarations → BreaksDeclarationRule f
-  -- a namespace prefix that stands in the body is not declared; `xml` is declared beforehand
+  -- a namespace prefix in the body is not declared; `xml` is always declared
   namespace_prefix_undeclared : {p : List ℕ} → IsPrefixIn (namespace_prefix p) f.body → p ≢ codes "xml" → IsUndeclared (namespace_prefix p) f.declarations
       → BreaksDeclarationRule f
-  -- a datatype prefix that stands in the body is not declared; `xsd` is declared beforehand
+  -- a datatype prefix in the body is not declared; `xsd` is always declared
   datatype_prefix_undeclared : {p : List ℕ} → IsPrefixIn (datatype_prefix p) f.body → p ≢ codes "xsd" → IsUndeclared (datatype_prefix p) f.declarations
       → BreaksDeclarationRule f

@@ -1,4 +1,4 @@
--- Declarations applied: from a syntax tree to the file tree, or to nothing where a rule about declarations is broken
+-- Declarations applied to a syntax tree: the result is the file tree, or nothing if a rule about declarations is broken
 -- (RELAX NG Compact Syntax, "Declarations").
 use Rattle.std.specs.Prelude.{ℕ, List, [], ◌∷◌, Option, Some, None, Bool, true, false, is_none, if◌then◌else◌, codes}
 use Rattle.std.specs.Str.{bytes_eq}
@@ -9,17 +9,17 @@ use Rattle.rnc_model.specs.declarations.FileTree as tree
 use Rattle.rnc_model.specs.declarations.FileTree.{Namespace, inherited, given, FileTree}
 
 infixl 10 ◌>>=◌
--- one part, and then the next with its value
+-- one part, and then the next part with its value
 abbrev pub ◌>>=◌ : {A B : Type 0} → Option A → (A → Option B) → Option B
 None >>= f = None
 (Some x) >>= f = f x
 
--- this, where there is nothing
+-- the value, or this one if there is none
 abbrev pub option_or : {A : Type 0} → A → Option A → A
 option_or a None = a
 option_or a (Some b) = b
 
--- the second, where there is no first; nothing, where there is one
+-- the second if there is no first; nothing if there is a first
 abbrev pub option_none_else : {A B : Type 0} → Option A → Option B → Option B
 option_none_else None b = b
 option_none_else (Some a) b = None
@@ -46,63 +46,63 @@ abbrev pub is_xml_uri : Namespace → Bool
 is_xml_uri inherited = false
 is_xml_uri (given u) = bytes_eq u xml_uri
 
--- a namespace prefix may stand for this: `xml` only for its own, and `xmlns` for none
+-- a namespace prefix may represent this namespace: `xml` only its own, `xmlns` none
 abbrev pub may_stand_for : List ℕ → Namespace → Bool
 may_stand_for p u = if bytes_eq p (codes "xml") then is_xml_uri u else (if bytes_eq p (codes "xmlns") then false else true)
 
--- a datatype prefix may stand for this uri: `xsd` only for its own
+-- a datatype prefix may represent this URI: `xsd` only its own
 abbrev pub may_stand_for_types : List ℕ → List ℕ → Bool
 may_stand_for_types p u = if bytes_eq p (codes "xsd") then bytes_eq u xsd_uri else true
 
--- one more, unless one of this prefix is there
+-- one more prefix, unless it is there already
 abbrev pub with_one : {A : Type 0} → List ℕ → A → (List ℕ → Option A) → Option (List ℕ → Option A)
 with_one p a declared = if is_none (declared p) then Some (λ q. if bytes_eq p q then Some a else declared q) else None
 
--- the scope with one namespace prefix more
+-- the scope with one more namespace prefix
 abbrev pub with_prefix : List ℕ → Namespace → Scope → Option Scope
 with_prefix p u s = if may_stand_for p u then (with_one p u s.namespaces >>= λ all. Some (record s { namespaces = all })) else None
 
--- the scope with this default namespace, unless there is one
+-- the scope with this default namespace, unless it has one already
 abbrev pub with_default : Namespace → Scope → Option Scope
 with_default u s = option_none_else s.default (Some (record s { default = Some u }))
 
--- the scope with one datatype prefix more
+-- the scope with one more datatype prefix
 abbrev pub with_datatypes : List ℕ → List ℕ → Scope → Option Scope
 with_datatypes p u s = if may_stand_for_types p u then (with_one p u s.datatypes >>= λ all. Some (record s { datatypes = all })) else None
 
--- the scope with one declaration more
+-- the scope with one more declaration
 abbrev pub declare : Scope → syntax.Declaration → Option Scope
 declare s (syntax.namespace p u) = with_prefix p (uri_of u) s
 declare s (syntax.default_namespace None u) = with_default (uri_of u) s
 declare s (syntax.default_namespace (Some p) u) = with_default (uri_of u) s >>= λ s. with_prefix p (uri_of u) s
 declare s (syntax.datatypes p u) = with_datatypes p u s
 
--- the scope with these declarations more, in order
+-- the scope with these declarations added, in order
 abbrev pub declare_all : Scope → List syntax.Declaration → Option Scope
 declare_all s [] = Some s
 declare_all s (d ∷ ds) = declare s d >>= λ s. declare_all s ds
 
 -- ---- prefixes
 
--- the namespace of elements' names without a prefix, and what a mention hands on that names none
+-- the default namespace: of names of elements without a prefix, and of what a mention without a prefix passes on
 abbrev pub default_of : Scope → Namespace
 default_of s = option_or inherited s.default
 
--- the namespace of a prefix: `xml` is declared beforehand
+-- the namespace of a prefix; `xml` is always declared
 abbrev pub namespace_in : Scope → List ℕ → Option Namespace
 namespace_in s p = if bytes_eq p (codes "xml") then Some (given xml_uri) else s.namespaces p
 
--- the uri of a datatype prefix: `xsd` is declared beforehand
+-- the URI of a datatype prefix; `xsd` is always declared
 abbrev pub library_in : Scope → List ℕ → Option (List ℕ)
 library_in s p = if bytes_eq p (codes "xsd") then Some xsd_uri else s.datatypes p
 
--- a name, where those without a prefix have this namespace
+-- a name with its namespace; names without a prefix have the given one
 abbrev pub name_in : Scope → Namespace → syntax.Name → Option tree.Name
 name_in s ns (syntax.unprefixed l) = Some (record { namespace = ns; local = l })
 name_in s ns (syntax.prefixed p l) = namespace_in s p >>= λ u. Some (record { namespace = u; local = l })
 
 abbrev mutual
-  -- a name class, where names without a prefix have this namespace
+  -- a name class with its namespaces; names without a prefix have the given one
   pub class_in : Scope → Namespace → syntax.NameClass → Option tree.NameClass
   class_in s ns syntax.any_name = Some tree.any_name
   class_in s ns (syntax.any_except c) = class_in s ns c >>= λ c. Some (tree.any_except c)
@@ -115,13 +115,13 @@ abbrev mutual
   classes_in s ns syntax.no_classes = Some tree.no_classes
   classes_in s ns (syntax.class_and c cs) = class_in s ns c >>= λ c. classes_in s ns cs >>= λ cs. Some (tree.class_and c cs)
 
--- a datatype: `string` and `token` are in the library with the empty uri
+-- a datatype with its library; `string` and `token` are in the library with the empty URI
 abbrev pub type_in : Scope → syntax.DatatypeName → Option tree.DatatypeName
 type_in s syntax.string_type = Some (record { library = []; name = codes "string" })
 type_in s syntax.token_type = Some (record { library = []; name = codes "token" })
 type_in s (syntax.prefixed_type p l) = library_in s p >>= λ u. Some (record { library = u; name = l })
 
--- a mention hands on the namespace of its prefix, or the default one
+-- a mention passes on the namespace of its prefix, or the default namespace
 abbrev pub handed_on : Scope → Option (List ℕ) → Option Namespace
 handed_on s None = Some (default_of s)
 handed_on s (Some p) = namespace_in s p
@@ -171,6 +171,6 @@ abbrev pub body_in : Scope → syntax.Body → Option FileTree
 body_in s (syntax.pattern_body p) = pattern_in s p >>= λ p. Some (tree.pattern_file p)
 body_in s (syntax.grammar_body cs) = components_in s cs >>= λ cs. Some (tree.grammar_file cs)
 
--- the file tree of a syntax tree; none where a declaration or a prefix breaks a rule
+-- the file tree of a syntax tree; nothing if a declaration or a prefix breaks a rule
 unfoldable pub file_tree : syntax.File → Option FileTree
 file_tree f = declare_all nothing_declared f.declarations >>= λ s. body_in s f.body

@@ -1,4 +1,4 @@
--- The tree of a schema file with its declarations applied, apart from where it lies in memory.
+-- The tree of a schema file with its declarations applied, without its place in memory.
 use Rattle.std.specs.Prelude.{ℕ, List, [], ◌∷◌, Bool, Option, Some, None, is_some}
 use Rattle.rng_model.specs.simple.Tree.{Connector}
 use Rattle.rng_model.specs.declared.method.Method.{Method}
@@ -35,7 +35,7 @@ classes_of (c ∷ cs) = class_and c (classes_of cs)
 abbrev pub choice_of : List NameClass → NameClass
 choice_of cs = one_of (classes_of cs)
 
--- the uri of a datatype's library and its name there
+-- the URI of a datatype's library, and the datatype's name there
 pub record DatatypeName : Type 0 where
   pub library : List ℕ
   pub name : List ℕ
@@ -90,7 +90,7 @@ abbrev pub components_of : List Component → Components
 components_of [] = no_components
 components_of (c ∷ cs) = component_and c (components_of cs)
 
--- these members about a connector
+-- these members, joined by a connector
 abbrev pub members : Connector → List Pattern → Pattern
 members k ps = joined k (patterns_of ps)
 

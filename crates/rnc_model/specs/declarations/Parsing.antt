@@ -1,4 +1,4 @@
--- Which file tree a list of tokens has, and which clause it breaks where it has none.
+-- Which file tree a list of tokens has, and which clause it breaks if it has none.
 use Rattle.std.specs.Prelude.{◌≡◌, List, Some}
 use Rattle.rnc_model.specs.declarations.DeclarationRules.{BreaksDeclarationRule}
 use Rattle.rnc_model.specs.declarations.Declarations.{file_tree}
@@ -8,14 +8,14 @@ use Rattle.rnc_model.specs.tokens.Lexeme.{Lexeme}
 use Rattle.rnc_model.specs.grammar.Syntax.{File}
 use Rattle.rnc_model.specs.grammar.Sentence.{NestsWithin, nesting_limit}
 
--- they are a sentence that nests within the limit, and it breaks a rule about declarations (clause 8)
+-- the tokens are a sentence that nests within the limit, and it breaks a rule about declarations (clause 8)
 pub record BreaksDeclarations (ts : List Lexeme) : Type 0 where
   pub nesting : NestsWithin nesting_limit ts
   pub file : File
   pub sentence : IsFile ts file
   pub broken : BreaksDeclarationRule file
 
--- they break no clause, and this is their file tree: that of their sentence, with its declarations applied
+-- the tokens break no clause, and their file tree is the tree of their sentence with its declarations applied
 pub record IsFileTree (ts : List Lexeme) (t : FileTree) : Type 0 where
   pub nesting : NestsWithin nesting_limit ts
   pub file : File

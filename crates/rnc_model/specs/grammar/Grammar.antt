@@ -1,5 +1,6 @@
--- The grammar: which tokens are which syntax tree, a constructor for each production (RELAX NG Compact Syntax, "Syntax" and
--- "Annotations"). Parentheses and annotations leave no node, and what a bracket opens the same bracket closes.
+-- The grammar: which tokens are which syntax tree, with a constructor for each production (RELAX NG Compact Syntax,
+-- "Syntax" and "Annotations"). Parentheses and annotations leave no node. A closing bracket is of the same kind as the
+-- opening one.
 use Rattle.std.specs.Prelude.{◌≡◌, ℕ, Bool, true, false, List, [], ◌∷◌, ◌++◌, Option, Some, None}
 use Rattle.rng_model.specs.simple.Tree.{Connector, choice, group, interleave}
 use Rattle.rnc_model.specs.declared.token.Keyword.TheVariants as keywords
@@ -12,7 +13,7 @@ use Rattle.rnc_model.specs.tokens.Lexeme.{Lexeme, Spelling, keyword, identifier,
 use Rattle.rnc_model.specs.grammar.Syntax as syntax
 use Rattle.rnc_model.specs.grammar.Syntax.{Name, NameClass, DatatypeName, Mention, Pattern, Component, Uri, Declaration, Body, File}
 
--- ---- what one token says
+-- ---- the meaning of one token
 
 -- word = identifier | keyword
 abbrev pub word_of : Lexeme → Option (List ℕ)
@@ -34,7 +35,7 @@ method_of (sign BarEqual) = Some methods.Choice
 method_of (sign AndEqual) = Some methods.Interleave
 method_of _ = None
 
--- what stands between members: "," | "&" | "|"
+-- the connectors of members: "," | "&" | "|"
 abbrev pub connector_of : Sign → Option Connector
 connector_of Comma = Some group
 connector_of And = Some interleave
@@ -53,20 +54,20 @@ is_bracket _ = false
 
 -- ---- annotations
 
--- ( annotation | any token that is no bracket )*
+-- ( annotation | any token except a bracket )*
 pub data IsAnnotationContent : List Lexeme → Type 0 where
   no_content : {ts : List Lexeme} → ts ≡ [] → IsAnnotationContent ts
   and_token : {ts : List Lexeme} {a : List Lexeme} {x : Lexeme} → is_bracket x ≡ false → IsAnnotationContent a → ts ≡ x ∷ a → IsAnnotationContent ts
   and_annotation : {ts : List Lexeme} {a b : List Lexeme} → IsAnnotationContent a → IsAnnotationContent b
       → ts ≡ sign OpenBracket ∷ (a ++ sign CloseBracket ∷ b) → IsAnnotationContent ts
 
--- [annotation] where annotation = "[" ( annotation | any token that is no bracket )* "]"
+-- [annotation] where annotation = "[" ( annotation | any token except a bracket )* "]"
 pub data MayBeAnnotation : List Lexeme → Type 0 where
   without_annotation : {ts : List Lexeme} → ts ≡ [] → MayBeAnnotation ts
   with_annotation : {ts : List Lexeme} {a : List Lexeme} → IsAnnotationContent a → ts ≡ sign OpenBracket ∷ (a ++ sign CloseBracket ∷ [])
       → MayBeAnnotation ts
 
--- ---- literals, parameters, and what mentions hand on
+-- ---- literals, parameters, and what mentions pass on
 
 -- literal = segment ("~" segment)*: the text of its segments, joined
 pub data IsLiteral : List Lexeme → List ℕ → Type 0 where
@@ -126,7 +127,7 @@ mutual
 
 -- ---- patterns and components
 
--- where a component stands: in a grammar, or in the braces of an include
+-- where a component may be: in a grammar, or in the braces of an include
 pub data Setting : Type 0 where
   content : Setting
   override : Setting

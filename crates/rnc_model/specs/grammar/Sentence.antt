@@ -1,4 +1,4 @@
--- Which tokens are a sentence that nests within the limit, and where they are none.
+-- Which tokens are a sentence that nests within the limit, and at which token they fail to be one.
 use Rattle.std.specs.Prelude.{◌≡◌, ℕ, ◌+◌, ◌-◌, ◌<◌, ◌≤◌, Bool, true, false, List, length, take}
 use Rattle.std.specs.List.{count_by}
 use Rattle.rnc_model.specs.declared.token.Sign.TheVariants.{OpenBrace, CloseBrace, OpenParenthesis, CloseParenthesis}
@@ -20,23 +20,23 @@ is_closing (sign CloseBrace) = true
 is_closing (sign CloseParenthesis) = true
 is_closing _ = false
 
--- how many of the tokens are `{` or `(`
+-- the number of `{` and `(` among the tokens
 abbrev pub openings : List Lexeme → ℕ
 openings ts = count_by is_opening ts
 
--- how many are `}` or `)`
+-- the number of `}` and `)` among the tokens
 abbrev pub closings : List Lexeme → ℕ
 closings ts = count_by is_closing ts
 
--- how many `{` and `(` may be open
+-- the number of `{` and `(` that may be open
 abbrev pub nesting_limit : ℕ
 nesting_limit = 128
 
--- at no token do the opening brackets up to it exceed the closing ones up to it by more than the limit
+-- at each token, the opening brackets up to it exceed the closing ones up to it by at most the limit
 abbrev pub NestsWithin : ℕ → List Lexeme → Type 0
 NestsWithin limit ts = (k : ℕ) → openings (take k ts) ≤ closings (take k ts) + limit
 
--- at some token they do (clause 7)
+-- at some token they exceed it (clause 7)
 abbrev pub BreaksNesting : List Lexeme → Type 0
 BreaksNesting ts = (k : ℕ) × (closings (take k ts) + nesting_limit < openings (take k ts))
 
@@ -46,16 +46,17 @@ BreaksNesting ts = (k : ℕ) × (closings (take k ts) + nesting_limit < openings
 abbrev pub IsSentence : List Lexeme → Type 0
 IsSentence ts = (f : File) × IsFile ts f
 
--- a list begins as this one does, up to and with the token with this number; where that is past the last, it is this one
+-- a list that has the same tokens as this one, up to and including the token with this number; if this list has fewer
+-- tokens, the lists are equal
 abbrev pub BeginsAlike : ℕ → List Lexeme → List Lexeme → Type 0
 BeginsAlike number ts us = (number ≤ length ts → take number us ≡ take number ts) × (length ts < number → us ≡ ts)
 
--- some sentence begins with so many of the tokens
+-- some sentence begins with this many of the tokens
 abbrev pub BeginsSentence : ℕ → List Lexeme → Type 0
 BeginsSentence count ts = (us : List Lexeme) × (take count us ≡ take count ts) × IsSentence us
 
--- The tokens are numbered from 1. Some sentence begins with those before the one with this number, and none with those up to
--- and with it; or the number is one more than there are tokens, and they are no sentence.
+-- The tokens are numbered from 1. Some sentence begins with the tokens before the one with this number, and none begins
+-- with those up to and including it. If the number is one more than the number of tokens, they are no sentence.
 pub record IsStuckAt (ts : List Lexeme) (number : ℕ) : Type 0 where
   pub positive : 0 < number
   pub within : number ≤ length ts + 1
@@ -66,12 +67,12 @@ pub record IsStuckAt (ts : List Lexeme) (number : ℕ) : Type 0 where
 abbrev pub BreaksGrammar : List Lexeme → Type 0
 BreaksGrammar ts = NestsWithin nesting_limit ts × ¬ IsSentence ts
 
--- the same, at the token with this number
+-- the same, where the token with this number is the first that no sentence can have there
 pub record BreaksGrammarAt (ts : List Lexeme) (number : ℕ) : Type 0 where
   pub nesting : NestsWithin nesting_limit ts
   pub stuck : IsStuckAt ts number
 
--- they nest within the limit, and this is their syntax tree
+-- the tokens nest within the limit, and this is their syntax tree
 pub record IsSyntaxTree (ts : List Lexeme) (f : File) : Type 0 where
   pub nesting : NestsWithin nesting_limit ts
   pub sentence : IsFile ts f

@@ -3,7 +3,7 @@ use Rattle.std.specs.Prelude.{ℕ, List, [], ◌∷◌, ◌++◌, Option}
 use Rattle.rng_model.specs.simple.Tree.{Connector}
 use Rattle.rng_model.specs.declared.method.Method.{Method}
 
--- the text of a literal: those of its segments, joined
+-- the text of a literal: the texts of its segments, joined
 abbrev pub joined_text : List (List ℕ) → List ℕ
 joined_text [] = []
 joined_text (w ∷ ws) = w ++ joined_text ws
@@ -91,11 +91,11 @@ abbrev pub components_of : List Component → Components
 components_of [] = no_components
 components_of (c ∷ cs) = component_and c (components_of cs)
 
--- these members about a connector
+-- these members, joined by a connector
 abbrev pub members : Connector → List Pattern → Pattern
 members k ps = joined k (patterns_of ps)
 
--- the uri of a declaration: the inherited one, or a text
+-- the URI of a declaration: the inherited one, or a text
 pub data Uri : Type 0 where
   inherit : Uri
   literal : List ℕ → Uri

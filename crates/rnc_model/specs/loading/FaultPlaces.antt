@@ -1,4 +1,4 @@
--- Where a file breaks a clause from 3 to 8.
+-- The place where a file breaks a clause from 3 to 8.
 use Rattle.std.specs.Prelude.{◌≡◌, ℕ, ◌+◌, ◌-◌, ◌<◌, ◌≤◌, List, [], take, slice_get, Some, None}
 use Rattle.rnc_model.specs.declared.character.Character.{Character}
 use Rattle.rnc_model.specs.declared.file_place.FilePlace.{FilePlace}
@@ -11,33 +11,35 @@ use Rattle.rnc_model.specs.loading.SchemaFile.{AreTokensOf}
 use Rattle.rnc_model.specs.tokens.Cut.{Token, BreaksTokensAt}
 use Rattle.rnc_model.specs.tokens.Lexeme.{Lexeme, lexemes}
 
--- the place at which the token with this number, from 1, begins; where that is one more than there are, the end of the file
+-- the place where the token with this number begins, counted from 1; if the number is one more than the number of
+-- tokens, the end of the file
 pub data IsPlaceOfToken (bytes : List ℕ) (ts : List Token) (number : ℕ) (p : FilePlace) : Type 0 where
   of_token : {t : Token} (front : List Character) → slice_get ts (number - 1) ≡ Some t → byte_length front ≡ t.starts → IsPlaceBehind bytes front p
       → IsPlaceOfToken bytes ts number p
   of_end : (characters : List Character) → slice_get ts (number - 1) ≡ None → IsDecoded bytes characters → IsPlaceBehind bytes characters p
       → IsPlaceOfToken bytes ts number p
 
--- the first token up to which the opening brackets exceed the closing ones by more than the limit
+-- the first token where the opening brackets up to it exceed the closing ones by more than the limit
 pub record IsTooDeepAt (ts : List Lexeme) (number : ℕ) : Type 0 where
   pub positive : 0 < number
   pub exceeds : closings (take number ts) + nesting_limit < openings (take number ts)
   pub first : (k : ℕ) → k < number → openings (take k ts) ≤ closings (take k ts) + nesting_limit
 
--- The bytes break this clause, and at this place. Of a declaration or a prefix that breaks a rule (8) the place is that of a token.
+-- The bytes break this clause, at this place. For a declaration or a prefix that breaks a rule (8), the place is the
+-- place of a token.
 pub data BreaksClauseAt (bytes : List ℕ) (k : ℕ) (p : FilePlace) : Type 0 where
   -- the first byte that is not UTF-8
   not_utf8 : (front : List ℕ) → BreaksUtf8At bytes p.offset → IsSpelling (take p.offset bytes) front → IsPlaceBetween front [] p → k ≡ 3
       → BreaksClauseAt bytes k p
-  -- the first character that is none of XML's, or the first bad escape
+  -- the first character that XML does not have, or the first bad escape
   bad_characters : (front : List Character) → BreaksCharactersAt bytes p.offset → IsPlaceBehind bytes front p → k ≡ 4 → BreaksClauseAt bytes k p
-  -- where neither a blank, a comment nor a token begins
+  -- the end of the cut, where no blank, comment or token begins
   bad_tokens : (characters front : List Character) → IsDecoded bytes characters → BreaksTokensAt characters (byte_length front)
       → IsPlaceBehind bytes front p → k ≡ 5 → BreaksClauseAt bytes k p
-  -- the first token with which no sentence goes on
+  -- the first token up to which the tokens begin no sentence
   no_sentence : (ts : List Token) (number : ℕ) → AreTokensOf bytes ts → BreaksGrammarAt (lexemes ts) number → IsPlaceOfToken bytes ts number p → k ≡ 6
       → BreaksClauseAt bytes k p
-  -- the bracket that is one too many
+  -- the first bracket that is too many
   too_deep : (ts : List Token) (number : ℕ) → AreTokensOf bytes ts → IsTooDeepAt (lexemes ts) number → IsPlaceOfToken bytes ts number p → k ≡ 7
       → BreaksClauseAt bytes k p
   bad_declarations : (ts : List Token) (number : ℕ) → AreTokensOf bytes ts → BreaksDeclarations (lexemes ts) → IsPlaceOfToken bytes ts number p → k ≡ 8

@@ -1,4 +1,4 @@
--- What files of the code are, apart from where they lie in memory.
+-- What files of the code are, without their place in memory.
 use Rattle.std.specs.Prelude.{ℕ, List, map, string_bytes, String, Vec}
 use Rattle.std.specs.Global.{Global}
 use Rattle.rnc_model.specs.loading.SchemaFile.{NamedFile}

@@ -1,12 +1,13 @@
--- Which names a grammar has, and whether a start, through the files that it includes (RELAX NG Specification, section 4.7).
+-- Which names a grammar has, and whether it has a start, through the files that it includes (RELAX NG Specification,
+-- section 4.7).
 use Rattle.std.specs.Prelude.{◌≡◌, ℕ, List, Option, Some, None}
 use Rattle.rng_model.specs.declared.method.Method.{Method}
 use Rattle.rnc_model.specs.declarations.FileTree as tree
 use Rattle.rnc_model.specs.declarations.FileTree.{FileTree, Mention, grammar_of}
 
 module _ (files : List ℕ → Option FileTree) where
-  -- these components give their grammar a component of this name, or a start: directly, or through an include, of which an
-  -- overridden one is replaced by one of its name
+  -- These components give their grammar a component of this name, or a start: directly, or through the braces or the
+  -- file of an include. An overridden component counts too, since the braces have one of its name.
   mutual
     pub data HasName (y : Option (List ℕ)) : tree.Components → Type 0 where
       of_first : {c : tree.Component} {cs : tree.Components} → NamesIt y c → HasName y (tree.component_and c cs)

@@ -18,7 +18,7 @@ hrefs_of t = map (λ m. (mention_of m).href) (mentions_of t)
 
 -- ---- the load order
 
--- the names with this one at the end, unless it is there
+-- the names with this one at the end, unless they have it already
 abbrev pub with_name : List Name → Name → List Name
 with_name ns n = if list_any (λ m. bytes_eq n m) ns then ns else ns ++ n ∷ []
 
@@ -27,20 +27,21 @@ abbrev pub TakenFiles : Type 0
 TakenFiles = List (Name × FileTree)
 
 module _ (files : List NamedFile) (main : Name) where
-  -- The load order, as far as it goes: these files are taken, each with its tree, and these are the names so far, theirs first. First stands the main
-  -- file. The next of the names is that of the file that is taken next, and the names that it mentions are put at the end, each that is not there yet.
+  -- The load order, as far as it goes: these files are taken, each with its tree, and these are the names so far,
+  -- beginning with those of the files. The main file is first. The next name is that of the file that is taken next.
+  -- Each name that this file mentions, and that is not there yet, is put at the end.
   pub data IsTaken : TakenFiles → List Name → Type 0 where
     none_yet : {read : TakenFiles} {names : List Name} → read ≡ [] → names ≡ main ∷ [] → IsTaken read names
     one_more : {read all : TakenFiles} {names more : List Name} {f : Name} {t : FileTree} → IsTaken read names → slice_get names (length read) ≡ Some f →
         HasTree files main f t → all ≡ read ++ (f, t) ∷ [] → more ≡ fold with_name names (hrefs_of t) → IsTaken all more
 
-  -- these are all the files of the schema, in load order: each breaks no clause by itself, and no name is left
+  -- these are all the files of the schema, in load order: no file breaks a clause by itself, and no name is left
   pub record AreTaken (read : TakenFiles) : Type 0 where
     pub names : List Name
     pub taken : IsTaken read names
     pub all : length names ≤ length read
 
-  -- in load order this file is the first to break a clause by itself, and this is the first that it breaks
+  -- in load order this file is the first that breaks a clause by itself, and this is the first clause that it breaks
   pub record IsFirstBroken (f : Name) (k : ℕ) : Type 0 where
     pub before : TakenFiles
     pub names : List Name
@@ -54,7 +55,7 @@ module _ (files : List NamedFile) (main : Name) where
 abbrev pub tree_in : TakenFiles → Name → Option FileTree
 tree_in read f = lookup (bytes_eq f) read
 
--- the names that a file mentions; one that is none of these mentions nothing
+-- the names that a file mentions; a file that is not among these mentions nothing
 abbrev pub hrefs_if : Option FileTree → List Name
 hrefs_if None = []
 hrefs_if (Some t) = hrefs_of t
@@ -71,8 +72,8 @@ abbrev pub grammar_in : TakenFiles → Name → Option tree.Components
 grammar_in read f = grammar_if (tree_in read f)
 
 module _ (read : TakenFiles) where
-  -- an include that stands in a file, also in a component that is overridden: the file that it mentions is no grammar, or the grammar of that has no
-  -- component of a name, or no start, that the braces override
+  -- an include, in a file or in a component that is overridden: the file that it mentions is not a grammar, or the
+  -- braces override a name, or a start, that the grammar of this file does not have
   pub data BreaksInclude (m : Mention) (over : tree.Components) : Type 0 where
     no_grammar : {t : FileTree} → tree_in read m.href ≡ Some t → grammar_of t ≡ None → BreaksInclude m over
     nothing_to_override : {t : FileTree} {cs : tree.Components} {y : Option (List ℕ)} → tree_in read m.href ≡ Some t → grammar_of t ≡ Some cs
@@ -82,20 +83,20 @@ module _ (read : TakenFiles) where
   IsBrokenInclude (external_file m) = ⊥
   IsBrokenInclude (included_file m over) = BreaksInclude m over
 
-  -- an include in one of the files, wherever it stands, breaks that
+  -- an include anywhere in one of the files breaks this rule
   abbrev pub HasBrokenInclude : FileTree → Type 0
   HasBrokenInclude t = (m : MentionedFile) × Among m (mentions_of t) × IsBrokenInclude m
 
   abbrev pub BreaksIncludes : Type 0
   BreaksIncludes = (file : Name × FileTree) × Among file read × HasBrokenInclude file.1
 
-  -- the clause of all files together that is broken first: that on paths of mentions (9), or that on includes (10)
+  -- the first clause that all files together break: the one on paths of mentions (9), or the one on includes (10)
   pub data BreaksTogether (main : Name) (k : ℕ) : Type 0 where
     mentions_break : BreaksMentions (hrefs_in read) main → k ≡ 9 → BreaksTogether main k
     includes_break : ¬ (BreaksMentions (hrefs_in read) main) → BreaksIncludes → k ≡ 10 → BreaksTogether main k
 
--- what is found of the files: one is the first to break a clause by itself, and this one first; or they break this clause together; or they are one
--- schema, with these trees
+-- the verdict on the files: a file is the first that breaks a clause by itself, with the first clause that it breaks;
+-- or the files together break this clause; or they are one schema, with these trees
 pub data FilesVerdict : Type 0 where
   file_breaks : Name → ℕ → FilesVerdict
   together_break : ℕ → FilesVerdict
@@ -107,7 +108,7 @@ module _ (files : List NamedFile) (main : Name) where
   FilesHaveVerdict (together_break k) = (read : TakenFiles) × AreTaken files main read × BreaksTogether read main k
   FilesHaveVerdict (are_taken read) = AreTaken files main read × ((k : ℕ) → ¬ (BreaksTogether read main k))
 
-  -- this is the verdict, and no other is
+  -- this is the verdict, and there is no other
   pub record FilesHaveOnlyVerdict (v : FilesVerdict) : Type 0 where
     pub is : FilesHaveVerdict v
     pub only : (other : FilesVerdict) → FilesHaveVerdict other → v ≡ other

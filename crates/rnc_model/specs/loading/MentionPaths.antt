@@ -1,4 +1,5 @@
--- Files that mention one another, by name: which are reached, and the paths of mentions (RELAX NG Specification, sections 4.6 and 4.7; the limit: profile).
+-- Files that mention each other, by name: which files are reached, and the paths of mentions (RELAX NG Specification,
+-- sections 4.6 and 4.7; the limit: profile).
 use Rattle.std.specs.Prelude.{◌≡◌, ℕ, ◌<◌, List, [], ◌∷◌, length, slice_get, Some, ◌⊎◌}
 use Rattle.rng_model.specs.names.Lists.{Among, HasTwice}
 use Rattle.rnc_model.specs.loading.SchemaFile.{Name}
@@ -7,7 +8,7 @@ use Rattle.rnc_model.specs.loading.SchemaFile.{Name}
 abbrev pub Path : Type 0
 Path = List ℕ
 
--- how many paths of mentions there may be, the empty one counted
+-- how many paths of mentions there may be, including the empty one
 abbrev pub path_limit : ℕ
 path_limit = 4096
 

@@ -3,8 +3,8 @@ use Rattle.std.specs.Prelude.{List, [], ◌∷◌, ◌++◌}
 use Rattle.rnc_model.specs.declarations.FileTree as tree
 use Rattle.rnc_model.specs.declarations.FileTree.{FileTree, Mention, grammar_file, pattern_file}
 
--- a file that is mentioned: one whose pattern stands for the mention (section 4.6), or one whose components are included, with the components in the
--- braces, which override (section 4.7)
+-- a file that is mentioned: its pattern replaces the mention (section 4.6), or its components are included, and the
+-- components in the braces override them (section 4.7)
 pub data MentionedFile : Type 0 where
   external_file : Mention → MentionedFile
   included_file : Mention → tree.Components → MentionedFile
@@ -49,7 +49,7 @@ abbrev mutual
   mentions_of_components tree.no_components = []
   mentions_of_components (tree.component_and c cs) = mentions_of_component c ++ mentions_of_components cs
 
--- the mentions in a file, wherever they stand, in components that are overridden too
+-- the mentions anywhere in a file, also in components that are overridden
 abbrev pub mentions_of : FileTree → List MentionedFile
 mentions_of (pattern_file p) = mentions_of_pattern p
 mentions_of (grammar_file cs) = mentions_of_components cs

@@ -1,9 +1,11 @@
--- The schema of a set of files: the components of the grammar at each place, through `div`, `include` and overriding, every name
--- with its namespace (RELAX NG Specification, sections 4.6, 4.7, 4.9, 4.11 and 4.18; Compact Syntax, "Declarations").
+-- The schema of a set of files: the components of the grammar at each place, through `div`, `include` and overriding,
+-- every name with its namespace (RELAX NG Specification, sections 4.6, 4.7, 4.9, 4.11 and 4.18; Compact Syntax,
+-- "Declarations").
 --
--- A place is the way to a grammar in the tree of the main file with each mention followed: the number of the child at each level,
--- the innermost first. Of an include its file is the child 0 and its braces the child 1; the pattern of an external is its child 0, and grammar
--- content of an external's file is a grammar at the external's own place.
+-- A place is the way to a grammar in the tree of the main file with each mention followed: the number of the child at
+-- each level, the innermost first. The file of an include is its child 0, and its braces are its child 1. The pattern
+-- of an external is its child 0. If the file of an external has grammar content, that is a grammar at the place of the
+-- external itself.
 use Rattle.std.specs.Prelude.{◌≡◌, ℕ, ◌+◌, List, [], ◌∷◌, ◌++◌, filter, map, not, Option, Some, None, Bool}
 use Rattle.std.specs.List.{list_any}
 use Rattle.rng_model.specs.names.Lists.{Among}
@@ -44,7 +46,7 @@ datatype_in d ps = record { library = d.library; name = d.name; parameters = ps 
 
 -- ---- patterns
 
--- the path to a pattern or a component in that tree, the innermost number first; that to a grammar is its place
+-- the path to a pattern or a component in that tree, the innermost number first; the path to a grammar is its place
 abbrev pub TreePath : Type 0
 TreePath = List ℕ
 
@@ -54,7 +56,7 @@ pub record Nested : Type 0 where
   pub uri : List ℕ
   pub components : tree.Components
 
--- a component that its grammar gets, and the grammars that are nested in it directly, in no other
+-- a component that its grammar gets, and the grammars that are nested directly in it
 pub record Gathered : Type 0 where
   pub component : Component
   pub nested : List Nested
@@ -63,7 +65,7 @@ pub record Gathered : Type 0 where
 abbrev pub is_overridden : List Gathered → Gathered → Bool
 is_overridden os g = list_any (λ o. same_name o.component.name g.component.name) os
 
--- the grammar of the main file; one of another pattern is the start of a grammar
+-- the components of the grammar of the main file; any other pattern is the start of a grammar
 abbrev pub grammar_or_start : tree.Pattern → Option tree.Components → tree.Components
 grammar_or_start p None = tree.component_and (tree.start methods.Plain p) tree.no_components
 grammar_or_start p (Some cs) = cs
@@ -81,7 +83,8 @@ main_grammar (pattern_file p) = grammar_or_start p (whole_grammar p)
 -- If an include were child 2, the components of its file would be at paths that end with 0 ∷ 2 ∷ [], and those in its braces at paths that end with
 -- 1 ∷ 2 ∷ [] (`an_include`).
 module _ (files : List ℕ → Option FileTree) where
-  -- in a file that inherits this namespace the pattern, at this path, is that one, and these grammars are nested in it directly
+  -- in a file that inherits this namespace, the pattern at this path is that one, and these grammars are nested
+  -- directly in it
   mutual
     pub data Reads : List ℕ → TreePath → tree.Pattern → Pattern → List Nested → Type 0 where
       element_is : {u : List ℕ} {x : TreePath} {c : tree.NameClass} {a : tree.Pattern} {p : Pattern} {gs : List Nested} → Reads u (0 ∷ x) a p gs
@@ -108,10 +111,11 @@ module _ (files : List ℕ → Option FileTree) where
           Reads u x (tree.data_of d ps) (pattern.data_of (datatype_in d ps)) []
       except_is : {u : List ℕ} {x : TreePath} {d : DatatypeName} {ps : List (List ℕ × List ℕ)} {a : tree.Pattern} {p : Pattern} {gs : List Nested} →
           Reads u (0 ∷ x) a p gs → Reads u x (tree.data_except d ps a) (pattern.data_except (datatype_in d ps) p) gs
-      -- a nested grammar stands at this place
+      -- a nested grammar is at this place
       grammar_is : {u : List ℕ} {x : TreePath} {cs : tree.Components} →
           Reads u x (tree.grammar cs) (pattern.grammar x) (record { place = x; uri = u; components = cs } ∷ [])
-      -- an external is its file's pattern, read with the namespace that is handed on; a file of grammar content is a nested grammar
+      -- an external is its file's pattern, read with the namespace that the mention passes on; a file of grammar
+      -- content is a nested grammar
       pattern_file_is : {u : List ℕ} {x : TreePath} {m : tree.Mention} {a : tree.Pattern} {p : Pattern} {gs : List Nested} → files m.href ≡ Some (pattern_file a)
           → Reads (uri_in u m.namespace) (0 ∷ x) a p gs → Reads u x (tree.external m) (pattern.external p) gs
       grammar_file_is : {u : List ℕ} {x : TreePath} {m : tree.Mention} {cs : tree.Components} → files m.href ≡ Some (grammar_file cs) →
@@ -119,7 +123,7 @@ module _ (files : List ℕ → Option FileTree) where
       joined_is : {u : List ℕ} {x : TreePath} {k : Connector} {all : tree.Patterns} {ps : List Pattern} {gs : List Nested} → ReadAll u x 0 all ps gs
           → Reads u x (tree.joined k all) (members k ps) gs
 
-    -- the first of them is the child with this number
+    -- the first of these patterns is the child with this number
     pub data ReadAll : List ℕ → TreePath → ℕ → tree.Patterns → List Pattern → List Nested → Type 0 where
       none_are : {u : List ℕ} {x : TreePath} {n : ℕ} → ReadAll u x n tree.no_patterns [] []
       more_are : {u : List ℕ} {x : TreePath} {n : ℕ} {a : tree.Pattern} {all : tree.Patterns} {p : Pattern} {ps : List Pattern} {gs hs : List Nested}
@@ -136,7 +140,7 @@ module _ (files : List ℕ → Option FileTree) where
         Gathers u x n (tree.component_and (tree.define y m a) cs) (record { component = record { name = Some y; method = m; pattern = p }; nested = gs } ∷ rest)
     a_div : {u : List ℕ} {x : TreePath} {n : ℕ} {is cs : tree.Components} {inner rest all : List Gathered} →
         Gathers u (n ∷ x) 0 is inner → Gathers u x (n + 1) cs rest → all ≡ inner ++ rest → Gathers u x n (tree.component_and (tree.div is) cs) all
-    -- an include gives the components of its file that are not overridden, and then the overriding ones
+    -- an include gives the components of its file that are not overridden, and then those in its braces
     an_include : {u : List ℕ} {x : TreePath} {n : ℕ} {m : tree.Mention} {over cs is : tree.Components} {f : FileTree}
         {included overriding rest all : List Gathered} →
         files m.href ≡ Some f → grammar_of f ≡ Some is → Gathers (uri_in u m.namespace) (0 ∷ n ∷ x) 0 is included →
@@ -144,15 +148,15 @@ module _ (files : List ℕ → Option FileTree) where
         all ≡ (filter (λ g. not (is_overridden overriding g)) included ++ overriding) ++ rest →
         Gathers u x n (tree.component_and (tree.include m over) cs) all
 
-  -- at the place there is a grammar of these components, in a file that inherits this namespace (the main file the empty one); and around it is the one at the
-  -- other place, if there is one
+  -- At the place there is a grammar with these components, in a file that inherits this namespace; the main file
+  -- inherits the empty one. The grammar around it is the one at the other place, if there is one.
   pub data HasGrammar (main : FileTree) : Place → Option Place → List ℕ → tree.Components → Type 0 where
     main_is : {cs : tree.Components} → cs ≡ main_grammar main → HasGrammar main [] None [] cs
     nested_is : {x : Place} {o : Option Place} {u : List ℕ} {cs : tree.Components} {gathered : List Gathered} {g : Gathered} {n : Nested} →
         HasGrammar main x o u cs → Gathers u x 0 cs gathered → Among g gathered → Among n g.nested → HasGrammar main n.place (Some x) n.uri n.components
 
-  -- The schema of these files, where they break none of S1 to S10: at each place at which a grammar is, its components and the place of the grammar
-  -- around it; at any other place nothing.
+  -- The schema of these files, if they break none of S1 to S10: at each place of a grammar, its components and the
+  -- place of the grammar around it; at any other place nothing.
   pub record IsSchemaOf (main : FileTree) (s : Schema) : Type 0 where
     pub main_place : s.main ≡ []
     pub there : (x : Place) (o : Option Place) (u : List ℕ) (cs : tree.Components) → HasGrammar main x o u cs →

@@ -1,4 +1,5 @@
--- What a file of a schema is by itself: it breaks a clause, or it has a tree (RELAX NG Compact Syntax, "Syntax"; sizes and numbers of files: profile).
+-- What a file of a schema is by itself: it breaks a clause, or it has a tree (RELAX NG Compact Syntax, "Syntax"; sizes
+-- and numbers of files: profile).
 use Rattle.std.specs.Prelude.{◌≡◌, ◌≢◌, ◌⊎◌, ℕ, ◌<◌, List, length}
 use Rattle.rng_model.specs.names.Lists.{Among, HasTwo}
 use Rattle.rnc_model.specs.declared.character.Character.{Character}
@@ -9,23 +10,24 @@ use Rattle.rnc_model.specs.declarations.FileTree.{FileTree}
 use Rattle.rnc_model.specs.grammar.Sentence.{BreaksGrammarAt, BreaksNesting}
 use Rattle.rnc_model.specs.declarations.Parsing.{BreaksDeclarations, IsFileTree}
 
--- ---- what stands in a file
+-- ---- what is in a file
 
--- the bytes stand for characters, and these are the tokens of the characters
+-- the bytes represent characters, and these are the tokens of the characters
 pub record AreTokensOf (bytes : List ℕ) (ts : List Token) : Type 0 where
   pub characters : List Character
   pub decoded : IsDecoded bytes characters
   pub are : HasTokens characters ts
 
--- The bytes break this clause. A clause is spoken of only where the bytes break none before it: of characters where the bytes
--- are UTF-8, of tokens where they stand for characters, of the grammar where these are cut into tokens, of declarations
--- where these are a sentence. Too many open brackets (7) come before the grammar (6), so that not both are broken.
+-- The bytes break this clause. A clause applies only if the bytes break none of those before it: the clause on
+-- characters to bytes that are UTF-8, the one on tokens to bytes that represent characters, the ones on the grammar to
+-- characters that are cut into tokens, the one on declarations to a sentence. Too many open brackets (7) come before
+-- the grammar (6), so at most one of these two is broken.
 pub data BreaksFileClause : List ℕ → ℕ → Type 0 where
   -- they are not UTF-8
   not_utf8 : {bytes : List ℕ} {k : ℕ} (offset : ℕ) → BreaksUtf8At bytes offset → k ≡ 3 → BreaksFileClause bytes k
-  -- a character is none of XML's, or an escape is bad
+  -- a character is one that XML does not have, or an escape is bad
   bad_characters : {bytes : List ℕ} {k : ℕ} (offset : ℕ) → BreaksCharactersAt bytes offset → k ≡ 4 → BreaksFileClause bytes k
-  -- neither a blank, a comment nor a token begins
+  -- no blank, comment or token begins at some offset
   bad_tokens : {bytes : List ℕ} {k : ℕ} (characters : List Character) (offset : ℕ) → IsDecoded bytes characters → BreaksTokensAt characters offset → k ≡ 5 →
       BreaksFileClause bytes k
   -- the tokens are no sentence
@@ -42,13 +44,13 @@ pub record IsSchemaFile (bytes : List ℕ) (t : FileTree) : Type 0 where
   pub are : AreTokensOf bytes tokens
   pub tree : IsFileTree (lexemes tokens) t
 
--- ---- the files that are handed in
+-- ---- the files that are given
 
 -- how many bytes a file may have
 abbrev pub size_limit : ℕ
 size_limit = 1048576
 
--- how many files may be handed in
+-- how many files may be given
 abbrev pub file_limit : ℕ
 file_limit = 64
 
@@ -56,36 +58,36 @@ file_limit = 64
 abbrev pub Name : Type 0
 Name = List ℕ
 
--- a file that is handed in
+-- a file that is given
 pub record NamedFile : Type 0 where
   pub name : Name
   pub bytes : List ℕ
 
--- what a file is by itself: it breaks this clause first, or it has this tree
+-- the verdict on a file by itself: it breaks this clause first, or it has this tree
 pub data FileVerdict : Type 0 where
   breaks : ℕ → FileVerdict
   has_tree : FileTree → FileVerdict
 
 module _ (files : List NamedFile) where
-  -- no file of this name is handed in
+  -- there is no file of this name
   abbrev pub IsMissing : Name → Type 0
   IsMissing f = (file : NamedFile) → Among file files → file.name ≢ f
 
-  -- two files of this name are handed in
+  -- there are two files of this name
   abbrev pub IsHandedInTwice : Name → Type 0
   IsHandedInTwice f = HasTwo (λ a b. (a.name ≡ f) × (b.name ≡ f)) files
 
-  -- one file of this name is handed in, with these bytes
+  -- there is one file of this name, with these bytes
   pub record IsHandedIn (f : Name) (bytes : List ℕ) : Type 0 where
     pub there : Among (record { name = f; bytes = bytes }) files
     pub once : ¬ (IsHandedInTwice f)
 
   module _ (main : Name) where
-    -- the file is the main one, and too many are handed in; or it has too many bytes (S2)
+    -- the file is the main one and there are too many files, or it has too many bytes (S2)
     abbrev pub BreaksLimit : Name → List ℕ → Type 0
     BreaksLimit f bytes = ((f ≡ main) × (file_limit < length files)) ⊎ (size_limit < length bytes)
 
-    -- The file of this name breaks this clause first. Its bytes are spoken of only where it does not break S2.
+    -- The file of this name breaks this clause first. The clauses on its bytes apply only if it does not break S2.
     pub data BreaksOwn (f : Name) (k : ℕ) : Type 0 where
       missing : IsMissing f → k ≡ 1 → BreaksOwn f k
       handed_in_twice : IsHandedInTwice f → k ≡ 1 → BreaksOwn f k
@@ -103,18 +105,18 @@ module _ (files : List NamedFile) where
     FileHasVerdict f (breaks k) = BreaksOwn f k
     FileHasVerdict f (has_tree t) = HasTree f t
 
-    -- the file is this and nothing else
+    -- the file has this verdict and no other
     pub record FileHasOnlyVerdict (f : Name) (v : FileVerdict) : Type 0 where
       pub is : FileHasVerdict f v
       pub only : (other : FileVerdict) → FileHasVerdict f other → v ≡ other
 
--- ---- the same of bytes, however many there may be
+-- ---- the same for bytes, however many there are
 
 abbrev pub ContentHasVerdict : List ℕ → FileVerdict → Type 0
 ContentHasVerdict bytes (breaks clause) = BreaksFileClause bytes clause
 ContentHasVerdict bytes (has_tree t) = IsSchemaFile bytes t
 
--- the bytes are this and nothing else
+-- the bytes have this verdict and no other
 pub record ContentHasOnlyVerdict (bytes : List ℕ) (v : FileVerdict) : Type 0 where
   pub is : ContentHasVerdict bytes v
   pub only : (other : FileVerdict) → ContentHasVerdict bytes other → v ≡ other

@@ -7,7 +7,7 @@ use Rattle.rnc_model.specs.declared.character.Character.{Character}
 use Rattle.rnc_model.specs.declared.token.TokenKind.{TokenKind}
 use Rattle.rnc_model.specs.declared.token.Token as declared
 
--- the characters begin with the piece, the rest follows it, and no longer front of them is a piece
+-- the characters begin with the piece, the rest follows it, and no longer front of the characters is a piece
 pub record IsNext (cs : List Character) (piece : Piece) (rest : List Character) : Type 0 where
   pub is : IsPiece piece
   pub parts : cs ≡ characters_in piece ++ rest
@@ -24,21 +24,21 @@ pub data Cuts : List Character → List Piece → List Character → Type 0 wher
   next_is : {cs : List Character} {all : List Piece} {rest : List Character} {piece : Piece} {after : List Character} {pieces : List Piece}
       → IsNext cs piece after → Cuts after pieces rest → all ≡ piece ∷ pieces → Cuts cs all rest
 
--- a token: its kind, what it says, and the offsets in the decoded text at which the whole of it starts and ends, all in bytes
+-- a token: its kind, its text, and the byte offsets in the decoded text where the whole token starts and ends
 pub record Token : Type 0 where
   pub kind : TokenKind
   pub text : List ℕ
   pub starts : ℕ
   pub ends : ℕ
 
--- a token of the code, apart from where it lies in memory
+-- a token of the code, without its place in memory
 abbrev pub token_of : declared.Token → Token
 token_of t = record { kind = t.kind; text = t.text.now; starts = t.start; ends = t.end }
 
 abbrev pub tokens_of : List declared.Token → List Token
 tokens_of ts = map token_of ts
 
--- the tokens among pieces of which the first starts at an offset
+-- the tokens among pieces, the first of which starts at an offset
 abbrev pub tokens_at : ℕ → List Piece → List Token
 tokens_at start [] = []
 tokens_at start (gap all ∷ pieces) = tokens_at (start + byte_length all) pieces
@@ -51,7 +51,7 @@ pub record HasTokens (cs : List Character) (tokens : List Token) : Type 0 where
   pub cut : Cuts cs pieces []
   pub are : tokens ≡ tokens_at 0 pieces
 
--- clause S5: the characters up to the offset are cut, and there nothing begins
+-- clause S5: the characters up to the offset are cut, and nothing begins there
 pub record BreaksTokensAt (cs : List Character) (offset : ℕ) : Type 0 where
   pub pieces : List Piece
   pub rest : List Character
@@ -60,7 +60,7 @@ pub record BreaksTokensAt (cs : List Character) (offset : ℕ) : Type 0 where
   pub nothing : NothingBegins rest
   pub offset_is : offset + byte_length rest ≡ byte_length cs
 
--- each token starts no earlier than the one before it ends, and has some bytes
+-- each token starts at or after the end of the one before it, and is not empty
 abbrev pub AreInOrder : ℕ → List Token → Type 0
 AreInOrder start [] = Unit {0}
 AreInOrder start (t ∷ ts) = (start ≤ t.starts) × (t.starts < t.ends) × AreInOrder t.ends ts

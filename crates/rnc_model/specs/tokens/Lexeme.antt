@@ -1,4 +1,5 @@
--- The tokens as the grammar reads them: what each says, and of a keyword its number too (RELAX NG Compact Syntax, "Lexical structure").
+-- The tokens as the grammar reads them: the text of each, and for a keyword also its number (RELAX NG Compact Syntax,
+-- "Lexical structure").
 use Rattle.std.specs.Prelude.{ℕ, ◌+◌, ◌==◌, Bool, List, [], ◌∷◌}
 use Rattle.std.specs.List.{before_first, after_first}
 use Rattle.rnc_model.specs.declared.token.Keyword.{Keyword}
@@ -24,11 +25,11 @@ pub data Lexeme : Type 0 where
 abbrev pub is_colon : ℕ → Bool
 is_colon c = c == 58
 
--- the prefix of a name: all before its first colon
+-- the prefix of a name: everything before its first colon
 abbrev pub prefix_in : List ℕ → List ℕ
 prefix_in w = before_first is_colon w
 
--- the local part of a name: all after its first colon
+-- the local part of a name: everything after its first colon
 abbrev pub local_in : List ℕ → List ℕ
 local_in w = after_first is_colon w
 
@@ -43,7 +44,7 @@ lexeme_at kinds.Segment w n = segment w
 lexeme_at kinds.TripleSegment w n = segment w
 lexeme_at (kinds.Sign s) w n = sign s
 
--- tokens one after another, of which the first has this number
+-- tokens one after another, the first with this number
 abbrev pub numbered : ℕ → List Token → List Lexeme
 numbered n [] = []
 numbered n (t ∷ ts) = lexeme_at t.kind t.text n ∷ numbered (n + 1) ts

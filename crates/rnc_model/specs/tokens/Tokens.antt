@@ -1,5 +1,5 @@
--- Which characters are a blank, a comment or a token (RELAX NG Compact Syntax, "Lexical structure"). Documentation comments
--- and `>>` are left out: `##` begins a comment as `#` does.
+-- Which characters are a blank, a comment or a token (RELAX NG Compact Syntax, "Lexical structure"). There are no
+-- documentation comments and no `>>`: `##` begins a comment, as `#` does.
 use Rattle.std.specs.Prelude.{◌≡◌, ℕ, Bool, true, false, not, ◌||◌, ◌==◌, if◌then◌else◌, List, [], ◌∷◌, ◌++◌, Option, Some, None, codes}
 use Rattle.std.specs.List.{list_all}
 use Rattle.std.specs.Str.{bytes_eq}
@@ -14,8 +14,8 @@ use Rattle.rnc_model.specs.declared.token.Sign.TheVariants as signs
 use Rattle.rnc_model.specs.declared.token.TokenKind.{TokenKind}
 use Rattle.rnc_model.specs.declared.token.TokenKind.TheVariants as kinds
 
--- A piece of a text: a blank or a comment, which is only a gap, or a token of a kind, with what it says.
--- The last argument is all of its characters.
+-- A piece of a text: a blank or a comment, which is only a gap; or a token of a kind, with its text. The last argument
+-- is all of its characters.
 pub data Piece : Type 0 where
   gap : List Character → Piece
   token : TokenKind → List Character → List Character → Piece
@@ -59,7 +59,7 @@ abbrev pub keyword_or_identifier : Option Keyword → TokenKind
 keyword_or_identifier None = kinds.Identifier
 keyword_or_identifier (Some keyword) = kinds.Keyword keyword
 
--- a word is a keyword, or else an identifier
+-- a word is a keyword, or otherwise an identifier
 abbrev pub word_kind : List Character → TokenKind
 word_kind word = keyword_or_identifier (keyword_of (bytes_of word))
 
@@ -68,12 +68,12 @@ abbrev pub is_blank_character : Character → Bool
 is_blank_character LineEnd = true
 is_blank_character (Ordinary c) = (c == 0x20) || (c == 0x9)
 
--- any character but a line end
+-- any character except a line end
 abbrev pub is_in_line : Character → Bool
 is_in_line LineEnd = false
 is_in_line (Ordinary c) = true
 
--- any character but a line end and the quote
+-- any character except a line end and the quote
 abbrev pub is_in_segment : ℕ → Character → Bool
 is_in_segment quote LineEnd = false
 is_in_segment quote (Ordinary c) = not (c == quote)
@@ -90,12 +90,12 @@ IsNcname name = is_ncname (numbers_of name) ≡ true
 abbrev pub three : ℕ → List Character → List Character
 three quote rest = Ordinary quote ∷ Ordinary quote ∷ Ordinary quote ∷ rest
 
--- in the content with three quotes behind it there are no three quotes before these
+-- in the content followed by three quotes, no three quotes come before these
 abbrev pub IsUpToThree : ℕ → List Character → Type 0
 IsUpToThree quote content = (front rest : List Character) → content ++ three quote [] ≡ front ++ three quote rest → rest ≡ []
 
--- The characters of the piece are a blank, a comment or a token. How far it goes is left to the cut: a comment is any
--- `#` with characters of its line.
+-- The characters of the piece are a blank, a comment or a token. The cut says how long it is: a comment is any `#` with
+-- some characters of its line.
 pub data IsPiece : Piece → Type 0 where
   blank : {c : Character} → is_blank_character c ≡ true → IsPiece (gap (c ∷ []))
   comment : {all : List Character} {cs : List Character} → list_all is_in_line cs ≡ true → all ≡ Ordinary 0x23 ∷ cs → IsPiece (gap all)

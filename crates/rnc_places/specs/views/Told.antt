@@ -1,4 +1,4 @@
--- What is told of a file and of its tokens.
+-- What is reported for a file and its tokens.
 use Rattle.std.specs.Prelude.{◌≡◌, ℕ, List, Option, Some, None}
 use Rattle.rnc_grammar.specs.declared.fault.ParseFault.{ParseFault}
 use Rattle.rnc_grammar.specs.declared.fault.ParseFault.TheVariants as faults
@@ -10,7 +10,7 @@ use Rattle.rnc_model.specs.loading.FaultPlaces.{BreaksClauseAt, IsTooDeepAt}
 use Rattle.rnc_model.specs.loading.SchemaFile.{ContentHasOnlyVerdict, breaks, has_tree}
 use Rattle.rnc_model.specs.tokens.Lexeme.{Lexeme}
 
--- the one clause that the file breaks, and where; or nothing, where it breaks none
+-- the only clause that the file breaks, with its place, or nothing if it breaks none
 abbrev pub IsTold : List ℕ → Option (ℕ × FilePlace) → Type 0
 IsTold bytes None = (t : FileTree) × ContentHasOnlyVerdict bytes (has_tree t)
 IsTold bytes (Some x) = BreaksClauseAt bytes x.0 x.1 × ContentHasOnlyVerdict bytes (breaks x.0)
@@ -21,7 +21,7 @@ clause_of faults.Memory = None
 clause_of (faults.At c number) = Some c
 clause_of (faults.Clause c) = Some c
 
--- tokens break this clause at the token with this number; of a rule about declarations no token is said
+-- tokens break this clause at the token with this number; for a rule about declarations, no token is claimed
 pub data BreaksAtToken (ts : List Lexeme) (k number : ℕ) : Type 0 where
   unexpected : BreaksGrammarAt ts number → k ≡ 6 → BreaksAtToken ts k number
   too_deep : IsTooDeepAt ts number → k ≡ 7 → BreaksAtToken ts k number

@@ -1,4 +1,4 @@
--- The productions as functions: how tokens are read from left to right to a syntax tree.
+-- The productions as functions that read tokens from left to right to a syntax tree.
 use Rattle.std.specs.Prelude.{ℕ, zero, suc, List, [], ◌∷◌, Bool, true, false, Option, Some, None, Result, Ok, Err, if◌then◌else◌}
 use Rattle.rng_model.specs.simple.Tree.{group, interleave, choice}
 use Rattle.rnc_model.specs.declared.token.Keyword.TheVariants as keywords
@@ -22,7 +22,7 @@ use Rattle.rnc_syntax.specs.plain.Combinators.{either_way, many}
 
 -- ---- annotations
 
--- what a token is in an annotation
+-- the role of a token in an annotation
 abbrev pub role_of : Lexeme → Role
 role_of (sign OpenBracket) = roles.Opens
 role_of (sign CloseBracket) = roles.Closes
@@ -32,38 +32,38 @@ role_of (sign OpenParenthesis) = roles.Foreign
 role_of (sign CloseParenthesis) = roles.Foreign
 role_of _ = roles.Content
 
--- the token in front with its role, and the tokens after it
+-- the first token with its role, and the tokens after it
 abbrev pub role_front : List Lexeme → Option (Role × List Lexeme)
 role_front [] = None
 role_front (x ∷ ts) = Some (role_of x, ts)
 
--- one of four, by the role
+-- one of four values, by the role
 abbrev pub by_role : {A : Type 0} → Role → A → A → A → A → A
 by_role roles.Opens a b c d = a
 by_role roles.Closes a b c d = b
 by_role roles.Content a b c d = c
 by_role roles.Foreign a b c d = d
 
--- with none there is a value, and with more the function of one less
+-- a value at zero, or the function of one less
 abbrev pub one_less : {A : Type 0} → ℕ → A → (ℕ → A) → A
 one_less zero a f = a
 one_less (suc n) a f = f n
 
--- the rest of an annotation inside which so many others are open
+-- the rest of an annotation inside which n others are open
 unfoldable pub annotation_end : ℕ → List Lexeme → Outcome (Unit {0})
 annotation_end n [] = unexpected []
 annotation_end n (x ∷ ts) = by_role (role_of x) (annotation_end (suc n) ts) (one_less n (Ok (tt, ts)) (λ m. annotation_end m ts)) (annotation_end n ts)
     (unexpected (x ∷ ts))
 
--- an annotation, if one stands in front
+-- an annotation, if there is one
 unfoldable pub annotation_at : List Lexeme → Outcome (Unit {0})
 annotation_at ts = either_way (follow OpenBracket ts) (Ok (tt, ts)) (annotation_end 0)
 
--- an annotation, if one stands in front, and what is read behind it
+-- an annotation, if there is one, and what is read after it
 abbrev pub annotated : {A : Type 0} → (List Lexeme → Outcome A) → List Lexeme → Outcome A
 annotated read ts = annotation_at ts >>= λ x. read x.1
 
--- ---- literals, parameters, and what mentions hand on
+-- ---- literals, parameters, and what mentions inherit
 
 unfoldable pub literal_at : List Lexeme → Outcome (List ℕ)
 literal_at ts = do
@@ -78,7 +78,7 @@ parameter_at ts = do
   value ← literal_at equal.1
   Ok ((name.0, value.0), value.1)
 
--- the same tokens, where a word or an annotation stands in front
+-- the same tokens, if a word or an annotation is first
 abbrev pub parameter_front : List Lexeme → Option (List Lexeme)
 parameter_front (identifier w ∷ ts) = Some (identifier w ∷ ts)
 parameter_front (keyword k s ∷ ts) = Some (keyword k s ∷ ts)
@@ -116,7 +116,7 @@ mention_at number ts = do
 
 -- ---- name classes
 
--- what a class in parentheses is, read so
+-- a class in parentheses
 unfoldable pub class_in_parens : (List Lexeme → Outcome NameClass) → List Lexeme → Outcome NameClass
 class_in_parens class ts = do
   body ← class ts
@@ -139,22 +139,22 @@ basic_with class ts = annotated (bare_basic_with class) ts
 unfoldable pub choice_with : (List Lexeme → Outcome NameClass) → NameClass → List Lexeme → Outcome NameClass
 choice_with basic c ts = either_way (follow Bar ts) (Ok (c, ts)) (λ us. many (follow Bar) basic ts >>= λ others. Ok (syntax.choice_of (c ∷ others.0), others.1))
 
--- `*` or `p:*` in front, and the tokens after it
+-- `*` or `p:*` at the front, and the tokens after it
 abbrev pub wide_front : List Lexeme → Option (Option (List ℕ) × List Lexeme)
 wide_front (sign Star ∷ ts) = Some (None, ts)
 wide_front (ns_name p ∷ ts) = Some (Some p, ts)
 wide_front _ = None
 
--- `*` or `p:*` in front, with `-` after it, and the tokens after that
+-- `*` or `p:*` and then `-` at the front, and the tokens after them
 abbrev pub except_front : List Lexeme → Option (Option (List ℕ) × List Lexeme)
 except_front ts = either_way (wide_front ts) None (λ x. either_way (follow Minus x.1) None (λ us. Some (x.0, us)))
 
--- all names, or those of a prefix, without those of a class
+-- all names, or those of a prefix, except those of a class
 abbrev pub excepted : Option (List ℕ) → NameClass → NameClass
 excepted None c = syntax.any_except c
 excepted (Some p) c = syntax.ns_except p c
 
--- behind an annotation
+-- a class after an annotation
 unfoldable pub bare_class_with : (List Lexeme → Outcome NameClass) → List Lexeme → Outcome NameClass
 bare_class_with class ts = either_way (except_front ts) (bare_basic_with class ts >>= λ c. choice_with (basic_with class) c.0 c.1) (λ x. basic_with class x.1
     >>= λ c. Ok (excepted x.0 c.0, c.1))
@@ -185,24 +185,24 @@ named_with inside make ts = do
   body ← braced_with inside class.1
   Ok (make class.0 body.0, body.1)
 
--- a segment stands in front
+-- the first token is a segment
 abbrev pub begins_segment : List Lexeme → Bool
 begins_segment (segment w ∷ ts) = true
 begins_segment _ = false
 
--- a value or a datatype, after its name
+-- a value or a datatype after its name
 unfoldable pub typed_at : DatatypeName → List Lexeme → Outcome Pattern
 typed_at d ts = if begins_segment ts then (literal_at ts >>= λ v. Ok (syntax.value d v.0, v.1)) else
     (parameters_at ts >>= λ ps. Ok (syntax.data_of d ps.0, ps.1))
 
--- a datatype's name in front, and the tokens after it
+-- the name of a datatype at the front, and the tokens after it
 abbrev pub type_front : List Lexeme → Option (DatatypeName × List Lexeme)
 type_front (cname p l ∷ ts) = Some (syntax.prefixed_type p l, ts)
 type_front (keyword keywords.String s ∷ ts) = Some (syntax.string_type, ts)
 type_front (keyword keywords.Token s ∷ ts) = Some (syntax.token_type, ts)
 type_front _ = None
 
--- a pattern that one keyword is
+-- a pattern that is a single keyword
 abbrev pub lone_front : List Lexeme → Option (Pattern × List Lexeme)
 lone_front (keyword keywords.Empty s ∷ ts) = Some (syntax.empty, ts)
 lone_front (keyword keywords.Text s ∷ ts) = Some (syntax.text, ts)
@@ -210,14 +210,14 @@ lone_front (keyword keywords.NotAllowed s ∷ ts) = Some (syntax.not_allowed, ts
 lone_front (identifier n ∷ ts) = Some (syntax.ref n, ts)
 lone_front _ = None
 
--- a primary that begins otherwise and holds no other pattern
+-- a primary that begins in another way and contains no other pattern
 unfoldable pub other_at : List Lexeme → Outcome Pattern
 other_at (keyword keywords.Parent s ∷ ts) = identifier_at ts >>= λ x. Ok (syntax.parent_ref x.0, x.1)
 other_at (keyword keywords.External s ∷ ts) = mention_at s.number ts >>= λ m. Ok (syntax.external m.0, m.1)
 other_at (segment w ∷ ts) = literal_at (segment w ∷ ts) >>= λ v. Ok (syntax.value syntax.token_type v.0, v.1)
 other_at ts = unexpected ts
 
--- a primary that holds no other pattern
+-- a primary that contains no other pattern
 unfoldable pub atom_at : List Lexeme → Outcome Pattern
 atom_at ts = either_way (type_front ts) (either_way (lone_front ts) (other_at ts) (λ x. Ok x)) (λ d. typed_at d.0 d.1)
 
@@ -227,7 +227,7 @@ parens_with inside ts = do
   end ← after CloseParenthesis body.1
   Ok (body.0, end.1)
 
--- the keyword or the parenthesis of a primary that holds other patterns, and the tokens after it
+-- the keyword or the parenthesis of a primary that contains other patterns, and the tokens after it
 abbrev pub opening_front : List Lexeme → Option (Opening × List Lexeme)
 opening_front (keyword keywords.Element s ∷ ts) = Some (openings.Element, ts)
 opening_front (keyword keywords.Attribute s ∷ ts) = Some (openings.Attribute, ts)
@@ -237,7 +237,7 @@ opening_front (keyword keywords.Grammar s ∷ ts) = Some (openings.Grammar, ts)
 opening_front (sign OpenParenthesis ∷ ts) = Some (openings.Parenthesis, ts)
 opening_front _ = None
 
--- how a primary that holds other patterns goes on
+-- a primary that contains other patterns, after its keyword or its parenthesis
 unfoldable pub opened_with : Inside → Opening → List Lexeme → Outcome Pattern
 opened_with inside openings.Element ts = named_with inside syntax.element ts
 opened_with inside openings.Attribute ts = named_with inside syntax.attribute ts
@@ -252,7 +252,7 @@ bare_primary_with inside ts = either_way (opening_front ts) (atom_at ts) (λ x. 
 unfoldable pub primary_with : Inside → List Lexeme → Outcome Pattern
 primary_with inside ts = annotated (bare_primary_with inside) ts
 
--- what a sign after a primary makes of it
+-- a primary with the sign of repetition after it, if there is one
 abbrev pub repeated : Pattern → List Lexeme → Pattern × List Lexeme
 repeated t (sign Question ∷ ts) = (syntax.optional t, ts)
 repeated t (sign Star ∷ ts) = (syntax.zero_or_more t, ts)
@@ -262,38 +262,38 @@ repeated t ts = (t, ts)
 unfoldable pub particle_with : Inside → List Lexeme → Outcome Pattern
 particle_with inside ts = primary_with inside ts >>= λ t. Ok (repeated t.0 t.1)
 
--- the connector in front
+-- the connector that is first
 abbrev pub separator_of : List Lexeme → Option Sign
 separator_of (sign Comma ∷ ts) = Some Comma
 separator_of (sign And ∷ ts) = Some And
 separator_of (sign Bar ∷ ts) = Some Bar
 separator_of _ = None
 
--- particles about a connector
+-- particles with a connector between them
 abbrev pub joined : Sign → List Pattern → Pattern
 joined Comma ts = syntax.members group ts
 joined And ts = syntax.members interleave ts
 joined _ ts = syntax.members choice ts
 
--- how a pattern goes on after its first particle
+-- the rest of a pattern after its first particle
 unfoldable pub rest_with : Inside → Pattern → Option Sign → List Lexeme → Outcome Pattern
 rest_with inside t None ts = Ok (t, ts)
 rest_with inside t (Some s) ts = many (follow s) (particle_with inside) ts >>= λ others. Ok (joined s (t ∷ others.0), others.1)
 
--- a pattern whose first primary this is
+-- the rest of a pattern after its first primary
 abbrev pub pattern_from : Inside → Pattern → List Lexeme → Outcome Pattern
 pattern_from inside t ts = Ok (repeated t ts) >>= λ x. rest_with inside x.0 (separator_of x.1) x.1
 
--- the same, where no segment follows
+-- the name of a datatype at the front, and the tokens after it, unless a segment follows
 abbrev pub data_front : List Lexeme → Option (DatatypeName × List Lexeme)
 data_front ts = either_way (type_front ts) None (λ x. if begins_segment x.1 then None else Some x)
 
--- a datatype, after its parameters
+-- a datatype after its parameters
 unfoldable pub data_with : Inside → DatatypeName → List (List ℕ × List ℕ) → List Lexeme → Outcome Pattern
 data_with inside d ps ts = either_way (follow Minus ts) (pattern_from inside (syntax.data_of d ps) ts) (λ us. primary_with inside us
     >>= λ t. Ok (syntax.data_except d ps t.0, t.1))
 
--- behind an annotation
+-- a pattern after an annotation
 unfoldable pub bare_pattern_with : Inside → List Lexeme → Outcome Pattern
 bare_pattern_with inside ts = either_way (data_front ts) (bare_primary_with inside ts >>= λ t. pattern_from inside t.0 t.1) (λ d. parameters_at d.1
     >>= λ ps. data_with inside d.0 ps.0 ps.1)
@@ -307,12 +307,12 @@ method_at (sign BarEqual ∷ ts) = Ok (methods.Choice, ts)
 method_at (sign AndEqual ∷ ts) = Ok (methods.Interleave, ts)
 method_at ts = unexpected ts
 
--- what there is in a grammar, and not in the braces of an include
+-- what is allowed in a grammar but not in the braces of an include
 abbrev pub in_content : {A : Type 0} → Setting → Option A → Option A
 in_content content o = o
 in_content override o = None
 
--- the number of `include`, if it stands in front and may, and the tokens after it
+-- the number of `include`, if it is first and allowed here, and the tokens after it
 abbrev pub include_front : Setting → List Lexeme → Option (ℕ × List Lexeme)
 include_front w (keyword keywords.Include s ∷ ts) = in_content w (Some (s.number, ts))
 include_front w _ = None
@@ -320,7 +320,7 @@ include_front w _ = None
 unfoldable pub overrides_with : Inside → List Lexeme → Outcome (List Component)
 overrides_with inside ts = either_way (follow OpenBrace ts) (Ok ([], ts)) (λ us. contents_with inside override ts)
 
--- a component begins here, or its annotation
+-- a component or its annotation begins here
 abbrev pub begins_component : Setting → List Lexeme → Bool
 begins_component w (identifier n ∷ ts) = true
 begins_component w (keyword keywords.Start s ∷ ts) = true
@@ -329,17 +329,17 @@ begins_component content (keyword keywords.Include s ∷ ts) = true
 begins_component w (sign OpenBracket ∷ ts) = true
 begins_component w _ = false
 
--- the same tokens, where a component begins
+-- the same tokens, if a component begins here
 abbrev pub component_front : Setting → List Lexeme → Option (List Lexeme)
 component_front w ts = if begins_component w ts then Some ts else None
 
--- a start or a define in front, with its method, and the tokens after that
+-- a start or a define at the front, with its method, and the tokens after that
 unfoldable pub assigned_at : List Lexeme → Outcome (Option (List ℕ) × Method)
 assigned_at (identifier n ∷ ts) = method_at ts >>= λ m. Ok ((Some n, m.0), m.1)
 assigned_at (keyword keywords.Start s ∷ ts) = method_at ts >>= λ m. Ok ((None, m.0), m.1)
 assigned_at ts = unexpected ts
 
--- a define of the name, or a start
+-- a define of the name, or a start if there is no name
 abbrev pub assigned : Option (List ℕ) → Method → Pattern → Component
 assigned None m t = syntax.start m t
 assigned (Some n) m t = syntax.define n m t
@@ -357,7 +357,7 @@ component_with inside w ts = annotated (bare_component_with inside w) ts
 unfoldable pub components_with : Inside → Setting → List Lexeme → Outcome (List Component)
 components_with inside w ts = many (component_front w) (component_with inside w) ts
 
--- how patterns and components inside brackets are read that may nest fewer than so many brackets
+-- how patterns and components inside brackets are read, if n brackets may be open, including these
 unfoldable pub inside_at : ℕ → Inside
 inside_at zero = record { class = λ ts. Err TooDeep; pattern = λ ts. Err TooDeep; components = λ w ts. Err TooDeep }
 inside_at (suc n) = record {
@@ -397,19 +397,19 @@ begins_declaration (keyword keywords.Default s ∷ ts) = true
 begins_declaration (keyword keywords.Datatypes s ∷ ts) = true
 begins_declaration _ = false
 
--- the same tokens, where a declaration begins
+-- the same tokens, if a declaration begins here
 abbrev pub declaration_front : List Lexeme → Option (List Lexeme)
 declaration_front ts = if begins_declaration ts then Some ts else None
 
--- a method stands in front
+-- the first token is a method
 abbrev pub begins_method : List Lexeme → Bool
 begins_method (sign Equal ∷ ts) = true
 begins_method (sign BarEqual ∷ ts) = true
 begins_method (sign AndEqual ∷ ts) = true
 begins_method _ = false
 
--- The body is a grammar: it begins with a component's keyword, or with an identifier and a method; or it has no tokens,
--- where it may have none.
+-- The body is a grammar: it begins with a component's keyword, or with an identifier and a method, or it has no tokens
+-- where that is allowed.
 abbrev pub is_grammar_body : Bool → List Lexeme → Bool
 is_grammar_body may_be_empty [] = may_be_empty
 is_grammar_body may_be_empty (keyword keywords.Start s ∷ ts) = true
@@ -418,7 +418,7 @@ is_grammar_body may_be_empty (keyword keywords.Include s ∷ ts) = true
 is_grammar_body may_be_empty (identifier n ∷ ts) = begins_method ts
 is_grammar_body may_be_empty _ = false
 
--- a body that is a pattern, behind an annotation
+-- a body that is a pattern, after an annotation
 abbrev pub pattern_body_with : Inside → List Lexeme → Outcome Body
 pattern_body_with inside ts = bare_pattern_with inside ts >>= λ t. Ok (syntax.pattern_body t.0, t.1)
 
@@ -427,7 +427,7 @@ unfoldable pub bare_body_with : Inside → List Lexeme → Outcome Body
 bare_body_with inside ts = if is_grammar_body true ts then (components_with inside content ts
     >>= λ cs. Ok (syntax.grammar_body (syntax.components_of cs.0), cs.1)) else pattern_body_with inside ts
 
--- a body behind the annotation of its pattern or its first component
+-- a body after the annotation of its pattern or of its first component
 unfoldable pub annotated_body_with : Inside → List Lexeme → Outcome Body
 annotated_body_with inside ts = if is_grammar_body false ts then (bare_component_with inside content ts >>= λ c. components_with inside content c.1
     >>= λ cs. Ok (syntax.grammar_body (syntax.components_of (c.0 ∷ cs.0)), cs.1)) else pattern_body_with inside ts
@@ -435,7 +435,7 @@ annotated_body_with inside ts = if is_grammar_body false ts then (bare_component
 unfoldable pub body_with : Inside → List Lexeme → Outcome Body
 body_with inside ts = either_way (follow OpenBracket ts) (bare_body_with inside ts) (λ us. annotation_end 0 us >>= λ x. annotated_body_with inside x.1)
 
--- the value, where no tokens are left
+-- the value, if no tokens are left
 abbrev pub if_ended : {A : Type 0} → A → List Lexeme → Result A Stop
 if_ended a [] = Ok a
 if_ended a (x ∷ ts) = unexpected (x ∷ ts)

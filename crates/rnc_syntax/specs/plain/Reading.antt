@@ -1,9 +1,9 @@
--- The tokens that a reader of the code still has, as the grammar reads them.
+-- The tokens that a reader of the code has not read yet, as the grammar reads them.
 use Rattle.std.specs.Prelude.{ℕ, ◌-◌, List, [], ◌∷◌, length}
 use Rattle.rnc_model.specs.declared.token.Token.{Token}
 use Rattle.rnc_model.specs.tokens.Lexeme.{Lexeme, lexeme_at}
 
--- the last tokens of so many: a token's number is how many there are without those after it
+-- The last tokens of a file that has `total` tokens. A token's number is the total without the tokens after it.
 abbrev pub lexemes_in : ℕ → List Token → List Lexeme
 lexemes_in total [] = []
 lexemes_in total (t ∷ ts) = lexeme_at t.kind t.text.now (total - length ts) ∷ lexemes_in total ts

@@ -5,7 +5,7 @@ use Rattle.rnc_syntax.specs.declared.fault.SyntaxFault.TheVariants as faults
 use Rattle.rnc_model.specs.tokens.Lexeme.{Lexeme}
 use Rattle.rnc_model.specs.grammar.Sentence.{BreaksNesting, BreaksGrammarAt}
 
--- this fault, unless memory ran out
+-- the tokens have this fault, unless memory ran out
 abbrev pub IsFaultOf : List Lexeme → SyntaxFault → Type 0
 IsFaultOf ts faults.Memory = Unit {0}
 IsFaultOf ts faults.TooDeep = BreaksNesting ts

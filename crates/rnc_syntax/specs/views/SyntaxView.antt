@@ -1,4 +1,4 @@
--- What the syntax trees of the code are, apart from where they lie in memory.
+-- Views of the syntax trees of the code, without their place in memory.
 use Rattle.std.specs.Prelude.{ℕ, List, map, Option, Some, None, option_map}
 use Rattle.rng_model.specs.simple.Tree.{choice, group, interleave}
 use Rattle.rnc_syntax.specs.declared.syntax_tree.QualifiedName.{QualifiedName}
@@ -38,7 +38,7 @@ name_with (Some p) l = syntax.prefixed p l
 abbrev pub name_of : QualifiedName → syntax.Name
 name_of n = name_with (option_map (λ p. p.now) n.prefix) n.local.now
 
--- one level of a name class, with each class inside already seen
+-- one level of a name class, if the classes inside are viewed already
 abbrev pub class_step : NameClass-F syntax.NameClass → syntax.NameClass
 class_step NameClass-F.Any = syntax.any_name
 class_step (NameClass-F.AnyExcept c) = syntax.any_except c.value
@@ -61,7 +61,7 @@ parameter_of p = (p.name.now, text_of p.value)
 abbrev pub mention_of : Mention → syntax.Mention
 mention_of m = record { href = text_of m.href; inherit = option_map (λ p. p.now) m.inherit; token = m.token }
 
--- one level of a pattern, with the patterns and components inside already seen
+-- one level of a pattern, if the patterns and components inside are viewed already
 abbrev pub pattern_step : Pattern-F syntax.Component syntax.Pattern → syntax.Pattern
 pattern_step (Pattern-F.Element c p) = syntax.element (class_of c) p.value
 pattern_step (Pattern-F.Attribute c p) = syntax.attribute (class_of c) p.value

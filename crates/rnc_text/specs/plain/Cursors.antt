@@ -15,18 +15,18 @@ use Rattle.rnc_text.specs.plain.CutSteps.{Found}
 abbrev pub remaining : Cursor → List Character
 remaining c = marked c.length c.escaped.now (chars c.rest.now)
 
--- these characters stand between two cursors
+-- these characters are between two cursors
 pub record IsPast (from : Cursor) (taken : List Character) (to : Cursor) : Type 0 where
   pub rest : remaining from ≡ taken ++ remaining to
   pub bytes : from.rest.now ≡ bytes_of taken ++ to.rest.now
   pub whole : to.length ≡ from.length
 
--- some characters stand between them
+-- the second cursor is not before the first
 pub record IsBefore (from to : Cursor) : Type 0 where
   pub taken : List Character
   pub past : IsPast from taken to
 
--- the kind of a token, and what it says
+-- the kind and the text of a token
 abbrev pub said : Piece → Option (TokenKind × List ℕ)
 said (gap all) = None
 said (token kind says all) = Some (kind, bytes_of says)
@@ -46,12 +46,12 @@ abbrev pub Finds : Cursor → Option (Part × Cursor) → Found → Type 0
 Finds from None found = found ≡ None
 Finds from (Some x) found = FindsPart from x.0 x.1 found
 
--- a cursor behind another is found, and these characters stand between
+-- a cursor after another one is found, with these characters between them
 abbrev pub FindsBehind : Cursor → Option Cursor → List Character → Option (List Character) → Type 0
 FindsBehind from None taken found = found ≡ None
 FindsBehind from (Some to) taken found = (found ≡ Some (remaining to)) × IsPast from taken to
 
--- the content before three quotes is found, and the cursor behind them
+-- the content before three quotes is found, with the cursor after them
 pub record FindsThree (from : Cursor) (end : Cursor) (to : Cursor) (quote : ℕ) (found : Option (List Character × List Character)) : Type 0 where
   pub content : List Character
   pub is : found ≡ Some (content, remaining to)

@@ -1,4 +1,4 @@
--- The cut step by step: what each function of `src/scanning.rt` answers.
+-- The cut step by step: what each function of `src/scanning.rt` returns.
 use Rattle.std.specs.Prelude.{ℕ, Bool, false, not, ◌&&◌, ◌==◌, if◌then◌else◌, List, [], ◌∷◌, ◌++◌, Option, Some, None}
 use Rattle.rng_model.specs.names.Characters.{is_name_start, is_name_char, is_colon}
 use Rattle.rnc_model.specs.declared.character.Character.{Character}
@@ -10,7 +10,7 @@ use Rattle.rnc_text.specs.declared.scanning.Class.TheVariants as classes
 use Rattle.rnc_model.specs.characters.Characters.{numbers_of}
 use Rattle.rnc_model.specs.tokens.Tokens.{Piece, gap, token, is_blank_character, is_in_line, is_in_segment, is_quote, word_kind, sign_of, three}
 
--- what may stand first in an NCName, and what after it
+-- the characters that begin an NCName, and those that may follow in it
 abbrev pub starts_ncname : ℕ → Bool
 starts_ncname c = is_name_start c && not (is_colon c)
 
@@ -40,7 +40,7 @@ abbrev pub first_of : List Character → Option (Character × List Character)
 first_of [] = None
 first_of (c ∷ cs) = Some (c, cs)
 
--- what follows this character, if it is in front
+-- the characters after this one, if it is first
 abbrev pub behind_at : ℕ → Option (Character × List Character) → Option (List Character)
 behind_at n None = None
 behind_at n (Some (LineEnd, cs)) = None
@@ -49,7 +49,7 @@ behind_at n (Some (Ordinary c, cs)) = if c == n then Some cs else None
 abbrev pub behind : ℕ → List Character → Option (List Character)
 behind n cs = behind_at n (first_of cs)
 
--- an NCName is in front
+-- an NCName begins here
 abbrev pub begins_at : Option (Character × List Character) → Bool
 begins_at None = false
 begins_at (Some (LineEnd, cs)) = false
@@ -61,7 +61,7 @@ begins_ncname cs = begins_at (first_of cs)
 abbrev pub Found : Type 0
 Found = Option (Piece × List Character)
 
--- a word, a CName or an nsName, of which the first NCName and what follows it are given
+-- a word, a CName or an nsName, by its first NCName and what follows it
 abbrev pub local_at : List Character → List Character → List Character → Found
 local_at name rest local = if begins_ncname local
     then Some (
@@ -81,13 +81,13 @@ colon_at name rest (Some local) = star_at name rest local (behind 0x2A local)
 unfoldable pub name_at : List Character → Found
 name_at cs = colon_at (front classes.Ncname cs) (after classes.Ncname cs) (behind 0x3A (after classes.Ncname cs))
 
--- a quoted identifier whose backslash is gone
+-- a quoted identifier after its backslash
 unfoldable pub quoted_at : List Character → Found
 quoted_at cs =
     if begins_ncname cs then Some
     (token kinds.QuotedIdentifier (front classes.Ncname cs) (Ordinary 0x5C ∷ front classes.Ncname cs), after classes.Ncname cs) else None
 
--- a segment whose first quote is gone
+-- a segment after its first quote
 abbrev pub segment_with : ℕ → List Character → Option (List Character) → Found
 segment_with quote content None = None
 segment_with quote content (Some end) = Some (token kinds.Segment content (Ordinary quote ∷ (content ++ Ordinary quote ∷ [])), end)
@@ -95,7 +95,7 @@ segment_with quote content (Some end) = Some (token kinds.Segment content (Ordin
 unfoldable pub segment_at : ℕ → List Character → Found
 segment_at quote cs = segment_with quote (front (classes.Segment quote) cs) (behind quote (after (classes.Segment quote) cs))
 
--- what follows three quotes in front
+-- what follows three quotes at the front
 abbrev pub then_behind : ℕ → Option (List Character) → Option (List Character)
 then_behind quote None = None
 then_behind quote (Some cs) = behind quote cs
@@ -106,7 +106,7 @@ behind_two quote cs = then_behind quote (behind quote cs)
 abbrev pub behind_three : ℕ → List Character → Option (List Character)
 behind_three quote cs = then_behind quote (behind_two quote cs)
 
--- what stands before the first three quotes, and what follows them
+-- the characters before the first three quotes, and those after them
 abbrev pub with_first : Character → Option (List Character × List Character) → Option (List Character × List Character)
 with_first c None = None
 with_first c (Some x) = Some (c ∷ x.0, x.1)
@@ -123,7 +123,7 @@ abbrev pub triple_with : ℕ → Option (List Character × List Character) → F
 triple_with quote None = None
 triple_with quote (Some x) = Some (token kinds.TripleSegment x.0 (three quote (x.0 ++ three quote [])), x.1)
 
--- a triple segment whose first quote is gone
+-- a triple segment after its first quote
 abbrev pub triple_in : ℕ → Option (List Character) → Found
 triple_in quote None = None
 triple_in quote (Some cs) = triple_with quote (until_three quote cs)
@@ -136,7 +136,7 @@ abbrev pub or_else : Found → Found → Found
 or_else None more = more
 or_else (Some x) more = Some x
 
--- a sign of two characters, or else of one
+-- a sign of two characters, or otherwise of one
 abbrev pub signed : Option Sign → List Character → List Character → Found
 signed None all rest = None
 signed (Some s) all rest = Some (token (kinds.Sign s) all all, rest)
@@ -148,7 +148,7 @@ long_sign c (Some x) = signed (sign_of (numbers_of (c ∷ x.0 ∷ []))) (c ∷ x
 abbrev pub sign_at : Character → List Character → Found
 sign_at c cs = or_else (long_sign c (first_of cs)) (signed (sign_of (numbers_of (c ∷ []))) (c ∷ []) cs)
 
--- the piece in front, and what follows it
+-- the piece at the front, and what follows it
 abbrev pub piece_by : ℕ → List Character → Found
 piece_by c cs =
     if starts_ncname c then name_at (Ordinary c ∷ cs) else (

@@ -1,4 +1,4 @@
--- Decoding step by step: what each function of `src/decoding.rt` and `src/hexadecimal.rt` answers.
+-- Decoding step by step: what each function of `src/decoding.rt` and `src/hexadecimal.rt` returns.
 use Rattle.std.specs.Prelude.{ℕ, zero, suc, ◌+◌, ◌*◌, Bool, true, false, ◌&&◌, nat_lt, ◌==◌, if◌then◌else◌, List, [], ◌∷◌, Option, Some, None}
 use Rattle.std.specs.Char.{is_digit, digit_value}
 use Rattle.rng_model.specs.names.Characters.{is_xml_char}
@@ -13,11 +13,11 @@ abbrev pub line_feed_or : List ℕ → Option (ℕ × List ℕ) → List ℕ
 line_feed_or cs None = cs
 line_feed_or cs (Some x) = if x.0 == 0xA then x.1 else cs
 
--- what follows an LF in front
+-- the characters without an LF at the front
 unfoldable pub without_line_feed : List ℕ → List ℕ
 without_line_feed cs = line_feed_or cs (first_and_rest cs)
 
--- `x`s and an opening brace are in front, and there is an `x` if there was none before
+-- `x`s and an opening brace are at the front, with at least one `x` here or before
 unfoldable pub opens_from : Bool → List ℕ → Bool
 opens_from any [] = false
 opens_from any (c ∷ cs) = if c == 0x78 then opens_from true cs else (if c == 0x7B then any else false)
@@ -27,8 +27,8 @@ hexadecimal_step next k n None = None
 hexadecimal_step next k n (Some x) =
     if (x.0 == 0x7D) && nat_lt k 6 then Some (n, x.1) else (if is_digit x.0 16 then next (n * 16 + digit_value x.0) x.1 else None)
 
--- Digits in front of a closing brace, after others with the number n: the number of all, and what follows the brace.
--- At most k characters are looked at, of the seven that digits and brace can be.
+-- Digits before a closing brace, after others with the number n: the number of all digits, and what follows the brace.
+-- Looks at k characters at most, out of the seven that digits and brace can be.
 unfoldable pub hexadecimal_end : ℕ → ℕ → List ℕ → Option (ℕ × List ℕ)
 hexadecimal_end zero n cs = None
 hexadecimal_end (suc k) n cs = hexadecimal_step (hexadecimal_end k) k n (first_and_rest cs)
@@ -45,7 +45,7 @@ abbrev pub after_x : Option (ℕ × List ℕ) → Option (Character × List ℕ)
 after_x None = None
 after_x (Some x) = if x.0 == 0x78 then after_brace (first_and_rest x.1) else None
 
--- the character of an escape whose backslash is gone
+-- the character of an escape after its backslash
 unfoldable pub escape_front : List ℕ → Option (Character × List ℕ)
 escape_front cs = after_x (first_and_rest cs)
 
@@ -61,6 +61,6 @@ abbrev pub front_at : Option (ℕ × List ℕ) → Option (Character × List ℕ
 front_at None = None
 front_at (Some x) = front_by x.0 x.1
 
--- the character in front, and what follows it
+-- the first character, and what follows it
 unfoldable pub front_of : List ℕ → Option (Character × List ℕ)
 front_of cs = front_at (first_and_rest cs)

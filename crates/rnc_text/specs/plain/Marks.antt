@@ -1,5 +1,5 @@
--- Marks: words, names, segments, signs, single spaces and line ends. A text that is made of marks, each parted from the next,
--- is cut into the pieces that they are (RELAX NG Compact Syntax, "Lexical structure").
+-- Marks: words, names, segments, signs, single spaces and line ends. A text of marks, each separated from the next, is
+-- cut into exactly their pieces (RELAX NG Compact Syntax, "Lexical structure").
 use Rattle.std.specs.Prelude.{◌≡◌, ℕ, Bool, true, false, not, ◌&&◌, ◌||◌, ◌==◌, List, [], ◌∷◌, ◌++◌, map, flat_map, codes}
 use Rattle.std.specs.Char.{IsScalar}
 use Rattle.std.specs.List.{list_all}
@@ -20,7 +20,7 @@ pub data Mark : Type 0 where
   word : List ℕ → Mark
   cname : List ℕ → List ℕ → Mark
   ns_name : List ℕ → Mark
-  -- the quote, and what the segment says between two of it
+  -- the quote, and the text between two quotes
   segment : ℕ → List ℕ → Mark
   sign : Sign → Mark
 
@@ -45,13 +45,13 @@ sign_text signs.Tilde = codes "~"
 
 -- ---- how they are written
 
--- Whatever follows what is written for a Char within quotes, this Char is read (XML 1.0 Fifth Edition, section 2.2).
+-- A Char is read back from what is written for it within quotes, whatever follows (XML 1.0 Fifth Edition, section 2.2).
 pub record IsReadBack (written : ℕ → List ℕ) : Type 0 where
   pub scalars : (c : ℕ) → IsScalar c → all_scalars (written c) ≡ true
   pub begins : (c : ℕ) (rest : List ℕ) → is_xml_char c ≡ true → Begins (written c ++ rest) (Ordinary c) rest
 
 module _ (written : ℕ → List ℕ) where
-  -- how a mark is written, where a character within quotes is written so
+  -- the text of a mark, if characters within quotes are written so
   abbrev pub mark_text : Mark → List ℕ
   mark_text space = 0x20 ∷ []
   mark_text line_end = 0xA ∷ []
@@ -92,11 +92,11 @@ piece_of_mark (sign s) = token (kinds.Sign s) (ordinary (sign_text s)) (ordinary
 
 -- ---- which marks are read back
 
--- a Char that is not the quote
+-- a Char other than the quote
 abbrev pub is_within : ℕ → ℕ → Bool
 is_within quote c = is_xml_char c && not (c == quote)
 
--- the names are NCNames, and a segment has Chars without its quote
+-- names are NCNames, and a segment consists of Chars other than its quote
 abbrev pub IsMark : Mark → Type 0
 IsMark (word w) = is_ncname w ≡ true
 IsMark (cname p l) = (is_ncname p ≡ true) × (is_ncname l ≡ true)
@@ -106,14 +106,14 @@ IsMark space = Unit {0}
 IsMark line_end = Unit {0}
 IsMark (sign s) = Unit {0}
 
--- anything may stand behind it
+-- any mark may follow this one
 abbrev pub is_open : Mark → Bool
 is_open space = true
 is_open line_end = true
 is_open (sign signs.OpenParenthesis) = true
 is_open _ = false
 
--- it may stand behind anything: a space, a line end, `,`, `+` or `)`
+-- may follow any mark: a space, a line end, `,`, `+` or `)`
 abbrev pub is_apart : Mark → Bool
 is_apart space = true
 is_apart line_end = true
@@ -122,12 +122,12 @@ is_apart (sign signs.Plus) = true
 is_apart (sign signs.CloseParenthesis) = true
 is_apart _ = false
 
--- these may stand behind anything: nothing, or such a mark in front
+-- may follow any mark: no marks, or a first mark that may
 abbrev pub begins_apart : List Mark → Bool
 begins_apart [] = true
 begins_apart (m ∷ ms) = is_apart m
 
--- each is a mark, and what follows it may stand behind it
+-- each is a mark, and may be followed by the next one
 abbrev pub AreParted : List Mark → Type 0
 AreParted [] = Unit {0}
 AreParted (m ∷ ms) = IsMark m × ((is_open m || begins_apart ms) ≡ true) × AreParted ms
@@ -138,7 +138,7 @@ AreParted (m ∷ ms) = IsMark m × ((is_open m || begins_apart ms) ≡ true) × 
 abbrev pub MarksAreCut : Type 0
 MarksAreCut = (ms : List Mark) → AreParted ms → Cuts (characters_of_marks ms) (map piece_of_mark ms) []
 
--- the UTF-8 of their text stands for their characters
+-- the UTF-8 of their text decodes to their characters
 abbrev pub MarksAreDecoded : Type 0
 MarksAreDecoded = (written : ℕ → List ℕ) → IsReadBack written → (ms : List Mark) → AreParted ms
     → IsDecoded (encode_utf8_all (text_of_marks written ms)) (characters_of_marks ms)

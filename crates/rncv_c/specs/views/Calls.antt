@@ -1,4 +1,4 @@
--- What calls of a document answer in numbers, by what its own functions answer.
+-- What the calls on a document return in numbers, given what the functions of `Document` return.
 use Rattle.std.specs.Prelude.{◌≡◌, ◌⊎◌, ℕ, ℤ, List, [], ◌++◌, Some, None, Result, Ok, Err, IfErr, IfOk, IfSome, OnOk, unwrap_or}
 use Rattle.rng_model.specs.schema.Schema.{Schema}
 use Rattle.rng_model.specs.declared.fault.OutOfMemory.{OutOfMemory}
@@ -17,18 +17,18 @@ use Rattle.rncv_c.specs.declared.status.Status.{Status}
 use Rattle.rncv_c.specs.declared.status.Status.TheVariants as status
 use Rattle.rncv_c.specs.declared.told.Judgement.{Judgement}
 
--- nothing was fed yet, and there is no fault
+-- nothing is fed yet, and there is no fault
 pub record HasBegun (document : Judging) : Type 0 where
   pub fed : HasBeenFed document []
   pub working : document.fault ≡ None
 
--- the status that goes with what `Document::feed` answers
+-- the status for the result of `Document::feed`
 abbrev pub status_of_feed : Result (Unit {0}) DocumentFault → Status
 status_of_feed (Ok x) = status.Done
 status_of_feed (Err (faults.Malformed clause line)) = status.Malformed
 status_of_feed (Err faults.Memory) = status.Memory
 
--- A piece was handed to the document, and this number was answered: as `Document::feed` promises.
+-- A piece was fed to the document, and the call returned this number: as `Document::feed` promises.
 pub record HasTaken (piece : List ℕ) (number : ℤ) (old new : Judging) : Type 0 where
   pub answer : Result (Unit {0}) DocumentFault
   pub number_is : number ≡ code_of (status_of_feed answer)
@@ -39,31 +39,32 @@ pub record HasTaken (piece : List ℕ) (number : ℤ) (old new : Judging) : Type
   pub sticky : IfSome old.fault (λ f. (answer ≡ Err f) × (new ≡ old))
   pub since : IfSome (failed_since old) (λ line. UnlessMemory answer (failed_since new ≡ Some line))
 
--- the status that goes with what `Document::finish` answers
+-- the status for the result of `Document::finish`
 abbrev pub status_of_end : Result Verdict OutOfMemory → Status
 status_of_end (Ok verdict) = status.Done
 status_of_end (Err e) = status.Memory
 
--- what C is told at the end; where memory was wanting it is left as it was
+-- what is reported to C at the end; unchanged when out of memory
 abbrev pub told_at_end : Judgement → Result Verdict OutOfMemory → Judgement
 told_at_end old (Ok verdict) = judgement_of verdict
 told_at_end old (Err e) = old
 
--- this is what `Document::finish` may answer
+-- `Document::finish` may return this
 pub record IsEndOf (document : Judging) (answer : Result Verdict OutOfMemory) : Type 0 where
   pub verdict : IfOk answer (λ v. (s : Schema) (bytes : List ℕ) → Judges document.grammar s → HasBeenFed document bytes
       → IsVerdictOn s bytes v)
   pub sticky : IfSome document.fault (λ f. answer ≡ told_by f)
   pub since : IfSome (failed_since document) (λ line. IfOk answer (λ v. IsMalformed v ⊎ (v ≡ Invalid line)))
 
--- the document has ended, this number was answered, and C was told this
+-- the document has ended, the call returned this number, and this was reported to C
 pub record HasEnded (document : Judging) (number : ℤ) (old new : Judgement) : Type 0 where
   pub answer : Result Verdict OutOfMemory
   pub is : IsEndOf document answer
   pub number_is : number ≡ code_of (status_of_end answer)
   pub told : new ≡ told_at_end old answer
 
--- The line from which on nothing valid can begin, 0 where it is not known. Where it is known, nothing that begins with what was fed is valid.
+-- The line after which no continuation is valid, or 0 if it is not known. If it is known, no document that begins with
+-- what was fed is valid.
 pub record IsInvalidSince (line : ℕ) (document : Judging) : Type 0 where
   pub value : line ≡ unwrap_or (failed_since document) 0
   pub hopeless : IfSome (failed_since document) (λ since. (s : Schema) (bytes rest : List ℕ) → Judges document.grammar s

@@ -1,14 +1,14 @@
--- The files of a schema, as C hands them in.
+-- The files of a schema as C passes them.
 use Rattle.std.specs.Prelude.{ℕ, ◌<◌, ℤ, pos, negsuc, List, [], ◌∷◌, All, IsUtf8, Option, Some, None, bytes_eq, length, map, position, slice_get}
 use Rattle.rnc_model.specs.loading.SchemaFile.{Name, NamedFile}
 use Rattle.rncv_c.specs.declared.files.SchemaFile.{SchemaFile}
 
--- there is a file, and each has a text for its name
+-- there is a file, and the name of each is a text
 pub record AreNamed (files : List SchemaFile) : Type 0 where
   pub some : 0 < length files
   pub texts : All (λ f. IsUtf8 f.name.now) files
 
--- the files, apart from where they lie in memory
+-- the files, without their place in memory
 abbrev pub files_of : List SchemaFile → List NamedFile
 files_of files = map (λ f. record { name = f.name.now; bytes = f.bytes.now }) files
 
@@ -17,7 +17,7 @@ abbrev pub main_of : List SchemaFile → Name
 main_of [] = []
 main_of (file ∷ files) = file.name.now
 
--- an index as C sees it; none is -1
+-- an index as C reads it; `None` is -1
 abbrev pub index_for_c : Option ℕ → ℤ
 index_for_c None = negsuc 0
 index_for_c (Some index) = pos index

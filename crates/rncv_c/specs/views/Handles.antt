@@ -1,4 +1,4 @@
--- What a handle owns: null holds nothing, and any other is a box of what it holds.
+-- What a handle owns: null holds nothing, and any other pointer is a box of what the handle holds.
 use base.Fml.{Fml, feq}
 use base.Stored.{Coded}
 use denote.RawPtr.{Ptr, null_ptr}
@@ -14,6 +14,6 @@ abbrev pub handle_owns : Global → Ptr → Option the_row.Denot → Fml
 handle_owns alloc p None = feq Ptr p null_ptr
 handle_owns alloc p (Some x) = box_owns (ghosts.dealloc_token alloc) the_row p x
 
--- the code of what a handle may hold: antt finds it by itself only where no type in it holds itself
+-- the code of what a handle may hold; antt finds it by itself only for types that do not contain themselves
 abbrev pub held_coded : Coded (Option the_row.Denot)
 held_coded = coded_option the_row.coded

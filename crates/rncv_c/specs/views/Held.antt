@@ -1,4 +1,4 @@
--- What handles hold, and the numbers that C is answered.
+-- What handles hold, and the numbers that calls return to C.
 use Rattle.std.specs.Prelude.{ℤ, pos, Option, Some, None}
 use Rattle.rng_model.specs.simple.Table.{Table}
 use Rattle.rncv_validator.specs.views.Documents.{Judging}
@@ -13,13 +13,13 @@ schema_in None = None
 schema_in (Some (Schema grammar)) = Some grammar
 schema_in (Some (Document document)) = None
 
--- the document that was begun
+-- the document that is begun
 abbrev pub document_in : Option Held → Option Judging
 document_in None = None
 document_in (Some (Schema grammar)) = None
 document_in (Some (Document document)) = Some document
 
--- the grammar by which documents are judged, with or without one begun
+-- the grammar that judges documents, with or without one begun
 abbrev pub grammar_in : Option Held → Option Table
 grammar_in None = None
 grammar_in (Some (Schema grammar)) = Some grammar

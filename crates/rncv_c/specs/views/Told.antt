@@ -1,4 +1,4 @@
--- What C is told of files that are refused, and of a document.
+-- What is reported to C of refused files, and of a document.
 use Rattle.std.specs.Prelude.{◌≡◌, ◌^◌, ℕ, ℤ, pos, negsuc, nat_lt, if◌then◌else◌, List, Option, Some, None, string_bytes}
 use Rattle.rng_model.specs.declared.fault.SchemaFault.{SchemaFault}
 use Rattle.rng_model.specs.declared.fault.SchemaFault.TheVariants as faults
@@ -13,11 +13,11 @@ use Rattle.rncv_c.specs.declared.files.SchemaFile.{SchemaFile}
 use Rattle.rncv_c.specs.declared.told.Judgement.{Judgement}
 use Rattle.rncv_c.specs.declared.told.Refusal.{Refusal}
 
--- a number, where C has it; else -1
+-- a number if C can hold it, otherwise -1
 abbrev pub number_for_c : ℕ → ℤ
 number_for_c n = if nat_lt n (2 ^ 63) then pos n else negsuc 0
 
--- the refusal by this clause, in the file of this index, at this place; where there is none, -1 is told
+-- the refusal by this clause, in the file of this index, at this place; without a place, -1 is reported
 abbrev pub refusal_at : ℤ → ℕ → Option FilePlace → Refusal
 refusal_at file clause None = record { clause = pos clause; file = file; offset = negsuc 0; line = negsuc 0; column = negsuc 0 }
 refusal_at file clause (Some p) = record {
@@ -28,13 +28,13 @@ refusal_at file clause (Some p) = record {
   column = number_for_c p.column;
 }
 
--- the place at which a file breaks the clause; none where there is no file, or where it does not break the clause by what is in it
+-- the place where a file breaks the clause; none if there is no file, or if its content does not break the clause
 abbrev pub IsPlaceToTell : Option SchemaFile → ℕ → Option FilePlace → Type 0
 IsPlaceToTell None clause p = p ≡ None
 IsPlaceToTell (Some f) clause None = ¬ (BreaksFileClause f.bytes.now clause)
 IsPlaceToTell (Some f) clause (Some p) = BreaksClauseAt f.bytes.now clause p
 
--- this is told of a fault; nothing is of want of memory
+-- this is reported of a fault; nothing is reported of out of memory
 abbrev pub IsToldOf : List SchemaFile → SchemaFault → Refusal → Type 0
 IsToldOf files (faults.File clause name) told =
     (place : Option FilePlace) × IsPlaceToTell (first_file (string_bytes name) files) clause place
@@ -42,7 +42,7 @@ IsToldOf files (faults.File clause name) told =
 IsToldOf files (faults.Clause clause) told = told ≡ refusal_at (negsuc 0) clause None
 IsToldOf files faults.Memory told = ⊥
 
--- the files are no schema, and this is told of it
+-- the files are refused, and this is reported of them
 pub record AreRefused (files : List SchemaFile) (told : Refusal) : Type 0 where
   pub fault : SchemaFault
   pub is : IsRefusal (files_of files) (main_of files) fault

@@ -16,28 +16,29 @@ use Rattle.rncv_cli.specs.declared.fault.Fault.TheVariants.{Memory, Read, Write,
 abbrev pub read_limit : ℕ
 read_limit = 1048577
 
--- These bytes are read of what was opened: no more than the limit, and the first that the reader has where it tells them.
+-- These bytes are read of what was opened: at most as many as the limit, and the first ones of the reader if it is
+-- known which it has.
 pub record IsReadOf {R E : Type 0} (remaining : R → Option (List ℕ)) (opened : Result R E) (bytes : List ℕ) : Type 0 where
   pub reader : R
   pub is_open : opened ≡ Ok reader
   pub is_front : IfSome (remaining reader) (λ all. bytes ≡ take read_limit all)
   pub within : length bytes ≤ read_limit
 
--- they are read of what this way to open files may give for the name
+-- these bytes are read of what this function to open files may return for the name
 pub record IsReadBy {F R E : Type 0} (opener : Shared F (Bor Text × Unit {0}) (Result R E)) (open_file : F) (remaining : R → Option (List ℕ))
     (name : Text) (bytes : List ℕ) : Type 0 where
   pub opened : Result R E
   pub is_opened : FnReturnsAt opener open_file name opened
   pub is_read : IsReadOf remaining opened bytes
 
--- A relation says which bytes may be read of the file of a name.
+-- A relation says which bytes may be read of the file with a name.
 module _ (reads : Text → List ℕ → Type 0) where
-  -- the files have these names, in order, each with what was read of it
+  -- the files have these names, in order, each with the bytes that are read of it
   pub record AreRead (names : List (String Global)) (files : List (String Global × Vec ℕ Global)) : Type 0 where
     pub named : map (λ file. file.0) files ≡ names
     pub each : All (λ file. reads (string_bytes file.0) file.1.items) files
 
-  -- all files before the one of this name were read
+  -- all files before the one with this name are read
   pub record IsFirstUnread (names : List (String Global)) (name : String Global) : Type 0 where
     pub before : List (String Global)
     pub after : List (String Global)
@@ -45,21 +46,22 @@ module _ (reads : Text → List ℕ → Type 0) where
     pub files : List (String Global × Vec ℕ Global)
     pub are_read : AreRead before files
 
-  -- the answer that a run gives to the command over files of these names, the first being the main one, and the document that a reader has left
+  -- the answer of a run for the command and files with these names, the first of which is the main one, and for the
+  -- document that a reader has left
   pub record IsAnswerOver (command : Command) (names : List (String Global)) (input : Option (List ℕ)) (answer : Answer) : Type 0 where
     pub files : List (String Global × Vec ℕ Global)
     pub are_read : AreRead names files
     pub left : Option (List ℕ)
     pub is : IsAnswer command (named_files files) (main_name files) input left answer
 
-  -- the same, of the command and the files of a command line
+  -- the same, for the command and the files of a command line
   pub record IsAnswerTo (words : List Text) (input : Option (List ℕ)) (answer : Answer) : Type 0 where
     pub command : Command
     pub names : List (String Global)
     pub is_line : IsCommandLine words command (map string_bytes names)
     pub is : IsAnswerOver command names input answer
 
--- what a fault leaves written: nothing, or after a failed write a beginning of the line
+-- what is written after a fault: a beginning of the line after a failed write, otherwise nothing
 abbrev pub LeavesWritten : (Answer → Type 0) → Fault → Option (List ℕ) → Option (List ℕ) → Type 0
 LeavesWritten answers Memory old new = Keeps old new
 LeavesWritten answers Read old new = Keeps old new

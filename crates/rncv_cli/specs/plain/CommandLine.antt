@@ -8,7 +8,7 @@ use Rattle.rncv_model.specs.declared.command.Command.TheVariants.{Valid, Check, 
 abbrev pub Text : Type 0
 Text = List ℕ
 
--- the words of a program behind the first, which is the program's name
+-- the words of a program without the first, which is the program's name
 abbrev pub words_behind_name : List (String Global) → List Text
 words_behind_name words = map string_bytes (drop 1 words)
 
@@ -16,7 +16,7 @@ words_behind_name words = map string_bytes (drop 1 words)
 abbrev pub IsOption : Text → Type 0
 IsOption word = (next : ℕ) × (rest : Text) × (word ≡ codes "-" ++ next ∷ rest)
 
--- the arguments are the words without the first `--`; before it, and anywhere where there is none, no word is an option
+-- the arguments are the words without the first `--`; before it, or everywhere if there is none, no word is an option
 pub data WithoutDashes : List Text → List Text → Type 0 where
   none : WithoutDashes [] []
   dashes : {word : Text} {rest : List Text} → word ≡ codes "--" → WithoutDashes (word ∷ rest) rest
@@ -28,7 +28,7 @@ name_of Valid = codes "valid"
 name_of Check = codes "check"
 name_of Simple = codes "simple"
 
--- the words are a command line: the name of the command, and then one file or more
+-- the words are a command line: the name of the command, followed by one or more files
 pub record IsCommandLine (words : List Text) (command : Command) (files : List Text) : Type 0 where
   pub arguments : WithoutDashes words (name_of command ∷ files)
   pub some : 0 < length files

@@ -1,4 +1,4 @@
--- The form by which clap reads a command line, and what is found by it.
+-- The form by which clap reads a command line, and what clap finds by it.
 use Rattle.std.specs.Prelude.{List, Option, Some, None, codes, true, option_and_then, if◌then◌else◌}
 use Rattle.std.specs.Str.{bytes_eq}
 use Rattle.clap.specs.Lexer.{usize_max}
@@ -17,7 +17,7 @@ command_rule = record (new_rule (codes "command")) { required = true; action = S
 abbrev pub files_rule : Rule
 files_rule = record (new_rule (codes "files")) { required = true; range = Some (record { start_inclusive = 1; end_inclusive = usize_max }) }
 
--- the program before its arguments: it is not named, and there is no call for help
+-- the program without its arguments: it has no name, and no option for help
 abbrev pub bare_form : App
 bare_form = on_top (λ s. record s { no_binary_name = true; disable_help_flag = true }) (new_app (codes "rncv"))
 
@@ -36,6 +36,6 @@ command_named name =
 abbrev pub command_in : List Row → Option Command
 command_in rows = option_and_then command_named (first_of (codes "command") rows)
 
--- the names of files that were found
+-- the names of the files that were found
 abbrev pub files_in : List Row → Option (List Text)
 files_in rows = all_of (codes "files") rows

@@ -17,13 +17,13 @@ fault_text Write = codes "rncv: write failed"
 fault_text (File name) = codes "rncv: cannot read file " ++ string_bytes name
 fault_text Usage = codes "usage: rncv valid|check|simple FILES.."
 
--- the fault of the program where a run gave up
+-- the fault of the program if a run failed
 abbrev pub fault_of_run : RunFault → Fault
 fault_of_run causes.Memory = Memory
 fault_of_run causes.Read = Read
 fault_of_run causes.Write = Write
 
--- what reading the words may answer
+-- the faults of reading the words
 abbrev pub IsMemoryOrUsage : Fault → Type 0
 IsMemoryOrUsage Memory = ⊤
 IsMemoryOrUsage Usage = ⊤
@@ -31,7 +31,7 @@ IsMemoryOrUsage Read = ⊥
 IsMemoryOrUsage Write = ⊥
 IsMemoryOrUsage (File name) = ⊥
 
--- what reading the files of these names may answer
+-- the faults of reading the files with these names
 abbrev pub IsUnreadable : (Text → List ℕ → Type 0) → List (String Global) → Fault → Type 0
 IsUnreadable reads names Memory = ⊤
 IsUnreadable reads names (File name) = IsFirstUnread reads names name
@@ -39,7 +39,7 @@ IsUnreadable reads names Read = ⊥
 IsUnreadable reads names Write = ⊥
 IsUnreadable reads names Usage = ⊥
 
--- what the program may answer to words that name these files
+-- the faults of the program for words that name these files
 abbrev pub IsFaultOver : (Text → List ℕ → Type 0) → List (String Global) → Fault → Type 0
 IsFaultOver reads names Memory = ⊤
 IsFaultOver reads names Read = ⊤
@@ -47,14 +47,14 @@ IsFaultOver reads names Write = ⊤
 IsFaultOver reads names (File name) = IsFirstUnread reads names name
 IsFaultOver reads names Usage = ⊥
 
--- the first of the files of a command line that was not read
+-- the first file of a command line that is not read
 pub record IsFirstUnreadOf (reads : Text → List ℕ → Type 0) (words : List Text) (name : String Global) : Type 0 where
   pub command : Command
   pub names : List (String Global)
   pub is_line : IsCommandLine words command (map string_bytes names)
   pub is_first : IsFirstUnread reads names name
 
--- what the program may answer to these words
+-- the faults of the program for these words
 abbrev pub IsFaultTo : (Text → List ℕ → Type 0) → List Text → Fault → Type 0
 IsFaultTo reads words Memory = ⊤
 IsFaultTo reads words Read = ⊤

@@ -5,7 +5,8 @@ use Rattle.rncv_model.specs.declared.verdict.Verdict.TheVariants as verdicts
 use Rattle.rncv_model.specs.declared.status.Status.{Status}
 use Rattle.rncv_model.specs.declared.status.Status.TheVariants as statuses
 
--- the schema is refused by a clause, or the file of this name is, or the schema is good, or it is printed, or the document is judged
+-- a clause refuses the schema or the file of this name, or the schema is good, or it is printed, or the document has a
+-- verdict
 pub data Answer : Type 0 where
   refused : ℕ → Answer
   refused_file : ℕ → List ℕ → Answer
@@ -13,11 +14,11 @@ pub data Answer : Type 0 where
   printed : List ℕ → Answer
   judged : Verdict → Answer
 
--- a line feed ends a line
+-- a line: the text and a line feed
 abbrev pub line : List ℕ → List ℕ
 line text = text ++ 10 ∷ []
 
--- What is written: one line, or what is printed. The text of a number stands in decimal, and that of a name as it is.
+-- What is written: one line, or the printed text. Numbers are in decimal, and names are as they are.
 abbrev pub output_of : Answer → List ℕ
 output_of (refused clause) = line (codes "refused S" ++ decimal clause)
 output_of (refused_file clause name) = line (codes "refused S" ++ decimal clause ++ codes " file " ++ name)

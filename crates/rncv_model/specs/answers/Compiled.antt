@@ -1,4 +1,4 @@
--- What is told of the files of a schema when they are compiled, and of documents by it.
+-- What is reported of the files of a schema when they are compiled, and of documents by this schema.
 use Rattle.std.specs.Prelude.{◌⊎◌, ℕ, List, string_bytes}
 use Rattle.rng_model.specs.schema.Schema.{Schema}
 use Rattle.rng_model.specs.schema.SchemaClauses.{BreaksNoClause, IsLeastClause}
@@ -29,14 +29,15 @@ pub record HaveLeastClause (files : List NamedFile) (main : Name) (clause : ℕ)
   pub are : AreTakenAs files main schema
   pub least : IsLeastClause schema clause
 
--- What is told of files that are no schema without a fault: the clause that a file breaks by itself, with its name; else the clause that they break
--- together; else the least one that their schema breaks. Want of memory tells nothing.
+-- What is reported of files that are not a schema, or whose schema breaks a clause: the clause that a file breaks by
+-- itself, with its name; otherwise the clause that the files break together; otherwise the least clause that their
+-- schema breaks. Out of memory reports nothing.
 abbrev pub IsRefusal : List NamedFile → Name → SchemaFault → Type 0
 IsRefusal files main (faults.File clause name) = FilesHaveOnlyVerdict files main (file_breaks (string_bytes name) clause)
 IsRefusal files main (faults.Clause clause) = FilesHaveOnlyVerdict files main (together_break clause) ⊎ HaveLeastClause files main clause
 IsRefusal files main faults.Memory = Unit {0}
 
--- the verdict on these bytes by the schema as it is written, and no other holds
+-- this is the verdict on these bytes by the schema as it is written, and no other one holds
 pub record IsVerdictOn (s : Schema) (bytes : List ℕ) (v : Verdict) : Type 0 where
   pub is : IsVerdict (IsValidBySchema s) (IsUnknownIn s) bytes v
   pub only : IsOnlyVerdict (IsValidBySchema s) (IsUnknownIn s) bytes v

@@ -1,4 +1,4 @@
--- What a document is, where it is said which documents are valid and which names no element may have.
+-- The verdict on a document, given which documents are valid and which names no element may have.
 use Rattle.std.specs.Prelude.{◌≡◌, ◌≤◌, ◌⊎◌, List, [], ℕ, All, Option, length, take}
 use Rattle.rng_model.specs.matching.Document.{Item}
 use Rattle.rng_model.specs.documents.Lines.{lines}
@@ -23,8 +23,8 @@ StartsUnknown IsUnknown (a_start name attrs) = IsUnknown name
 StartsUnknown IsUnknown (a_string text) = ⊥
 StartsUnknown IsUnknown an_end = ⊥
 
--- The bytes are a document, and n is one of its lines: nothing that begins with its lines up to this one is valid, and the start of no element
--- with a name that no element may have is told before it.
+-- The bytes are a document, and n is one of its lines. No document that begins with its lines up to n is valid. No
+-- start of an element with a name that no element may have is reported before line n.
 pub record IsInvalidFrom (IsValid : Item → Type 0) (IsUnknown : Name → Type 0) (bytes : List ℕ) (n : ℕ) : Type 0 where
   pub document : Placed
   pub is_document : IsPyxDocument bytes document
@@ -33,20 +33,20 @@ pub record IsInvalidFrom (IsValid : Item → Type 0) (IsUnknown : Name → Type 
   pub cannot : CannotBeValid IsValid bytes n
   pub known : All (λ e. StartsUnknown IsUnknown e.kind → n ≤ e.line) (events_of document)
 
--- Valid: the bytes are a document, and it is valid. Malformed: this is the broken clause of least line, and of least number there. Invalid: the bytes
--- are a document, and not valid from this line on.
+-- Valid: the bytes are a document, and it is valid. Malformed: this is the broken clause of the least line, and of the
+-- least number there. Invalid: the bytes are a document, and it is invalid from this line on.
 abbrev pub IsVerdict : (Item → Type 0) → (Name → Type 0) → List ℕ → Verdict → Type 0
 IsVerdict IsValid IsUnknown bytes Valid = IsValidDocument IsValid bytes
 IsVerdict IsValid IsUnknown bytes (Malformed clause line) = IsFirstFault (lines bytes) (record { clause = clause; line = line })
 IsVerdict IsValid IsUnknown bytes (Invalid n) = IsInvalidFrom IsValid IsUnknown bytes n
 
--- the verdicts are the same, but perhaps for the line of what is invalid
+-- the verdicts are equal, except for the line of an invalid document
 abbrev pub AreSameVerdict : Verdict → Verdict → Type 0
 AreSameVerdict Valid w = w ≡ Valid
 AreSameVerdict (Malformed clause line) w = w ≡ Malformed clause line
 AreSameVerdict (Invalid n) w = (m : ℕ) × (w ≡ Invalid m)
 
--- whatever verdict holds is this one
+-- every verdict that holds is this one
 abbrev pub IsOnlyVerdict : (Item → Type 0) → (Name → Type 0) → List ℕ → Verdict → Type 0
 IsOnlyVerdict IsValid IsUnknown bytes v = (w : Verdict) → IsVerdict IsValid IsUnknown bytes w → AreSameVerdict v w
 
@@ -55,8 +55,8 @@ IsMalformed Valid = ⊥
 IsMalformed (Malformed clause line) = Unit {0}
 IsMalformed (Invalid n) = ⊥
 
--- The verdict is that of the definition, and no other is, for the bytes that an input had left. They were read to the end; a document that is
--- malformed was perhaps not.
+-- This is the verdict on the bytes that an input had left, and it is unique. The input was read to its end, except
+-- perhaps for a malformed document.
 pub record IsJudgedBy (IsValid : Item → Type 0) (IsUnknown : Name → Type 0) (verdict : Verdict) (input_old input_new : Option (List ℕ)) : Type 0 where
   pub document : List ℕ
   pub rest : List ℕ

@@ -1,5 +1,5 @@
--- The text of a simple grammar: a line for the start, and for each element and each pattern that has parts, and before them
--- a line for each namespace.
+-- The text of a simple grammar: a line for each namespace, then a line for the start, for each element, and for each
+-- pattern that has parts.
 use Rattle.std.specs.Prelude.{◌≡◌, ℕ, Bool, true, false, ◌||◌, ◌==◌, if◌then◌else◌, List, [], ◌∷◌, ◌++◌, flat_map, codes, decimal}
 use Rattle.std.specs.List.{slice_index_or, filter_map}
 use Rattle.std.specs.Prelude.{Option, Some, None}
@@ -11,9 +11,10 @@ use Rattle.rng_model.specs.simple.Table.{Grammar}
 use Rattle.rncv_model.specs.printed.Numbering.{first_times, place_in, IsNumbering}
 use Rattle.rncv_model.specs.printed.Same.{same_tree}
 
--- ---- what has a line of its own
+-- ---- items: what has its own line
 
--- an element, which its place among the grammar's elements names, or a pattern that has parts: equal ones are one
+-- an element, named by its position among the grammar's elements, or a pattern that has parts; equal patterns are one
+-- item
 pub data Item : Type 0 where
   element : ℕ → Item
   pattern : Simple ℕ → Item
@@ -23,7 +24,7 @@ same_item (element k) (element l) = k == l
 same_item (pattern a) (pattern b) = same_tree a b
 same_item _ _ = false
 
--- what is written for a pattern: the name of this item, if it is one
+-- the item whose name is written for a pattern, if there is one
 abbrev pub item_of : Simple ℕ → List Item
 item_of s_not_allowed = []
 item_of s_empty = []
@@ -37,7 +38,7 @@ item_of s = pattern s ∷ []
 abbrev pub element_at : Grammar → ℕ → NameClass × Simple ℕ
 element_at g k = slice_index_or g.elements k (any_name, s_not_allowed)
 
--- the items of which the line of a pattern writes the names
+-- the items whose names the line of a pattern writes
 abbrev pub parts_of : Simple ℕ → List Item
 parts_of (s_attribute c a) = item_of a
 parts_of (s_list a) = item_of a
@@ -46,12 +47,12 @@ parts_of (s_one_or_more a) = item_of a
 parts_of (s_joined k a b) = item_of a ++ item_of b
 parts_of _ = []
 
--- the items of which the line of an item writes the names, behind its own
+-- the items whose names the line of an item writes, after its own name
 abbrev pub mentions : Grammar → Item → List Item
 mentions g (element k) = item_of (element_at g k).1
 mentions g (pattern s) = parts_of s
 
--- the numbering of the items: those that the start reaches, in the order in which their names first stand in the text
+-- the numbering of the items: those that the start reaches, in the order in which their names first occur in the text
 abbrev pub IsItemsOf : Grammar → List Item → Type 0
 IsItemsOf g items = IsNumbering same_item (item_of g.start) (mentions g) items
 
@@ -76,16 +77,16 @@ prefix_of namespaces u = codes "n" ++ decimal (place_in bytes_eq namespaces u)
 
 -- ---- literals
 
--- what a character of a literal stands between: a `"` between apostrophes, any other between quotation marks
+-- the delimiter of a character in a literal: an apostrophe for `"`, and a quotation mark for any other character
 abbrev pub delimiter : ℕ → ℕ
 delimiter c = if c == 0x22 then 0x27 else 0x22
 
--- runs of characters that stand between the same, and one character more in front
+-- runs of characters with the same delimiter, with one more character at the front
 abbrev pub with_character : ℕ → List (ℕ × List ℕ) → List (ℕ × List ℕ)
 with_character c [] = (delimiter c, c ∷ []) ∷ []
 with_character c (run ∷ runs) = if delimiter c == run.0 then (run.0, c ∷ run.1) ∷ runs else (delimiter c, c ∷ []) ∷ run ∷ runs
 
--- the longest runs of `"` and of other characters, each with what it stands between
+-- the longest runs of `"` and of other characters, each with its delimiter
 abbrev pub runs_of : List ℕ → List (ℕ × List ℕ)
 runs_of [] = []
 runs_of (c ∷ cs) = with_character c (runs_of cs)
@@ -101,11 +102,11 @@ escaped c =
 abbrev pub run_text : ℕ × List ℕ → List ℕ
 run_text run = run.0 ∷ (flat_map escaped run.1 ++ run.0 ∷ [])
 
--- runs behind the first
+-- runs after the first
 abbrev pub more_runs : List (ℕ × List ℕ) → List ℕ
 more_runs runs = flat_map (λ run. codes " ~ " ++ run_text run) runs
 
--- no run is the empty text
+-- without runs, the literal of the empty text
 abbrev pub joined_runs : List (ℕ × List ℕ) → List ℕ
 joined_runs [] = run_text (0x22, [])
 joined_runs (run ∷ runs) = run_text run ++ more_runs runs
@@ -143,7 +144,7 @@ abbrev mutual
       in_parentheses_if (is_except c) (class_text ns c)
       ++ (codes " | " ++ (in_parentheses_if (is_choice d || is_except d) (class_text ns d) ++ classes_text ns cs))
 
-  -- members behind the second: a choice of more than two is nested in twos from the left
+  -- the members after the second; a choice of more than two members is nested in twos from the left
   pub classes_text : List (List ℕ) → NameClasses → List ℕ
   classes_text ns no_classes = []
   classes_text ns (class_and c cs) = codes " | " ++ (in_parentheses_if (is_choice c || is_except c) (class_text ns c) ++ classes_text ns cs)
@@ -207,7 +208,7 @@ connector_text choice = codes " | "
 connector_text group = codes ", "
 connector_text interleave = codes " & "
 
--- what stands behind `=` in the line of a pattern
+-- what is after `=` in the line of a pattern
 abbrev pub pattern_text : List (List ℕ) → List Item → Simple ℕ → List ℕ
 pattern_text ns items (s_joined k a b) = reference items a ++ (connector_text k ++ reference items b)
 pattern_text ns items (s_one_or_more a) = reference items a ++ codes "+"
@@ -223,7 +224,7 @@ abbrev pub item_text : Grammar → List (List ℕ) → List Item → Item → Li
 item_text g ns items (element k) = element_text ns items (element_at g k)
 item_text g ns items (pattern s) = pattern_text ns items s
 
--- a name, what it stands for, and an LF
+-- a name, its text, and an LF
 abbrev pub line : List ℕ → List ℕ → List ℕ
 line name w = name ++ (codes " = " ++ (w ++ 0xA ∷ []))
 

@@ -1,4 +1,4 @@
--- Whether two trees of a simple grammar are equal.
+-- Whether two trees of a simple grammar are equal, as a test.
 use Rattle.std.specs.Prelude.{ℕ, Bool, true, false, ◌&&◌, ◌==◌, List, [], ◌∷◌}
 use Rattle.std.specs.Str.{bytes_eq}
 use Rattle.rng_model.specs.names.Names.{Name, NameClass, any_name, any_except, ns_name, ns_except, name_is, one_of, NameClasses, no_classes, class_and}

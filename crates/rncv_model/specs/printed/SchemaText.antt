@@ -5,7 +5,8 @@ use Rattle.rng_model.specs.simple.SchemaForm.{IsOnlySimpleGrammarOf, IsSimpleGra
 use Rattle.rng_model.specs.simple.Table.{Grammar}
 use Rattle.rncv_model.specs.printed.PrintedText.{IsPrinted}
 
--- the text is that of a grammar which is a simple form of the schema, and the only one up to the numbers of its elements
+-- the text is the text of a grammar that is a simple form of the schema, and the only one up to the numbers of its
+-- elements
 pub record IsPrintedForm (s : Schema) (text : List ℕ) : Type 0 where
   pub grammar : Grammar
   pub is_form : IsSimpleGrammarOf s grammar

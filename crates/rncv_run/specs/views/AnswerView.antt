@@ -13,7 +13,7 @@ answer_of answers.SchemaOk = answer.schema_ok
 answer_of (answers.Printed text) = answer.printed text.items
 answer_of (answers.Judged verdict) = answer.judged verdict
 
--- the answer that tells a fault of a schema; want of memory has none
+-- the answer that reports a fault of a schema; there is none for out of memory
 abbrev pub refusal_of : SchemaFault → Option answer.Answer
 refusal_of (faults.File clause name) = Some (answer.refused_file clause (string_bytes name))
 refusal_of (faults.Clause clause) = Some (answer.refused clause)

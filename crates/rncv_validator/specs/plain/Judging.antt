@@ -1,4 +1,4 @@
--- Which names a grammar does not know, and what is said of a document by a matcher.
+-- Which names a grammar does not know, and which verdict an outcome is.
 use Rattle.std.specs.Prelude.{ℕ}
 use Rattle.rng_model.specs.names.Names.{In, Name, NameClass}
 use Rattle.rng_model.specs.restrictions.Restrictions.{ClassIn}

@@ -1,6 +1,7 @@
--- What a document stands for, piece by piece.
-use Rattle.std.specs.Prelude.{◌≡◌, ℕ, List, [], ◌++◌, Option, Some, None, Result, Ok, Err, IfSome}
-use Rattle.rng_model.specs.simple.Table.{Table}
+-- What a document represents after each piece.
+use Rattle.std.specs.Prelude.{◌≡◌, ℕ, List, [], ◌++◌, All, Option, Some, None, Result, Ok, Err, IfSome}
+use Rattle.rng_model.specs.simple.Table.{Table, grammar_of}
+use Rattle.rng_model.specs.matching.Outcomes.{KnowsName}
 use Rattle.rng_model.specs.documents.Lines.{lines}
 use Rattle.rng_model.specs.documents.PyxClauses.{IsFirstFault}
 use Rattle.rng_model.specs.documents.PyxTrees.{Event}
@@ -18,58 +19,66 @@ use Rattle.rncv_model.specs.declared.verdict.Verdict.TheVariants.{Valid, Malform
 use Rattle.rncv_validator.specs.declared.fault.DocumentFault.{DocumentFault}
 use Rattle.rncv_validator.specs.declared.fault.DocumentFault.TheVariants as faults
 
--- a grammar, what was read, what is known of it by the grammar, and the fault that every call answers
+-- a grammar, what is read, what the grammar says of it, and the fault that every call of `feed` returns
 pub record Judging : Type 0 where
   pub grammar : Table
   pub reader : Kept
   pub matching : Matching
   pub fault : Option DocumentFault
 
--- what is known by a state; by none nothing is
+-- what is known by a state; without a state nothing is known
 abbrev pub matching_of : Table → Option MatcherState → Matching
 matching_of t None = record { grammar = t; patterns = []; progress = progress.Lost }
 matching_of t (Some s) = matching_in t s
 
--- these bytes were fed: they are what was read, and what is known is known of their events
+-- these bytes were fed: they are what is read, and what is known is known of their events
 pub record HasBeenFed (d : Judging) (bytes : List ℕ) : Type 0 where
   pub by_grammar : d.matching.grammar ≡ d.grammar
   pub events : List Event
   pub reads : Stands d.reader bytes events
   pub knows : Knows d.matching events
 
--- the state is that of a matcher by this grammar, to which nothing was told
+-- the state is that of a matcher by this grammar that has had no event yet
 pub record IsFresh (t : Table) (s : MatcherState) : Type 0 where
   pub state : IsStateBy t s
   pub knows : Knows (matching_in t s) []
   pub kept : ¬ (HasRunOut (matching_in t s))
 
--- the fault is the reader's, or want of memory
+-- the fault is the reader's, or out of memory
 abbrev pub IsFaultOfReader : Kept → DocumentFault → Type 0
 IsFaultOfReader k faults.Memory = Unit {0}
 IsFaultOfReader k (faults.Malformed clause line) = k.fault ≡ Some (pyx.At clause line)
 
--- what is kept of a fault: it is the reader's, or want of memory, and this where no state is kept
+-- what is kept of a fault: the reader's fault or out of memory; and always out of memory if no state is kept
 abbrev pub IsKeptFault : Kept → Option MatcherState → Option DocumentFault → Type 0
 IsKeptFault k None f = f ≡ Some faults.Memory
 IsKeptFault k (Some s) f = IfSome f (IsFaultOfReader k)
 
--- the line from which on nothing valid can begin, where it is known
+-- the state is not that of a matcher that has run out of memory
+abbrev pub HasNotRunOut : Table → MatcherState → Type 0
+HasNotRunOut t s = ¬ (HasRunOut (matching_in t s))
+
+-- no start of an element is among the events that were read if its name is one that no element of the grammar may have
+abbrev pub KnowsAllNames : (d : Judging) (bytes : List ℕ) → HasBeenFed d bytes → Type 0
+KnowsAllNames d bytes fed = All (λ (e : Event). KnowsName (grammar_of d.grammar) e.kind) fed.events
+
+-- the line after which no continuation is valid, if it is known
 abbrev pub failed_since : Judging → Option ℕ
 failed_since d = failed_line d.matching.progress
 
--- a clause that holds unless memory was wanting
+-- a claim that holds unless the call ran out of memory
 abbrev pub UnlessMemory : {A : Type 0} → Result A DocumentFault → Type 0 → Type 0
 UnlessMemory (Ok x) P = P
 UnlessMemory (Err faults.Memory) P = Unit {0}
 UnlessMemory (Err (faults.Malformed clause line)) P = P
 
--- it is the first fault of all bytes that begin with those that were fed; want of memory says nothing of them
+-- the fault is the first fault of all bytes that begin with those that were fed; out of memory claims nothing
 abbrev pub IsFaultOfFed : Judging → DocumentFault → Type 0
 IsFaultOfFed d faults.Memory = Unit {0}
 IsFaultOfFed d (faults.Malformed clause line) = (bytes rest : List ℕ) → HasBeenFed d bytes
     → IsFirstFault (lines (bytes ++ rest)) (record { clause = clause; line = line })
 
--- the verdict on a document by how it ended, and what its matcher says
+-- the verdict on a document, given how reading ended and the outcome of the matcher
 abbrev pub verdict_by : {A : Type 0} → Result A PyxFault → Result Outcome OutOfMemory → Result Verdict OutOfMemory
 verdict_by (Ok x) (Ok outcome.Valid) = Ok Valid
 verdict_by (Ok x) (Ok (outcome.Invalid line)) = Ok (Invalid line)
@@ -77,7 +86,7 @@ verdict_by (Ok x) (Err e) = Err e
 verdict_by (Err (pyx.At clause line)) o = Ok (Malformed clause line)
 verdict_by (Err pyx.Memory) o = Err (record {})
 
--- the verdict that a fault is told by
+-- the verdict that reports a fault
 abbrev pub told_by : DocumentFault → Result Verdict OutOfMemory
 told_by (faults.Malformed clause line) = Ok (Malformed clause line)
 told_by faults.Memory = Err (record {})

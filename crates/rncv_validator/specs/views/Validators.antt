@@ -1,4 +1,4 @@
--- What a validator stands for.
+-- What a validator represents.
 use Rattle.std.specs.Prelude.{List}
 use Rattle.rng_model.specs.schema.Schema.{Schema}
 use Rattle.rng_model.specs.schema.SchemaClauses.{IsLeastClause}
@@ -10,19 +10,19 @@ use Rattle.rng_model.specs.declared.fault.SchemaFault.TheVariants as faults
 use Rattle.rnc_model.specs.loading.SchemaFile.{Name, NamedFile}
 use Rattle.rncv_model.specs.answers.Compiled.{AreGoodSchema}
 
--- the grammar is each simple form of the schema up to numbering, and has the same documents
+-- the grammar is the only simple form of the schema up to numbering, and has the same documents
 pub record Judges (g : Table) (s : Schema) : Type 0 where
   pub form : IsSimpleGrammarOf s (grammar_of g)
   pub only : IsOnlySimpleGrammarOf s (grammar_of g)
   pub documents : AreSameDocuments s (grammar_of g)
 
--- it judges by the schema that the files are, which breaks no clause
+-- the grammar is for the schema that the files are, which breaks no clause
 pub record IsOneFor (files : List NamedFile) (main : Name) (g : Table) : Type 0 where
   pub schema : Schema
   pub are : AreGoodSchema files main schema
   pub judges : Judges g schema
 
--- the least clause that the schema breaks; want of memory tells nothing
+-- the least clause that the schema breaks; out of memory claims nothing
 abbrev pub IsLeastFault : Schema → SchemaFault → Type 0
 IsLeastFault s (faults.Clause clause) = IsLeastClause s clause
 IsLeastFault s (faults.File clause name) = ⊥

@@ -1,4 +1,4 @@
--- Renewal: the patterns that nobody holds are let go, and the others stand in another table, by new numbers.
+-- Renewal: the patterns that nobody holds are freed, and the others are in another table, under new numbers.
 use Rattle.std.specs.Prelude.{◌≡◌, ℕ, List, [], ◌∷◌, map}
 use Rattle.std.specs.List.{AllZip, flat_map}
 use Rattle.rng_model.specs.simple.Tree.{Simple}
@@ -17,11 +17,11 @@ use Rattle.rng_deriv.specs.declared.position.Position.{Position}
 abbrev pub rests_of : List Link → List PatternNumber
 rests_of links = map (λ l. l.rest) links
 
--- what those of all these elements leave
+-- what the ways out of all these elements leave
 abbrev pub rests_in : List Level → List PatternNumber
 rests_in levels = flat_map (λ l. rests_of l.links.items) levels
 
--- the links, each with one of the numbers for its rest
+-- the links, each with one of the numbers as its rest
 abbrev pub with_rests : List Link → List PatternNumber → List Link
 with_rests [] ns = []
 with_rests (l ∷ ls) [] = l ∷ ls
@@ -40,12 +40,12 @@ pub record IsLevelRenewed (old new : List (Simple ℕ)) (l k : Level) : Type 0 w
   pub around : k.around ≡ l.around
   pub links : AllZip (IsLinkRenewed old new) l.links.items k.links.items
 
--- it is the same state over trees
+-- the states are the same over trees
 pub record IsStateRenewed (old new : List (Simple ℕ)) (s t : State) : Type 0 where
   pub inside : IsStateInside new t
   pub same : state_of new t ≡ state_of old s
 
--- it is the same position over level states
+-- the positions are the same over level states
 pub record IsPositionRenewed (old new : List (Simple ℕ)) (p q : Position) : Type 0 where
   pub inside : IsPositionInside new q
   pub same : (g : Reading) (m : LevelMatcher) → IsPositionOf g old p m → IsPositionOf g new q m

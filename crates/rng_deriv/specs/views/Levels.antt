@@ -1,4 +1,4 @@
--- Levels by number: links, and what they stand for.
+-- Levels by number: links, and what they represent.
 use Rattle.std.specs.Prelude.{◌≡◌, ◌↔◌, ℕ, ◌<◌, List, [], ◌∷◌, ◌++◌, length, map, All, Contains, Bool, true, Some, slice_get}
 use Rattle.std.specs.List.{AllZip}
 use Rattle.rng_model.specs.names.Names.{Name}
@@ -22,7 +22,7 @@ IsLinkOf bodies outer w l = (l.outer ≡ outer) × (slice_get bodies l.inner ≡
 abbrev pub IsBodyOf : List StartWay → PatternNumber → Type 0
 IsBodyOf ways b = (w : StartWay) × Contains ways w × (w.body ≡ b)
 
--- bodies and links of the ways of the alternative at this place were added
+-- the bodies and links of the ways of the alternative at this place are added
 pub record AddsLinks (outer : ℕ) (ways : List StartWay) (old_bodies new_bodies : List PatternNumber) (old_links new_links : List Link) : Type 0 where
   pub bodies : List PatternNumber
   pub links : List Link
@@ -31,18 +31,18 @@ pub record AddsLinks (outer : ℕ) (ways : List StartWay) (old_bodies new_bodies
   pub linked : AllZip (IsLinkOf new_bodies outer) ways links
   pub of_ways : All (IsBodyOf ways) bodies
 
--- the link leads from one of so many alternatives inside to one of so many around, and its rest is one of the table
+-- the link leads from one of this many alternatives inside to one of this many around, and its rest is in the table
 abbrev pub IsLinkWithin : List (Simple ℕ) → ℕ → ℕ → Link → Type 0
 IsLinkWithin trees inner outer l = (l.inner < inner) × (l.outer < outer) × IsInside trees l.rest
 
--- bodies and links are those of a start of this name for these alternatives
+-- the bodies and links are those of a start of this name for these alternatives
 pub record AddsOpened (g : Reading) (q : Name) (old new : List (Simple ℕ)) (outside bodies : List PatternNumber) (links : List Link) : Type 0 where
   pub longer : Longer old new
   pub inside : All (IsInside new) bodies
   pub within : All (IsLinkWithin new (length bodies) (length outside)) links
   pub opened : AreOpened g q (map (tree_of new) outside) (map (tree_of new) bodies) (map (link_of new) links)
 
--- the alternatives around are what links leave, where the alternatives inside that are good end
+-- the alternatives around are what the links leave, when the good alternatives inside end
 pub record AddsEnded (g : Reading) (good : List Bool) (around : ℕ) (old new : List (Simple ℕ)) (links : List Link) (outside : List PatternNumber) : Type 0 where
   pub longer : Longer old new
   pub inside : All (IsInside new) outside
@@ -60,7 +60,8 @@ pub record IsOnlyRest (good : List Bool) (links : List Link) (around : ℕ) (res
   pub may_end : slice_get good link.inner ≡ Some true
   pub leaves : rest ≡ link.rest
 
--- of the alternatives around an element the one that a link leads to takes what the rest takes too, where the link leads from a good one
+-- The alternatives around an element after one more link. If the link leads from a good alternative, the one that it
+-- leads to also takes what the rest takes.
 pub record LeavesBy (g : Reading) (good : List Bool) (old new : List (Simple ℕ)) (l : Link) (before after : List PatternNumber) : Type 0 where
   pub longer : Longer old new
   pub inside : All (IsInside new) after
@@ -68,7 +69,8 @@ pub record LeavesBy (g : Reading) (good : List Bool) (old new : List (Simple ℕ
   pub ended : (links : List level.Link) → AreEnded g good links (map (tree_of old) before)
       → AreEnded g good (links ++ link_of old l ∷ []) (map (tree_of new) after)
 
--- of these alternatives the tests say whether they may end an element with a string alone, where others are left of all of them after it
+-- the tests say which of these alternatives may end an element with only a string, given what is left of all
+-- alternatives after it
 abbrev pub AreEndsWith : Reading → List (Simple ℕ) → List PatternNumber → List PatternNumber → Bool → List PatternNumber → List Bool → Type 0
 AreEndsWith g trees now after blank tested good = (s : List ℕ) → is_blank s ≡ blank →
     AllZip (IsAfterText g s) (map (tree_of trees) now) (map (tree_of trees) after) →

@@ -12,7 +12,7 @@ use Rattle.rng_deriv.specs.declared.matcher_state.MatcherState.{MatcherState}
 use Rattle.rng_deriv.specs.declared.progress.Progress.{Progress}
 use Rattle.rng_deriv.specs.declared.progress.Progress.TheVariants as progress
 
--- a grammar, the patterns that were made of it, and what is known of a document by them
+-- a grammar, the patterns that are made of it, and what is known of a document by them
 pub record Matching : Type 0 where
   pub grammar : Table
   pub patterns : List Node
@@ -25,26 +25,28 @@ matching_of m = record { grammar = m.0.0; patterns = m.0.1; progress = m.1 }
 abbrev pub judges_by : Matching → Reading
 judges_by m = reading_of m.grammar
 
--- what is known stands for these events
+-- what is known represents these events
 abbrev pub Knows : Matching → List Event → Type 0
 Knows m es = IsKnown (judges_by m) (trees m.grammar m.patterns) m.progress es
 
--- nothing valid can begin so, from this line on
+-- no continuation after this line is valid
 abbrev pub HasFailedAt : Matching → ℕ → Type 0
 HasFailedAt m line = IsFailed line m.progress
 
--- the first came to the second by these events: they have one grammar, what the first knew stands for the events that it had and these, and
--- where the first had failed, the second has
+-- a call ran out of memory
+abbrev pub HasRunOut : Matching → Type 0
+HasRunOut m = IsLost m.progress
+
+-- These events lead from the first to the second. They have the same grammar. What the second knows represents the
+-- events that the first had, followed by these. If the first has failed, so has the second. The second has run out of
+-- memory only if the first had.
 pub record HasGoneOn (first m : Matching) (es : List Event) : Type 0 where
   pub grammar : m.grammar ≡ first.grammar
   pub knows : (before : List Event) → Knows first before → Knows m (before ++ es)
   pub failed : (line : ℕ) → HasFailedAt first line → HasFailedAt m line
+  pub kept : HasRunOut m → HasRunOut first
 
--- memory was wanting
-abbrev pub HasRunOut : Matching → Type 0
-HasRunOut m = IsLost m.progress
-
--- the line from which on nothing valid can begin, where it is known
+-- the line after which no continuation is valid, if it is known
 abbrev pub failed_line : Progress → Option ℕ
 failed_line (progress.Going p line) = None
 failed_line (progress.Failed line) = Some line

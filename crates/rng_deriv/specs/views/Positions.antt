@@ -17,13 +17,13 @@ pub record IsPositionInside (trees : List (Simple ℕ)) (p : Position) : Type 0 
   pub state : IsStateInside trees p.state
   pub held : IsHeldInside trees (length p.state.now.items) p.held
 
--- what the position is over level states
+-- the level state that the position represents
 pub record IsPositionOf (g : Reading) (trees : List (Simple ℕ)) (p : Position) (m : LevelMatcher) : Type 0 where
   pub state : m.state ≡ state_of trees p.state
   pub has_begun : m.has_begun ≡ p.has_begun
   pub held : IsHeld g trees p.state.now.items p.held m.held
 
--- where an event leads over level states, and that the position behind it is that
+-- the level state after an event, which the position after the event represents
 pub record Leads (g : Reading) (kind : EventKind) (new : List (Simple ℕ)) (m : LevelMatcher) (q : Position) : Type 0 where
   pub matcher : LevelMatcher
   pub steps : StepsTo g m kind matcher
@@ -35,11 +35,11 @@ pub record AddsStep (g : Reading) (kind : EventKind) (old new : List (Simple ℕ
   pub inside : IsPositionInside new q
   pub leads : (m : LevelMatcher) → IsPositionOf g old p m → Leads g kind new m q
 
--- it is the line of the last event, if there is one
+-- this is the line of the last event, if there is one
 abbrev pub IsLastLine : List Event → ℕ → Type 0
 IsLastLine es line = (es ≡ []) ⊎ ((front : List Event) × (kind : EventKind) × (es ≡ front ++ record { line = line; kind = kind } ∷ []))
 
--- the events have led to the position, and none of them is the start of an element that the grammar has no name for
+-- the events lead to the position, and each of them that is a start has a name that the grammar has
 pub record HasCome (g : Reading) (trees : List (Simple ℕ)) (p : Position) (line : ℕ) (es : List Event) : Type 0 where
   pub matcher : LevelMatcher
   pub position : IsPositionOf g trees p matcher
@@ -47,7 +47,7 @@ pub record HasCome (g : Reading) (trees : List (Simple ℕ)) (p : Position) (lin
   pub known : All (λ e. KnowsName g.grammar e.kind) es
   pub last : IsLastLine es line
 
--- what is known of a document where all went well before, and after the event of this line may or may not go well still
+-- what is known of a document that might have been valid, after the event of this line: it may still be valid, or not
 abbrev pub progress_at : Bool → Position → ℕ → Progress
 progress_at true p line = progress.Going p line
 progress_at false p line = progress.Failed line
@@ -57,21 +57,21 @@ IsProgressInside trees (progress.Going p line) = IsPositionInside trees p
 IsProgressInside trees (progress.Failed line) = ⊤
 IsProgressInside trees progress.Lost = ⊤
 
--- nothing valid can begin so, from this line on
+-- no continuation after this line is valid
 abbrev pub IsFailed : ℕ → Progress → Type 0
 IsFailed line p = p ≡ progress.Failed line
 
--- memory was wanting
+-- a call ran out of memory
 abbrev pub IsLost : Progress → Type 0
 IsLost p = p ≡ progress.Lost
 
--- what is known stands for the events
+-- what is known represents the events
 abbrev pub IsKnown : Reading → List (Simple ℕ) → Progress → List Event → Type 0
 IsKnown g trees (progress.Going p line) es = HasCome g trees p line es
 IsKnown g trees (progress.Failed line) es = FailsAt g es line
 IsKnown g trees progress.Lost es = ⊤
 
--- what is known after one more event, in the table as it is then
+-- what is known after one more event, in the table as it is after the event
 pub record AddsProgress (g : Reading) (e : Event) (Before : List Event → Type 0) (new : List (Simple ℕ)) (p : Progress) : Type 0 where
   pub inside : IsProgressInside new p
   pub stands : (es : List Event) → Before es → IsKnown g new p (es ++ e ∷ [])

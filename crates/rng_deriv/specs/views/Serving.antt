@@ -15,26 +15,27 @@ use Rattle.rng_deriv.specs.views.StartMemo.{AreAnswers}
 use Rattle.rng_deriv.specs.declared.learned.Learned.{Learned}
 use Rattle.rng_deriv.specs.declared.start_memo.StartKey.{StartKey}
 
--- the grammar obeys the restrictions, its patterns stand in the table by these numbers, and there the bodies of its elements obey them, too
+-- the grammar obeys the restrictions, its patterns are in the table under these numbers, and the bodies of its elements
+-- obey the restrictions there too
 pub record IsServed (t : Table) (ns : List Node) (numbers : List PatternNumber) : Type 0 where
   pub keeps : BreaksNone (grammar_of t)
   pub ready : IsReady t ns numbers
   pub bodies : HasRestrictedBodies t ns numbers
 
--- so it is, and what is kept of starts and known of ways is so in the table, unless memory was wanting
+-- the table is so, and what is kept of starts and known of ways is right for it, unless a call ran out of memory
 abbrev pub IsServedBy : {Z : Type 0} → Table → Keys → Bool → List Node → List PatternNumber → HashMap StartKey (SmallVec StartWay) Z → Known → Type 0
 IsServedBy t keys true ns numbers memo known = ⊤
 IsServedBy t keys false ns numbers memo known = IsServed t ns numbers × KeysServe t keys × AreAnswers t ns keys memo × AreAllKnown t keys ns known
 
--- the patterns of a table; none where memory was wanting
+-- the patterns of a table; none after a call ran out of memory
 abbrev pub nodes_unless : Bool → List Node → List Node
 nodes_unless true ns = []
 nodes_unless false ns = ns
 
--- those of what was worked out
+-- the patterns of what was learned
 abbrev pub nodes_of : Learned → List Node
 nodes_of l = nodes_unless l.lost l.table
 
--- it was worked out for this grammar
+-- this was learned about this grammar
 abbrev pub Serves : Table → Learned → Type 0
 Serves t l = IsServedBy t l.keys l.lost l.table l.numbers.items l.memo l.known

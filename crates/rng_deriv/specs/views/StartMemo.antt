@@ -17,11 +17,11 @@ use Rattle.rng_deriv.specs.contracts.start_memo.StartKeyPartialEq.TheImpl as sam
 abbrev pub HasKept : {Z : Type 0} → HashMap StartKey (SmallVec StartWay) Z → StartKey → List StartWay → Type 0
 HasKept memo k ways = (v : SmallVec StartWay) × (get same.ghosts.eq memo k ≡ Some v) × (v.items ≡ ways)
 
--- they are those of a start of each name of the key
+-- the ways are those of a start with each name of the key
 pub record AreAnswer (t : Table) (ns : List Node) (keys : Keys) (k : StartKey) (ways : List StartWay) : Type 0 where
   pub asked : IsInside (trees t ns) k.pattern
   pub answers : (q : Name) → key_of keys q ≡ k.name.0 → AddsStarts (reading_of t) q (trees t ns) (trees t ns) (tree_of (trees t ns) k.pattern) ways
 
--- so are all that are kept
+-- all ways that are kept are right
 abbrev pub AreAnswers : {Z : Type 0} → Table → List Node → Keys → HashMap StartKey (SmallVec StartWay) Z → Type 0
 AreAnswers t ns keys memo = (k : StartKey) (ways : List StartWay) → HasKept memo k ways → AreAnswer t ns keys k ways

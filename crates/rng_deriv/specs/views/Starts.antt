@@ -1,4 +1,4 @@
--- Ways of a start that something may match.
+-- The ways of a start, without those that nothing matches.
 use Rattle.std.specs.Prelude.{◌↔◌, ◌<◌, List, [], ◌∷◌, ◌++◌, length, map, All}
 use Rattle.rng_model.specs.names.Names.{Name}
 use Rattle.rng_model.specs.matching.Document.{Attribute, Item}
@@ -15,11 +15,11 @@ use Rattle.rng_pattern_derivatives.specs.plain.Starting.{IsRestrictedBodyNamed}
 use Rattle.rng_pattern_derivatives.specs.plain.Ways.{way_by}
 use Rattle.rng_pattern_derivatives.specs.declared.way.LeafWay as numbered
 
--- the numbers of the way are numbers of the table
+-- the numbers of the way are in the table
 abbrev pub IsWayInside : List Node → StartWay → Type 0
 IsWayInside ns w = (w.body.0 < length ns) × (w.rest.0 < length ns)
 
--- what these ways open those do, and these are restricted where those are
+-- these ways open exactly what those ways open, and are restricted if those are
 pub record OpensLike (t : Table) (ns : List Node) (those : List tree.Way) (these : List StartWay) : Type 0 where
   pub inside : All (IsWayInside ns) these
   pub opens : (xs : List Attribute) (kids ms : List Item) → Opens (reading_of t) xs kids ms (map (way_of (trees t ns)) these)

@@ -1,4 +1,4 @@
--- A string of which it is not told yet whether it is an only child.
+-- Strings that may still turn out to be only children.
 use Rattle.std.specs.Prelude.{◌≡◌, ⊤, ℕ, List, [], length, map, All, Option, Some, None}
 use Rattle.std.specs.List.{AllZip}
 use Rattle.rng_model.specs.simple.Tree.{Simple}
@@ -9,17 +9,17 @@ use Rattle.rng_pattern_table.specs.declared.pattern.PatternNumber.{PatternNumber
 use Rattle.rng_deriv.specs.views.Numbers.{Longer, IsInside, tree_of}
 use Rattle.rng_deriv.specs.declared.held.Held.{Held}
 
--- this string is held, and something is left of each alternative after it; where none is held it is the empty one
+-- this string is held, with what is left of each alternative after it; if no string is held, it is the empty one
 abbrev pub IsHeld : Reading → List (Simple ℕ) → List PatternNumber → Option Held → List ℕ → Type 0
 IsHeld g trees now None s = s ≡ []
 IsHeld g trees now (Some h) s = (is_blank s ≡ h.blank) × AllZip (IsAfterText g s) (map (tree_of trees) now) (map (tree_of trees) h.after.items)
 
--- of each alternative something is left that has a number of the table
+-- what is left of each alternative has a number of the table
 abbrev pub IsHeldInside : List (Simple ℕ) → ℕ → Option Held → Type 0
 IsHeldInside trees count None = ⊤
 IsHeldInside trees count (Some h) = (count ≡ length h.after.items) × All (IsInside trees) h.after.items
 
--- a string that is so is held, in a table that may have grown
+-- a string that satisfies `Is` is held, in a table that may have grown
 pub record AddsHeld (Is : List ℕ → Type 0) (g : Reading) (old new : List (Simple ℕ)) (now : List PatternNumber) (h : Held) : Type 0 where
   pub longer : Longer old new
   pub inside : IsHeldInside new (length now) (Some h)

@@ -19,7 +19,7 @@ without_blanks [] = []
 without_blanks (a_text s ∷ ns) = cond (is_blank s) (without_blanks ns) (a_text s ∷ without_blanks ns)
 without_blanks (an_element q xs kids ∷ ns) = an_element q xs kids ∷ without_blanks ns
 
--- the only string among children that hold no element; the empty one if there is none
+-- the only string among children without an element, or the empty string if there is none
 abbrev pub string_of : List Item → List ℕ
 string_of [] = []
 string_of (a_text s ∷ ns) = s
@@ -29,7 +29,7 @@ abbrev pub IsNotBlank : Item → Type 0
 IsNotBlank (a_text s) = is_blank s ≡ false
 IsNotBlank (an_element q xs kids) = Unit {0}
 
--- strings alone, or no blank string: none of them can be padding of an element
+-- only strings, or no blank string: then no string is the padding of an element
 pub data IsBare : List Item → Type 0 where
   strings_alone : {ns : List Item} → AllTexts ns → IsBare ns
   no_blanks : {ns : List Item} → Every IsNotBlank ns → IsBare ns

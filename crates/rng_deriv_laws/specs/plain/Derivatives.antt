@@ -1,6 +1,6 @@
--- What is left of a pattern after an attribute, a string or a start tag. The rules of 4.20 (notAllowed) and those of
--- 4.21 about empty are applied while patterns are built. One function gives the ways to begin: the leaves that may
--- take the first item, each with what is left behind it; another does the same for attributes.
+-- What is left of a pattern after an attribute, a string or a start tag. Patterns are built with the rules of 4.20
+-- (notAllowed) and of 4.21 about empty. One function returns the ways to begin with an item: the leaves that may take
+-- the first item, each with what is left after it. Another does the same for attributes.
 use Rattle.std.specs.Prelude.{ℕ, List, [], ◌∷◌, ◌++◌, Bool, true, false, ◌||◌, ◌&&◌, cond, not}
 use Rattle.rng_model.specs.names.Names.{Name}
 use Rattle.rng_model.specs.simple.Tree.{Simple, Connector, choice, group, interleave, s_not_allowed, s_empty, s_text, s_leaf, s_attribute, s_list, s_data, s_data_except}
@@ -13,7 +13,7 @@ use Rattle.rng_deriv_laws.specs.plain.Reading.{body_of, has_name}
 
 -- ---- patterns that are built
 
--- no attribute and no item is needed
+-- the pattern needs no attribute and no item
 abbrev pub is_nullable : Simple ℕ → Bool
 is_nullable s_not_allowed = false
 is_nullable s_empty = true
@@ -72,7 +72,7 @@ interleave_of = joined_of interleave
 abbrev pub repeat_of : Simple ℕ → Simple ℕ
 repeat_of p = cond (is_not_allowed p) s_not_allowed (cond (is_empty p) s_empty (s_one_or_more p))
 
--- the copies that may follow the first one of a oneOrMore
+-- the copies that may follow the first copy of a oneOrMore
 abbrev pub more_of : Simple ℕ → Simple ℕ
 more_of p = s_joined choice (s_one_or_more p) s_empty
 
@@ -84,7 +84,7 @@ interleave_before q r = interleave_of r q
 
 -- ---- ways to begin
 
--- a leaf that takes the first item or attribute, and what is left then
+-- a leaf that takes the first item or attribute, and what is left after it
 pub record Way : Type 0 where
   pub leaf : Simple ℕ
   pub rest : Simple ℕ
@@ -92,7 +92,7 @@ pub record Way : Type 0 where
 abbrev pub alone : Simple ℕ → List Way
 alone p = record { leaf = p; rest = s_empty } ∷ []
 
--- the same leaves, with something made of what is left
+-- the same leaves, with a function applied to what is left
 abbrev pub behind : (Simple ℕ → Simple ℕ) → List Way → List Way
 behind f [] = []
 behind f (w ∷ ws) = record { leaf = w.leaf; rest = f w.rest } ∷ behind f ws
@@ -127,12 +127,12 @@ attribute_ways (s_joined choice p q) = attribute_ways p ++ attribute_ways q
 attribute_ways (s_joined group p q) = behind (group_before q) (attribute_ways p) ++ behind (group_of p) (attribute_ways q)
 attribute_ways (s_joined interleave p q) = behind (interleave_before q) (attribute_ways p) ++ behind (interleave_of p) (attribute_ways q)
 
--- a choice of what is left behind the leaves that pass a test
+-- a choice of what is left after the leaves that pass a test
 abbrev pub rests_of : (Simple ℕ → Bool) → List Way → Simple ℕ
 rests_of takes [] = s_not_allowed
 rests_of takes (w ∷ ws) = choice_of (cond (takes w.leaf) w.rest s_not_allowed) (rests_of takes ws)
 
--- once all attributes are taken: no attribute may be wanted any more
+-- the pattern after all attributes of a tag: a part that still needs an attribute is notAllowed
 abbrev pub closed : Simple ℕ → Simple ℕ
 closed s_not_allowed = s_not_allowed
 closed s_empty = s_empty
@@ -150,7 +150,7 @@ closed (s_joined interleave p q) = interleave_of (closed p) (closed q)
 
 -- ---- tests of leaves
 
--- a list of patterns after a list of texts
+-- what is left of a pattern after a list of texts, one after another
 abbrev pub in_turn : (Simple ℕ → List ℕ → Simple ℕ) → Simple ℕ → List (List ℕ) → Simple ℕ
 in_turn next p [] = p
 in_turn next p (s ∷ ss) = in_turn next (next p s) ss
@@ -172,7 +172,7 @@ module _ (g : Reading) where
   is_excepted (s_joined group p q) s = false
   is_excepted (s_joined interleave p q) s = false
 
-  -- a leaf takes the string, where `lists` says whether the body of a list has the pieces of a string
+  -- a leaf takes the string, given a test `lists` for whether the body of a list has the pieces of a string
   abbrev pub takes_text : (Simple ℕ → List ℕ → Bool) → List ℕ → Simple ℕ → Bool
   takes_text lists s s_not_allowed = false
   takes_text lists s s_empty = false
@@ -189,7 +189,7 @@ module _ (g : Reading) where
   abbrev pub after_string : (Simple ℕ → List ℕ → Bool) → Simple ℕ → List ℕ → Simple ℕ
   after_string lists p s = rests_of (takes_text lists s) (item_ways p)
 
-  -- a piece of a list, in which no list stands
+  -- the test for a piece of a list, which has no list inside
   abbrev pub no_list : Simple ℕ → List ℕ → Bool
   no_list p s = false
 
@@ -202,7 +202,7 @@ module _ (g : Reading) where
 
   -- ---- derivatives
 
-  -- after a string
+  -- what is left after a string
   abbrev pub after_text : Simple ℕ → List ℕ → Simple ℕ
   after_text = after_string list_has
 
@@ -224,7 +224,7 @@ module _ (g : Reading) where
   takes_attribute a (s_one_or_more p) = false
   takes_attribute a (s_joined k p q) = false
 
-  -- after an attribute
+  -- what is left after an attribute
   abbrev pub after_attribute : Simple ℕ → Attribute → Simple ℕ
   after_attribute p a = rests_of (takes_attribute a) (attribute_ways p)
 
@@ -232,7 +232,7 @@ module _ (g : Reading) where
   after_attributes p [] = p
   after_attributes p (a ∷ xs) = after_attributes (after_attribute p a) xs
 
-  -- a leaf that takes an element of this name, as the body of the element; any other leaf takes none
+  -- the list with one more way if the leaf takes an element of this name: the body of the element, with what is left
   abbrev pub started : Simple ℕ → Simple ℕ → Name → List Way → List Way
   started s_not_allowed r q ws = ws
   started s_empty r q ws = ws
@@ -246,11 +246,11 @@ module _ (g : Reading) where
   started (s_one_or_more p) r q ws = ws
   started (s_joined k p p') r q ws = ws
 
-  -- the bodies of the leaves that take an element of this name, each with what is left behind the element
+  -- the bodies of the leaves that take an element of this name, each with what is left after the element
   abbrev pub bodies_of : Name → List Way → List Way
   bodies_of q [] = []
   bodies_of q (w ∷ ws) = started w.leaf w.rest q (bodies_of q ws)
 
-  -- after a start of this name
+  -- the ways after a start of this name
   abbrev pub after_start : Simple ℕ → Name → List Way
   after_start p q = bodies_of q (item_ways p)

@@ -1,5 +1,5 @@
--- A matcher that takes the events of a document one by one. A string is held until the event behind it shows whether it is
--- an only child: only then a blank one is data (RELAX NG Specification, section 6.2.7).
+-- A matcher that takes the events of a document one by one. It holds a string until the next event shows whether the
+-- string is an only child. A blank string is data only if it is (RELAX NG Specification, section 6.2.7).
 use Rattle.std.specs.Prelude.{ℕ, zero, suc, List, [], ◌∷◌, ◌++◌, Bool, true, false, cond, map, Option, Some, None}
 use Rattle.rng_model.specs.simple.Tree.{Simple}
 use Rattle.rng_model.specs.matching.Document.{a_text, an_element, Items, no_items, item_and}
@@ -8,7 +8,7 @@ use Rattle.rng_model.specs.documents.PyxTrees.{Event, EventKind, a_start, a_stri
 use Rattle.rng_model.specs.matching.Reading.{Reading}
 use Rattle.rng_deriv_laws.specs.plain.States.{State, finished, after_of, start_tag, string, end_tag, end_text, accepts}
 
--- what events say, without their lines
+-- the kinds of events, without their lines
 abbrev pub kinds : List Event → List EventKind
 kinds es = map (λ e. e.kind) es
 
@@ -18,7 +18,8 @@ events_of_items no_items = []
 events_of_items (item_and (a_text s) ns) = a_string s ∷ events_of_items ns
 events_of_items (item_and (an_element q xs kids) ns) = a_start q xs ∷ (events_of_items kids ++ an_end ∷ events_of_items ns)
 
--- How many elements are open after these events, where so many were open before; none where an element ends that is not open.
+-- The number of open elements after these events, given the number before. It is `None` if an element ends that is not
+-- open.
 abbrev pub open_after : ℕ → List EventKind → Option ℕ
 open_after n [] = Some n
 open_after n (a_start q xs ∷ es) = open_after (suc n) es
@@ -28,16 +29,16 @@ open_after (suc n) (an_end ∷ es) = open_after n es
 
 pub record Matcher : Type 0 where
   pub state : State
-  -- an element stood before at this level
+  -- the element at this level has a child element already
   pub has_begun : Bool
-  -- the string since the last tag; the empty one if there is none
+  -- the string since the last tag, or the empty string if there is none
   pub held : List ℕ
 
 abbrev pub new : Simple ℕ → Matcher
 new start = record { state = after_of start finished; has_begun = false; held = [] }
 
 module _ (g : Reading) where
-  -- once the held string has turned out to stand beside an element
+  -- the state after the held string, given that an element is beside it
   abbrev pub settled : Matcher → State
   settled m = cond (is_blank m.held) m.state (string g m.state m.held)
 

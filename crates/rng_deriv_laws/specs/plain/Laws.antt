@@ -1,4 +1,4 @@
--- The laws of this crate: derivatives equal the rules of matching, and where a document turns out to be invalid.
+-- The laws of this crate: derivatives equal the rules of matching, and where a document becomes invalid.
 use Rattle.std.specs.Prelude.{◌≡◌, ◌↔◌, ℕ, List, ◌++◌, true}
 use Rattle.rng_model.specs.names.Names.{Name, NameClass, In}
 use Rattle.rng_model.specs.matching.Document.{Attribute}
@@ -19,18 +19,18 @@ abbrev pub AcceptsValidDocuments : Type 0
 AcceptsValidDocuments = (g : Grammar) → BreaksNone g → (tests : TextTests) (bytes : List ℕ) (d : Placed) → IsPyxDocument bytes d
     → (is_valid (reading g tests) (kinds (events_of d)) ≡ true) ↔ IsValidBy g (texts_of tests) (item_of d)
 
--- once nothing can be met any more after some events, no document that begins with these events is valid
+-- once the state is `never` after some events, no document that begins with these events is valid
 abbrev pub NeverIsInvalid : Type 0
 NeverIsInvalid = (g : Grammar) → BreaksNone g → (tests : TextTests) (es more : List Event) →
     is_never (run (reading g tests) (new g.start) (kinds es)).state ≡ true →
     (bytes : List ℕ) (d : Placed) → IsPyxDocument bytes d → events_of d ≡ es ++ more → ¬ (IsValidBy g (texts_of tests) (item_of d))
 
--- nothing can be met any more after a start whose name lies in the class of no element
+-- the state is `never` after a start whose name is in the class of no element
 abbrev pub UnknownNameIsNever : Type 0
 UnknownNameIsNever = (g : Grammar) (tests : TextTests) (m : Matcher) (q : Name) (xs : List Attribute) →
     ((k : ℕ) (c : NameClass) → ClassIn g k c → ¬ (In c q)) → is_never (step (reading g tests) m (a_start q xs)).state ≡ true
 
--- nothing can be met any more after the events of an invalid document
+-- the state is `never` after the events of an invalid document
 abbrev pub InvalidIsNever : Type 0
 InvalidIsNever = (g : Grammar) → BreaksNone g → (tests : TextTests) (bytes : List ℕ) (d : Placed) → IsPyxDocument bytes d →
     ¬ (IsValidBy g (texts_of tests) (item_of d)) → is_never (run (reading g tests) (new g.start) (kinds (events_of d))).state ≡ true

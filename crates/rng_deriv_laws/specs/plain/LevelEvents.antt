@@ -1,4 +1,4 @@
--- A matcher that keeps level states: what each event has to make of it, and what it stands for after events.
+-- A matcher that keeps level states: what each event must do to it, and what it represents after events.
 use Rattle.std.specs.Prelude.{◌≡◌, ◌↔◌, ℕ, List, [], ◌++◌, length, Bool, true, false, Some, All, Contains}
 use Rattle.rng_model.specs.names.Names.{Name, NameClass, In}
 use Rattle.rng_model.specs.simple.Tree.{Simple}
@@ -16,13 +16,13 @@ use Rattle.rng_deriv_laws.specs.plain.LevelStates.{LevelState, level_meaning, St
 
 pub record LevelMatcher : Type 0 where
   pub state : LevelState
-  -- an element stood before at this level
+  -- the element at this level has a child element already
   pub has_begun : Bool
-  -- the string since the last tag; the empty one if there is none
+  -- the string since the last tag, or the empty string if there is none
   pub held : List ℕ
 
 module _ (g : Reading) where
-  -- once the held string has turned out to stand beside an element
+  -- the state after the held string, given that an element is beside it
   pub data SettlesLevels (s : List ℕ) (m : LevelState) : LevelState → Type 0 where
     as_blank : is_blank s ≡ true → SettlesLevels s m m
     as_text : {n : LevelState} → is_blank s ≡ false → TakesString g s m n → SettlesLevels s m n
@@ -39,7 +39,7 @@ module _ (g : Reading) where
     -- no document has an end where no element is open
     at_stray_end : {n : LevelMatcher} → m.state.levels ≡ [] → StepsTo m an_end n
 
-  -- from a start, the events have led here, as far as they may be those of a document
+  -- the matcher represents these events: they lead from a start to it, if they may begin a document
   pub record StandsFor (m : LevelMatcher) (es : List EventKind) : Type 0 where
     pub first : LevelState
     pub start : IsStart g (level_meaning g first)
@@ -54,20 +54,20 @@ LevelsAnswer = (g : Grammar) (tests : TextTests) (m : LevelMatcher) (bytes : Lis
     StandsFor (reading g tests) m (kinds (events_of d)) →
     ((p : Simple ℕ) × Contains m.state.now p × (is_nullable p ≡ true)) ↔ IsValidBy g (texts_of tests) (item_of d)
 
--- once all alternatives are notAllowed, no document is valid that begins with the events so far
+-- if all alternatives are notAllowed, no document that begins with the events so far is valid
 abbrev pub NoLevelsAreInvalid : Type 0
 NoLevelsAreInvalid = (g : Grammar) (tests : TextTests) (m : LevelMatcher) (es more : List Event) → StandsFor (reading g tests) m (kinds es) →
     All (λ p. is_not_allowed p ≡ true) m.state.now → (bytes : List ℕ) (d : Placed) → IsPyxDocument bytes d → events_of d ≡ es ++ more
     → ¬ (IsValidBy g (texts_of tests) (item_of d))
 
--- after the events of a document with no alternative nullable, no document is valid that begins with these events
+-- if no alternative is nullable after the events of a document, no document that begins with these events is valid
 abbrev pub NoEndIsInvalid : Type 0
 NoEndIsInvalid = (g : Grammar) (tests : TextTests) (m : LevelMatcher) (bytes : List ℕ) (d : Placed) → IsPyxDocument bytes d →
     StandsFor (reading g tests) m (kinds (events_of d)) → ((p : Simple ℕ) → Contains m.state.now p → ¬ (is_nullable p ≡ true)) →
     (more : List Event) (bytes' : List ℕ) (d' : Placed) → IsPyxDocument bytes' d' → events_of d' ≡ events_of d ++ more
     → ¬ (IsValidBy g (texts_of tests) (item_of d'))
 
--- no alternative is left after a start whose name lies in the class of no element
+-- no alternative is left after a start whose name is in the class of no element
 abbrev pub UnknownNameLeavesNone : Type 0
 UnknownNameLeavesNone = (g : Grammar) (tests : TextTests) (m n : LevelMatcher) (q : Name) (xs : List Attribute) →
     ((k : ℕ) (c : NameClass) → ClassIn g k c → ¬ (In c q)) → StepsTo (reading g tests) m (a_start q xs) n → n.state.now ≡ []

@@ -1,5 +1,6 @@
--- Open elements as levels. Of the innermost open element a matcher keeps alternatives for what remains of it; of each open
--- element it keeps the ways out: which alternative inside ends for which alternative around it, and what is then left of that one.
+-- Open elements as levels. A matcher keeps alternatives for what remains of the innermost open element. For each open
+-- element it keeps the ways out: which alternative inside may end, which alternative around it then continues, and what
+-- is left of that one.
 use Rattle.std.specs.Prelude.{◌≡◌, ◌↔◌, ℕ, List, [], ◌∷◌, Some, Bool, true, slice_get, Contains, All}
 use Rattle.std.specs.List.{AllZip}
 use Rattle.rng_model.specs.names.Names.{Name}
@@ -22,26 +23,27 @@ pub record Link : Type 0 where
   pub inner : ℕ
   -- the place of an alternative around it
   pub outer : ℕ
-  -- what is left of that one behind the element
+  -- what is left of the alternative around, after the element
   pub rest : Simple ℕ
 
 pub record LevelState : Type 0 where
-  -- the alternatives for what remains of the innermost open element; where none is open, of the document
+  -- the alternatives for what remains of the innermost open element, or of the document if no element is open
   pub now : List (Simple ℕ)
   -- the ways out of each open element, the innermost first
   pub levels : List (List Link)
 
 module _ (g : Reading) where
-  -- ---- what level states mean
+  -- ---- the meaning of level states
 
-  -- ways out lead from the alternative of this place to what takes what remains around it
+  -- a way out leads from the alternative at this place, and its rest takes what remains around the element, at each
+  -- level
   abbrev pub HoldsAround : List (List Link) → ℕ → List (List Item) → Type 0
   HoldsAround [] j [] = Unit {0}
   HoldsAround [] j (ns ∷ ls) = ⊥
   HoldsAround (links ∷ levels) j [] = ⊥
   HoldsAround (links ∷ levels) j (ns ∷ ls) = (l : Link) × Contains links l × (l.inner ≡ j) × Takes g l.rest [] ns × HoldsAround levels l.outer ls
 
-  -- of some alternative P is so, and from it ways out lead to what takes what remains around it
+  -- some alternative satisfies P, and from it ways out lead to what takes the rest around it, at each level
   abbrev pub SomeHolds : (Simple ℕ → Type 0) → LevelState → List (List Item) → Type 0
   SomeHolds P m ls = (j : ℕ) × (p : Simple ℕ) × (slice_get m.now j ≡ Some p) × P p × HoldsAround m.levels j ls
 
@@ -52,36 +54,37 @@ module _ (g : Reading) where
   abbrev pub level_meaning : LevelState → Meaning
   level_meaning m = record { holds = HoldsInLevels m; begins = λ kids ls. SomeHolds (λ p. states.Contains g (has_element kids) p kids) m ls }
 
-  -- ---- what each event has to make of patterns
+  -- ---- what each event must do to patterns
 
-  -- q takes what may follow the string where p takes both
+  -- q takes exactly the items that may follow the string in what p takes
   abbrev pub IsAfterText : List ℕ → Simple ℕ → Simple ℕ → Type 0
   IsAfterText s p q = (ns : List Item) → IsBare (a_text s ∷ ns) → Takes g q [] ns ↔ Takes g p [] (a_text s ∷ ns)
 
-  -- q takes alone what p takes with the attributes of a tag
+  -- q takes, without attributes, exactly what p takes with the attributes of the tag
   abbrev pub IsAfterTag : List Attribute → Simple ℕ → Simple ℕ → Type 0
   IsAfterTag xs p q = Distinct xs → (ns : List Item) → Takes g q [] ns ↔ Takes g p xs ns
 
-  -- a way out for the alternative of this place, from a body that weakly takes attributes and children, to a rest that takes what follows
+  -- a way out for the alternative at this place: its body weakly takes the attributes and children, and its rest takes
+  -- what follows
   abbrev pub OpensAt : List (Simple ℕ) → List Link → ℕ → List Attribute → List Item → List Item → Type 0
   OpensAt bodies links i xs kids ns =
       (l : Link) × (b : Simple ℕ) × Contains links l × (l.outer ≡ i) × (slice_get bodies l.inner ≡ Some b) × WeaklyTakes g b xs kids × Takes g l.rest [] ns
 
-  -- the body has a content type (section 7.2), and there is an element of this name
+  -- the body has a content type (section 7.2), and some element has a class with this name
   pub record IsBodyNamed (q : Name) (b : Simple ℕ) : Type 0 where
     pub typed : IsTyped b
     pub element : ℕ
     pub named : has_name g element q ≡ true
 
-  -- the ways open an element of this name as the pattern takes one
+  -- the ways open an element of this name exactly as the pattern takes one
   pub record AreStarts (q : Name) (p : Simple ℕ) (ws : List Way) : Type 0 where
     pub to : (xs : List Attribute) (kids : Items) (ns : List Item) → Every IsNotBlank ns → Takes g p [] (an_element q xs kids ∷ ns)
         → Opens g xs (list_of kids) ns ws
     pub back : (xs : List Attribute) (kids : Items) (ns : List Item) → Opens g xs (list_of kids) ns ws → Takes g p [] (an_element q xs kids ∷ ns)
     pub each : EachWay (IsBodyNamed q) (λ r. Unit {0}) ws
 
-  -- The bodies and the ways out of them are those of a start of this name: an alternative takes an element and what follows exactly
-  -- if one of its ways does.
+  -- The bodies and their ways out are those of a start of this name: an alternative takes an element and what follows
+  -- exactly if one of its ways does.
   pub record AreOpened (q : Name) (outside bodies : List (Simple ℕ)) (links : List Link) : Type 0 where
     pub to : (i : ℕ) (p : Simple ℕ) (xs : List Attribute) (kids : Items) (ns : List Item) → slice_get outside i ≡ Some p → Every IsNotBlank ns
         → Takes g p [] (an_element q xs kids ∷ ns) → OpensAt bodies links i xs (list_of kids) ns
@@ -89,23 +92,23 @@ module _ (g : Reading) where
         → (p : Simple ℕ) × (slice_get outside i ≡ Some p) × Takes g p [] (an_element q xs kids ∷ ns)
     pub each : All (IsBodyNamed q) bodies
 
-  -- the pattern may end: of an element that holds an element
+  -- the pattern may end in an element that has a child element
   abbrev pub EndsNow : Simple ℕ → Type 0
   EndsNow p = Takes g p [] []
 
-  -- of an element with this string alone, or with none where it is empty (section 6.2.7)
+  -- the pattern may end in an element with only this string, or with nothing if the string is empty (section 6.2.7)
   abbrev pub EndsWith : List ℕ → Simple ℕ → Type 0
   EndsWith s p = WeaklyTakes g p [] (a_text s ∷ [])
 
-  -- What ways out of an element leave where the alternatives inside that are good end: an alternative around takes what a way out of
-  -- a good one leaves.
+  -- What the ways out of an element leave, when the good alternatives inside end: an alternative around takes exactly
+  -- what its ways out from good alternatives leave.
   pub record AreEnded (good : List Bool) (links : List Link) (outside : List (Simple ℕ)) : Type 0 where
     pub to : (l : Link) (ns : List Item) → Contains links l → slice_get good l.inner ≡ Some true → Takes g l.rest [] ns
         → (r : Simple ℕ) × (slice_get outside l.outer ≡ Some r) × Takes g r [] ns
     pub back : (i : ℕ) (r : Simple ℕ) (ns : List Item) → slice_get outside i ≡ Some r → Takes g r [] ns
         → (l : Link) × Contains links l × (l.outer ≡ i) × (slice_get good l.inner ≡ Some true) × Takes g l.rest [] ns
 
-  -- ---- what each event has to make of level states
+  -- ---- what each event must do to level states
 
   -- a start tag: one more level, and inside it the bodies after the attributes
   pub record StartsLevel (q : Name) (xs : List Attribute) (m n : LevelState) : Type 0 where
@@ -115,7 +118,7 @@ module _ (g : Reading) where
     pub entered : AllZip (IsAfterTag xs) bodies n.now
     pub levels : n.levels ≡ links ∷ m.levels
 
-  -- a string beside an element
+  -- a string that has an element beside it
   pub record TakesString (s : List ℕ) (m n : LevelState) : Type 0 where
     pub now : AllZip (IsAfterText s) m.now n.now
     pub levels : n.levels ≡ m.levels

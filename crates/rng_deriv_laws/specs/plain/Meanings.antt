@@ -1,5 +1,6 @@
--- What a matcher's state says, told apart from what it is made of: a meaning of what remains of a document, and how each
--- event has to change it. Any matcher whose events do this answers by the rules of matching; the states of `States` do.
+-- The meaning of a matcher's state, whatever the state is made of: what may remain of a document, and how each event
+-- must change this. Any matcher whose events do so gives the result of the rules of matching. The states of `States`
+-- do.
 use Rattle.std.specs.Prelude.{◌≡◌, ◌↔◌, ℕ, List, [], ◌∷◌, ◌++◌, Bool, true, false}
 use Rattle.rng_model.specs.names.Names.{Name}
 use Rattle.rng_model.specs.matching.Document.{Attribute, Item, a_text, an_element, Items, list_of}
@@ -14,47 +15,49 @@ use Rattle.rng_deriv_laws.specs.plain.Events.{kinds}
 use Rattle.rng_deriv_laws.specs.plain.Laws.{reading}
 
 pub record Meaning : Type 1 where
-  -- of what remains in each open element, the innermost first; with an element in it, its blank strings have gone
+  -- what may remain in each open element, the innermost first; blank strings of an element with a child element are
+  -- removed
   pub holds : List (List Item) → Type 0
-  -- of the whole content of an element that was just opened, and of what remains in those around it
+  -- what may be the whole content of an element that just started, with what remains in those around it
   pub begins : List Item → List (List Item) → Type 0
 
--- nothing can be met any more
+-- no remainder is possible, so no continuation is valid
 pub record IsEmpty (m : Meaning) : Type 0 where
   pub holds : (ls : List (List Item)) → m.holds ls → ⊥
   pub begins : (kids : List Item) (ls : List (List Item)) → m.begins kids ls → ⊥
 
--- before the first event: what the start takes
+-- the meaning before the first event: what the start takes
 abbrev pub IsStart : Reading → Meaning → Type 0
 IsStart g m = (ns : List Item) → m.holds (ns ∷ []) ↔ Takes g g.grammar.start [] ns
 
--- after a start tag
+-- the meaning after a start tag
 pub record IsAfterStart (m n : Meaning) (q : Name) (xs : List Attribute) : Type 0 where
   pub begins : (kids : Items) (ns : List Item) (ls : List (List Item)) → Distinct xs → Separate (list_of kids) → Every IsNotBlank ns
       → n.begins (list_of kids) (ns ∷ ls) ↔ m.holds ((an_element q xs kids ∷ ns) ∷ ls)
   pub content : (kids : List Item) (ls : List (List Item)) → has_element kids ≡ true → n.begins kids ls ↔ n.holds (without_blanks kids ∷ ls)
 
--- after a string that is not blank, beside an element
+-- the meaning after a string that is not blank, with an element beside it
 abbrev pub IsAfterString : Meaning → Meaning → List ℕ → Type 0
 IsAfterString m n s = (ns : List Item) (ls : List (List Item)) → Every IsNotBlank (a_text s ∷ ns) → n.holds (ns ∷ ls) ↔ m.holds ((a_text s ∷ ns) ∷ ls)
 
--- after the end of an element that holds an element
+-- the meaning after the end of an element that has a child element
 abbrev pub IsAfterEnd : Meaning → Meaning → Type 0
 IsAfterEnd m n = (ls : List (List Item)) → n.holds ls ↔ m.holds ([] ∷ ls)
 
--- after the end of an element with this string alone, or with none where it is empty
+-- the meaning after the end of an element with only this string, or with nothing if the string is empty
 abbrev pub IsAfterEndOfText : Meaning → Meaning → List ℕ → Type 0
 IsAfterEndOfText m n s = (kids : List Item) (ls : List (List Item)) → Separate kids → has_element kids ≡ false → string_of kids ≡ s
     → n.holds ls ↔ m.begins kids ls
 
 -- a matcher whose states have these meanings
 module _ {S : Type 0} (means : S → Meaning) where
-  -- once the held string has turned out to stand beside an element
+  -- the state after the held string, given that an element is beside it
   pub data Settles (s : List ℕ) : S → S → Type 0 where
     as_blank : {m : S} → is_blank s ≡ true → Settles s m m
     as_text : {m n : S} → is_blank s ≡ false → IsAfterString (means m) (means n) s → Settles s m n
 
-  -- From a state, whether an element stood before at its level, and the string that is held, events lead to another.
+  -- Events lead from a state to another. With each state go whether its level has a child element already, and the held
+  -- string.
   pub data Runs : S → Bool → List ℕ → List EventKind → S → Bool → List ℕ → Type 0 where
     stays : {m : S} {b : Bool} {s : List ℕ} → Runs m b s [] m b s
     at_start : {m k n o : S} {b c : Bool} {s u : List ℕ} {q : Name} {xs : List Attribute} {es : List EventKind} →
@@ -67,13 +70,14 @@ module _ {S : Type 0} (means : S → Meaning) where
 
   -- ---- laws
 
-  -- from the start, the events of a document lead to a state that holds of nothing left exactly if the document is valid
+  -- from the start, the events of a document lead to a state that allows the end of the document exactly if the
+  -- document is valid
   abbrev pub RunsAnswer : Type 0
   RunsAnswer = (g : Grammar) (tests : TextTests) (m n : S) (b : Bool) (held : List ℕ) (bytes : List ℕ) (d : Placed) → IsPyxDocument bytes d →
       IsStart (reading g tests) (means m) → Runs m false [] (kinds (events_of d)) n b held
       → (means n).holds ([] ∷ []) ↔ IsValidBy g (texts_of tests) (item_of d)
 
-  -- once events have led to a state that nothing can meet, no document that begins with them is valid
+  -- if events lead to a state with an empty meaning, no document that begins with them is valid
   abbrev pub EmptyIsInvalid : Type 0
   EmptyIsInvalid = (g : Grammar) (tests : TextTests) (m n : S) (b : Bool) (held : List ℕ) (es more : List Event) → IsStart (reading g tests) (means m) →
       Runs m false [] (kinds es) n b held → IsEmpty (means n) → (bytes : List ℕ) (d : Placed) → IsPyxDocument bytes d → events_of d ≡ es ++ more

@@ -1,4 +1,4 @@
--- A simple grammar with tests for texts: how the names and the texts of a document are judged.
+-- A simple grammar with tests for texts: how names and texts of a document are judged.
 use Rattle.std.specs.Prelude.{ℕ, Bool, false, Option, Some, None, slice_get}
 use Rattle.rng_model.specs.names.Names.{Name, NameClass}
 use Rattle.rng_model.specs.simple.Tree.{Simple, s_not_allowed}
@@ -22,7 +22,7 @@ module _ (g : Reading) where
   abbrev pub body_of : ℕ → Simple ℕ
   body_of k = body_in (slice_get g.grammar.elements k)
 
-  -- its name class holds the name
+  -- the name class of the element of this number holds the name
   abbrev pub has_name : ℕ → Name → Bool
   has_name k q = named_in (slice_get g.grammar.elements k) q
 

@@ -1,11 +1,11 @@
--- What the restrictions of section 7 say of a pattern, kind by kind. A grammar that breaks none of the clauses S19, S20,
--- S21 and S23 has them of each body and of its start (`proofs/Restricted`); derivatives keep them.
+-- What the restrictions of section 7 say of a pattern, kind by kind. If a grammar breaks none of the clauses S19, S20,
+-- S21 and S23, its start and each of its bodies satisfy these (`proofs/Restricted`). Derivatives keep them.
 use Rattle.std.specs.Prelude.{◌≡◌, ◌⊎◌, ℕ, Option, Some, None}
 use Rattle.rng_model.specs.simple.Tree.{Simple, choice, group, interleave, s_not_allowed, s_empty, s_text, s_leaf, s_attribute, s_list, s_data}
 use Rattle.rng_model.specs.simple.Tree.{s_data_except, s_value, s_one_or_more, s_joined}
 use Rattle.rng_model.specs.restrictions.Restrictions.{ContentType, empty_content, complex_content, simple_content, greater}
 
--- no attribute stands in the pattern
+-- no attribute is in the pattern
 abbrev pub HasNoAttribute : Simple ℕ → Type 0
 HasNoAttribute s_not_allowed = Unit {0}
 HasNoAttribute s_empty = Unit {0}
@@ -19,7 +19,7 @@ HasNoAttribute (s_value d v) = Unit {0}
 HasNoAttribute (s_one_or_more p) = HasNoAttribute p
 HasNoAttribute (s_joined k p q) = HasNoAttribute p × HasNoAttribute q
 
--- no attribute stands in a group or an interleave of the pattern
+-- no attribute is in a group or an interleave of the pattern
 abbrev pub HasNoneGrouped : Simple ℕ → Type 0
 HasNoneGrouped s_not_allowed = Unit {0}
 HasNoneGrouped s_empty = Unit {0}
@@ -35,7 +35,7 @@ HasNoneGrouped (s_joined choice p q) = HasNoneGrouped p × HasNoneGrouped q
 HasNoneGrouped (s_joined group p q) = HasNoAttribute p × HasNoAttribute q
 HasNoneGrouped (s_joined interleave p q) = HasNoAttribute p × HasNoAttribute q
 
--- no attribute stands in a group or an interleave inside a oneOrMore (section 7.1.2)
+-- no attribute is in a group or an interleave inside a oneOrMore (section 7.1.2)
 abbrev pub RepeatsWell : Simple ℕ → Type 0
 RepeatsWell s_not_allowed = Unit {0}
 RepeatsWell s_empty = Unit {0}
@@ -49,7 +49,7 @@ RepeatsWell (s_value d v) = Unit {0}
 RepeatsWell (s_one_or_more p) = HasNoneGrouped p × RepeatsWell p
 RepeatsWell (s_joined k p q) = RepeatsWell p × RepeatsWell q
 
--- what may stand in the except of a data (section 7.1.4)
+-- what may be in the except of a data (section 7.1.4)
 abbrev pub MayBeExcepted : Simple ℕ → Type 0
 MayBeExcepted s_not_allowed = Unit {0}
 MayBeExcepted s_empty = ⊥
@@ -65,7 +65,7 @@ MayBeExcepted (s_joined choice p q) = MayBeExcepted p × MayBeExcepted q
 MayBeExcepted (s_joined group p q) = ⊥
 MayBeExcepted (s_joined interleave p q) = ⊥
 
--- what may stand in a list (section 7.1.3), and in the excepts there
+-- what may be in a list (section 7.1.3), and in the excepts there
 abbrev pub MayBeListed : Simple ℕ → Type 0
 MayBeListed s_not_allowed = Unit {0}
 MayBeListed s_empty = Unit {0}
@@ -81,7 +81,7 @@ MayBeListed (s_joined choice p q) = MayBeListed p × MayBeListed q
 MayBeListed (s_joined group p q) = MayBeListed p × MayBeListed q
 MayBeListed (s_joined interleave p q) = ⊥
 
--- the body of each list is one of those, and each except holds what it may
+-- the body of each list satisfies the predicate, and each except has only what it may have
 abbrev pub HasTexts : (Simple ℕ → Type 0) → Simple ℕ → Type 0
 HasTexts Ok s_not_allowed = Unit {0}
 HasTexts Ok s_empty = Unit {0}
@@ -95,7 +95,7 @@ HasTexts Ok (s_value d v) = Unit {0}
 HasTexts Ok (s_one_or_more p) = HasTexts Ok p
 HasTexts Ok (s_joined k p q) = HasTexts Ok p × HasTexts Ok q
 
--- what may stand in a start (section 7.1.5)
+-- what may be in a start (section 7.1.5)
 abbrev pub MayStart : Simple ℕ → Type 0
 MayStart s_not_allowed = Unit {0}
 MayStart s_empty = ⊥
@@ -111,15 +111,15 @@ MayStart (s_joined choice p q) = MayStart p × MayStart q
 MayStart (s_joined group p q) = ⊥
 MayStart (s_joined interleave p q) = ⊥
 
--- ---- content types (section 7.2), where there is one
+-- ---- content types (section 7.2), if there is one
 
--- both sides of a choice have one
+-- both sides of a choice have a content type
 abbrev pub type_of_choice : Option ContentType → Option ContentType → Option ContentType
 type_of_choice None u = None
 type_of_choice (Some t) None = None
 type_of_choice (Some t) (Some u) = Some (greater t u)
 
--- both sides have one, and one is empty or both are complex
+-- both sides have a content type, and one is empty or both are complex
 abbrev pub type_of_both : Option ContentType → Option ContentType → Option ContentType
 type_of_both None u = None
 type_of_both (Some t) None = None
@@ -156,12 +156,12 @@ IsTyped p = ((t : ContentType) × (content_type p ≡ Some t)) ⊎ (p ≡ s_not_
 
 -- ---- together
 
--- what every pattern keeps that derivatives make
+-- what all patterns satisfy that derivatives make
 pub record IsRestricted (p : Simple ℕ) : Type 0 where
   pub repeats : RepeatsWell p
   pub texts : HasTexts MayBeListed p
 
--- what the body of an element has besides
+-- what the body of an element satisfies besides
 pub record IsRestrictedBody (p : Simple ℕ) : Type 0 where
   pub restricted : IsRestricted p
   pub typed : IsTyped p

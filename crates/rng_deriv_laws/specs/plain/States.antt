@@ -1,6 +1,6 @@
--- Patterns inside open elements, and what each event makes of them. What remains of a document is a list of levels: what
--- remains in each open element, the innermost first. A pair of what is inside an element and what follows it is never met
--- as soon as one of them is notAllowed, so a state that nothing can meet any more is `never`.
+-- Patterns inside open elements, and what each event does to them. What remains of a document is a list of levels: what
+-- remains in each open element, the innermost first. If the pattern inside an element or what follows it is notAllowed,
+-- the pair of both is never matched. So a state after which no continuation is valid is `never`.
 use Rattle.std.specs.Prelude.{◌⊎◌, ℕ, List, [], ◌∷◌, Bool, true, false, ◌||◌, ◌&&◌, cond}
 use Rattle.rng_model.specs.names.Names.{Name}
 use Rattle.rng_model.specs.simple.Tree.{Simple}
@@ -16,7 +16,7 @@ use Rattle.rng_deriv_laws.specs.plain.Derivatives.{is_not_allowed, is_nullable, 
 pub data State : Type 0 where
   never : State
   finished : State
-  -- the pattern inside, and what holds of the levels around
+  -- the pattern inside, and the state of the levels around
   after : Simple ℕ → State → State
   either : State → State → State
 
@@ -39,21 +39,21 @@ if_so b r = cond b r never
 
 -- ---- events
 
--- the end of an element that holds an element
+-- the end of an element that has a child element
 abbrev pub end_tag : State → State
 end_tag never = never
 end_tag finished = never
 end_tag (after p r) = if_so (is_nullable p) r
 end_tag (either r s) = either_of (end_tag r) (end_tag s)
 
--- nothing remains, and nothing is wanted
+-- nothing remains, and nothing is needed
 abbrev pub is_ended : State → Bool
 is_ended never = false
 is_ended finished = true
 is_ended (after p r) = false
 is_ended (either r s) = is_ended r || is_ended s
 
--- nothing remains in the innermost level, the only one, and nothing is wanted
+-- nothing remains in the innermost level, which is the only one, and nothing is needed
 abbrev pub accepts : State → Bool
 accepts never = false
 accepts finished = false
@@ -61,7 +61,7 @@ accepts (after p r) = is_nullable p && is_ended r
 accepts (either r s) = accepts r || accepts s
 
 module _ (g : Reading) where
-  -- into the bodies of the ways, with the attributes of the tag taken
+  -- the state inside the bodies of the ways, after the attributes of the tag
   abbrev pub enter : List Attribute → List Way → State → State
   enter xs [] r = never
   enter xs (w ∷ ws) r = either_of (after_of (closed (after_attributes g w.leaf xs)) (after_of w.rest r)) (enter xs ws r)
@@ -72,21 +72,21 @@ module _ (g : Reading) where
   start_tag (after p r) q xs = enter xs (after_start g p q) r
   start_tag (either r s) q xs = either_of (start_tag r q xs) (start_tag s q xs)
 
-  -- a string beside an element
+  -- a string that has an element beside it
   abbrev pub string : State → List ℕ → State
   string never s = never
   string finished s = never
   string (after p r) s = after_of (after_text g p s) r
   string (either r t) s = either_of (string r s) (string t s)
 
-  -- the end of an element with one string inside, or none
+  -- the end of an element with only one string, or with nothing
   abbrev pub end_text : State → List ℕ → State
   end_text never s = never
   end_text finished s = never
   end_text (after p r) s = if_so (has_text g p s) r
   end_text (either r t) s = either_of (end_text r s) (end_text t s)
 
-  -- after the children of an element, and after an item
+  -- the state after the children of an element, and after an item
   abbrev mutual
     pub after_items : Items → State → State
     after_items no_items r = r
@@ -97,9 +97,9 @@ module _ (g : Reading) where
     after_item (an_element q xs kids) r =
         cond (has_element (list_of kids)) (end_tag (after_items kids (start_tag r q xs))) (end_text (start_tag r q xs) (string_of (list_of kids)))
 
-  -- ---- what states mean
+  -- ---- the meaning of states
 
-  -- of what remains in each level
+  -- the state allows these items to remain in each level
   abbrev pub Holds : State → List (List Item) → Type 0
   Holds never ls = ⊥
   Holds finished [] = Unit {0}
@@ -108,23 +108,24 @@ module _ (g : Reading) where
   Holds (after p r) (ns ∷ ls) = Takes g p [] ns × Holds r ls
   Holds (either r s) ls = Holds r ls ⊎ Holds s ls
 
-  -- of the whole content of an element: with an element in it the blank strings have gone
+  -- the pattern takes the whole content of an element; if the content has an element, its blank strings are removed
+  -- first
   abbrev pub Contains : Bool → Simple ℕ → List Item → Type 0
   Contains true p kids = Takes g p [] (without_blanks kids)
   Contains false p kids = WeaklyTakes g p [] kids
 
-  -- of the whole content of an element, and of the levels around it
+  -- the state allows this whole content of an element, with these items in the levels around it
   abbrev pub Begins : State → List Item → List (List Item) → Type 0
   Begins never kids ls = ⊥
   Begins finished kids ls = ⊥
   Begins (after p r) kids ls = Contains (has_element kids) p kids × Holds r ls
   Begins (either r s) kids ls = Begins r kids ls ⊎ Begins s kids ls
 
-  -- every body of the grammar keeps the restrictions
+  -- every body of the grammar obeys the restrictions
   abbrev pub HasRestrictedBodies : Type 0
   HasRestrictedBodies = (k : ℕ) → IsRestrictedBody (body_of g k)
 
--- every pattern of the state keeps the restrictions
+-- every pattern of the state obeys the restrictions
 abbrev pub IsRestrictedState : State → Type 0
 IsRestrictedState never = Unit {0}
 IsRestrictedState finished = Unit {0}

@@ -1,6 +1,6 @@
 -- Which attributes with which items a pattern takes: the rules of matching (RELAX NG Specification, section 6.2) for
--- the trees of the simple syntax, where names and texts are judged by tests. `proofs/TakesAndMatches` says that a pattern takes
--- what it matches by the one definition of matching; the body of an element is here judged by that.
+-- the trees of the simple syntax, with tests for names and texts. `proofs/TakesAndMatches` proves that a pattern takes
+-- exactly what it matches by the one definition of matching. The rule for an element uses that definition for its body.
 use Rattle.std.specs.Prelude.{◌≡◌, ℕ, List, [], ◌∷◌, ◌++◌, map, true}
 use Rattle.rng_model.specs.names.Names.{Name, NameClass, In}
 use Rattle.rng_model.specs.simple.Tree.{Simple, Datatype, choice, group, interleave, as_tree, s_empty, s_text, s_leaf, s_attribute, s_list, s_data, s_data_except}

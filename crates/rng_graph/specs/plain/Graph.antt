@@ -1,5 +1,5 @@
--- A schema by numbers: the definitions and the elements that are met, each with one number, and their bodies with numbers at
--- the points. What comes after the collecting works on numbers alone.
+-- A schema by numbers: the definitions and the elements that are met, each with one number, and their bodies with
+-- numbers at the points. The steps after collecting need only the numbers.
 use Rattle.std.specs.Prelude.{◌≡◌, ℕ, ◌+◌, ◌<◌, ◌≤◌, List, [], ◌∷◌, ◌++◌, length, slice_get, slice_index_or, Option, Some, None, Bool, true, ◌&&◌}
 use Rattle.std.specs.Prelude.{if◌then◌else◌, Contains}
 use Rattle.std.specs.Str.{bytes_eq}
@@ -14,12 +14,12 @@ use Rattle.rng_model.specs.schema.Unfolding.{Leaf, content_of, Aim, to_element, 
 use Rattle.rng_graph.specs.plain.Met.{Met}
 use Rattle.rng_graph.specs.plain.DepthWith.{depth_with}
 
--- a point by the number of its element or of its definition
+-- a point, by the number of its element or of its definition
 pub data Spot : Type 0 where
   at_element : ℕ → Spot
   at_definition : ℕ → Spot
 
--- the bodies of the definitions, of which the first is the start, and of the elements
+-- the bodies of the definitions, the first of which is the start, and of the elements
 pub record Graph : Type 0 where
   pub bodies : List (Tree Spot)
   pub contents : List (Tree Spot)
@@ -47,14 +47,15 @@ pub record IsResolved (s : Schema) (ds : List Definition) (ls : List Leaf) (x : 
   pub same : renamed (aim s x) a ≡ renamed (aim_at ds ls) r
   pub below : (p : Spot) → LeafIn p r → IsSpotBelow (length ds) (length ls) p
 
--- one definition: the same name at the same place; one element: the same position at the same place
+-- Definitions are the same if they have the same name and place; elements are the same if they have the same position
+-- and place.
 abbrev pub same_definition : Definition → Definition → Bool
 same_definition d e = bytes_eq d.place e.place && same_name d.name e.name
 
 abbrev pub same_leaf : Leaf → Leaf → Bool
 same_leaf l m = bytes_eq l.place m.place && bytes_eq l.position m.position
 
--- no two stand for one
+-- no two are the same
 abbrev pub ArePairwiseApart : {A : Type 0} → (A → A → Bool) → List A → Type 0
 ArePairwiseApart {A} same xs = (i j : ℕ) (x y : A) → slice_get xs i ≡ Some x → slice_get xs j ≡ Some y → same x y ≡ true → i ≡ j
 
@@ -72,41 +73,41 @@ pub record IsGraphOf (s : Schema) (ds : List Definition) (ls : List Leaf) (g : G
 
 -- ---- on numbers alone
 
--- the body of a definition mentions, outside elements, another
+-- the body of a definition mentions another one outside elements
 pub record Mentions (g : Graph) (j i : ℕ) : Type 0 where
   pub tree : Tree Spot
   pub is : slice_get g.bodies j ≡ Some tree
   pub there : LeafIn (at_definition i) tree
 
--- numbers in an order in which each mentions only earlier ones
+-- an order of numbers in which each mentions only earlier ones
 pub data IsOrderBy {A : Type 0} (M : A → A → Type 0) : List A → Type 0 where
   no_numbers : IsOrderBy M []
   and_number : {xs ys : List A} (x : A) → IsOrderBy M xs → ((y : A) → M x y → Contains xs y) → ys ≡ xs ++ x ∷ [] → IsOrderBy M ys
 
--- one leads to another, any number of mentions on
+-- one leads to another by one mention or more
 pub data LeadsBy {A : Type 0} (M : A → A → Type 0) : A → A → Type 0 where
   by_one : {x y : A} → M x y → LeadsBy M x y
   by_more : {x y z : A} → M x y → LeadsBy M y z → LeadsBy M x z
 
--- what a table of numbers says at a spot
+-- the value of a table of numbers at a spot
 abbrev pub of_spot : {A : Type 0} → (ℕ → A) → (ℕ → A) → Spot → A
 of_spot element table (at_element k) = element k
 of_spot element table (at_definition j) = table j
 
--- the depth of a body, given those of the definitions
+-- the depth of a body, given the depths of the definitions
 abbrev pub spot_depth : (ℕ → ℕ) → Tree Spot → ℕ
 spot_depth table r = depth_with (of_spot (λ k. 1) table) r
 
--- the table has, for each of these numbers, what it gives for its body
+-- the table has for each of these numbers the value of its body
 abbrev pub IsFilledBy : {A : Type 0} → Graph → (Tree Spot → A) → (ℕ → A) → List ℕ → Type 0
 IsFilledBy g of_body table js = (j : ℕ) → Contains js j → (r : Tree Spot) → slice_get g.bodies j ≡ Some r → table j ≡ of_body r
 
--- the first with this test
+-- the index of the first member with this test
 abbrev pub first_with : {A : Type 0} → (A → Bool) → List A → ℕ
 first_with test [] = 0
 first_with test (x ∷ xs) = if test x then 0 else first_with test xs + 1
 
--- stands where a list has no definition
+-- a default for an index outside a list of definitions
 abbrev pub no_definition : Definition
 no_definition = record { place = []; name = None }
 
@@ -120,7 +121,7 @@ number_of ds d = first_with (same_definition d) ds
 abbrev pub leaf_number : List Leaf → Leaf → ℕ
 leaf_number ls m = first_with (same_leaf m) ls
 
--- a tree that the numbers say is too deep; the name classes are those of the elements
+-- by the numbers a tree is too deep; the name classes are those of the elements
 pub data IsDeepBy (classes : List NameClass) (g : Graph) (values : ℕ → ℕ) : Type 0 where
   start_is_deep : depth_limit < values 0 → IsDeepBy classes g values
   body_is_deep : (k : ℕ) (r : Tree Spot) → slice_get g.contents k ≡ Some r → depth_limit < spot_depth values r → IsDeepBy classes g values
@@ -128,7 +129,7 @@ pub data IsDeepBy (classes : List NameClass) (g : Graph) (values : ℕ → ℕ) 
 
 -- ---- a graph that is being made
 
--- what holds of a graph while its bodies are made in the order of their numbers: more is numbered than has a body
+-- the invariant while bodies are made in the order of their numbers: there may be more numbers than bodies
 pub record IsPartOf (s : Schema) (ds : List Definition) (ls : List Leaf) (g : Graph) : Type 0 where
   pub start : slice_get ds 0 ≡ Some (main_start s)
   pub some_bodies : length g.bodies ≤ length ds
@@ -141,7 +142,7 @@ pub record IsPartOf (s : Schema) (ds : List Definition) (ls : List Leaf) (g : Gr
   pub definitions_apart : ArePairwiseApart same_definition ds
   pub elements_apart : ArePairwiseApart same_leaf ls
 
--- the lists with what a body brought: each of it is what one of the body's points is, and is not there twice
+-- what a body adds to the lists: each new member is the aim of one of its points, and no member is there twice
 pub record Brings (s : Schema) (x : Place) (a : Tree Point) (ds : List Definition) (ls : List Leaf) (more_ds : List Definition)
     (more_ls : List Leaf) : Type 0 where
   pub definitions : (d : Definition) → Contains more_ds d → (l : Point) × LeafIn l a × (aim s x l ≡ to_definition d)

@@ -1,5 +1,6 @@
--- Trees and name classes in twos: the rules of sections 4.12 to 4.15 of the RELAX NG Specification applied, and no other, from the
--- leaves up. Private contracts cite them; `IsRewritten` and `IsSimpleClassOf` of `rng_model` say what they have to give.
+-- Trees and name classes in twos: exactly the rules of sections 4.12 to 4.15 of the RELAX NG Specification are applied,
+-- from the leaves up. Private contracts cite them; `IsRewritten` and `IsSimpleClassOf` of `rng_model` state what they
+-- must return.
 use Rattle.rng_model.specs.names.Names.{NameClass, any_name, any_except, ns_name, ns_except, name_is, one_of, NameClasses, no_classes, class_and}
 use Rattle.rng_model.specs.simple.Tree.{Connector, choice, interleave}
 use Rattle.rng_model.specs.simple.Tree.{Tree, not_allowed, empty, text, leaf, attribute, list, data_of, data_except, value, mixed, optional, zero_or_more, one_or_more}
@@ -21,8 +22,8 @@ abbrev mutual
   nested_after c no_classes = c
   nested_after c (class_and d ds) = nested_after (one_of c (nested d) no_classes) ds
 
--- the tree with 4.12 to 4.15 applied, and no other rule: members are nested in twos from the left, mixed is an interleave
--- with text, optional a choice with empty, zeroOrMore a choice of oneOrMore and empty
+-- the tree with exactly the rules of 4.12 to 4.15 applied: members are nested in twos from the left, mixed is an
+-- interleave with text, optional is a choice with empty, zeroOrMore is a choice of oneOrMore and empty
 abbrev mutual
   pub in_twos : {L : Type 0} → Tree L → Simple L
   in_twos not_allowed = s_not_allowed

@@ -1,4 +1,4 @@
--- Depths member by member, without the nested form. Private contracts cite them.
+-- Depths member by member, without building the nested form. Private contracts cite them.
 use Rattle.std.specs.Prelude.{◌⊎◌, ℕ, ◌<◌, max, List, [], ◌∷◌, slice_index_or}
 use Rattle.rng_model.specs.names.Names.{NameClasses, no_classes, class_and}
 use Rattle.rng_model.specs.schema.Depth.{class_depth, depth_limit}
@@ -9,21 +9,21 @@ use Rattle.rng_graph.specs.plain.Graph.{Spot, of_spot}
 use Rattle.rng_graph.specs.views.GraphView.{graph_pattern_of}
 use Rattle.rng_graph.specs.declared.graph.GraphElement.{GraphElement}
 
--- a name class that is nested already is so deep, and the members after it
+-- the depth of a name class that is nested already, of depth n, with the members after it
 abbrev pub nested_class_depth : ℕ → NameClasses → ℕ
 nested_class_depth n no_classes = n
 nested_class_depth n (class_and c cs) = nested_class_depth (one_more (max n (cut_off (class_depth (nested c))))) cs
 
--- the members are so deep: none are as deep as a leaf
+-- the depth of members; no members have the depth of a leaf
 abbrev pub members_depth : List ℕ → ℕ
 members_depth [] = 1
 members_depth (n ∷ ns) = nested_depth n ns
 
--- what a table says of a definition; it has 0 for those that are not there
+-- the depth of a definition in a table, 0 outside the table
 abbrev pub depth_in : List ℕ → ℕ → ℕ
 depth_in table j = slice_index_or table j 0
 
--- the depth of an element is 1, of a definition what the table says
+-- the depth of an element is 1, and that of a definition is in the table
 abbrev pub depth_at_spot : List ℕ → Spot → ℕ
 depth_at_spot table = of_spot (λ k. 1) (depth_in table)
 

@@ -7,7 +7,7 @@ use Rattle.rng_graph.specs.plain.Graph.{Spot}
 use Rattle.rng_graph.specs.views.GraphView.{combined}
 use Rattle.rng_graph.specs.plain.Resolving.{Numbering, resolve_each}
 
--- what the body of a definition becomes, and what has a number then
+-- the resolved body of a definition, and the numbering after it
 abbrev pub resolved_body : Schema → Definition → Numbering → Tree Spot × Numbering
 resolved_body s d v =
     let r = resolve_each d.place (s.outer d.place) (map (λ c. c.pattern) (schema_components s d)) v in

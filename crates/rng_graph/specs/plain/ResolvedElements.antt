@@ -1,4 +1,4 @@
--- The elements that a pattern has, each after those in its body: those that get a number when the pattern is resolved.
+-- The elements of a pattern, each after those in its body: they get numbers when the pattern is resolved.
 use Rattle.std.specs.Prelude.{ℕ, ◌+◌, List, [], ◌∷◌, ◌++◌, fold, Option, if◌then◌else◌}
 use Rattle.rng_model.specs.schema.Patterns.{Place, Position, Pattern, Patterns, no_patterns, pattern_and, not_allowed, empty, text, element, attribute, list}
 use Rattle.rng_model.specs.schema.Patterns.{data_of, data_except, value, mixed, optional, zero_or_more, one_or_more, joined, ref, parent_ref, grammar, external}
@@ -34,7 +34,8 @@ module _ (x : Place) where
     with_all_elements i n no_patterns ls = ls
     with_all_elements i n (pattern_and p ps) ls = with_all_elements (i + 1) n ps (with_elements (i ∷ n) p ls)
 
--- these elements, and those of the components of a name of the grammar at a place, the first of which has the number n
+-- These elements, and those of the components of a name of the grammar at a place. The first component has the number
+-- n.
 unfoldable pub with_named_elements : Place → Option (List ℕ) → ℕ → List Component → List Leaf → List Leaf
 with_named_elements x y n [] ls = ls
 with_named_elements x y n (c ∷ cs) ls =

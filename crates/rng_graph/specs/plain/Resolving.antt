@@ -1,5 +1,5 @@
--- The plain functions that number what a pattern mentions: each definition when it is first met, each element when its body is
--- done. Private contracts cite them; `IsResolved` and `IsGraphOf` say what they have to give.
+-- The plain functions that number what a pattern mentions: each definition when it is first met, each element when its
+-- body is done. Private contracts cite them; `IsResolved` and `IsGraphOf` state what they must return.
 use Rattle.std.specs.Prelude.{ℕ, List, [], ◌∷◌, ◌++◌, length, Option, Some, None, if◌then◌else◌}
 use Rattle.std.specs.List.{list_any}
 use Rattle.rng_model.specs.names.Names.{NameClass}
@@ -11,24 +11,24 @@ use Rattle.rng_model.specs.schema.Patterns.{value, without_parameters, mixed, op
 use Rattle.rng_model.specs.schema.Schema.{Definition}
 use Rattle.rng_graph.specs.plain.Graph.{Spot, at_element, at_definition, same_definition, number_of}
 
--- the definitions with one that may be there: a new one stands after the others
+-- the definitions with this one, which is last if it is new
 abbrev pub with_definition : List Definition → Definition → List Definition
 with_definition ds d = if list_any (same_definition d) ds then ds else ds ++ d ∷ []
 
--- what has a number: definitions, and elements with their name classes and their bodies
+-- what is numbered: definitions, and elements with their name classes and their bodies
 pub record Numbering : Type 0 where
   pub definitions : List Definition
   pub elements : List (NameClass × Tree Spot)
 
--- what a pattern has become, and what has a number then
+-- a resolved pattern, and the numbering after it
 abbrev pub Resolved : Type 0
 Resolved = Tree Spot × Numbering
 
--- inside of a pattern that adds nothing
+-- inside a pattern that adds no numbers
 abbrev pub within : (Tree Spot → Tree Spot) → Resolved → Resolved
 within make r = (make r.0, r.1)
 
--- a definition is asked for
+-- a definition is looked up
 abbrev pub looked_up : Definition → Numbering → Resolved
 looked_up d v = (leaf (at_definition (number_of v.definitions d)), record { definitions = with_definition v.definitions d; elements = v.elements })
 
@@ -37,11 +37,11 @@ unfoldable pub looked_up_outside : List ℕ → Option Place → Numbering → R
 looked_up_outside y None v = (tree.not_allowed, v)
 looked_up_outside y (Some z) v = looked_up (record { place = z; name = Some y }) v
 
--- an element of this class, whose body is that
+-- an element with this class and this body
 abbrev pub with_element : NameClass → Resolved → Resolved
 with_element c r = (leaf (at_element (length r.1.elements)), record { definitions = r.1.definitions; elements = r.1.elements ++ (c, r.0) ∷ [] })
 
--- in the grammar at a place, around which is the one at the other
+-- in the grammar at a place, with the one at the other place around it
 module _ (x : Place) (outer : Option Place) where
   unfoldable mutual
     pub resolve : Pattern → Numbering → Resolved

@@ -1,4 +1,4 @@
--- A search through numbers that mention numbers, in depth, with a list of tasks. Private contracts cite the states.
+-- A depth-first search through numbers that mention numbers, with a list of tasks. Private contracts cite its states.
 use Rattle.std.specs.Prelude.{◌≡◌, ◌⊎◌, ℕ, ◌+◌, ◌<◌, ◌≤◌, List, [], ◌∷◌, length, slice_get, slice_index_or, map, Option, Some, None, All, Contains, Vec}
 use Rattle.std.specs.Prelude.{vec_items}
 use Rattle.rng_graph.specs.declared.order.Mark.{Mark}
@@ -13,7 +13,7 @@ use Rattle.rng_graph.specs.plain.Graph.{IsOrderBy, LeadsBy}
 abbrev pub Lists : List (List ℕ) → ℕ → ℕ → Type 0
 Lists all j i = Contains (slice_index_or all j []) i
 
--- all that is mentioned has mentions
+-- everything that is mentioned is a number with mentions
 abbrev pub AreMentionsBelow : List (List ℕ) → Type 0
 AreMentionsBelow all = (j i : ℕ) → Lists all j i → i < length all
 
@@ -28,7 +28,7 @@ abbrev pub number_of : Task → ℕ
 number_of (task.Enter j) = j
 number_of (task.Leave j) = j
 
--- a task for the number stands in the list, at or after a place
+-- a task for the number is in the list, at this index or after it
 pub record IsDue (tasks : List Task) (from : ℕ) (j : ℕ) : Type 0 where
   pub place : ℕ
   pub task : Task
@@ -41,26 +41,26 @@ pub record IsSearch (all : List (List ℕ)) (marks : List Mark) (tasks : List Ta
   pub in_order : IsOrderBy (Lists all) order
   pub ordered_below : All (λ j. j < length all) order
   pub tasks_below : (p : ℕ) (t : Task) → slice_get tasks p ≡ Some t → number_of t < length all
-  -- what is done is in the order, what is open will be left
+  -- what is done is in the order, and what is open has a task to leave it
   pub done : (j : ℕ) → slice_get marks j ≡ Some mark.Done → Contains order j
   pub opened : (j : ℕ) → slice_get marks j ≡ Some mark.Open → (p : ℕ) × (slice_get tasks p ≡ Some (task.Leave j))
-  -- each number is in the order, or due
+  -- each number is in the order or has a task
   pub every : (j : ℕ) → j < length all → Contains order j ⊎ IsDue tasks 0 j
-  -- what a number to be left mentions is in the order, or due before
+  -- what a number mentions is in the order, or has a later task than the one to leave the number
   pub before : (p j i : ℕ) → slice_get tasks p ≡ Some (task.Leave j) → Lists all j i → Contains order i ⊎ IsDue tasks (p + 1) i
-  -- a number to be left leads to all that is due before
+  -- a number with a task to leave it leads to the numbers of all later tasks
   pub leads : (p q j : ℕ) (t : Task) → p < q → slice_get tasks p ≡ Some (task.Leave j) → slice_get tasks q ≡ Some t → LeadsBy (Lists all) j (number_of t)
 
 -- ---- how the search begins, and why it ends
 
--- nothing is marked, and each number is to be entered
+-- nothing is marked, and each number has a task to enter it
 pub record IsStart (n : ℕ) (marks : List Mark) (tasks : List Task) : Type 0 where
   pub all_marks : length marks ≡ n
   pub all_tasks : length tasks ≡ n
   pub new : (k : ℕ) (m : Mark) → slice_get marks k ≡ Some m → m ≡ mark.New
   pub each : (k : ℕ) → k < n → slice_get tasks k ≡ Some (task.Enter k)
 
--- how many tasks may still come of what is new
+-- a bound on the tasks that new numbers may still add
 abbrev pub weight : List Mark → List (List ℕ) → ℕ
 weight [] all = 0
 weight (m ∷ marks) [] = 0

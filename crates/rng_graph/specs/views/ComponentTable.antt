@@ -10,7 +10,7 @@ use Rattle.rng_graph.specs.views.Definitions.{definition_of}
 use Rattle.rng_graph.specs.plain.Graph.{number_of}
 use Rattle.rng_graph.specs.declared.components.ComponentTable as declared
 
--- definitions by number, and for each of them its components
+-- definitions by number, and the components of each
 pub record Table : Type 0 where
   pub definitions : List Definition
   pub components : List (List Component)
@@ -33,11 +33,11 @@ IsTable t = length t.components ≡ length t.definitions
 abbrev pub is_of : Definition → Place → Component → Bool
 is_of d x c = bytes_eq d.place x && same_name d.name c.name
 
--- those of the definition among the components of the grammar at a place
+-- the components of the definition among those of the grammar at a place
 abbrev pub those_at : Definition → Place → List Component → List Component
 those_at d x cs = filter (is_of d x) cs
 
--- the components at a place; none where there is no grammar
+-- the components at a place, or none if there is no grammar
 abbrev pub given : Option (List Component) → List Component
 given None = []
 given (Some cs) = cs
@@ -45,15 +45,15 @@ given (Some cs) = cs
 abbrev pub components_at : Schema → Place → List Component
 components_at s x = given (s.components x)
 
--- those of the definition at all these places
+-- the components of the definition at all these places
 abbrev pub those_among : Schema → Definition → List Place → List Component
 those_among s d [] = []
 those_among s d (x ∷ xs) = those_at d x (components_at s x) ++ those_among s d xs
 
--- those of the definition in its grammar
+-- the components of the definition in its grammar
 abbrev pub schema_components : Schema → Definition → List Component
 schema_components s d = filter (λ c. same_name d.name c.name) (components_at s d.place)
 
--- an interleave if one of the components has `&=`, else a choice
+-- an interleave if one of the components has `&=`, otherwise a choice
 abbrev pub joining : List Component → Connector
 joining cs = if list_any (λ c. is_interleaved c.method) cs then interleave else choice

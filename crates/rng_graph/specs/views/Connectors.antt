@@ -1,4 +1,4 @@
--- What stands between patterns, and around one.
+-- Views of the connectors between patterns, and of the patterns around a child.
 use Rattle.rng_model.specs.simple.Tree.{Tree, Connector, choice, group, interleave, attribute, list, data_except, mixed, optional, zero_or_more, one_or_more}
 use Rattle.rng_model.specs.datatypes.DatatypeViews.{datatype_of}
 use Rattle.rng_model.specs.names.NameViews.{class_of}
@@ -12,7 +12,7 @@ connector_of connectors.Group = group
 connector_of connectors.Interleave = interleave
 connector_of connectors.Choice = choice
 
--- the pattern that has this around another
+-- the pattern with this child
 abbrev pub around : {L : Type 0} → Around → Tree L → Tree L
 around (outside.Attribute c) a = attribute (class_of c.now) a
 around outside.List a = list a

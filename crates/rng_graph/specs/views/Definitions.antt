@@ -1,4 +1,4 @@
--- What definitions and what has a number are in the code, apart from where they lie in memory.
+-- Views of definitions and of what is numbered, without their place in memory.
 use Rattle.std.specs.Prelude.{map, option_map}
 use Rattle.rng_model.specs.schema.Schema as schema
 use Rattle.rng_model.specs.views.SchemaView.{place_of}
@@ -11,7 +11,7 @@ use Rattle.rng_graph.specs.declared.definitions.Numbering as declared
 abbrev pub definition_of : Definition → schema.Definition
 definition_of d = record { place = place_of d.place.now; name = option_map (λ y. y.now) d.name }
 
--- what has a number
+-- what is numbered
 abbrev pub numbering_of : declared.Numbering → Numbering
 numbering_of n = record {
   definitions = map definition_of n.definitions.keys;

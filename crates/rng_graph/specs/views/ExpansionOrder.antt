@@ -1,5 +1,5 @@
--- Which schema a graph in memory is of, and what expansion and depth have to answer for it (RELAX NG Specification, section 4.19;
--- the limit of depth is profile).
+-- Which schema a graph in memory is of, and what the result about expansion and depth must be (RELAX NG Specification,
+-- section 4.19; the limit of depth is profile).
 use Rattle.std.specs.Prelude.{◌≡◌, ◌⊎◌, ℕ, ◌<◌, List, length, map, All, Contains}
 use Rattle.rng_model.specs.schema.Schema.{Schema, Definition}
 use Rattle.rng_model.specs.schema.SchemaClauses.{BreaksExpansion, BreaksDepth}
@@ -10,7 +10,7 @@ use Rattle.rng_graph.specs.plain.Graph.{Graph, IsGraphOf, IsOrderBy, Mentions}
 use Rattle.rng_graph.specs.views.GraphView.{graph_of, classes_of}
 use Rattle.rng_graph.specs.declared.graph.Graph as declared
 
--- the graph has the definitions and the elements of the schema that are met, numbered in some order
+-- the graph has exactly the definitions and the elements of the schema that are met, numbered in some order
 pub record IsGraphOfSchema (s : Schema) (g : declared.Graph) : Type 0 where
   pub definitions : List Definition
   pub elements : List Leaf
@@ -27,7 +27,7 @@ pub record IsWholeOrder (g : Graph) (js : List ℕ) : Type 0 where
   pub within : All (λ j. j < length g.bodies) js
   pub whole : (j : ℕ) → j < length g.bodies → Contains js j
 
--- the schema breaks clause 16, or 17 and not 16; or memory was wanting, which says nothing of it
+-- the schema breaks clause 16, or clause 17 and not 16; out of memory says nothing about the schema
 abbrev pub IsExpansionFault : Schema → SchemaFault → Type 0
 IsExpansionFault s faults.Memory = Unit {0}
 IsExpansionFault s (faults.Clause n) = ((n ≡ 16) × BreaksExpansion s) ⊎ ((n ≡ 17) × BreaksDepth s × ¬ (BreaksExpansion s))

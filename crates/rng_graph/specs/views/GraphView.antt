@@ -1,4 +1,4 @@
--- What the parts of a graph are, apart from where they lie in memory.
+-- Views of the parts of a graph, without their place in memory.
 use Rattle.std.specs.Prelude.{List, [], ◌∷◌, map, Option, Some, None, option_map, string_bytes}
 use Rattle.rng_model.specs.names.Names as names
 use Rattle.rng_model.specs.simple.Tree.{Tree, not_allowed, empty, text, leaf, attribute, list, data_of, data_except, value, mixed, optional, zero_or_more, one_or_more}
@@ -19,7 +19,7 @@ abbrev pub trees_of : {L : Type 0} → List (Tree L) → Trees L
 trees_of [] = no_trees
 trees_of (a ∷ rest) = tree_and a (trees_of rest)
 
--- a list of members about a connector: one alone is itself; none change nothing beside others
+-- a list of members with a connector: one member alone is itself; no members change nothing among others
 abbrev pub members : {L : Type 0} → Connector → List (Tree L) → Tree L
 members choice [] = not_allowed
 members group [] = empty
@@ -27,12 +27,12 @@ members interleave [] = empty
 members k (a ∷ []) = a
 members k (a ∷ (b ∷ ts)) = joined k a b (trees_of ts)
 
--- a datatype, with what it excepts, if it does
+-- a datatype with the pattern that it excludes, if there is one
 abbrev pub data_tree : {L : Type 0} → tree.Datatype → Option (Tree L) → Tree L
 data_tree d None = data_of d
 data_tree d (Some a) = data_except d a
 
--- one level of a pattern, with each pattern inside already seen
+-- one level of a pattern, if the patterns inside are viewed already
 abbrev pub graph_pattern_step : GraphPattern-F (Tree Spot) → Tree Spot
 graph_pattern_step GraphPattern-F.NotAllowed = not_allowed
 graph_pattern_step GraphPattern-F.Empty = empty
@@ -55,7 +55,7 @@ graph_pattern_step (GraphPattern-F.Choice all) = members choice all.items
 abbrev pub graph_pattern_of : GraphPattern → Tree Spot
 graph_pattern_of = fold-GraphPattern (Tree Spot) graph_pattern_step
 
--- trees about a connector, nested in twos from the left; none, which no definition has, allow nothing
+-- trees with a connector, nested in twos from the left; no trees, which no definition has, are notAllowed
 abbrev pub combined : {L : Type 0} → Connector → List (Tree L) → Tree L
 combined k [] = not_allowed
 combined k (a ∷ ts) = nested_from k a ts

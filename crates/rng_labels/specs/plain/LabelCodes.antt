@@ -1,4 +1,4 @@
--- What tells labels apart: the parts that each is written by, one behind another.
+-- What distinguishes labels: the parts by which each is written, one after another.
 use Rattle.std.specs.Prelude.{◌≡◌, ℕ, List, [], ◌∷◌, ◌++◌, map, slice_get, Option, Some, None, Vec}
 use Rattle.indexmap.specs.IndexSet.{IndexSet}
 use Rattle.rng_model.specs.names.Names.{NameClass, any_name, any_except, ns_name, ns_except, name_is, one_of, NameClasses, no_classes, class_and}
@@ -26,7 +26,8 @@ part_of (parts.NsBut u) = ns_but u.now
 part_of (parts.Name u s) = name u.now s.now
 part_of parts.Either = either
 
--- the parts of a name class, before others: a class before what excepts it, members before what joins them
+-- the parts of a name class, followed by others: a class comes before the class that excepts it, and members come
+-- before their choice
 unfoldable mutual
   pub class_code : NameClass → List Part → List Part
   class_code any_name rest = any ∷ rest
@@ -57,19 +58,19 @@ parameters_code (p ∷ ps) = text p.0 ∷ (text p.1 ∷ parameters_code ps)
 abbrev pub datatype_code : Datatype → List Part
 datatype_code d = text d.library ∷ (text d.name ∷ parameters_code d.parameters)
 
--- a text of a datatype without parameters
+-- the parts of a value of a datatype without parameters
 abbrev pub value_code : Datatype × List ℕ → List Part
 value_code v = text v.0.library ∷ (text v.0.name ∷ (text v.1 ∷ []))
 
--- the codes of a set, in their order
+-- the codes of a set, in order
 abbrev pub codes_of : {S Z : Type 0} → IndexSet (Vec LabelPart Z) S → List (List Part)
 codes_of set = map (λ c. map part_of c.items) set.keys
 
--- no code stands twice
+-- no code occurs twice
 abbrev pub AreCodesApart : List (List Part) → Type 0
 AreCodesApart codes = (i j : ℕ) (c : List Part) → slice_get codes i ≡ Some c → slice_get codes j ≡ Some c → i ≡ j
 
--- the code stands at the place among those that are there; where there is none it has been put at their end
+-- the code is at this place of the old codes; without a place, it is added at their end
 abbrev pub IsPlaced : List (List Part) → List (List Part) → List Part → Option ℕ → Type 0
 IsPlaced old new c (Some n) = (new ≡ old) × (slice_get old n ≡ Some c)
 IsPlaced old new c None = new ≡ old ++ c ∷ []

@@ -1,4 +1,5 @@
--- Which names components have, gathered file by file: those that stand there, and the files that are included, whose components are to be looked at.
+-- Names of components, gathered file by file: the names themselves, and the included files whose components must still
+-- be read.
 use Rattle.std.specs.Prelude.{◌≡◌, List, [], Option, Some, None, Bool, true, false, map}
 use Rattle.rng_model.specs.names.Lists.{Among}
 use Rattle.rnc_model.specs.declarations.FileTree as tree
@@ -6,7 +7,7 @@ use Rattle.rnc_model.specs.loading.Loading.{with_name}
 use Rattle.rnc_model.specs.loading.SchemaFile.{Name}
 use Rattle.rng_load.specs.declared.component_names.ComponentNames as declared
 
--- the names of defines, whether there is a start, and the names of the files that are included
+-- the names of defines, whether there is a start, and the names of included files
 pub record Names : Type 0 where
   pub defines : List Name
   pub has_start : Bool
@@ -16,7 +17,7 @@ abbrev pub no_names : Names
 no_names = record { defines = []; has_start = false; included = [] }
 
 abbrev mutual
-  -- the names with those of a component
+  -- the names together with those of a component
   pub gather_component : Names → tree.Component → Names
   gather_component ns (tree.start m p) = record { defines = ns.defines; has_start = true; included = ns.included }
   gather_component ns (tree.define n m p) = record { defines = with_name ns.defines n; has_start = ns.has_start; included = ns.included }
@@ -24,17 +25,17 @@ abbrev mutual
   gather_component ns (tree.include m over) =
       gather (record { defines = ns.defines; has_start = ns.has_start; included = with_name ns.included m.href }) over
 
-  -- the names with those of components
+  -- the names together with those of components
   pub gather : Names → tree.Components → Names
   gather ns tree.no_components = ns
   gather ns (tree.component_and c cs) = gather (gather_component ns c) cs
 
--- the names with those of components, if there are any
+-- the names together with those of components, if there are any
 abbrev pub gather_if : Names → Option tree.Components → Names
 gather_if ns None = ns
 gather_if ns (Some cs) = gather ns cs
 
--- a component has this name, or is a start
+-- some component has this name, or is a start
 abbrev pub HasIt : Names → Option Name → Type 0
 HasIt ns None = ns.has_start ≡ true
 HasIt ns (Some n) = Among n ns.defines

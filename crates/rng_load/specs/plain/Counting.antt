@@ -1,4 +1,4 @@
--- How many paths of mentions a file has, said from its mentions; and what the marks of a count in progress say.
+-- The number of paths of mentions from a file, by its mentions; and what the marks of a count in progress mean.
 use Rattle.std.specs.Prelude.{◌≡◌, ℕ, ◌+◌, ◌<◌, ◌≤◌, List, [], ◌∷◌, ◌++◌, map, length, zero, suc, Option, Some, ◌⊎◌}
 use Rattle.std.specs.Borrow.{Bor}
 use Rattle.std.specs.HashMap.{HashMap, get_by}
@@ -17,22 +17,22 @@ module _ {S : Type 0} where
   abbrev pub marks_of : HashMap (Bor (List ℕ)) Mark S → Marks
   marks_of marks f = get_by (λ k. bytes_eq f k.now) marks
 
--- the paths whose first step is mention `at` or a later one, of those that are left; `from` gives the paths that go on from a file
+-- the paths whose first step is mention `at` or a later one; `from` returns the paths that continue from a file
 unfoldable pub paths_along : (Name → List Path) → ℕ → List Name → List Path
 paths_along from at [] = []
 paths_along from at (g ∷ gs) = map (λ p. at ∷ p) (from g) ++ paths_along from (at + 1) gs
 
 module _ (mentions : Name → List Name) where
-  -- the paths of mentions from a file that have at most n steps, the empty one first
+  -- the paths of mentions from a file with at most n steps, the empty one first
   unfoldable pub paths : ℕ → Name → List Path
   paths zero f = [] ∷ []
   paths (suc n) f = [] ∷ paths_along (paths n) 0 (mentions f)
 
-  -- something goes round, or too many paths are found
+  -- there is a cycle of mentions, or there are too many paths
   abbrev pub Breaks : Name → Type 0
   Breaks f = IsCyclic mentions f ⊎ ((n : ℕ) × path_limit < length (paths n f))
 
-  -- a file has the empty path, and for each mention the paths of the file that is mentioned
+  -- a file has the empty path, and for each mention the paths of the mentioned file
   mutual
     pub data HasPaths : Name → ℕ → Type 0 where
       has : {f : Name} {n k : ℕ} → HavePaths (mentions f) k → n ≡ suc k → HasPaths f n
@@ -41,24 +41,24 @@ module _ (mentions : Name → List Name) where
       have_none : {n : ℕ} → n ≡ 0 → HavePaths [] n
       have_more : {g : Name} {gs : List Name} {m k n : ℕ} → HasPaths g m → HavePaths gs k → n ≡ m + k → HavePaths (g ∷ gs) n
 
-  -- some path from the file has this many steps
+  -- some path from the file has n steps
   pub data IsLong : ℕ → Name → Type 0 where
     long_end : {n : ℕ} {f : Name} → n ≡ 0 → IsLong n f
     long_more : {n m : ℕ} {f g : Name} → Among g (mentions f) → IsLong n g → m ≡ suc n → IsLong m f
 
-  -- a file may not be counted: it breaks the rule, or some path from it is too long to go on
+  -- the count may stop at a file: it breaks the rule, or some path from it is too long to continue
   abbrev pub StopsAt : ℕ → Name → Type 0
   StopsAt levels f = Breaks f ⊎ IsLong levels f
 
-  -- a file has this many paths, and they are not too many
+  -- a file has n paths, and they are not too many
   abbrev pub HasFewPaths : Name → ℕ → Type 0
   HasFewPaths f n = HasPaths f n × (n ≤ path_limit)
 
-  -- a number that is noted is the file's
+  -- the noted numbers are those of the files
   abbrev pub AreCounted : Marks → Type 0
   AreCounted marks = (f : Name) (n : ℕ) → marks f ≡ Some (Counted n) → HasFewPaths f n
 
-  -- and the files that are open mention this one
+  -- in addition, the open files mention this one
   pub record IsMarked (f : Name) (marks : Marks) : Type 0 where
     pub opened : (g : Name) → marks g ≡ Some Open → Mentions mentions g f
     pub counted : AreCounted marks

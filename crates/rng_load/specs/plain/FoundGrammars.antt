@@ -1,4 +1,4 @@
--- Grammars of a schema that are found one after another: what is said of those that are found so far.
+-- Grammars of a schema that are found one after another: what holds for those that are found already.
 use Rattle.std.specs.Prelude.{◌≡◌, ℕ, List, [], ◌++◌, ◌∷◌, Option, map, ◌⊎◌}
 use Rattle.rng_model.specs.names.Lists.{Among}
 use Rattle.rng_model.specs.schema.Patterns.{Place}
@@ -28,14 +28,14 @@ module _ (files : List ℕ → Option FileTree) where
     abbrev pub CanBeRead : Type 0
     CanBeRead = AreReadable files path_limit (main_grammar main)
 
-    -- the grammar at the place is this one
+    -- this is the grammar at the place
     pub record IsGrammarAt (x : Place) (g : PlacedGrammar) : Type 0 where
       pub uri : List ℕ
       pub components : tree.Components
       pub there : HasGrammar files main x g.outer uri components
       pub are : g.components ≡ map (λ c. c.component) (gathered_at uri x components)
 
-    -- at the place is a grammar with these components, and this place is that of the one around it
+    -- the place has a grammar with these components, and `o` is the place of the grammar around it
     pub record HasGathered (x : Place) (o : Option Place) (all : List Gathered) : Type 0 where
       pub uri : List ℕ
       pub components : tree.Components
@@ -50,7 +50,7 @@ module _ (files : List ℕ → Option FileTree) where
     IsComplete x gs = (o : Option Place) (u : List ℕ) (cs : tree.Components) → HasGrammar files main x o u cs → (n : Nested)
         → Among n (nested_in (gathered_at u x cs)) → IsFound n.place gs
 
-    -- nothing is lost, what is new is complete, and all are right if they were
+    -- all found before are kept, new ones are complete, and all are right if they were before
     pub record AreMore (old new : PlacedGrammars) : Type 0 where
       pub kept : (x : Place) → IsFound x old → IsFound x new
       pub complete : (x : Place) → IsFound x new → IsFound x old ⊎ IsComplete x new

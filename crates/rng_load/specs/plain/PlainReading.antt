@@ -1,6 +1,6 @@
--- The pattern and the components that code builds of the tree of a file, with mentions followed. A mention takes one of the levels;
--- where none is left, or a file is not there or is no grammar, what it would give is left out, and files that keep their rules
--- never come to that. What is computed is compared with `Reads` and `Gathers` in proofs/PlainReading.antt.
+-- The pattern and the components that the code builds from the tree of a file, with mentions followed. A mention takes
+-- one of the levels. If no level is left, or a file does not exist or is no grammar, the mention is left out; this does
+-- not happen in files that keep their rules. proofs/PlainReading.antt compares the result with `Reads` and `Gathers`.
 use Rattle.std.specs.Prelude.{◌≡◌, ℕ, zero, suc, ◌+◌, List, [], ◌∷◌, ◌++◌, filter, not, Option, Some, None}
 use Rattle.rng_model.specs.schema.Patterns.{Pattern, members}
 use Rattle.rng_model.specs.schema.Patterns as pattern
@@ -13,15 +13,17 @@ use Rattle.rng_model.specs.names.Lists.{Among}
 use Rattle.rnc_model.specs.loading.Loading.{grammar_if}
 use Rattle.rnc_model.specs.loading.Places.{TreePath, Nested, Gathered, is_overridden, uri_in, class_in, datatype_in}
 
--- a pattern of a file that inherits a namespace, at a way: what it is, and the grammars that are nested in it
+-- a pattern of a file that inherits a namespace, at a way: the pattern of the schema, and the grammars that are nested
+-- in it
 abbrev pub PatternReader : Type 0
 PatternReader = List ℕ → TreePath → tree.Pattern → Pattern × List Nested
 
--- the components that these give to their grammar, in a file that inherits a namespace; the first is the child of the way with this number
+-- The components that these add to their grammar, in a file that inherits a namespace. The first is the child of the
+-- way with this number.
 abbrev pub Gatherer : Type 0
 Gatherer = List ℕ → TreePath → ℕ → tree.Components → List Gathered
 
--- what was read, inside of a pattern that has no more of its own
+-- what was read, inside a pattern that adds no nested grammars
 abbrev pub within : (Pattern → Pattern) → Pattern × List Nested → Pattern × List Nested
 within make r = (make r.0, r.1)
 
@@ -29,7 +31,7 @@ within make r = (make r.0, r.1)
 abbrev pub nested_here : TreePath → List ℕ → tree.Components → List Nested
 nested_here x u cs = record { place = x; uri = u; components = cs } ∷ []
 
--- an external, whose file is this one and inherits this namespace
+-- an external of this file, which inherits this namespace
 unfoldable pub external_with : PatternReader → List ℕ → TreePath → Option FileTree → Pattern × List Nested
 external_with below v x None = (pattern.not_allowed, [])
 external_with below v x (Some (pattern_file a)) = within pattern.external (below v (0 ∷ x) a)
@@ -49,7 +51,7 @@ abbrev pub gathered_as : Option (List ℕ) → Method → Pattern × List Nested
 gathered_as y m r = record { component = record { name = y; method = m; pattern = r.0 }; nested = r.1 }
 
 module _ (files : List ℕ → Option FileTree) where
-  -- patterns, where those of mentioned files are read by the reader one level down
+  -- patterns; the reader reads those of mentioned files, one level down
   module _ (below : PatternReader) where
     unfoldable mutual
       pub read_with : List ℕ → TreePath → tree.Pattern → Pattern × List Nested
@@ -79,7 +81,7 @@ module _ (files : List ℕ → Option FileTree) where
           let rest = read_all_with u x (n + 1) all in
           (r.0 ∷ rest.0, r.1 ++ rest.1)
 
-  -- components, where those of included files are gathered by the gatherer one level down
+  -- components; the gatherer gathers those of included files, one level down
   module _ (read : PatternReader) (below : Gatherer) where
     unfoldable mutual
       pub gather_with : List ℕ → TreePath → ℕ → tree.Components → List Gathered
@@ -93,52 +95,53 @@ module _ (files : List ℕ → Option FileTree) where
       gather_one_with u x (tree.include m over) =
           replaced_by (included_with below (uri_in u m.namespace) x (grammar_if (files m.href))) (gather_with u (1 ∷ x) 0 over)
 
-  -- what a mention of a pattern gives, where so many levels are left
+  -- the result of a mention of a pattern, with this many levels left
   unfoldable pub read_below : ℕ → PatternReader
   read_below zero = λ u x a. (pattern.not_allowed, [])
   read_below (suc n) = read_with (read_below n)
 
-  -- the pattern with mentions followed for so many levels, and the grammars that are nested in it
+  -- the pattern with mentions followed for n levels, and the grammars that are nested in it
   abbrev pub read_at : ℕ → PatternReader
   read_at n = read_with (read_below n)
 
-  -- patterns in order, the first of them the child with this number
+  -- patterns in order; the first is the child with this number
   abbrev pub read_all_at : ℕ → List ℕ → TreePath → ℕ → tree.Patterns → List Pattern × List Nested
   read_all_at n = read_all_with (read_below n)
 
-  -- what an include gives, where so many levels are left
+  -- the result of an include, with this many levels left
   unfoldable pub gather_below : ℕ → Gatherer
   gather_below zero = λ u x k cs. []
   gather_below (suc n) = gather_with (read_at n) (gather_below n)
 
-  -- the components, with mentions followed for so many levels
+  -- the components, with mentions followed for n levels
   abbrev pub gather_at : ℕ → Gatherer
   gather_at n = gather_with (read_at n) (gather_below n)
 
-  -- what one component gives
+  -- what one component adds
   abbrev pub gather_one_at : ℕ → List ℕ → TreePath → tree.Component → List Gathered
   gather_one_at n = gather_one_with (read_at n) (gather_below n)
 
   -- ---- what can be read
 
-  -- the file serves the mention: an included one is a grammar
+  -- the file suits the mention: an included file is a grammar
   abbrev pub Serves : FileTree → MentionedFile → Type 0
   Serves t (external_file m) = Unit {0}
   Serves t (included_file m over) = (is : tree.Components) × (tree.grammar_of t ≡ Some is)
 
-  -- the mention can be followed for so many levels: its file is there and serves, and what that mentions can be followed for one level less
+  -- the mention can be followed for n levels: its file exists and suits it, and what the file mentions can be followed
+  -- for one level less
   unfoldable pub IsFollowed : ℕ → MentionedFile → Type 0
   IsFollowed zero m = ⊥
   IsFollowed (suc n) m = (t : FileTree) × (files (mention_of m).href ≡ Some t) × Serves t m × ((k : MentionedFile) → Among k (mentions_of t) → IsFollowed n k)
 
-  -- all these mentions can be
+  -- all these mentions can be followed
   abbrev pub AreFollowed : ℕ → List MentionedFile → Type 0
   AreFollowed n ms = (m : MentionedFile) → Among m ms → IsFollowed n m
 
-  -- the pattern can be read with so many levels
+  -- the pattern can be read with n levels
   abbrev pub IsReadable : ℕ → tree.Pattern → Type 0
   IsReadable n a = AreFollowed n (mentions_of_pattern a)
 
-  -- and these components
+  -- the components can be read with n levels
   abbrev pub AreReadable : ℕ → tree.Components → Type 0
   AreReadable n cs = AreFollowed n (mentions_of_components cs)

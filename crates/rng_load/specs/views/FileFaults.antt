@@ -1,4 +1,4 @@
--- Why a file has no tree: what the faults of the layers below are, and which verdict each answer is.
+-- Why a file has no tree: the faults of the layers below, and the verdict that each result means.
 use Rattle.std.specs.Prelude.{Result, Ok, Err, Option, Some, None}
 use Rattle.rnc_text.specs.declared.fault.TextFault.{TextFault}
 use Rattle.rnc_text.specs.declared.fault.TextFault.TheVariants as texts
@@ -10,7 +10,7 @@ use Rattle.rnc_model.specs.loading.SchemaFile.{FileVerdict, breaks, has_tree}
 use Rattle.rng_load.specs.declared.fault.FileFault.{FileFault}
 use Rattle.rng_load.specs.declared.fault.FileFault.TheVariants.{Clause, Memory}
 
--- where a fault stands is not told
+-- offsets, and the numbers of tokens, are dropped
 abbrev pub fault_of_text : TextFault → FileFault
 fault_of_text (texts.At clause offset) = Clause clause
 fault_of_text texts.Memory = Memory

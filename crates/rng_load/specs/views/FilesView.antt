@@ -1,4 +1,4 @@
--- What files of the code are, apart from where they lie in memory.
+-- Views of the files of the code, without their place in memory.
 use Rattle.std.specs.Prelude.{List, map, string_bytes, String}
 use Rattle.std.specs.Global.{Global}
 use Rattle.indexmap.specs.IndexMap.{IndexMap}

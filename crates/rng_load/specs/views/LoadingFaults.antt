@@ -1,4 +1,4 @@
--- What the calls that take files in load order answer.
+-- What the calls that take files in load order return.
 use Rattle.std.specs.Prelude.{◌≡◌, List, Result, Ok, Err, Option, Some, None, string_bytes, String}
 use Rattle.std.specs.Global.{Global}
 use Rattle.indexmap.specs.IndexMap.{IndexMap}
@@ -12,34 +12,36 @@ use Rattle.rng_load.specs.declared.fault.ReadingFault.TheVariants as readings
 use Rattle.rnc_model.specs.loading.SchemaFile.{Name, NamedFile, breaks, has_tree, FileHasOnlyVerdict}
 use Rattle.rnc_model.specs.loading.FaultVerdicts.{verdict_of_fault}
 
--- the verdict that is told where files are not all read
+-- the verdict that is reported if not all files can be read
 abbrev pub verdict_of_reading : ReadingFault → Option FilesVerdict
 verdict_of_reading (readings.File clause name) = Some (file_breaks (string_bytes name) clause)
 verdict_of_reading readings.Memory = None
 
 module _ {S : Type 0} where
-  -- what is told of files that are read in load order
+  -- the verdict of a result of reading files in load order
   abbrev pub order_of : Result (IndexMap (String Global) declared.FileTree S) ReadingFault → Option FilesVerdict
   order_of (Ok trees) = Some (are_taken (taken_files_of trees))
   order_of (Err fault) = verdict_of_reading fault
 
-  -- what is told of files with their trees
+  -- the verdict of a result with files and their trees
   abbrev pub reading_of : Result (IndexMap (String Global) declared.FileTree S) SchemaFault → Option FilesVerdict
   reading_of (Ok trees) = Some (are_taken (taken_files_of trees))
   reading_of (Err fault) = verdict_of_fault fault
 
--- of the verdict what is known once each file is read: the files, or the first that breaks a clause by itself
+-- the part of the verdict that is known once each file is read: the files, or the first one that breaks a clause by
+-- itself
 abbrev pub IsReading : List NamedFile → Name → FilesVerdict → Type 0
 IsReading files main (file_breaks f k) = IsFirstBroken files main f k
 IsReading files main (together_break k) = ⊥
 IsReading files main (are_taken read) = AreTaken files main read
 
--- this is known, and nothing else
+-- this is known, and it is unique
 pub record IsTheReading (files : List NamedFile) (main : Name) (v : FilesVerdict) : Type 0 where
   pub is : IsReading files main v
   pub only : (other : FilesVerdict) → IsReading files main other → v ≡ other
 
--- what is told of the file of this name, unless memory ran out: its tree, or the clause that it breaks first, with its name
+-- the result for the file of this name, unless memory ran out: its tree, or the clause that it breaks first, with its
+-- name
 abbrev pub IsNamedTree : List NamedFile → Name → Name → Result declared.FileTree ReadingFault → Type 0
 IsNamedTree files main f (Ok tree) = FileHasOnlyVerdict files main f (has_tree (file_of tree))
 IsNamedTree files main f (Err (readings.File clause name)) = (string_bytes name ≡ f) × FileHasOnlyVerdict files main f (breaks clause)

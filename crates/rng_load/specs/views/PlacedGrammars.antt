@@ -1,4 +1,4 @@
--- What the grammars of a schema are in the code, by their places, apart from where they lie in memory.
+-- Views of the grammars of a schema by their places, without their place in memory.
 use Rattle.std.specs.Prelude.{List, map, Option, Some, None, option_map}
 use Rattle.std.specs.Map.{lookup}
 use Rattle.std.specs.Str.{bytes_eq}
@@ -9,7 +9,7 @@ use Rattle.rng_model.specs.views.SchemaView.{place_of, schema_component_of}
 use Rattle.rng_model.specs.declared.place.Place.{Place}
 use Rattle.rng_load.specs.declared.schema.Grammar.{Grammar}
 
--- the components of a grammar, and the place of the one around it
+-- the components of a grammar, and the place of the grammar around it
 pub record PlacedGrammar : Type 0 where
   pub components : List schema.Component
   pub outer : Option pattern.Place

@@ -1,4 +1,4 @@
--- What code reads of the patterns of files, apart from where it lies in memory.
+-- Views of what the code reads from the patterns of files, without its place in memory.
 use Rattle.std.specs.Prelude.{ℕ, List, map, Option}
 use Rattle.rng_model.specs.views.SchemaView.{place_of}
 use Rattle.rng_model.specs.simple.Tree as tree
@@ -19,7 +19,7 @@ nested_of g = record { place = place_of g.place; uri = g.uri.now; components = c
 abbrev pub files_in : TreeReader → List ℕ → Option FileTree
 files_in r = tree_in (taken_files_of r.trees.now)
 
--- what stands between the members of a list
+-- the connector between the members of a list
 abbrev pub connector_of : Connector → tree.Connector
 connector_of connectors.Group = tree.group
 connector_of connectors.Interleave = tree.interleave

@@ -1,4 +1,4 @@
--- What datatypes say of texts, as tests. They decide the definitions of `Datatypes`: that is the contract of
+-- What datatypes say of texts, as tests. They decide the definitions of `Datatypes`, by the contract of
 -- `datatype_laws`.
 use Rattle.std.specs.Prelude.{codes, ℕ, List, [], ◌∷◌, Bool, false, Option, Some, None, is_some, nat_le, ◌&&◌, ◌||◌, if◌then◌else◌}
 use Rattle.std.specs.List.{list_all, count_by}
@@ -12,7 +12,7 @@ use Rattle.rng_model.specs.datatypes.Numerals.{length_of, bound_of}
 use Rattle.rng_model.specs.datatypes.Datatypes.{BuiltInType, plain_string, plain_token, xsd_string, xsd_token, xsd_ncname, xsd_nmtoken, xsd_boolean, xsd_integer}
 use Rattle.rng_model.specs.datatypes.Datatypes.{xsd_uri, Parameter, is_allowed_by, are_equal_by}
 
--- ---- the type of a name, still without bounds
+-- ---- the type of a name, without its bounds
 
 unfoldable pub plain_type_named : List ℕ → Option BuiltInType
 plain_type_named name =
@@ -47,7 +47,7 @@ abbrev pub value_named : List ℕ → List Parameter → Option (List ℕ)
 value_named name [] = None
 value_named name (p ∷ ps) = if is_named name p then Some p.1 else value_named name ps
 
--- what a function makes of the value of the parameter of that name
+-- what a function returns for the value of the parameter of that name
 abbrev pub read_named : {A : Type 0} → (List ℕ → Option A) → Option (List ℕ) → Option A
 read_named read None = None
 read_named read (Some value) = read value
@@ -59,7 +59,7 @@ is_length p = (is_named (codes "minLength") p || is_named (codes "maxLength") p)
 abbrev pub is_bound : Parameter → Bool
 is_bound p = (is_named (codes "minInclusive") p || is_named (codes "maxInclusive") p) && is_some (bound_of p.1)
 
--- each parameter is one of these, and none stands twice
+-- each parameter is one of these, and none occurs twice
 abbrev pub takes_lengths : List Parameter → Bool
 takes_lengths ps = (list_all is_length ps && stands_once (codes "minLength") ps) && stands_once (codes "maxLength") ps
 
@@ -86,7 +86,7 @@ written_bounds ps =
     })
     else None
 
--- the type, where there are no parameters
+-- the type, if there are no parameters
 abbrev pub if_none : BuiltInType → List Parameter → Option BuiltInType
 if_none t [] = Some t
 if_none t (p ∷ ps) = None
@@ -108,7 +108,7 @@ abbrev pub if_named : Option BuiltInType → List Parameter → Option BuiltInTy
 if_named None ps = None
 if_named (Some t) ps = with_parameters t ps
 
--- the type of a datatype, if it is known
+-- the type of a datatype, if the datatype is known
 abbrev pub type_of : Datatype → Option BuiltInType
 type_of d = if_named (type_named d.library d.name) d.parameters
 
@@ -120,6 +120,6 @@ abbrev pub known_equates : Option BuiltInType → List ℕ → List ℕ → Bool
 known_equates None v w = false
 known_equates (Some t) v w = are_equal_by t v w
 
--- what datatypes say of texts: one that is not known allows nothing
+-- what datatypes say of texts: a datatype that is not known allows nothing
 abbrev pub text_tests : TextTests
 text_tests = record { allows = λ d s. known_allows (type_of d) s; equals = λ d v w. known_equates (type_of d) v w; pieces = pieces }

@@ -1,6 +1,6 @@
--- The datatypes: which libraries there are, which types each has, which parameters each type takes, what a text stands for
--- in each, and so which texts are allowed and which are equal. (RELAX NG Specification, sections 2, 4.16, 6.2.8 and 6.2.9;
--- XML Schema Part 2, sections 3.2.1, 3.2.2, 3.3.2, 3.3.4, 3.3.7, 3.3.13 and 4.3)
+-- The datatypes: which libraries there are, which types each has, which parameters each type takes, which value a text
+-- has in each, and so which texts are allowed and which are equal (RELAX NG Specification, sections 2, 4.16, 6.2.8 and
+-- 6.2.9; XML Schema Part 2, sections 3.2.1, 3.2.2, 3.3.2, 3.3.4, 3.3.7, 3.3.13 and 4.3).
 use Rattle.std.specs.Prelude.{◌≡◌, ◌⊎◌, codes, ℕ, List, [], ◌∷◌, Bool, false, Option, Some, None, is_some, IsTrue, ◌&&◌}
 use Rattle.std.specs.List.{list_all}
 use Rattle.std.specs.Option.{option_map}
@@ -12,11 +12,11 @@ use Rattle.rng_model.specs.datatypes.Values.{Value, text, truth, are_equal, text
 use Rattle.rng_model.specs.datatypes.Facets.{Lengths, Bounds, fits, number_inside}
 use Rattle.rng_model.specs.datatypes.Numerals.{truth_of, integer_of, length_of, bound_of}
 
--- the uri of the library of XML Schema (XML Schema Part 2, section 3.1)
+-- the URI of the library of XML Schema (XML Schema Part 2, section 3.1)
 abbrev pub xsd_uri : List ℕ
 xsd_uri = codes "http://www.w3.org/2001/XMLSchema-datatypes"
 
--- the types of both libraries, with the bounds that parameters set for those that take any
+-- the types of both libraries, with the bounds that parameters set, if the type takes any
 pub data BuiltInType : Type 0 where
   plain_string : BuiltInType
   plain_token : BuiltInType
@@ -27,8 +27,8 @@ pub data BuiltInType : Type 0 where
   xsd_boolean : BuiltInType
   xsd_integer : Bounds → BuiltInType
 
--- The library with this uri has, by this name, the type, whatever its bounds are. The library with the empty uri is the
--- one that is built into RELAX NG (section 6.2.9).
+-- The library with this URI has the type under this name, whatever its bounds are. The library with the empty URI is
+-- the one that is built into RELAX NG (section 6.2.9).
 pub data IsType : List ℕ → List ℕ → BuiltInType → Type 0 where
   plain_string_is : {uri name : List ℕ} → uri ≡ [] → name ≡ codes "string" → IsType uri name plain_string
   plain_token_is : {uri name : List ℕ} → uri ≡ [] → name ≡ codes "token" → IsType uri name plain_token
@@ -39,14 +39,14 @@ pub data IsType : List ℕ → List ℕ → BuiltInType → Type 0 where
   boolean_is : {uri name : List ℕ} → uri ≡ xsd_uri → name ≡ codes "boolean" → IsType uri name xsd_boolean
   integer_is : {uri name : List ℕ} {b : Bounds} → uri ≡ xsd_uri → name ≡ codes "integer" → IsType uri name (xsd_integer b)
 
--- ---- what a text stands for
+-- ---- the value of a text
 
 -- NMTOKEN: one or more NameChars (XML 1.0 Fifth Edition, section 2.3)
 abbrev pub is_nmtoken : List ℕ → Bool
 is_nmtoken [] = false
 is_nmtoken (c ∷ cs) = list_all is_name_char (c ∷ cs)
 
--- what a text stands for in a type: all types but `string` collapse it first (XML Schema Part 2, section 4.3.6)
+-- the value of a text in a type: all types except `string` collapse the text first (XML Schema Part 2, section 4.3.6)
 abbrev pub value_of : BuiltInType → List ℕ → Option Value
 value_of plain_string s = Some (text s)
 value_of plain_token s = Some (text (collapse s))
@@ -57,11 +57,11 @@ value_of (xsd_nmtoken l) s = text_if (is_nmtoken (chars (collapse s)) && fits l 
 value_of xsd_boolean s = option_map truth (truth_of (collapse s))
 value_of (xsd_integer b) s = number_inside b (integer_of (collapse s))
 
--- a text is allowed if it stands for something (RELAX NG Specification, section 6.2.8)
+-- a text is allowed if it has a value (RELAX NG Specification, section 6.2.8)
 abbrev pub is_allowed_by : BuiltInType → List ℕ → Bool
 is_allowed_by t s = is_some (value_of t s)
 
--- two texts are equal if they stand for the same (section 6.2.8)
+-- two texts are equal if they have the same value (section 6.2.8)
 abbrev pub are_equal_by : BuiltInType → List ℕ → List ℕ → Bool
 are_equal_by t v w = are_equal (value_of t v) (value_of t w)
 
@@ -71,7 +71,7 @@ are_equal_by t v w = are_equal (value_of t v) (value_of t w)
 abbrev pub Parameter : Type 0
 Parameter = List ℕ × List ℕ
 
--- a parameter of that name stands there, with that value
+-- there is a parameter of that name, with that value
 pub data HasParameter : List Parameter → List ℕ → List ℕ → Type 0 where
   here : {p : Parameter} {ps : List Parameter} {name value : List ℕ} → p.0 ≡ name → p.1 ≡ value → HasParameter (p ∷ ps) name value
   later : {p : Parameter} {ps : List Parameter} {name value : List ℕ} → HasParameter ps name value → HasParameter (p ∷ ps) name value
@@ -104,12 +104,12 @@ Takes (xsd_nmtoken l) name value = BoundsLengths name value
 Takes xsd_boolean name value = ⊥
 Takes (xsd_integer b) name value = BoundsNumbers name value
 
--- the type takes these parameters: each of them, and none twice
+-- the type takes these parameters: it takes each of them, and none occurs twice
 pub record TakesAll (t : BuiltInType) (ps : List Parameter) : Type 0 where
   pub each : (name value : List ℕ) → HasParameter ps name value → Takes t name value
   pub once : HasNoneTwice ps
 
--- what the parameter of that name writes, where there is one
+-- what the parameter of that name writes, if there is one
 abbrev pub IsWritten : {A : Type 0} → (List ℕ → Option A) → List Parameter → List ℕ → Option A → Type 0
 IsWritten read ps name None = HasNone ps name
 IsWritten read ps name (Some x) = (value : List ℕ) × HasParameter ps name value × (read value ≡ Some x)
@@ -123,7 +123,7 @@ pub record AreBoundsOf (ps : List Parameter) (b : Bounds) : Type 0 where
   pub least : IsWritten bound_of ps (codes "minInclusive") b.least
   pub greatest : IsWritten bound_of ps (codes "maxInclusive") b.greatest
 
--- the bounds of the type, where it has any, are those that the parameters write
+-- the bounds of the type, if it has any, are those that the parameters write
 abbrev pub HasBoundsOf : List Parameter → BuiltInType → Type 0
 HasBoundsOf ps plain_string = Unit {0}
 HasBoundsOf ps plain_token = Unit {0}
@@ -134,7 +134,8 @@ HasBoundsOf ps (xsd_nmtoken l) = AreLengthsOf ps l
 HasBoundsOf ps xsd_boolean = Unit {0}
 HasBoundsOf ps (xsd_integer b) = AreBoundsOf ps b
 
--- the datatype is this type: by its library and name, with parameters that it takes, and with the bounds that these write
+-- the datatype has this type: by its library and name, with parameters that it takes, and with the bounds that these
+-- write
 pub record HasType (d : Datatype) (t : BuiltInType) : Type 0 where
   pub named : IsType d.library d.name t
   pub taken : TakesAll t d.parameters
@@ -154,11 +155,11 @@ IsKnownType uri name = (t : BuiltInType) × IsType uri name t
 abbrev pub IsKnownDatatype : Datatype → Type 0
 IsKnownDatatype d = (t : BuiltInType) × IsType d.library d.name t × TakesAll t d.parameters
 
--- what is wrong with a datatype: no library has its uri
+-- what is wrong with a datatype: no library has its URI
 abbrev pub HasUnknownLibrary : Datatype → Type 0
 HasUnknownLibrary d = ¬ (IsKnownLibrary d.library)
 
--- the library is known, and has no type of its name
+-- the library is known, and has no type of the datatype's name
 abbrev pub HasUnknownType : Datatype → Type 0
 HasUnknownType d = IsKnownLibrary d.library × ¬ (IsKnownType d.library d.name)
 
@@ -166,7 +167,7 @@ HasUnknownType d = IsKnownLibrary d.library × ¬ (IsKnownType d.library d.name)
 abbrev pub HasBadParameters : Datatype → Type 0
 HasBadParameters d = IsKnownType d.library d.name × ¬ (IsKnownDatatype d)
 
--- ---- what a datatype says of texts; one that is not known allows nothing
+-- ---- what a datatype says of texts; a datatype that is not known allows nothing
 
 -- the text is allowed by the datatype; the two texts are equal by it (RELAX NG Specification, section 6.2.8)
 abbrev pub IsAllowed : Datatype → List ℕ → Type 0

@@ -1,4 +1,4 @@
--- What is known of texts, where tests decide it: then a contract can speak of all of it.
+-- What is known of texts, given by tests, so that a contract can speak of all of it.
 use Rattle.std.specs.Prelude.{ℕ, List, Bool, ◌||◌, ◌==◌, IsTrue}
 use Rattle.std.specs.List.{list_all}
 use Rattle.rng_model.specs.simple.Tree.{Datatype}
@@ -12,7 +12,7 @@ is_blank_byte b = (b == 32) || ((b == 9) || ((b == 10) || (b == 13)))
 abbrev pub is_blank : List ℕ → Bool
 is_blank s = list_all is_blank_byte s
 
--- What datatypes say of texts, and how a text is cut at its blanks. No schema of the present fragment asks for any of it.
+-- what datatypes say of texts, and the pieces of a text between its blanks
 pub record TextTests : Type 0 where
   pub allows : Datatype → List ℕ → Bool
   pub equals : Datatype → List ℕ → List ℕ → Bool

@@ -1,5 +1,5 @@
--- What a text stands for in a datatype, and which texts stand for the same (XML Schema Part 2, section 2: value space and
--- lexical space). A text is allowed if it stands for something; two texts are equal if they stand for the same.
+-- The value of a text in a datatype, and which texts have the same value (XML Schema Part 2, section 2: value space and
+-- lexical space). A text is allowed if it has a value. Two texts are equal if they have the same value.
 use Rattle.std.specs.Prelude.{ℕ, List, Bool, false, ℤ, Option, Some, None, cond}
 use Rattle.std.specs.Bool.{beq}
 use Rattle.std.specs.Ordering.{int_eq}
@@ -21,12 +21,12 @@ same_value (number m) (text w) = false
 same_value (number m) (truth b) = false
 same_value (number m) (number n) = int_eq m n
 
--- of two texts, by what they stand for: both stand for something, and that is one value
+-- of the values of two texts: both texts have a value, and the values are the same
 abbrev pub are_equal : Option Value → Option Value → Bool
 are_equal None b = false
 are_equal (Some a) None = false
 are_equal (Some a) (Some b) = same_value a b
 
--- the text itself, where it passes
+-- the text itself, if it passes the test
 abbrev pub text_if : Bool → List ℕ → Option Value
 text_if passes s = cond passes (Some (text s)) None

@@ -1,4 +1,4 @@
--- What the values of the code are, apart from where they lie in memory.
+-- What an attribute and an item of the code are, without their place in memory.
 use Rattle.std.specs.Prelude.{List, [], ◌∷◌, map, string_bytes}
 use Rattle.rng_model.specs.declared.document.Attr.{Attr}
 use Rattle.rng_model.specs.declared.document.Item.{Item, fold-Item}
@@ -13,7 +13,7 @@ abbrev pub items_of : List document.Item → document.Items
 items_of [] = document.no_items
 items_of (n ∷ ns) = document.item_and n (items_of ns)
 
--- one level of an item, with each child already seen as its tree
+-- one level of an item, with each child already as its tree
 abbrev pub item_step : Item-F document.Item → document.Item
 item_step (Item-F.Text s) = document.a_text (string_bytes s)
 item_step (Item-F.Element name attrs children) = document.an_element (name_of name) (map attribute_of attrs.items) (items_of children.items)

@@ -1,11 +1,11 @@
--- What the bytes of a document are, in the words of the definitions, and what is handed out of those that are none.
+-- What the bytes of a document are, and which events are reported of bytes that are no document.
 use Rattle.std.specs.Prelude.{◌≡◌, ◌≤◌, ℕ, List, ◌++◌, All}
 use Rattle.rng_model.specs.documents.Lines.{Line, lines}
 use Rattle.rng_model.specs.documents.PyxFaults.{Fault}
 use Rattle.rng_model.specs.documents.PyxTrees.{Placed, Event, events_of, IsPyxDocument}
 use Rattle.rng_model.specs.documents.PyxClauses.{IsFirstFault, HasLongestFront}
 
--- a document begins with these lines, and its events with these
+-- there is a document that begins with these lines, and its events begin with these events
 pub record BeginsDocument (front : List Line) (sent : List Event) : Type 0 where
   pub bytes : List ℕ
   pub behind : List Line
@@ -15,8 +15,9 @@ pub record BeginsDocument (front : List Line) (sent : List Event) : Type 0 where
   pub more : List Event
   pub events : events_of tree ≡ sent ++ more
 
--- The events that are handed out of lines that break something, at a fault at this line: they come at that line or before, and begin those of a
--- document that begins with the longest front of the lines that breaks nothing but P13.
+-- The events that are reported of lines that break a clause, with a fault at this line. They are at that line or before
+-- it. They begin the events of a document that begins with the longest front of the lines that breaks only P13 or
+-- nothing.
 pub record AreEventsBefore (all : List Line) (line : ℕ) (sent : List Event) : Type 0 where
   pub in_time : All (λ e. e.line ≤ line) sent
   pub front : List Line
@@ -30,7 +31,8 @@ pub record IsTheDocument (bytes : List ℕ) (events : List Event) : Type 0 where
   pub events_are : events_of tree ≡ events
   pub only : (other : Placed) → IsPyxDocument bytes other → events_of other ≡ events
 
--- the bytes are no document: this is the broken clause of least line, and of least number there, and these events were handed out
+-- the bytes are no document: this is the broken clause of the least line, and of the least number there, and these
+-- events were reported
 pub record IsTheFault (bytes : List ℕ) (f : Fault) (sent : List Event) : Type 0 where
   pub first : IsFirstFault (lines bytes) f
   pub no_document : (tree : Placed) → IsPyxDocument bytes tree → ⊥

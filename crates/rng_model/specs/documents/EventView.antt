@@ -1,4 +1,4 @@
--- What an event of the code is, apart from where its texts lie in memory.
+-- What an event of the code is, without the place of its texts in memory.
 use Rattle.std.specs.Prelude.{map}
 use Rattle.rng_model.specs.declared.event.Event.{Event}
 use Rattle.rng_model.specs.declared.event.EventKind.{EventKind}

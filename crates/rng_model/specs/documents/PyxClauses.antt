@@ -1,5 +1,5 @@
--- Which clause of a document in PYX is broken at which line, and which fault is the least. Which tags are open, and in which tag a line is, is
--- told by first bytes alone, so that no clause depends on another not being broken.
+-- Which clause of a document in PYX is broken at which line, and which fault is the least. First bytes alone decide
+-- which tags are open, and in which tag a line is. So no clause depends on another clause being kept.
 -- (docs/LANGUAGE.md; Namespaces in XML 1.0, sections 3 to 6; XML 1.0, section 3.1)
 use Rattle.std.specs.Prelude.{◌≡◌, ◌≢◌, ℕ, ◌+◌, ◌<◌, ◌≤◌, List, [], ◌∷◌, ◌++◌, Some, length, map, All}
 use Rattle.rng_model.specs.names.Lists.{Among, HasTwice}
@@ -13,38 +13,38 @@ use Rattle.rng_model.specs.documents.PyxTrees.{IsRun}
 
 -- ---- open tags, by first bytes
 
--- the lines are none, or the first is of another kind
+-- there are no lines, or the first line is of another kind
 abbrev pub BeginsOtherwise : ℕ → List Line → Type 0
 BeginsOtherwise k ls = (l : Line) (rest : List Line) → ls ≡ l ∷ rest → HasKind k l → ⊥
 
--- a tag: its `(` line, and the `A` lines directly behind it
+-- a tag: its `(` line, and the `A` lines directly after it
 pub record Tag : Type 0 where
   pub first : Line
   pub attributes : List Line
 
--- after these lines these tags are open, the innermost first
+-- these tags are open after these lines, the innermost first
 pub data AreOpenTags : List Line → List Tag → Type 0 where
   none_open : {ls : List Line} → IsBalanced ls → AreOpenTags ls []
   one_open : {all front attributes rest : List Line} {outer : List Tag} (l : Line) → AreOpenTags front outer → HasKind 40 l → All (HasKind 65) attributes
       → BeginsOtherwise 65 rest → IsBalanced rest → all ≡ front ++ l ∷ (attributes ++ rest)
       → AreOpenTags all (record { first = l; attributes = attributes } ∷ outer)
 
--- ---- what tags say
+-- ---- the lines of tags
 
--- the tag's lines break nothing by themselves, and say these
+-- the tag's lines break nothing by themselves, and this is their meaning
 pub record SaysTag (tag : Tag) (name : WrittenName) (written : List WrittenAttribute) : Type 0 where
   pub first : IsGoodLine tag.first (start name)
   pub said : List Said
   pub attributes : AreGoodLines tag.attributes said
   pub are_written : AreWritten said written
 
--- what the open tags declare
+-- the declarations of the open tags
 pub data HasScope : List Tag → Scope → Type 0 where
   no_tags : HasScope [] []
   one_tag : {tag : Tag} {outer : List Tag} {scope : Scope} {name : WrittenName} {written others : List WrittenAttribute} {ds : List Declaration} →
       SaysTag tag name written → AreParted written ds others → HasScope outer scope → HasScope (tag ∷ outer) (ds ∷ scope)
 
--- P11, of a tag that says these inside this scope: a declaration that is not allowed, or a prefix that is not declared
+-- P11, for such a tag inside this scope: a declaration is not allowed, or a prefix is not declared
 pub data BreaksNamespaces (outer : Scope) (name : WrittenName) (written : List WrittenAttribute) : Type 0 where
   forbidden : {ds : List Declaration} {others : List WrittenAttribute} {d : Declaration} → AreParted written ds others → Among d ds → IsForbidden d
       → BreaksNamespaces outer name written
@@ -53,13 +53,13 @@ pub data BreaksNamespaces (outer : Scope) (name : WrittenName) (written : List W
   attribute_prefix : {ds : List Declaration} {others : List WrittenAttribute} {a : WrittenAttribute} {p : List ℕ} → AreParted written ds others
       → Among a others → a.name.prefix ≡ Some p → IsUndeclared (ds ∷ outer) p → BreaksNamespaces outer name written
 
--- P12, of such a tag: two `A` lines have one name, or two attributes one expanded name
+-- P12, for such a tag: two `A` lines have the same name, or two attributes have the same expanded name
 pub data RepeatsName (outer : Scope) (written : List WrittenAttribute) : Type 0 where
   written_twice : HasTwice (map (λ a. a.name) written) → RepeatsName outer written
   expanded_twice : {ds : List Declaration} {others : List WrittenAttribute} {attrs : List Attribute} → AreParted written ds others
       → AreExpanded (ds ∷ outer) others attrs → (Distinct attrs → ⊥) → RepeatsName outer written
 
--- these lines end with a tag, which says these, inside tags that declare these
+-- these lines end with a tag with this meaning, inside tags with these declarations
 pub record EndsWithTag (ls : List Line) (outer : Scope) (name : WrittenName) (written : List WrittenAttribute) : Type 0 where
   pub ends : EndsInTag ls
   pub says : SaysTag (record { first = ends.tag; attributes = ends.others }) name written
@@ -67,7 +67,7 @@ pub record EndsWithTag (ls : List Line) (outer : Scope) (name : WrittenName) (wr
   pub are_open : AreOpenTags ends.front around
   pub scope : HasScope around outer
 
--- these lines end with texts and instructions, perhaps with none, whose texts say this together
+-- these lines end with zero or more texts and instructions, whose joined text is this
 pub record EndsInText (ls : List Line) (joined : List ℕ) : Type 0 where
   pub front : List Line
   pub run : List Line
@@ -78,17 +78,17 @@ pub record EndsInText (ls : List Line) (joined : List ℕ) : Type 0 where
 
 -- ---- clauses
 
--- The clause is broken by this line, between these. A line that is too long breaks P10 and no other.
+-- The clause is broken by this line, between these lines. A line that is too long breaks only P10.
 pub data BreaksHere (before : List Line) (l : Line) (behind : List Line) : ℕ → Type 0 where
-  -- P1 to P6, and P10: by itself
+  -- P1 to P6, and P10: by the line itself
   alone : {clause : ℕ} → BreaksAlone l clause → BreaksHere before l behind clause
-  -- P7: an attribute in no tag
+  -- P7: an attribute that is in no tag
   no_tag : length l.bytes ≤ line_limit → HasKind 65 l → (EndsInTag before → ⊥) → BreaksHere before l behind 7
-  -- P8: an end tag where no element is open, or with another name than the open element
+  -- P8: an end tag where no element is open, or with a name that is not the name of the open element
   none_to_end : length l.bytes ≤ line_limit → HasKind 41 l → AreOpenTags before [] → BreaksHere before l behind 8
   other_name : {name opened_name : List ℕ} {tag : Tag} {outer : List Tag} → length l.bytes ≤ line_limit → l.bytes ≡ 41 ∷ name
       → AreOpenTags before (tag ∷ outer) → tag.first.bytes ≡ 40 ∷ opened_name → name ≢ opened_name → BreaksHere before l behind 8
-  -- P9: a text outside the root, or a start tag behind it
+  -- P9: a text outside the root, or a start tag after it
   text_outside : length l.bytes ≤ line_limit → HasKind 45 l → AreOpenTags before [] → BreaksHere before l behind 9
   second_root : (front rest : List Line) (root : Line) → length l.bytes ≤ line_limit → HasKind 40 l → AreOpenTags before []
       → before ≡ front ++ root ∷ rest → HasKind 40 root → BreaksHere before l behind 9
@@ -96,30 +96,30 @@ pub data BreaksHere (before : List Line) (l : Line) (behind : List Line) : ℕ �
   attributes : HasKind 65 l → (tag : EndsInTag before) → attribute_limit ≤ length tag.others → BreaksHere before l behind 10
   elements : {opened : List Tag} → HasKind 40 l → AreOpenTags before opened → open_limit ≤ length opened → BreaksHere before l behind 10
   joined_text : {joined : List ℕ} → EndsInText (before ++ l ∷ []) joined → text_limit < length joined → BreaksHere before l behind 10
-  -- P11 and P12: of the tag that ends here
+  -- P11 and P12: by the tag that ends here
   namespaces : {outer : Scope} {name : WrittenName} {written : List WrittenAttribute} → EndsWithTag (before ++ l ∷ []) outer name written
       → BeginsOtherwise 65 behind → BreaksNamespaces outer name written → BreaksHere before l behind 11
   repeated_name : {outer : Scope} {name : WrittenName} {written : List WrittenAttribute} → EndsWithTag (before ++ l ∷ []) outer name written
       → BeginsOtherwise 65 behind → RepeatsName outer written → BreaksHere before l behind 12
 
--- the clause is broken at this line of all
+-- the clause is broken at this line of all lines
 pub data Breaks (all : List Line) : Fault → Type 0 where
   at_line : {before behind : List Line} {clause n : ℕ} (l : Line) → all ≡ before ++ l ∷ behind → n ≡ length before + 1 → BreaksHere before l behind clause
       → Breaks all (record { clause = clause; line = n })
-  -- P13: an element is open at the end, or there is no root; it stands at the last line, or at 0 where there is none
+  -- P13: an element is open at the end, or there is no root. The line is the last line, or 0 if there is none.
   unfinished : {tag : Tag} {outer : List Tag} → AreOpenTags all (tag ∷ outer) → Breaks all (record { clause = 13; line = length all })
   rootless : All (λ l. HasKind 40 l → ⊥) all → Breaks all (record { clause = 13; line = length all })
 
--- the broken clause of least line, and of least number there
+-- the broken clause of the least line, and of the least number there
 pub record IsFirstFault (all : List Line) (f : Fault) : Type 0 where
   pub broken : Breaks all f
   pub least : (g : Fault) → Breaks all g → IsBefore f g
 
--- the lines break nothing but P13, so that more lines may make them a document
+-- the lines break no clause except P13, so more lines may make them a document
 abbrev pub IsFront : List Line → Type 0
 IsFront ls = (f : Fault) → Breaks ls f → f.clause ≡ 13
 
--- the longest front of all lines that breaks nothing but P13
+-- the longest front of all lines that breaks no clause except P13
 pub record HasLongestFront (all front : List Line) : Type 0 where
   pub rest : List Line
   pub parts : all ≡ front ++ rest

@@ -1,4 +1,4 @@
--- Lines of a document in PYX by their first bytes, and faults: a clause and a line each, and which comes before which.
+-- Lines of a document in PYX by their first bytes. Faults: a clause and a line each, and their order.
 use Rattle.std.specs.Prelude.{◌≡◌, ℕ, ◌<◌, ◌≤◌, ◌⊎◌, List, [], ◌∷◌, ◌++◌, All}
 use Rattle.rng_model.specs.documents.Lines.{Line}
 
@@ -6,7 +6,7 @@ use Rattle.rng_model.specs.documents.Lines.{Line}
 abbrev pub HasKind : ℕ → Line → Type 0
 HasKind k l = (rest : List ℕ) × (l.bytes ≡ k ∷ rest)
 
--- each start tag in these lines is ended in them, by first bytes alone
+-- start tags and end tags are balanced in these lines, by first bytes alone
 pub data IsBalanced : List Line → Type 0 where
   nothing : IsBalanced []
   other : {l : Line} {ls : List Line} → (HasKind 40 l → ⊥) → (HasKind 41 l → ⊥) → IsBalanced ls → IsBalanced (l ∷ ls)
@@ -26,6 +26,6 @@ pub record Fault : Type 0 where
   pub clause : ℕ
   pub line : ℕ
 
--- a stands at an earlier line, or at the same line with no greater clause
+-- a is at an earlier line than b, or at the same line and its clause is not greater
 abbrev pub IsBefore : Fault → Fault → Type 0
 IsBefore a b = (a.line < b.line) ⊎ ((a.line ≡ b.line) × (a.clause ≤ b.clause))

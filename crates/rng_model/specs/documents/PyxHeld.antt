@@ -1,6 +1,6 @@
--- How much of a document in PYX has to be kept while its bytes come: of a front of its bytes, the line that has begun, the lines of the tag that
--- is being read, of each element that is open behind its tag the name and the declarations, and the text that is joined so far.
--- (docs/LANGUAGE.md)
+-- How many bytes of a document in PYX have to be kept after a front of its bytes: the line that has begun, the lines of
+-- the tag that is being read, the name and the declarations of each element that is open after its tag, and the text
+-- that is joined so far. (docs/LANGUAGE.md)
 use Rattle.std.specs.Prelude.{◌≡◌, ◌⊎◌, ℕ, ◌+◌, List, [], ◌∷◌, ◌++◌, Option, Some, None, true, false, length, sum_by, All}
 use Rattle.rng_model.specs.documents.Lines.{Line, lines}
 use Rattle.rng_model.specs.documents.PyxFaults.{HasKind, EndsInTag}
@@ -8,7 +8,7 @@ use Rattle.rng_model.specs.documents.PyxLines.{WrittenName}
 use Rattle.rng_model.specs.documents.PyxNamespaces.{WrittenAttribute, AreParted, Declaration}
 use Rattle.rng_model.specs.documents.PyxClauses.{Tag, AreOpenTags, SaysTag, EndsInText}
 
--- the bytes of a name as it is written
+-- the number of bytes of a name as it is written
 abbrev pub prefix_length : Option (List ℕ) → ℕ
 prefix_length None = 0
 prefix_length (Some p) = length p + 1
@@ -16,7 +16,7 @@ prefix_length (Some p) = length p + 1
 abbrev pub name_length : WrittenName → ℕ
 name_length name = prefix_length name.prefix + length name.local
 
--- those of a declaration: of `xmlns` or `xmlns:p`, and of what its value stands for
+-- the number of bytes of a declaration: of `xmlns` or `xmlns:p`, and of its value
 abbrev pub declared_length : Option (List ℕ) → ℕ
 declared_length None = 5
 declared_length (Some p) = 6 + length p
@@ -24,25 +24,26 @@ declared_length (Some p) = 6 + length p
 abbrev pub declaration_length : Declaration → ℕ
 declaration_length d = declared_length d.prefix + length d.uri
 
--- those that are kept of open elements
+-- the number of bytes that are kept of open elements
 pub data KeptOfTags : List Tag → ℕ → Type 0 where
   of_none : KeptOfTags [] 0
   of_tag : {tag : Tag} {outer : List Tag} {name : WrittenName} {written others : List WrittenAttribute} {ds : List Declaration} {n m : ℕ} →
       SaysTag tag name written → AreParted written ds others → KeptOfTags outer m → n ≡ name_length name + sum_by declaration_length ds + m
       → KeptOfTags (tag ∷ outer) n
 
--- the bytes are these lines, each ended, and then this beginning of one
+-- the bytes are these lines, each ended, followed by this beginning of a line
 pub record IsCutAtLine (bytes : List ℕ) (whole : List Line) (begun : List ℕ) : Type 0 where
   pub ended : All (λ l. l.ended ≡ true) whole
   pub parts : (lines bytes ≡ whole × begun ≡ []) ⊎ (lines bytes ≡ whole ++ record { bytes = begun; ended = false } ∷ [])
 
--- the lines end with texts and instructions, perhaps with none, whose texts say this together, and before these stands neither
+-- the lines end with zero or more texts and instructions, whose joined text is this, and the line before these is
+-- neither
 pub record JoinsText (whole : List Line) (joined : List ℕ) : Type 0 where
   pub ends : EndsInText whole joined
   pub no_text : (l : Line) (rest : List Line) → ends.front ≡ rest ++ l ∷ [] → HasKind 45 l → ⊥
   pub no_instruction : (l : Line) (rest : List Line) → ends.front ≡ rest ++ l ∷ [] → HasKind 63 l → ⊥
 
--- so many bytes are kept after these
+-- this many bytes are kept after these
 pub data KeptOf (bytes : List ℕ) : ℕ → Type 0 where
   in_tag : {whole : List Line} {begun : List ℕ} {outer : List Tag} {n m : ℕ} → IsCutAtLine bytes whole begun → (tag : EndsInTag whole)
       → AreOpenTags tag.front outer → KeptOfTags outer m

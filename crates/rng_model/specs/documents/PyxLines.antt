@@ -1,5 +1,6 @@
--- What a line of a document in PYX says, and which clause a line breaks by itself: P1 to P6, and P10 by its length.
--- Texts are lists of bytes. (docs/LANGUAGE.md; Namespaces in XML 1.0, sections 3 and 4; XML 1.0 Fifth Edition, section 2.2)
+-- The meaning of a line of a document in PYX, and which clause a line breaks by itself: P1 to P6, and P10 by its
+-- length. Texts are lists of bytes. (docs/LANGUAGE.md; Namespaces in XML 1.0, sections 3 and 4; XML 1.0 Fifth Edition,
+-- section 2.2)
 use Rattle.std.specs.Prelude.{◌≡◌, ◌≢◌, ℕ, ◌<◌, ◌≤◌, true, false, List, [], ◌∷◌, ◌++◌, Option, Some, None, length, All}
 use Rattle.std.specs.Str.{IsUtf8, chars}
 use Rattle.rng_model.specs.names.Characters.{is_ncname, is_xml_char}
@@ -24,7 +25,8 @@ pub data IsName : List ℕ → WrittenName → Type 0 where
   prefixed : {text prefix local : List ℕ} → IsNcname prefix → IsNcname local → text ≡ prefix ++ 58 ∷ local
       → IsName text (record { prefix = Some prefix; local = local })
 
--- what a value or a text stands for: `\n`, `\t` and `\\` are a line feed, a tab and a backslash, and all else stands for itself
+-- the meaning of a value or a text: `\n`, `\t` and `\\` mean a line feed, a tab and a backslash; every other byte means
+-- itself
 pub data StandsFor : List ℕ → List ℕ → Type 0 where
   at_end : StandsFor [] []
   itself : {c : ℕ} {cs value : List ℕ} → c ≢ 92 → StandsFor cs value → StandsFor (c ∷ cs) (c ∷ value)
@@ -34,7 +36,7 @@ pub data StandsFor : List ℕ → List ℕ → Type 0 where
 
 -- ---- lines
 
--- what a line says: its kind, its name as it is written, and what its value or its text stands for
+-- the meaning of a line: its kind, its name as it is written, and the meaning of its value or its text
 pub data Said : Type 0 where
   start : WrittenName → Said
   attribute : WrittenName → List ℕ → Said
@@ -51,7 +53,7 @@ pub data Says : List ℕ → Said → Type 0 where
   says_end : {written : List ℕ} {name : WrittenName} → IsName written name → Says (41 ∷ written) (end name)
   says_instruction : {bytes : List ℕ} → Says (63 ∷ bytes) instruction
 
--- a line that breaks nothing by itself, and says this
+-- a line that breaks nothing by itself, and its meaning
 pub record IsGoodLine (l : Line) (said : Said) : Type 0 where
   pub ended : l.ended ≡ true
   pub within : length l.bytes ≤ line_limit
@@ -59,7 +61,7 @@ pub record IsGoodLine (l : Line) (said : Said) : Type 0 where
   pub characters : All (λ c. is_xml_char c ≡ true) (chars l.bytes)
   pub says : Says l.bytes said
 
--- each line is good, and these are what they say, in order
+-- each line is good, and these are the meanings of the lines, in order
 pub data AreGoodLines : List Line → List Said → Type 0 where
   no_lines : AreGoodLines [] []
   line_and : {l : Line} {ls : List Line} {said : Said} {more : List Said} → IsGoodLine l said → AreGoodLines ls more → AreGoodLines (l ∷ ls) (said ∷ more)
@@ -74,7 +76,7 @@ pub record HasNoKind (l : Line) : Type 0 where
   pub no_end : HasKind 41 l → ⊥
   pub no_instruction : HasKind 63 l → ⊥
 
--- this stands before the first space, and this after it
+-- `before` is before the first space, and `after` is after it
 pub record IsCutAtSpace (bytes before after : List ℕ) : Type 0 where
   pub parts : bytes ≡ before ++ 32 ∷ after
   pub first : All (λ c. c ≢ 32) before
@@ -91,20 +93,20 @@ pub data BreaksWithin (l : Line) : ℕ → Type 0 where
   unended : l.ended ≡ false → BreaksWithin l 1
   -- P2: it is not UTF-8
   no_utf8 : (IsUtf8 l.bytes → ⊥) → BreaksWithin l 2
-  -- P3: it holds a character that XML does not have
+  -- P3: it has a character that XML does not have
   no_xml_char : IsUtf8 l.bytes → (All (λ c. is_xml_char c ≡ true) (chars l.bytes) → ⊥) → BreaksWithin l 3
   -- P4: it has no kind
   no_kind : HasNoKind l → BreaksWithin l 4
-  -- P5: a text or a value has another escape, or ends in a lone backslash
+  -- P5: a text or a value has another escape, or ends with a single backslash
   bad_text : {written : List ℕ} → l.bytes ≡ 45 ∷ written → StandsForNothing written → BreaksWithin l 5
   bad_value : {bytes before written : List ℕ} → l.bytes ≡ 65 ∷ bytes → IsCutAtSpace bytes before written → StandsForNothing written → BreaksWithin l 5
-  -- P6: a name is none, or an attribute has no space
+  -- P6: a name is not a name, or an attribute has no space
   bad_start_name : {written : List ℕ} → l.bytes ≡ 40 ∷ written → IsNoName written → BreaksWithin l 6
   bad_end_name : {written : List ℕ} → l.bytes ≡ 41 ∷ written → IsNoName written → BreaksWithin l 6
   bad_attribute_name : {bytes written value : List ℕ} → l.bytes ≡ 65 ∷ bytes → IsCutAtSpace bytes written value → IsNoName written → BreaksWithin l 6
   no_space : {bytes : List ℕ} → l.bytes ≡ 65 ∷ bytes → All (λ c. c ≢ 32) bytes → BreaksWithin l 6
 
--- the line breaks this clause by itself: one that is too long, ended or not, breaks P10 and no other
+-- the line breaks this clause by itself; a line that is too long, ended or not, breaks only P10
 pub data BreaksAlone (l : Line) : ℕ → Type 0 where
   within : {clause : ℕ} → length l.bytes ≤ line_limit → BreaksWithin l clause → BreaksAlone l clause
   too_long : line_limit < length l.bytes → BreaksAlone l 10

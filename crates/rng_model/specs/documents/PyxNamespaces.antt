@@ -7,7 +7,7 @@ use Rattle.rng_model.specs.documents.PyxLines.{Said, WrittenName, attribute}
 
 -- ---- what a tag declares
 
--- an `A` line: a name as it is written, and what its value stands for
+-- an `A` line: its name as it is written, and the meaning of its value
 pub record WrittenAttribute : Type 0 where
   pub name : WrittenName
   pub content : List ℕ
@@ -25,12 +25,12 @@ pub record Declaration : Type 0 where
 abbrev pub xmlns : List ℕ
 xmlns = codes "xmlns"
 
--- `xmlns` declares the default namespace, `xmlns:p` that of the prefix p
+-- `xmlns` declares the default namespace, `xmlns:p` the namespace of the prefix p
 pub data Declares : WrittenName → Option (List ℕ) → Type 0 where
   default_namespace : Declares (record { prefix = None; local = xmlns }) None
   prefix_declared : {p : List ℕ} → Declares (record { prefix = Some xmlns; local = p }) (Some p)
 
--- the name declares nothing, so it is an attribute's
+-- the name declares nothing, so it is the name of an attribute
 abbrev pub DeclaresNothing : WrittenName → Type 0
 DeclaresNothing name = (p : Option (List ℕ)) → Declares name p → ⊥
 
@@ -42,7 +42,7 @@ pub data AreParted : List WrittenAttribute → List Declaration → List Written
   other : {a : WrittenAttribute} {all others : List WrittenAttribute} {ds : List Declaration} → DeclaresNothing a.name
       → AreParted all ds others → AreParted (a ∷ all) ds (a ∷ others)
 
--- ---- what a name stands for
+-- ---- the namespaces of names
 
 -- the declarations of the open tags, those of the innermost first
 abbrev pub Scope : Type 0
@@ -62,8 +62,8 @@ IsDeclared p uri ds = Among (record { prefix = p; uri = uri }) ds
 abbrev pub DeclaresNone : Option (List ℕ) → List Declaration → Type 0
 DeclaresNone p ds = All (λ d. d.prefix ≢ p) ds
 
--- the innermost tag that declares the prefix, or the default namespace, declares it as this; where none does, `xml` stands for its own
--- namespace, and without a prefix there is none
+-- The namespace of the prefix, or the default namespace: the one that the innermost tag that declares it declares. If
+-- no tag declares it: `xml` has its own namespace, and there is no default namespace.
 pub data HasNamespace : Scope → Option (List ℕ) → List ℕ → Type 0 where
   declared_here : {ds : List Declaration} {outer : Scope} {p : Option (List ℕ)} {uri : List ℕ} → IsDeclared p uri ds → HasNamespace (ds ∷ outer) p uri
   declared_outside : {ds : List Declaration} {outer : Scope} {p : Option (List ℕ)} {uri : List ℕ} → DeclaresNone p ds → HasNamespace outer p uri
@@ -76,7 +76,7 @@ pub data NamesElement (scope : Scope) : WrittenName → Name → Type 0 where
   element_name : {name : WrittenName} {uri : List ℕ} → HasNamespace scope name.prefix uri
       → NamesElement scope name (record { ns = uri; local = name.local })
 
--- that of an attribute: without a prefix it has no namespace
+-- the expanded name of an attribute: without a prefix it has no namespace
 pub data NamesAttribute (scope : Scope) : WrittenName → Name → Type 0 where
   without_prefix : {local : List ℕ} → NamesAttribute scope (record { prefix = None; local = local }) (record { ns = []; local = local })
   with_prefix : {p local uri : List ℕ} → HasNamespace scope (Some p) uri
@@ -88,20 +88,20 @@ pub data AreExpanded (scope : Scope) : List WrittenAttribute → List Attribute 
   expanded_and : {a : WrittenAttribute} {name : Name} {more : List WrittenAttribute} {attrs : List Attribute} → NamesAttribute scope a.name name
       → AreExpanded scope more attrs → AreExpanded scope (a ∷ more) (record { name = name; content = a.content } ∷ attrs)
 
--- ---- what no declaration may say, and which prefix is not declared
+-- ---- declarations that are not allowed, and prefixes that are not declared
 
--- the declaration is one that is not allowed (Namespaces in XML 1.0, sections 3 and 5)
+-- the declaration is not allowed (Namespaces in XML 1.0, sections 3 and 5)
 pub data IsForbidden : Declaration → Type 0 where
-  -- nothing is declared as the namespace of declarations
+  -- a prefix, or the default, is declared as the namespace of declarations
   of_xmlns_uri : {d : Declaration} → d.uri ≡ xmlns_uri → IsForbidden d
-  -- `xmlns` is not declared
+  -- `xmlns` is declared
   of_xmlns : {d : Declaration} → d.prefix ≡ Some xmlns → IsForbidden d
-  -- no prefix is declared as no namespace
+  -- a prefix is declared as no namespace
   of_nothing : {d : Declaration} {p : List ℕ} → d.prefix ≡ Some p → d.uri ≡ [] → IsForbidden d
-  -- `xml` is declared as its own namespace alone, and nothing else is declared as that
+  -- `xml` is declared as another namespace, or another prefix or the default as the namespace of `xml`
   xml_as_another : {d : Declaration} → d.prefix ≡ Some (codes "xml") → d.uri ≢ xml_uri → IsForbidden d
   another_as_xml : {d : Declaration} → d.prefix ≢ Some (codes "xml") → d.uri ≡ xml_uri → IsForbidden d
 
--- the prefix stands for no namespace
+-- the prefix has no namespace
 abbrev pub IsUndeclared : Scope → List ℕ → Type 0
 IsUndeclared scope p = (uri : List ℕ) → HasNamespace scope (Some p) uri → ⊥

@@ -52,7 +52,7 @@ abbrev mutual
 
 -- ---- documents
 
--- texts and instructions, perhaps none; the texts joined
+-- zero or more texts and instructions, and the joined text
 pub data IsRun : List Said → List ℕ → Type 0 where
   no_run : IsRun [] []
   text_and : {value joined all : List ℕ} {more : List Said} → IsRun more joined → all ≡ value ++ joined → IsRun (text value ∷ more) all
@@ -62,12 +62,12 @@ pub data AreInstructions : List Said → Type 0 where
   no_instructions : AreInstructions []
   another_instruction : {more : List Said} → AreInstructions more → AreInstructions (instruction ∷ more)
 
--- a joined text is a string, but for the empty one
+-- a joined text is a string, unless it is empty
 abbrev pub string_before : ℕ → List ℕ → PlacedItems → PlacedItems
 string_before n [] rest = rest
 string_before n (c ∷ cs) rest = placed_and (text_at n (c ∷ cs)) rest
 
--- a tag: a start and its `A` lines. Its declarations hold for all of it, besides those of the tags around it.
+-- A tag: a start and its `A` lines. Its declarations hold in the whole tag, together with those of the tags around it.
 pub record IsTag (outer : Scope) (name : WrittenName) (attributes : List Said) (q : Name) (attrs : List Attribute) (scope : Scope) : Type 0 where
   pub written : List WrittenAttribute
   pub are_written : AreWritten attributes written
@@ -82,8 +82,9 @@ pub record IsTag (outer : Scope) (name : WrittenName) (attributes : List Said) (
   pub are_expanded : AreExpanded scope others attrs
   pub distinct : Distinct attrs
 
--- So many elements may be open at once here, and so many lines stand before. The event of a start comes at the first line behind its tag, that
--- of a string at the next line that is a start or an end, that of an end at its own.
+-- The first number is the number of elements that may be open here at the same time, the second the number of lines
+-- before. The event of a start has the first line after its tag. The event of a string has the next line that is a
+-- start or an end. The event of an end has its own line.
 mutual
   pub data IsElement : ℕ → Scope → ℕ → List Said → Placed → Type 0 where
     element : {room n : ℕ} {outer scope : Scope} {all attributes content : List Said} {tree : Placed} {name : WrittenName} {q : Name}
@@ -101,7 +102,7 @@ mutual
         IsContent room scope (n + length run + length inner) more rest →
         all ≡ run ++ (inner ++ more) → kids ≡ string_before (n + length run + 1) joined (placed_and tree rest) → IsContent room scope n all kids
 
--- the bytes are the document of this tree: one root, and nothing else but instructions
+-- the bytes are the document of this tree: one root, and otherwise only instructions
 pub record IsPyxDocument (bytes : List ℕ) (tree : Placed) : Type 0 where
   pub before : List Said
   pub root : List Said

@@ -28,7 +28,7 @@ pub data Interleaves {A : Type 0} : List A → List A → List A → Type 0 wher
   left : {x : A} {xs ys zs : List A} → Interleaves xs ys zs → Interleaves (x ∷ xs) ys (x ∷ zs)
   right : {y : A} {xs ys zs : List A} → Interleaves xs ys zs → Interleaves xs (y ∷ ys) (y ∷ zs)
 
--- what two members take makes up the whole: one after the other about `,`, in any order about `&`
+-- what two members take is the whole: one after the other for `,`, in any order for `&`
 pub data Shares {A : Type 0} : Connector → List A → List A → List A → Type 0 where
   in_order : {ms ns os : List A} → ms ++ ns ≡ os → Shares group ms ns os
   in_any_order : {ms ns os : List A} → Interleaves ms ns os → Shares interleave ms ns os
@@ -38,7 +38,7 @@ pub data AllTexts : List Item → Type 0 where
   no_texts : AllTexts []
   text_and : {s : List ℕ} {ns : List Item} → AllTexts ns → AllTexts (a_text s ∷ ns)
 
--- some name stands in both
+-- some name occurs in both lists
 pub data SharesName : List Attribute → List Attribute → Type 0 where
   same : {a b : Attribute} {xs ys : List Attribute} → a.name ≡ b.name → SharesName (a ∷ xs) (b ∷ ys)
   later_left : {a : Attribute} {xs ys : List Attribute} → SharesName xs ys → SharesName (a ∷ xs) ys

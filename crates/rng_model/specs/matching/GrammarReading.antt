@@ -1,4 +1,4 @@
--- What comes first, and what may take it.
+-- How a matcher reads a grammar of the code.
 use Rattle.rng_model.specs.simple.Table.{Table, grammar_of}
 use Rattle.rng_model.specs.datatypes.DatatypeTests.{text_tests}
 use Rattle.rng_model.specs.matching.Reading.{Reading}

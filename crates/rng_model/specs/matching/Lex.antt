@@ -1,5 +1,5 @@
--- Which lists of texts a tree has, as the except of a datatype is judged (RELAX NG Specification, section 6.2.8; an
--- except as it is written may be of any kind, and becomes legal once it is simplified).
+-- Which lists of texts a tree has, when it is the except of a datatype (RELAX NG Specification, section 6.2.8). An
+-- except as it is written may be of any kind, and becomes legal by simplification.
 use Rattle.std.specs.Prelude.{◌≡◌, ◌⊎◌, ℕ, List, [], ◌∷◌, ◌++◌}
 use Rattle.rng_model.specs.simple.Tree.{Connector, choice, group, interleave}
 use Rattle.rng_model.specs.simple.Tree.{Tree, not_allowed, empty, text, leaf, attribute, list, data_of, data_except, value, mixed, optional, zero_or_more, one_or_more}
@@ -12,7 +12,7 @@ pub data Repeats {A : Type 0} (P : List A → Type 0) : List A → Type 0 where
   once : {ws : List A} → P ws → Repeats P ws
   again : {us vs ws : List A} → P us → Repeats P vs → us ++ vs ≡ ws → Repeats P ws
 
--- shared out between two
+-- a list that two members share out
 abbrev pub Shared : {A : Type 0} → Connector → (List A → Type 0) → (List A → Type 0) → List A → Type 0
 Shared {A} k P Q ws = (us : List A) × (vs : List A) × P us × Q vs × Shares k us vs ws
 

@@ -1,6 +1,6 @@
 -- Which attributes with which items a tree matches (RELAX NG Specification, section 6.2), and which documents are valid
--- (section 6.3). What a leaf is, the reader of the tree says: at a place it may stand for another tree, or be an
--- element with a name class and a body. So patterns as written and a simple grammar are read by the same rules.
+-- (section 6.3). The reader of the tree says what a leaf is: at a place it may represent another tree, or be an element
+-- with a name class and a body. So the same rules read patterns as written and simple grammars.
 use Rattle.std.specs.Prelude.{◌≡◌, ℕ, List, [], ◌∷◌, ◌++◌, map, Bool, true}
 use Rattle.rng_model.specs.names.Names.{Name, NameClass}
 use Rattle.rng_model.specs.simple.Tree.{Datatype, Connector, choice}
@@ -10,7 +10,7 @@ use Rattle.rng_model.specs.matching.Document.{Attribute, Item, a_text, an_elemen
 
 -- how the leaves of a tree are read, at a place
 pub record Leaves (X L : Type 0) : Type 1 where
-  -- the leaf stands for this tree, at this place
+  -- the leaf represents this tree, at this place
   pub StandsFor : X → L → X → Tree L → Type 0
   -- the leaf is an element with this name class, and this body at this place
   pub IsElement : X → L → NameClass → X → Tree L → Type 0
@@ -38,7 +38,7 @@ module _ {X L : Type 0} (leaves : Leaves X L) (In : NameClass → Name → Type 
       first : {x : X} {a b : Tree L} {ts : Trees L} {xs : List Attribute} {ns : List Item} → Matches x a xs ns → Matches x (joined choice a b ts) xs ns
       second : {x : X} {a b : Tree L} {ts : Trees L} {xs : List Attribute} {ns : List Item} → Matches x b xs ns → Matches x (joined choice a b ts) xs ns
       another : {x : X} {a b : Tree L} {ts : Trees L} {xs : List Attribute} {ns : List Item} → MatchesOne x ts xs ns → Matches x (joined choice a b ts) xs ns
-      -- 6.2.2 and 6.2.6, of any number of members
+      -- 6.2.2 and 6.2.6, for any number of members
       all : {x : X} {k : Connector} {a b : Tree L} {ts : Trees L} {xs ys zs : List Attribute} {ms ns os : List Item} →
           Matches x a xs ms → MatchesAll x k (tree_and b ts) ys ns → Interleaves xs ys zs → Shares k ms ns os → Matches x (joined k a b ts) zs os
       -- 4.14: a choice of the pattern and empty
@@ -67,11 +67,11 @@ module _ {X L : Type 0} (leaves : Leaves X L) (In : NameClass → Name → Type 
       -- 6.2.10
       list_is : {x : X} {a : Tree L} {w : List ℕ} {ns : List Item} → ns ≡ map a_text (texts.pieces w) → Matches x a [] ns
           → Matches x (list a) [] (a_text w ∷ [])
-      -- 4.18 and 4.19: a ref is what it refers to
+      -- 4.18 and 4.19: a ref matches what it refers to
       stands_for : {x y : X} {l : L} {a : Tree L} {xs : List Attribute} {ns : List Item} → leaves.StandsFor x l y a → Matches y a xs ns
           → Matches x (leaf l) xs ns
 
-    -- some member does
+    -- some member matches
     pub data MatchesOne : X → Trees L → List Attribute → List Item → Type 0 where
       this : {x : X} {a : Tree L} {ts : Trees L} {xs : List Attribute} {ns : List Item} → Matches x a xs ns → MatchesOne x (tree_and a ts) xs ns
       later : {x : X} {a : Tree L} {ts : Trees L} {xs : List Attribute} {ns : List Item} → MatchesOne x ts xs ns → MatchesOne x (tree_and a ts) xs ns

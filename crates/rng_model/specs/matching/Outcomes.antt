@@ -1,4 +1,4 @@
--- What a matcher says of a document, and of which line (RELAX NG Specification, sections 6.2 and 6.3).
+-- The outcome of a document, and its line (RELAX NG Specification, sections 6.2 and 6.3).
 use Rattle.std.specs.Prelude.{◌≡◌, ⊤, ℕ, List, [], ◌∷◌, ◌++◌, All}
 use Rattle.rng_model.specs.names.Names.{NameClass, In}
 use Rattle.rng_model.specs.simple.Table.{Grammar, IsValidBy}
@@ -9,7 +9,7 @@ use Rattle.rng_model.specs.matching.Reading.{Reading}
 use Rattle.rng_model.specs.declared.outcome.Outcome.{Outcome}
 use Rattle.rng_model.specs.declared.outcome.Outcome.TheVariants as outcome
 
--- a start has a name that some element of the grammar may have
+-- the event is not a start, or it has a name that some element of the grammar may have
 abbrev pub KnowsName : Grammar → EventKind → Type 0
 KnowsName g (a_start q xs) = ¬ ((k : ℕ) (c : NameClass) → ClassIn g k c → ¬ (In c q))
 KnowsName g (a_string s) = ⊤
@@ -22,7 +22,8 @@ IsValid g d = IsValidBy g.grammar (texts_of g.tests) (item_of d)
 abbrev pub CannotBeValid : Reading → List Event → Type 0
 CannotBeValid g es = (more : List Event) (bytes : List ℕ) (d : Placed) → IsPyxDocument bytes d → events_of d ≡ es ++ more → ¬ (IsValid g d)
 
--- after one of the events, at this line, no continuation is valid; none before it is the start of an element that the grammar has no name for
+-- No continuation after one of the events, at this line, is valid. Before it, each start of an element has a name that
+-- the grammar has.
 pub record FailsAt (g : Reading) (es : List Event) (line : ℕ) : Type 0 where
   pub before : List Event
   pub kind : EventKind
@@ -31,7 +32,7 @@ pub record FailsAt (g : Reading) (es : List Event) (line : ℕ) : Type 0 where
   pub cannot : CannotBeValid g (before ++ record { line = line; kind = kind } ∷ [])
   pub known : All (λ e. KnowsName g.grammar e.kind) before
 
--- this is what is to be said of the document
+-- this is the outcome of the document
 abbrev pub IsOutcome : Reading → Placed → Outcome → Type 0
 IsOutcome g d outcome.Valid = IsValid g d
 IsOutcome g d (outcome.Invalid line) = ¬ (IsValid g d) × FailsAt g (events_of d) line

@@ -1,4 +1,4 @@
--- A simple grammar with tests for texts: how the names and the texts of a document are judged.
+-- A simple grammar with tests for texts: how names and texts of a document are judged.
 use Rattle.rng_model.specs.simple.Table.{Grammar}
 use Rattle.rng_model.specs.datatypes.Texts.{TextTests}
 

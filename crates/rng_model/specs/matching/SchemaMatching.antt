@@ -1,5 +1,5 @@
--- Matching read over a schema as it is written (RELAX NG Specification, section 6; a ref is what it refers to, 4.18 and
--- 4.19), and when a grammar has the schema's documents.
+-- How matching reads a schema as it is written (RELAX NG Specification, section 6; a ref is what it refers to, 4.18 and
+-- 4.19), and when a grammar has the documents of the schema.
 use Rattle.std.specs.Prelude.{◌≡◌, ◌↔◌, ℕ, List, Some, ◌∷◌}
 use Rattle.rng_model.specs.names.Names.{NameClass, In}
 use Rattle.rng_model.specs.simple.Tree.{Tree}
@@ -14,7 +14,7 @@ use Rattle.rng_model.specs.schema.Schema.{Schema, Definition, main_start, body}
 use Rattle.rng_model.specs.schema.Unfolding.{Leaf, to_definition, aim, Unfolds}
 
 module _ (s : Schema) where
-  -- what is looked up stands for the combined body that is found, at its place
+  -- a leaf that is looked up represents the combined body that is found, at the place of that body
   pub data IsFound : Place → Point → Place → Tree Point → Type 0 where
     is_found : {x z : Place} {l : Point} {d : Definition} {a : Tree Point} → aim s x l ≡ to_definition d → body s d ≡ Some a → z ≡ d.place
         → IsFound x l z a
@@ -31,11 +31,11 @@ module _ (s : Schema) where
   abbrev pub schema_leaves : Texts → Leaves Place Point
   schema_leaves texts = record { StandsFor = IsFound; IsElement = IsWrittenElement; Excepts = ExceptHas texts }
 
-  -- the document with this root is valid by the start of the main grammar, whatever is known of texts (section 6.3)
+  -- the document with this root is valid by the start of the main grammar, given what is known of texts (section 6.3)
   abbrev pub IsValidOver : Texts → Item → Type 0
   IsValidOver texts root = (a : Tree Point) × (body s (main_start s) ≡ Some a) × IsValid (schema_leaves texts) In texts s.main a root
 
-  -- the same with the datatypes of the table
+  -- the same, with the tests of the known datatypes
   abbrev pub IsValidBySchema : Item → Type 0
   IsValidBySchema root = IsValidOver (texts_of text_tests) root
 

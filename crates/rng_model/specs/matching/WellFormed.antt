@@ -1,4 +1,4 @@
--- Items as documents have them.
+-- Items as they are in documents.
 use Rattle.std.specs.Prelude.{◌≢◌, ℕ, List, [], ◌∷◌}
 use Rattle.rng_model.specs.names.Names.{Name}
 use Rattle.rng_model.specs.matching.Document.{Attribute, Item, a_text, an_element, Items, no_items, item_and, list_of}
@@ -8,12 +8,12 @@ pub data HasNoName (name : Name) : List Attribute → Type 0 where
   nothing_named : HasNoName name []
   another_name : {a : Attribute} {attrs : List Attribute} → a.name ≢ name → HasNoName name attrs → HasNoName name (a ∷ attrs)
 
--- no name stands twice (Namespaces in XML 1.0, section 6.3)
+-- no two attributes have the same name (Namespaces in XML 1.0, section 6.3)
 pub data Distinct : List Attribute → Type 0 where
   none : Distinct []
   one_more : {a : Attribute} {attrs : List Attribute} → HasNoName a.name attrs → Distinct attrs → Distinct (a ∷ attrs)
 
--- no two strings stand side by side
+-- no two strings are adjacent
 pub data Separate : List Item → Type 0 where
   nothing : Separate []
   string : {s : List ℕ} → Separate (a_text s ∷ [])
@@ -21,8 +21,8 @@ pub data Separate : List Item → Type 0 where
   string_element : {s : List ℕ} {q : Name} {xs : List Attribute} {kids : Items} {ns : List Item} → Separate ns
       → Separate (a_text s ∷ an_element q xs kids ∷ ns)
 
--- in each element the attributes have distinct names, no string is empty, and no two strings stand side by side
--- (RELAX NG Specification, section 2; Namespaces in XML 1.0, section 6.3)
+-- in each element the attributes have distinct names, no string is empty, and no two strings are adjacent (RELAX NG
+-- Specification, section 2; Namespaces in XML 1.0, section 6.3)
 abbrev mutual
   pub IsWellFormed : Item → Type 0
   IsWellFormed (a_text s) = s ≢ []

@@ -1,4 +1,4 @@
--- What the values of the code are, apart from where they lie in memory.
+-- What a name and a name class of the code are, without their place in memory.
 use Rattle.std.specs.Prelude.{string_bytes}
 use Rattle.rng_model.specs.declared.name.Name.{Name}
 use Rattle.rng_model.specs.declared.name.NameClass.{NameClass, fold-NameClass}
@@ -8,7 +8,7 @@ use Rattle.rng_model.specs.names.Names as names
 abbrev pub name_of : Name → names.Name
 name_of n = record { ns = string_bytes n.ns; local = string_bytes n.local }
 
--- one level of a name class, with each class inside already seen as its twin
+-- one level of a name class, with each class inside already as its view
 abbrev pub class_step : NameClass-F names.NameClass → names.NameClass
 class_step NameClass-F.Any = names.any_name
 class_step (NameClass-F.AnyExcept except) = names.any_except except.value

@@ -2,8 +2,8 @@
 use Rattle.std.specs.Prelude.{◌≡◌, ◌⊎◌, ℕ, List, [], ◌∷◌}
 use Rattle.std.specs.Str.{IsUtf8}
 
--- an expanded name: a namespace, empty where there is none, and a local name, as the bytes of texts
--- (Namespaces in XML 1.0, section 2.1)
+-- an expanded name: a namespace, which is empty if there is none, and a local name, as the bytes of texts (Namespaces
+-- in XML 1.0, section 2.1)
 pub record Name : Type 0 where
   pub ns : List ℕ
   pub local : List ℕ
@@ -27,7 +27,8 @@ abbrev pub classes_of : List NameClass → NameClasses
 classes_of [] = no_classes
 classes_of (c ∷ cs) = class_and c (classes_of cs)
 
--- a choice of any number of members: one alone is itself (RELAX NG Specification, section 4.12), none hold no name
+-- a choice of any number of members: a choice of one member is that member (RELAX NG Specification, section 4.12), a
+-- choice of none holds no name
 abbrev pub some_of : List NameClass → NameClass
 some_of [] = any_except any_name
 some_of (c ∷ []) = c
@@ -51,10 +52,10 @@ abbrev mutual
 abbrev pub IsPairOfTexts : Name → Type 0
 IsPairOfTexts q = IsUtf8 q.ns × IsUtf8 q.local
 
--- some name lies in both classes (RELAX NG Specification, section 7.3)
+-- some name is in both classes (RELAX NG Specification, section 7.3)
 abbrev pub Overlap : NameClass → NameClass → Type 0
 Overlap c d = (q : Name) × IsPairOfTexts q × In c q × In d q
 
--- no name lies in both classes, whatever its bytes
+-- no name is in both classes, whatever its bytes
 abbrev pub AreApart : NameClass → NameClass → Type 0
 AreApart c d = (q : Name) → In c q → ¬ (In d q)

@@ -1,4 +1,4 @@
--- The laws of this crate: derivatives equal the rules of matching, and where a document turns out to be invalid.
+-- Grammars that break no restriction.
 use Rattle.std.specs.Prelude.{ℕ}
 use Rattle.rng_model.specs.simple.Table.{Grammar}
 use Rattle.rng_model.specs.restrictions.Restrictions.{BreaksRestriction}

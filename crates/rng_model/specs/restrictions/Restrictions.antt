@@ -8,7 +8,7 @@ use Rattle.rng_model.specs.simple.Tree.{Connector, Simple, s_not_allowed, s_empt
 use Rattle.rng_model.specs.simple.Tree.{s_one_or_more, s_joined}
 use Rattle.rng_model.specs.simple.Table.{Grammar}
 
--- ---- kinds of pattern, and what stands in a pattern
+-- ---- kinds of pattern, and patterns inside a pattern
 
 pub data Kind : Type 0 where
   not_allowed_kind : Kind
@@ -44,7 +44,7 @@ module _ {L : Type 0} where
   kind_of (s_one_or_more p) = one_or_more_kind
   kind_of (s_joined k p q) = kind_between k
 
-  -- q is p, or stands somewhere in it; this never passes through a ref, behind which another body is
+  -- q is p, or q is inside p; this never passes through a ref, since the body after it is another pattern
   pub data StandsIn (q : Simple L) : Simple L → Type 0 where
     itself : StandsIn q q
     in_attribute : {c : NameClass} {p : Simple L} → StandsIn q p → StandsIn q (s_attribute c p)
@@ -54,7 +54,7 @@ module _ {L : Type 0} where
     in_left : {k : Connector} {p r : Simple L} → StandsIn q p → StandsIn q (s_joined k p r)
     in_right : {k : Connector} {p r : Simple L} → StandsIn q r → StandsIn q (s_joined k p r)
 
-  -- q stands somewhere inside p
+  -- q is strictly inside p
   pub data Inside (q : Simple L) : Simple L → Type 0 where
     inside_attribute : {c : NameClass} {p : Simple L} → StandsIn q p → Inside q (s_attribute c p)
     inside_list : {p : Simple L} → StandsIn q p → Inside q (s_list p)
@@ -63,7 +63,7 @@ module _ {L : Type 0} where
     inside_left : {k : Connector} {p r : Simple L} → StandsIn q p → Inside q (s_joined k p r)
     inside_right : {k : Connector} {p r : Simple L} → StandsIn q r → Inside q (s_joined k p r)
 
-  -- q stands in p, somewhere inside no oneOrMore
+  -- q is p, or q is in p at some position outside every oneOrMore
   pub data StandsUnrepeated (q : Simple L) : Simple L → Type 0 where
     unrepeated_itself : StandsUnrepeated q q
     unrepeated_in_attribute : {c : NameClass} {p : Simple L} → StandsUnrepeated q p → StandsUnrepeated q (s_attribute c p)
@@ -72,7 +72,7 @@ module _ {L : Type 0} where
     unrepeated_in_left : {k : Connector} {p r : Simple L} → StandsUnrepeated q p → StandsUnrepeated q (s_joined k p r)
     unrepeated_in_right : {k : Connector} {p r : Simple L} → StandsUnrepeated q r → StandsUnrepeated q (s_joined k p r)
 
-  -- q occurs in p: through choices, groups, interleaves and oneOrMores alone (section 7.3)
+  -- q occurs in p: only through choices, groups, interleaves and oneOrMores (section 7.3)
   pub data OccursIn (q : Simple L) : Simple L → Type 0 where
     occurs_itself : OccursIn q q
     occurs_repeated : {p : Simple L} → OccursIn q p → OccursIn q (s_one_or_more p)
@@ -96,7 +96,7 @@ mutual
 
 -- ---- content types (section 7.2)
 
--- in this order
+-- the content types in their order
 pub data ContentType : Type 0 where
   empty_content : ContentType
   complex_content : ContentType
@@ -109,13 +109,13 @@ greater complex_content complex_content = complex_content
 greater complex_content simple_content = simple_content
 greater simple_content t = simple_content
 
--- one of them is empty, or both are complex
+-- one of the two is empty, or both are complex
 pub data AreGroupable : ContentType → ContentType → Type 0 where
   empty_first : {t : ContentType} → AreGroupable empty_content t
   empty_second : {t : ContentType} → AreGroupable t empty_content
   both_complex : AreGroupable complex_content complex_content
 
--- what lies between members of a group or an interleave
+-- a connector of a group or an interleave
 pub data IsNoChoice : Connector → Type 0 where
   grouped : IsNoChoice tree.group
   interleaved : IsNoChoice tree.interleave
@@ -136,7 +136,7 @@ module _ {L : Type 0} where
     of_one_or_more : {p : Simple L} {t : ContentType} → HasContent p t → AreGroupable t t → HasContent (s_one_or_more p) t
     of_choice : {p q : Simple L} {t u : ContentType} → HasContent p t → HasContent q u → HasContent (s_joined tree.choice p q) (greater t u)
 
--- ---- what may not stand where (section 7.1)
+-- ---- what may not occur where (section 7.1)
 
 -- inside an attribute
 pub data BarredFromAttribute : Kind → Type 0 where
@@ -177,7 +177,7 @@ pub data BarredFromStart : Kind → Type 0 where
 -- ---- clauses of one pattern: a start, or the body of an element
 
 module _ {L : Type 0} where
-  -- S18: a ref or an attribute somewhere inside an attribute (section 7.1.1)
+  -- S18: a ref or an attribute is inside an attribute (section 7.1.1)
   pub record BreaksAttribute (p : Simple L) : Type 0 where
     pub outer : Simple L
     pub inner : Simple L
@@ -186,7 +186,7 @@ module _ {L : Type 0} where
     pub inside : Inside inner outer
     pub barred : BarredFromAttribute (kind_of inner)
 
-  -- S19: an attribute inside a group or an interleave inside a oneOrMore (section 7.1.2)
+  -- S19: an attribute is inside a group or an interleave that is inside a oneOrMore (section 7.1.2)
   pub record BreaksOneOrMore (p : Simple L) : Type 0 where
     pub repeated : Simple L
     pub between : Simple L
@@ -198,7 +198,7 @@ module _ {L : Type 0} where
     pub deeper : Inside inner between
     pub is_attribute : kind_of inner ≡ attribute_kind
 
-  -- S20: a list, ref, attribute, text or interleave inside a list (section 7.1.3)
+  -- S20: a list, ref, attribute, text or interleave is inside a list (section 7.1.3)
   pub record BreaksList (p : Simple L) : Type 0 where
     pub outer : Simple L
     pub inner : Simple L
@@ -207,7 +207,7 @@ module _ {L : Type 0} where
     pub inside : Inside inner outer
     pub barred : BarredFromList (kind_of inner)
 
-  -- S21: what may not stand in the except of a data (section 7.1.4)
+  -- S21: a pattern that may not occur there is in the except of a data (section 7.1.4)
   pub record BreaksExcept (p : Simple L) : Type 0 where
     pub datatype : tree.Datatype
     pub except : Simple L
@@ -216,18 +216,18 @@ module _ {L : Type 0} where
     pub inside : StandsIn inner except
     pub barred : BarredFromExcept (kind_of inner)
 
-  -- S22: what may not stand in a start (section 7.1.5)
+  -- S22: a pattern that may not occur there is in a start (section 7.1.5)
   pub record BreaksStart (start : Simple L) : Type 0 where
     pub inner : Simple L
     pub inside : StandsIn inner start
     pub barred : BarredFromStart (kind_of inner)
 
-  -- S23: a body that has no content type, and is not notAllowed (section 7.2)
+  -- S23: a body has no content type, and is not notAllowed (section 7.2)
   pub record BreaksContent (body : Simple L) : Type 0 where
     pub not_whole : body ≢ s_not_allowed
     pub no_type : (t : ContentType) → HasContent body t → ⊥
 
-  -- S24: in a group or an interleave, some name lies in the classes of attributes that occur on both sides (section 7.3)
+  -- S24: in a group or an interleave, some name is in the classes of attributes that occur on both sides (section 7.3)
   pub record BreaksAttributeNames (p : Simple L) : Type 0 where
     pub connector : Connector
     pub left : Simple L
@@ -242,14 +242,14 @@ module _ {L : Type 0} where
     pub occurs_right : OccursIn (s_attribute second_class second_body) right
     pub overlap : Overlap first_class second_class
 
-  -- S25: an attribute with `*` or `p:*` in its name class that is not inside a oneOrMore (section 7.3)
+  -- S25: an attribute with `*` or `p:*` in its name class is not inside a oneOrMore (section 7.3)
   pub record BreaksWildcard (p : Simple L) : Type 0 where
     pub class : NameClass
     pub body : Simple L
     pub stands : StandsUnrepeated (s_attribute class body) p
     pub wildcard : HasWildcard class
 
-  -- S26: in an interleave, some name lies in the classes of elements that are referred to on both sides (section 7.4)
+  -- S26: in an interleave, some name is in the classes of elements that are referred to on both sides (section 7.4)
   pub record BreaksElementNames (IsClass : L → NameClass → Type 0) (p : Simple L) : Type 0 where
     pub left : Simple L
     pub right : Simple L

@@ -3,7 +3,8 @@ use Rattle.std.specs.Prelude.{ℕ, ◌+◌, max}
 use Rattle.rng_model.specs.names.Names.{NameClass, any_name, any_except, ns_name, ns_except, name_is, one_of, NameClasses, no_classes, class_and}
 use Rattle.rng_model.specs.simple.Tree.{Simple, s_not_allowed, s_empty, s_text, s_leaf, s_attribute, s_list, s_data, s_data_except, s_value, s_one_or_more, s_joined}
 
--- what has no child has the depth 1, all else one more than its deepest child; the child of `* - c` and of `p:* - c` is c
+-- A class or a tree without a child has depth 1. Every other one has one more than its deepest child. The child of `* -
+-- c` and of `p:* - c` is c.
 abbrev mutual
   pub class_depth : NameClass → ℕ
   class_depth any_name = 1
@@ -17,7 +18,7 @@ abbrev mutual
   classes_depth no_classes = 0
   classes_depth (class_and c cs) = max (class_depth c) (classes_depth cs)
 
--- the children of an attribute are its name class and its body, of a data its except; an element is a leaf
+-- the children of an attribute are its name class and its body, the child of a data is its except; an element is a leaf
 abbrev pub depth : {L : Type 0} → Simple L → ℕ
 depth s_not_allowed = 1
 depth s_empty = 1

@@ -1,18 +1,18 @@
--- Patterns as they are written, of all kinds (RELAX NG Specification, section 3; mentions of files followed, 4.6 and 4.7).
--- Where an element stands, its position says, so that two equal ones are told apart.
+-- Patterns as they are written, of all kinds (RELAX NG Specification, section 3; mentions of files followed, 4.6 and
+-- 4.7). An element has its position, so that two equal elements are distinct.
 use Rattle.std.specs.Prelude.{ℕ, ◌+◌, List, [], ◌∷◌}
 use Rattle.rng_model.specs.names.Names.{NameClass}
 use Rattle.rng_model.specs.simple.Tree.{Datatype, Connector, choice, group, interleave}
 use Rattle.rng_model.specs.simple.Tree.{Tree, Trees}
 use Rattle.rng_model.specs.simple.Tree as tree
 
--- where a grammar stands in a schema: the way to it from the main one, through nested grammars and mentions of files, the
--- innermost first
+-- the place of a grammar in a schema: the way to it from the main grammar, through nested grammars and mentions of
+-- files, the innermost first
 abbrev pub Place : Type 0
 Place = List ℕ
 
--- where a pattern stands in the grammar at a place: the number of its component, and of the child at each level below, the
--- innermost first
+-- the position of a pattern in the grammar at a place: the number of its component, and of the child at each level
+-- below, the innermost first
 abbrev pub Position : Type 0
 Position = List ℕ
 
@@ -33,12 +33,12 @@ mutual
     zero_or_more : Pattern → Pattern
     one_or_more : Pattern → Pattern
     joined : Connector → Pattern → Pattern → Patterns → Pattern
-    -- by name
+    -- a ref by name
     ref : List ℕ → Pattern
     parent_ref : List ℕ → Pattern
     -- a nested grammar, at its place
     grammar : Place → Pattern
-    -- the pattern of another file, which is a nested grammar where the file is a grammar
+    -- the pattern of another file; if the file is a grammar, it is a nested grammar
     external : Pattern → Pattern
 
   pub data Patterns : Type 0 where
@@ -49,7 +49,8 @@ abbrev pub patterns_of : List Pattern → Patterns
 patterns_of [] = no_patterns
 patterns_of (p ∷ ps) = pattern_and p (patterns_of ps)
 
--- a list of members about a connector: one alone is itself (section 4.12); none, which no file has, change nothing beside others
+-- A list of members with a connector. One member alone is itself (section 4.12). No file has an empty list; it changes
+-- nothing beside other members.
 abbrev pub members : Connector → List Pattern → Pattern
 members choice [] = not_allowed
 members group [] = empty
@@ -95,8 +96,8 @@ abbrev mutual
   pattern_trees n x no_patterns = tree.no_trees
   pattern_trees n x (pattern_and p ps) = tree.tree_and (pattern_tree (n ∷ x) p) (pattern_trees (n + 1) x ps)
 
--- the pattern q is p or stands somewhere in it, also in the bodies of elements and in the patterns of other files; the
--- components of a nested grammar stand at its own place
+-- The pattern q is p, or is inside p, also in the bodies of elements and in the patterns of other files. The components
+-- of a nested grammar belong to its own place, not to p.
 mutual
   pub data IsWrittenIn (q : Pattern) : Pattern → Type 0 where
     itself : IsWrittenIn q q

@@ -1,5 +1,6 @@
--- A schema: the components of the grammar at each place, and the place of the grammar around it. What is looked up is the
--- combined body of a name, or of the start, of the grammar at a place (RELAX NG Specification, sections 4.17 and 4.18).
+-- A schema: the components of the grammar at each place, and the place of the grammar around it. A ref is looked up as
+-- the combined body of a name, or of the start, of the grammar at a place (RELAX NG Specification, sections 4.17 and
+-- 4.18).
 use Rattle.std.specs.Prelude.{◌≡◌, ℕ, ◌+◌, List, [], ◌∷◌, Option, Some, None, Bool, true, false, if◌then◌else◌}
 use Rattle.std.specs.Str.{bytes_eq}
 use Rattle.rng_model.specs.names.Lists.{Among}
@@ -9,19 +10,20 @@ use Rattle.rng_model.specs.schema.Patterns.{Place, Pattern, grammar, Point, patt
 use Rattle.rng_model.specs.declared.method.Method.{Method}
 use Rattle.rng_model.specs.declared.method.Method.TheVariants as methods
 
--- a part of a grammar that defines a name, or its start, which has none
+-- a part of a grammar that defines a name, or its start, which has no name
 pub record Component : Type 0 where
   pub name : Option (List ℕ)
   pub method : Method
   pub pattern : Pattern
 
--- the components at a place, in order, where a grammar is there; and the grammar around it, where there is one
+-- the components at a place, in order, if there is a grammar at it; and the place of the grammar around it, if there is
+-- one
 pub record Schema : Type 0 where
   pub main : Place
   pub components : Place → Option (List Component)
   pub outer : Place → Option Place
 
--- what is looked up: a name, or the start, of the grammar at a place, whether some component has it or none
+-- what is looked up: a name, or the start, of the grammar at a place, whether or not some component defines it
 pub record Definition : Type 0 where
   pub place : Place
   pub name : Option (List ℕ)
@@ -48,13 +50,13 @@ is_interleaved methods.Plain = false
 is_interleaved methods.Choice = false
 is_interleaved methods.Interleave = true
 
--- an interleave if one of this name has `&=`, else a choice
+-- an interleave if a component of this name has `&=`, otherwise a choice
 abbrev pub connector_of : Option (List ℕ) → List Component → Connector
 connector_of y [] = choice
 connector_of y (c ∷ cs) =
     if same_name y c.name then (if is_interleaved c.method then interleave else connector_of y cs) else connector_of y cs
 
--- trees about a connector, nested in twos from the left
+-- trees joined by a connector, nested in twos from the left
 abbrev pub nested_from : {L : Type 0} → Connector → Tree L → List (Tree L) → Tree L
 nested_from k a [] = a
 nested_from k a (b ∷ ts) = nested_from k (joined k a b no_trees) ts
@@ -77,14 +79,14 @@ pub record HasComponent (s : Schema) (x : Place) (c : Component) : Type 0 where
   pub there : s.components x ≡ Some components
   pub among : Among c components
 
--- the pattern stands in a component of the grammar at the place, reached from the start or not
+-- the pattern is in a component of the grammar at the place, reached from the start or not
 pub record IsWrittenAt (s : Schema) (x : Place) (q : Pattern) : Type 0 where
   pub component : Component
   pub there : HasComponent s x component
   pub written : IsWrittenIn q component.pattern
 
--- The grammars of a schema are in their places: the main one is there and none is around it; each that is nested in another is
--- there, and around it is the one in which it is written.
+-- The grammars of a schema are in their places. The main one is there, and no grammar is around it. Each grammar that
+-- is nested in another is there, and the grammar around it is the one in which it is written.
 pub record IsWellPlaced (s : Schema) : Type 0 where
   pub components : List Component
   pub main : s.components s.main ≡ Some components

@@ -1,6 +1,6 @@
--- The clauses that a schema of one grammar or more may break: S11 to S15 over all components at all places, reached or not;
--- S16 and S17 over the trees that are reached; S18 to S27 over its simple form. (RELAX NG Specification, sections 4.16 to
--- 4.19 and 7; S17 is profile)
+-- The clauses that a schema of one grammar or more may break: S11 to S15 over all components at all places, reached or
+-- not; S16 and S17 over the trees that are reached; S18 to S27 over its simple form. (RELAX NG Specification, sections
+-- 4.16 to 4.19 and 7; S17 is profile)
 use Rattle.std.specs.Prelude.{◌≡◌, codes, ℕ, ◌<◌, ◌≤◌, List, [], Some, None}
 use Rattle.rng_model.specs.schema.Least.{IsLeast}
 use Rattle.rng_model.specs.names.Lists.{Among, HasTwo}
@@ -21,7 +21,7 @@ use Rattle.rng_model.specs.declared.method.Method.TheVariants as methods
 
 -- ---- S11: name classes (section 4.16)
 
--- the class d is c, or stands in it, in its excepts too
+-- the class d is c, or is in it, also in its excepts
 mutual
   pub data IsPartOf (d : NameClass) : NameClass → Type 0 where
     itself : IsPartOf d d
@@ -45,13 +45,14 @@ pub data IsNamespace : NameClass → Type 0 where
   namespace_is : {u : List ℕ} → IsNamespace (ns_name u)
   namespace_but_is : {u : List ℕ} {c : NameClass} → IsNamespace (ns_except u c)
 
--- in the class, inside an except of `*` there is a `*`, or inside one of `p:*` there is a `*` or a `q:*`
+-- the class has an except of `*` with a `*` inside, or an except of `p:*` with a `*` or a `q:*` inside
 pub data BreaksClassExcept (c : NameClass) : Type 0 where
   any_in_any : {d e : NameClass} → IsPartOf (any_except e) c → IsPartOf d e → IsAny d → BreaksClassExcept c
   any_in_namespace : {u : List ℕ} {d e : NameClass} → IsPartOf (ns_except u e) c → IsPartOf d e → IsAny d → BreaksClassExcept c
   namespace_in_namespace : {u : List ℕ} {d e : NameClass} → IsPartOf (ns_except u e) c → IsPartOf d e → IsNamespace d → BreaksClassExcept c
 
--- the namespace of which no attribute may be, without the slash that the namespace of declarations has at its end in documents
+-- the namespace that no attribute may have, without the slash at its end that the namespace of declarations has in
+-- documents
 abbrev pub barred_uri : List ℕ
 barred_uri = codes "http://www.w3.org/2000/xmlns"
 
@@ -69,7 +70,7 @@ pub data BreaksNameClass (s : Schema) : Type 0 where
 
 -- ---- S12: datatypes (section 4.16)
 
--- a datatype is not known, or a value is not allowed by its own
+-- a datatype is not known, or its own datatype does not allow a value
 pub data BreaksDatatype (s : Schema) : Type 0 where
   of_data : {x : Place} {d : Datatype} → IsWrittenAt s x (data_of d) → ¬ (IsKnownDatatype d) → BreaksDatatype s
   of_data_except : {x : Place} {d : Datatype} {p : Pattern} → IsWrittenAt s x (data_except d p) → ¬ (IsKnownDatatype d) → BreaksDatatype s
@@ -108,14 +109,14 @@ pub data BreaksExpansion (s : Schema) : Type 0 where
   of_start : ((t : Tree Leaf) → ¬ (IsTreeOf s (main_start s) t)) → BreaksExpansion s
   of_body : {l : Leaf} → IsReachedByTrees s l → ((t : Tree Leaf) → ¬ (IsBodyOf s l t)) → BreaksExpansion s
 
--- S17: a tree that is reached is too deep, 4.12 to 4.15 applied, or the name class of an element that is reached
+-- S17: after 4.12 to 4.15, a tree that is reached, or the name class of an element that is reached, is too deep
 pub data BreaksDepth (s : Schema) : Type 0 where
   deep_tree : {t : Tree Leaf} (p : Simple Leaf) → IsReachedTree s t → IsRewritten t (as_tree p) → depth_limit < depth p → BreaksDepth s
   deep_class : {l : Leaf} {c : NameClass} → IsReachedByTrees s l → IsSimpleClassOf l.class c → depth_limit < class_depth c → BreaksDepth s
 
 -- ---- the verdict
 
--- the schema breaks the clause, of those that come before its simple form
+-- the schema breaks the clause, one of S11 to S17
 pub data BreaksSchemaClause (s : Schema) : ℕ → Type 0 where
   in_name_class : BreaksNameClass s → BreaksSchemaClause s 11
   in_datatype : BreaksDatatype s → BreaksSchemaClause s 12
@@ -125,15 +126,15 @@ pub data BreaksSchemaClause (s : Schema) : ℕ → Type 0 where
   in_expansion : BreaksExpansion s → BreaksSchemaClause s 16
   in_depth : BreaksDepth s → BreaksSchemaClause s 17
 
--- the schema breaks the clause: one of those, or its simple form breaks a restriction
+-- the schema breaks the clause: one of S11 to S17, or a restriction that its simple form breaks
 pub data BreaksClause (s : Schema) : ℕ → Type 0 where
   in_schema : {clause : ℕ} → BreaksSchemaClause s clause → BreaksClause s clause
   in_restriction : {g : Grammar} {clause : ℕ} → IsSimpleGrammarOf s g → BreaksRestriction g clause → BreaksClause s clause
 
--- it breaks none
+-- the schema breaks no clause
 abbrev pub BreaksNoClause : Schema → Type 0
 BreaksNoClause s = (clause : ℕ) → ¬ (BreaksClause s clause)
 
--- the least clause that it breaks
+-- the least clause that the schema breaks
 abbrev pub IsLeastClause : Schema → ℕ → Type 0
 IsLeastClause s clause = IsLeast (BreaksClause s) clause

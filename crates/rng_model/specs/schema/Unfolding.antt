@@ -1,5 +1,5 @@
--- Unfolding: which tree a pattern stands for. Refs, parent refs and nested grammars are followed down to the elements, which
--- are leaves, named by their place and their position there (RELAX NG Specification, sections 4.18 and 4.19).
+-- Unfolding: which tree a pattern represents. Refs, parent refs and nested grammars are followed down to the elements,
+-- which are leaves, named by their place and their position there (RELAX NG Specification, sections 4.18 and 4.19).
 use Rattle.std.specs.Prelude.{◌≡◌, ℕ, List, ◌∷◌, Option, Some, None}
 use Rattle.rng_model.specs.names.Names.{NameClass}
 use Rattle.rng_model.specs.simple.Tree.{Datatype, Connector}
@@ -8,7 +8,7 @@ use Rattle.rng_model.specs.simple.Tree.{joined, Trees, no_trees, tree_and}
 use Rattle.rng_model.specs.schema.Patterns.{Place, Position, Pattern, Point, an_element, a_ref, a_parent_ref, a_grammar, pattern_tree}
 use Rattle.rng_model.specs.schema.Schema.{Schema, Definition, body}
 
--- an element by its place and its position there, with what is written there
+-- an element by its place and its position there, with its class and its body as they are written
 pub record Leaf : Type 0 where
   pub place : Place
   pub position : Position
@@ -19,35 +19,36 @@ pub record Leaf : Type 0 where
 abbrev pub content_of : Leaf → Tree Point
 content_of l = pattern_tree (0 ∷ l.position) l.content
 
--- what a point of a pattern is: an element, or a definition that is looked up; or nothing, for a parent ref in a grammar
+-- what a point of a pattern is looked up as: an element, or a definition; or nothing, for a parent ref in a grammar
 -- with none around it
 pub data Aim : Type 0 where
   to_element : Leaf → Aim
   to_definition : Definition → Aim
   to_nothing : Aim
 
--- the name in the grammar around
+-- the definition of the name in the grammar around
 abbrev pub outside : List ℕ → Option Place → Aim
 outside y None = to_nothing
 outside y (Some z) = to_definition (record { place = z; name = Some y })
 
--- what a point at a place is: a ref is looked up in the grammar there, a parent ref in the grammar around it, a nested
--- grammar is its start
+-- What a point at a place is looked up as. A ref is looked up in the grammar there, a parent ref in the grammar around
+-- it. A nested grammar is looked up as its start.
 abbrev pub aim : Schema → Place → Point → Aim
 aim s x (an_element n c p) = to_element (record { place = x; position = n; class = c; content = p })
 aim s x (a_ref y) = to_definition (record { place = x; name = Some y })
 aim s x (a_parent_ref y) = outside y (s.outer x)
 aim s x (a_grammar z) = to_definition (record { place = z; name = None })
 
--- The tree that a pattern at a place stands for: the least relation, so that a pattern whose expansion loops has none.
+-- The tree that a pattern at a place represents. This is the least relation, so a pattern whose expansion loops has no
+-- tree.
 mutual
   pub data Unfolds (s : Schema) : Place → Tree Point → Tree Leaf → Type 0 where
     -- an element is a leaf
     element_is : {x : Place} {l : Point} {m : Leaf} → aim s x l ≡ to_element m → Unfolds s x (leaf l) (leaf m)
-    -- what is looked up is the combined body that is found, at its place
+    -- a leaf that is looked up unfolds to the tree of the combined body that is found, at the place of that body
     found : {x : Place} {l : Point} {d : Definition} {a : Tree Point} {b : Tree Leaf} → aim s x l ≡ to_definition d → body s d ≡ Some a
         → Unfolds s d.place a b → Unfolds s x (leaf l) b
-    -- all else stands for itself, its parts unfolded
+    -- every other pattern is itself, with its parts unfolded
     not_allowed_is : {x : Place} → Unfolds s x not_allowed not_allowed
     empty_is : {x : Place} → Unfolds s x empty empty
     text_is : {x : Place} → Unfolds s x text text

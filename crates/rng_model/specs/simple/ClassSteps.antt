@@ -1,4 +1,4 @@
--- Steps of simplification in a name class, anywhere in it, and what is reached when no step leads on (RELAX NG
+-- Simplification steps in a name class, anywhere in it, and what is reached when no step applies (RELAX NG
 -- Specification, section 4.12).
 use Rattle.std.specs.Prelude.{ℕ, List}
 use Rattle.rng_model.specs.names.Names.{NameClass, any_except, ns_except, one_of, NameClasses, no_classes, class_and}
@@ -23,7 +23,7 @@ pub data ClassSteps : NameClass → NameClass → Type 0 where
   no_class_step : {c : NameClass} → ClassSteps c c
   class_step_and : {c d e : NameClass} → ClassStep c d → ClassSteps d e → ClassSteps c e
 
--- d is reached from c by steps, and no step leads on from d
+-- d is reached from c by steps, and no step applies to d
 pub record IsSimpleClassOf (c d : NameClass) : Type 0 where
   pub reached : ClassSteps c d
   pub simple : (e : NameClass) → ClassStep d e → ⊥

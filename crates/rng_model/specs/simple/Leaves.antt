@@ -25,7 +25,7 @@ mutual
     in_this : {l : L} {a : Tree L} {ts : Trees L} → LeafIn l a → LeafAmong l (tree_and a ts)
     in_later : {l : L} {a : Tree L} {ts : Trees L} → LeafAmong l ts → LeafAmong l (tree_and a ts)
 
--- each leaf of the tree is one of the first n numbers
+-- each leaf of the tree is a number below n
 abbrev pub AreLeavesBelow : ℕ → Tree ℕ → Type 0
 AreLeavesBelow n a = (k : ℕ) → LeafIn k a → k < n
 

@@ -1,5 +1,5 @@
 -- The simple form of a schema: a start, and each element that is reached from it through simple forms (RELAX NG
--- Specification, sections 4.12 to 4.21), and what it is for a numbered grammar to be that form.
+-- Specification, sections 4.12 to 4.21). Also, when a numbered grammar is that form.
 use Rattle.std.specs.Prelude.{◌≡◌, ℕ, ◌<◌, List, length, slice_get, Some, All, Contains}
 use Rattle.rng_model.specs.names.Names.{NameClass}
 use Rattle.rng_model.specs.simple.Tree.{Tree, Simple, as_tree}
@@ -30,8 +30,8 @@ pub record IsElementOf (s : Schema) (e : Element) : Type 0 where
   pub is_tree : IsBodyOf s e.name tree
   pub body : IsSimpleFormOf tree e.body
 
--- the simple form of the schema: that of the start's tree, and each element that is reached, and no other; the body of an
--- element may be notAllowed
+-- the simple form of the schema: the simple form of the start's tree, and exactly the elements that are reached; the
+-- body of an element may be notAllowed
 pub record IsSimpleFormOfSchema (s : Schema) (f : SimpleForm) : Type 0 where
   pub tree : Tree Leaf
   pub is_tree : IsTreeOf s (main_start s) tree
@@ -39,8 +39,8 @@ pub record IsSimpleFormOfSchema (s : Schema) (f : SimpleForm) : Type 0 where
   pub elements : All (IsElementOf s) f.elements
   pub reached : (l : Leaf) → IsReachedBySimpleForms s l → (e : Element) × Contains f.elements e × (e.name ≡ l)
 
--- The grammar is this form up to numbering: a one-to-one pairing of its numbers with the elements of the form carries
--- start, name classes and bodies over.
+-- The grammar is this form up to numbering. A one-to-one pairing of its numbers with the elements of the form maps the
+-- start, the name classes and the bodies to those of the form.
 pub record IsSameUpToNumbering (g : Grammar) (f : SimpleForm) : Type 0 where
   -- the element with this number
   pub element : ℕ → Leaf

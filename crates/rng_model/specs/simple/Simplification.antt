@@ -1,6 +1,6 @@
--- Steps of simplification: one application of one rule, anywhere in a tree, and what is reached when no step leads on. The
--- rules are of two groups: those that write one kind of pattern by others (RELAX NG Specification, sections 4.12 to 4.15),
--- and those that carry notAllowed and empty outward (sections 4.20 and 4.21).
+-- Simplification steps: one application of one rule, anywhere in a tree, and what is reached when no step applies.
+-- There are two groups of rules: those that write one kind of pattern by others (RELAX NG Specification, sections 4.12
+-- to 4.15), and those that propagate notAllowed and empty (sections 4.20 and 4.21).
 use Rattle.std.specs.Prelude.{◌≡◌}
 use Rattle.rng_model.specs.names.Names.{NameClass}
 use Rattle.rng_model.specs.simple.ClassSteps.{ClassStep}
@@ -31,7 +31,7 @@ mutual
     optional_is : {a : Tree L} → Step rewriting (optional a) (joined choice a empty no_trees)
     -- 4.15: zeroOrMore is a choice of oneOrMore and empty
     zero_or_more_is : {a : Tree L} → Step rewriting (zero_or_more a) (joined choice (one_or_more a) empty no_trees)
-    -- 4.20: what has a notAllowed child, and is no choice, is notAllowed
+    -- 4.20: a pattern with a notAllowed child is notAllowed, unless it is a choice
     attribute_not_allowed : {c : NameClass} → Step propagation (attribute c not_allowed) not_allowed
     list_not_allowed : Step propagation (list not_allowed) not_allowed
     one_or_more_not_allowed : Step propagation (one_or_more not_allowed) not_allowed
@@ -39,7 +39,8 @@ mutual
     second_not_allowed : {k : Connector} {a : Tree L} {ts : Trees L} → (k ≡ choice → ⊥) → Step propagation (joined k a not_allowed ts) not_allowed
     other_not_allowed : {k : Connector} {a b : Tree L} {ts : Trees L} → (k ≡ choice → ⊥) → HasNotAllowed ts
         → Step propagation (joined k a b ts) not_allowed
-    -- 4.20: a choice with one notAllowed side is the other side, with two notAllowed; a notAllowed except goes
+    -- 4.20: a choice with one notAllowed side is the other side; with two, it is notAllowed; a notAllowed except is
+    -- removed
     no_first_side : {b : Tree L} → Step propagation (joined choice not_allowed b no_trees) b
     no_second_side : {a : Tree L} → Step propagation (joined choice a not_allowed no_trees) a
     no_except : {d : Datatype} → Step propagation (data_except d not_allowed) (data_of d)
@@ -48,9 +49,9 @@ mutual
     -- 4.21: a group or interleave with one empty side is the other side
     first_empty : {k : Connector} {b : Tree L} → (k ≡ choice → ⊥) → Step propagation (joined k empty b no_trees) b
     second_empty : {k : Connector} {a : Tree L} → (k ≡ choice → ⊥) → Step propagation (joined k a empty no_trees) a
-    -- 4.21: a choice whose second side is empty and whose first is not changes its sides
+    -- 4.21: a choice with empty as its second side, and not as its first, swaps its sides
     sides_change : {a : Tree L} → (a ≡ empty → ⊥) → Step propagation (joined choice a empty no_trees) (joined choice empty a no_trees)
-    -- 4.21: one empty or more is empty
+    -- 4.21: oneOrMore of empty is empty
     one_or_more_empty : Step propagation (one_or_more empty) empty
     -- a step inside the tree
     in_attribute : {g : RuleGroup} {c : NameClass} {a b : Tree L} → Step g a b → Step g (attribute c a) (attribute c b)
@@ -78,7 +79,7 @@ pub data Steps {L : Type 0} (IsStep : Tree L → Tree L → Type 0) : Tree L →
   no_step : {a : Tree L} → Steps IsStep a a
   step_and : {a b c : Tree L} → IsStep a b → Steps IsStep b c → Steps IsStep a c
 
--- b is reached from a by these steps, and none leads on from b
+-- b is reached from a by these steps, and none applies to b
 pub record IsLast {L : Type 0} (IsStep : Tree L → Tree L → Type 0) (a b : Tree L) : Type 0 where
   pub reached : Steps IsStep a b
   pub last : (c : Tree L) → IsStep b c → ⊥

@@ -1,4 +1,4 @@
--- What the simplification of a schema has to answer.
+-- What the simplification of a schema has to return.
 use Rattle.std.specs.Prelude.{ℕ, ◌<◌, length}
 use Rattle.rng_model.specs.schema.Least.{IsLeast}
 use Rattle.rng_model.specs.restrictions.Restrictions.{IsPart, StandsIn}
@@ -9,12 +9,12 @@ use Rattle.rng_model.specs.simple.Tree.{Simple}
 use Rattle.rng_model.specs.declared.fault.SchemaFault.{SchemaFault}
 use Rattle.rng_model.specs.declared.fault.SchemaFault.TheVariants as faults
 
--- the least clause that the schema breaks, of those that come before its simple form; want of memory tells nothing
+-- the least clause that the schema breaks, of S11 to S17; out of memory claims nothing
 abbrev pub IsSchemaFault : Schema → SchemaFault → Type 0
 IsSchemaFault s (faults.Clause clause) = IsLeast (BreaksSchemaClause s) clause
 IsSchemaFault s (faults.File clause name) = ⊥
 IsSchemaFault s faults.Memory = Unit {0}
 
--- the tables hold no more than the grammar: each pattern stands in the start, or in the body of an element
+-- the tables hold no more than the grammar: each pattern is in the start, or in the body of an element
 abbrev pub AreAllUsed : Table → Type 0
 AreAllUsed t = (i : ℕ) → i < length t.patterns → (part : Simple ℕ) × IsPart (grammar_of t) part × StandsIn (tree_at t.patterns (record { 0 = i })) part

@@ -1,4 +1,4 @@
--- A simple grammar in tables, and the trees that it stands for.
+-- A simple grammar in tables, and the trees that it represents.
 use Rattle.std.specs.Prelude.{◌≡◌, ℕ, ◌<◌, ⊤, List, [], ◌∷◌, ◌++◌, length, fold, map, All, slice_get, slice_index_or, Some, Bool, true, ◌==◌, ◌&&◌, IsTrue}
 use Rattle.std.specs.Prelude.{string_bytes}
 use Rattle.std.specs.List.{list_all}
@@ -25,7 +25,7 @@ pub record Table : Type 0 where
   pub elements : List (NameClass × PatternId)
   pub start : PatternId
 
--- one pattern as a tree, over the trees of its children
+-- a pattern as a tree, made of the trees of its children
 abbrev pub tree_over : (PatternId → tree.Simple ℕ) → Simple → tree.Simple ℕ
 tree_over of simple.NotAllowed = tree.s_not_allowed
 tree_over of simple.Empty = tree.s_empty
@@ -48,7 +48,7 @@ tree_in ts id = slice_index_or ts id.0 tree.s_not_allowed
 abbrev pub with_tree : List (tree.Simple ℕ) → Simple → List (tree.Simple ℕ)
 with_tree ts p = ts ++ tree_over (tree_in ts) p ∷ []
 
--- the tree of each pattern, made of those before it
+-- the trees of all patterns, each made of those before it
 unfoldable pub trees : List Simple → List (tree.Simple ℕ)
 trees ps = fold with_tree [] ps
 
@@ -56,12 +56,12 @@ trees ps = fold with_tree [] ps
 abbrev pub tree_at : List Simple → PatternId → tree.Simple ℕ
 tree_at ps = tree_in (trees ps)
 
--- equal patterns have one number
+-- equal patterns have the same number
 abbrev pub AreToldApart : Table → Type 0
 AreToldApart t = (i j : ℕ) → i < length t.patterns → j < length t.patterns
     → tree_at t.patterns (record { 0 = i }) ≡ tree_at t.patterns (record { 0 = j }) → i ≡ j
 
--- what a table stands for: a start, and the class and the body of each element
+-- what a table represents: a start, and the class and the body of each element
 pub record Grammar : Type 0 where
   pub start : tree.Simple ℕ
   pub elements : List (names.NameClass × tree.Simple ℕ)
@@ -72,19 +72,20 @@ grammar_of t = record {
   elements = map (λ e. (class_of e.0, tree_at t.patterns e.1)) t.elements;
 }
 
--- the grammar is in the simple syntax (RELAX NG Specification, section 5): no notAllowed but as a whole start or body
+-- the grammar is in the simple syntax (RELAX NG Specification, section 5): notAllowed occurs only as a whole start or
+-- body
 pub record IsInSimpleSyntax (g : Grammar) : Type 0 where
   pub start : IsSimpleBody g.start
   pub bodies : All (λ e. IsSimpleBody e.1) g.elements
 
--- ---- a grammar read by the rules of matching
+-- ---- how the rules of matching read a grammar
 
 -- the grammar lists this class and this body for the element
 pub data IsListed (g : Grammar) : Unit {0} → ℕ → names.NameClass → Unit {0} → Tree ℕ → Type 0 where
   is_listed : {x y : Unit {0}} {k : ℕ} {c : names.NameClass} {t : Tree ℕ} {s : tree.Simple ℕ} → slice_get g.elements k ≡ Some (c, s) → t ≡ as_tree s
       → IsListed g x k c y t
 
--- no leaf stands for another tree
+-- no leaf represents another tree
 pub data Nothing (X L : Type 0) : X → L → X → Tree L → Type 0 where
 
 abbrev pub grammar_leaves : Grammar → Texts → Leaves (Unit {0}) ℕ
@@ -94,9 +95,9 @@ grammar_leaves g texts = record { StandsFor = Nothing (Unit {0}) ℕ; IsElement 
 abbrev pub IsValidBy : Grammar → Texts → Item → Type 0
 IsValidBy g texts root = IsValid (grammar_leaves g texts) In texts tt (as_tree g.start) root
 
--- ---- what holds of the tables
+-- ---- properties of the tables
 
--- each child stands below n
+-- the position of each child is below n
 abbrev pub AreChildrenBelow : ℕ → Simple → Type 0
 AreChildrenBelow n simple.NotAllowed = ⊤
 AreChildrenBelow n simple.Empty = ⊤
@@ -128,7 +129,7 @@ IsLeafListed n (simple.Group a b) = ⊤
 IsLeafListed n (simple.Interleave a b) = ⊤
 IsLeafListed n (simple.Choice a b) = ⊤
 
--- one level of: each choice has two members, told of the classes inside
+-- one level of the test that each choice has two members, given the results for the classes inside
 abbrev pub paired_step : NameClass-F Bool → Bool
 paired_step NameClass-F.Any = true
 paired_step (NameClass-F.AnyExcept except) = except.value
@@ -141,7 +142,7 @@ paired_step (NameClass-F.Choice all) = (length all.items == 2) && list_all (λ b
 abbrev pub IsPaired : NameClass → Type 0
 IsPaired c = IsTrue (fold-NameClass Bool paired_step c)
 
--- the same of the name class of an attribute
+-- the same for the name class of an attribute
 abbrev pub IsClassPaired : Simple → Type 0
 IsClassPaired simple.NotAllowed = ⊤
 IsClassPaired simple.Empty = ⊤
@@ -157,7 +158,8 @@ IsClassPaired (simple.Group a b) = ⊤
 IsClassPaired (simple.Interleave a b) = ⊤
 IsClassPaired (simple.Choice a b) = ⊤
 
--- the datatype of a data or a value is known, with parameters that it takes (RELAX NG Specification, section 4.16); that of a value has none
+-- the datatype of a data or a value is known, with parameters that it takes (RELAX NG Specification, section 4.16); the
+-- datatype of a value has none
 abbrev pub IsDatatypeKnown : Simple → Type 0
 IsDatatypeKnown simple.NotAllowed = ⊤
 IsDatatypeKnown simple.Empty = ⊤
@@ -173,7 +175,7 @@ IsDatatypeKnown (simple.Group a b) = ⊤
 IsDatatypeKnown (simple.Interleave a b) = ⊤
 IsDatatypeKnown (simple.Choice a b) = ⊤
 
--- each pattern's children stand before it
+-- each pattern's children are before it
 abbrev pub Falls : List Simple → Type 0
 Falls ps = (i : ℕ) (p : Simple) → slice_get ps i ≡ Some p → AreChildrenBelow i p
 

@@ -9,13 +9,13 @@ pub record Datatype : Type 0 where
   pub name : List ℕ
   pub parameters : List (List ℕ × List ℕ)
 
--- what stands between members: `|`, `,` or `&`
+-- the connector of members: `|`, `,` or `&`
 pub data Connector : Type 0 where
   choice : Connector
   group : Connector
   interleave : Connector
 
--- a tree as it is written: two members or more about a connector (RELAX NG Specification, section 3)
+-- a tree as it is written: two or more members joined by a connector (RELAX NG Specification, section 3)
 mutual
   pub data Tree (L : Type 0) : Type 0 where
     not_allowed : Tree L
@@ -37,7 +37,7 @@ mutual
     no_trees : Trees L
     tree_and : Tree L → Trees L → Trees L
 
--- a tree in the simple syntax: two sides about a connector (RELAX NG Specification, section 5)
+-- a tree in the simple syntax: two sides joined by a connector (RELAX NG Specification, section 5)
 pub data Simple (L : Type 0) : Type 0 where
   s_not_allowed : Simple L
   s_empty : Simple L
@@ -51,7 +51,7 @@ pub data Simple (L : Type 0) : Type 0 where
   s_one_or_more : Simple L → Simple L
   s_joined : Connector → Simple L → Simple L → Simple L
 
--- the same tree among the trees as written
+-- the same tree, as a tree as written
 abbrev pub as_tree : {L : Type 0} → Simple L → Tree L
 as_tree s_not_allowed = not_allowed
 as_tree s_empty = empty
@@ -65,7 +65,7 @@ as_tree (s_value d v) = value d v
 as_tree (s_one_or_more s) = one_or_more (as_tree s)
 as_tree (s_joined k s u) = joined k (as_tree s) (as_tree u) no_trees
 
--- notAllowed stands nowhere in the tree
+-- notAllowed does not occur in the tree
 abbrev pub IsFreeOfNotAllowed : {L : Type 0} → Simple L → Type 0
 IsFreeOfNotAllowed s_not_allowed = ⊥
 IsFreeOfNotAllowed s_empty = Unit {0}
@@ -79,8 +79,8 @@ IsFreeOfNotAllowed (s_value d v) = Unit {0}
 IsFreeOfNotAllowed (s_one_or_more s) = IsFreeOfNotAllowed s
 IsFreeOfNotAllowed (s_joined k s u) = IsFreeOfNotAllowed s × IsFreeOfNotAllowed u
 
--- what a start or a body may be in the simple syntax: notAllowed as a whole, or a tree in which it stands nowhere
--- (RELAX NG Specification, section 5 after 4.20)
+-- what a start or a body may be in the simple syntax: notAllowed as a whole, or a tree in which notAllowed does not
+-- occur (RELAX NG Specification, section 5 after 4.20)
 abbrev pub IsSimpleBody : {L : Type 0} → Simple L → Type 0
 IsSimpleBody s_not_allowed = Unit {0}
 IsSimpleBody s_empty = Unit {0}

@@ -1,5 +1,4 @@
--- How a text is cut at its blanks. A text is a list of bytes; as blanks are bytes of their own in UTF-8, all of this may be
--- read of a list of characters too.
+-- The view of an iterator over the pieces of a text.
 use Rattle.std.specs.Prelude.{ℕ, List}
 use Rattle.rng_model.specs.declared.blanks.Pieces.{Pieces}
 use Rattle.rng_model.specs.datatypes.Blanks.{pieces}

@@ -1,4 +1,4 @@
--- What the parts of a schema of several grammars are, apart from where they lie in memory.
+-- What the parts of a schema of several grammars are, without their place in memory.
 use Rattle.std.specs.Prelude.{Bool, List, map, reverse, Option, Some, None, option_map, string_bytes}
 use Rattle.std.specs.Str.{bytes_eq}
 use Rattle.rng_model.specs.declared.datatype.Datatype.{Datatype}
@@ -12,24 +12,24 @@ use Rattle.rng_model.specs.names.NameViews.{class_of}
 use Rattle.rng_model.specs.schema.Patterns as pattern
 use Rattle.rng_model.specs.schema.Schema as schema
 
--- the innermost number first
+-- the place as the numbers, the innermost first
 abbrev pub place_of : Place → pattern.Place
 place_of p = reverse p.numbers.items
 
--- what `==` answers of two places, and by which a map with places as its keys tells them apart
+-- what `==` returns for two places; a map with places as its keys distinguishes them by it
 abbrev pub place_eq : Place → Place → Bool
 place_eq p q = bytes_eq p.numbers.items q.numbers.items
 
--- the entries of such a map, seen by their places
+-- the entries of such a map, with the views of their places
 abbrev pub by_place : {V : Type 0} → List (Place × V) → List (pattern.Place × V)
 by_place es = map (λ e. (place_of e.0, e.1)) es
 
--- a datatype, with what it excepts, if it does
+-- a datatype, with its except, if it has one
 abbrev pub data_pattern : Datatype → Option pattern.Pattern → pattern.Pattern
 data_pattern d None = pattern.data_of (datatype_of d)
 data_pattern d (Some p) = pattern.data_except (datatype_of d) p
 
--- one level of a pattern, with each pattern inside already seen
+-- one level of a pattern, with each pattern inside already as its view
 abbrev pub schema_pattern_step : SchemaPattern-F pattern.Pattern → pattern.Pattern
 schema_pattern_step SchemaPattern-F.NotAllowed = pattern.not_allowed
 schema_pattern_step SchemaPattern-F.Empty = pattern.empty

@@ -12,25 +12,25 @@ use Rattle.rng_model.specs.declared.simple.PatternId.{PatternId}
 use Rattle.rng_model.specs.declared.simple.Simple.TheVariants as simple
 use Rattle.rng_names.specs.plain.Holding.{pair, same_name}
 
--- the name that stands for each key, and for each namespace that is written the key of its other names
+-- the representative of each key, and for each namespace that is written the key of its other names
 pub record Keys : Type 0 where
   pub names : List Name
   pub others : List (List ℕ × ℕ)
 
--- the key of a name: its own, or that of the other names of its namespace, or 0, which is that of all others
+-- the key of a name: its own, or that of the other names of its namespace, or 0, the key of all others
 abbrev pub key_of : Keys → Name → ℕ
 key_of keys q = unwrap_or (position (same_name q) keys.names) (unwrap_or (lookup (bytes_eq q.ns) keys.others) 0)
 
--- the name that stands for a key
+-- the representative of a key
 abbrev pub name_at : Keys → ℕ → Name
 name_at keys k = slice_index_or keys.names k (pair [] [])
 
--- a name stands for each key
+-- each key has a representative
 pub record AreKeys (keys : Keys) : Type 0 where
   pub first : 0 < length keys.names
   pub others : (u : List ℕ) (k : ℕ) → lookup (bytes_eq u) keys.others ≡ Some k → k < length keys.names
 
--- the class holds a name exactly if it holds the one that stands for its key (RELAX NG Specification, section 6.1)
+-- the class holds a name exactly if it holds the representative of its key (RELAX NG Specification, section 6.1)
 abbrev pub Serves : Keys → NameClass → Type 0
 Serves keys c = (q : Name) → In c q ↔ In c (name_at keys (key_of keys q))
 

@@ -8,7 +8,7 @@ use Rattle.rng_names.specs.plain.Holding.{holds, pair, same_name}
 abbrev pub both_hold : NameClass → NameClass → Name → Bool
 both_hold c d q = holds c q && holds d q
 
--- the test passes for a name that is written, or for the fresh local name in a namespace that is
+-- the test passes for a name that is written, or for the fresh local name in a namespace that is written
 abbrev mutual
   pub is_met : (Name → Bool) → List ℕ → NameClass → Bool
   is_met test fresh any_name = false
@@ -22,7 +22,7 @@ abbrev mutual
   is_some_met test fresh no_classes = false
   is_some_met test fresh (class_and c cs) = is_met test fresh c || is_some_met test fresh cs
 
--- the bytes of the longest text that is written
+-- the number of bytes in the longest text that is written
 abbrev mutual
   pub longest : NameClass → ℕ
   longest any_name = 0

@@ -7,11 +7,11 @@ use Rattle.rng_model.specs.names.NameViews.{name_of}
 use Rattle.rng_names.specs.plain.Written.{writes_name, writes_ns}
 use Rattle.rng_names.specs.declared.written_names.WrittenNames.{WrittenNames}
 
--- texts with their numbers, as they are seen
+-- the view of texts with their numbers
 abbrev pub seen_numbers : {Z : Type 0} → List (String Z × ℕ) → List (List ℕ × ℕ)
 seen_numbers es = map (λ e. (string_bytes e.0, e.1)) es
 
--- names, and for each namespace the bytes of its longest local name
+-- names, and for each namespace the number of bytes in its longest local name
 pub record Written : Type 0 where
   pub names : List Name
   pub longest : List (List ℕ × ℕ)
@@ -19,22 +19,22 @@ pub record Written : Type 0 where
 abbrev pub written_in : WrittenNames → Written
 written_in w = record { names = map name_of w.names.keys; longest = seen_numbers w.longest.entries }
 
--- a local name of so many bytes is no longer than the longest of the namespace
+-- a local name of this many bytes is not longer than the longest one of the namespace
 abbrev pub IsMeasured : Written → List ℕ → ℕ → Type 0
 IsMeasured w u bytes = (m : ℕ) × (lookup (bytes_eq u) w.longest ≡ Some m) × (bytes ≤ m)
 
--- the name is one of them, and no longer than the longest of its namespace
+-- the name is one of them, and not longer than the longest one of its namespace
 pub record HasName (w : Written) (q : Name) : Type 0 where
   pub place : ℕ
   pub at : slice_get w.names place ≡ Some q
   pub measured : IsMeasured w q.ns (length q.local)
 
--- what is written in the class is collected
+-- everything that is written in the class is collected
 pub record Knows (w : Written) (c : NameClass) : Type 0 where
   pub names : (q : Name) → writes_name c q ≡ true → HasName w q
   pub namespaces : (u : List ℕ) → writes_ns c u ≡ true → IsMeasured w u 0
 
--- the new names have the places of the old ones, and no namespace has lost
+-- the new names have the places of the old ones, and the longest local names have not become shorter
 pub record Grows (old : Written) (new : Written) : Type 0 where
   pub names : (k : ℕ) (q : Name) → slice_get old.names k ≡ Some q → slice_get new.names k ≡ Some q
   pub longest : (u : List ℕ) (bytes : ℕ) → IsMeasured old u bytes → IsMeasured new u bytes

@@ -1,18 +1,16 @@
 -- The alternatives of a class, and a table of them.
-use Rattle.std.specs.Prelude.{◌≡◌, ◌<◌, ℕ, List, length, Bool, true, false, not, ◌&&◌, ◌||◌, Option, Some, None, option_map}
+use Rattle.std.specs.Prelude.{◌≡◌, ◌<◌, ◌≤◌, ℕ, List, [], ◌∷◌, ◌++◌, length, slice_get, Bool, true, false, not, ◌&&◌, ◌||◌, Option, Some, None}
 use Rattle.std.specs.Borrow.{Bor}
 use Rattle.std.specs.List.{list_any}
-use Rattle.std.specs.Option.{option_eq}
 use Rattle.std.specs.Str.{bytes_eq}
-use Rattle.std.specs.HashSet.{HashSet, contains_by}
 use Rattle.rng_model.specs.names.Names.{Name, NameClass, NameClasses, any_name, any_except, ns_name, ns_except, name_is, one_of, no_classes, class_and}
 use Rattle.rng_model.specs.names.NameViews.{class_of}
 use Rattle.rng_names.specs.plain.Holding.{holds}
-use Rattle.rng_names.specs.plain.Written.{longest}
-use Rattle.rng_names.specs.declared.alternatives.NameOrNs.{NameOrNs}
+use Rattle.rng_names.specs.views.NameSets.{has, same_parts}
 use Rattle.rng_names.specs.declared.alternatives.Alternatives.{Alternatives}
+use Rattle.rng_names.specs.declared.alternatives.Excepted.{Excepted}
 
--- the test passes for a class that is none of a choice, or for one of the members of a choice, at any depth
+-- the test passes for a class that is not a choice, or for one of the members of a choice, at any depth
 abbrev mutual
   pub has_alternative : (NameClass → Bool) → NameClass → Bool
   has_alternative test any_name = test any_name
@@ -28,10 +26,6 @@ abbrev mutual
 
 -- ---- which alternatives there are
 
--- the same namespace, and the same local name or none in both
-abbrev pub same_parts : List ℕ → Option (List ℕ) → List ℕ → Option (List ℕ) → Bool
-same_parts u l v m = bytes_eq u v && option_eq bytes_eq l m
-
 -- every name
 abbrev pub is_any : NameClass → Bool
 is_any any_name = true
@@ -41,7 +35,7 @@ is_any (ns_except u c) = false
 is_any (name_is n) = false
 is_any (one_of c d cs) = false
 
--- the name of a namespace and a local name, or all names of a namespace where there is no local name
+-- the name with a namespace and a local name, or all names of a namespace if there is no local name
 abbrev pub is_written : List ℕ → Option (List ℕ) → NameClass → Bool
 is_written u l any_name = false
 is_written u l (any_except c) = false
@@ -50,7 +44,7 @@ is_written u l (ns_except v c) = false
 is_written u l (name_is n) = same_parts n.ns (Some n.local) u l
 is_written u l (one_of c d cs) = false
 
--- one with an except, which holds the name
+-- a class with an except that holds the name
 abbrev pub is_excepted : Name → NameClass → Bool
 is_excepted q any_name = false
 is_excepted q (any_except c) = not (holds c q)
@@ -61,41 +55,79 @@ is_excepted q (one_of c d cs) = false
 
 -- ---- the table
 
--- a local name, if there is one, as it is seen
-abbrev pub seen : Option (Bor (List ℕ)) → Option (List ℕ)
-seen l = option_map (λ x. x.now) l
+-- the namespace is this one, if there is one
+abbrev pub in_scope : Option (Bor (List ℕ)) → List ℕ → Bool
+in_scope None v = true
+in_scope (Some u) v = bytes_eq u.now v
 
-abbrev pub is_key : List ℕ → Option (List ℕ) → NameOrNs → Bool
-is_key u l k = same_parts u l k.ns.now (seen k.local)
-
-module _ {S : Type 0} where
-  abbrev pub has : HashSet NameOrNs S → List ℕ → Option (List ℕ) → Bool
-  has table u l = contains_by (is_key u l) table
-
--- one with an except holds the name
+-- an alternative with an except holds the name
 abbrev pub excepted_hold : Alternatives → Name → Bool
-excepted_hold all q = list_any (λ c. holds (class_of c.now) q) all.excepted.items
+excepted_hold all q = list_any (λ e. in_scope e.ns q.ns && not (holds (class_of e.except.now) q)) all.excepted.items
 
--- an alternative other than a name holds the name
-abbrev pub hold_fresh : Alternatives → Name → Bool
-hold_fresh all q = all.any || (has all.written q.ns None || excepted_hold all q)
+-- an alternative without an except holds the name
+abbrev pub told : Alternatives → Name → Bool
+told all q = all.any || (has all.written q.ns None || has all.written q.ns (Some q.local))
 
 -- an alternative holds the name
 abbrev pub hold : Alternatives → Name → Bool
-hold all q = has all.written q.ns (Some q.local) || hold_fresh all q
+hold all q = told all q || excepted_hold all q
 
--- the second table has the alternatives of the first and others, given by which tests pass for one of them
+-- the second table has the alternatives of the first one, and others, given by the tests that pass for one of them
 pub record Adds (old : Alternatives) (new : Alternatives) (others : (NameClass → Bool) → Bool) : Type 0 where
   pub class : new.class ≡ old.class
   pub any : new.any ≡ (old.any || others is_any)
   pub written : (u : List ℕ) (l : Option (List ℕ)) → has new.written u l ≡ (has old.written u l || others (is_written u l))
   pub excepted : (q : Name) → excepted_hold new q ≡ (excepted_hold old q || others (is_excepted q))
 
--- the table answers as its class does, for a local name that is not written without its names
-pub record Stands (all : Alternatives) : Type 0 where
-  pub held : (q : Name) → hold all q ≡ holds (class_of all.class.now) q
-  pub fresh : (q : Name) → longest (class_of all.class.now) < length q.local → hold_fresh all q ≡ holds (class_of all.class.now) q
+-- the table has no alternatives
+pub record IsBare (all : Alternatives) : Type 0 where
+  pub any : all.any ≡ false
+  pub written : all.written ≡ []
+  pub excepted : all.excepted.items ≡ []
 
--- the text is longer than each that is written in the class
-abbrev pub IsFresh : List ℕ → Alternatives → Type 0
-IsFresh fresh all = longest (class_of all.class.now) < length fresh
+-- the table holds the names that its class holds
+abbrev pub Stands : Alternatives → Type 0
+Stands all = (q : Name) → hold all q ≡ holds (class_of all.class.now) q
+
+-- ---- tables of excepts, by number
+
+-- the except has a table before the k-th one
+pub record HasTable (tables : List Alternatives) (k : ℕ) (e : Excepted) : Type 0 where
+  pub below : e.table < k
+  pub table : Alternatives
+  pub at : slice_get tables e.table ≡ Some table
+  pub class : table.class ≡ e.except
+
+-- each except of a table has a table before the k-th one
+abbrev pub LinkedBelow : List Alternatives → ℕ → Alternatives → Type 0
+LinkedBelow tables k all = (j : ℕ) (e : Excepted) → slice_get all.excepted.items j ≡ Some e → HasTable tables k e
+
+abbrev pub Linked : List Alternatives → Alternatives → Type 0
+Linked tables all = LinkedBelow tables (length tables) all
+
+-- the table holds the names that its class holds, and its excepts have tables before it
+pub record IsTable (tables : List Alternatives) (k : ℕ) (all : Alternatives) : Type 0 where
+  pub stands : Stands all
+  pub linked : LinkedBelow tables k all
+
+abbrev pub AreTables : List Alternatives → Type 0
+AreTables tables = (k : ℕ) (all : Alternatives) → slice_get tables k ≡ Some all → IsTable tables k all
+
+-- the old tables keep their numbers, and all are such tables if the old ones are
+pub record Grows (old : List Alternatives) (new : List Alternatives) : Type 0 where
+  pub longer : length old ≤ length new
+  pub kept : (k : ℕ) (all : Alternatives) → slice_get old k ≡ Some all → slice_get new k ≡ Some all
+  pub tables : AreTables old → AreTables new
+
+-- the table of an except is added at the end of the tables, and the except to another table
+pub record AddsExcept (xs : List Alternatives) (ys : List Alternatives) (old : Alternatives) (new : Alternatives) (except : Alternatives) : Type 0 where
+  pub tables : ys ≡ xs ++ except ∷ []
+  pub entry : Excepted
+  pub entries : new.excepted.items ≡ old.excepted.items ++ entry ∷ []
+  pub number : entry.table ≡ length xs
+  pub class : entry.except ≡ except.class
+
+-- all names, or those of a namespace, except those of a class
+abbrev pub excepting : Option (List ℕ) → NameClass → NameClass
+excepting None c = any_except c
+excepting (Some u) c = ns_except u c

@@ -8,7 +8,7 @@ use Rattle.rng_model.specs.declared.simple.PatternId.{PatternId}
 use Rattle.rng_model.specs.declared.simple.Simple.{Simple}
 use Rattle.rng_model.specs.declared.simple.Simple.TheVariants as simple
 
--- a class, if there is one, as it is seen
+-- the view of an optional class
 abbrev pub seen_class : Option (Bor NameClass) → Option names.NameClass
 seen_class class = option_map (λ c. class_of c.now) class
 

@@ -1,4 +1,4 @@
--- What is left of a pattern once a string or an attribute has come first.
+-- What is left of a pattern after a string or an attribute.
 use Rattle.std.specs.Prelude.{◌≡◌, ◌↔◌, ℕ, ◌<◌, List, [], ◌∷◌, Bool, true, All, length}
 use Rattle.rng_model.specs.simple.Tree.{Simple}
 use Rattle.rng_model.specs.matching.Document.{Attribute, Item, a_text}
@@ -44,33 +44,33 @@ abbrev pub IsLeafFor : First → Simple ℕ → Type 0
 IsLeafFor (firsts.Text place s) p = IsItemLeaf p
 IsLeafFor (firsts.Attribute a) p = IsAttributeLeaf p
 
--- these attributes and items are those that p takes behind it
+-- these attributes and items are those that p takes after it
 abbrev pub AreThoseBehind : Reading → First → Simple ℕ → (List Attribute → List Item → Type 0) → Type 0
 AreThoseBehind g (firsts.Text place s) p Those = (ns : List Item) → IsBare (a_text s.now ∷ ns) → Those [] ns ↔ Takes g p [] (a_text s.now ∷ ns)
 AreThoseBehind g (firsts.Attribute a) p Those = (xs : List Attribute) (ns : List Item) → Distinct (attribute_of a.now ∷ xs)
     → Those xs ns ↔ Takes g p (attribute_of a.now ∷ xs) ns
 
--- ---- what is left behind it
+-- ---- what is left after it
 
--- the second number's pattern is what is left of the first one's, where that obeys the place
+-- the pattern of the second number is what is left of the first one's, if that obeys the place
 pub record IsLeft (t : Table) (old new : List Node) (first : First) (number rest : PatternNumber) : Type 0 where
   pub inside : rest.0 < length new
   pub law : Obeys (place_of first) (tree_of t old number.0)
       → AreThoseBehind (reading_of t) first (tree_of t old number.0) (Takes (reading_of t) (tree_of t new rest.0))
   pub kept : Obeys (place_of first) (tree_of t old number.0) → Obeys (place_of first) (tree_of t new rest.0)
 
--- each leaf may take it, and leaves and rests obey what they have to
+-- each leaf may take it, and leaves and rests obey what they have to obey
 abbrev pub AreFor : First → List tree.Way → Type 0
 AreFor first ws = EachWay (λ l. IsLeafFor first l × Obeys (place_of first) l) (Obeys (place_of first)) ws
 
--- numbered ways are those by which a pattern takes it
+-- the numbered ways are those by which a pattern takes it
 pub record AreWaysFor (t : Table) (ns : List Node) (first : First) (p : Simple ℕ) (ways : List LeafWay) : Type 0 where
   pub inside : AreInside ns ways
   pub law : Obeys (place_of first) p
       → AreThoseBehind (reading_of t) first p (Offers (reading_of t) (ways_by (tree_of t ns) ways) (attributes_of first) (items_of first))
   pub kept : Obeys (place_of first) p → AreFor first (ways_by (tree_of t ns) ways)
 
--- the test tells whether a leaf takes it
+-- the test is whether a leaf takes it
 abbrev pub TellsTaken : Reading → First → Simple ℕ → Bool → Type 0
 TellsTaken g first l b = IsLeafFor first l → Obeys (place_of first) l → (b ≡ true) ↔ Takes g l (attributes_of first) (items_of first)
 
@@ -81,8 +81,8 @@ pub record AreRests (t : Table) (old new : List Node) (first : First) (ways : Li
       ↔ Offers (reading_of t) (ways_by (tree_of t old) ways) (attributes_of first) (items_of first) xs ns
   pub kept : AreFor first (ways_by (tree_of t old) ways) → All (λ m. Obeys (place_of first) (tree_of t new m.0)) rests
 
--- the second number's pattern takes alone what the first one's takes with the attributes of a tag, where that is restricted, and
--- is so itself
+-- The pattern of the second number takes alone what the first one's takes with the attributes of a tag, if that is
+-- restricted. It is then restricted itself.
 pub record IsLeftOfTag (t : Table) (old new : List Node) (xs : List Attribute) (number rest : PatternNumber) : Type 0 where
   pub inside : rest.0 < length new
   pub law : IsRestricted (tree_of t old number.0) → IsAfterTag (reading_of t) xs (tree_of t old number.0) (tree_of t new rest.0)

@@ -15,7 +15,7 @@ pub record IsAlike (t : Table) (e f : ℕ) : Type 0 where
   pub names : (q : Name) → has_name (reading_of t) e q ≡ has_name (reading_of t) f q
   pub bodies : body_of (reading_of t) e ≡ body_of (reading_of t) f
 
--- so have those of a list and those at whose numbers they are
+-- each element of a list is alike to the one at its number
 abbrev pub AreAlike : Table → List ElementId → Type 0
 AreAlike t alike = (e : ℕ) (f : ElementId) → slice_get alike e ≡ Some f → IsAlike t e f.0
 
@@ -23,7 +23,7 @@ AreAlike t alike = (e : ℕ) (f : ElementId) → slice_get alike e ≡ Some f �
 abbrev pub AreLikeLeaves : Table → Simple ℕ → Simple ℕ → Type 0
 AreLikeLeaves t p q = (q ≡ p) ⊎ ((e : ℕ) × (f : ℕ) × (p ≡ s_leaf e) × (q ≡ s_leaf f) × IsAlike t e f)
 
--- the pattern of the second number may stand for that of the first one
+-- the pattern of the second number may replace that of the first one
 pub record IsLikeLeaf (t : Table) (old new : List Node) (number leaf : PatternNumber) : Type 0 where
   pub inside : leaf.0 < length new
   pub like : AreLikeLeaves t (tree_of t old number.0) (tree_of t new leaf.0)

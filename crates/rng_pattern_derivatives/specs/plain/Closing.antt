@@ -1,4 +1,4 @@
--- A pattern once all attributes of a tag are taken.
+-- Patterns after all attributes of a tag are taken.
 use Rattle.std.specs.Prelude.{◌≡◌, ℕ, ◌<◌, List, length, slice_get, Some}
 use Rattle.rng_model.specs.simple.Tree.{Simple}
 use Rattle.rng_model.specs.simple.Table.{Table}
@@ -15,12 +15,12 @@ use Rattle.rng_pattern_table.specs.declared.pattern.PatternNumber.{PatternNumber
 abbrev pub IsChoice : List Node → ℕ → Type 0
 IsChoice ns i = (ms : List ℕ) × (slice_get ns i ≡ Some (node.choice ms))
 
--- no attribute stands in the pattern, and its lists and excepts hold what they may
+-- the pattern contains no attribute, and its lists and excepts contain what they may
 pub record IsBareOfAttributes (p : Simple ℕ) : Type 0 where
   pub none : HasNoAttribute p
   pub texts : HasTexts MayBeListed p
 
--- the second number's pattern is what is left of the first number's one
+-- the pattern of the second number is what is left of the first one's
 pub record IsClosed (old new : List Node) (number rest : PatternNumber) : Type 0 where
   pub inside : rest.0 < length new
   pub same : (t : Table) (g : Reading) → Same g (tree_of t new rest.0) (closed (tree_of t old number.0))

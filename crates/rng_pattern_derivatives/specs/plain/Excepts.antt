@@ -11,6 +11,6 @@ use Rattle.rng_model.specs.matching.GrammarReading.{reading_of}
 abbrev pub AreWithout : {Z : Type 0} → Table → List ℕ → HashSet ℕ Z → Type 0
 AreWithout t text without = (k : ℕ) → IsTrue (contains nat_eq without k) → is_excepted (reading_of t) (tree_at t.patterns (record { 0 = k })) text ≡ false
 
--- a choice stands at this position
+-- the pattern at this position is a choice
 abbrev pub IsChoiceAt : Table → PatternId → Type 0
 IsChoiceAt t id = (first second : PatternId) × (slice_get t.patterns id.0 ≡ Some (rows.Choice first second))

@@ -35,7 +35,7 @@ IsLeafOf (kinds.Element q) p = IsItemLeaf p
 IsLeafOf (kinds.Attribute q) p = IsAttributeLeaf p
 IsLeafOf kinds.Text p = IsItemLeaf p
 
--- what patterns obey at a place (RELAX NG Specification, sections 7.1.2 to 7.1.4)
+-- the restrictions that patterns obey at a place (RELAX NG Specification, sections 7.1.2 to 7.1.4)
 abbrev pub Obeys : Place → Simple ℕ → Type 0
 Obeys places.Content p = IsRestricted p
 Obeys places.List p = HasTexts (λ q. ⊥) p
@@ -52,13 +52,13 @@ HasNoOrder (kinds.Attribute q) joint = Unit {0}
 HasNoOrder kinds.Text joints.Group = ⊥
 HasNoOrder kinds.Text joints.Interleave = Unit {0}
 
--- it is no attribute
+-- it is not an attribute
 abbrev pub IsOfItems : Kind → Type 0
 IsOfItems (kinds.Element q) = Unit {0}
 IsOfItems (kinds.Attribute q) = ⊥
 IsOfItems kinds.Text = Unit {0}
 
--- nothing is joined or repeated
+-- it is not a joined pattern and not a repetition
 abbrev pub IsAlone : Simple ℕ → Type 0
 IsAlone s_not_allowed = Unit {0}
 IsAlone s_empty = Unit {0}
@@ -72,7 +72,7 @@ IsAlone (s_value d v) = Unit {0}
 IsAlone (s_one_or_more p) = ⊥
 IsAlone (s_joined k p q) = ⊥
 
--- a leaf may take something of this kind: by its name, or as it is a text
+-- a leaf may take something of this kind, by its name or because it is a text
 abbrev pub takes_kind : Reading → Kind → Simple ℕ → Bool
 takes_kind g (kinds.Element q) (s_leaf k) = has_name g k (name_of q.now)
 takes_kind g (kinds.Attribute q) (s_attribute c p) = holds c (name_of q.now)
@@ -83,12 +83,12 @@ takes_kind g kinds.Text (s_data_except d p) = true
 takes_kind g kinds.Text (s_value d v) = true
 takes_kind g _ _ = false
 
--- what is left behind a leaf
+-- what is left after a leaf
 abbrev pub rest_of_leaf : Simple ℕ → Simple ℕ
 rest_of_leaf s_text = s_text
 rest_of_leaf _ = s_empty
 
--- Greater than that of each side; that of a group is less once it is opened to the right.
+-- It is greater than that of each side. Reassociating a group to the right decreases it.
 abbrev pub weight : Simple ℕ → ℕ
 weight s_not_allowed = 1
 weight s_empty = 1

@@ -24,24 +24,24 @@ use Rattle.rng_pattern_derivatives.specs.plain.Ways.{AreInside, ways_by}
 use Rattle.rng_pattern_derivatives.specs.declared.way.Place.{Place}
 use Rattle.rng_pattern_derivatives.specs.declared.way.LeafWay.{LeafWay}
 
--- the patterns of the grammar stand in the table, by these numbers
+-- the patterns of the grammar are in the table, with these numbers
 pub record IsReady (t : Table) (ns : List Node) (numbers : List PatternNumber) : Type 0 where
   pub grammar : IsTable t
   pub long : length numbers ≡ length t.patterns
   pub taken : AreTaken t ns numbers
-  -- and obey there what they obey in the grammar
+  -- and obey in the table what they obey in the grammar
   pub kept : (place : Place) (id : PatternId) → id.0 < length numbers → Obeys place (tree_at t.patterns id) → Obeys place (tree_by t ns numbers id)
 
--- the bodies of elements, as they stand in the table, obey the restrictions
+-- the bodies of elements, as they are in the table, obey the restrictions
 abbrev pub HasRestrictedBodies : Table → List Node → List PatternNumber → Type 0
 HasRestrictedBodies t ns numbers = (k : ℕ) (e : _) → slice_get t.elements k ≡ Some e → IsRestrictedBody (tree_by t ns numbers e.1)
 
--- the body of an element of this name obeys the restrictions
+-- the body of an element with this name obeys the restrictions
 pub record IsRestrictedBodyNamed (g : Reading) (q : Name) (b : Simple ℕ) : Type 0 where
   pub restricted : IsRestricted b
   pub body : IsBodyNamed g q b
 
--- what an element with a leaf of this tree has for a body: of this number, or none
+-- the body of an element whose leaf has this tree: the one with this number, or none
 abbrev pub IsBodyOf : Table → List Node → List PatternNumber → Simple ℕ → Name → Option PatternNumber → Type 0
 IsBodyOf t ns numbers leaf q None = (r : Simple ℕ) (ws : List tree.Way) → started (reading_of t) leaf r q ws ≡ ws
 IsBodyOf t ns numbers leaf q (Some b) = (b.0 < length ns)
@@ -49,8 +49,8 @@ IsBodyOf t ns numbers leaf q (Some b) = (b.0 < length ns)
     × Same (reading_of t) (tree_of t ns b.0) (body_of (reading_of t) k)
     × (HasRestrictedBodies t ns numbers → IsRestrictedBodyNamed (reading_of t) q (tree_of t ns b.0)))
 
--- The bodies, each with what is left behind the element, by which p takes an element of this name (RELAX NG
--- Specification, section 6.2.7): with blank strings about elements gone before.
+-- The bodies, each with what is left after the element, by which p takes an element with this name (RELAX NG
+-- Specification, section 6.2.7). Blank strings beside elements are removed first.
 pub record AreStarts (t : Table) (ns : List Node) (numbers : List PatternNumber) (p : Simple ℕ) (q : Name) (starts : List LeafWay) : Type 0 where
   pub inside : AreInside ns starts
   pub to : IsRestricted p → (xs : List Attribute) (kids : Items) (ms : List Item) → IsBare (an_element q xs kids ∷ ms)

@@ -27,12 +27,12 @@ IsElementFirst (kinds.Element q) = Unit {0}
 IsElementFirst (kinds.Attribute q) = ⊥
 IsElementFirst kinds.Text = ⊥
 
--- an element comes first, and those that may take it by their names are among these
+-- an element comes first, and the elements that may take it by their names are among these
 pub record AreElements (t : Table) (kind : Kind) (takers : Span) : Type 0 where
   pub element : IsElementFirst kind
   pub within : (k : ℕ) → takes_kind (reading_of t) kind (s_leaf k) ≡ true → IsWithin takers k
 
--- an attribute that may have the name stands in the tree, outside elements, lists and excepts
+-- the tree contains an attribute that may have the name, outside elements, lists and excepts
 abbrev pub HasAttribute : Name → Simple ℕ → Type 0
 HasAttribute q s_not_allowed = ⊥
 HasAttribute q s_empty = ⊥
@@ -46,25 +46,25 @@ HasAttribute q (s_value d v) = ⊥
 HasAttribute q (s_one_or_more p) = HasAttribute q p
 HasAttribute q (s_joined k a b) = HasAttribute q a ⊎ HasAttribute q b
 
--- one that may have the name stands at this position of the grammar
+-- the pattern at this position of the grammar is an attribute that may have the name
 abbrev pub IsAttributeAt : Table → Name → ℕ → Type 0
 IsAttributeAt t q k = HasAttribute q (attribute_found t (slice_get t.patterns k))
 
--- the attributes of the tree stand at positions of the grammar within these
+-- the attributes of the tree are at positions of the grammar within these
 abbrev pub IsSpanOf : Table → Simple ℕ → Span → Type 0
 IsSpanOf t p span = (q : Name) → HasAttribute q p → (k : ℕ) × IsWithin span k × IsAttributeAt t q k
 
--- so it is for the first patterns of a table, by their numbers
+-- the same for the first patterns of a table, by their numbers
 abbrev pub AreSpansOf : Table → List Node → List Span → Type 0
 AreSpansOf t ns spans = (n : ℕ) (span : Span) → slice_get spans n ≡ Some span → (n < length ns) × IsSpanOf t (tree_of t ns n) span
 
--- an attribute comes first, and those that may take it by their names are among these
+-- an attribute comes first, and the attributes that may take it by their names are among these
 abbrev pub AreAttributes : Table → Kind → Span → Type 0
 AreAttributes t (kinds.Element q) takers = ⊥
 AreAttributes t (kinds.Attribute q) takers = (k : ℕ) → IsAttributeAt t (name_of q.now) k → IsWithin takers k
 AreAttributes t kinds.Text takers = ⊥
 
--- so it is where anything is known
+-- the candidates are right for what comes first
 abbrev pub AreCandidates : Table → List Node → Kind → Candidates → Type 0
 AreCandidates t ns kind candidates.Any = Unit {0}
 AreCandidates t ns kind (candidates.Elements takers alike) = AreElements t kind takers × AreAlike t alike.now
@@ -72,18 +72,19 @@ AreCandidates t ns kind (candidates.Attributes takers spans) = AreAttributes t k
 
 -- ---- by key
 
--- it is told of this key that the one of this number may have a name of it
+-- the takers of this key, if they are known, include this number
 abbrev pub IsTold : Takers → ℕ → ℕ → Type 0
 IsTold takers k n = (m : Span) → slice_get takers.by_key.items k ≡ Some m → IsWithin (joined_spans m takers.others) n
 
--- so it is of each element of the grammar, for the key of each name that it may have (RELAX NG Specification, section 6.1)
+-- the same for each element of the grammar and the key of each name that it may have (RELAX NG Specification, section
+-- 6.1)
 abbrev pub AreAllTold : Table → Keys → Takers → Type 0
 AreAllTold t keys takers = (e : ℕ) (q : Name) → has_name (reading_of t) e q ≡ true → IsTold takers (key_of keys q) e
 
--- and so it is of each attribute
+-- the same for each attribute
 abbrev pub AreAttributesTold : Table → Keys → Takers → Type 0
 AreAttributesTold t keys takers = (k : ℕ) (q : Name) → IsAttributeAt t q k → IsTold takers (key_of keys q) k
 
--- the elements that may have a name of this key are among these
+-- the elements that may have a name with this key are among these
 abbrev pub AreOfKey : Table → Keys → ℕ → Span → Type 0
 AreOfKey t keys k takers = (e : ℕ) (q : Name) → key_of keys q ≡ k → has_name (reading_of t) e q ≡ true → IsWithin takers e

@@ -24,14 +24,14 @@ use Rattle.rng_pattern_derivatives.specs.declared.way.Place.{Place}
 use Rattle.rng_pattern_derivatives.specs.declared.way.Hole.{Hole}
 use Rattle.rng_pattern_derivatives.specs.declared.way.Hole.TheVariants as holes
 
--- ways over the trees that their numbers stand for
+-- ways over the trees of their numbers
 abbrev pub way_by : (ℕ → Simple ℕ) → LeafWay → tree.Way
 way_by f w = record { leaf = f w.leaf.0; rest = f w.rest.0 }
 
 abbrev pub ways_by : (ℕ → Simple ℕ) → List LeafWay → List tree.Way
 ways_by f ws = map (way_by f) ws
 
--- their numbers are numbers of the table
+-- the numbers of the way are numbers of the table
 abbrev pub IsInside : List Node → LeafWay → Type 0
 IsInside ns w = (w.leaf.0 < length ns) × (w.rest.0 < length ns)
 
@@ -42,11 +42,11 @@ AreInside ns ws = All (IsInside ns) ws
 abbrev pub AreRestsBehind : List LeafWay → PatternNumber → List PatternNumber → Type 0
 AreRestsBehind ways leaf rests = (r : PatternNumber) → Contains rests r ↔ Contains ways (record { leaf = leaf; rest = r })
 
--- it was taken out of a list
+-- the element is removed from a list
 abbrev pub IsTakenOut : {A : Type 0} → List A → List A → A → Type 0
 IsTakenOut {A} old new x = (front : List A) × (back : List A) × (old ≡ front ++ x ∷ back) × (new ≡ front ++ back)
 
--- the rest of the whole, of that of a side
+-- the rest of the whole, from that of a side
 abbrev pub filled : (ℕ → Simple ℕ) → Hole → Simple ℕ → Simple ℕ
 filled f holes.Whole r = r
 filled f (holes.First joint second) r = joined_of (connector_of joint) r (f second.0)
@@ -57,15 +57,15 @@ IsHoleInside ns holes.Whole = ⊤
 IsHoleInside ns (holes.First joint second) = second.0 < length ns
 IsHoleInside ns (holes.Second joint first) = first.0 < length ns
 
--- some leaf takes the first attributes and items, and what is left then the others
+-- some leaf takes the first attributes and items, and its rest takes the others
 abbrev pub Offers : Reading → List tree.Way → List Attribute → List Item → List Attribute → List Item → Type 0
 Offers g ws xs ns ys ms = (w : tree.Way) × Among w ws × Takes g w.leaf xs ns × Takes g w.rest ys ms
 
--- each leaf is of the kind, and leaves and rests obey what they have to at the place
+-- each leaf is of the kind, and leaves and rests obey what they have to obey at the place
 abbrev pub AreKept : Kind → Place → List tree.Way → Type 0
 AreKept kind place ws = EachWay (λ l. IsLeafOf kind l × Obeys place l) (Obeys place) ws
 
--- the numbered ways offer what these ways do, and keep what they keep
+-- the numbered ways offer what these ways offer, and keep what they keep
 pub record StandFor (ns : List Node) (numbered : List LeafWay) (ws : Table → List tree.Way) : Type 0 where
   pub inside : AreInside ns numbered
   pub offers : (t : Table) (g : Reading) (xs : List Attribute) (ks : List Item) (ys : List Attribute) (ms : List Item)
@@ -78,7 +78,7 @@ AreWays g (kinds.Element q) p ws = AreItemWays g (IsElementNamed (name_of q.now)
 AreWays g (kinds.Attribute q) p ws = RepeatsWell p → AreAttributeWays g (IsNamed (name_of q.now)) p ws
 AreWays g kinds.Text p ws = AreItemWays g IsText p ws
 
--- numbered ways are those of a pattern of a grammar, and keep what the pattern obeys
+-- the numbered ways are those of a pattern of a grammar, and keep what the pattern obeys
 pub record AreWaysOf (t : Table) (ns : List Node) (kind : Kind) (p : Simple ℕ) (numbered : List LeafWay) : Type 0 where
   pub inside : AreInside ns numbered
   pub law : AreWays (reading_of t) kind p (ways_by (tree_of t ns) numbered)

@@ -11,7 +11,7 @@ use Rattle.rng_types.specs.views.View.{built_in_type_of}
 use Rattle.rng_types.specs.declared.builtin.Builtin.{Builtin}
 use Rattle.rng_pattern_derivatives.specs.declared.datatypes.Datatypes.{Datatypes}
 
--- the type that a pattern names, if it names one that is known (RELAX NG Specification, sections 6.2.8 and 6.2.9)
+-- the type that a pattern names, if it names a known one (RELAX NG Specification, sections 6.2.8 and 6.2.9)
 abbrev pub type_named_by : Simple → Option BuiltInType
 type_named_by simple.NotAllowed = None
 type_named_by simple.Empty = None
@@ -41,6 +41,6 @@ type_kept (Some (Some builtin)) = Some (built_in_type_of builtin.value)
 abbrev pub type_at : Datatypes → ℕ → Option BuiltInType
 type_at datatypes k = type_kept (slice_get datatypes.by_position.items k)
 
--- at the position of each pattern of the grammar the type is kept that it names
+-- for each pattern of the grammar the type that it names is kept at its position
 abbrev pub AreDatatypesOf : Table → Datatypes → Type 0
 AreDatatypesOf t datatypes = (k : ℕ) (row : Simple) → slice_get t.patterns k ≡ Some row → type_at datatypes k ≡ type_named_by row

@@ -1,4 +1,4 @@
--- What is known to be left of patterns once the attributes of a tag are taken.
+-- What is known to be left of patterns after the attributes of a tag are taken.
 use Rattle.std.specs.Prelude.{◌≡◌, ◌<◌, List, Some, length}
 use Rattle.std.specs.HashMap.{HashMap, get}
 use Rattle.rng_pattern_table.specs.views.Node.{Node}
@@ -10,11 +10,11 @@ use Rattle.rng_pattern_derivatives.specs.plain.Closing.{IsClosed}
 abbrev pub HasRest : {Z : Type 0} → HashMap PatternNumber PatternNumber Z → PatternNumber → PatternNumber → Type 0
 HasRest known n rest = get same.ghosts.eq known n ≡ Some rest
 
--- it is what is left of it
+-- this is what is left of the pattern of this number
 pub record IsRestOf (ns : List Node) (n rest : PatternNumber) : Type 0 where
   pub inside : n.0 < length ns
   pub closed : IsClosed ns ns n rest
 
--- so is all that is known
+-- every known rest is right
 abbrev pub AreRestsOf : {Z : Type 0} → List Node → HashMap PatternNumber PatternNumber Z → Type 0
 AreRestsOf ns known = (n rest : PatternNumber) → HasRest known n rest → IsRestOf ns n rest

@@ -1,4 +1,4 @@
--- Ways that are known of patterns.
+-- Known ways of patterns.
 use Rattle.std.specs.Prelude.{◌≡◌, ◌<◌, List, Some, false, length}
 use Rattle.std.specs.HashMap.{HashMap, get}
 use Rattle.smallvec.specs.SmallVec.{SmallVec}
@@ -22,16 +22,16 @@ use Rattle.rng_pattern_derivatives.specs.declared.way.Kind.{Kind}
 use Rattle.rng_pattern_derivatives.specs.declared.way.Kind.TheVariants as kinds
 use Rattle.rng_pattern_derivatives.specs.declared.way.LeafWay.{LeafWay}
 
--- these ways are known of the pattern of this number
+-- these ways are known for the pattern of this number
 abbrev pub HasKnown : {Z : Type 0} → HashMap PatternNumber (SmallVec LeafWay) Z → PatternNumber → List LeafWay → Type 0
 HasKnown known n ways = (v : SmallVec LeafWay) × (get same.ghosts.eq known n ≡ Some v) × (v.items ≡ ways)
 
--- they are its ways to take something of this kind first
+-- these are its ways to take something of this kind first
 pub record AreThoseOf (t : Table) (ns : List Node) (kind : Kind) (n : PatternNumber) (ws : List LeafWay) : Type 0 where
   pub inside : n.0 < length ns
   pub ways : AreWaysOf t ns kind (tree_of t ns n.0) ws
 
--- so are all that are known
+-- all known ways are right
 abbrev pub AreKnown : {Z : Type 0} → Table → List Node → Kind → HashMap PatternNumber (SmallVec LeafWay) Z → Type 0
 AreKnown t ns kind known = (n : PatternNumber) (ways : List LeafWay) → HasKnown known n ways → AreThoseOf t ns kind n ways
 
@@ -47,26 +47,27 @@ IsAttributeKind q (kinds.Element r) = ⊥
 IsAttributeKind q (kinds.Attribute r) = name_of r.now ≡ q
 IsAttributeKind q kinds.Text = ⊥
 
--- what is known for this key, if it was met
+-- the known ways for this key, if it has occurred
 abbrev pub HasForKey : {Y Z : Type 0} → HashMap NameKey (HashMap PatternNumber (SmallVec LeafWay) Z) Y → NameKey → HashMap PatternNumber (SmallVec LeafWay) Z → Type 0
 HasForKey known k m = get same_key.ghosts.eq known k ≡ Some m
 
--- so is all that is known for this key
+-- all known ways for this key are right
 abbrev pub AreKnownFor : {Y Z : Type 0} → Table → List Node → Kind → NameKey → HashMap NameKey (HashMap PatternNumber (SmallVec LeafWay) Z) Y → Type 0
 AreKnownFor {Y} {Z} t ns kind k known = (m : HashMap PatternNumber (SmallVec LeafWay) Z) → HasForKey known k m → AreKnown t ns kind m
 
--- what is known for other keys has not changed
+-- the known ways for other keys have not changed
 abbrev pub KeepsOtherKeys : {Y Z : Type 0} → NameKey → HashMap NameKey (HashMap PatternNumber (SmallVec LeafWay) Z) Y
     → HashMap NameKey (HashMap PatternNumber (SmallVec LeafWay) Z) Y → Type 0
 KeepsOtherKeys key old new = (k : NameKey) → same_key.ghosts.eq key k ≡ false → get same_key.ghosts.eq new k ≡ get same_key.ghosts.eq old k
 
--- so is all that is known for the names that stand for keys, where these are the kinds of a name
+-- all known ways for the representative names of keys are right, where these are the kinds of a name
 abbrev pub AreKnownByKey : {Y Z : Type 0} → (Name → Kind → Type 0) → Table → Keys → List Node
     → HashMap NameKey (HashMap PatternNumber (SmallVec LeafWay) Z) Y → Type 0
 AreKnownByKey Are t keys ns known = (k : NameKey) (kind : Kind) → Are (name_at keys k.0) kind → AreKnownFor t ns kind k known
 
--- the keys serve, and so are all that are known of strings, of elements and of attributes, what is left once a tag is closed, the elements and the
--- attributes that may have a name, the elements that take the same, where the attributes of patterns stand, and the datatypes
+-- The keys serve, and everything known is right: the ways to take strings, elements and attributes, and what is left
+-- after a tag is closed. So are the elements and the attributes that may have a name, the alike elements, the ranges of
+-- attributes, and the datatypes.
 pub record AreAllKnown (t : Table) (keys : Keys) (ns : List Node) (known : Known) : Type 0 where
   pub serve : KeysServe t keys
   pub texts : AreKnown t ns kinds.Text known.texts

@@ -1,4 +1,4 @@
--- What is known of a tree: which elements stand in it, how many patterns an interleave joins, and whether it takes the
+-- What is known of a tree: which elements it contains, how many patterns an interleave joins, and whether it takes the
 -- subsequences of what it takes.
 use Rattle.std.specs.Prelude.{◌≡◌, ◌⊎◌, ◌≤◌, ◌&&◌, ℕ, ◌+◌, ◌-◌, ◌^◌, List, ◌∷◌, Bool, true, min, max}
 use Rattle.rng_model.specs.matching.Document.{Attribute, Item}
@@ -10,7 +10,7 @@ use Rattle.rng_model.specs.matching.Reading.{Reading}
 use Rattle.rng_deriv_laws.specs.plain.Taking.{Takes}
 use Rattle.rng_pattern_table.specs.declared.pattern.Span.{Span}
 
--- the element of this number stands in the tree, outside attributes, lists and excepts
+-- the tree contains the element of this number, outside attributes, lists and excepts
 abbrev pub HasElement : ℕ → Simple ℕ → Type 0
 HasElement e s_not_allowed = ⊥
 HasElement e s_empty = ⊥
@@ -28,14 +28,14 @@ HasElement e (s_joined k p q) = HasElement e p ⊎ HasElement e q
 abbrev pub kept_number : ℕ → ℕ
 kept_number k = min k (2 ^ 32 - 1)
 
--- the number may be there
+-- the number may be in the range
 abbrev pub IsWithin : Span → ℕ → Type 0
 IsWithin some k = (some.least ≤ kept_number k) × (kept_number k ≤ some.greatest)
 
 abbrev pub no_span : Span
 no_span = record { least = 2 ^ 32 - 1; greatest = 0 }
 
--- what is kept of one number
+-- the range of one number
 abbrev pub one_span : ℕ → Span
 one_span k = record { least = kept_number k; greatest = kept_number k }
 
@@ -56,7 +56,7 @@ elements_of (s_value d v) = no_span
 elements_of (s_one_or_more p) = elements_of p
 elements_of (s_joined k p q) = joined_spans (elements_of p) (elements_of q)
 
--- how many patterns an interleave joins that are no interleaves, up to 65,535
+-- the number of patterns other than interleaves that an interleave joins, up to 65,535
 abbrev pub members_of : Simple ℕ → ℕ
 members_of s_not_allowed = 1
 members_of s_empty = 1
@@ -72,8 +72,8 @@ members_of (s_joined choice p q) = 1
 members_of (s_joined group p q) = 1
 members_of (s_joined interleave p q) = min (members_of p + members_of q) (2 ^ 16 - 1)
 
--- as its shape tells: with each sequence of items that the tree takes it takes each of its subsequences, but perhaps the
--- empty one (blank strings about elements left aside)
+-- As its shape shows, the tree takes each subsequence of each sequence of items that it takes, except perhaps the empty
+-- one (blank strings beside elements are ignored).
 abbrev pub has_subsequences : Simple ℕ → Bool
 has_subsequences s_not_allowed = true
 has_subsequences s_empty = true
@@ -89,6 +89,6 @@ has_subsequences (s_joined choice p q) = has_subsequences p && has_subsequences 
 has_subsequences (s_joined group p q) = (is_nullable p && has_subsequences p) && (is_nullable q && has_subsequences q)
 has_subsequences (s_joined interleave p q) = (is_nullable p && has_subsequences p) && (is_nullable q && has_subsequences q)
 
--- what the tree takes with an item in front it takes without this item; blank strings about elements have gone before
+-- what the tree takes with an item in front it takes without this item; blank strings beside elements are removed first
 abbrev pub LosesFirst : Reading → Simple ℕ → Type 0
 LosesFirst g p = (xs : List Attribute) (n : Item) (ns : List Item) → IsBare (n ∷ ns) → Takes g p xs (n ∷ ns) → Takes g p xs ns

@@ -1,4 +1,4 @@
--- What the restrictions of section 7 say of the patterns of a grammar once they stand in a table.
+-- What the restrictions of section 7 say of the patterns of a grammar in a table.
 use Rattle.std.specs.Prelude.{◌≡◌, ◌⊎◌, ℕ, ◌<◌, List, length, Some}
 use Rattle.rng_model.specs.simple.Tree as tree
 use Rattle.rng_model.specs.restrictions.Restrictions.{ContentType, greater}
@@ -25,11 +25,11 @@ pub record IsChoiceOf (p q whole : tree.Simple ℕ) : Type 0 where
 abbrev pub HasContentWithin : ContentType → tree.Simple ℕ → Type 0
 HasContentWithin most p = ((c : ContentType) × (content_type p ≡ Some c) × (greater c most ≡ most)) ⊎ (p ≡ tree.s_not_allowed)
 
--- no list stands in the pattern, as in the body of a list (section 7.1.3)
+-- the pattern contains no list, as in the body of a list (section 7.1.3)
 abbrev pub HasNoLists : tree.Simple ℕ → Type 0
 HasNoLists p = HasTexts (λ q. ⊥) p
 
--- an interleave of the members of both in some nesting: the whole obeys the restrictions that its members obey
+-- an interleave of the members of both, nested in some way: the whole obeys the restrictions that its members obey
 pub record IsInterleaveOf (p q whole : tree.Simple ℕ) : Type 0 where
   pub bare : HasNoAttribute p → HasNoAttribute q → HasNoAttribute whole
   pub repeats : RepeatsWell p → RepeatsWell q → RepeatsWell whole
@@ -37,7 +37,7 @@ pub record IsInterleaveOf (p q whole : tree.Simple ℕ) : Type 0 where
   pub unlisted : HasNoLists p → HasNoLists q → HasNoLists whole
   pub content : (u v c : ContentType) → type_of_both (Some u) (Some v) ≡ Some c → HasContentWithin u p → HasContentWithin v q → HasContentWithin c whole
 
--- a pattern that was made over these members of a pattern of a grammar
+-- a pattern made over these members of a pattern of a grammar
 abbrev pub IsMadeOver : Table → (PatternId → tree.Simple ℕ) → Simple → tree.Simple ℕ → Type 0
 IsMadeOver t of simple.NotAllowed p = p ≡ taken_over t of simple.NotAllowed
 IsMadeOver t of simple.Empty p = p ≡ taken_over t of simple.Empty
@@ -63,11 +63,11 @@ pub record KeepsRestrictions (p made : tree.Simple ℕ) : Type 0 where
   pub content : (c : ContentType) → content_type p ≡ Some c → HasContentWithin c made
   pub not_allowed : p ≡ tree.s_not_allowed → made ≡ tree.s_not_allowed
 
--- so do the patterns of the table that have these numbers
+-- the patterns of the table with these numbers obey what the grammar's patterns obey
 abbrev pub AreKept : Table → List Node → List PatternNumber → Type 0
 AreKept t ns numbers = (i : ℕ) → i < length numbers → KeepsRestrictions (tree_at t.patterns (record { 0 = i })) (tree_by t ns numbers (record { 0 = i }))
 
--- the patterns of the table are restricted, without lists, and typed where those of the grammar are
+-- the patterns of the table are restricted, without lists and typed where those of the grammar are
 pub record AreRestrictedAlike (t : Table) (ns : List Node) (numbers : List PatternNumber) : Type 0 where
   pub restricted : (id : PatternId) → id.0 < length numbers → IsRestricted (tree_at t.patterns id) → IsRestricted (tree_by t ns numbers id)
   pub unlisted : (id : PatternId) → id.0 < length numbers → HasNoLists (tree_at t.patterns id) → HasNoLists (tree_by t ns numbers id)

@@ -1,5 +1,5 @@
--- Trees in the simple syntax: whether an attribute stands in one, what may stand in groups and choices that are made, and the
--- alternatives of a choice.
+-- Trees in the simple syntax: whether one contains an attribute, what may be in the groups and choices that are made,
+-- and the alternatives of a choice.
 use Rattle.std.specs.Prelude.{◌≡◌, ◌⊎◌, ℕ, Bool, true, false, ◌||◌, ⊤, All}
 use Rattle.rng_model.specs.simple.Tree.{Simple, choice, group, interleave, s_not_allowed, s_empty, s_text, s_leaf, s_attribute, s_list, s_data}
 use Rattle.rng_model.specs.simple.Tree.{s_data_except, s_value, s_one_or_more, s_joined}
@@ -7,7 +7,7 @@ use Rattle.rng_deriv_laws.specs.plain.Derivatives.{is_empty, is_not_allowed}
 use Rattle.rng_pattern_table.specs.views.Node.{Node}
 use Rattle.rng_pattern_table.specs.views.Node as node
 
--- an attribute stands in the tree, outside lists and excepts
+-- the tree contains an attribute, outside lists and excepts
 abbrev pub has_attribute : Simple ℕ → Bool
 has_attribute s_not_allowed = false
 has_attribute s_empty = false
@@ -50,7 +50,7 @@ pub record MayBeMember (p : Simple ℕ) : Type 0 where
   -- the choice is flat
   pub not_choice : is_choice p ≡ false
 
--- a pattern over the trees of its parts: each of them may stand where it does
+-- a pattern over the trees of its parts: each of them may be where it is
 abbrev pub AreReduced : (ℕ → Simple ℕ) → Node → Type 0
 AreReduced of node.not_allowed = ⊤
 AreReduced of node.empty = ⊤
@@ -63,7 +63,8 @@ AreReduced of (node.element e) = ⊤
 AreReduced of (node.attribute a) = ⊤
 AreReduced of (node.data_at d) = ⊤
 
--- the second is an alternative of the first: a member of a choice of choices, that is no choice itself and not notAllowed
+-- the second is an alternative of the first: a member of a choice of choices that is not a choice itself and not
+-- notAllowed
 abbrev pub HasAlternative : Simple ℕ → Simple ℕ → Type 0
 HasAlternative s_not_allowed s = ⊥
 HasAlternative s_empty s = s ≡ s_empty
@@ -79,7 +80,7 @@ HasAlternative (s_joined choice p q) s = HasAlternative p s ⊎ HasAlternative q
 HasAlternative (s_joined group p q) s = s ≡ s_joined group p q
 HasAlternative (s_joined interleave p q) s = s ≡ s_joined interleave p q
 
--- notAllowed is no member of a choice (section 4.20)
+-- notAllowed is not a member of a choice (section 4.20)
 abbrev pub HasAllowedMembers : Simple ℕ → Type 0
 HasAllowedMembers s_not_allowed = ⊥
 HasAllowedMembers s_empty = ⊤
@@ -95,6 +96,6 @@ HasAllowedMembers (s_joined choice p q) = HasAllowedMembers p × HasAllowedMembe
 HasAllowedMembers (s_joined group p q) = ⊤
 HasAllowedMembers (s_joined interleave p q) = ⊤
 
--- notAllowed stands for the whole or nowhere
+-- notAllowed is the whole or occurs nowhere
 abbrev pub IsReducedChoice : Simple ℕ → Type 0
 IsReducedChoice p = (p ≡ s_not_allowed) ⊎ HasAllowedMembers p

@@ -1,4 +1,4 @@
--- A pattern apart from where it lies in memory: its kind, and the numbers of what it is made of.
+-- A pattern without its place in memory: its kind, and the numbers of its parts.
 use Rattle.std.specs.Prelude.{ℕ, List, map}
 use Rattle.rng_pattern_table.specs.declared.pattern.Pattern.{Pattern}
 use Rattle.rng_pattern_table.specs.declared.pattern.Pattern.TheVariants as pattern

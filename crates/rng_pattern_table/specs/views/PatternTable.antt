@@ -1,4 +1,4 @@
--- What holds of a table of patterns.
+-- The invariant of a table of patterns.
 use Rattle.std.specs.Prelude.{◌≡◌, ◌&&◌, ◌||◌, ℕ, ◌<◌, ◌≤◌, ⊤, List, ◌++◌, length, map, slice_get, Option, Some, All, IfSome}
 use Rattle.std.specs.List.Sorted.{IsStrictlyIncreasing}
 use Rattle.rng_model.specs.simple.Table.{Table}
@@ -17,7 +17,7 @@ use Rattle.rng_pattern_table.specs.declared.pattern.PatternNumber.{PatternNumber
 abbrev pub nodes_of : List (Pattern × Facts) → List Node
 nodes_of rows = map (λ r. node_of r.0) rows
 
--- what the pattern is made of stands below n; a choice has two members or more, by rising numbers
+-- the numbers of the parts are below n; a choice has two members or more, by rising numbers
 abbrev pub ArePartsBelow : ℕ → Node → Type 0
 ArePartsBelow n node.not_allowed = ⊤
 ArePartsBelow n node.empty = ⊤
@@ -31,7 +31,7 @@ ArePartsBelow n (node.attribute a) = ⊤
 ArePartsBelow n (node.data_at d) = ⊤
 
 pub record IsPatternTable (ns : List Node) : Type 0 where
-  -- what each is made of stands before it
+  -- the parts of each are before it
   pub falls : (i : ℕ) (n : Node) → slice_get ns i ≡ Some n → ArePartsBelow i n
   -- the rules about notAllowed and empty have been applied to it, and choices are flat
   pub reduced : (t : Table) (i : ℕ) (n : Node) → slice_get ns i ≡ Some n → AreReduced (tree_of t ns) n
@@ -62,15 +62,15 @@ both_facts a b members = record {
   members = members;
 }
 
--- what is kept of each pattern is so of its tree
+-- what is kept of each pattern is right for its tree
 abbrev pub AreExact : List (Pattern × Facts) → Type 0
 AreExact rows = (t : Table) → map (λ r. r.1) rows ≡ map facts_of (trees t (nodes_of rows))
 
--- some patterns were added
+-- some patterns are added
 abbrev pub Longer : List Node → List Node → Type 0
 Longer old new = (more : List Node) × (new ≡ old ++ more)
 
--- the pattern of this number, new or not, is the tree that was built
+-- the pattern with this number, new or not, is the tree that was built
 pub record Adds (old new : List Node) (number : ℕ) (built : Table → Simple ℕ) : Type 0 where
   pub inside : number < length new
   pub is : (t : Table) → tree_of t new number ≡ built t

@@ -11,7 +11,7 @@ use Rattle.rng_pattern_table.specs.views.Node.{Node}
 use Rattle.rng_pattern_table.specs.views.Trees.{attribute_found, data_found, tree_of}
 use Rattle.rng_pattern_table.specs.declared.pattern.PatternNumber.{PatternNumber}
 
--- a pattern of a grammar, over the trees of its members; what one item matches is as it is
+-- a pattern of a grammar, over the trees of its members; a pattern that matches one item is unchanged
 abbrev pub taken_over : Table → (PatternId → tree.Simple ℕ) → Simple → tree.Simple ℕ
 taken_over t of simple.NotAllowed = tree.s_not_allowed
 taken_over t of simple.Empty = tree.s_empty
@@ -27,11 +27,12 @@ taken_over t of (simple.Group a b) = tree.s_joined tree.group (of a) (of b)
 taken_over t of (simple.Interleave a b) = tree.s_joined tree.interleave (of a) (of b)
 taken_over t of (simple.Choice a b) = tree.s_joined tree.choice (of a) (of b)
 
--- the tree of the pattern that has the number at a position
+-- the tree of the pattern whose number is at a position
 abbrev pub tree_by : Table → List Node → List PatternNumber → PatternId → tree.Simple ℕ
 tree_by t ns numbers id = tree_of t ns (slice_index_or numbers id.0 (record { 0 = 0 })).0
 
--- each of the first patterns of a grammar has a number in the table, and takes what the pattern of this number takes
+-- each of the first patterns of a grammar has a number in the table, whose pattern takes what the grammar's pattern
+-- takes
 pub record AreTaken (t : Table) (ns : List Node) (numbers : List PatternNumber) : Type 0 where
   pub inside : (i : ℕ) → i < length numbers → (slice_index_or numbers i (record { 0 = 0 })).0 < length ns
   pub same : (i : ℕ) → i < length numbers → (g : Reading)

@@ -1,4 +1,4 @@
--- The trees that the patterns of a table stand for, over the tables of a grammar.
+-- The trees that the patterns of a table represent, over the tables of a grammar.
 use Rattle.std.specs.Prelude.{ℕ, List, [], ◌∷◌, ◌++◌, fold, slice_get, slice_index_or, Option, Some, None, string_bytes}
 use Rattle.rng_model.specs.names.Names.{some_of}
 use Rattle.rng_model.specs.simple.Tree as tree
@@ -11,11 +11,11 @@ use Rattle.rng_model.specs.declared.simple.Simple.TheVariants as simple
 use Rattle.rng_pattern_table.specs.views.Node.{Node}
 use Rattle.rng_pattern_table.specs.views.Node as node
 
--- an attribute that no name has
+-- an attribute that has no name
 abbrev pub no_attribute : tree.Simple ℕ
 no_attribute = tree.s_attribute (some_of []) tree.s_not_allowed
 
--- the attribute that a look-up in the grammar found; nothing else is one
+-- the attribute that a look-up in the grammar found, or one that has no name
 abbrev pub attribute_found : Table → Option Simple → tree.Simple ℕ
 attribute_found t None = no_attribute
 attribute_found t (Some simple.NotAllowed) = no_attribute
@@ -32,11 +32,11 @@ attribute_found t (Some (simple.Group a b)) = no_attribute
 attribute_found t (Some (simple.Interleave a b)) = no_attribute
 attribute_found t (Some (simple.Choice a b)) = no_attribute
 
--- data that no text is
+-- data that allows no text
 abbrev pub no_data : tree.Simple ℕ
 no_data = tree.s_list tree.s_not_allowed
 
--- the list, the data or the value that a look-up in the grammar found; nothing else is one
+-- the list, the data or the value that a look-up in the grammar found, or data that allows no text
 abbrev pub data_found : Table → Option Simple → tree.Simple ℕ
 data_found t None = no_data
 data_found t (Some simple.NotAllowed) = no_data
@@ -59,12 +59,12 @@ abbrev pub choice_from : (ℕ → tree.Simple ℕ) → ℕ → List ℕ → tree
 choice_from of m [] = of m
 choice_from of m (n ∷ ms) = tree.s_joined tree.choice (of m) (choice_from of n ms)
 
--- a choice of members; of none it allows nothing
+-- a choice of members; without members it allows nothing
 abbrev pub choice_over : (ℕ → tree.Simple ℕ) → List ℕ → tree.Simple ℕ
 choice_over of [] = tree.s_not_allowed
 choice_over of (m ∷ ms) = choice_from of m ms
 
--- one pattern as a tree, over the trees of what it is made of
+-- one pattern as a tree, over the trees of its parts
 abbrev pub tree_over : Table → (ℕ → tree.Simple ℕ) → Node → tree.Simple ℕ
 tree_over t of node.not_allowed = tree.s_not_allowed
 tree_over t of node.empty = tree.s_empty
@@ -83,7 +83,7 @@ tree_in ts number = slice_index_or ts number tree.s_not_allowed
 abbrev pub with_tree : Table → List (tree.Simple ℕ) → Node → List (tree.Simple ℕ)
 with_tree t ts n = ts ++ tree_over t (tree_in ts) n ∷ []
 
--- the tree of each pattern, made of those before it
+-- the tree of each pattern, made from those before it
 unfoldable pub trees : Table → List Node → List (tree.Simple ℕ)
 trees t ns = fold (with_tree t) [] ns
 

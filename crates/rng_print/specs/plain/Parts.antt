@@ -1,4 +1,4 @@
--- Parts of lines, told by the parts of what they are written for.
+-- Parts of lines, given by the parts of what they are written for.
 use Rattle.std.specs.Prelude.{ℕ, List}
 use Rattle.rng_model.specs.schema.Patterns.{without_parameters}
 use Rattle.rncv_model.specs.printed.PrintedText.{type_text}

@@ -1,4 +1,4 @@
--- What tells patterns of a table apart: the kind of each, the numbers of its parts, and what its label is written by.
+-- What distinguishes the patterns of a table: the kind of each, the numbers of its parts, and the code of its label.
 use Rattle.std.specs.Prelude.{◌≡◌, ℕ, List, [], ◌∷◌, slice_get, slice_index_or, Some, string_bytes}
 use Rattle.rng_labels.specs.plain.LabelCodes.{Part, number, class_code, datatype_code, value_code}
 use Rattle.rng_model.specs.datatypes.DatatypeViews.{datatype_of}
@@ -28,7 +28,7 @@ numbers_of of (simple.Group a b) = (10, of a, of b)
 numbers_of of (simple.Interleave a b) = (11, of a, of b)
 numbers_of of (simple.Choice a b) = (12, of a, of b)
 
--- what the label of a pattern is written by: its name class, its datatype or its value
+-- the code of the label of a pattern: of its name class, its datatype or its value
 abbrev pub label_code : Simple → List Part
 label_code simple.NotAllowed = []
 label_code simple.Empty = []
@@ -51,6 +51,6 @@ coded numbers label = number numbers.0 ∷ (number numbers.1 ∷ (number numbers
 abbrev pub pattern_code : (PatternId → ℕ) → Simple → List Part
 pattern_code of p = coded (numbers_of of p) (label_code p)
 
--- each code of the first list is at its place in the second
+-- each code of the first list is at the same place in the second
 abbrev pub Stays : List (List Part) → List (List Part) → Type 0
 Stays old new = (i : ℕ) (c : List Part) → slice_get old i ≡ Some c → slice_get new i ≡ Some c

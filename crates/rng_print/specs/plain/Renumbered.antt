@@ -1,4 +1,4 @@
--- Two simple grammars that differ in the numbers of their elements alone.
+-- Two simple grammars that differ only in the numbers of their elements.
 use Rattle.std.specs.Prelude.{◌≡◌, ℕ, ◌<◌, Some, length, slice_get}
 use Rattle.rng_model.specs.names.Names.{NameClass}
 use Rattle.rng_model.specs.simple.Leaves.{AreLeavesBelow}
@@ -6,7 +6,7 @@ use Rattle.rng_model.specs.simple.Tree.{Simple, s_not_allowed, s_empty, s_text, 
 use Rattle.rng_model.specs.simple.Tree.{as_tree}
 use Rattle.rng_model.specs.simple.Table.{Grammar}
 
--- the tree with other names for its leaves
+-- the tree with other names of its leaves
 abbrev pub renumbered : {K L : Type 0} → (K → L) → Simple K → Simple L
 renumbered f s_not_allowed = s_not_allowed
 renumbered f s_empty = s_empty
@@ -20,8 +20,8 @@ renumbered f (s_value d v) = s_value d v
 renumbered f (s_one_or_more a) = s_one_or_more (renumbered f a)
 renumbered f (s_joined k a b) = s_joined k (renumbered f a) (renumbered f b)
 
--- The first function gives each element of the first grammar a number of the second, and carries start, name classes and bodies over; the other leads
--- back. Each number in the start or in a body is that of an element.
+-- The first function gives each element of the first grammar a number of the second, and maps start, name classes and
+-- bodies. The other function leads back. Each number in the start or in a body is that of an element.
 pub record IsCarriedOver (to back : ℕ → ℕ) (g h : Grammar) : Type 0 where
   pub start : h.start ≡ renumbered to g.start
   pub start_below : AreLeavesBelow (length g.elements) (as_tree g.start)
@@ -29,7 +29,8 @@ pub record IsCarriedOver (to back : ℕ → ℕ) (g h : Grammar) : Type 0 where
       (slice_get h.elements (to k) ≡ Some (c, renumbered to p)) × AreLeavesBelow (length g.elements) (as_tree p)
   pub leads_back : (k : ℕ) → k < length g.elements → back (to k) ≡ k
 
--- a pairing of the elements of both grammars, one to one and onto, carries start, name classes and bodies over, either way
+-- a pairing of the elements of both grammars, one to one and onto, maps start, name classes and bodies, in both
+-- directions
 pub record AreSameUpToNumbering (g h : Grammar) : Type 0 where
   pub pairing : ℕ → ℕ
   pub back : ℕ → ℕ

@@ -11,12 +11,12 @@ use Rattle.rng_print.specs.declared.items.Item.{Item}
 use Rattle.rng_print.specs.declared.items.Item.TheVariants as variants
 use Rattle.rng_print.specs.declared.items.Items.{Items}
 
--- what the item stands for
+-- the view of the item
 abbrev pub item_at : Table → Item → text.Item
 item_at t (variants.Element e) = text.element e.0
 item_at t (variants.Pattern p) = text.pattern (tree_at t.patterns p)
 
--- it stands in the tables
+-- the item is in the tables
 abbrev pub IsInside : Table → Item → Type 0
 IsInside t (variants.Element e) = e.0 < length t.elements
 IsInside t (variants.Pattern p) = p.0 < length t.patterns
@@ -30,30 +30,30 @@ abbrev pub tree_number : List ℕ → Item → Option ℕ
 tree_number numbers (variants.Element e) = None
 tree_number numbers (variants.Pattern p) = Some (number_at numbers p)
 
--- the elements and the trees of the patterns among them, by number
+-- the elements among the items, and the numbers of the patterns among them
 pub record AreIndexed (items : Items) : Type 0 where
   pub elements : items.elements.keys ≡ filter_map element_of items.all.items
   pub trees : items.trees.keys ≡ filter_map (tree_number items.numbers.items) items.all.items
 
--- items of the tables, whose patterns have numbers that tell their trees apart
+-- items of the tables, whose patterns have numbers that distinguish their trees
 pub record AreItems (t : Table) (items : Items) : Type 0 where
   pub table : IsTable t
   pub numbered : AreTreeNumbers t items.numbers.items
   pub inside : AllByRecursion (IsInside t) items.all.items
   pub indexed : AreIndexed items
 
--- what they stand for, in the order in which they are first written
+-- the views of the items, in the order in which they are first written
 abbrev pub items_seen : Table → Items → List text.Item
 items_seen t items = map (item_at t) items.all.items
 
--- they are one element, or their patterns have one number
+-- they are the same element, or their patterns have the same number
 abbrev pub same_number : List ℕ → Item → Item → Bool
 same_number numbers (variants.Element d) (variants.Element e) = d.0 == e.0
 same_number numbers (variants.Element d) (variants.Pattern q) = false
 same_number numbers (variants.Pattern p) (variants.Element e) = false
 same_number numbers (variants.Pattern p) (variants.Pattern q) = number_at numbers p == number_at numbers q
 
--- the items with one more, unless it is there
+-- the items with one more, unless it is already there
 pub record AreWith (old : Items) (x : Item) (new : Items) : Type 0 where
   pub numbers : new.numbers.items ≡ old.numbers.items
   pub all : new.all.items ≡ with_new (same_number old.numbers.items) old.all.items x

@@ -1,4 +1,4 @@
--- Numbers of the patterns of a table that tell their trees apart.
+-- Numbers of the patterns of a table that distinguish their trees.
 use Rattle.std.specs.Prelude.{◌≡◌, ◌↔◌, ℕ, ◌<◌, List, length}
 use Rattle.rng_model.specs.simple.Table.{Table, tree_at}
 use Rattle.rng_model.specs.declared.simple.PatternId.{PatternId}

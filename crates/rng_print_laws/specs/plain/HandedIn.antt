@@ -19,15 +19,16 @@ use Rattle.rng_print_laws.specs.plain.LinesTree.{lines_tree}
 abbrev pub lines_alone : Name → Grammar → List Item → TakenFiles
 lines_alone main g items = (main, lines_tree g items) ∷ []
 
--- The main file has the tree of the lines of the text that is printed for the schema, which breaks no clause. So many bytes are numbered.
+-- The main file has the tree of the lines of the text that is printed for the schema. The schema breaks no clause. The
+-- number of bytes is below 2^64.
 pub record IsHandedInAgain (s : Schema) (text : List ℕ) (files : List NamedFile) (main : Name) : Type 0 where
   pub kept : BreaksNoClause s
   pub printed : IsPrintedForm s text
   pub few : length text < 2 ^ 64
   pub tree : HasTree files main main (lines_tree printed.grammar printed.is_printed.items)
 
--- The text that is printed for the schema, which breaks no clause, is no longer than a file may be, and breaks no clause of a file; its tree is that of
--- its lines.
+-- The text that is printed for the schema is no longer than a file may be and breaks no clause of a file. Its tree is
+-- that of its lines. The schema breaks no clause.
 pub record IsPrintedFile (s : Schema) (text : List ℕ) : Type 0 where
   pub kept : BreaksNoClause s
   pub printed : IsPrintedForm s text
@@ -38,23 +39,23 @@ pub record IsPrintedFile (s : Schema) (text : List ℕ) : Type 0 where
 abbrev pub text_alone : Name → List ℕ → List NamedFile
 text_alone main text = record { name = main; bytes = text } ∷ []
 
--- the schema that is answered breaks no clause, and this is printed for it; unless memory ran out
+-- the schema that is returned breaks no clause, and this text is printed for it, unless memory ran out
 abbrev pub IsAgain : List ℕ → Result loaded.Schema SchemaFault → Type 0
 IsAgain text result = MatchResult result (λ r. BreaksNoClause (schema_of r) × IsPrintedForm (schema_of r) text) (λ fault. fault ≡ faults.Memory)
 
--- ---- which schema files are, and of which simple form
+-- ---- the schema of files, and its simple form
 
--- the files are this schema: that they are taken is the verdict on them, and the only one
+-- the schema of the files is this one: the only verdict on the files is that they are taken
 pub record AreFilesOf (s : Schema) (files : List NamedFile) (main : Name) : Type 0 where
   pub read : TakenFiles
   pub taken : FilesHaveOnlyVerdict files main (are_taken read)
   pub are : AreSchema read main s
 
--- the simple form of both schemas is the same: a grammar is a simple form of the one, up to numbering, exactly if it is one of the other
+-- both schemas have the same simple form: each simple grammar of one is a simple grammar of the other
 abbrev pub HaveSameForm : Schema → Schema → Type 0
 HaveSameForm s r = (g : Grammar) → IsSimpleGrammarOf s g ↔ IsSimpleGrammarOf r g
 
--- The files are taken, and are a schema, the only one that they can be. It breaks no clause, and its simple form is that of the first.
+-- The files are taken and have one schema. It breaks no clause, and its simple form is that of the first schema.
 pub record AreOfSameForm (s : Schema) (files : List NamedFile) (main : Name) : Type 0 where
   pub read : TakenFiles
   pub taken : FilesHaveVerdict files main (are_taken read)

@@ -1,5 +1,6 @@
--- The schema of the lines of a printed grammar: one grammar, with a plain start, and a plain define for each item, each with the pattern that its line
--- shows (RELAX NG Compact Syntax, "Syntax"; RELAX NG Specification, sections 4.17 and 4.18).
+-- The schema of the lines of a printed grammar: one grammar, with a plain start, and a plain define for each item, each
+-- with the pattern that its line shows (RELAX NG Compact Syntax, "Syntax"; RELAX NG Specification, sections 4.17 and
+-- 4.18).
 use Rattle.std.specs.Prelude.{◌≡◌, ℕ, ◌<◌, ◌^◌, List, [], ◌∷◌, ◌++◌, length, map, Option, Some, None}
 use Rattle.rng_model.specs.names.Names.{NameClass, any_name, any_except, ns_name, ns_except, name_is, one_of, NameClasses, no_classes, class_and, some_of}
 use Rattle.rng_model.specs.simple.Tree.{Simple, s_not_allowed, s_empty, s_text, s_leaf, s_attribute, s_list, s_data, s_data_except, s_value, s_one_or_more, s_joined}
@@ -13,13 +14,13 @@ use Rattle.rng_model.specs.declared.method.Method.TheVariants as methods
 use Rattle.rncv_model.specs.printed.PrintedText.{Item, element, pattern, element_at, item_name, IsItemsOf}
 use Rattle.rncv_model.specs.printed.SchemaText.{IsPrintedForm}
 
--- ---- name classes: a choice that is the first member of a choice is written without parentheses, so its members are members
+-- ---- name classes: a choice at the front of a choice is written without parentheses, so its members are members
 
 abbrev pub list_of : NameClasses → List NameClass
 list_of no_classes = []
 list_of (class_and c cs) = c ∷ list_of cs
 
--- the members of a choice, or the class alone
+-- the members of a choice, or the class itself
 abbrev pub members_in : NameClass → List NameClass
 members_in (one_of c d cs) = c ∷ d ∷ list_of cs
 members_in any_name = any_name ∷ []
@@ -53,7 +54,7 @@ reference_pattern items (s_data d) = written.data_of d
 reference_pattern items (s_value d v) = written.value d.library d.name v
 reference_pattern items s = written.ref (item_name items (pattern s))
 
--- what stands behind `=` in the line of a pattern
+-- what is after `=` in the line of a pattern
 abbrev pub line_pattern : List Item → Simple ℕ → Pattern
 line_pattern items (s_joined k a b) = written.joined k (reference_pattern items a) (reference_pattern items b) no_patterns
 line_pattern items (s_one_or_more a) = written.one_or_more (reference_pattern items a)
@@ -75,7 +76,7 @@ item_line g items i = record { name = Some (item_name items i); method = methods
 abbrev pub lines_components : Grammar → List Item → List Component
 lines_components g items = start_line g items ∷ map (item_line g items) items
 
--- the schema has one grammar, of these lines
+-- the schema has one grammar, that of these lines
 pub record IsSchemaOfLines (g : Grammar) (items : List Item) (s : Schema) : Type 0 where
   pub main : s.main ≡ []
   pub components : s.components [] ≡ Some (lines_components g items)
@@ -89,7 +90,8 @@ components_at g items (n ∷ x) = None
 abbrev pub schema_of_lines : Grammar → List Item → Schema
 schema_of_lines g items = record { main = []; components = components_at g items; outer = λ x. None }
 
--- The second schema is that of the lines in which a simple grammar of the first, which breaks no clause, is printed. So many lines are numbered.
+-- The second schema is that of the lines in which a simple grammar of the first is printed. The first schema breaks no
+-- clause. The number of lines is below 2^64.
 pub record IsReprinted (s r : Schema) (g : Grammar) (items : List Item) : Type 0 where
   pub kept : BreaksNoClause s
   pub form : IsSimpleGrammarOf s g
@@ -97,7 +99,8 @@ pub record IsReprinted (s r : Schema) (g : Grammar) (items : List Item) : Type 0
   pub few : length items < 2 ^ 64
   pub lines : IsSchemaOfLines g items r
 
--- The second schema is that of the lines of the text that is printed for the first, which breaks no clause. So many bytes are numbered.
+-- The second schema is that of the lines of the text that is printed for the first. The first schema breaks no clause.
+-- The number of bytes is below 2^64.
 pub record IsReprintedAs (s r : Schema) (text : List ℕ) : Type 0 where
   pub kept : BreaksNoClause s
   pub printed : IsPrintedForm s text

@@ -1,4 +1,4 @@
--- The syntax tree of the lines of a printed grammar, in which prefixes are not yet resolved (RELAX NG Compact Syntax, "Syntax").
+-- The syntax tree of the lines of a printed grammar, with unresolved prefixes (RELAX NG Compact Syntax, "Syntax").
 use Rattle.std.specs.Prelude.{ℕ, if◌then◌else◌, List, [], ◌∷◌, ◌++◌, map, codes}
 use Rattle.std.specs.Str.{bytes_eq}
 use Rattle.rng_model.specs.names.Names as names
@@ -14,7 +14,7 @@ abbrev pub list_of : NameClasses → List NameClass
 list_of no_classes = []
 list_of (class_and c cs) = c ∷ list_of cs
 
--- the members of a choice, or the class alone
+-- the members of a choice, or the class itself
 abbrev pub members_in : NameClass → List NameClass
 members_in (one_of cs) = list_of cs
 members_in any_name = any_name ∷ []

@@ -1,5 +1,6 @@
--- The file tree of the lines of a printed grammar: a plain `start`, and behind it a plain define for each item, in order, each
--- with the pattern that its line shows, and each prefix standing for its namespace (RELAX NG Compact Syntax, "Syntax").
+-- The file tree of the lines of a printed grammar: a plain `start`, followed by a plain define for each item, in order.
+-- Each has the pattern that its line shows, with each prefix replaced by its namespace (RELAX NG Compact Syntax,
+-- "Syntax").
 use Rattle.std.specs.Prelude.{ℕ, List, [], ◌∷◌, ◌++◌, map}
 use Rattle.rng_model.specs.names.Names as names
 use Rattle.rng_model.specs.simple.Tree.{Datatype, Simple, s_not_allowed, s_empty, s_text, s_leaf, s_attribute, s_list, s_data, s_data_except, s_value, s_one_or_more}
@@ -15,7 +16,7 @@ abbrev pub list_of : NameClasses → List NameClass
 list_of no_classes = []
 list_of (class_and c cs) = c ∷ list_of cs
 
--- the members of a choice, or the class alone
+-- the members of a choice, or the class itself
 abbrev pub members_in : NameClass → List NameClass
 members_in (one_of cs) = list_of cs
 members_in any_name = any_name ∷ []
@@ -43,11 +44,11 @@ abbrev mutual
   classes_of plain names.no_classes = []
   classes_of plain (names.class_and c cs) = class_of plain c ∷ classes_of plain cs
 
--- `string` and `token` have the library with the empty uri
+-- `string` and `token` have the library with the empty URI
 abbrev pub type_of : Datatype → DatatypeName
 type_of d = record { library = d.library; name = d.name }
 
--- what a line shows of a pattern that stands in another: its own word, or the name of its line
+-- what a line shows for a pattern inside another: its own word, or the name of its line
 abbrev pub reference_of : List Item → Simple ℕ → Pattern
 reference_of items s_not_allowed = tree.not_allowed
 reference_of items s_empty = tree.empty
@@ -57,7 +58,7 @@ reference_of items (s_data d) = tree.data_of (type_of d) d.parameters
 reference_of items (s_value d v) = tree.value (type_of d) v
 reference_of items s = tree.ref (item_name items (pattern s))
 
--- what its own line shows; a name without prefix has no namespace in an attribute's class
+-- what its own line shows; an unprefixed name in an attribute's class has no namespace
 abbrev pub pattern_of : List Item → Simple ℕ → Pattern
 pattern_of items (s_joined k a b) = tree.members k (reference_of items a ∷ reference_of items b ∷ [])
 pattern_of items (s_one_or_more a) = tree.one_or_more (reference_of items a)
@@ -74,6 +75,6 @@ item_pattern g items (pattern s) = pattern_of items s
 abbrev pub define_of : Grammar → List Item → Item → Component
 define_of g items i = tree.define (item_name items i) methods.Plain (item_pattern g items i)
 
--- all lines; the main file of a schema inherits the empty namespace, so an unprefixed name has none there
+-- all lines; the main file of a schema inherits the empty namespace, so an unprefixed name has no namespace
 abbrev pub lines_tree : Grammar → List Item → FileTree
 lines_tree g items = grammar_file (tree.components_of (tree.start methods.Plain (reference_of items g.start) ∷ map (define_of g items) items))

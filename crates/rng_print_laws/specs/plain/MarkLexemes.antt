@@ -1,4 +1,4 @@
--- The tokens of marks as the grammar reads them, each word with its number (RELAX NG Compact Syntax, "Lexical structure").
+-- The tokens of marks, each word with its number (RELAX NG Compact Syntax, "Lexical structure").
 use Rattle.std.specs.Prelude.{ℕ, suc, List, [], ◌∷◌}
 use Rattle.rnc_model.specs.tokens.Tokens.{keyword_of, keyword_or_identifier}
 use Rattle.rnc_model.specs.tokens.Lexeme.{Lexeme, lexeme_at}
@@ -9,7 +9,7 @@ use Rattle.rnc_text.specs.plain.Marks.{Mark, space, line_end, word, cname, ns_na
 abbrev pub word_at : List ℕ → ℕ → Lexeme
 word_at w n = lexeme_at (keyword_or_identifier (keyword_of w)) w n
 
--- of these marks, where the first token has this number
+-- the tokens of these marks, if the first has this number
 abbrev pub lexemes_from : ℕ → List Mark → List Lexeme
 lexemes_from n [] = []
 lexemes_from n (space ∷ ms) = lexemes_from n ms
@@ -20,7 +20,7 @@ lexemes_from n (ns_name p ∷ ms) = lexeme.ns_name p ∷ lexemes_from (suc n) ms
 lexemes_from n (segment q w ∷ ms) = lexeme.segment w ∷ lexemes_from (suc n) ms
 lexemes_from n (sign s ∷ ms) = lexeme.sign s ∷ lexemes_from (suc n) ms
 
--- the number of the token behind them
+-- the number of the token after them
 abbrev pub place_behind : ℕ → List Mark → ℕ
 place_behind n [] = n
 place_behind n (space ∷ ms) = place_behind n ms

@@ -1,5 +1,5 @@
--- What a simple grammar has to be for its printed text to be read back: its names are NCNames, its texts are made of Chars,
--- its name classes are printed with parentheses that nest within the limit, and its datatypes are some that a schema can name
+-- The simple grammars whose printed texts are read back. Their names are NCNames, and their texts are made of Chars.
+-- Their name classes are printed with parentheses that nest within the limit, and a schema can name their datatypes
 -- (RELAX NG Compact Syntax, "Lexical structure" and "Syntax").
 use Rattle.std.specs.Prelude.{◌≡◌, ◌⊎◌, ℕ, suc, ◌≤◌, max, Bool, true, ◌||◌, if◌then◌else◌, List, [], codes, IsUtf8, chars}
 use Rattle.std.specs.List.{list_all, AllByRecursion}
@@ -37,7 +37,7 @@ abbrev mutual
 abbrev pub one_more_if : Bool → ℕ → ℕ
 one_more_if b n = if b then suc n else n
 
--- how deep the parentheses nest with which a name class is printed
+-- how deep the parentheses of a printed name class nest
 abbrev mutual
   pub parentheses : NameClass → ℕ
   parentheses any_name = 0
@@ -56,12 +56,12 @@ abbrev mutual
 abbrev pub IsPrintableClass : NameClass → Type 0
 IsPrintableClass c = HasNames c × (parentheses c ≤ nesting_limit)
 
--- it has a name in the compact syntax: `string` and `token` are of the library with the empty uri, and those with the prefix
--- `xsd` of that of XML Schema (RELAX NG Compact Syntax, "Declarations")
+-- It has a name in the compact syntax: `string` and `token` are in the library with the empty URI, and those with the
+-- prefix `xsd` in that of XML Schema (RELAX NG Compact Syntax, "Declarations").
 abbrev pub CanBeNamed : List ℕ → List ℕ → Type 0
 CanBeNamed library name = ((library ≡ []) × ((name ≡ codes "string") ⊎ (name ≡ codes "token"))) ⊎ ((library ≡ xsd_uri) × IsName name)
 
--- a parameter, a datatype, a tree and a grammar that are
+-- printable parameters, datatypes, trees and grammars
 abbrev pub IsPrintableParameter : List ℕ × List ℕ → Type 0
 IsPrintableParameter p = IsName p.0 × IsText p.1
 

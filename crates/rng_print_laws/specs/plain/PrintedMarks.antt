@@ -1,4 +1,4 @@
--- The marks of which the text of a simple grammar is made, in the order of `PrintedText`.
+-- The marks that make up the text of a simple grammar, in the order of `PrintedText`.
 use Rattle.std.specs.Prelude.{ℕ, Bool, true, false, ◌||◌, if◌then◌else◌, List, [], ◌∷◌, ◌++◌, flat_map, codes}
 use Rattle.std.specs.Str.{bytes_eq}
 use Rattle.rng_model.specs.names.Names.{NameClass, any_name, any_except, ns_name, ns_except, name_is, one_of, NameClasses, no_classes, class_and}

@@ -1,5 +1,5 @@
--- Trees of schema files that are well spelled: their names are NCNames, their texts and the namespaces that they declare are made of Chars, and their
--- name classes nest within the limit (RELAX NG Compact Syntax, "Syntax").
+-- Well spelled trees of schema files: their names are NCNames, their texts and the namespaces that they declare are
+-- made of Chars, and their name classes nest within the limit (RELAX NG Compact Syntax, "Syntax").
 use Rattle.std.specs.Prelude.{ℕ, List}
 use Rattle.std.specs.List.{AllByRecursion}
 use Rattle.rnc_model.specs.declarations.FileTree as tree
@@ -12,11 +12,11 @@ abbrev pub IsTextNamespace : Namespace → Type 0
 IsTextNamespace inherited = Unit {0}
 IsTextNamespace (given u) = IsText u
 
--- the library of a datatype is a text and its name an NCName
+-- the library of a datatype is a text, and its name is an NCName
 abbrev pub IsWellSpelledType : tree.DatatypeName → Type 0
 IsWellSpelledType d = IsText d.library × IsName d.name
 
--- another file is named by a text, and inherits one
+-- the name of another file and the namespace that it inherits are texts
 abbrev pub IsWellSpelledMention : tree.Mention → Type 0
 IsWellSpelledMention m = IsText m.href × IsTextNamespace m.namespace
 
@@ -24,7 +24,7 @@ IsWellSpelledMention m = IsText m.href × IsTextNamespace m.namespace
 abbrev pub IsWellSpelledClass : tree.NameClass → Type 0
 IsWellSpelledClass c = (u : List ℕ) → IsText u → IsPrintableClass (class_in u c)
 
--- all that stands in the pattern is well spelled, also what is mentioned with it
+-- everything in the pattern is well spelled, including the files that it mentions
 abbrev mutual
   pub IsWellSpelledPattern : tree.Pattern → Type 0
   IsWellSpelledPattern (tree.element c p) = IsWellSpelledClass c × IsWellSpelledPattern p

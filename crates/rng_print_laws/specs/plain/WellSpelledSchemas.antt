@@ -1,5 +1,5 @@
--- Patterns as they are written that are well spelled: their names are NCNames, their texts are made of Chars, and their name classes nest within the
--- limit. With datatypes that are known they are printable (RELAX NG Compact Syntax, "Syntax").
+-- Well spelled patterns as they are written: their names are NCNames, their texts are made of Chars, and their name
+-- classes nest within the limit. With known datatypes they are printable (RELAX NG Compact Syntax, "Syntax").
 use Rattle.std.specs.Prelude.{ℕ, List, Option, Some, None}
 use Rattle.std.specs.List.{AllByRecursion}
 use Rattle.rng_model.specs.schema.Patterns.{Place, Pattern, not_allowed, empty, text, element, attribute, list, data_of, data_except, value, mixed, optional}
@@ -8,15 +8,15 @@ use Rattle.rng_model.specs.schema.Schema.{Schema, Component, HasComponent}
 use Rattle.rng_model.specs.simple.Tree.{Datatype}
 use Rattle.rng_print_laws.specs.plain.Printable.{IsText, IsName, IsPrintableClass, IsPrintableParameter}
 
--- the type's library is a text and its name an NCName
+-- the library of the type is a text, and its name is an NCName
 abbrev pub IsWellSpelledType : List ℕ → List ℕ → Type 0
 IsWellSpelledType library name = IsText library × IsName name
 
--- and so are those of its parameters, with their texts
+-- the same for the parameters, with their texts
 abbrev pub IsWellSpelledDatatype : Datatype → Type 0
 IsWellSpelledDatatype d = IsWellSpelledType d.library d.name × AllByRecursion IsPrintableParameter d.parameters
 
--- all that stands in the pattern is well spelled
+-- everything in the pattern is well spelled
 abbrev mutual
   pub IsWellSpelledPattern : Pattern → Type 0
   IsWellSpelledPattern not_allowed = Unit {0}
@@ -42,7 +42,7 @@ abbrev mutual
   AreWellSpelledPatterns no_patterns = Unit {0}
   AreWellSpelledPatterns (pattern_and p ps) = IsWellSpelledPattern p × AreWellSpelledPatterns ps
 
--- the name of a component is an NCName, unless it is a part of a start
+-- the name of a component is an NCName, unless it is part of a start
 abbrev pub IsWellSpelledName : Option (List ℕ) → Type 0
 IsWellSpelledName None = Unit {0}
 IsWellSpelledName (Some y) = IsName y

@@ -1,4 +1,4 @@
--- What it is for a text to be read as a file tree (RELAX NG Compact Syntax, "Lexical structure" and "Syntax").
+-- What it means for a text to be read as a file tree (RELAX NG Compact Syntax, "Lexical structure" and "Syntax").
 use Rattle.std.specs.Prelude.{ℕ, List}
 use Rattle.rnc_model.specs.declared.character.Character.{Character}
 use Rattle.rnc_model.specs.characters.Decoding.{IsDecoded}
@@ -7,8 +7,8 @@ use Rattle.rnc_model.specs.tokens.Lexeme.{lexemes}
 use Rattle.rnc_model.specs.declarations.FileTree.{FileTree}
 use Rattle.rnc_model.specs.declarations.Parsing.{IsFileTree}
 
--- The bytes stand for characters, these are cut into tokens, and the tokens are a sentence that nests within the limit and
--- breaks no rule about declarations: it has this file tree. So no clause from S3 to S8 is broken.
+-- The bytes decode to characters, which are cut into tokens. The tokens are a sentence that nests within the limit and
+-- breaks no rule about declarations, and it has this file tree. So no clause from S3 to S8 is broken.
 pub record IsReadAs (bytes : List ℕ) (t : FileTree) : Type 0 where
   pub characters : List Character
   pub decoded : IsDecoded bytes characters

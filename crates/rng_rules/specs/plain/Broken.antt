@@ -1,4 +1,4 @@
--- Which clauses the parts of a grammar break, of those that each part breaks by itself.
+-- The clauses that the parts of a grammar break, of those that a part breaks by itself.
 use Rattle.std.specs.Prelude.{ℕ, ◌≤◌, List, map, fold, Option, Some, None, Bool, true, false, not, ◌&&◌, ◌||◌}
 use Rattle.rng_model.specs.restrictions.Restrictions.{BreaksRestriction}
 use Rattle.rng_model.specs.simple.Table.{Grammar}
@@ -41,7 +41,7 @@ start_broken f = part_broken f.held.barred_from_start false f
 abbrev pub body_broken : Facts → Broken
 body_broken f = part_broken false (not f.not_allowed && has_none f.content) f
 
--- by a start or one of some bodies
+-- the clauses that a start or one of some bodies breaks
 abbrev pub parts_broken : Facts → List Facts → Broken
 parts_broken start bodies = fold (λ b f. either_broken b (body_broken f)) (start_broken start) bodies
 

@@ -14,10 +14,10 @@ use Rattle.rng_rules.specs.declared.content.ContentType.TheVariants as content
 use Rattle.rng_rules.specs.declared.facts.Facts.{Facts}
 use Rattle.rng_rules.specs.declared.held.Held.{Held}
 
--- ---- tests of what stands in a pattern
+-- ---- tests of what a pattern contains
 
 module _ {L : Type 0} where
-  -- the test is met by something that stands inside the pattern
+  -- the test passes for something inside the pattern
   abbrev pub inside : (Simple L → Bool) → Simple L → Bool
   inside test s_not_allowed = false
   inside test s_empty = false
@@ -31,7 +31,7 @@ module _ {L : Type 0} where
   inside test (s_one_or_more p) = test p || inside test p
   inside test (s_joined k p q) = (test p || inside test p) || (test q || inside test q)
 
-  -- the test is met by the pattern, or by something that stands in it
+  -- the test passes for the pattern, or for something inside it
   abbrev pub somewhere : (Simple L → Bool) → Simple L → Bool
   somewhere test p = test p || inside test p
 
@@ -50,23 +50,23 @@ module _ {L : Type 0} where
   abbrev pub barred_from_start : Simple L → Bool
   barred_from_start p = is_barred_from_start (kind_of p)
 
-  -- a group or an interleave that holds an attribute
+  -- a group or an interleave that contains an attribute
   abbrev pub joins_attribute : Simple L → Bool
   joins_attribute p = is_between (kind_of p) && inside attribute_test p
 
-  -- an attribute that holds what is barred
+  -- an attribute that contains what is not allowed there
   abbrev pub bad_attribute : Simple L → Bool
   bad_attribute p = is_attribute (kind_of p) && inside barred_from_attribute p
 
-  -- a oneOrMore that holds a group or an interleave that holds an attribute
+  -- a oneOrMore that contains a group or an interleave that contains an attribute
   abbrev pub bad_one_or_more : Simple L → Bool
   bad_one_or_more p = is_one_or_more (kind_of p) && inside joins_attribute p
 
-  -- a list that holds what is barred
+  -- a list that contains what is not allowed there
   abbrev pub bad_list : Simple L → Bool
   bad_list p = is_list (kind_of p) && inside barred_from_list p
 
-  -- a datatype whose except holds what is barred
+  -- a datatype whose except contains what is not allowed there
   abbrev pub bad_except : Simple L → Bool
   bad_except p = is_data (kind_of p) && inside barred_from_except p
 
@@ -116,7 +116,7 @@ abbrev pub of_either : Option ContentType → Option ContentType → Option Cont
 of_either (Some t) (Some u) = Some (greater t u)
 of_either _ _ = None
 
--- the greater of two that may be grouped
+-- the greater of two, if they may be grouped
 abbrev pub groupable : ContentType → ContentType → Option ContentType
 groupable content.Empty t = Some t
 groupable t content.Empty = Some t
@@ -127,7 +127,7 @@ abbrev pub of_both : Option ContentType → Option ContentType → Option Conten
 of_both (Some t) (Some u) = groupable t u
 of_both _ _ = None
 
--- an attribute has one where its content has
+-- an attribute has a content type if its content has one
 abbrev pub of_attribute : Option ContentType → Option ContentType
 of_attribute (Some t) = Some content.Empty
 of_attribute None = None
@@ -167,7 +167,7 @@ abbrev mutual
   have_wildcard (class_and c cs) = has_wildcard c || have_wildcard cs
 
 module _ {L : Type 0} where
-  -- an attribute with a wildcard, inside no oneOrMore
+  -- an attribute with a wildcard, outside every oneOrMore
   abbrev pub unrepeated_wildcard : Simple L → Bool
   unrepeated_wildcard s_not_allowed = false
   unrepeated_wildcard s_empty = false
@@ -211,6 +211,6 @@ module _ {L : Type 0} where
     breaks_text = somewhere bad_text p;
   }
 
--- a table has the facts of each pattern of the positions that it covers
+-- a table has the facts of the pattern at each of its positions
 abbrev pub HasFacts : (PatternId → Simple ℕ) → List Facts → Type 0
 HasFacts of facts = (id : PatternId) (f : Facts) → slice_get facts id.0 ≡ Some f → f ≡ facts_of (of id)

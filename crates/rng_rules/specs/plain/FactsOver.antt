@@ -11,7 +11,7 @@ use Rattle.rng_rules.specs.declared.content.ContentType.TheVariants as content
 use Rattle.rng_rules.specs.declared.facts.Facts.{Facts}
 use Rattle.rng_rules.specs.declared.held.Held.{Held}
 
--- of one or the other
+-- what one or the other contains
 abbrev pub either_held : Held → Held → Held
 either_held a b = record {
   attribute = a.attribute || b.attribute;
@@ -26,7 +26,7 @@ either_held a b = record {
   breaks_except = a.breaks_except || b.breaks_except;
 }
 
--- of a pattern of a kind, from those of what stands inside it
+-- what a pattern of a kind contains, from what is inside it
 abbrev pub held_with : model.Kind → Held → Held
 held_with kind a = record {
   attribute = is_attribute kind || a.attribute;
@@ -68,7 +68,7 @@ facts_of_attribute class body = record {
   breaks_text = body.breaks_text;
 }
 
--- of a list, or of a datatype with an except
+-- the facts of a list, or of a datatype with an except
 abbrev pub facts_of_simple : model.Kind → Facts → Facts
 facts_of_simple kind body = record {
   held = held_with kind body.held;

@@ -1,4 +1,4 @@
--- Which kinds of pattern are barred from where, as tests.
+-- Which kinds of pattern are not allowed where, as tests.
 use Rattle.std.specs.Prelude.{Bool, true, false}
 use Rattle.rng_model.specs.restrictions.Restrictions as model
 use Rattle.rng_model.specs.restrictions.Restrictions.{not_allowed_kind, empty_kind, text_kind, ref_kind, attribute_kind, list_kind, data_kind, value_kind}

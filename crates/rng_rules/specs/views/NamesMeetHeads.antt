@@ -4,7 +4,7 @@ use Rattle.rng_rules.specs.declared.names_meet_sides.Rows as declared
 use Rattle.rng_rules.specs.plain.NamesMeetReach.{lists}
 use Rattle.rng_rules.specs.views.NamesMeetSides.{IsJoin, MeetBetween}
 
--- the row stands on both sides of another
+-- the row occurs on both sides of another
 abbrev pub MeetsItself : declared.Rows → ℕ → Type 0
 MeetsItself rows k = MeetBetween rows.of rows.grammar.now (lists rows.above.items) (k ∷ []) (k ∷ [])
 
@@ -12,14 +12,14 @@ pub record IsHead (rows : declared.Rows) (k head : ℕ) : Type 0 where
   pub below : head < length rows.standing.items
   pub same : MeetsItself rows k ↔ MeetsItself rows head
 
--- the heads of all rows but the first n
+-- the heads of all rows except the first n
 abbrev pub AreHeadsFrom : declared.Rows → ℕ → List ℕ → Type 0
 AreHeadsFrom rows n heads = (k : ℕ) → n ≤ k → k < length heads → IsHead rows k (slice_index_or heads k 0)
 
 abbrev pub AreHeads : declared.Rows → List ℕ → Type 0
 AreHeads rows heads = (k : ℕ) → k < length heads → IsHead rows k (slice_index_or heads k 0)
 
--- k stands by itself in p and in no other row, and is not both sides of p
+-- k is a direct part of p and of no other row, and is not both sides of p
 pub record IsOnlyAbove (rows : declared.Rows) (k p : ℕ) : Type 0 where
   pub after : k < p
   pub below : p < length rows.standing.items

@@ -1,4 +1,4 @@
--- The rows of a table: what stands and what occurs in them, whose names are judged, and between which they must not meet.
+-- The rows of a table: what they contain, whose names are checked, and between which sides names must not meet.
 use Rattle.std.specs.Prelude.{◌≡◌, ◌↔◌, ℕ, List, [], ◌∷◌, ◌++◌, length, map, slice_get, slice_index_or, Option, Some, None, option_map, Contains}
 use Rattle.rng_model.specs.simple.Table.{Table}
 use Rattle.rng_model.specs.declared.name.NameClass.{NameClass}
@@ -8,7 +8,7 @@ use Rattle.rng_model.specs.declared.simple.Simple.TheVariants as simple
 use Rattle.rng_rules.specs.declared.names_meet.NamesOf.{NamesOf}
 use Rattle.rng_rules.specs.declared.names_meet.NamesOf.TheVariants as names_of
 
--- the rows that stand in a pattern by themselves
+-- the rows of the children of a pattern
 abbrev pub children : Simple → List ℕ
 children simple.NotAllowed = []
 children simple.Empty = []
@@ -24,7 +24,7 @@ children (simple.Group a b) = a.0 ∷ (b.0 ∷ [])
 children (simple.Interleave a b) = a.0 ∷ (b.0 ∷ [])
 children (simple.Choice a b) = a.0 ∷ (b.0 ∷ [])
 
--- the rows through which a pattern is passed in search of what occurs in it (RELAX NG Specification, section 7.3)
+-- the rows to which a pattern passes in the search for what occurs in it (RELAX NG Specification, section 7.3)
 abbrev pub passed : Simple → List ℕ
 passed simple.NotAllowed = []
 passed simple.Empty = []
@@ -40,7 +40,7 @@ passed (simple.Group a b) = a.0 ∷ (b.0 ∷ [])
 passed (simple.Interleave a b) = a.0 ∷ (b.0 ∷ [])
 passed (simple.Choice a b) = a.0 ∷ (b.0 ∷ [])
 
--- the name class that a pattern has by itself
+-- the name class that a pattern itself has
 abbrev pub class_at : NamesOf → List (NameClass × PatternId) → Simple → Option NameClass
 class_at names_of.Attributes es (simple.Attribute class body) = Some class.value
 class_at names_of.Elements es (simple.Element e) = option_map (λ x. x.0) (slice_get es e.0)
@@ -59,20 +59,20 @@ part_rows t = map (λ e. e.1.0) t.elements ++ t.start.0 ∷ []
 abbrev pub children_at : List Simple → ℕ → List ℕ
 children_at ps i = slice_index_or (map children ps) i []
 
--- the pattern p is passed to the row c
+-- the pattern p passes to the row c
 abbrev pub Passes : List Simple → ℕ → ℕ → Type 0
 Passes ps c p = (r : Simple) × (slice_get ps p ≡ Some r) × Contains (passed r) c
 
--- for each row those that are passed to it
+-- for each row those that pass to it
 pub record IsAbove (ps : List Simple) (above : List (List ℕ)) : Type 0 where
   pub long : length above ≡ length ps
   pub exact : (c p : ℕ) → Contains (slice_index_or above c []) p ↔ Passes ps c p
 
--- the name class that a row has by itself
+-- the name class that a row itself has
 abbrev pub class_in : NamesOf → List (NameClass × PatternId) → Option Simple → Option NameClass
 class_in of es None = None
 class_in of es (Some p) = class_at of es p
 
--- the row has this name class, of those that are judged
+-- the row has this name class, of those that are checked
 abbrev pub IsLabelled : NamesOf → Table → ℕ → NameClass → Type 0
 IsLabelled of t row class = class_in of t.elements (slice_get t.patterns row) ≡ Some class

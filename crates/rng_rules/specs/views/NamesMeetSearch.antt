@@ -10,7 +10,7 @@ use Rattle.rng_rules.specs.declared.names_meet.NamesOf.{NamesOf}
 use Rattle.rng_rules.specs.declared.names_meet.NamesOf.TheVariants as names_of
 use Rattle.rng_rules.specs.views.NamesMeetSides.{MeetBetween}
 
--- what is judged of a start or a body
+-- what is checked for a start or a body
 abbrev pub Breaks : NamesOf → Grammar → Simple ℕ → Type 0
 Breaks names_of.Attributes g p = BreaksAttributeNames p
 Breaks names_of.Elements g p = BreaksElementNames (ClassIn g) p

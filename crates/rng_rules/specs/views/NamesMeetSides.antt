@@ -1,4 +1,4 @@
--- Where names meet: a row that stands in a part, with a side reached from one list of rows and the other from another.
+-- Where names meet: a row of a part, with one side reached from one list of rows and the other side from another list.
 -- Private contracts cite it.
 use Rattle.std.specs.Prelude.{◌≡◌, ◌<◌, ◌⊎◌, ◌↔◌, ◌&&◌, ◌||◌, ◌==◌, ℕ, List, [], ◌∷◌, length, slice_get, slice_index_or, Option, Some, None, Bool, false, All}
 use Rattle.std.specs.Prelude.{if◌then◌else◌}
@@ -14,14 +14,14 @@ use Rattle.rng_rules.specs.views.NamesMeetRows.{IsAbove, children_at, part_rows,
 abbrev pub Climbs : List (List ℕ) → List ℕ → ℕ → Type 0
 Climbs above start k = IsReachedBy (λ j. slice_index_or above j []) start k
 
--- a row that stands in a part, with its sides
+-- a row of a part, with its sides
 pub record IsJoin (of : NamesOf) (t : Table) (row left right : ℕ) : Type 0 where
   pub pattern : Simple
   pub stands : IsReachedBy (children_at t.patterns) (part_rows t) row
   pub is : slice_get t.patterns row ≡ Some pattern
   pub sides : sides_at of pattern ≡ Some (left, right)
 
--- on one side of such a row is what is reached from the first, on the other what is reached from the second
+-- such a row has on one side what is reached from the first, and on the other what is reached from the second
 pub record MeetBetween (of : NamesOf) (t : Table) (above : List (List ℕ)) (first second : List ℕ) : Type 0 where
   pub row : ℕ
   pub left : ℕ
@@ -29,7 +29,7 @@ pub record MeetBetween (of : NamesOf) (t : Table) (above : List (List ℕ)) (fir
   pub join : IsJoin of t row left right
   pub meet : (Climbs above first left × Climbs above second right) ⊎ (Climbs above first right × Climbs above second left)
 
--- the row climbs to one that stands in a part, between whose sides names must not meet
+-- the row climbs to a row of a part between whose sides names must not meet
 pub record IsUnder (of : NamesOf) (t : Table) (above : List (List ℕ)) (k : ℕ) : Type 0 where
   pub row : ℕ
   pub left : ℕ
@@ -37,7 +37,7 @@ pub record IsUnder (of : NamesOf) (t : Table) (above : List (List ℕ)) (k : ℕ
   pub join : IsJoin of t row left right
   pub climbs : Climbs above (k ∷ []) row
 
--- the table's rows made ready
+-- the rows of the table are prepared
 pub record AreRowsOf (of : NamesOf) (t : Table) (above : List (List ℕ)) (standing : List ℕ) : Type 0 where
   pub valid : IsTable t
   pub is_above : IsAbove t.patterns above
@@ -56,7 +56,7 @@ pub record AreMarks (n round : ℕ) (marks : Marks) : Type 0 where
 
 -- ---- tests
 
--- the sides of a row, if it stands in a part and has any
+-- the sides of a row, if it has any
 abbrev pub sides_in : NamesOf → Option Simple → Option (ℕ × ℕ)
 sides_in of None = None
 sides_in of (Some p) = sides_at of p

@@ -1,16 +1,17 @@
--- Which name classes break a rule, as tests. (RELAX NG Specification, section 4.16)
+-- Tests for the name classes that break a rule. (RELAX NG Specification, section 4.16)
 use Rattle.std.specs.Prelude.{codes, ℕ, List, [], Bool, true, false, ◌&&◌, ◌||◌}
 use Rattle.std.specs.Str.{bytes_eq}
 use Rattle.rng_model.specs.names.Names.{Name, NameClass, NameClasses, any_name, any_except, ns_name, ns_except, name_is, one_of, no_classes, class_and}
 use Rattle.rng_model.specs.schema.SchemaClauses.{barred_uri}
 
--- what is sought in a class: `*`, with an except or without; `p:*` of some namespaces, with an except or without; some names
+-- what to search for in a class: `*`, with or without an except; `p:*` of some namespaces, with or without an except;
+-- some names
 pub record ClassTest : Type 0 where
   pub any : Bool
   pub namespace : List ℕ → Bool
   pub name : Name → Bool
 
--- what the test says of a class alone, whatever stands in it
+-- the test for the class itself, without its parts
 abbrev pub passes : ClassTest → NameClass → Bool
 passes t any_name = t.any
 passes t (any_except c) = t.any
@@ -19,7 +20,7 @@ passes t (ns_except u c) = t.namespace u
 passes t (name_is n) = t.name n
 passes t (one_of b c cs) = false
 
--- the test passes for the class, or for one that stands in it
+-- the test passes for the class or for a part of it
 abbrev mutual
   pub has_part : ClassTest → NameClass → Bool
   has_part t any_name = t.any
@@ -56,11 +57,11 @@ is_barred u = bytes_eq u barred_uri
 abbrev pub is_barred_name : Name → Bool
 is_barred_name n = is_barred n.ns || (bytes_eq n.ns [] && bytes_eq n.local (codes "xmlns"))
 
--- the name `xmlns` without namespace, or a name or `p:*` of the namespace of declarations
+-- the name `xmlns` without a namespace, or a name or `p:*` of the namespace of declarations
 abbrev pub declaration_test : ClassTest
 declaration_test = record { any = false; namespace = is_barred; name = is_barred_name }
 
--- inside an except of `*` there is a `*`, or inside one of `p:*` there is a `*` or a `q:*`
+-- an except of `*` contains a `*`, or an except of `p:*` contains a `*` or a `q:*`
 abbrev mutual
   pub breaks_except : NameClass → Bool
   breaks_except any_name = false

@@ -1,4 +1,4 @@
--- Whether the grammar at a place breaks one of the clauses of components, as tests.
+-- Tests whether the grammar at a place breaks one of the clauses about components.
 use Rattle.std.specs.Prelude.{ℕ, Bool}
 use Rattle.rng_model.specs.schema.Patterns.{Place}
 use Rattle.rng_model.specs.schema.Schema.{Schema}

@@ -1,4 +1,4 @@
--- Whether the components of one grammar break a rule, as tests. (RELAX NG Specification, sections 4.17 and 4.18)
+-- Tests whether the components of one grammar break a rule. (RELAX NG Specification, sections 4.17 and 4.18)
 use Rattle.std.specs.Prelude.{ℕ, List, [], ◌∷◌, ◌++◌, Bool, true, false, not, ◌&&◌, ◌||◌, if◌then◌else◌, Option, Some, None, map, option_map}
 use Rattle.std.specs.Borrow.{Bor}
 use Rattle.std.specs.List.{list_any}
@@ -9,7 +9,7 @@ use Rattle.rng_model.specs.declared.method.Method.{Method}
 use Rattle.rng_model.specs.declared.method.Method.TheVariants as methods
 use Rattle.rng_schema_checks.specs.plain.PatternTests.{PatternTest, has_written}
 
--- the name of a component, which a start has not
+-- the name of a component; a start has none
 abbrev pub Name : Type 0
 Name = Option (List ℕ)
 
@@ -37,7 +37,7 @@ has names y = list_any (same_name y) names
 
 -- ---- components of one name
 
--- one of the components with `=` has a name that an earlier one of these has, or that is given
+-- the name of a component with `=` is among these names, or is the name of an earlier component with `=`
 abbrev pub two_plain : List Name → List Component → Bool
 two_plain names [] = false
 two_plain names (c ∷ cs) =
@@ -46,7 +46,7 @@ two_plain names (c ∷ cs) =
 abbrev pub is_interleaved_as : Name → Component → Bool
 is_interleaved_as y c = is_interleaved c.method && same_name y c.name
 
--- one has `|=`, and one of its name has `&=`
+-- one has `|=`, and one of the same name has `&=`
 abbrev pub both_methods : List Component → Bool
 both_methods cs = list_any (λ c. is_choice c.method && list_any (is_interleaved_as c.name) cs) cs
 
@@ -72,7 +72,7 @@ components_at s x = components_or_none (s.components x)
 abbrev pub defines : Schema → Place → List ℕ → Bool
 defines s x y = list_any (is_named (Some y)) (components_at s x)
 
--- the grammar at the place defines the name, where there is one
+-- the grammar at the place defines the name, if there is a place
 abbrev pub defines_if : Schema → Option Place → List ℕ → Bool
 defines_if s None y = false
 defines_if s (Some x) y = defines s x y

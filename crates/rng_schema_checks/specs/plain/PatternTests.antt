@@ -1,4 +1,4 @@
--- Which patterns break a rule, as tests of their kinds. (RELAX NG Specification, sections 4.16 and 4.18)
+-- Tests for the patterns that break a rule, by their kinds. (RELAX NG Specification, sections 4.16 and 4.18)
 use Rattle.std.specs.Prelude.{ℕ, List, Bool, false, ◌||◌, not, is_some}
 use Rattle.rng_model.specs.names.Names.{NameClass}
 use Rattle.rng_model.specs.simple.Tree.{Datatype}
@@ -8,7 +8,7 @@ use Rattle.rng_model.specs.schema.Patterns.{without_parameters}
 use Rattle.rng_model.specs.datatypes.DatatypeTests.{type_of, text_tests}
 use Rattle.rng_schema_checks.specs.plain.ClassTests.{has_part, breaks_except, declaration_test}
 
--- what is sought among patterns: elements and attributes of some classes, datatypes, values, refs and parent refs
+-- what to search for in patterns: elements and attributes of some classes, datatypes, values, refs and parent refs
 pub record PatternTest : Type 0 where
   pub element : NameClass → Bool
   pub attribute : NameClass → Bool
@@ -17,7 +17,7 @@ pub record PatternTest : Type 0 where
   pub ref : List ℕ → Bool
   pub parent_ref : List ℕ → Bool
 
--- what the test says of a pattern alone, whatever stands in it
+-- the test for the pattern itself, without the patterns inside
 abbrev pub passes : PatternTest → Pattern → Bool
 passes t not_allowed = false
 passes t empty = false
@@ -38,7 +38,7 @@ passes t (parent_ref y) = t.parent_ref y
 passes t (grammar z) = false
 passes t (external p) = false
 
--- the test passes for the pattern, or for one that stands in it
+-- the test passes for the pattern or for one inside it
 abbrev mutual
   pub has_written : PatternTest → Pattern → Bool
   has_written t not_allowed = false
@@ -109,7 +109,7 @@ datatype_test = record {
   parent_ref = no_ref;
 }
 
--- ---- refs, where it is told which names their grammar defines, and which the one around it
+-- ---- refs, given the names that their grammar defines, and those of the grammar around it
 
 abbrev pub lacks : (List ℕ → Bool) → List ℕ → Bool
 lacks defined y = not (defined y)

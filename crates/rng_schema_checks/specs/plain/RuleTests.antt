@@ -1,4 +1,4 @@
--- What the rules of the code test.
+-- The tests of the rules of the code.
 use Rattle.rng_schema_checks.specs.plain.ClassTests.{ClassTest, any_test, wildcard_test, declaration_test}
 use Rattle.rng_schema_checks.specs.plain.PatternTests.{PatternTest, class_test, datatype_test, ref_test}
 use Rattle.rng_schema_checks.specs.views.Defined.{finds}

@@ -1,4 +1,4 @@
--- Which names the grammars at places define, as the code keeps them.
+-- The names that the grammars at places define, as the code keeps them.
 use Rattle.std.specs.Prelude.{ℕ, List, Bool, false, Option, Some, None}
 use Rattle.std.specs.Borrow.{Bor}
 use Rattle.std.specs.List.{list_any}

@@ -1,15 +1,15 @@
--- Which datatypes a tree and a grammar have (RELAX NG Specification, section 4.16).
+-- Which datatypes a tree and a grammar may have (RELAX NG Specification, section 4.16).
 use Rattle.std.specs.Prelude.{◌≡◌, [], All}
 use Rattle.rng_model.specs.simple.Tree.{Datatype, Simple, s_not_allowed, s_empty, s_text, s_leaf, s_attribute, s_list, s_data, s_data_except, s_value}
 use Rattle.rng_model.specs.simple.Tree.{s_one_or_more, s_joined}
 use Rattle.rng_model.specs.datatypes.Datatypes.{IsKnownDatatype}
 use Rattle.rng_model.specs.simple.Table.{Grammar}
 
--- the datatype of a value: it is known, and has no parameters
+-- the datatype of a value: it is known and has no parameters
 abbrev pub IsValueDatatype : Datatype → Type 0
 IsValueDatatype d = IsKnownDatatype d × (d.parameters ≡ [])
 
--- each datatype of a tree is known, and that of a value has no parameters
+-- each datatype of the tree is known, and that of a value has no parameters
 abbrev pub AreDatatypesKnown : {L : Type 0} → Simple L → Type 0
 AreDatatypesKnown s_not_allowed = Unit {0}
 AreDatatypesKnown s_empty = Unit {0}

@@ -1,4 +1,4 @@
--- What the simplification of a schema has to answer.
+-- What the simplification of a schema must return.
 use Rattle.std.specs.Prelude.{ℕ, List}
 use Rattle.rng_model.specs.names.Names.{NameClass}
 use Rattle.rng_model.specs.simple.Table.{AreToldApart, Table, grammar_of, IsInSimpleSyntax}

@@ -1,4 +1,4 @@
--- What a numbered grammar has to hold to be the simple form of a schema.
+-- What makes a numbered grammar the simple form of a schema.
 use Rattle.std.specs.Prelude.{◌≡◌, ℕ, ◌<◌, List, [], length, slice_get, slice_index_or, Some, All}
 use Rattle.rng_model.specs.names.Names as names
 use Rattle.rng_model.specs.names.Names.{NameClass}
@@ -13,7 +13,7 @@ use Rattle.rng_graph.specs.plain.InTwos.{nested}
 use Rattle.rng_simple.specs.plain.SimpleOf.{simple_of}
 use Rattle.rng_simple.specs.plain.Renamed.{simple_renamed}
 
--- stands where a list has no element
+-- a default for an index outside a list of elements
 abbrev pub no_element : Leaf
 no_element = record { place = []; position = []; class = names.any_name; content = patterns.not_allowed }
 
@@ -25,7 +25,7 @@ element_at ls k = slice_index_or ls k no_element
 abbrev pub AreDistinct : List Leaf → Type 0
 AreDistinct ls = (j k : ℕ) → j < length ls → k < length ls → element_at ls j ≡ element_at ls k → j ≡ k
 
--- the grammar has this class and this body for the element, whose body has this simple form
+-- the grammar has for this element its class, and the simple form of its body
 pub record IsListedAs (ls : List Leaf) (simples : Leaf → Simple Leaf) (l : Leaf) (e : NameClass × Simple ℕ) : Type 0 where
   pub below : AreLeavesBelow (length ls) (as_tree e.1)
   pub class : e.0 ≡ nested l.class
@@ -35,8 +35,8 @@ pub record IsListedAs (ls : List Leaf) (simples : Leaf → Simple Leaf) (l : Lea
 abbrev pub AreBodies : Schema → (Leaf → Simple Leaf) → Type 0
 AreBodies s simples = (l : Leaf) → IsReachedBySimpleForms s l → (t : Tree Leaf) → IsBodyOf s l t → simples l ≡ simple_of t
 
--- the grammar lists these elements, all of which are reached, each once, and has the simple forms of their bodies and of
--- the start
+-- the grammar lists exactly these elements, each once, all of which are reached, and has the simple forms of their
+-- bodies and of the start
 pub record IsNumbering (s : Schema) (ls : List Leaf) (first : Simple Leaf) (simples : Leaf → Simple Leaf) (g : Grammar) : Type 0 where
   pub count : length ls ≡ length g.elements
   pub distinct : AreDistinct ls

@@ -1,9 +1,9 @@
--- What is reached from a row, through rows and on from an element to the row of its body.
+-- What is reached from a row, through its children, and from an element to the row of its body.
 use Rattle.std.specs.Prelude.{ℕ, List, [], ◌∷◌, slice_index_or}
 use Rattle.rng_simple.specs.declared.rows.Row.{Row}
 use Rattle.rng_simple.specs.declared.rows.Row.TheVariants as row
 
--- the rows next to one
+-- the rows next to a row
 abbrev pub nexts : (ℕ → ℕ) → Row → List ℕ
 nexts content row.NotAllowed = []
 nexts content row.Empty = []
@@ -22,6 +22,6 @@ nexts content (row.Interleave a b) = a ∷ (b ∷ [])
 abbrev pub row_next : List Row → (ℕ → ℕ) → ℕ → List ℕ
 row_next rs content i = nexts content (slice_index_or rs i row.Empty)
 
--- the row of an element's body, and that of empty past the end
+-- the row of an element's body, or that of empty past the end
 abbrev pub content_of : List ℕ → ℕ → ℕ
 content_of rows k = slice_index_or rows k 0

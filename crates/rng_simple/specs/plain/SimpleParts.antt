@@ -1,4 +1,4 @@
--- The simple forms of a graph's patterns, those of the definitions being rows of a table.
+-- The simple forms of the patterns of a graph, if those of the definitions are rows of a table.
 use Rattle.std.specs.Prelude.{ℕ, ◌<◌, List, [], ◌∷◌, slice_index_or}
 use Rattle.rng_model.specs.simple.Tree.{Connector, choice, group, interleave, Tree, Simple, s_not_allowed, s_empty}
 use Rattle.rng_graph.specs.plain.Graph.{Spot}
@@ -7,11 +7,11 @@ use Rattle.rng_simple.specs.views.RowTable.{tree_of}
 use Rattle.rng_simple.specs.plain.SimpleOf.{join}
 use Rattle.rng_simple.specs.declared.row_table.RowTable.{RowTable}
 
--- each of them is below n, and 0 is, which stands past the end
+-- each of them is below n, and so is 0, which is the default past the end
 abbrev pub AreRowsBelow : ℕ → List ℕ → Type 0
 AreRowsBelow n rows = (j : ℕ) → slice_index_or rows j 0 < n
 
--- the trees of the definitions whose rows these are
+-- the trees of definitions with these rows
 abbrev pub values_in : RowTable → List ℕ → ℕ → Simple ℕ
 values_in t parts j = tree_of t (slice_index_or parts j 0)
 

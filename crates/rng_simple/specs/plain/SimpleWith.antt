@@ -1,5 +1,5 @@
--- The plain function that a table of simple forms is filled by: the simple form of a pattern, given that of each of its points.
--- Private contracts cite it.
+-- The plain function that fills a table of simple forms: the simple form of a pattern, given that of each of its
+-- points. Private contracts cite it.
 use Rattle.rng_model.specs.simple.Tree.{Connector, choice, interleave}
 use Rattle.rng_model.specs.simple.Tree.{Tree, not_allowed, empty, text, leaf, attribute, list, data_of, data_except, value, mixed, optional, zero_or_more, one_or_more}
 use Rattle.rng_model.specs.simple.Tree.{joined, Trees, no_trees, tree_and}
@@ -11,7 +11,7 @@ use Rattle.rng_graph.specs.plain.InTwos.{nested}
 use Rattle.rng_graph.specs.plain.DepthWith.{of_aim}
 use Rattle.rng_simple.specs.plain.SimpleOf.{sort_of, attribute_by, list_by, except_by, join, some_of}
 
--- the simple form, given that of each point's tree
+-- the simple form, given that of the tree of each point
 unfoldable mutual
   pub simple_with : {P L : Type 0} → (P → Simple L) → Tree P → Simple L
   simple_with g not_allowed = s_not_allowed
@@ -34,6 +34,6 @@ unfoldable mutual
   join_all_with g k s no_trees = s
   join_all_with g k s (tree_and a ts) = join_all_with g k (join k s (simple_with g a)) ts
 
--- the simple form of a pattern at a place, given those of the definitions; each element has a name
+-- the simple form of a pattern at a place, given those of the definitions and of the elements
 abbrev pub simple_at : {L : Type 0} → Schema → (Leaf → Simple L) → (Definition → Simple L) → Place → Tree Point → Simple L
 simple_at s name table x a = simple_with (λ l. of_aim name s_not_allowed table (aim s x l)) a

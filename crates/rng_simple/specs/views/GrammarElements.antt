@@ -1,4 +1,4 @@
--- The elements of a grammar that is made of rows, and what the grammar is.
+-- The elements of a grammar that is made of rows, and the grammar with these elements.
 use Rattle.std.specs.Prelude.{◌≡◌, ℕ, List, length, slice_get, Some}
 use Rattle.rng_model.specs.names.Names as names
 use Rattle.rng_model.specs.simple.Table.{IsPaired}
@@ -9,7 +9,7 @@ use Rattle.rng_graph.specs.plain.InTwos.{nested}
 use Rattle.rng_simple.specs.plain.Copying.{place_of}
 use Rattle.rng_simple.specs.plain.RowReach.{content_of}
 
--- the element with this number in the graph, its body at its place
+-- a copy of the element with this number in the graph, with the pattern of its body
 pub record IsElementCopy (classes : List names.NameClass) (contents places : List ℕ) (k : ℕ) (e : NameClass × PatternId) : Type 0 where
   pub class : (c : names.NameClass) → slice_get classes k ≡ Some c → class_of e.0 ≡ nested c
   pub paired : IsPaired e.0

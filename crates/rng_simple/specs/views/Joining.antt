@@ -1,4 +1,4 @@
--- The connectors of the code.
+-- Views of the connectors of the code.
 use Rattle.rng_model.specs.simple.Tree as tree
 use Rattle.rng_simple.specs.declared.joining.Connector.{Connector}
 use Rattle.rng_simple.specs.declared.joining.Connector.TheVariants as connector

@@ -8,11 +8,11 @@ use Rattle.rng_simple.specs.contracts.rows.RowPartialEq.TheImpl as same
 abbrev pub number_of_row : {S : Type 0} → HashMap Row ℕ S → Row → Option ℕ
 number_of_row numbers q = get same.ghosts.eq numbers q
 
--- the index has, for each row of the list, its number, and nothing else; so no row stands twice
+-- the index has exactly the rows of the list, each with its number; so the rows are distinct
 abbrev pub IsIndex : {S : Type 0} → List Row → HashMap Row ℕ S → Type 0
 IsIndex rows numbers = (q : Row) (i : ℕ) → number_of_row numbers q ≡ Some i ↔ slice_get rows i ≡ Some q
 
--- the rows with one that may be there: a new one stands after the others
+-- the rows with this one, which is last if it is new
 abbrev pub with_row : List Row → Row → Option ℕ → List Row
 with_row rows r (Some i) = rows
 with_row rows r None = rows ++ r ∷ []

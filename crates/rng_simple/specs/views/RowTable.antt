@@ -1,4 +1,4 @@
--- What the table of rows holds, and how it grows.
+-- What a table of rows contains, and how it grows.
 use Rattle.std.specs.Prelude.{◌≡◌, ℕ, ◌<◌, ◌≤◌, List, [], length, map, string_bytes}
 use Rattle.std.proofs.Common.{Bor}
 use Rattle.rng_model.specs.schema.Patterns.{without_parameters}
@@ -45,30 +45,30 @@ row_count t = length t.rows.items
 abbrev pub tree_of : RowTable → ℕ → Simple ℕ
 tree_of t = tree_at (labels_of t) t.rows.items
 
--- the codes are those that are written, and none stands twice
+-- the codes are those of the labels, and are distinct
 pub record AreCodes (written codes : List (List Part)) : Type 0 where
   pub same : codes ≡ written
   pub apart : AreCodesApart codes
 
--- the labels of each kind have their codes
+-- the labels of each kind have these codes
 pub record AreCoded (t : RowTable) : Type 0 where
   pub classes : AreCodes (map (λ c. class_code (class_of c.now) []) t.classes.items) (codes_of t.class_codes)
   pub datatypes : AreCodes (map (λ d. datatype_code (datatype_of d.now)) t.datatypes.items) (codes_of t.datatype_codes)
   pub values : AreCodes (map (λ v. value_code (value_of v)) t.values.items) (codes_of t.value_codes)
 
--- the rows have their numbers in the index
+-- the index has the numbers of the rows
 pub record IsRowTable (t : RowTable) : Type 0 where
   pub index : IsIndex t.rows.items t.numbers
   pub rows : AreRows (labels_of t) t.rows.items
   pub coded : AreCoded t
 
--- rows have been added
+-- rows may have been added
 pub record IsGrown (old new : RowTable) : Type 0 where
   pub table : IsRowTable new
   pub long : row_count old ≤ row_count new
   pub stays : (i : ℕ) → i < row_count old → tree_of new i ≡ tree_of old i
 
--- labels have been added
+-- labels may have been added
 pub record IsRelabelled (old new : RowTable) : Type 0 where
   pub table : IsRowTable new
   pub count : row_count new ≡ row_count old

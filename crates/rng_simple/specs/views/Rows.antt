@@ -1,4 +1,4 @@
--- A table of numbered patterns, and the trees that its rows stand for.
+-- A table of numbered patterns, and the trees that its rows represent.
 use Rattle.std.specs.Prelude.{◌≡◌, ℕ, ◌<◌, ⊤, List, [], ◌∷◌, ◌++◌, length, fold, slice_get, slice_index_or, Some}
 use Rattle.rng_model.specs.names.Names.{NameClass, any_name}
 use Rattle.rng_model.specs.simple.Tree.{Datatype, choice, group, interleave, IsSimpleBody}
@@ -6,13 +6,13 @@ use Rattle.rng_model.specs.simple.Tree.{Simple, s_not_allowed, s_empty, s_text, 
 use Rattle.rng_simple.specs.declared.rows.Row.{Row}
 use Rattle.rng_simple.specs.declared.rows.Row.TheVariants as row
 
--- what has a number in a row, and is no pattern: name classes in simple form, datatypes, and values, each a datatype and a text
+-- the labels of rows: name classes in simple form, datatypes, and values, each a datatype and a text
 pub record Labels : Type 0 where
   pub classes : List NameClass
   pub datatypes : List Datatype
   pub values : List (Datatype × List ℕ)
 
--- stands where there is no datatype
+-- a default for a missing datatype
 abbrev pub no_datatype : Datatype
 no_datatype = record { library = []; name = []; parameters = [] }
 
@@ -47,7 +47,7 @@ tree_in ts i = slice_index_or ts i s_not_allowed
 abbrev pub with_tree : Labels → List (Simple ℕ) → Row → List (Simple ℕ)
 with_tree l ts r = ts ++ row_tree l (tree_in ts) r ∷ []
 
--- the tree of each row, made of those before it
+-- the tree of each row, made of the trees of earlier rows
 unfoldable pub trees : Labels → List Row → List (Simple ℕ)
 trees l rs = fold (with_tree l) [] rs
 
@@ -55,7 +55,7 @@ trees l rs = fold (with_tree l) [] rs
 abbrev pub tree_at : Labels → List Row → ℕ → Simple ℕ
 tree_at l rs = tree_in (trees l rs)
 
--- each child stands below n
+-- each child is below n
 abbrev pub AreChildrenBelow : ℕ → Row → Type 0
 AreChildrenBelow n row.NotAllowed = ⊤
 AreChildrenBelow n row.Empty = ⊤
@@ -71,7 +71,7 @@ AreChildrenBelow n (row.Choice a b) = (a < n) × (b < n)
 AreChildrenBelow n (row.Group a b) = (a < n) × (b < n)
 AreChildrenBelow n (row.Interleave a b) = (a < n) × (b < n)
 
--- each label is there
+-- each label exists
 abbrev pub IsLabelled : Labels → Row → Type 0
 IsLabelled l row.NotAllowed = ⊤
 IsLabelled l row.Empty = ⊤
@@ -87,26 +87,27 @@ IsLabelled l (row.Choice a b) = ⊤
 IsLabelled l (row.Group a b) = ⊤
 IsLabelled l (row.Interleave a b) = ⊤
 
--- each row's children stand before it
+-- the children of each row come before it
 abbrev pub Falls : List Row → Type 0
 Falls rs = (i : ℕ) (r : Row) → slice_get rs i ≡ Some r → AreChildrenBelow i r
 
--- no row stands twice
+-- the rows are distinct
 abbrev pub AreDistinctRows : List Row → Type 0
 AreDistinctRows rs = (i j : ℕ) (r : Row) → slice_get rs i ≡ Some r → slice_get rs j ≡ Some r → i ≡ j
 
--- each row's labels are there
+-- the labels of each row exist
 abbrev pub AreLabelled : Labels → List Row → Type 0
 AreLabelled l rs = (i : ℕ) (r : Row) → slice_get rs i ≡ Some r → IsLabelled l r
 
--- the first row is empty, children stand before their parents, labels are there, and each row's tree is in the simple syntax
+-- the first row is empty, children come before their parents, labels exist, and the tree of each row is in the simple
+-- syntax
 pub record AreRows (l : Labels) (rs : List Row) : Type 0 where
   pub first : slice_get rs 0 ≡ Some row.Empty
   pub falls : Falls rs
   pub labelled : AreLabelled l rs
   pub simple : (i : ℕ) → IsSimpleBody (tree_at l rs i)
 
--- the labels begin with others
+-- the new labels begin with the old ones
 pub record AreMoreLabels (old new : Labels) : Type 0 where
   pub classes : List NameClass
   pub datatypes : List Datatype

@@ -1,5 +1,5 @@
--- Matching without blank strings: what a pattern of a grammar matches where an element stands for itself alone.
--- Blank strings about elements go before this (RELAX NG Specification, section 6.2.7).
+-- Matching without blank strings: what a pattern of a grammar matches if elements have no blank strings beside them.
+-- Blank strings beside elements are removed first (RELAX NG Specification, section 6.2.7).
 use Rattle.std.specs.Prelude.{◌≡◌, ◌⊎◌, ℕ, List, [], ◌∷◌, ◌++◌, Bool, true, false, cond}
 use Rattle.std.specs.List.{list_any}
 use Rattle.rng_model.specs.names.Names as names
@@ -22,7 +22,7 @@ pub record Grouped (P Q : List Attribute → List Item → Type 0) (zs : List At
   pub attributes : Interleaves xs ys zs
   pub items : ms ++ ns ≡ os
 
--- the kinds of pattern that are derived so far
+-- the kinds of pattern that are derived
 abbrev pub IsDerivable : tree.Simple ℕ → Type 0
 IsDerivable tree.s_not_allowed = Unit {0}
 IsDerivable tree.s_empty = Unit {0}
@@ -72,16 +72,16 @@ module _ (g : Grammar) (tests : TextTests) where
     pub forth : (ns : List Item) → Accepts q [] ns → Accepts p [] (n ∷ ns)
     pub back : (ns : List Item) → Accepts p [] (n ∷ ns) → Accepts q [] ns
 
-  -- q matches what may stand beside the attribute in a match of p
+  -- q matches what may be beside the attribute in a match of p
   pub record IsAfterAttribute (a : Attribute) (p q : tree.Simple ℕ) : Type 0 where
     pub forth : (xs : List Attribute) (ns : List Item) → Accepts q xs ns → Accepts p (a ∷ xs) ns
     pub back : (xs : List Attribute) (ns : List Item) → Accepts p (a ∷ xs) ns → Accepts q xs ns
 
-  -- the string alone weakly matches, beside these attributes
+  -- the string alone weakly matches, with these attributes
   abbrev pub TakesText : tree.Simple ℕ → List Attribute → List ℕ → Type 0
   TakesText p xs s = Accepts p xs (a_text s ∷ []) ⊎ (Accepts p xs [] × (is_blank s ≡ true))
 
-  -- attributes and content match: weakly where the content is no item or one string
+  -- attributes and content match: weakly if the content is no item or one string
   abbrev pub Contains : tree.Simple ℕ → List Attribute → List Item → Type 0
   Contains p xs [] = TakesText p xs []
   Contains p xs (a_text s ∷ []) = TakesText p xs s
@@ -101,11 +101,11 @@ without_blanks [] = []
 without_blanks (a_text s ∷ ns) = cond (is_blank s) (without_blanks ns) (a_text s ∷ without_blanks ns)
 without_blanks (an_element q xs kids ∷ ns) = an_element q xs kids ∷ without_blanks ns
 
--- without blank strings, if so
+-- without blank strings, if drops is true
 abbrev pub kept : Bool → List Item → List Item
 kept drops ns = cond drops (without_blanks ns) ns
 
--- what patterns take of the children of an element
+-- the children of an element as patterns take them
 abbrev pub content : List Item → List Item
 content ns = kept (has_element ns) ns
 

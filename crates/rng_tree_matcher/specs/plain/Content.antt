@@ -1,4 +1,4 @@
--- Which content a pattern takes, and which nodes an element of the grammar does.
+-- The content that a pattern takes, and the nodes that an element of the grammar takes.
 use Rattle.std.specs.Prelude.{◌≡◌, ◌↔◌, ◌⊎◌, ℕ, ◌<◌, ◌^◌, List, [], ◌∷◌, Bool, true, IsTrue, Some, nat_eq, slice_get}
 use Rattle.std.specs.HashSet.{HashSet, contains}
 use Rattle.rng_model.specs.names.Names as names
@@ -14,14 +14,14 @@ use Rattle.rng_tree_matcher.specs.plain.Derivative.{StandsForItem}
 use Rattle.rng_tree_matcher.specs.declared.pattern_table.TableEntry.{TableEntry}
 use Rattle.rng_tree_matcher.specs.declared.derivative.Symbol.{Symbol}
 
--- each symbol stands for the item in its place
+-- each symbol represents the item in its place
 abbrev pub StandForItems : Grammar → List Symbol → List Item → Type 0
 StandForItems g [] [] = Unit {0}
 StandForItems g [] (n ∷ ns) = ⊥
 StandForItems g (s ∷ ss) [] = ⊥
 StandForItems g (s ∷ ss) (n ∷ ns) = StandsForItem g s n × StandForItems g ss ns
 
--- q matches with these items what p does with them and these attributes
+-- q matches with these items what p matches with them and these attributes
 abbrev pub IsAfterAttributes : Grammar → TextTests → List Attribute → tree.Simple ℕ → tree.Simple ℕ → Type 0
 IsAfterAttributes g tests xs p q = (ns : List Item) → Accepts g tests q [] ns ↔ Accepts g tests p xs ns
 
@@ -33,7 +33,7 @@ pub record TakesNode (g : Grammar) (tests : TextTests) (k : ℕ) (q : names.Name
   pub named : In class q
   pub contains : Contains g tests body xs ns
 
--- ---- what is answered where symbols stand for items
+-- ---- results where symbols represent items
 
 -- whether a pattern matches the items
 abbrev pub AnswersItems : Table → List TableEntry → ℕ → List Symbol → Bool → Type 0

@@ -1,4 +1,4 @@
--- What the derivative of a pattern by a symbol is.
+-- The derivative of a pattern by a symbol.
 use Rattle.std.specs.Prelude.{◌≡◌, ◌↔◌, ℕ, ◌+◌, ◌*◌, ◌^◌, ◌<◌, List, [], ◌∷◌, ◌++◌, length, slice_get, Option, Some, None, nat_eq, true, IsTrue}
 use Rattle.std.specs.HashMap.{HashMap, get}
 use Rattle.std.specs.HashSet.{HashSet, contains}
@@ -15,7 +15,7 @@ use Rattle.rng_tree_matcher.specs.declared.pattern_table.TableEntry.{TableEntry}
 use Rattle.rng_tree_matcher.specs.declared.derivative.Symbol.{Symbol}
 use Rattle.rng_tree_matcher.specs.declared.derivative.Symbol.TheVariants as symbol
 
--- a derivative by an attribute may ask for derivatives by its value, and these ask for none of their own
+-- a derivative by an attribute may need derivatives by its value, and these need no others of their own
 abbrev pub rank : Table → Symbol → ℕ
 rank t (symbol.Attribute a) = 4 * length t.patterns + 6
 rank t (symbol.Text s) = 0
@@ -57,13 +57,13 @@ pub record HasItsElements {Z : Type 0} (g : Grammar) (elements : HashSet ℕ Z) 
   pub element : has_element (n ∷ []) ≡ true
   pub each : (tests : TextTests) (k : ℕ) → k < 2 ^ 64 → IsTrue (contains nat_eq elements k) ↔ IsOf g tests k n
 
--- the symbol stands for the item
+-- the symbol represents the item
 abbrev pub StandsForItem : Grammar → Symbol → Item → Type 0
 StandsForItem g (symbol.Attribute a) n = ⊥
 StandsForItem g (symbol.Text s) n = n ≡ a_text s.now
 StandsForItem g (symbol.Element elements) n = HasItsElements g elements n
 
--- q is what is left of p after what the symbol stands for
+-- q is what is left of p after what the symbol represents
 abbrev pub IsDerivative : Grammar → Symbol → tree.Simple ℕ → tree.Simple ℕ → Type 0
 IsDerivative g (symbol.Attribute a) p q = (tests : TextTests) → IsAfterAttribute g tests (attribute_of a.now) p q
 IsDerivative g (symbol.Text s) p q = (tests : TextTests) → IsAfterItem g tests (a_text s.now) p q
@@ -75,7 +75,7 @@ pub record IsAfter (t : Table) (rs : List TableEntry) (s : Symbol) (number left 
   pub left_inside : left < length rs
   pub is : IsDerivative (grammar_of t) s (tree_of t rs number) (tree_of t rs left)
 
--- each derivative that is kept is one
+-- each derivative that is kept is right
 abbrev pub Knows : {Z : Type 0} → Table → List TableEntry → Symbol → HashMap ℕ ℕ Z → Type 0
 Knows t rs s memo = (number left : ℕ) → get nat_eq memo number ≡ Some left → IsAfter t rs s number left
 

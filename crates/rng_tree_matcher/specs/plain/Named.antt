@@ -1,4 +1,4 @@
--- Which elements of a grammar stand under a local name, and which among the others.
+-- The elements of a grammar by local name, and the others.
 use Rattle.std.specs.Prelude.{◌≡◌, ℕ, ◌^◌, ◌<◌, List, [], ◌++◌, Option, Some, None, Bool, true, false, nat_eq, slice_get, string_bytes}
 use Rattle.std.specs.List.{list_any}
 use Rattle.std.specs.Option.{option_map_or}
@@ -11,7 +11,7 @@ use Rattle.rng_model.specs.declared.name.NameClass.TheVariants as classes
 use Rattle.rng_model.specs.declared.simple.PatternId.{PatternId}
 use Rattle.rng_tree_matcher.specs.declared.names.ElementNames.{ElementNames}
 
--- the numbers that the table has under a local name
+-- the numbers in the table for a local name
 abbrev pub listed_under : {Z : Type 0} → HashMap (Bor (List ℕ)) (Vec ℕ Global) Z → List ℕ → List ℕ
 listed_under table local = option_map_or (λ numbers. numbers.items) (get_by (λ k. bytes_eq local k.now) table) []
 
@@ -24,22 +24,22 @@ abbrev pub local_of : NameClass → Option (List ℕ)
 local_of (classes.Name only) = Some (string_bytes only.local)
 local_of _ = None
 
--- the numbers that stand under the local name of a class, or where the class is not one name those of the others
+-- the numbers for the local name of a class, or those of the others if the class is not one name
 abbrev pub place_of : {Z : Type 0} → HashMap (Bor (List ℕ)) (Vec ℕ Global) Z → List ℕ → Option (List ℕ) → List ℕ
 place_of table others (Some local) = listed_under table local
 place_of table others None = others
 
--- two classes with these local names stand at one place
+-- two classes with these local names have the same place
 abbrev pub is_same_place : Option (List ℕ) → Option (List ℕ) → Bool
 is_same_place (Some p) (Some q) = bytes_eq p q
 is_same_place None None = true
 is_same_place _ _ = false
 
--- each of the first n elements stands at the place of its class
+-- each of the first n elements is at the place of its class
 abbrev pub ListsFirst : Table → (Option (List ℕ) → List ℕ) → ℕ → Type 0
 ListsFirst t place n = (k : ℕ) (e : NameClass × PatternId) → k < n → slice_get t.elements k ≡ Some e → has_number (place (local_of e.0)) k ≡ true
 
--- each element that the program can number stands at its place
+-- each element that the program can number is at its place
 abbrev pub ListsElements : Table → ElementNames → Type 0
 ListsElements t names = ListsFirst t (place_of names.by_local names.others.items) (2 ^ 64)
 

@@ -1,4 +1,4 @@
--- Patterns by number, and the trees that they stand for.
+-- Patterns by number, and the trees that they represent.
 use Rattle.std.specs.Prelude.{◌≡◌, ℕ, ◌<◌, ◌≤◌, ⊤, List, [], ◌∷◌, ◌++◌, length, fold, slice_get, slice_index_or, Option, Some, None, Bool, true, false, ◌||◌, All}
 use Rattle.std.specs.Prelude.{◌&&◌}
 use Rattle.rng_model.specs.simple.Tree as tree
@@ -48,7 +48,7 @@ tree_in ts number = slice_index_or ts number tree.s_not_allowed
 abbrev pub with_tree : Table → List (tree.Simple ℕ) → TableEntry → List (tree.Simple ℕ)
 with_tree t ts r = ts ++ tree_over t (tree_in ts) r.node ∷ []
 
--- the tree of each pattern, made of those before it
+-- the tree of each pattern, made from those before it
 unfoldable pub trees : Table → List TableEntry → List (tree.Simple ℕ)
 trees t rs = fold (with_tree t) [] rs
 
@@ -72,7 +72,7 @@ is_nullable (tree.s_joined choice p q) = is_nullable p || is_nullable q
 is_nullable (tree.s_joined group p q) = is_nullable p && is_nullable q
 is_nullable (tree.s_joined interleave p q) = is_nullable p && is_nullable q
 
--- the sides stand below n
+-- the numbers of the sides are below n
 abbrev pub AreSidesBelow : ℕ → Node → Type 0
 AreSidesBelow n node.NotAllowed = ⊤
 AreSidesBelow n node.Empty = ⊤
@@ -82,14 +82,14 @@ AreSidesBelow n (node.Attribute a) = ⊤
 AreSidesBelow n (node.Group a b) = (a < n) × (b < n)
 AreSidesBelow n (node.Choice a b) = (a < n) × (b < n)
 
--- what is kept of the patterns
+-- the invariant of the patterns
 pub record IsPatternTable (rs : List TableEntry) : Type 0 where
-  -- the sides of each stand before it
+  -- the sides of each are before it
   pub falls : (i : ℕ) (r : TableEntry) → slice_get rs i ≡ Some r → AreSidesBelow i r.node
   -- the flag says whether it is nullable
   pub flags : (t : Table) (i : ℕ) (r : TableEntry) → slice_get rs i ≡ Some r → r.nullable ≡ is_nullable (tree_of t rs i)
 
--- some patterns were added
+-- some patterns are added
 abbrev pub Longer : List TableEntry → List TableEntry → Type 0
 Longer rs ss = (more : List TableEntry) × (ss ≡ rs ++ more)
 
@@ -99,7 +99,8 @@ pub record AddsPattern (rs ss : List TableEntry) (built : Table → tree.Simple 
   pub inside : number < length ss
   pub same : (t : Table) (g : Grammar) (tests : TextTests) → Same g tests (tree_of t ss number) (built t)
 
--- the node of the grammar's pattern at a position; the kinds that are not taken yet, which no grammar has that is matched, allow nothing
+-- the node of the grammar's pattern at a position; the kinds that are not supported, which no grammar that is matched
+-- has, allow nothing
 abbrev pub node_for : Simple → PatternId → Node
 node_for simple.NotAllowed position = node.NotAllowed
 node_for simple.Empty position = node.Empty
@@ -115,7 +116,7 @@ node_for (simple.Interleave a b) position = node.NotAllowed
 node_for (simple.Group a b) position = node.Group a.0 b.0
 node_for (simple.Choice a b) position = node.Choice a.0 b.0
 
--- each pattern of the grammar stands at its position
+-- each pattern of the grammar is at its position
 pub record AreCopied (t : Table) (rs : List TableEntry) : Type 0 where
   pub table : IsTable t
   pub kinds : All IsOfFirstKind t.patterns

@@ -1,4 +1,4 @@
--- What the faults say of a datatype.
+-- What each fault says of a datatype.
 use Rattle.rng_model.specs.simple.Tree.{Datatype}
 use Rattle.rng_model.specs.datatypes.Datatypes.{HasUnknownLibrary, HasUnknownType, HasBadParameters}
 use Rattle.rng_types.specs.declared.builtin.TypeFault.{TypeFault}

@@ -1,4 +1,4 @@
--- What the datatypes of the code are, apart from how they are held.
+-- The views of the datatypes of the code.
 use Rattle.std.specs.Prelude.{ℕ, List, map, String, Result, Ok, Err}
 use Rattle.rng_model.specs.simple.Tree.{Datatype}
 use Rattle.rng_model.specs.datatypes.DatatypeViews.{parameter_of}
@@ -30,7 +30,7 @@ built_in_type_of (types.Integer d) = xsd_integer (bounds_of d.bounds)
 abbrev pub datatype_at : {Z : Type 0} → List ℕ → List ℕ → List (String Z × String Z) → Datatype
 datatype_at library name parameters = record { library = library; name = name; parameters = map parameter_of parameters }
 
--- an answer, seen through the view of what it is
+-- a result, under a view of its value
 abbrev pub seen : {X Y : Type 0} → (X → Y) → Result X TypeFault → Result Y TypeFault
 seen view (Ok x) = Ok (view x)
 seen view (Err f) = Err f

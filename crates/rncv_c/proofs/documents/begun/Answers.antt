@@ -1,4 +1,4 @@
--- What was fed is nothing, and then nothing more.
+-- Nothing is fed, and then again nothing.
 use Rattle.rncv_c.proofs.documents.begun.Goals as goal
 
 pub returns-in-Ok-clause-done : goal.returns-in-Ok-clause-done

@@ -7,11 +7,11 @@ use Rattle.rncv_c.proofs.files.are_named.Goals as goal
 pub loop-file-preserved : goal.loop-file-preserved
 loop-file-preserved c = All-more (λ f. IsUtf8 f.name.now) _ _ _ c.loop-file-test.true c.loop-file.invariant c.in-Ok.ensures.cases.1
 
--- past its length, taking is no change
+-- taking as many elements as there are, or more, changes nothing
 take_whole : (files : List SchemaFile) (n : ℕ) → length files ≤ n → files ≡ take n files
 take_whole files n all = sym (take_all n files all)
 
--- a list that is not empty has an element, and the other way round
+-- a list has an element exactly if it is not empty
 some_from_test : (n : ℕ) (b : Bool) → b ≡ (n == 0) → IsTrue (not b) → 0 < n
 some_from_test n b e t = grind arith
 

@@ -1,4 +1,4 @@
--- The place that is told is one in the first file of the name that the cause has.
+-- The place that is reported is one in the first file of the name that the cause has.
 use Rattle.std.proofs.Common.{◌≡◌, ◌∙◌, ℕ, List, Option, ap, subst, sym, string_bytes}
 use Rattle.std.specs.Prelude.{bytes_eq, position}
 use Rattle.rnc_model.specs.declared.file_place.FilePlace.{FilePlace}
@@ -8,7 +8,7 @@ use Rattle.rncv_c.specs.declared.files.SchemaFile.{SchemaFile}
 use Rattle.rncv_c.specs.declared.told.Refusal.{Refusal}
 use Rattle.rncv_c.proofs.told.refusal_to_tell.Goals as goal
 
--- what is told of the file of a name, found by its index
+-- what is reported of the file of a name, found by its index
 told_of : (files : List SchemaFile) (name word : List ℕ) (clause : ℕ) (index : Option ℕ) (file : Option SchemaFile) (place : Option FilePlace) (told : Refusal)
     → word ≡ name → index ≡ position (λ f. bytes_eq f.name.now word) files → file ≡ file_at index files → IsPlaceToTell file clause place
     → told ≡ refusal_at (index_for_c index) clause place

@@ -19,7 +19,7 @@ some_is : {X : Type 0} (found : Option X) (x : X) → IsSomeAnd found (λ y. y �
 some_is None x h = absurd h
 some_is (Some y) x h = ap Some h
 
--- the command that is built has the form
+-- the command as it is built is the form
 is_form : (c : goal.After-try_get_matches_from) → app_of c.in_ok-arg-2.field-0 ≡ form
 is_form c =
     let command_is : rule_of c.action-command.result ≡ command_rule = search rules in

@@ -9,7 +9,7 @@ use Rattle.rng_deriv.specs.views.Starts.{OpensLike}
 use Rattle.rng_deriv.proofs.JoinedStarts.{next_joined}
 use Rattle.rng_deriv.proofs.starts.joined_ways.Goals as goal
 
--- that numbers are in the table is said for each grammar, so for one of nothing
+-- that numbers are in the table does not depend on the grammar, so any grammar will do
 pub add_way-requires-clause-inside : goal.add_way-requires-clause-inside
 add_way-requires-clause-inside c =
     let nothing : Table = record { patterns = []; elements = []; start = record { 0 = 0 } } in

@@ -9,7 +9,7 @@ use Rattle.rng_model.proofs.device_writing.write_whole.Goals as goal
 take-rest : (xs : List ℕ) (i : ℕ) → take (length xs - i) (drop i xs) ≡ drop i xs
 take-rest xs i = take_all _ _ (omega (arith, length-drop i xs))
 
--- a front, and then a front of the rest, is a longer front
+-- a front, followed by a front of the rest, is a longer front
 Appends-more : (a b c : Option (List ℕ)) (xs : List ℕ) (i n : ℕ) → Appends a b (take i xs) → Appends b c (take n (take (length xs - i) (drop i xs))) →
     Appends a c (take (i + n) xs)
 Appends-more a b c xs i n p q = rw take-add (Appends-trans a b c _ _ p (rw take-rest at q))

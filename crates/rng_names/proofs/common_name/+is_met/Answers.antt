@@ -8,7 +8,7 @@ use Rattle.rng_names.proofs.common_name.+is_met.Goals as goal
 
 pub returns-then-is_met-clause-test : goal.returns-then-is_met-clause-test
 returns-then-is_met-clause-test t c =
-    let test = both_hold (class_of c.args.a.now.class.now) (class_of c.args.b.now.class.now) in
+    let test = both_hold (class_of c.args.a.now) (class_of c.args.b.now) in
     let fresh = c.args.fresh.now in
     let xs = c.deref-member-items.result.now in
     let whole : class_of c.args.written.now ≡ some_of (map class_of xs) = choice_is _ _ xs c.in-Choice.is c.deref-member-items.ensures.value in
@@ -19,7 +19,7 @@ returns-then-is_met-clause-test t c =
 
 pub returns-after-members-clause-test : goal.returns-after-members-clause-test
 returns-after-members-clause-test t c =
-    let test = both_hold (class_of c.args.a.now.class.now) (class_of c.args.b.now.class.now) in
+    let test = both_hold (class_of c.args.a.now) (class_of c.args.b.now) in
     let fresh = c.args.fresh.now in
     let xs = c.deref-member-items.result.now in
     let whole : class_of c.args.written.now ≡ some_of (map class_of xs) = choice_is _ _ xs c.in-Choice.is c.deref-member-items.ensures.value in

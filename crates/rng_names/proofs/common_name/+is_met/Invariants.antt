@@ -7,4 +7,4 @@ use Rattle.rng_names.proofs.common_name.+is_met.Given as goal
 -- the test passes for no member so far
 abbrev pub invariant-members : goal.invariant-members
 invariant-members l =
-    list_any (λ c. is_met (both_hold (class_of l.a.class.now) (class_of l.b.class.now)) l.fresh (class_of c)) (take l.member-index l.member-items) ≡ false
+    list_any (λ c. is_met (both_hold (class_of l.a) (class_of l.b)) l.fresh (class_of c)) (take l.member-index l.member-items) ≡ false

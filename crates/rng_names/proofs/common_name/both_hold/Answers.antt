@@ -7,6 +7,6 @@ use Rattle.rng_names.proofs.common_name.both_hold.Goals as goal
 pub returns-then-hold-clause-common : goal.returns-then-hold-clause-common
 returns-then-hold-clause-common c = λ told.
     let q = pair c.args.ns.now c.args.local.now in
-    let first = (holds-Decides (class_of c.args.a.now.class.now) q).0 (sym (c.requires.first.held q) ∙ sym c.hold.ensures ∙ c.if-hold.true) in
-    let second = (holds-Decides (class_of c.args.b.now.class.now) q).0 (sym (c.requires.second.held q) ∙ sym c.hold-then-hold.ensures ∙ told) in
+    let first = (holds-Decides (class_of c.args.a.now) q).0 (sym c.hold.ensures ∙ c.if-hold.true) in
+    let second = (holds-Decides (class_of c.args.b.now) q).0 (sym c.hold-then-hold.ensures ∙ told) in
     (q, (c.utf8.ns, c.utf8.local), first, second)

@@ -3,7 +3,7 @@ use Rattle.rng_print.proofs.ClassTexts.{choice_written}
 use Rattle.rng_print.proofs.ListLookups.{on_ok}
 use Rattle.rng_print.proofs.name_class.+write_class.Goals as goal
 
--- what was written, and then what is written behind it
+-- what is written, and then what is written after it
 behind : {was now all : List ℕ} (w : List ℕ) → now ≡ was ++ w → was ≡ all → now ≡ all ++ w
 behind w e f = e ∙ ap (λ x. x ++ w) f
 

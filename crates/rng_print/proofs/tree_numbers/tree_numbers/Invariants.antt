@@ -3,7 +3,7 @@ use Rattle.rng_labels.specs.plain.LabelCodes.{codes_of}
 use Rattle.rng_print.proofs.TreeNumbers.{AreNumbered}
 use Rattle.rng_print.proofs.tree_numbers.tree_numbers.Given as goal
 
--- so many patterns have their numbers
+-- the first patterns have their numbers
 abbrev pub invariant-patterns : goal.invariant-patterns
 invariant-patterns l = AreNumbered l.grammar l.numbers.items (codes_of l.codes)
 

@@ -15,7 +15,8 @@ use Rattle.rng_print_laws.proofs.PrintedAgain.{answer_again, answer_alone}
 use Rattle.rng_print_laws.proofs.PrintedTwice.{printed_twice, same_form_twice}
 use Rattle.rng_print_laws.proofs.printed_again.printed_again_laws.Goals as goal
 
--- what is printed for a good schema that files are is a file of the tree of its lines: printable texts are read back, and its simple grammars are printable
+-- what is printed for a good schema of files is a file with the tree of its lines: printable texts are read back, and
+-- its simple grammars are printable
 printed_file : ((g : Grammar) (text : List ℕ) → IsPrintable g → (p : IsPrinted g text) → length text ≤ 1048576 → IsReadAs text (lines_tree g p.items))
     → ((files : List NamedFile) (main : Name) (read : TakenFiles) (s : Schema) → FilesHaveOnlyVerdict files main (are_taken read) → AreSchema read main s
     → BreaksNoClause s → (g : Grammar) → IsSimpleGrammarOf s g → IsPrintable g)

@@ -18,7 +18,7 @@ use Rattle.rng_rules.proofs.names_meet.names_meet.Goals as goal
 abbrev BrokenIn : NamesOf → Table → Type 0
 BrokenIn of t = (p : tree.Simple ℕ) × IsPart (grammar_of t) p × Breaks of (grammar_of t) p
 
--- of the same
+-- the same for equal arguments
 here_too : (P : NamesOf → Table → Type 0) {o of : NamesOf} {u t : Table} → o ≡ of → u ≡ t → P o u → P of t
 here_too P {o} {of} {u} {t} e f p = subst (λ x. P x t) e (subst (P o) f p)
 

@@ -1,23 +1,26 @@
-use Rattle.std.proofs.Common.{◌+◌, sym, ap, subst, map, take, arith, Contains}
-use Rattle.std.proofs.lemmas.List.{length-map, take_all}
-use Rattle.rng_rules.specs.views.NamesMeetLabels.{label_of}
-use Rattle.rng_rules.proofs.NamesMeetGroups.{taken}
-use Rattle.rng_rules.proofs.NamesMeetSearch.{plain_more}
+use Rattle.std.proofs.Common.{◌≡◌, sym, ap, subst, ◌∙◌, ℕ, ◌<◌, length, map, Contains}
+use Rattle.rng_model.specs.declared.name.NameClass.{NameClass}
+use Rattle.rng_names.specs.views.PlainNames.{IsPlain}
+use Rattle.rng_rules.specs.views.NamesMeetLabels.{label_of, ready_label_of}
+use Rattle.rng_rules.specs.plain.NamesMeetReach.{lists}
+use Rattle.rng_rules.specs.views.NamesMeetSearch.{Meeting}
+use Rattle.rng_rules.proofs.NamesMeetSearch.{if_ok}
 use Rattle.rng_rules.proofs.names_meet_search.others_meet.Goals as goal
 
-pub loop-label-preserved : goal.loop-label-preserved
-loop-label-preserved c =
-    let ls = c.args.labels.now in
-    let i = c.loop-label.label-index in record {
-      marks = c.in_ok-one_meets.ensures.marks;
-      round = ap (λ k. k + 1) c.loop-label.invariant.round;
-      none = λ m. plain_more (take i (map label_of ls)) (take (i + 1) (map label_of ls)) (label_of c.label-item.result) m.first
-          (taken label_of ls i c.label-item.result c.loop-label-test.true c.label-item.is) (c.loop-label.invariant.none m)
-          (c.in_ok-one_meets.ensures.none c.if-branch.false m);
-    }
+pub ready_meet-requires-clause-below : goal.ready_meet-requires-clause-below
+ready_meet-requires-clause-below c =
+    let same : map ready_label_of c.as_slice.result.now ≡ map label_of c.args.labels.now = ap (map ready_label_of) c.as_slice.ensures.value ∙ c.in_ok-ready.ensures in
+    subst (λ ls. (row : ℕ) (d : NameClass) → Contains ls (row, d) → row < length c.args.rows.now.standing.items) (sym same) c.requires.below
+
+pub returns-clause-only : goal.returns-clause-only
+returns-clause-only c =
+    let same : map ready_label_of c.as_slice.result.now ≡ map label_of c.args.labels.now = ap (map ready_label_of) c.as_slice.ensures.value ∙ c.in_ok-ready.ensures in
+    let rows = c.args.rows.now in
+    if_ok c.ready_meet.result (λ answer found is. subst (Meeting rows.of rows.grammar.now (lists rows.above.items)) same (found is)) c.ready_meet.ensures.only
 
 pub returns-clause-none : goal.returns-clause-none
-returns-clause-none c = λ untrue m.
-    let ls = map label_of c.args.labels.now in
-    c.loop-label.invariant.none m (subst (λ xs. Contains xs m.first)
-    (sym (take_all c.loop-label.label-index ls (omega (arith, c.loop-label-test.false, length-map c.args.labels.now label_of)))) m.first_there)
+returns-clause-none c =
+    let same : map ready_label_of c.as_slice.result.now ≡ map label_of c.args.labels.now = ap (map ready_label_of) c.as_slice.ensures.value ∙ c.in_ok-ready.ensures in
+    let rows = c.args.rows.now in
+    if_ok c.ready_meet.result (λ answer none is.
+    subst (λ ls. (m : Meeting rows.of rows.grammar.now (lists rows.above.items) ls) → IsPlain m.first.1) same (none is)) c.ready_meet.ensures.none

@@ -4,7 +4,7 @@ use Rattle.rng_model.specs.names.NameViews.{class_of}
 use Rattle.rng_schema_checks.specs.plain.ClassTests.{some_breaks_except}
 use Rattle.rng_schema_checks.proofs.name_classes.+breaks_except.Given as goal
 
--- the members that are left break the rule where all of them do
+-- some member breaks the rule exactly if one of those that are left does
 abbrev pub invariant-members : goal.invariant-members
 invariant-members l =
     some_breaks_except (classes_of (map class_of l.member-items)) ≡ some_breaks_except (classes_of (map class_of (drop l.member-index l.member-items)))

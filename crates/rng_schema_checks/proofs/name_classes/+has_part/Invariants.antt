@@ -5,7 +5,7 @@ use Rattle.rng_schema_checks.specs.plain.ClassTests.{some_has_part}
 use Rattle.rng_schema_checks.specs.plain.RuleTests.{part_test}
 use Rattle.rng_schema_checks.proofs.name_classes.+has_part.Given as goal
 
--- what is sought is among the members that are left where it is among all of them
+-- the part is in some member exactly if it is in one of those that are left
 abbrev pub invariant-members : goal.invariant-members
 invariant-members l =
     some_has_part (part_test l.part) (classes_of (map class_of l.member-items)) ≡

@@ -16,7 +16,7 @@ returns-in-LineEnd c =
     pushed c.push.result _ _ _ 10 _ _ c.push.ensures.bytes (IsUtf8-string_bytes c.self.inside.text) (IsUtf8-string_bytes c.push.new.self) c.self.invariant
     (sym c.in-LineEnd.is) c.self.view_is
 
--- ---- an LF that is none
+-- ---- an LF that is no line end
 
 pub invariant_of-self-in_err-push-in-Ordinary-eq10-2 : goal.invariant_of-self-in_err-push-in-Ordinary-eq10-2
 invariant_of-self-in_err-push-in-Ordinary-eq10-2 c =

@@ -1,4 +1,4 @@
--- A handle goes to another thread where what it holds may go.
+-- A handle may move to another thread, since what it holds may.
 use mir.Raw.{raw}
 use base.Shift.{Keyless}
 use denote.Memory.{lone}
@@ -17,7 +17,7 @@ use Rattle.rncv_c.specs.views.Handles.{handle_owns}
 use Rattle.rncv_c.specs.contracts.handle.Held as Held
 use Rattle.rncv_c.specs.contracts.handle.Handle.{the_row, the_type}
 
--- what a handle may hold may go: a schema, or a document in progress
+-- what a handle may hold may move: a schema, or a document in progress
 held : IsSend Held.the_row
 held = search (sendable, crosses, validator_send, document_send) depth 20
 

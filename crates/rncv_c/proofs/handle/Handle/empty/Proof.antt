@@ -1,4 +1,4 @@
--- An empty handle is null, and owns nothing but the allocator.
+-- An empty handle is null, and owns only the allocator.
 use Rattle.std.proofs.Common.{List, [], ◌∷◌, ◌++◌, refl, sym, subst}
 use mir.Val.{Val}
 use base.Logic.{SProp, ent, id⊢}

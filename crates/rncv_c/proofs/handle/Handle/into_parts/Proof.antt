@@ -1,4 +1,4 @@
--- `into_parts` tests the pointer. At null there was no value, and else the parts own what the handle owned.
+-- `into_parts` tests the pointer. If it is null, there is no value. Otherwise the parts own what the handle owned.
 use Rattle.std.proofs.Common.{◌≡◌, ℕ, List, [], ◌∷◌, ◌++◌, refl, sym, ap, ◌∙◌, subst, lit<}
 use seplogic.Ra.Ura.{Ura}
 use mir.Raw.{raw as bare}

@@ -4,9 +4,9 @@ use Rattle.rncv_validator.specs.declared.fault.DocumentFault.{DocumentFault}
 use Rattle.rncv_validator.specs.declared.fault.DocumentFault.TheVariants as faults
 use Rattle.rng_model.specs.documents.Handing.{Hands}
 use Rattle.rng_deriv.specs.views.Matchers.{HasGoneOn}
-use Rattle.rncv_validator.specs.views.Documents.{IsFaultOfReader, Judging, UnlessMemory, matching_of}
-use Rattle.rncv_validator.proofs.FedDocuments.{fault_of_fed, fault_put, fault_there, gone, grammar_put, if_none, known_put, piece_fed, resumed}
-use Rattle.rncv_validator.proofs.FedDocuments.{since_kept, state_put, stuck_fed}
+use Rattle.rncv_validator.specs.views.Documents.{HasNotRunOut, IsFaultOfReader, Judging, UnlessMemory, matching_of}
+use Rattle.rncv_validator.proofs.FedDocuments.{fault_of_fed, fault_put, fault_there, gone, grammar_put, if_none, kept_put, known_put, piece_fed, resumed}
+use Rattle.rncv_validator.proofs.FedDocuments.{since_kept, state_put, state_there, stuck_fed}
 use Rattle.rncv_validator.proofs.document.Document.feed.Goals as goal
 
 pub returns-in-Some-clause-fed : goal.returns-in-Some-clause-fed
@@ -40,6 +40,8 @@ invariant_of-self c =
       state_put g c.deref.result.now s kept old new c.deref.ensures c.resume-matcher.ensures on place c.put_back.ensures c.into_state.ensures.state,
       fault_put g c.deref.result.now s kept old new c.deref.ensures c.resume-matcher.ensures on place c.put_back.ensures c.read_piece.new.reader _
           (if_none d.fault (IsFaultOfReader c.read_piece.new.reader) (search rules)),
+      kept_put g c.deref.result.now s kept old new c.deref.ensures c.resume-matcher.ensures on place c.put_back.ensures c.into_state.ensures.same
+          (gone old new longer.0 longer.1).kept (state_there d.state s (HasNotRunOut g) (search rules) c.self.invariant.3),
     )
 
 pub returns-in-Ok-clause-fed : goal.returns-in-Ok-clause-fed
@@ -94,6 +96,8 @@ invariant_of-self-in-Err-Malformed c =
       state_put g c.deref.result.now s kept old new c.deref.ensures c.resume-matcher.ensures on place c.put_back-in-Err-Malformed.ensures c.into_state-in-Err-Malformed.ensures.state,
       fault_put g c.deref.result.now s kept old new c.deref.ensures c.resume-matcher.ensures on place c.put_back-in-Err-Malformed.ensures c.read_piece.new.reader _
           (subst (IsFaultOfReader c.read_piece.new.reader) c.in-Err-Malformed.field-0-is c.in-Err-Malformed.ensures.fault),
+      kept_put g c.deref.result.now s kept old new c.deref.ensures c.resume-matcher.ensures on place c.put_back-in-Err-Malformed.ensures c.into_state-in-Err-Malformed.ensures.same
+          (gone old new longer.0 longer.1).kept (state_there d.state s (HasNotRunOut g) (search rules) c.self.invariant.3),
     )
 
 pub returns-in-Err-Malformed-clause-fed : goal.returns-in-Err-Malformed-clause-fed

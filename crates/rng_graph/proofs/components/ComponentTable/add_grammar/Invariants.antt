@@ -4,7 +4,7 @@ use Rattle.rng_model.specs.views.SchemaView.{place_of, schema_component_of}
 use Rattle.rng_graph.specs.views.ComponentTable.{IsTable, components_of, table_of, those_at}
 use Rattle.rng_graph.proofs.components.ComponentTable.add_grammar.Given as goal
 
--- what it has now, and those that are left, are what it had at first, and all
+-- its components now, and those that are left, are its first ones and all of the grammar
 abbrev pub invariant-loop-component : goal.invariant-loop-component
 invariant-loop-component l =
     IsTable (table_of l.self) × ((d : schemas.Definition)

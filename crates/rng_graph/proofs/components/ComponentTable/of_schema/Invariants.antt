@@ -5,6 +5,6 @@ use Rattle.rng_graph.specs.views.ComponentTable.{table_of}
 use Rattle.rng_graph.proofs.ComponentTables.{Gathers}
 use Rattle.rng_graph.proofs.components.ComponentTable.of_schema.Given as goal
 
--- what it has, and those at the places that are left, are those of the schema
+-- its components, and those at the places that are left, are those of the schema
 abbrev pub invariant-loop-place : goal.invariant-loop-place
 invariant-loop-place l = Gathers (schema_of l.schema) (map place_of (drop l.place-index l.place-items)) (table_of l.table)

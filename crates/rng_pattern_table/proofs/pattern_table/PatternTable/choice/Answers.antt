@@ -13,7 +13,7 @@ use Rattle.rng_pattern_table.proofs.Choices.{all_within, as_sets, both_ok, if_ok
 use Rattle.rng_pattern_table.proofs.OnlyMember.{only_among, only_inside, only_none, only_restricted, only_takes, only_typed}
 use Rattle.rng_pattern_table.proofs.pattern_table.PatternTable.choice.Goals as goal
 
--- one pattern stands for all members
+-- one pattern represents all members
 pub returns-in-Some-clause-alternatives : goal.returns-in-Some-clause-alternatives
 returns-in-Some-clause-alternatives c = only_among c.args.self.now c.args.members.now c.in-Some.only c.in-Some.ensures
 
@@ -32,7 +32,7 @@ returns-in-Some-clause-typed c = only_typed c.args.self.now c.args.members.now c
 pub returns-in-Some-clause-inside : goal.returns-in-Some-clause-inside
 returns-in-Some-clause-inside c = only_inside c.args.self.now c.args.members.now c.in-Some.only c.in-Some.ensures c.requires
 
--- what is put in order was an alternative before
+-- what is put in order is one of the alternatives
 pub remove_covered-requires : goal.remove_covered-requires
 remove_covered-requires c =
     all_within (λ m. m.0 < length c.args.self.now) c.in_ok-alternatives.alternatives.items c.remove_absorbed.new.alternatives.items

@@ -2,7 +2,7 @@ use Rattle.std.proofs.Common.{◌-◌, ◌^◌}
 use Rattle.rng_print.proofs.ItemLines.{HaveLines}
 use Rattle.rng_print.proofs.items.Items.of_grammar.Given as goal
 
--- so many of the items have their lines
+-- the first items have their lines
 abbrev pub invariant-lines : goal.invariant-lines
 invariant-lines l = HaveLines l.grammar l.found l.lines
 

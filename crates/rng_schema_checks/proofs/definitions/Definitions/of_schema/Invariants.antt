@@ -8,7 +8,7 @@ use Rattle.rng_schema_checks.specs.views.Defined.{defines_in}
 use Rattle.rng_schema_checks.specs.plain.GrammarTests.{defines}
 use Rattle.rng_schema_checks.proofs.definitions.Definitions.of_schema.Given as goal
 
--- what is defined at a place that was gone to is found, and no more
+-- exactly what is defined at the visited places is found
 abbrev pub invariant-loop-place : goal.invariant-loop-place
 invariant-loop-place l = (x : Place) (y : List ℕ) →
     defines_in l.all x y ≡ (list_any (λ p. bytes_eq x (place_of p)) (take l.place-index l.place-items) && defines (schema_of l.schema) x y)

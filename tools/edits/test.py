@@ -1,0 +1,69 @@
+#!/usr/bin/env python3
+"""Checks that each edit of crates/NAME/must-fail and crates/NAME/edits can be applied.
+
+    tools/edits/test.py [TOP]      (TOP: a checkout, else the one of this file)
+
+The gate reads must-fail/ alone, so an edit of edits/ would otherwise rot unseen where its line moves. An edit has a line `file: PATH`, and then pairs of lines
+`old: TEXT` and `new: TEXT`. Each old text is in that file exactly once, after the pairs above it. Each fault is one line, and the exit status is then 1.
+First a planted fault has to be found.
+"""
+import pathlib
+import sys
+import tempfile
+
+
+def fault(edit, crate):
+    """Returns why the edit cannot be applied to the crate, or None."""
+    path, old, pairs, texts = "", "", 0, {}
+    for line in edit.read_text(encoding="utf-8").split("\n"):
+        word, _, rest = line.partition(":")
+        rest = rest.removeprefix(" ")
+        if word == "file":
+            path = rest.strip()
+            if not path.startswith(("src/", "specs/", "proofs/")) or not (crate / path).is_file():
+                return f"there is no file {path} of src, specs or proofs"
+            texts.setdefault(path, (crate / path).read_text(encoding="utf-8"))
+        elif word == "old":
+            old = rest
+        elif word == "new":
+            if not path or not old:
+                return "a line `new:` is before any `file:` or `old:`"
+            found = texts[path].count(old)
+            if found != 1:
+                return f"{path} has an old text {found} times: {old}"
+            texts[path], old, pairs = texts[path].replace(old, rest), "", pairs + 1
+    return None if pairs else "it has no pair of lines `old:` and `new:`"
+
+
+def faults(top):
+    """Returns a line for each edit of a checkout that cannot be applied, and the number of edits."""
+    edits = sorted(edit for folder in ("must-fail", "edits") for edit in top.glob(f"crates/*/{folder}/*.edit"))
+    found = [(edit, fault(edit, edit.parents[1])) for edit in edits]
+    return [f"{edit.relative_to(top)}: {why}" for edit, why in found if why], len(edits)
+
+
+def finds_a_planted_fault():
+    """Returns whether an edit whose text is not there is found, and one whose text is there is not."""
+    with tempfile.TemporaryDirectory() as room:
+        crate = pathlib.Path(room, "crates", "a")
+        for folder in ("src", "edits"):
+            (crate / folder).mkdir(parents=True)
+        (crate / "src" / "lib.rt").write_text("one\ntwo\n", encoding="utf-8")
+        (crate / "edits" / "good.edit").write_text("file: src/lib.rt\nold: one\nnew: three\nold: three\nnew: four\n", encoding="utf-8")
+        (crate / "edits" / "moved.edit").write_text("file: src/lib.rt\nold: five\nnew: six\n", encoding="utf-8")
+        found, number = faults(pathlib.Path(room))
+        return number == 2 and len(found) == 1 and found[0].startswith("crates/a/edits/moved.edit")
+
+
+def main(words):
+    top = pathlib.Path(words[0] if words else pathlib.Path(__file__).resolve().parents[2]).resolve()
+    if not finds_a_planted_fault():
+        print("tools/edits: a planted fault is not found")
+        return 1
+    found, number = faults(top)
+    print("\n".join([*found, f"tools/edits: {number} edits can be applied" if not found else f"tools/edits: {len(found)} of {number} edits cannot be applied"]))
+    return 1 if found else 0
+
+
+if __name__ == "__main__":
+    sys.exit(main(sys.argv[1:]))

@@ -1,0 +1,268 @@
+"""Large and hostile inputs. Each row has a name, a command, the stack in KiB (or nothing, for the usual one), and what makes its files and document.
+
+What makes them takes a factor: 1, or a tenth for quick runs. It gives the texts of the files, which are named f0.rnc, f1.rnc and so on, and the document.
+"""
+MEBIBYTE = 1_048_576
+LIST = 500
+DIGITS = "0123456789abcdefghijklmnopqrstuvwxyz"
+BRACKETS = 126
+
+
+def short(number):
+    """A name that is a number in base 36, after a letter."""
+    text = ""
+    while number or not text:
+        number, digit = divmod(number, 36)
+        text = DIGITS[digit] + text
+    return "n" + text
+
+
+def lists(sign, members):
+    """The members joined by the sign, in lists of 500 that are joined so again: within the limit of depth."""
+    members = list(members)
+    while len(members) > LIST:
+        members = ["(" + sign.join(members[at:at + LIST]) + ")" for at in range(0, len(members), LIST)]
+    return sign.join(members)
+
+
+def names(count, front=""):
+    return lists("|", (front + short(i) for i in range(count)))
+
+
+def filled(front, part, back=""):
+    """A file of nearly a mebibyte: the front, the part again and again, the back."""
+    def make(factor):
+        room = int(MEBIBYTE * factor) - len(front) - len(back)
+        return [front + part * (room // len(part)) + back], ""
+    return make
+
+
+def joined(sign, member, front="element a {", back="}"):
+    """Members with a sign between, as many as a file has room for."""
+    return filled(front + member, sign + member, back)
+
+
+def numbered(member, front="", room=MEBIBYTE):
+    """Members with numbers in them, as many as a file has room for."""
+    def make(factor):
+        parts, left = [front], int(room * factor) - len(front) - 50
+        while left > 0:
+            parts.append(member.replace("#", short(len(parts))))
+            left -= len(parts[-1])
+        return ["".join(parts)], ""
+    return make
+
+
+def components(number, room):
+    text = "".join(f"x{number}_{i} = element e{i} {{ attribute a {{ text }}, empty }}\n" for i in range(room // 60))
+    return text[:text.rfind("\n", 0, room) + 1]
+
+
+def many_files(factor):
+    room = int((MEBIBYTE - 100) * factor)
+    return ["start = empty\n" + "".join(f'include "f{i}.rnc"\n' for i in range(1, 64))] + [components(i, room) for i in range(1, 64)], ""
+
+
+def nested_files(front, back, last, files=64):
+    """Files of 126 brackets in one another, the next file in the innermost."""
+    def make(factor):
+        count = max(2, int(files * factor))
+        return [front * BRACKETS + (f'external "f{i + 1}.rnc"' if i + 1 < count else last) + back * BRACKETS for i in range(count)], ""
+    return make
+
+
+def grammars_in_a_ring(factor):
+    return [" | ".join(["grammar { start = text }"] * int(20_000 * factor))], ""
+
+
+def long_uri(uri, count):
+    def make(factor):
+        return [f'namespace p = "{"u" * int(uri * factor)}" element {names(int(count * factor), "p:")} {{ empty }}'], ""
+    return make
+
+
+def two_excepts(factor):
+    count = int(20_000 * factor)
+    return [f"element a {{ element * - ({names(count)}) {{ empty }}* & element * - ({names(count)}) {{ text }}* }}"], ""
+
+
+def excepts_and_names(factor):
+    count = int(20_000 * factor)
+    return [f"element a {{ attribute * - ({names(count)}) {{ text }}+, attribute {names(count)} {{ text }}+ }}"], ""
+
+
+def any_other(factor):
+    count = int(20_000 * factor)
+    beside = lists("&", (f"element {short(i)} {{ empty }}" for i in range(count)))
+    return [f"element a {{ element * - ({names(count)}) {{ empty }}* & ({beside}) }}"], ""
+
+
+def names_in_two_choices(factor):
+    count = int(8_000 * factor)
+    defined = "".join(f"{short(i)} = element {short(i)} {{ empty }}\n" for i in range(count))
+    def nest(front):
+        levels = 100
+        return "(" * levels + f"({names(count)})" + "".join(f" & element {front}{i} {{ empty }})" for i in range(levels))
+    return [f"start = element a {{ {nest('x')} | {nest('y')} }}\n{defined}"], ""
+
+
+def included_often(count, size):
+    """A file of components, so often included."""
+    def make(factor):
+        inner = "".join(f"x{i} = element e{i} {{ empty }}\n" for i in range(size)) if size else components(1, int((MEBIBYTE - 100) * factor))
+        return ['include "f1.rnc" { }\n' * int(count * factor), inner], ""
+    return make
+
+
+def external_often(count):
+    def make(factor):
+        room = int((MEBIBYTE - 100) * factor)
+        inner = "element e { " + lists("|", ["text"] * (room // 6)) + " }"
+        return ["element a { " + lists("|", ['external "f1.rnc"'] * int(count * factor)) + " }", inner], ""
+    return make
+
+
+def excepted_namespaces(factor):
+    count, left_out = max(2, int(100 * factor)), int(900 * factor)
+    declared = "".join(f'namespace p{i} = "u{i}"\n' for i in range(count))
+    members = " & ".join(f"element p{i}:* - ({names(left_out, f'p{i}:')}) {{ empty }}*" for i in range(count))
+    return [f"{declared}start = element a {{ {members} }}"], ""
+
+
+def brackets(factor):
+    one = "(" * BRACKETS + "text" + ")" * BRACKETS
+    return filled(f"element a {{{one}", f"|{one}", "}")(factor)
+
+
+def levels(count, rule, last, children):
+    """Definitions, each over the next one, and so many children `b`."""
+    def make(factor):
+        size = int(count * factor)
+        rules = "".join(f"x{i} = {rule.replace('#', f'x{i + 1}')}\n" for i in range(size))
+        return [f"start = element doc {{ x0 }}\n{rules}x{size} = {last}\nc = element c {{ empty }}\n"], root("(b\n)b\n" * int(children * factor))
+    return make
+
+
+def root(inner, name="doc"):
+    return f"({name}\n{inner}){name}\n"
+
+
+def long_group(factor):
+    count = int(2_000 * factor)
+    members = lists(",", (f"element {short(i)} {{ empty }}" for i in range(count)))
+    return [f"element doc {{ {members} }}"], root("".join(f"({short(i)}\n){short(i)}\n" for i in range(count)))
+
+
+def other_bodies(factor):
+    count = int(900 * factor)
+    members = ", ".join(f"element b {{ text, element c{i} {{ empty }}? }}?" for i in range(count))
+    return [f"element doc {{ {members} }}"], root("(b\n)b\n" * count)
+
+
+ANY = "start = any\nany = element * { (attribute * { text } | text | any)* }\n"
+
+
+def declarations(numbers):
+    return "".join(f"Axmlns:p{i} u{i}\n" for i in numbers)
+
+
+def prefix_declared_twice(factor):
+    tag = f"(e\n{declarations(range(255))})e\n"
+    return [ANY], root(tag * int(2_000 * factor) + f"(e\n{declarations([*range(254), 253])})e\n")
+
+
+def declarations_everywhere(factor):
+    depth = int(510 * factor)
+    outer = "".join("(e\n" + "".join(f"Axmlns:p{level}_{i} u\n" for i in range(256)) for level in range(depth))
+    tag = "(e\n" + "".join(f"Ap0_{i}:x{i} 1\n" for i in range(255)) + ")e\n"
+    return [ANY], root(outer + tag * 20 + ")e\n" * depth)
+
+
+def prefixes_in_use(factor):
+    tag = f"(e\n{declarations(range(250))}" + "".join(f"(p{i}:e\n)p{i}:e\n" for i in range(250)) + ")e\n"
+    return [ANY], root(tag * (int(10_000_000 * factor) // len(tag)))
+
+
+def many_values(factor):
+    count = int(95_000 * factor)
+    return [f"element doc {{ {lists('|', (repr(short(i)) for i in range(count)))} }}"], root(f"-{short(count - 1)}\n")
+
+
+def many_names(factor):
+    count, children = int(130_000 * factor), int(20_000 * factor)
+    return ([f"element doc {{ element {names(count)} {{ empty }}* }}"],
+            root("".join(f"({short(i)}\n){short(i)}\n" for i in range(0, count, count // children))))
+
+
+def long_text(word, factor):
+    """A text of a mebibyte, in lines of at most 65,536 bytes."""
+    words = word + " "
+    line = "-" + words * (65_000 // len(words)) + "\n"
+    return root(line * (int(MEBIBYTE * factor) // len(line)))
+
+
+def list_of_choices(member, sign="*"):
+    def make(factor):
+        members = ", ".join(member.replace("#", short(i)) for i in range(int(900 * factor)))
+        return [f"element doc {{ list {{ ({members}){sign} }} }}"], long_text("a", factor)
+    return make
+
+
+ELEMENTS = nested_files("element a { ", " }", "text")
+GRAMMARS = nested_files("grammar { start = ", " }", "text")
+THREE = ("element a { text, ", "? }", "element b { empty }")
+
+ROWS = [
+    ("64 files of 1 MiB, 63 of them included by the first", "check", None, many_files),
+    ("64 files of 126 elements in one another, the next file in the innermost", "check", None, ELEMENTS),
+    ("64 files of 126 grammars in one another, the next file in the innermost", "check", None, GRAMMARS),
+    ("20,000 grammars side by side", "check", None, grammars_in_a_ring),
+    ("a uri of 100 KiB, and 100,000 names under it", "check", None, long_uri(100_000, 100_000)),
+    ("a uri of 500 KiB, and 20,000 names under it", "check", None, long_uri(512_000, 20_000)),
+    ("two classes `* - (20,000 names)`, interleaved", "check", None, two_excepts),
+    ("attributes of `* - (20,000 names)`, and of these names", "check", None, excepts_and_names),
+    ("20,000 elements, and one of any other name, interleaved", "check", None, any_other),
+    ("8,000 names in two choices, both in 100 interleaves in one another", "check", None, names_in_two_choices),
+    ("100 components, included 4,000 times", "check", None, included_often(4_000, 100)),
+    ("a file of 1 MiB, included 2,048 times", "check", None, included_often(2_048, 0)),
+    ("a file of 1 MiB, included 4,000 times", "check", None, included_often(4_000, 0)),
+    ("a file of 1 MiB, 2,048 times an external one", "check", None, external_often(2_048)),
+    ("a file of 1 MiB, 4,000 times an external one", "check", None, external_often(4_000)),
+    ("100 classes `p:* - (900 names)`, interleaved", "check", None, excepted_namespaces),
+    ("1 MiB of texts in 126 brackets each", "check", None, brackets),
+    ("1 MiB of definitions", "check", None, numbered("#=text ", "start=element a{empty} ")),
+    ("1 MiB of definitions `x |= text`", "check", None, filled("start=element a{x} ", "x|=text ")),
+    ("1 MiB of definitions `x &= empty`", "check", None, filled("start=element a{x} ", "x&=empty ")),
+    ("1 MiB of a choice", "check", None, joined("|", "text")),
+    ("1 MiB of an interleave", "check", None, joined("&", "empty")),
+    ("1 MiB of a group", "check", None, joined(",", "empty")),
+    ("1 MiB of a name class, one name", "check", None, joined("|", "a", "element ", "{empty}")),
+    ("1 MiB of a name class, different names in lists of 500", "check", None, lambda factor: ([f"element {names(int(180_000 * factor))} {{empty}}"], "")),
+    ("1 MiB of an except", "check", None, joined("|", "a", "element *-(", "){empty}")),
+    ("1 MiB of an except, different names in lists of 500", "check", None, lambda factor: ([f"element *-({names(int(180_000 * factor))}) {{empty}}"], "")),
+    ("1 MiB of parameters", "check", None, filled("element a{xsd:string{", 'maxLength="1"', "}}")),
+    ("1 MiB of escapes in a literal", "check", None, filled('element a{"', "\\x{61}", '"}')),
+    ("1 MiB of segments", "check", None, joined("~", '"a"')),
+    ("1 MiB of annotations in one another", "check", None,
+     lambda factor: (["[" * int(MEBIBYTE * factor / 2 - 50) + "]" * int(MEBIBYTE * factor / 2 - 50) + " element a {empty}"], "")),
+    ("1 MiB of annotations side by side", "check", None, filled("[", "[]", "] element a {empty}")),
+    ("1 MiB of comments", "check", None, filled("element a {empty}", "#\n")),
+    ("300 levels `(x, x) | (x, c?) | x` over `b`, 100 children", "valid", None, levels(300, "(#, #) | (#, c?) | #", "element b { empty }", 100)),
+    ("300 levels `(x, x) | (x, c?) | x` over `b?`, 100 children", "valid", None, levels(300, "(#, #) | (#, c?) | #", "element b { empty }?", 100)),
+    ("60 levels `(x, x?)` over `b`, 300 children", "valid", None, levels(60, "(#, #?)", "element b { empty }", 300)),
+    ("a group of 2,000, and as many children", "valid", None, long_group),
+    ("900 members of one name with different bodies, and as many children", "valid", None, other_bodies),
+    ("2,000 tags of 255 declarations, the last with two of one prefix", "valid", None, prefix_declared_twice),
+    ("510 tags in one another, each of 256 declarations, and 20 tags of 255 attributes with prefixes", "valid", None, declarations_everywhere),
+    ("10 MB of 250 declarations a tag, each prefix in use", "valid", None, prefixes_in_use),
+    ("95,000 values in a choice, and one text", "valid", None, many_values),
+    ("a class of 130,000 names, and 20,000 different children", "valid", None, many_names),
+    ('a list `(("a" | "bi"), ..)*` of 900 members, and a text of 1 MiB', "valid", None, list_of_choices('("a" | "b#")')),
+    ('a list `(("a" | "bi")?, ..)*` of 900 members, and a text of 1 MiB', "valid", None, list_of_choices('("a" | "b#")?')),
+] + [
+    (f"{files} files of 126 elements `element a {{ text, ..? }}` in one another, a stack of {stack:,} KiB", "check", stack, nested_files(*THREE, files))
+    for files in (27, 64) for stack in (256, 8_192)
+] + [
+    (f"{what}, a stack of {stack:,} KiB", "check", stack, make) for what, make in (("64 files of 126 elements", ELEMENTS), ("64 files of 126 grammars", GRAMMARS))
+    for stack in (256, 8_192)
+]

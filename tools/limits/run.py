@@ -1,0 +1,72 @@
+#!/usr/bin/env python3
+"""Runs the program over large and hostile inputs, and prints a table. It is no part of the gate.
+
+    tools/limits/run.py [--only WORD] [--quick] [--seconds N] [--megabytes N] [PROGRAM]
+
+PROGRAM is `crates/rncv/out/rncv` where none is given. `inputs.py` has the rows. A run gets 120 seconds of a processor and 4,096 MiB of addresses, and
+where a row says so a stack of that size. `--only` picks the rows that have WORD in their name; `--quick` makes their sizes a tenth. The least memory
+that is told is that of this process, some 13 MiB.
+"""
+import argparse
+import os
+import pathlib
+import signal
+import subprocess
+import sys
+import tempfile
+
+from inputs import ROWS
+
+HERE = pathlib.Path(__file__).resolve().parent
+LIMITS = 'ulimit -c 0; ulimit -t "$1"; ulimit -v "$2"; [ "$3" = 0 ] || ulimit -s "$3"; shift 3; exec "$@"'
+
+
+def write_input(make, factor, folder):
+    """Writes the files and the document, in a process of its own: what it holds would count as the program's memory."""
+    writer = os.fork()
+    if writer == 0:
+        files, document = make(factor)
+        for at, text in enumerate(files):
+            (folder / f"f{at}.rnc").write_text(text, encoding="utf-8")
+        (folder / "document.pyx").write_text(document, encoding="utf-8")
+        os._exit(0)
+    if os.waitpid(writer, 0)[1]:
+        sys.exit("an input was not made")
+    return [f"f{at}.rnc" for at in range(len(list(folder.glob("f*.rnc"))))]
+
+
+def judged(given, program, command, stack, folder, names):
+    """The answer, the seconds of a processor and the greatest memory in MiB."""
+    words = ["sh", "-c", LIMITS, "sh", str(given.seconds), str(given.megabytes * 1024), str(stack or 0), str(program), command, *names]
+    with open(folder / "document.pyx", "rb") as document, open(folder / "answer", "wb") as answer:
+        child = subprocess.Popen(words, cwd=folder, stdin=document, stdout=answer, stderr=answer)
+        _, status, used = os.wait4(child.pid, 0)
+    child.returncode = os.waitstatus_to_exitcode(status)
+    said = (folder / "answer").read_text(encoding="utf-8", errors="replace").strip()
+    if child.returncode < 0:
+        said = f"ended by {signal.Signals(-child.returncode).name}"
+    return f"`{said[:80]}`", used.ru_utime + used.ru_stime, used.ru_maxrss / 1024
+
+
+def main():
+    words = argparse.ArgumentParser(description=__doc__.splitlines()[0])
+    words.add_argument("--only", default="")
+    words.add_argument("--quick", action="store_true")
+    words.add_argument("--seconds", type=int, default=120)
+    words.add_argument("--megabytes", type=int, default=4_096)
+    words.add_argument("program", nargs="?", type=pathlib.Path, default=HERE.parents[1] / "crates/rncv/out/rncv")
+    given = words.parse_args()
+    print("| Input | Command | Seconds of a processor | Greatest memory, MiB | Answer |\n|---|---|---|---|---|", flush=True)
+    for name, command, stack, make in ROWS:
+        if given.only not in name:
+            continue
+        with tempfile.TemporaryDirectory(prefix="limits-") as room:
+            folder = pathlib.Path(room)
+            names = write_input(make, 0.1 if given.quick else 1, folder)
+            said, seconds, memory = judged(given, given.program.resolve(), command, stack, folder, names)
+        shown = name.replace("|", "\\|")
+        print(f"| {shown} | `{command}` | {seconds:.2f} | {memory:,.0f} | {said} |", flush=True)
+
+
+if __name__ == "__main__":
+    main()

@@ -1,0 +1,37 @@
+#!/bin/sh
+# Runs the built program with each growth of memory refused in turn, over all rows of rows.txt:   tools/refused_growths/test.sh [PROGRAM]
+#
+# PROGRAM is the built rncv, else crates/rncv/out/rncv. The same rows are run by the C library (by_library.c), which RNCV_LIBRARY names, else
+# build/library. It wants Python 3, and a C compiler and glibc for the shim (refuse.c). What is missing is told and skipped; with the variable
+# RNCV_REQUIRED set a missing program is a failure.
+set -eu
+here=$(cd "$(dirname "$0")" && pwd)
+program=${1:-$here/../../crates/rncv/out/rncv}
+library=${RNCV_LIBRARY:-$here/../../build/library}
+cc=${CC:-cc}
+status=0
+
+if ! command -v "$cc" > /dev/null; then
+    echo "tools/refused_growths: skipped, since no C compiler is installed"
+    exit 0
+fi
+room=$(mktemp -d)
+trap 'rm -rf "$room"' EXIT
+compiled() {
+    "$cc" -std=c11 -D_GNU_SOURCE -Wall -Wextra -Wconversion -Werror -O1 "$@"
+}
+compiled -shared -fPIC -o "$room/refuse.so" "$here/refuse.c"
+
+if [ -x "$program" ]; then
+    python3 -B "$here/rows.py" "$program" "$room/refuse.so" || status=1
+else
+    echo "tools/refused_growths: no program at $program"
+    [ -z "${RNCV_REQUIRED:-}" ] || status=1
+fi
+if [ -f "$library/lib/librncv.a" ]; then
+    compiled -I"$library/include" -o "$room/by_library" "$here/by_library.c" "$library/lib/librncv.a" -lpthread
+    python3 -B "$here/rows.py" "$room/by_library" "$room/refuse.so" || status=1
+else
+    echo "tools/refused_growths: no librncv in $library, and the rows are not run by it"
+fi
+exit "$status"

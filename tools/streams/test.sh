@@ -1,0 +1,29 @@
+#!/bin/sh
+# Tests of the programs over standard streams, files and words that fail:   tools/streams/test.sh [PROGRAM]
+#
+# PROGRAM is the built rncv, else crates/rncv/out/rncv. program_test.py is about it, around_test.py about the programs around it: RNCV_XML_PROGRAMS
+# names the folder with rncv-xml and xml2pyx, else build/xml. Calls that fail come from a shim, which wants a C compiler (calls.c). What is missing is
+# told and skipped; with the variable RNCV_REQUIRED set a missing rncv is a failure. It takes less than half a minute.
+here=$(cd "$(dirname "$0")" && pwd)
+RNCV_PROGRAM=${1:-$here/../../crates/rncv/out/rncv}
+RNCV_CALLS=
+room=$(mktemp -d)
+trap 'rm -rf "$room"' EXIT
+status=0
+
+if ! command -v "${CC:-cc}" > /dev/null; then
+    echo "tools/streams: calls that fail are skipped, since no C compiler is installed"
+elif "${CC:-cc}" -std=c11 -D_GNU_SOURCE -Wall -Wextra -Wconversion -Werror -O1 -shared -fPIC -o "$room/calls.so" "$here/calls.c"; then
+    RNCV_CALLS=$room/calls.so
+else
+    status=1
+fi
+export RNCV_PROGRAM RNCV_CALLS
+if [ -x "$RNCV_PROGRAM" ]; then
+    python3 -B "$here/program_test.py" || status=1
+else
+    echo "tools/streams: no program at $RNCV_PROGRAM"
+    [ -z "${RNCV_REQUIRED:-}" ] || status=1
+fi
+python3 -B "$here/around_test.py" || status=1
+exit "$status"
