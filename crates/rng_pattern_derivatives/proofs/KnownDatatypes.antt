@@ -1,5 +1,5 @@
 -- The type that the search for a datatype finds, and the types that are kept.
-use Rattle.std.proofs.Common.{◌≡◌, ◌∙◌, ◌+◌, ◌<◌, ◌≤◌, ◌↔◌, ℕ, List, Option, Some, None, Ok, Err, ⊎_elim, slice_get, refl, sym, ap, subst, arith}
+use Rattle.std.proofs.Common.{◌≡◌, ◌∙◌, ◌+◌, ◌<◌, ◌↔◌, ℕ, List, Option, Some, None, Ok, Err, ⊎_elim, slice_get, refl, sym, ap, subst, arith}
 use Rattle.std.proofs.lemmas.Bool.{cases_lt}
 use Rattle.std.proofs.lemmas.Option.{slice_get_within}
 use Rattle.rng_model.specs.simple.Table.{Table}
@@ -12,7 +12,7 @@ use Rattle.rng_types.specs.views.View.{built_in_type_of, seen}
 use Rattle.rng_types.specs.declared.builtin.Builtin.{Builtin}
 use Rattle.rng_types.specs.declared.builtin.TypeFault.{TypeFault}
 use Rattle.rng_pattern_table.proofs.Taking.{past_end}
-use Rattle.rng_pattern_derivatives.specs.views.Datatypes.{AreDatatypesOf, type_at, type_named_by}
+use Rattle.rng_pattern_derivatives.specs.views.Datatypes.{AreDatatypesOf, position_count, type_at, type_named_by}
 use Rattle.rng_pattern_derivatives.specs.declared.datatypes.Datatypes.{Datatypes}
 use Rattle.rng_pattern_derivatives.proofs.KnownWays.{some_is}
 
@@ -29,10 +29,10 @@ module _ (d : Datatype) where
 -- ---- by position
 
 module _ (t : Table) (datatypes : Datatypes) where
-  -- the types of the patterns below this position are kept, and nothing from it on
+  -- the types of the patterns below this position are kept
   pub record AreKeptBelow (n : ℕ) : Type 0 where
     pub kept : (k : ℕ) (row : Simple) → k < n → slice_get t.patterns k ≡ Some row → type_at datatypes k ≡ type_named_by row
-    pub none : (k : ℕ) → n ≤ k → type_at datatypes k ≡ None
+    pub count : position_count datatypes ≡ n
 
   pub all_kept : (n : ℕ) → slice_get t.patterns n ≡ None → AreKeptBelow n → AreDatatypesOf t datatypes
   all_kept n end below = λ k row at.
@@ -49,15 +49,15 @@ module _ (t : Table) (datatypes : Datatypes) where
 
 -- one more pattern
 module _ (t : Table) (old new : Datatypes) (n : ℕ) (row : Simple) where
-  pub one_more_kept : slice_get t.patterns n ≡ Some row → type_at new n ≡ type_named_by row
-      → ((k : ℕ) → (k ≡ n → ⊥) → type_at new k ≡ type_at old k) → AreKeptBelow t old n → AreKeptBelow t new (n + 1)
-  one_more_kept at own others before = record {
+  pub one_more_kept : slice_get t.patterns n ≡ Some row → position_count new ≡ position_count old + 1 → type_at new (position_count old) ≡ type_named_by row
+      → ((k : ℕ) → k < position_count old → type_at new k ≡ type_at old k) → AreKeptBelow t old n → AreKeptBelow t new (n + 1)
+  one_more_kept at more own others before = record {
     kept = λ k other less there. ⊎_elim
-        (λ below. others k (λ same. absurd (omega (arith, below, same))) ∙ before.kept k other below there)
+        (λ below. others k (omega (arith, below, before.count)) ∙ before.kept k other below there)
         (λ above.
         let same : k ≡ n = omega (arith, less, above) in
         let is : row ≡ other = some_is (sym at ∙ subst (λ k. slice_get t.patterns k ≡ Some other) same there) in
-        subst (λ k. type_at new k ≡ type_named_by other) (sym same) (own ∙ ap type_named_by is))
+        subst (λ k. type_at new k ≡ type_named_by other) (before.count ∙ sym same) (own ∙ ap type_named_by is))
         (cases_lt k n);
-    none = λ k above. others k (λ same. absurd (omega (arith, above, same))) ∙ before.none k (omega (arith, above));
+    count = omega (arith, more, before.count);
   }

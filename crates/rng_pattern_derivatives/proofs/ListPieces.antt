@@ -1,7 +1,6 @@
 -- Strings that are matched as a whole: the pieces of a list, one after the other, and the value of an attribute.
-use Rattle.std.proofs.Common.{◌≡◌, ◌∙◌, ℕ, ◌<◌, ◌≤◌, ◌+◌, ◌↔◌, inl, inr, List, [], ◌∷◌, drop, get_or, length, map, slice_index_or, refl, sym, subst}
+use Rattle.std.proofs.Common.{◌≡◌, ◌∙◌, ℕ, ◌<◌, ◌↔◌, inl, inr, List, [], ◌∷◌, length, map, slice_index_or, refl, sym, subst}
 use Rattle.std.proofs.Common.{Bool, true, false, ◌&&◌, ◌||◌, Bor}
-use Rattle.std.proofs.lemmas.List.{drop_all, drop_more}
 use Rattle.rng_model.specs.simple.Tree.{Simple}
 use Rattle.rng_model.specs.matching.Document.{Item, a_text, no_texts, text_and}
 use Rattle.rng_model.specs.simple.Table.{Table, tree_at}
@@ -27,36 +26,27 @@ use Rattle.rng_pattern_derivatives.specs.declared.way.Place.TheVariants as place
 
 -- ---- the pieces of a list
 
-abbrev pub bytes_in : List (Bor (List ℕ)) → List (List ℕ)
-bytes_in ss = map (λ (s : Bor (List ℕ)). s.now) ss
-
-abbrev pub texts_in : List (Bor (List ℕ)) → List Item
-texts_in ss = map a_text (bytes_in ss)
-
-pub one_piece_more : (t : Table) (old new : List Node) (rest next : PatternNumber) (whole : Simple ℕ) (ss : List (Bor (List ℕ))) (i : ℕ) (d : Bor (List ℕ))
-    → i < length ss → IsLeft t old new (firsts.Text places.List (get_or ss i d)) rest next → Obeys places.List (tree_of t old rest.0)
-    → (Takes (reading_of t) (tree_of t old rest.0) [] (texts_in (drop i ss)) ↔ Takes (reading_of t) whole [] (texts_in ss))
-    → Takes (reading_of t) (tree_of t new next.0) [] (texts_in (drop (i + 1) ss)) ↔ Takes (reading_of t) whole [] (texts_in ss)
-one_piece_more t old new rest next whole ss i d within left o was =
-    let cut = drop_more ss i d within in
-    let law = left.law o (texts_in (drop (i + 1) ss)) (strings_alone (all_texts (bytes_in (get_or ss i d ∷ drop (i + 1) ss)))) in
-    let At : List (Bor (List ℕ)) → Type 0 = λ l. Takes (reading_of t) (tree_of t old rest.0) [] (texts_in l) in
+pub one_piece_more : (t : Table) (old new : List Node) (rest next : PatternNumber) (whole : Simple ℕ) (all before behind : List (List ℕ)) (piece : Bor (List ℕ))
+    → before ≡ piece.now ∷ behind → IsLeft t old new (firsts.Text places.List piece) rest next → Obeys places.List (tree_of t old rest.0)
+    → (Takes (reading_of t) (tree_of t old rest.0) [] (map a_text before) ↔ Takes (reading_of t) whole [] (map a_text all))
+    → Takes (reading_of t) (tree_of t new next.0) [] (map a_text behind) ↔ Takes (reading_of t) whole [] (map a_text all)
+one_piece_more t old new rest next whole all before behind piece cut left o was =
+    let law = left.law o (map a_text behind) (strings_alone (all_texts (piece.now ∷ behind))) in
+    let At : List (List ℕ) → Type 0 = λ l. Takes (reading_of t) (tree_of t old rest.0) [] (map a_text l) in
     (λ h. was.0 (subst At (sym cut) (law.0 h)), λ d. law.1 (subst At cut (was.1 d)))
 
-pub list_told : (t : Table) (old new : List Node) (numbers : List PatternNumber) (body : PatternId) (rest : PatternNumber) (ss : List (Bor (List ℕ))) (i : ℕ)
-    (bytes : List (List ℕ)) (b : Bool) → IsReady t old numbers → body.0 < length numbers → length ss ≤ i → bytes_in ss ≡ bytes
+pub list_told : (t : Table) (old new : List Node) (numbers : List PatternNumber) (body : PatternId) (rest : PatternNumber) (all left : List (List ℕ))
+    (b : Bool) → IsReady t old numbers → body.0 < length numbers → left ≡ []
     → (Obeys places.List (tree_by t old numbers body)
-    → Takes (reading_of t) (tree_of t new rest.0) [] (texts_in (drop i ss)) ↔ Takes (reading_of t) (tree_by t old numbers body) [] (texts_in ss))
+    → Takes (reading_of t) (tree_of t new rest.0) [] (map a_text left) ↔ Takes (reading_of t) (tree_by t old numbers body) [] (map a_text all))
     → ((b ≡ true) ↔ Takes (reading_of t) (tree_of t new rest.0) [] []) → MayBeListed (tree_at t.patterns body)
-    → (b ≡ true) ↔ Takes (reading_of t) (tree_at t.patterns body) [] (map a_text bytes)
-list_told t old new numbers body rest ss i bytes b ready inside past are takes nullable o =
+    → (b ≡ true) ↔ Takes (reading_of t) (tree_at t.patterns body) [] (map a_text all)
+list_told t old new numbers body rest all left b ready inside none takes nullable o =
     let law = takes (ready.kept places.List body inside (no_lists (tree_at t.patterns body) o)) in
     let same = ready.taken.same body.0 inside (reading_of t) in
-    let Rest : List (Bor (List ℕ)) → Type 0 = λ l. Takes (reading_of t) (tree_of t new rest.0) [] (texts_in l) in
-    let Whole : List (List ℕ) → Type 0 = λ l. Takes (reading_of t) (tree_at t.patterns body) [] (map a_text l) in
-    let none = drop_all i ss past in (
-      λ h. subst Whole are (same.to [] (texts_in ss) (law.0 (subst Rest (sym none) (nullable.0 h)))),
-      λ d. nullable.1 (subst Rest none (law.1 (same.back [] (texts_in ss) (subst Whole (sym are) d)))),
+    let Rest : List (List ℕ) → Type 0 = λ l. Takes (reading_of t) (tree_of t new rest.0) [] (map a_text l) in (
+      λ h. same.to [] (map a_text all) (law.0 (subst Rest (sym none) (nullable.0 h))),
+      λ d. nullable.1 (subst Rest none (law.1 (same.back [] (map a_text all) d))),
     )
 
 -- ---- the value of an attribute

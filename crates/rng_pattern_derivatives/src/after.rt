@@ -28,7 +28,7 @@ use crate::starting::number_at;
 use crate::texts::is_excepted;
 use crate::way::{Candidates, First, Kind, LeafWay, Place, Rests, Ways};
 use crate::ways::ways;
-use rng_model::{Attr, Name, OutOfMemory, PatternId, Simple, SimpleGrammar, split_blanks};
+use rng_model::{Attr, Name, OutOfMemory, PatternId, Pieces, Simple, SimpleGrammar};
 use rng_names::{NameKeys, contains};
 use rng_pattern_table::{Pattern, PatternNumber, PatternTable};
 use smallvec::SmallVec;
@@ -401,8 +401,7 @@ fn list_takes(
         → (b ≡ true) ↔ Takes (reading_of grammar.now) (tree_at grammar.now.patterns body) [] (map a_text (pieces text.now))) }
 {
     let mut rest = number_at(numbers, body);
-    let pieces = split_blanks(alloc, text)?;
-    'pieces: for piece in pieces.as_slice() {
+    'pieces: for piece in Pieces::new(text) {
         rest = after(
             alloc,
             grammar,

@@ -1,19 +1,18 @@
 // The datatypes that a grammar names.
-ghost use Rattle.std.specs.Prelude.{◌≡◌, ℕ, IfOk, OnOk, None, option_map};
+ghost use Rattle.std.specs.Prelude.{◌≡◌, ◌+◌, ◌<◌, ℕ, IfOk, OnOk, Some, option_map};
 ghost use Rattle.rng_model.specs.datatypes.DatatypeTests.{known_allows, known_equates, type_of};
 ghost use Rattle.rng_types.specs.views.View.{built_in_type_of, datatype_at};
-ghost use Rattle.rng_pattern_derivatives.specs.views.Datatypes.{AreDatatypesOf, type_at, type_named_by};
+ghost use Rattle.rng_pattern_derivatives.specs.views.Datatypes.{AreDatatypesOf, position_count, type_at, type_kept, type_named_by};
 
 use rng_model::{OutOfMemory, PatternId, Simple, SimpleGrammar};
 use rng_types::{Builtin, Datatype as _};
 use std::alloc::Global;
-use std::collections::HashMap;
 
 /// For each position of a grammar whose pattern names a known datatype, this datatype. So each is looked up by its
 /// library and name only once.
 #[derive(Drop)]
 pub struct Datatypes {
-    by_position: HashMap<PatternId, Builtin>,
+    by_position: Vec<Option<Box<Builtin>>>,
 }
 
 impl Datatypes {
@@ -23,27 +22,36 @@ impl Datatypes {
         ensures { IfOk result (AreDatatypesOf grammar.now) }
     {
         let mut datatypes = Datatypes {
-            by_position: HashMap::new(alloc),
+            by_position: Vec::new(alloc),
         };
         'patterns: for position in 0..usize::MAX {
             let Some(pattern) = grammar.pattern(PatternId(position)) else {
                 return Ok(datatypes);
             };
-            datatypes.add(PatternId(position), pattern)?;
+            datatypes.add(alloc, pattern)?;
         }
         Err(OutOfMemory)
     }
 
-    /// Adds the datatype that the pattern at a position names, if it names a known one. Fails only when out of memory.
-    fn add(&mut self, position: PatternId, pattern: &Simple) -> Result<(), OutOfMemory>
-        requires { type_at self.old position.0 ≡ None }
-        ensures own { OnOk result (type_at self.new position.0 ≡ type_named_by pattern.now) }
-        ensures others { OnOk result ((k : ℕ) → (k ≡ position.0 → ⊥) → type_at self.new k ≡ type_at self.old k) }
+    /// Adds what is kept at the next position, whose pattern this is. Fails only when out of memory.
+    fn add(&mut self, alloc: Global, pattern: &Simple) -> Result<(), OutOfMemory>
+        ensures count { OnOk result (position_count self.new ≡ position_count self.old + 1) }
+        ensures own { OnOk result (type_at self.new (position_count self.old) ≡ type_named_by pattern.now) }
+        ensures others { OnOk result ((k : ℕ) → k < position_count self.old → type_at self.new k ≡ type_at self.old k) }
     {
-        if let Some(builtin) = named(pattern) {
-            self.by_position.insert(position, builtin)?;
-        }
+        let builtin = boxed(alloc, named(pattern))?;
+        self.by_position.push(builtin)?;
         Ok(())
+    }
+
+    /// Returns the datatype that the pattern at a position names, if it names a known one.
+    fn at(&self, position: PatternId) -> Option<&Builtin>
+        ensures { option_map (λ b. built_in_type_of b.now) result ≡ type_at self.now position.0 }
+    {
+        match self.by_position.get(position.0) {
+            Some(Some(builtin)) => Some(builtin),
+            _ => None,
+        }
     }
 
     /// Returns whether the datatype that the pattern at a position names allows a text. Allocates nothing.
@@ -52,7 +60,7 @@ impl Datatypes {
     pub fn allow(&self, position: PatternId, text: &str) -> bool
         ensures { result ≡ known_allows (type_at self.now position.0) text.now }
     {
-        match self.by_position.get(&position) {
+        match self.at(position) {
             Some(builtin) => builtin.allows(text),
             None => false,
         }
@@ -65,10 +73,20 @@ impl Datatypes {
     pub fn equate(&self, position: PatternId, value: &str, text: &str) -> bool
         ensures { result ≡ known_equates (type_at self.now position.0) value.now text.now }
     {
-        match self.by_position.get(&position) {
+        match self.at(position) {
             Some(builtin) => builtin.equal(value, text),
             None => false,
         }
+    }
+}
+
+/// Puts a datatype into a box, if there is one. Fails only when out of memory.
+fn boxed(alloc: Global, builtin: Option<Builtin>) -> Result<Option<Box<Builtin>>, OutOfMemory>
+    ensures { IfOk result (λ boxed. type_kept (Some boxed) ≡ option_map built_in_type_of builtin) }
+{
+    match builtin {
+        Some(builtin) => Ok(Some(Box::new(alloc, builtin)?)),
+        None => Ok(None),
     }
 }
 

@@ -1,5 +1,6 @@
 pub mod OnePiece
-pub mod SameItems
+pub mod CollapsedBytes
 pub mod TextValues
+pub mod WordsOfTexts
 pub mod Decimals
 pub mod Finding

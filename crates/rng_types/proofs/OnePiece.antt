@@ -1,5 +1,5 @@
 -- Collapsed texts, by their pieces: one piece is the collapsed text, and otherwise it is empty or has a space inside.
-use Rattle.std.proofs.Common.{◌≡◌, ℕ, ◌+◌, ◌≤◌, List, [], ◌∷◌, ◌++◌, length, Bool, true, false, Some, None, refl, ap, ap₂, sym, ◌∙◌, subst, rules, arith}
+use Rattle.std.proofs.Common.{◌≡◌, ℕ, ◌+◌, ◌≤◌, List, [], ◌∷◌, ◌++◌, length, Bool, true, false, Some, None, refl, ap, sym, ◌∙◌, subst, rules, arith}
 use Rattle.std.proofs.Common.{length-append}
 use Rattle.std.specs.List.{list_all, join_with_byte, AllByRecursion}
 use Rattle.std.specs.Str.{IsUtf8, chars, bytes_eq}
@@ -7,10 +7,9 @@ use Rattle.std.proofs.lemmas.Str.{chars-append, encodes-chars, length-le-encodes
 use Rattle.std.proofs.lemmas.List.Folds.{list_all-append}
 use Rattle.std.proofs.lemmas.Slice.Eq.{bytes_eq-Decides}
 use Rattle.std.proofs.lemmas.Option.{same_Some}
-use Rattle.std.proofs.lemmas.Bool.{true≢false, and_right, and_left, and_parts, and_from}
-use Rattle.std.specs.Cmp.Lexicographic.{pointwise}
+use Rattle.std.proofs.lemmas.Bool.{true≢false, and_right, and_left}
 use Rattle.rng_model.specs.datatypes.Blanks.{pieces, collapse}
-use Rattle.rng_model.proofs.BlankRuns.{pieces-collapse, pieces_fit, spaced_length, IsUtf8-pieces}
+use Rattle.rng_model.proofs.BlankRuns.{pieces_fit, spaced_length, IsUtf8-pieces}
 use Rattle.rng_types.specs.plain.Pieces.{only}
 
 joined_only : (ps : List (List ℕ)) (w : List ℕ) → Some w ≡ only ps → join_with_byte 32 ps ≡ w
@@ -55,14 +54,6 @@ chars-space (b ∷ w) = refl
 pub chars-spaced : (v w : List ℕ) → IsUtf8 v → chars (v ++ 32 ∷ w) ≡ chars v ++ 32 ∷ chars w
 chars-spaced v w utf8 = chars-append v (32 ∷ w) utf8 ∙ ap (λ t. chars v ++ t) (chars-space w)
 
--- texts collapse to the same text if their pieces are the same
-pub pieces-same : (a b : List ℕ) → pieces a ≡ pieces b → collapse a ≡ collapse b
-unfolding collapse
-pieces-same a b e = ap (join_with_byte 32) e
-
-pub collapse-same : (a b : List ℕ) → collapse a ≡ collapse b → pieces a ≡ pieces b
-collapse-same a b e = sym (pieces-collapse a) ∙ ap pieces e ∙ pieces-collapse b
-
 -- the characters of further pieces, each with a space before it
 abbrev pub spaced_count : List (List ℕ) → ℕ
 spaced_count [] = 0
@@ -103,26 +94,3 @@ count_fits s first ws utf8 e =
 pub collapse-empty : (s : List ℕ) → pieces s ≡ [] → length (chars (collapse s)) ≡ 0
 unfolding collapse chars
 collapse-empty s e = ap (λ ps. length (chars (join_with_byte 32 ps))) e
-
--- lists of texts, text by text
-same_texts : (vs ws : List (List ℕ)) → pointwise bytes_eq vs ws ≡ true → vs ≡ ws
-same_texts [] [] e = refl
-same_texts [] (w ∷ ws) e = search rules
-same_texts (v ∷ vs) [] e = search rules
-same_texts (v ∷ vs) (w ∷ ws) e = let both = and_parts (bytes_eq v w) (pointwise bytes_eq vs ws) e in
-    ap₂ (λ x xs. x ∷ xs) ((bytes_eq-Decides v w).0 both.0) (same_texts vs ws both.1)
-
-same_texts-self : (vs : List (List ℕ)) → pointwise bytes_eq vs vs ≡ true
-same_texts-self [] = refl
-same_texts-self (v ∷ vs) = and_from _ _ ((bytes_eq-Decides v v).1 refl) (same_texts-self vs)
-
--- two equivalent tests
-pub both_say : (a b : Bool) → (a ≡ true → b ≡ true) → (b ≡ true → a ≡ true) → a ≡ b
-both_say true b to from = sym (to refl)
-both_say false true to from = from refl
-both_say false false to from = refl
-
-pub pieces_decide : (a b : List ℕ) → pointwise bytes_eq (pieces a) (pieces b) ≡ bytes_eq (collapse a) (collapse b)
-pieces_decide a b = both_say (pointwise bytes_eq (pieces a) (pieces b)) (bytes_eq (collapse a) (collapse b))
-    (λ e. (bytes_eq-Decides (collapse a) (collapse b)).1 (pieces-same a b (same_texts (pieces a) (pieces b) e)))
-    (λ e. ap (λ ps. pointwise bytes_eq (pieces a) ps) (sym (collapse-same a b ((bytes_eq-Decides (collapse a) (collapse b)).0 e))) ∙ same_texts-self (pieces a))

@@ -1,6 +1,6 @@
 // Texts compared and counted in their collapsed forms, which are never built.
 ghost use Rattle.std.specs.Prelude.{◌≡◌, length, option_copied};
-ghost use Rattle.std.specs.Str.{chars, bytes_eq};
+ghost use Rattle.std.specs.Str.{chars};
 ghost use Rattle.rng_model.specs.datatypes.Blanks.{pieces, collapse};
 ghost use Rattle.rng_types.specs.plain.Pieces.{only};
 
@@ -16,13 +16,6 @@ pub(crate) fn only_piece(text: &str) -> Option<&str>
         None => Some(piece),
         Some(_) => None,
     }
-}
-
-// whether the two texts collapse to the same text
-pub(crate) fn is_same_collapsed(a: &str, b: &str) -> bool
-    ensures { result ≡ bytes_eq (collapse a.now) (collapse b.now) }
-{
-    Pieces::new(a).eq(Pieces::new(b))
 }
 
 // the number of characters in the text

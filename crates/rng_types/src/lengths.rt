@@ -1,5 +1,5 @@
 // Bounds on the number of characters of a text.
-ghost use Rattle.std.specs.Prelude.{◌≡◌};
+ghost use Rattle.std.specs.Prelude.{◌≡◌, ℕ, true};
 ghost use Rattle.rng_model.specs.datatypes.Facets.{is_at_least, is_at_most, is_within};
 ghost use Rattle.rng_types.specs.views.View.{lengths_of};
 
@@ -18,6 +18,13 @@ impl Lengths {
         ensures { result ≡ is_within (lengths_of self.now) len }
     {
         is_at_least(self.min, len) && is_at_most(self.max, len)
+    }
+
+    // whether there is no bound
+    pub(crate) fn allow_all(&self) -> bool
+        ensures { result ≡ true → (n : ℕ) → is_within (lengths_of self.now) n ≡ true }
+    {
+        self.min.is_none() && self.max.is_none()
     }
 }
 

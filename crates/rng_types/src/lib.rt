@@ -11,8 +11,10 @@ mod lengths;
 mod numerals;
 mod parameters;
 mod plain;
+mod runs;
 mod texts;
 mod values;
+mod words;
 
 pub use builtin::{Builtin, TypeFault};
 pub use datatype::{Datatype, are_all_equal};

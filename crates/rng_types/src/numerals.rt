@@ -1,14 +1,16 @@
 // Numbers and truth values, and bounds on numbers.
-ghost use Rattle.std.specs.Prelude.{◌≡◌};
+ghost use Rattle.std.specs.Prelude.{◌≡◌, ◌&&◌, ℤ, is_some, nat_le, nat_lt, true};
 ghost use Rattle.std.specs.Char.{is_ascii_digit};
-ghost use Rattle.std.specs.List.{list_all};
+ghost use Rattle.std.specs.List.{list_all, prefix_len};
 ghost use Rattle.std.specs.Str.Parse.{without_leading_sign};
 ghost use Rattle.rng_model.specs.datatypes.Blanks.{collapse};
 ghost use Rattle.rng_model.specs.datatypes.Facets.{is_no_less, is_no_more, is_inside};
-ghost use Rattle.rng_model.specs.datatypes.Numerals.{is_decimal, truth_of, integer_of, length_of};
+ghost use Rattle.rng_model.specs.datatypes.Numerals.{is_decimal, most_digits, truth_of, integer_of, length_of};
+ghost use Rattle.rng_types.specs.plain.Runs.{from_run};
 ghost use Rattle.rng_types.specs.views.View.{bounds_of};
 
 use crate::collapsed::only_piece;
+use crate::runs::{is_blank, past_blanks};
 
 /// The most digits that an integer may have.
 const MOST_DIGITS: usize = 38;
@@ -31,6 +33,13 @@ impl Bounds {
         ensures { result ≡ is_inside (bounds_of self.now) n }
     {
         is_no_less(self.min, n) && is_no_more(self.max, n)
+    }
+
+    // whether there is no bound
+    pub(crate) fn allow_all(&self) -> bool
+        ensures { result ≡ true → (n : ℤ) → is_inside (bounds_of self.now) n ≡ true }
+    {
+        self.min.is_none() && self.max.is_none()
     }
 }
 
@@ -106,6 +115,39 @@ pub(crate) fn length(numeral: &str) -> Option<usize>
     } else {
         None
     }
+}
+
+// whether the text collapses to a number
+pub(crate) fn is_integer(text: &str) -> bool
+    ensures { result ≡ is_some (integer_of (collapse text.now)) }
+{
+    is_numeral(without_sign(past_blanks(text.as_bytes())))
+}
+
+// whether the bytes are digits, as many as a number may have, and then blanks
+fn is_numeral(bytes: &[u8]) -> bool
+    ensures { result ≡ is_decimal most_digits (from_run bytes.now) }
+{
+    let count = digits_len(bytes);
+    let (_, after) = bytes.split_at(count);
+    is_digit_count(count) && is_blank(after)
+}
+
+// whether a number may have so many digits
+fn is_digit_count(count: usize) -> bool
+    ensures { result ≡ (nat_lt 0 count && nat_le count most_digits) }
+{
+    0 < count && count <= MOST_DIGITS
+}
+
+// how many digits the bytes begin with
+fn digits_len(bytes: &[u8]) -> usize
+    ensures { result ≡ prefix_len is_ascii_digit bytes.now }
+{
+    bytes
+        .iter()
+        .take_while(|byte| byte.is_ascii_digit())
+        .count()
 }
 
 fn without_sign(numeral: &[u8]) -> &[u8]

@@ -2,8 +2,8 @@
 ghost use Rattle.rng_model.specs.datatypes.Datatypes.{plain_string, plain_token, is_allowed_by, are_equal_by};
 ghost use Rattle.rng_model.proofs.ValueLaws as laws;
 
-use crate::collapsed::is_same_collapsed;
 use crate::datatype::Datatype;
+use crate::runs::is_same_collapsed;
 
 /// `string` of the built-in library: every text is allowed, and each is equal only to itself.
 ///

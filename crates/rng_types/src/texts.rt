@@ -5,9 +5,11 @@ ghost use Rattle.rng_model.specs.datatypes.Datatypes.{xsd_string, xsd_token, xsd
 ghost use Rattle.rng_model.proofs.ValueLaws as laws;
 ghost use Rattle.rng_types.specs.views.View.{lengths_of};
 
-use crate::collapsed::{char_count, collapsed_char_count, is_same_collapsed, only_piece};
+use crate::collapsed::{char_count, collapsed_char_count, only_piece};
 use crate::datatype::Datatype;
 use crate::lengths::Lengths;
+use crate::runs::is_same_collapsed;
+use crate::words::{ascii_word, starts_name};
 use rng_model::{is_name_char, is_ncname};
 
 /// `string`: every text whose number of characters is allowed. Each text is equal only to itself.
@@ -32,7 +34,7 @@ impl Datatype for XsdString {
     ghost equal_transitive = { λ d u v w e f. laws.equal_transitive (xsd_string (lengths_of d.lengths)) u v w e f };
 
     fn allows(&self, text: &str) -> bool {
-        self.lengths.allow(char_count(text))
+        self.lengths.allow_all() || self.lengths.allow(char_count(text))
     }
 
     fn equal(&self, a: &str, b: &str) -> bool {
@@ -63,7 +65,7 @@ impl Datatype for XsdToken {
     ghost equal_transitive = { λ d u v w e f. laws.equal_transitive (xsd_token (lengths_of d.lengths)) u v w e f };
 
     fn allows(&self, text: &str) -> bool {
-        self.lengths.allow(collapsed_char_count(text))
+        self.lengths.allow_all() || self.lengths.allow(collapsed_char_count(text))
     }
 
     fn equal(&self, a: &str, b: &str) -> bool {
@@ -94,6 +96,11 @@ impl Datatype for NcName {
     ghost equal_transitive = { λ d u v w e f. laws.equal_transitive (xsd_ncname (lengths_of d.lengths)) u v w e f };
 
     fn allows(&self, text: &str) -> bool {
+        if let Some(word) = ascii_word(text)
+            && starts_name(word)
+        {
+            return self.lengths.allow(word.len());
+        }
         match only_piece(text) {
             Some(name) => is_ncname(name) && self.lengths.allow(char_count(name)),
             None => false,
@@ -128,6 +135,9 @@ impl Datatype for NmToken {
     ghost equal_transitive = { λ d u v w e f. laws.equal_transitive (xsd_nmtoken (lengths_of d.lengths)) u v w e f };
 
     fn allows(&self, text: &str) -> bool {
+        if let Some(word) = ascii_word(text) {
+            return self.lengths.allow(word.len());
+        }
         match only_piece(text) {
             Some(token) => is_nmtoken(token) && self.lengths.allow(char_count(token)),
             None => false,

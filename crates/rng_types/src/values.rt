@@ -4,7 +4,7 @@ ghost use Rattle.rng_model.proofs.ValueLaws as laws;
 ghost use Rattle.rng_types.specs.views.View.{bounds_of};
 
 use crate::datatype::Datatype;
-use crate::numerals::{Bounds, integer, truth};
+use crate::numerals::{Bounds, integer, is_integer, truth};
 
 /// `boolean`: `true` and `1`, which are equal, and `false` and `0`, which are equal, with or without blanks around
 /// them.
@@ -61,6 +61,9 @@ impl Datatype for Integer {
     ghost equal_transitive = { λ d u v w e f. laws.equal_transitive (xsd_integer (bounds_of d.bounds)) u v w e f };
 
     fn allows(&self, text: &str) -> bool {
+        if self.bounds.allow_all() {
+            return is_integer(text);
+        }
         match integer(text) {
             Some(n) => self.bounds.allow(n),
             None => false,

@@ -1,6 +1,5 @@
 -- The types of the datatypes that a grammar names, by the positions of the patterns that name them.
-use Rattle.std.specs.Prelude.{◌≡◌, ℕ, Option, Some, None, option_map, slice_get, string_bytes}
-use Rattle.std.specs.HashMap.{get}
+use Rattle.std.specs.Prelude.{◌≡◌, ℕ, Box, Option, Some, None, length, slice_get, string_bytes}
 use Rattle.rng_model.specs.datatypes.Datatypes.{BuiltInType}
 use Rattle.rng_model.specs.datatypes.DatatypeTests.{type_of}
 use Rattle.rng_model.specs.schema.Patterns.{without_parameters}
@@ -8,8 +7,8 @@ use Rattle.rng_model.specs.simple.Table.{Table}
 use Rattle.rng_model.specs.datatypes.DatatypeViews.{datatype_of}
 use Rattle.rng_model.specs.declared.simple.Simple.{Simple}
 use Rattle.rng_model.specs.declared.simple.Simple.TheVariants as simple
-use Rattle.rng_model.specs.contracts.simple.PatternIdPartialEq.TheImpl as same_position
 use Rattle.rng_types.specs.views.View.{built_in_type_of}
+use Rattle.rng_types.specs.declared.builtin.Builtin.{Builtin}
 use Rattle.rng_pattern_derivatives.specs.declared.datatypes.Datatypes.{Datatypes}
 
 -- the type that a pattern names, if it names a known one (RELAX NG Specification, sections 6.2.8 and 6.2.9)
@@ -28,9 +27,19 @@ type_named_by (simple.Group a b) = None
 type_named_by (simple.Interleave a b) = None
 type_named_by (simple.Choice a b) = None
 
+-- how many positions there are
+abbrev pub position_count : Datatypes → ℕ
+position_count datatypes = length datatypes.by_position.items
+
+-- the type of what is kept, if there is one
+abbrev pub type_kept : {Z : Type 0} → Option (Option (Box Builtin Z)) → Option BuiltInType
+type_kept None = None
+type_kept (Some None) = None
+type_kept (Some (Some builtin)) = Some (built_in_type_of builtin.value)
+
 -- the type that is kept at a position
 abbrev pub type_at : Datatypes → ℕ → Option BuiltInType
-type_at datatypes k = option_map built_in_type_of (get same_position.ghosts.eq datatypes.by_position (record { 0 = k }))
+type_at datatypes k = type_kept (slice_get datatypes.by_position.items k)
 
 -- for each pattern of the grammar the type that it names is kept at its position
 abbrev pub AreDatatypesOf : Table → Datatypes → Type 0

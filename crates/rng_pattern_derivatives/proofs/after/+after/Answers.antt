@@ -5,6 +5,7 @@ use Rattle.std.proofs.Math.Seq.{take-suc}
 use Rattle.std.specs.String.{string_bytes}
 use Rattle.rng_model.specs.datatypes.DatatypeTests.{known_equates}
 use Rattle.rng_model.specs.simple.Table.{tree_at}
+use Rattle.rng_model.specs.datatypes.Blanks.{pieces}
 use Rattle.rng_model.specs.datatypes.Texts.{is_blank}
 use Rattle.rng_model.specs.datatypes.DatatypeViews.{datatype_of}
 use Rattle.rng_model.specs.schema.Patterns.{without_parameters}
@@ -12,6 +13,7 @@ use Rattle.rng_model.specs.names.NameViews.{class_of, name_of}
 use Rattle.rng_model.specs.declared.datatype.DatatypeValue.{DatatypeValue}
 use Rattle.rng_names.specs.plain.Holding.{holds}
 use Rattle.rng_deriv_laws.specs.plain.Derivatives.{is_excepted}
+use Rattle.rng_model.specs.views.PiecesView.{pieces_left}
 use Rattle.rng_pattern_table.specs.views.Taking.{tree_by}
 use Rattle.rng_pattern_table.specs.views.Trees.{attribute_found, data_found, tree_of}
 use Rattle.rng_pattern_table.specs.declared.pattern.PatternNumber.{PatternNumber}
@@ -193,12 +195,13 @@ list_takes-pieces-init t c =
     let t0 = c.args.grammar.now in
     let old = c.args.table.now in
     let At : PatternNumber → Type 0 = λ n. n.0 < length old in
-    let is = ap (λ (n : PatternNumber). tree_of t0 old n.0) c.number_at-rest.ensures in record {
+    let is = ap (λ (n : PatternNumber). tree_of t0 old n.0) c.number_at-rest.ensures in
+    let all : pieces_left c.into_iter-piece-iterator.result ≡ pieces c.args.text.now = search rules in record {
       longer = Longer-refl old;
       known = c.requires.1.1.1.1;
       inside = subst At (sym c.number_at-rest.ensures) (c.requires.1.1.1.0.taken.inside c.args.body.0 c.requires.1.1.0);
       kept = λ o. subst (Obeys places.List) (sym is) o;
-      takes = λ o. rw is (λ h. h, λ h. h);
+      takes = λ o. rw (is, all) (λ h. h, λ h. h);
     }
 
 pub list_takes-after-requires : goal.list_takes-after-requires
@@ -222,7 +225,7 @@ list_takes-pieces-preserved t c =
       inside = c.in_ok-rest.ensures.left.inside;
       kept = λ o. c.in_ok-rest.ensures.left.kept (inv.kept o);
       takes = λ o. one_piece_more t0 c.pieces.table c.after.new.table c.pieces.rest c.in_ok-rest.rest
-          (tree_by t0 c.args.table.now c.args.numbers.now c.args.body) c.as_slice-piece-items.result.now c.pieces.piece-index _ c.pieces-test.true
+          (tree_by t0 c.args.table.now c.args.numbers.now c.args.body) (pieces c.args.text.now) _ _ c.in-Some.piece c.in-Some.ensures.steps
           c.in_ok-rest.ensures.left (inv.kept o) (inv.takes o);
     }
 
@@ -235,8 +238,8 @@ list_takes-returns-clause-longer t c = c.pieces.invariant.longer
 pub list_takes-returns-clause-taken : goal.list_takes-returns-clause-taken
 list_takes-returns-clause-taken t c =
     let t0 = c.args.grammar.now in
-    list_told t0 c.args.table.now c.pieces.table c.args.numbers.now c.args.body c.pieces.rest c.as_slice-piece-items.result.now c.pieces.piece-index _ _
-    c.requires.1.1.1.0 c.requires.1.1.0 c.pieces-test.false (search rules) c.pieces.invariant.takes (c.facts.ensures.nullable t0 (reading_of t0))
+    list_told t0 c.args.table.now c.pieces.table c.args.numbers.now c.args.body c.pieces.rest (pieces c.args.text.now) _ _
+    c.requires.1.1.1.0 c.requires.1.1.0 (search rules) c.pieces.invariant.takes (c.facts.ensures.nullable t0 (reading_of t0))
 
 pub rests-takes-requires : goal.rests-takes-requires
 rests-takes-requires t c =

@@ -1,4 +1,7 @@
-use Rattle.std.proofs.Common.{◌+◌, ◌↔◌, ◌<◌, [], drop, length, take}
+use Rattle.std.proofs.Common.{◌+◌, ◌↔◌, ◌<◌, [], length, map, take}
+use Rattle.rng_model.specs.datatypes.Blanks.{pieces}
+use Rattle.rng_model.specs.matching.Document.{a_text}
+use Rattle.rng_model.specs.views.PiecesView.{pieces_left}
 use Rattle.rng_deriv_laws.specs.plain.Taking.{Takes}
 use Rattle.rng_pattern_table.specs.views.PatternTable.{Longer}
 use Rattle.rng_pattern_table.specs.views.Taking.{tree_by}
@@ -10,7 +13,6 @@ use Rattle.rng_model.specs.matching.GrammarReading.{reading_of}
 use Rattle.rng_pattern_derivatives.specs.declared.way.First.TheVariants as firsts
 use Rattle.rng_pattern_derivatives.specs.declared.way.Place.TheVariants as places
 use Rattle.rng_pattern_derivatives.proofs.RestsOfWays.{rank}
-use Rattle.rng_pattern_derivatives.proofs.ListPieces.{texts_in}
 use Rattle.rng_pattern_derivatives.proofs.after.+after.Given as goal
 
 abbrev pub decreases-after : goal.decreases-after
@@ -55,6 +57,6 @@ invariant-list_takes-pieces l =
       known : AreAllKnown l.grammar l.keys l.table l.known;
       inside : l.rest.0 < length l.table;
       kept : Obeys places.List whole → Obeys places.List (tree_of l.grammar l.table l.rest.0);
-      takes : Obeys places.List whole → Takes g (tree_of l.grammar l.table l.rest.0) [] (texts_in (drop l.piece-index l.piece-items))
-          ↔ Takes g whole [] (texts_in l.piece-items);
+      takes : Obeys places.List whole → Takes g (tree_of l.grammar l.table l.rest.0) [] (map a_text (pieces_left l.piece-iterator))
+          ↔ Takes g whole [] (map a_text (pieces l.text));
     }
