@@ -3,7 +3,7 @@
 # leave it). RNCV_LIBRARY names the folder of the built library, else build/library.
 #
 # They want Python 3 and no package; tools/xml wants a C compiler, the headers of expat and the library. What is not installed is reported, and what wants
-# it is skipped. The parts run side by side, in less than a minute, and what they print comes in order. The tests of the library come after them: they
+# it is skipped. The parts run side by side, in some two minutes, and what they print comes in order. The tests of the library come after them: they
 # build it once more, by the other compiler, which takes minutes and wants `rt`. RNCV_SKIP=library leaves them out.
 here=$(cd "$(dirname "$0")" && pwd)
 program=${1:-$here/../crates/rncv/out/rncv}
