@@ -72,8 +72,8 @@ class Watch:
             while "--crate-name" not in top["words"] and top["parent"] in by_pid and by_pid[top["parent"]] is not top:
                 top = by_pid[top["parent"]]
             words = top["words"]
-            # (another checkout's checks and edits, run beside this, are not the gate's; a folder of an edit has the number of its `rt`)
-            is_own = top["folder"].startswith(f"{ROOT}/") or f"/rt-edit-{gate}-" in top["folder"]
+            # (another checkout's checks and edits, run beside this, are not the gate's; `rt` is the parent of the check of an edit)
+            is_own = top["folder"].startswith(f"{ROOT}/") or "/rt-edit-" in top["folder"] and top["parent"] == str(gate)
             it["crate"] = words[words.index("--crate-name") + 1] if is_own and "--crate-name" in words else ""
             it["part"] = "edits" if "/rt-edit-" in it["folder"] else "tests" if "--test" in words else "proofs"
         return [it for it in self.processes.values() if it["crate"]]
@@ -107,8 +107,6 @@ def table(seen):
     took, spans, edits = defaultdict(float), {}, defaultdict(lambda: defaultdict(float))
     for it in seen:
         key = it["crate"], it["part"]
-        if it["part"] == "edits" and not os.path.isdir(f"{ROOT}/crates/{it['crate']}/must-fail"):
-            continue    # tried beside this, in another checkout
         took[key] += it["took"]
         first, last = spans.get(key, (it["start"], it["end"]))
         spans[key] = min(first, it["start"]), max(last, it["end"])
@@ -163,10 +161,8 @@ def compare(total, took):
         rows = [line.split() for line in lines if line.strip() and not line.startswith("#")]
     factor = float(rows[0][1])
     then = {crate: (float(minutes), summed) for crate, minutes, summed in rows[1:]}
-    same = []
-    for crate, uses in crates().items():    # lowest first; what a crate uses counts, too: a program is built of all below it
-        if crate in then and then[crate][1] == checksum(crate) and set(uses) <= {name for name, _ in same}:
-            same.append((crate, then[crate][0]))
+    # (a check loads the statements alone of the crates below, so a change there costs this crate little)
+    same = [(crate, then[crate][0]) for crate in crates() if crate in then and then[crate][1] == checksum(crate)]
     before, now = sum(minutes for _, minutes in same), sum(took[crate, "proofs"] for crate, _ in same) / 60
     print(f"\nUnchanged: {len(same)} crates, whose proofs took {before:.1f} minutes and now take {now:.1f}: {now / before:.2f} times as long.")
     print(f"By the budget's measure: {total / 60:.1f} / ({factor} * {now / before:.2f}) = {total / 60 / factor / (now / before):.0f} minutes.")
