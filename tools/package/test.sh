@@ -69,6 +69,18 @@ makes() {
 
 # --- the Debian package, beside what follows
 
+# installs_in ROOT: dpkg installs the package in an empty root with a list of packages of its own, which has none of those that it depends on
+installs_in() {
+    mkdir -p "$1/var/lib/dpkg/info" "$1/var/lib/dpkg/updates"
+    : > "$1/var/lib/dpkg/status"
+    if ! dpkg --root="$1" --force-depends --install "$package" > "$room/dpkg.log" 2>&1; then
+        fail "dpkg --root: $(cat "$room/dpkg.log")"
+        return 1
+    fi
+    # shellcheck disable=SC2016  # dpkg-query reads this
+    same "what dpkg says of the package" "install ok installed" "$(dpkg-query --admindir="$1/var/lib/dpkg" -W -f '${Status}' rncv)"
+}
+
 debian_package() {
     if [ "$built" = 0 ] || ! has dpkg-deb; then
         skip "the Debian package, since dpkg-deb or what is to be in it is not there"
@@ -92,8 +104,17 @@ debian_package() {
     mkdir "$room/unpacked"
     dpkg-deb -x "$package" "$room/unpacked"
     same "the first line of rncv-profile" "#!/usr/bin/python3" "$(sed -n 1p "$room/unpacked/usr/share/rncv/schema/rncv-profile")"
+    roots=$room/unpacked
+    if [ "$(id -u)" = 0 ]; then
+        installs_in "$room/empty root" && roots="$roots
+$room/empty root"
+    else
+        skip "dpkg --root, since this is not root"
+    fi
     if [ "$real" = 1 ]; then
-        python3 -B "$here/first_example.py" "$room/unpacked" || fail "the first example"
+        printf '%s\n' "$roots" | while IFS= read -r root; do
+            python3 -B "$here/first_example.py" "$root" || exit 1
+        done || fail "the first example"
     else
         skip "the first example of README.md, since rncv is a stub"
     fi

@@ -3,7 +3,7 @@
 
     tools/read_time/run.py [--only WORD] [--times N] [--built PROGRAM]
 
-It makes the documents, builds `program.txt` over the crates `pyx` and `rng_model` in a copy of them (or takes PROGRAM, which was built so before), and
+It makes the documents, builds `program.txt` over the crates `pyx`, `pyx_namespaces` and `rng_model` in a copy of them (or takes PROGRAM, which was built so before), and
 `floor.c` by the C compiler, and feeds each document to both at the standard input, N times (3 where it is not said), of which the quickest counts. Each line tells the milliseconds of a processor,
 the megabytes a second, the greatest memory, how often the floor's time that is, and what is the floor's. A document is all of one block, written as
 often as its size wants.
@@ -141,12 +141,12 @@ def write_document(path, size, shape):
 
 def build_reader(folder):
     """The reader's program."""
-    for name in ("rng_model", "pyx"):
+    for name in ("rng_model", "pyx_namespaces", "pyx"):
         shutil.copytree(CRATES / name, folder / "crates" / name)
     program = folder / "crates/read_time"
     (program / "src").mkdir(parents=True)
     shutil.copy(HERE / "program.txt", program / "src" / "main.rt")
-    (folder / "crates.txt").write_text("rng_model:\npyx: rng_model simdutf8 memchr\nread_time: pyx rng_model\n")
+    (folder / "crates.txt").write_text("rng_model:\npyx_namespaces: rng_model memchr\npyx: pyx_namespaces rng_model simdutf8 memchr\nread_time: pyx rng_model\n")
     subprocess.run(["rt", "run"], cwd=program, stdin=subprocess.DEVNULL, stdout=subprocess.DEVNULL)
     built = program / "out/read_time"
     if not built.exists():

@@ -14,8 +14,9 @@ use Rattle.rng_model.specs.documents.PyxTrees.{Placed, Event, events_of, IsPyxDo
 use Rattle.rng_model.specs.documents.PyxClauses as clauses
 use Rattle.rng_model.specs.documents.PyxClauses.{AreOpenTags, none_open, one_open}
 use Rattle.rng_model.proofs.PyxExamples.{good as good_example, a_is_a_name}
-use Rattle.pyx.specs.plain.Cuts.{at_byte}
-use Rattle.pyx.specs.plain.TagReader.{Element, tag_read, element_name, expanded, namespace_of, found_in, any_forbidden, is_written_twice, is_named_twice}
+use Rattle.pyx_namespaces.specs.plain.Cuts.{at_byte}
+use Rattle.pyx.specs.plain.TagReader.{Element, tag_read, element_name, expanded, is_named_twice}
+use Rattle.pyx_namespaces.specs.plain.Declarations.{namespace_of, found_in, any_forbidden, is_written_twice}
 use Rattle.pyx.specs.plain.DocumentReader.{State, Tag, Open, Turn, followed, after_events, declared_in, line_read, all_read, nothing_read, at_end, all_ended}
 use Rattle.pyx.specs.plain.DocumentReader.{document_read}
 use Rattle.rng_model.specs.documents.Documents.{BeginsDocument}

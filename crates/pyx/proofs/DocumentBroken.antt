@@ -12,8 +12,9 @@ use Rattle.rng_model.specs.documents.PyxTrees.{Event}
 use Rattle.rng_model.specs.documents.PyxClauses as clauses
 use Rattle.rng_model.specs.documents.PyxClauses.{BeginsOtherwise, AreOpenTags, EndsWithTag, EndsInText, BreaksNamespaces, RepeatsName, BreaksHere, Breaks, at_line}
 use Rattle.rng_model.specs.documents.PyxClauses.{unfinished, rootless}
-use Rattle.pyx.specs.plain.Cuts.{behind}
-use Rattle.pyx.specs.plain.LineReader.{said_of, written_of}
+use Rattle.pyx_namespaces.specs.plain.Cuts.{behind}
+use Rattle.pyx.specs.plain.LineReader.{said_of}
+use Rattle.pyx_namespaces.specs.plain.WrittenNames.{written_of}
 use Rattle.pyx.specs.plain.TagReader.{Element, tag_read}
 use Rattle.pyx.specs.plain.DocumentReader as reader
 use Rattle.pyx.specs.plain.DocumentReader.{State, Tag, Open, Turn, fault, silent, go_on, followed, after_events, declared_in, close_tag, tag_ended, judged, line_read}

@@ -13,7 +13,8 @@ use Rattle.rng_model.specs.documents.PyxTrees.{Placed, element_at, PlacedItems, 
 use Rattle.rng_model.specs.documents.PyxTrees.{instruction_and}
 use Rattle.rng_model.specs.documents.PyxTrees.{AreInstructions, no_instructions, another_instruction, string_before, IsTag, IsElement, element, IsContent, last_run}
 use Rattle.rng_model.specs.documents.PyxTrees.{run_and_element, IsPyxDocument}
-use Rattle.pyx.specs.plain.TagReader.{Element, declared_by, tag_read}
+use Rattle.pyx.specs.plain.TagReader.{Element, tag_read}
+use Rattle.pyx_namespaces.specs.plain.Declarations.{declared_by}
 use Rattle.pyx.specs.plain.DocumentReader.{State, Tag, Open, Turn, after_events, followed, declared_in, with_attribute, nothing_read, at_end, all_ended}
 use Rattle.pyx.specs.plain.DocumentReader.{document_read}
 use Rattle.pyx.proofs.TagNamespaces.{scope_in, AllDeclared}

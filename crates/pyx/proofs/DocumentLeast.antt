@@ -13,14 +13,15 @@ use Rattle.rng_model.specs.documents.PyxClauses as clauses
 use Rattle.rng_model.specs.documents.PyxClauses.{BeginsOtherwise, AreOpenTags, none_open, SaysTag, HasScope, EndsWithTag, EndsInText, BreaksNamespaces, RepeatsName}
 use Rattle.rng_model.specs.documents.PyxClauses.{BreaksHere}
 use Rattle.rng_model.specs.documents.PyxClauses.{Breaks, at_line, unfinished, rootless, IsFirstFault}
-use Rattle.pyx.specs.plain.LineReader.{said_of, written_of}
+use Rattle.pyx.specs.plain.LineReader.{said_of}
+use Rattle.pyx_namespaces.specs.plain.WrittenNames.{written_of}
 use Rattle.pyx.specs.plain.TagReader.{Element, tag_read}
 use Rattle.pyx.specs.plain.DocumentReader as reader
 use Rattle.pyx.specs.plain.DocumentReader.{State, Tag, Open, Turn, fault, silent, go_on, followed, after_events, declared_in, close_tag, tag_ended, line_read}
 use Rattle.pyx.specs.plain.DocumentReader.{all_read}
 use Rattle.pyx.specs.plain.DocumentReader.{nothing_read, at_end, at_last, all_ended, document_read}
 use Rattle.pyx.proofs.LineClauses.{good_line, broken_line, alone_most}
-use Rattle.pyx.proofs.WrittenNames.{written_back, written_bytes}
+use Rattle.pyx_namespaces.proofs.WrittenNames.{written_back, written_bytes}
 use Rattle.pyx.proofs.TagExact.{tag_namespaces, tag_repeats}
 use Rattle.pyx.proofs.LineTurns.{followed_same, followed_twice}
 use Rattle.pyx.proofs.SaidLines.{is_attribute, line_said}

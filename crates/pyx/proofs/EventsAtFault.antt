@@ -13,7 +13,7 @@ use Rattle.rng_model.specs.documents.PyxLines.{Said, WrittenName, IsGoodLine, Ar
 use Rattle.rng_model.specs.documents.PyxTrees.{Event}
 use Rattle.rng_model.specs.documents.PyxClauses as clauses
 use Rattle.rng_model.specs.documents.PyxClauses.{BreaksHere, Breaks, at_line, unfinished, rootless, IsFront, HasLongestFront}
-use Rattle.pyx.specs.plain.Cuts.{at_byte}
+use Rattle.pyx_namespaces.specs.plain.Cuts.{at_byte}
 use Rattle.pyx.specs.plain.LineReader.{said_of}
 use Rattle.pyx.specs.plain.TagReader.{Element, tag_read}
 use Rattle.pyx.specs.plain.DocumentReader as reader

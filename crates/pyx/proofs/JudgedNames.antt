@@ -6,16 +6,15 @@ use Rattle.rng_model.specs.documents.PyxLines as lines
 use Rattle.rng_model.specs.documents.PyxTrees.{Event, an_end, a_string}
 use Rattle.pyx.specs.plain.DocumentReader.{Open, State, Tag, Turn, after_events, around, begin_tag, ended, end_in, followed, is_outside, judged, said_read, silent, started}
 use Rattle.pyx.specs.plain.DocumentReader.{text_ended}
-use Rattle.pyx.specs.plain.LineReader.{is_name, named, written_of}
-use Rattle.pyx.specs.declared.scope.OpenElement.{OpenElement}
-use Rattle.pyx.specs.views.ElementView.{is_innermost, stack_of}
+use Rattle.pyx.specs.plain.LineReader.{is_name, named}
+use Rattle.pyx_namespaces.specs.plain.WrittenNames.{written_of}
+use Rattle.pyx.specs.views.ElementView.{is_innermost}
 use Rattle.pyx.proofs.OpenNames.{and_false}
-use Rattle.pyx.proofs.OpenStack.{stack_length}
 use Rattle.pyx.proofs.TagRepeats.{both}
 
-pub not_outside : (s : State) (opened : List OpenElement) → stack_of opened ≡ s.opened → (length opened == 0) ≡ false → (s.root && is_outside s) ≡ false
+pub not_outside : (s : State) (opened : List Open) → opened ≡ s.opened → (length opened == 0) ≡ false → (s.root && is_outside s) ≡ false
 not_outside s opened e some =
-    let inside : is_outside s ≡ false = ap (λ (o : List Open). length o == 0) (sym e) ∙ ap (λ n. n == 0) (stack_length opened) ∙ some in
+    let inside : is_outside s ≡ false = ap (λ (o : List Open). length o == 0) (sym e) ∙ some in
     ap (λ b. s.root && b) inside ∙ and_false s.root
 
 few : (n m : ℕ) → m < n → nat_le n m ≡ false
@@ -24,8 +23,8 @@ few n m h = go (nat_le n m) refl where
   go false e = refl
   go true e = let k : n ≤ m = search rules in absurd (omega (arith, h, k))
 
-pub few_open : (s : State) (opened : List OpenElement) → stack_of opened ≡ s.opened → length opened < 512 → nat_le open_limit (length s.opened) ≡ false
-few_open s opened e h = few 512 (length s.opened) (omega (arith, h, ap length e, stack_length opened))
+pub few_open : (s : State) (opened : List Open) → opened ≡ s.opened → length opened < 512 → nat_le open_limit (length s.opened) ≡ false
+few_open s opened e h = few 512 (length s.opened) (omega (arith, h, ap length e))
 
 -- the tag and its name do not matter to the text before it
 pub start_judged : (bytes : ℕ) (name : List ℕ) (s : State) (t : Option Tag) (opened : List Open) → is_name name ≡ true → (s.root && is_outside s) ≡ false

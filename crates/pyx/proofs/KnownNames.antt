@@ -1,14 +1,15 @@
 -- Known names have the expanded names that they had at their look-up.
-use Rattle.std.proofs.Common.{◌≡◌, ◌<◌, ◌∙◌, ℕ, List, [], ◌∷◌, ◌++◌, length, Option, Some, ap, sym, subst, arith, get_or, string_bytes}
+use Rattle.std.proofs.Common.{◌≡◌, ◌<◌, ◌∙◌, ℕ, List, [], ◌∷◌, ◌++◌, length, Some, ap, sym, subst, arith, get_or, string_bytes}
 use Rattle.std.specs.List.{All}
 use Rattle.std.specs.Prelude.{slice_set}
 use Rattle.std.proofs.lemmas.List.{get_or-map, get_or-set_same, length-set}
-use Rattle.std.proofs.lemmas.List.Elements.{All-push, All-set, All-weaker}
+use Rattle.std.proofs.lemmas.List.Elements.{All-push, All-set}
 use Rattle.rng_model.specs.names.Names.{Name}
 use Rattle.rng_model.specs.names.NameViews.{name_of}
 use Rattle.pyx.specs.declared.known.KnownName.{KnownName}
-use Rattle.pyx.specs.plain.LineReader.{written_of}
-use Rattle.pyx.specs.plain.TagReader.{Declared, namespace_of, in_namespace, element_name}
+use Rattle.pyx_namespaces.specs.plain.WrittenNames.{written_of}
+use Rattle.pyx_namespaces.specs.plain.Declarations.{Declared}
+use Rattle.pyx.specs.plain.TagReader.{element_name}
 use Rattle.pyx.specs.views.ElementView.{AreKnown, IsKnown, name_at, names_of}
 
 -- a place with a name of this round
@@ -20,19 +21,6 @@ known_there scope round known at k written inside there same alike all =
     let read : name_at (names_of known) at ≡ name_of k.name =
     get_or-map (λ k. name_of k.name) known at k _ inside ∙ ap (λ (q : KnownName). name_of q.name) (sym there) in
     ap (λ w. element_name scope (written_of w)) (sym alike) ∙ says.1 same ∙ ap Some (sym read)
-
-same_names : (old new : Declared) → ((p : Option (List ℕ)) → namespace_of old p ≡ namespace_of new p) → (written : List ℕ)
-    → element_name old (written_of written) ≡ element_name new (written_of written)
-unfolding element_name
-same_names old new same written = ap (in_namespace (written_of written).local) (same (written_of written).prefix)
-
--- if every prefix has the same namespace
-pub known_alike : (old new : Declared) (round : ℕ) (known : List KnownName) → ((p : Option (List ℕ)) → namespace_of old p ≡ namespace_of new p)
-    → AreKnown old round known → AreKnown new round known
-known_alike old new round known same all = (
-  all.0,
-  All-weaker (IsKnown old round) (IsKnown new round) (λ k h. (h.0, λ e. sym (same_names old new same (string_bytes k.written)) ∙ h.1 e)) known all.1,
-)
 
 -- one more place, in which nothing is known
 pub known_more : (scope : Declared) (round : ℕ) (known more : List KnownName) (k : KnownName) → more ≡ known ++ k ∷ [] → k.round ≡ 0

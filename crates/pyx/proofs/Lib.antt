@@ -1,8 +1,8 @@
 pub mod PlainTexts
-pub mod TextCuts
+pub mod LineTexts
 pub mod ReplacedEscapes
-pub mod WrittenNames
 pub mod OpenStack
+pub mod DeclaredNamespaces
 pub mod OpenNames
 pub mod JudgedNames
 pub mod KnownNames
@@ -22,7 +22,6 @@ pub mod TagDeclarations
 pub mod TagNamespaces
 pub mod TagRepeats
 pub mod TagSlots
-pub mod DeclarationSlots
 pub mod TagParts
 pub mod TagAnswers
 pub mod TagUnique

@@ -16,8 +16,10 @@ use Rattle.rng_model.specs.documents.PyxLines.{WrittenName, IsName, IsNoName, Sa
 use Rattle.rng_model.specs.documents.PyxLines.{says_end, says_instruction, IsGoodLine, HasNoKind, IsCutAtSpace, StandsForNothing, BreaksWithin, unended, no_utf8}
 use Rattle.rng_model.specs.documents.PyxLines.{no_xml_char, no_kind, bad_text, bad_value, bad_start_name, bad_end_name, bad_attribute_name, no_space, BreaksAlone, within}
 use Rattle.rng_model.specs.documents.PyxLines.{too_long}
-use Rattle.pyx.specs.plain.Cuts.{either_way, at_byte, unescaped}
-use Rattle.pyx.specs.plain.LineReader.{Read, written_of, is_name, named, text_of, attribute_of, kind_of, characters_of, bytes_of, said_of}
+use Rattle.pyx_namespaces.specs.plain.Cuts.{either_way, at_byte}
+use Rattle.pyx.specs.plain.Escapes.{unescaped}
+use Rattle.pyx.specs.plain.LineReader.{Read, is_name, named, text_of, attribute_of, kind_of, characters_of, bytes_of, said_of}
+use Rattle.pyx_namespaces.specs.plain.WrittenNames.{written_of}
 use Rattle.pyx.proofs.EscapedTexts.{value_is, value_of, no_value, none_stands}
 use Rattle.pyx.proofs.NamesInLines.{not_equal, differs, Found, found, at_none, at_seam, utf8_parts, name_is, name_has_no_space, good_name}
 use Rattle.pyx.proofs.LinesOfPieces.{said_of_long}

@@ -12,8 +12,9 @@ use Rattle.std.proofs.lemmas.Str.{IsCharBoundary-after_ascii, chars-append, char
 use Rattle.std.proofs.lemmas.Str.Ascii.{IsAscii-nil, IsAscii-cons}
 use Rattle.rng_model.specs.names.Characters.{is_ncname, is_name_start, is_name_char, is_colon}
 use Rattle.rng_model.specs.documents.PyxLines.{WrittenName, IsNcname, IsName, alone, prefixed}
-use Rattle.pyx.specs.plain.Cuts.{at_byte, at_front}
-use Rattle.pyx.specs.plain.LineReader.{written_of, cut_name, is_name, are_ncnames}
+use Rattle.pyx_namespaces.specs.plain.Cuts.{at_byte, at_front}
+use Rattle.pyx_namespaces.specs.plain.WrittenNames.{written_of, cut_name}
+use Rattle.pyx.specs.plain.LineReader.{is_name, are_ncnames}
 
 -- ---- cuts
 

@@ -1,31 +1,136 @@
--- The open elements as a stack.
-use Rattle.std.proofs.Common.{◌≡◌, List, [], ◌∷◌, ◌++◌, map, reverse, ap, ◌∙◌, ℕ, length, Option, refl, arith}
+-- The open elements as a stack, each with its part of the declarations.
+use Rattle.std.proofs.Common.{◌≡◌, ◌∙◌, ◌≤◌, ◌<◌, ◌-◌, ℕ, Bool, true, false, List, [], ◌∷◌, ◌++◌, map, reverse, ap, sym, length, take, drop, refl, arith, rules}
+use Rattle.std.proofs.Common.{◌⊎◌, inl, inr, get_or, nat_le, string_bytes}
+use Rattle.std.proofs.lemmas.List.{append_cancel_left, append-nil, drop_all, drop_at, get_or_push, length_push, length-append, length-map, length-reverse, map-append, nil_from_length}
+use Rattle.std.proofs.lemmas.List.{reverse-append, take-append-drop, take_all, take_at}
+use Rattle.rng_model.specs.documents.PyxHeld.{name_length}
 use Rattle.rng_model.specs.documents.PyxNamespaces.{WrittenAttribute}
-use Rattle.pyx.specs.plain.DocumentReader.{Open, declared_in}
-use Rattle.pyx.specs.plain.TagReader.{namespace_of, found_in, or_else}
-use Rattle.std.proofs.lemmas.List.{reverse-append}
-use Rattle.std.proofs.lemmas.List.{length-map, length-reverse, map-append}
-use Rattle.pyx.specs.declared.scope.OpenElement.{OpenElement}
-use Rattle.pyx.specs.views.ElementView.{open_of, scope_of, stack_of, written_attribute}
+use Rattle.pyx.specs.plain.DocumentReader.{around}
+use Rattle.pyx.specs.declared.elements.OpenElement.{OpenElement}
+use Rattle.pyx_namespaces.specs.declared.places.Declaration.{Declaration}
+use Rattle.pyx_namespaces.specs.views.DeclarationView.{declaration_of}
+use Rattle.pyx_namespaces.specs.plain.WrittenNames.{written_of}
+use Rattle.pyx_namespaces.specs.declared.written.WrittenAttribute as written
+use Rattle.pyx_namespaces.specs.views.WrittenAttributes.{written_attribute}
+use Rattle.pyx.specs.views.ElementView.{all_declared, open_as, open_with, stack_in, stack_of}
+use Rattle.pyx_namespaces.specs.plain.Held.{declarations_held, plus}
+use Rattle.pyx.specs.views.Held.{opened_held}
 
-pub stack_push : (xs : List OpenElement) (x : OpenElement) → stack_of (xs ++ x ∷ []) ≡ open_of x ∷ stack_of xs
-stack_push xs x = ap reverse (map-append open_of xs (x ∷ [])) ∙ reverse-append (map open_of xs) (open_of x ∷ [])
+pub stack_push : (xs : List OpenElement) (e : OpenElement) (ds : List WrittenAttribute)
+    → stack_of (xs ++ e ∷ []) ds ≡ open_with e (take e.count ds) ∷ stack_of xs (drop e.count ds)
+stack_push xs e ds = ap (λ (r : List OpenElement). stack_in r ds) (reverse-append xs (e ∷ []))
 
-pub stack_length : (xs : List OpenElement) → length (stack_of xs) ≡ length xs
-stack_length xs = length-reverse (map open_of xs) ∙ length-map xs open_of
+in_length : (xs : List OpenElement) (ds : List WrittenAttribute) → length (stack_in xs ds) ≡ length xs
+in_length [] ds = refl
+in_length (e ∷ xs) ds = omega (arith, in_length xs (drop e.count ds))
 
--- an element that declares nothing, at the front
-pub passed_over : (stack outer : List Open) (element : Open) (prefix : Option (List ℕ)) → stack ≡ element ∷ outer → length element.declared ≡ 0
-    → namespace_of (declared_in outer) prefix ≡ namespace_of (declared_in stack) prefix
-unfolding namespace_of found_in
-passed_over stack outer element prefix e h = rw e (go element.declared h) where
-  go : (ds : List WrittenAttribute) → length ds ≡ 0
-      → namespace_of (declared_in outer) prefix ≡ or_else (found_in prefix ds) (namespace_of (declared_in outer) prefix)
-  go [] k = refl
-  go (d ∷ ds) k = absurd (omega (arith, k))
+pub stack_length : (xs : List OpenElement) (ds : List WrittenAttribute) → length (stack_of xs ds) ≡ length xs
+stack_length xs ds = in_length (reverse xs) ds ∙ length-reverse xs
 
-pub namespaces_same : (opened outer : List OpenElement) (e : OpenElement) → opened ≡ outer ++ e ∷ [] → length e.declarations.items ≡ 0
-    → (p : Option (List ℕ)) → namespace_of (scope_of outer) p ≡ namespace_of (scope_of opened) p
-namespaces_same opened outer e parts none p =
-    passed_over (stack_of opened) (stack_of outer) (open_of e) p (ap stack_of parts ∙ stack_push outer e)
-    (omega (arith, none, length-map e.declarations.items written_attribute))
+-- ---- an element is opened
+
+-- with declarations of its own
+pub stack_open : (xs : List OpenElement) (e : OpenElement) (es ds : List WrittenAttribute) → length es ≡ e.count
+    → stack_of (xs ++ e ∷ []) (es ++ ds) ≡ open_with e es ∷ stack_of xs ds
+stack_open xs e es ds n = stack_push xs e (es ++ ds)
+    ∙ ap (λ (t : List WrittenAttribute). open_with e t ∷ stack_of xs (drop e.count (es ++ ds))) (take_at es ds e.count n)
+    ∙ ap (λ (t : List WrittenAttribute). open_with e es ∷ stack_of xs t) (drop_at es ds e.count n)
+
+pub whole_open : (xs : List OpenElement) (e : OpenElement) (es ds : List WrittenAttribute) → length es ≡ e.count → all_declared (stack_of xs ds) ≡ ds
+    → all_declared (stack_of (xs ++ e ∷ []) (es ++ ds)) ≡ es ++ ds
+whole_open xs e es ds n whole = ap all_declared (stack_open xs e es ds n) ∙ ap (λ (t : List WrittenAttribute). es ++ t) whole
+
+pub last_is : (all xs : List OpenElement) (e d : OpenElement) → all ≡ xs ++ e ∷ [] → d ≡ get_or all (length all - 1) d → d ≡ e
+last_is all xs e d parts is = is ∙ ap (λ (x : List OpenElement). get_or x (length x - 1) d) parts
+    ∙ get_or_push xs e d (length (xs ++ e ∷ []) - 1) (omega (arith, length_push xs e))
+
+-- in the form of the code: the declarations of its tag
+module _ (xs : List OpenElement) (e : OpenElement) (tag : List written.WrittenAttribute) (ds new : List WrittenAttribute) (n : length tag ≡ e.count)
+    (is : new ≡ map written_attribute tag ++ ds) where
+  pub opened_is : stack_of (xs ++ e ∷ []) new ≡ open_as (string_bytes e.name) tag ∷ stack_of xs ds
+  opened_is = ap (stack_of (xs ++ e ∷ [])) is ∙ stack_open xs e (map written_attribute tag) ds (length-map tag written_attribute ∙ n)
+
+  pub opened_whole : all_declared (stack_of xs ds) ≡ ds → all_declared (stack_of (xs ++ e ∷ []) new) ≡ new
+  opened_whole whole = ap (λ (t : List WrittenAttribute). all_declared (stack_of (xs ++ e ∷ []) t)) is
+      ∙ whole_open xs e (map written_attribute tag) ds (length-map tag written_attribute ∙ n) whole ∙ sym is
+
+-- all declarations were removed
+none_in : (xs : List OpenElement) → all_declared (stack_in xs []) ≡ []
+none_in [] = refl
+none_in (e ∷ xs) =
+    let no : List WrittenAttribute = [] in
+    let own : take e.count no ≡ no = take_all e.count no (omega arith) in
+    let outer : drop e.count no ≡ no = drop_all e.count no (omega arith) in
+    ap (λ (t : List WrittenAttribute). t ++ all_declared (stack_in xs (drop e.count no))) own
+    ∙ ap (λ (t : List WrittenAttribute). all_declared (stack_in xs t)) outer ∙ none_in xs
+
+pub whole_none : (xs : List OpenElement) (ds : List WrittenAttribute) → ds ≡ [] → all_declared (stack_of xs ds) ≡ ds
+whole_none xs ds e = rw e (none_in (reverse xs))
+
+-- ---- an element is closed
+
+pub stack_close : (xs ys : List OpenElement) (e : OpenElement) (ds : List WrittenAttribute) → xs ≡ ys ++ e ∷ []
+    → stack_of ys (drop e.count ds) ≡ around (stack_of xs ds)
+stack_close xs ys e ds parts = sym (ap (λ (x : List OpenElement). around (stack_of x ds)) parts ∙ ap around (stack_push ys e ds))
+
+pub whole_close : (xs ys : List OpenElement) (e : OpenElement) (ds : List WrittenAttribute) → xs ≡ ys ++ e ∷ [] → all_declared (stack_of xs ds) ≡ ds
+    → all_declared (stack_of ys (drop e.count ds)) ≡ drop e.count ds
+whole_close xs ys e ds parts whole =
+    let own : List WrittenAttribute = take e.count ds in
+    append_cancel_left own (all_declared (stack_of ys (drop e.count ds))) (drop e.count ds)
+    (sym (ap (λ (x : List OpenElement). all_declared (stack_of x ds)) parts ∙ ap all_declared (stack_push ys e ds)) ∙ whole
+    ∙ sym (take-append-drop e.count ds))
+
+-- ---- the declarations in a list of which the innermost is last
+
+either : (n m : ℕ) → (n < m) ⊎ (m ≤ n)
+either n m = go (nat_le m n) refl where
+  go : (b : Bool) → nat_le m n ≡ b → (n < m) ⊎ (m ≤ n)
+  go true e = inr (search rules)
+  go false e = inl (search rules)
+
+parted : (inner rest ds : List WrittenAttribute) (n : ℕ) → ds ≡ inner ++ rest → length rest ≡ length ds - n → (take n ds ≡ inner) × (drop n ds ≡ rest)
+parted inner rest ds n both size = go (either (length ds) n) where
+  go : (length ds < n) ⊎ (n ≤ length ds) → (take n ds ≡ inner) × (drop n ds ≡ rest)
+  go (inr few) =
+      let own : length inner ≡ n = omega (arith, size, few, ap length both, length-append inner rest) in
+      (ap (take n) both ∙ take_at inner rest n own, ap (drop n) both ∙ drop_at inner rest n own)
+  go (inl many) =
+      let none : rest ≡ [] = nil_from_length rest (omega (arith, size, many)) in
+      let just : ds ≡ inner = both ∙ ap (λ (t : List WrittenAttribute). inner ++ t) none ∙ append-nil inner in
+      let short : length inner ≤ n = omega (arith, ap length just, many) in
+      (ap (take n) just ∙ take_all n inner short, ap (drop n) just ∙ drop_all n inner short ∙ sym none)
+
+-- of all declarations, those of the innermost element are the last
+pub last_of : (all outer own : List Declaration) (n : ℕ) → all ≡ outer ++ own → length outer ≡ length all - n
+    → (take n (map declaration_of (reverse all)) ≡ map declaration_of (reverse own))
+    × (drop n (map declaration_of (reverse all)) ≡ map declaration_of (reverse outer))
+last_of all outer own n parts size =
+    let both : map declaration_of (reverse all) ≡ map declaration_of (reverse own) ++ map declaration_of (reverse outer) =
+    ap (λ (x : List Declaration). map declaration_of (reverse x)) parts ∙ ap (map declaration_of) (reverse-append outer own)
+    ∙ map-append declaration_of (reverse own) (reverse outer) in
+    parted (map declaration_of (reverse own)) (map declaration_of (reverse outer)) (map declaration_of (reverse all)) n both
+    (omega (
+      arith,
+      size,
+      length-map (reverse outer) declaration_of,
+      length-reverse outer,
+      length-map (reverse all) declaration_of,
+      length-reverse all,
+    ))
+
+-- the bytes of the innermost element, and of those around it
+pub held_open : (opened outer : List OpenElement) (e : OpenElement) (all around own : List Declaration) → opened ≡ outer ++ e ∷ []
+    → all ≡ around ++ own → length around ≡ length all - e.count
+    → opened_held (stack_of opened (map declaration_of (reverse all)))
+    ≡ plus (plus (name_length (written_of (string_bytes e.name))) (declarations_held (map declaration_of (reverse own))))
+    (opened_held (stack_of outer (map declaration_of (reverse around))))
+unfolding opened_held
+held_open opened outer e all around own parts cut size =
+    let p = last_of all around own e.count cut size in
+    let ds : List WrittenAttribute = map declaration_of (reverse all) in
+    ap (λ (x : List OpenElement). opened_held (stack_of x ds)) parts ∙ ap opened_held (stack_push outer e ds)
+    ∙ ap (λ (t : List WrittenAttribute). plus (plus (name_length (written_of (string_bytes e.name))) (declarations_held t))
+    (opened_held (stack_of outer (drop e.count ds)))) p.0
+    ∙ ap (λ (t : List WrittenAttribute). plus (plus (name_length (written_of (string_bytes e.name))) (declarations_held (map declaration_of (reverse own))))
+    (opened_held (stack_of outer t))) p.1

@@ -12,7 +12,8 @@ use Rattle.rng_model.specs.documents.PyxLines.{Said, WrittenName, IsGoodLine, Ar
 use Rattle.rng_model.specs.documents.PyxNamespaces.{WrittenAttribute, AreWritten, none_written, written_and, AreParted, Scope}
 use Rattle.rng_model.specs.documents.PyxClauses as model
 use Rattle.rng_model.specs.documents.PyxClauses.{AreOpenTags, none_open, SaysTag, HasScope, no_tags, one_tag, EndsInText}
-use Rattle.pyx.specs.plain.TagReader.{Element, declared_by, tag_read}
+use Rattle.pyx.specs.plain.TagReader.{Element, tag_read}
+use Rattle.pyx_namespaces.specs.plain.Declarations.{declared_by}
 use Rattle.pyx.specs.plain.DocumentReader.{State, Tag, Open, declared_in, with_attribute, nothing_read}
 use Rattle.pyx.proofs.TagDeclarations.{declaration_of}
 use Rattle.pyx.proofs.TagNamespaces.{scope_in, AllDeclared}

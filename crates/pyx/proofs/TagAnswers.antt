@@ -10,7 +10,8 @@ use Rattle.rng_model.specs.documents.PyxNamespaces.{WrittenAttribute, Declaratio
 use Rattle.rng_model.specs.documents.PyxClauses.{BreaksNamespaces, forbidden, element_prefix, attribute_prefix, RepeatsName, written_twice, expanded_twice}
 use Rattle.rng_model.specs.matching.WellFormed.{Distinct}
 use Rattle.pyx.specs.plain.TagReader as read
-use Rattle.pyx.specs.plain.TagReader.{Declared, Element, declared_by, forbidden_by, is_forbidden, any_forbidden, attribute_name, expanded, and_more, is_written_twice}
+use Rattle.pyx_namespaces.specs.plain.Declarations.{Declared, declared_by, forbidden_by, is_forbidden, any_forbidden, is_written_twice}
+use Rattle.pyx.specs.plain.TagReader.{Element, attribute_name, expanded, and_more}
 use Rattle.pyx.specs.plain.TagReader.{is_named_twice, with_attributes, with_name, tag_read}
 use Rattle.pyx.proofs.TagDeclarations.{declaration_of, prefix_of, AreDeclared, forbidden_is, is_forbidden_by}
 use Rattle.pyx.proofs.TagNamespaces.{scope_in, AllDeclared, UndeclaredPrefix, NameTells, element_tells, AttributeTells, attribute_tells}

@@ -8,8 +8,8 @@ use Rattle.rng_model.specs.documents.PyxLines.{WrittenName}
 use Rattle.rng_model.specs.documents.PyxNamespaces.{WrittenAttribute, Declaration, xmlns, xml_uri, xmlns_uri, Declares, default_namespace, prefix_declared}
 use Rattle.rng_model.specs.documents.PyxNamespaces.{DeclaresNothing, AreParted, nothing, declaration, other, IsForbidden, of_xmlns_uri, of_xmlns, of_nothing}
 use Rattle.rng_model.specs.documents.PyxNamespaces.{xml_as_another, another_as_xml}
-use Rattle.pyx.specs.plain.TagReader.{declared_prefix, declared_by, forbidden_prefix, forbidden_by}
-use Rattle.pyx.proofs.WrittenNames.{same_bytes, bytes_same}
+use Rattle.pyx_namespaces.specs.plain.Declarations.{declared_prefix, declared_by, forbidden_prefix, forbidden_by}
+use Rattle.pyx_namespaces.proofs.WrittenNames.{same_bytes, bytes_same}
 
 some_same : {A : Type 0} (x y : A) → Some x ≡ Some y → x ≡ y
 some_same x y e = cc

@@ -17,10 +17,12 @@ use Rattle.rng_model.specs.documents.PyxNamespaces.{AreExpanded, none_left, expa
 use Rattle.rng_model.specs.documents.PyxClauses.{BreaksNamespaces, forbidden, element_prefix, attribute_prefix, RepeatsName, written_twice, expanded_twice}
 use Rattle.rng_model.specs.documents.PyxTrees.{IsTag}
 use Rattle.rng_model.specs.matching.WellFormed.{Distinct}
-use Rattle.pyx.specs.plain.TagReader.{Declared, Element, declared_by, attribute_name, expanded, and_more, is_written_in, is_written_twice, is_named_in}
+use Rattle.pyx_namespaces.specs.plain.Declarations.{Declared, declared_by, is_written_in, is_written_twice}
+use Rattle.pyx.specs.plain.TagReader.{Element, attribute_name, expanded, and_more, is_named_in}
 use Rattle.pyx.specs.plain.TagReader.{is_named_twice}
-use Rattle.pyx.specs.plain.TagReader.{tag_read, same_written, same_name}
-use Rattle.pyx.proofs.WrittenNames.{same_bytes, written_itself}
+use Rattle.pyx.specs.plain.TagReader.{tag_read, same_name}
+use Rattle.pyx_namespaces.specs.plain.Declarations.{same_written}
+use Rattle.pyx_namespaces.proofs.WrittenNames.{same_bytes, written_itself}
 use Rattle.pyx.proofs.TagDeclarations.{declaration_of}
 use Rattle.pyx.proofs.TagNamespaces.{scope_in, AllDeclared}
 use Rattle.pyx.proofs.TagParts.{IsSplit, no_lines, declares, declares_none, split_parted}

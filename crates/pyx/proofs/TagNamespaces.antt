@@ -10,9 +10,10 @@ use Rattle.rng_model.specs.documents.PyxLines.{WrittenName}
 use Rattle.rng_model.specs.documents.PyxNamespaces.{WrittenAttribute, Declaration, xml_uri, Scope, IsDeclared, HasNamespace, declared_here, declared_outside}
 use Rattle.rng_model.specs.documents.PyxNamespaces.{xml_beforehand, no_default, NamesElement, element_name, NamesAttribute, without_prefix, with_prefix, IsUndeclared}
 use Rattle.pyx.specs.plain.TagReader as read
-use Rattle.pyx.specs.plain.TagReader.{Declared, declared_by, same_prefix, declares, found_in, beforehand, or_else, namespace_of, in_namespace, attribute_in}
+use Rattle.pyx_namespaces.specs.plain.Declarations.{Declared, declared_by, same_prefix, declares, found_in, beforehand, or_else, namespace_of}
+use Rattle.pyx.specs.plain.TagReader.{in_namespace, attribute_in}
 use Rattle.pyx.specs.plain.TagReader.{attribute_name}
-use Rattle.pyx.proofs.WrittenNames.{same_bytes, bytes_same, prefix_same, prefix_itself}
+use Rattle.pyx_namespaces.proofs.WrittenNames.{same_bytes, bytes_same, prefix_same, prefix_itself}
 use Rattle.pyx.proofs.TagDeclarations.{declaration_of, prefix_of, AreDeclared}
 
 some_same : {A : Type 0} (x y : A) → Some x ≡ Some y → x ≡ y

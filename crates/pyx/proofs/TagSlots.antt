@@ -6,7 +6,8 @@ use Rattle.rng_model.specs.matching.Document.{Attribute}
 use Rattle.rng_model.specs.names.Names.{Name}
 use Rattle.rng_model.specs.documents.DocumentViews.{attribute_of}
 use Rattle.rng_model.specs.declared.document.Attr.{Attr}
-use Rattle.pyx.specs.plain.Slots.{AreAllMet, AreMet, is_met}
+use Rattle.pyx.specs.plain.Slots.{AreMet}
+use Rattle.pyx_namespaces.specs.plain.Slots.{is_met}
 use Rattle.pyx.specs.plain.TagReader.{same_name, is_named_in, is_named_twice}
 use Rattle.pyx.proofs.TagRepeats.{names_same, true_false}
 
@@ -32,8 +33,3 @@ all_kept old new (a ∷ more) kept met = (kept a.name.local met.0, all_kept old 
 pub first_and_rest : (attrs : List Attr) (first : Attr) → 1 ≤ length attrs → first ≡ get_or attrs 0 first
     → map attribute_of attrs ≡ attribute_of first ∷ map attribute_of (take (length attrs - 1) (drop 1 attrs))
 first_and_rest attrs first some e = ap (map attribute_of) (first_rest attrs first some ∙ ap (λ (a : Attr). a ∷ between 1 (length attrs) attrs) (sym e))
-
-pub kept_names : (old new : List Bool) (names : List (List ℕ)) → ((other : List ℕ) → is_met old other ≡ true → is_met new other ≡ true)
-    → AreAllMet old names → AreAllMet new names
-kept_names old new [] kept met = tt
-kept_names old new (n ∷ more) kept met = (kept n met.0, kept_names old new more kept met.1)

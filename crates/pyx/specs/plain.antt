@@ -1,6 +1,6 @@
 -- Plain functions that the code is proved against, and private relations.
-pub mod Cuts
 pub mod DocumentReader
+pub mod Escapes
 pub mod LineReader
 pub mod Pieces
 pub mod PlainBytes

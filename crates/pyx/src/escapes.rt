@@ -1,13 +1,13 @@
 // Texts with escapes.
 ghost use Rattle.std.specs.Prelude.{◌≡◌, IfOk, Some, None, if◌then◌else◌, string_bytes};
 ghost use Rattle.std.specs.Option.{option_map};
-ghost use Rattle.pyx.specs.plain.Cuts.{escape_of, in_front, unescaped};
+ghost use Rattle.pyx.specs.plain.Escapes.{escape_of, in_front, unescaped};
 
-use crate::cuts::{behind, cut_at};
+use pyx_namespaces::{behind, cut_at};
 use rng_model::OutOfMemory;
 
 /// Returns the character that the escape after a backslash represents, and the rest.
-#[tactic(auto, using(crate::proofs::TextCuts::escape_by_front))]
+#[tactic(auto, using(crate::proofs::LineTexts::escape_by_front))]
 fn escape(text: &str) -> Option<(char, &str)>
     ensures { option_map (λ x. (x.0, x.1.now)) result ≡ escape_of text.now }
 {

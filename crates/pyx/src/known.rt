@@ -1,11 +1,12 @@
 // Names that have been looked up.
 ghost use Rattle.std.specs.Prelude.{◌≡◌, ◌<◌, ◌≤◌, ℕ, length, IfOk, IfSome, OnOk, Some};
 ghost use Rattle.rng_model.specs.names.NameViews.{name_of};
-ghost use Rattle.pyx.specs.plain.LineReader.{written_of};
-ghost use Rattle.pyx.specs.plain.TagReader.{Declared, element_name};
+ghost use Rattle.pyx_namespaces.specs.plain.WrittenNames.{written_of};
+ghost use Rattle.pyx_namespaces.specs.plain.Declarations.{Declared};
+ghost use Rattle.pyx.specs.plain.TagReader.{element_name};
 ghost use Rattle.pyx.specs.views.ElementView.{AreKnown, IsKnown, name_at, names_of};
 
-use crate::slots::hash_of;
+use pyx_namespaces::hash_of;
 use rng_model::{Name, OutOfMemory};
 use std::alloc::Global;
 

@@ -1,7 +1,8 @@
 //! Reads documents in PYX, in pieces of any sizes, and hands out their events.
 #![tactic(auto)]
 
-mod cuts;
+mod attributes;
+mod elements;
 mod escapes;
 mod fault;
 mod known;
@@ -10,11 +11,9 @@ mod opened;
 mod pieces;
 mod plain;
 mod reader;
-mod scope;
 mod slots;
 mod spares;
 mod state;
-mod written;
 
 pub use reader::Reader;
 pub use rng_model::PyxFault;

@@ -1,25 +1,29 @@
 // Open elements.
-ghost use Rattle.std.specs.Prelude.{◌≡◌, ◌<◌, ◌∷◌, ◌&&◌, [], IfOk, OnOk, length, map, true};
+ghost use Rattle.std.specs.Prelude.{◌≡◌, ◌<◌, ◌∷◌, ◌++◌, ◌==◌, ◌&&◌, [], IfOk, OnOk, MatchResult, length, map, drop, true};
+ghost use Rattle.std.specs.Option.{option_map};
 ghost use Rattle.rng_model.specs.plain.Answers.{Gives};
 ghost use Rattle.rng_model.specs.names.NameViews.{name_of};
 ghost use Rattle.pyx.specs.plain.DocumentReader.{around, declared_in};
-ghost use Rattle.pyx.specs.views.ElementView.{AreKnown, clause_of, is_innermost, name_at, names_of, open_as, resolved, scope_of, stack_of, written_attribute};
-ghost use Rattle.pyx.specs.plain.LineReader.{is_name, written_of};
+ghost use Rattle.pyx.specs.views.ElementView.{AreKnown, clause_of, is_innermost, name_at, names_of, open_as, resolved};
+ghost use Rattle.pyx_namespaces.specs.views.WrittenAttributes.{written_attribute};
+ghost use Rattle.pyx.specs.views.Held.{opened_held};
+ghost use Rattle.pyx.specs.plain.LineReader.{is_name};
+ghost use Rattle.pyx_namespaces.specs.plain.WrittenNames.{written_of};
 ghost use Rattle.pyx.specs.plain.TagReader.{element_name};
+ghost use Rattle.pyx_namespaces.specs.plain.Declarations.{namespace_of};
 
-use crate::cuts::cut_at;
+use crate::elements::{OpenElement, innermost, opened_len};
 use crate::fault::LineFault;
 use crate::known::{KnownName, find, forget, learn};
 use crate::line::is_name;
-use crate::scope::{OpenElement, innermost, namespace};
 use crate::spares::Spares;
-use crate::written::{WrittenAttribute, is_same};
+use pyx_namespaces::{Declarations, WrittenAttribute, cut_at, is_same};
 use rng_model::{Name, OutOfMemory};
 use std::alloc::Global;
 use std::marker::Model;
 use std::mem;
 
-/// The open elements, and the names that have been looked up inside them.
+/// The open elements, their declarations, and the names that have been looked up inside them.
 ///
 /// A name stays known as long as the same declarations hold, so a name that occurs again among the same elements is not
 /// looked up again. At most 256 names are kept, and all except one have at most 1,024 bytes, as have their namespaces.
@@ -28,6 +32,7 @@ use std::mem;
 pub struct OpenElements {
     /// The innermost last.
     opened: Vec<OpenElement>,
+    declarations: Declarations,
     /// The name of the tag that is being read. It is a name or empty, as those of the open elements.
     begun: String,
     /// A round ends where an element with a declaration is opened or closed.
@@ -42,27 +47,27 @@ impl Model for OpenElements {
 
     ghost Value = { Elements };
 
-    ghost view = { λ e. record { opened = stack_of e.opened.items; begun = string_bytes e.begun; names = names_of e.known.items } };
+    ghost view = { λ e. record { opened = stack_of e.opened.items e.declarations; begun = string_bytes e.begun; names = names_of e.known.items } };
 
-    ghost invariant = { λ e. AreKept e.opened.items (string_bytes e.begun) e.round e.known.items };
+    ghost invariant = { λ e. AreKept e.opened.items e.declarations (string_bytes e.begun) e.round e.known.items };
 }
 
-/// Returns the place of the expanded name that a name has inside these elements. Looks it up if it is not known. A
-/// prefix that is not declared breaks P11.
-#[tactic(auto, unfolding(crate::specs::plain::TagReader::element_name, crate::specs::plain::LineReader::written_of))]
+/// Returns the place of the expanded name that a name has where these declarations hold. Looks it up if it is not known.
+/// A prefix that is not declared breaks P11.
+#[tactic(auto, unfolding(crate::specs::plain::TagReader::element_name, pyx_namespaces::specs::plain::WrittenNames::written_of))]
 #[inline(always)]
 fn place_of_name(
     alloc: Global,
-    opened: &[OpenElement],
+    declarations: &Declarations,
     round: u64,
     known: &mut Vec<KnownName>,
     written: &str,
 ) -> Result<usize, LineFault>
-    requires { AreKnown (scope_of opened.now) round known.old.items }
-    ensures known { AreKnown (scope_of opened.now) round known.new.items }
+    requires { AreKnown (declarations.now ∷ []) round known.old.items }
+    ensures known { AreKnown (declarations.now ∷ []) round known.new.items }
     ensures inside { IfOk result (λ at. at < length known.new.items) }
     ensures name { Gives clause_of (λ at. name_at (names_of known.new.items) at) result
-        (resolved (element_name (scope_of opened.now) (written_of written.now))) }
+        (resolved (element_name (declarations.now ∷ []) (written_of written.now))) }
 {
     if let Some(at) = find(known.as_slice(), round, written) {
         return Ok(at);
@@ -71,10 +76,65 @@ fn place_of_name(
         Some((prefix, local)) => (Some(prefix), local),
         None => (None, written),
     };
-    match namespace(opened, prefix) {
+    match declarations.namespace(prefix) {
         Some(uri) => Ok(learn(alloc, known, round, written, uri, local)?),
         None => Err(LineFault::Clause(11)),
     }
+}
+
+/// Adds the declarations of a tag, inside the others. The names that are known are then unknown. Removes all declarations
+/// if memory runs out.
+#[inline(always)]
+fn declare(
+    alloc: Global,
+    declarations: &mut Declarations,
+    round: &mut u64,
+    known: &mut Vec<KnownName>,
+    tag: &mut Vec<WrittenAttribute>,
+) -> Result<(), OutOfMemory>
+    requires { AreKnown (declarations.old ∷ []) round.old known.old.items }
+    ensures known { AreKnown (declarations.new ∷ []) round.new known.new.items }
+    ensures declared { MatchResult result (λ x. declarations.new ≡ map written_attribute tag.old.items ++ declarations.old) (λ e. declarations.new ≡ []) }
+{
+    if tag.as_slice().is_empty() {
+        return Ok(());
+    }
+    forget(round, known);
+    declarations.add_tag(alloc, tag)
+}
+
+/// Removes the innermost declarations, so many, and keeps their buffers.
+fn remove(declarations: &mut Declarations, count: usize, spares: &mut Spares)
+    ensures { declarations.new ≡ drop count declarations.old }
+{
+    let mut left = count;
+    'innermost: while left > 0 {
+        if let Some(written) = declarations.pop() {
+            spares.keep(written.name);
+            spares.keep(written.value);
+        }
+        left -= 1;
+    }
+}
+
+/// Removes the declarations of a tag, the innermost so many. The names that are known are then unknown.
+#[inline(always)]
+fn undeclare(
+    declarations: &mut Declarations,
+    round: &mut u64,
+    known: &mut Vec<KnownName>,
+    count: usize,
+    spares: &mut Spares,
+)
+    requires { AreKnown (declarations.old ∷ []) round.old known.old.items }
+    ensures known { AreKnown (declarations.new ∷ []) round.new known.new.items }
+    ensures removed { declarations.new ≡ drop count declarations.old }
+{
+    if count == 0 {
+        return;
+    }
+    forget(round, known);
+    remove(declarations, count, spares);
 }
 
 impl OpenElements {
@@ -84,18 +144,42 @@ impl OpenElements {
     {
         OpenElements {
             opened: Vec::new(alloc),
+            declarations: Declarations::new(alloc),
             begun: String::new(alloc),
             round: 1,
             known: Vec::new(alloc),
         }
     }
 
-    /// Returns the elements, the innermost last.
+    /// Returns the number of open elements.
     #[inline(always)]
-    pub fn elements(&self) -> &[OpenElement]
-        ensures { stack_of result.now ≡ self.now.opened }
+    pub fn len(&self) -> usize
+        ensures { result ≡ length self.now.opened }
     {
-        self.opened.as_slice()
+        self.opened.len()
+    }
+
+    /// Returns whether no element is open.
+    #[inline(always)]
+    pub fn is_empty(&self) -> bool
+        ensures { result ≡ (length self.now.opened == 0) }
+    {
+        self.len() == 0
+    }
+
+    /// Returns how many bytes are kept of the open elements: their names and their declarations.
+    pub fn held(&self) -> u64
+        ensures { result ≡ opened_held self.now.opened }
+    {
+        opened_len(self.opened.as_slice(), self.declarations.as_slice())
+    }
+
+    /// Returns the namespace of a prefix, or the default one, inside the open elements.
+    #[inline(always)]
+    pub fn namespace(&self, prefix: Option<&str>) -> Option<&str>
+        ensures { option_map (λ x. x.now) result ≡ namespace_of (declared_in self.now.opened) (option_map (λ x. x.now) prefix.entry) }
+    {
+        self.declarations.namespace(prefix)
     }
 
     /// Begins a tag if this is a name, and returns whether it is one.
@@ -117,26 +201,31 @@ impl OpenElements {
         Ok(true)
     }
 
-    /// Opens the element of the tag that has begun, inside the innermost one, with these declarations. Looks up its name
-    /// and returns the place of the expanded name. A prefix that is not declared breaks P11.
+    /// Opens the element of the tag that has begun, inside the innermost one, with these declarations, and leaves the tag
+    /// without them. Looks up its name and returns the place of the expanded name. A prefix that is not declared breaks P11.
     pub fn open(
         &mut self,
         alloc: Global,
-        declarations: Vec<WrittenAttribute>,
+        tag: &mut Vec<WrittenAttribute>,
     ) -> Result<usize, LineFault>
-        ensures opened { OnOk result (self.new.opened ≡ open_as self.old.begun declarations.items ∷ self.old.opened) }
+        ensures opened { OnOk result (self.new.opened ≡ open_as self.old.begun tag.old.items ∷ self.old.opened) }
         ensures inside { IfOk result (λ at. at < length self.new.names) }
         ensures name { Gives clause_of (λ at. name_at self.new.names at) result
-            (resolved (element_name (map written_attribute declarations.items ∷ declared_in self.old.opened) (written_of self.old.begun))) }
+            (resolved (element_name (map written_attribute tag.old.items ∷ declared_in self.old.opened) (written_of self.old.begun))) }
     {
-        if !declarations.as_slice().is_empty() {
-            forget(&mut self.round, &mut self.known);
-        }
+        let count = tag.len();
         let name = mem::replace(&mut self.begun, String::new(alloc));
-        self.opened.push(OpenElement { name, declarations })?;
+        self.opened.push(OpenElement { name, count })?;
+        declare(
+            alloc,
+            &mut self.declarations,
+            &mut self.round,
+            &mut self.known,
+            tag,
+        )?;
         let opened = self.opened.as_slice();
         let name = opened[opened.len() - 1].name.as_str();
-        place_of_name(alloc, opened, self.round, &mut self.known, name)
+        place_of_name(alloc, &self.declarations, self.round, &mut self.known, name)
     }
 
     /// Returns whether this is a name and that of the innermost element. The names of open elements are names, so it is
@@ -168,9 +257,13 @@ impl OpenElements {
     {
         let closed = self.opened.pop();
         if let Some(element) = closed {
-            if !element.declarations.as_slice().is_empty() {
-                forget(&mut self.round, &mut self.known);
-            }
+            undeclare(
+                &mut self.declarations,
+                &mut self.round,
+                &mut self.known,
+                element.count,
+                spares,
+            );
             spares.keep(element.name);
         }
     }

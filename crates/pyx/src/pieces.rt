@@ -5,18 +5,18 @@ ghost use Rattle.std.specs.List.{list_all, prefix_len};
 ghost use Rattle.std.specs.Str.{chars};
 ghost use Rattle.rng_model.specs.names.Characters.{is_xml_char};
 ghost use Rattle.pyx.specs.plain.PlainBytes.{is_plain};
-ghost use Rattle.pyx.specs.plain.Cuts.{at_byte};
+ghost use Rattle.pyx_namespaces.specs.plain.Cuts.{at_byte};
 ghost use Rattle.pyx.specs.views.Held.{held};
 ghost use Rattle.pyx.specs.plain.Pieces as pieces;
 ghost use Rattle.pyx.specs.plain.Pieces.{is_within, weight};
 ghost use Rattle.pyx.specs.views.View.{Concludes, Takes, progress_of};
 ghost use Rattle.rng_model.specs.documents.Handing.{Hands};
 
-use crate::cuts::cut_at;
 use crate::line::{LINE_LIMIT, Line};
 use crate::plain::plain_text;
 use crate::state::State;
 use memchr::{memchr, memrchr};
+use pyx_namespaces::cut_at;
 use rng_model::{Events, PyxFault};
 use std::alloc::Global;
 

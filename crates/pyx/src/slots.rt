@@ -1,30 +1,15 @@
 // Attributes with the same name in a tag.
-ghost use Rattle.std.specs.Prelude.{◌≡◌, ℕ, List, map, false, true};
+ghost use Rattle.std.specs.Prelude.{◌≡◌, map, false};
 ghost use Rattle.rng_model.specs.names.NameViews.{name_of};
 ghost use Rattle.rng_model.specs.documents.DocumentViews.{attribute_of};
-ghost use Rattle.pyx.specs.plain.Slots.{AreMet, hash_of, is_met};
+ghost use Rattle.pyx.specs.plain.Slots.{AreMet};
 ghost use Rattle.pyx.specs.plain.TagReader.{is_named_in, is_named_twice};
 
+use pyx_namespaces::{SLOT_COUNT, mark};
 use rng_model::{Attr, Name};
 
 /// The most names that are compared in pairs, without slots.
 const PAIRED_LIMIT: usize = 8;
-
-/// The number of slots.
-pub const SLOT_COUNT: usize = 4_096;
-
-/// Returns a hash of the bytes of a text.
-#[tactic(auto, unfolding(crate::specs::plain::Slots::hash_of))]
-#[inline(always)]
-pub fn hash_of(text: &str) -> usize
-    ensures { result ≡ hash_of text.now }
-{
-    let mut sum: u32 = 0;
-    'bytes: for byte in text.as_bytes() {
-        sum = (sum ^ (*byte as u32)).wrapping_mul(16_777_619);
-    }
-    (sum >> 8) as usize
-}
 
 /// Returns whether one of these attributes has this name.
 #[tactic(auto, unfolding(crate::specs::plain::TagReader::is_named_in))]
@@ -37,19 +22,6 @@ fn is_named_in(name: &Name, attrs: &[Attr]) -> bool
         }
         [] => false,
     }
-}
-
-/// Sets the slot of a name, and returns whether it was set already.
-#[inline(always)]
-pub fn mark(slots: &mut [bool; SLOT_COUNT], name: &str) -> bool
-    ensures met { result ≡ is_met slots.old name.now }
-    ensures set { is_met slots.new name.now ≡ true }
-    ensures kept { (other : List ℕ) → is_met slots.old other ≡ true → is_met slots.new other ≡ true }
-{
-    let at = hash_of(name) % SLOT_COUNT;
-    let met = slots[at];
-    slots[at] = true;
-    met
 }
 
 /// Returns whether two of these attributes have the same name. If none have, the slots of all are set. A name is

@@ -4,26 +4,29 @@ ghost use Rattle.rng_model.specs.plain.Answers.{Gives};
 ghost use Rattle.rng_model.specs.documents.PyxLines as lines;
 ghost use Rattle.pyx.specs.plain.DocumentReader as reader;
 ghost use Rattle.pyx.specs.plain.DocumentReader.{declared_in};
-ghost use Rattle.pyx.specs.views.ElementView.{clause_of, element_at, written_attribute};
+ghost use Rattle.pyx.specs.views.ElementView.{clause_of, element_at};
+ghost use Rattle.pyx_namespaces.specs.views.WrittenAttributes.{written_attribute};
 ghost use Rattle.pyx.specs.views.Held.{state_held};
-ghost use Rattle.pyx.specs.plain.LineReader.{attribute_of, kind_of, named, said_of, text_of, written_of};
+ghost use Rattle.pyx.specs.plain.LineReader.{attribute_of, kind_of, named, said_of, text_of};
+ghost use Rattle.pyx_namespaces.specs.plain.WrittenNames.{written_of};
 ghost use Rattle.pyx.specs.plain.Pieces.{ended_line};
-ghost use Rattle.pyx.specs.plain.TagReader.{declared_by, tag_read};
+ghost use Rattle.pyx_namespaces.specs.plain.Declarations.{declared_by};
+ghost use Rattle.pyx.specs.plain.TagReader.{tag_read};
 ghost use Rattle.pyx.specs.views.View.{Adds, EndsBy, Takes, line_of, state_of, tag_of};
 ghost use Rattle.rng_model.specs.documents.Handing.{Hands};
 
-use crate::cuts::{behind, cut_at};
+use crate::attributes::expand_attributes;
 use crate::escapes::append;
 use crate::fault::LineFault;
 use crate::line::{Line, is_name, line_text};
 use crate::opened::OpenElements;
-use crate::scope::{expand_attributes, opened_len};
 use crate::slots::is_named_twice;
 use crate::spares::Spares;
-use crate::written::{WrittenAttribute, any_forbidden, declared_by, is_written_twice};
+use pyx_namespaces::{
+    WrittenAttribute, any_forbidden, behind, cut_at, declared_by, is_written_twice,
+};
 use rng_model::{Attr, Event, EventKind, Events, OutOfMemory, PyxFault};
 use std::alloc::Global;
-use std::mem;
 
 /// The most `A` lines that a tag may have.
 const ATTRIBUTE_LIMIT: usize = 256;
@@ -112,7 +115,7 @@ impl State {
     pub fn held(&self) -> u64
         ensures { result ≡ state_held (state_of self.now) }
     {
-        let opened = opened_len(self.elements.elements());
+        let opened = self.elements.held();
         let tag = if self.in_tag { self.tag.bytes } else { 0 };
         tag.saturating_add(opened)
             .saturating_add(self.joined.len() as u64)
@@ -142,16 +145,15 @@ impl State {
         ensures opened { OnOk result (state_of self.new ≡ reader.opened_by (tag_of self.old.elements.begun self.old.tag) (state_of self.old)) }
         ensures lines { self.new.lines ≡ self.old.lines }
     {
-        let declarations = mem::replace(&mut self.tag.declarations, Vec::new(self.alloc));
-        if any_forbidden(declarations.as_slice()) {
+        if any_forbidden(self.tag.declarations.as_slice()) {
             return Err(LineFault::Clause(11));
         }
-        let twice = is_written_twice(declarations.as_slice());
+        let twice = is_written_twice(self.tag.declarations.as_slice());
         self.in_tag = false;
-        let at = self.elements.open(self.alloc, declarations)?;
+        let at = self.elements.open(self.alloc, &mut self.tag.declarations)?;
         expand_attributes(
             self.alloc,
-            self.elements.elements(),
+            &self.elements,
             &mut self.spares,
             &mut self.tag.others,
             &mut self.attrs,
@@ -230,10 +232,10 @@ impl State {
         if !self.elements.begin(self.alloc, &mut self.spares, name)? {
             return Err(self.fault(6));
         }
-        if self.root && self.elements.elements().is_empty() {
+        if self.root && self.elements.is_empty() {
             return Err(self.fault(9));
         }
-        if self.elements.elements().len() >= OPEN_LIMIT {
+        if self.elements.len() >= OPEN_LIMIT {
             return Err(self.fault(10));
         }
         self.end_text(events)?;
@@ -295,7 +297,7 @@ impl State {
         if !append(&mut self.joined, text)? {
             return Err(self.fault(5));
         }
-        if self.elements.elements().is_empty() {
+        if self.elements.is_empty() {
             return Err(self.fault(9));
         }
         if self.joined.len() > TEXT_LIMIT {
@@ -389,7 +391,7 @@ impl State {
         ensures { EndsBy result (reader.at_end (state_of self)) }
     {
         if !self.in_tag {
-            if self.root && self.elements.elements().is_empty() {
+            if self.root && self.elements.is_empty() {
                 return Ok(());
             }
             return Err(self.fault(13));

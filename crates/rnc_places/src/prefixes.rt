@@ -57,8 +57,18 @@ fn behind(position: Position, kind: TokenKind) -> Position {
         TokenKind::Sign(Sign::CloseBracket) => position.annotations.saturating_sub(1),
         _ => position.annotations,
     };
+    if position.annotations > 0 {
+        // Nothing in an annotation is a class or a mention.
+        return Position {
+            annotations,
+            ..position
+        };
+    }
     let is_in_class = match kind {
-        TokenKind::Keyword(Keyword::Element | Keyword::Attribute) => true,
+        // After `inherit =` a keyword is a prefix.
+        TokenKind::Keyword(Keyword::Element | Keyword::Attribute) => {
+            position.expected != Expected::Prefix
+        }
         TokenKind::Sign(Sign::OpenBrace | Sign::Equal) => false,
         _ => position.is_in_class,
     };

@@ -60,8 +60,8 @@ pub fn answer_command_line<O: Fn(&str) -> io::Result<T>, T: Read + Drop, R: Read
 /// The answer and the status are those of `run` for the command and for what is read of the files. The first file is
 /// the main one. Fails with `File` and the first file that cannot be read, before the document is read. Fails with
 /// `Read` if a read of the document failed, with `Write` if a write or flush failed, and with `Memory` when out of
-/// memory. After `Write`, a beginning of the answer is written, or all of it; after any other fault nothing is. Costs
-/// what `read_files` and `run` cost.
+/// memory. After `Write`, a beginning of the answer is written, or all of it; after any other fault nothing is. Requires
+/// words with at least one file. Costs what `read_files` and `run` cost.
 pub fn answer_words<O: Fn(&str) -> io::Result<T>, T: Read + Drop, R: Read + Drop, W: Write>(
     alloc: Global,
     words: Words,

@@ -36,7 +36,8 @@ use std::io::{Read, Write};
 ///   schema's simple form may have.
 ///
 /// A line feed ends the line. If the schema is refused, the input is not read. The bytes of files that the main one
-/// does not reach are ignored.
+/// does not reach are ignored. Requires at least one file, and devices that have each counted fewer than 2^64 - 1
+/// failed calls.
 ///
 /// Fails with `RunFault::Read` or `RunFault::Write` only if that device counted a failed call, and with
 /// `RunFault::Memory` only if neither did. After `Read` and `Memory` nothing is written. After `Write` a beginning of

@@ -120,7 +120,7 @@ impl Document {
     /// applied to the files as they are written. Otherwise it is `Invalid` with a line. No document that begins with
     /// the lines up to this line is valid. No start that is reported before this line has a name that no element of the
     /// schema's simple form may have. The verdict is an error only if this call, or an earlier call for the document,
-    /// ran out of memory.
+    /// ran out of memory. Costs what the events of the last tag or text cost.
     pub fn finish(self) -> (Validator, Result<Verdict, OutOfMemory>)
         ensures grammar { result.0 ≡ self.grammar }
         ensures verdict { IfOk result.1 (λ v. (s : Schema) (bytes : List ℕ) → Judges self.grammar s → HasBeenFed self bytes → IsVerdictOn s bytes v) }

@@ -58,7 +58,8 @@ impl Validator {
     /// a file breaks a clause from 1 to 8 by itself: with the first such file in load order, and the first clause that
     /// it breaks. Otherwise fails with `Clause` and the first clause that the files break together, 9 before 10.
     /// Otherwise fails with `Clause` and the least clause that their schema breaks, 11 to 27. Fails with `Memory` when
-    /// out of memory, which says nothing about the files. Costs what `load`, `simplify` and `restrict` cost.
+    /// out of memory, which says nothing about the files. Requires at least one file. Costs what `load`, `simplify` and
+    /// `restrict` cost.
     ///
     /// RELAX NG Specification, sections 4, 5 and 7; the limits are of the profile (docs/LANGUAGE.md).
     pub fn compile(alloc: Global, files: &[(String, Vec<u8>)]) -> Result<Validator, SchemaFault>

@@ -8,7 +8,7 @@ use Rattle.rng_pattern_table.specs.declared.pattern.PatternNumber.{PatternNumber
 use Rattle.rng_deriv_laws.proofs.LevelSteps.{in_front}
 use Rattle.rng_deriv.specs.views.Levels.{IsBodyOf, IsLinkOf, AddsLinks}
 use Rattle.rng_deriv.specs.declared.derivatives.StartWay.{StartWay}
-use Rattle.rng_deriv.specs.declared.links.Link.{Link}
+use Rattle.rng_levels.specs.declared.link.Link.{Link}
 use Rattle.rng_deriv.proofs.Numbers.{append_nothing}
 
 -- ---- pairs of lists

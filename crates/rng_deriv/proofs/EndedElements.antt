@@ -22,7 +22,7 @@ use Rattle.rng_deriv_laws.proofs.LevelSteps.{none_ended, ended_no_more, ended_mo
 use Rattle.rng_pattern_table.specs.declared.pattern.PatternNumber.{PatternNumber}
 use Rattle.rng_deriv.specs.views.Numbers.{IsInside, tree_of, Adds, IsChoiceOf}
 use Rattle.rng_deriv.specs.views.Levels.{link_of, IsOnlyRest, IsRestWithin, AreEndsWith, LeavesBy, AddsEnded}
-use Rattle.rng_deriv.specs.declared.links.Link.{Link}
+use Rattle.rng_levels.specs.declared.link.Link.{Link}
 use Rattle.rng_deriv.proofs.Numbers.{longer_same, longer_through, inside_stays, all_inside_stay, trees_stay, map_push}
 use Rattle.rng_deriv.proofs.AddedLinks.{zip_push}
 use Rattle.rng_deriv.proofs.StartedElements.{links_stay}

@@ -21,7 +21,7 @@ use Rattle.rng_deriv.specs.views.Numbers.{tree_of}
 use Rattle.rng_deriv.specs.views.Strings.{IsHeld}
 use Rattle.rng_model.specs.matching.Outcomes.{KnowsName, IsValid, FailsAt}
 use Rattle.rng_deriv.specs.views.Positions.{Leads, AddsStep, HasCome}
-use Rattle.rng_deriv.specs.declared.position.Position.{Position}
+use Rattle.rng_deriv.specs.views.OpenPositions.{OpenPosition}
 use Rattle.rng_deriv.proofs.Numbers.{all_before}
 
 -- ---- tests over numbers, and their meaning for patterns
@@ -62,15 +62,15 @@ module _ (test : Simple ℕ → Bool) (f : PatternNumber → Simple ℕ) where
 
 -- ---- before the first event
 
-pub comes_first : (g : Reading) (trees : List (Simple ℕ)) (p : Position) (line : ℕ) (start : PatternNumber) → p.state.now.items ≡ start ∷ [] →
-    p.state.levels.items ≡ [] → p.has_begun ≡ false → p.held ≡ None →
+pub comes_first : (g : Reading) (trees : List (Simple ℕ)) (p : OpenPosition) (line : ℕ) (start : PatternNumber) → p.state.now ≡ start ∷ [] →
+    p.state.levels ≡ [] → p.has_begun ≡ false → p.held ≡ None →
     ((ns : List Item) → Takes g (tree_of trees start) [] ns ↔ Takes g g.grammar.start [] ns) → HasCome g trees p line []
 comes_first g trees p line start now levels begun held same = record {
   matcher = record { state = record { now = tree_of trees start ∷ []; levels = [] }; has_begun = false; held = [] };
   position = record {
     state = rw (now, levels) refl;
     has_begun = sym begun;
-    held = subst (λ h. IsHeld g trees p.state.now.items h []) (sym held) refl;
+    held = subst (λ h. IsHeld g trees p.state.now h []) (sym held) refl;
   };
   stands = stands_first g (record { state = record { now = tree_of trees start ∷ []; levels = [] }; has_begun = false; held = [] })
       (tree_of trees start) same refl;
@@ -89,7 +89,7 @@ module _ (g : Reading) where
   known_kind (a_string s) m n f ns step is some = tt
   known_kind an_end m n f ns step is some = tt
 
-  module _ (old new : List (Simple ℕ)) (p q : Position) (e : Event) (step : AddsStep g e.kind old new p q) (line : ℕ) (es : List Event)
+  module _ (old new : List (Simple ℕ)) (p q : OpenPosition) (e : Event) (step : AddsStep g e.kind old new p q) (line : ℕ) (es : List Event)
       (come : HasCome g old p line es) where
     lead : Leads g e.kind new come.matcher q
     lead = step.leads come.matcher come.position
@@ -99,27 +99,27 @@ module _ (g : Reading) where
         subst (StandsFor g lead.matcher) (sym (kinds_append es (e ∷ [])))
         (stands_on g come.matcher lead.matcher (kinds es) e.kind come.stands lead.steps)
 
-    now : lead.matcher.state.now ≡ map (tree_of new) q.state.now.items
+    now : lead.matcher.state.now ≡ map (tree_of new) q.state.now
     now = ap (λ s. s.now) lead.position.state
 
-    pub comes_on : list_all (λ n. is_not_allowed (tree_of new n)) q.state.now.items ≡ false → HasCome g new q e.line (es ++ e ∷ [])
+    pub comes_on : list_all (λ n. is_not_allowed (tree_of new n)) q.state.now ≡ false → HasCome g new q e.line (es ++ e ∷ [])
     comes_on some = record {
       matcher = lead.matcher;
       position = lead.position;
       stands = stands;
       known = All-push (λ e. KnowsName g.grammar e.kind) es e come.known
-          (known_kind e.kind come.matcher lead.matcher (tree_of new) q.state.now.items lead.steps now some);
+          (known_kind e.kind come.matcher lead.matcher (tree_of new) q.state.now lead.steps now some);
       last = inr (es, e.kind, refl);
     }
 
-    pub fails : list_all (λ n. is_not_allowed (tree_of new n)) q.state.now.items ≡ true → FailsAt g (es ++ e ∷ []) e.line
+    pub fails : list_all (λ n. is_not_allowed (tree_of new n)) q.state.now ≡ true → FailsAt g (es ++ e ∷ []) e.line
     fails all = record {
       before = es;
       kind = e.kind;
       behind = [];
       parts = refl;
       cannot = λ more bytes d is parts. no_levels_are_invalid g.grammar g.tests lead.matcher (es ++ e ∷ []) more stands
-          (subst (All (λ p. is_not_allowed p ≡ true)) (sym now) (all_pass is_not_allowed (tree_of new) q.state.now.items all)) bytes d is parts;
+          (subst (All (λ p. is_not_allowed p ≡ true)) (sym now) (all_pass is_not_allowed (tree_of new) q.state.now all)) bytes d is parts;
       known = come.known;
     }
 
@@ -148,25 +148,25 @@ pub failed : (g : Reading) (d : Placed) (line : ℕ) (bytes : List ℕ) → IsPy
     → ¬ (IsValid g d) × FailsAt g (events_of d) line
 failed g d line bytes is f = (fails_behind g (events_of d) line f bytes d is refl, f)
 
-module _ (g : Reading) (trees : List (Simple ℕ)) (p : Position) (line : ℕ) (bytes : List ℕ) (d : Placed) (is : IsPyxDocument bytes d)
+module _ (g : Reading) (trees : List (Simple ℕ)) (p : OpenPosition) (line : ℕ) (bytes : List ℕ) (d : Placed) (is : IsPyxDocument bytes d)
     (come : HasCome g trees p line (events_of d)) where
-  now_is : come.matcher.state.now ≡ map (tree_of trees) p.state.now.items
+  now_is : come.matcher.state.now ≡ map (tree_of trees) p.state.now
   now_is = ap (λ s. s.now) come.position.state
 
-  pub ends_valid : list_any (λ n. is_nullable (tree_of trees n)) p.state.now.items ≡ true → IsValid g d
+  pub ends_valid : list_any (λ n. is_nullable (tree_of trees n)) p.state.now ≡ true → IsValid g d
   ends_valid some =
       (levels_answer g.grammar g.tests come.matcher bytes d is come.stands).0
-      (subst (λ ps. (p : Simple ℕ) × Contains ps p × (is_nullable p ≡ true)) (sym now_is) (some_passes is_nullable (tree_of trees) p.state.now.items some))
+      (subst (λ ps. (p : Simple ℕ) × Contains ps p × (is_nullable p ≡ true)) (sym now_is) (some_passes is_nullable (tree_of trees) p.state.now some))
 
-  none_ends : list_any (λ n. is_nullable (tree_of trees n)) p.state.now.items ≡ false → (q : Simple ℕ) → Contains come.matcher.state.now q
+  none_ends : list_any (λ n. is_nullable (tree_of trees n)) p.state.now ≡ false → (q : Simple ℕ) → Contains come.matcher.state.now q
       → ¬ (is_nullable q ≡ true)
   none_ends none q in_now e =
       let no : is_nullable q ≡ false =
-      All-contains (λ p. is_nullable p ≡ false) (map (tree_of trees) p.state.now.items) q (all_fail is_nullable (tree_of trees) p.state.now.items none)
+      All-contains (λ p. is_nullable p ≡ false) (map (tree_of trees) p.state.now) q (all_fail is_nullable (tree_of trees) p.state.now none)
       (subst (λ ps. Contains ps q) now_is in_now) in
       absurd (cc)
 
-  pub ends_invalid : list_any (λ n. is_nullable (tree_of trees n)) p.state.now.items ≡ false → ¬ (IsValid g d) × FailsAt g (events_of d) line
+  pub ends_invalid : list_any (λ n. is_nullable (tree_of trees n)) p.state.now ≡ false → ¬ (IsValid g d) × FailsAt g (events_of d) line
   ends_invalid none = last come.last where
     last : (events_of d ≡ []) ⊎ ((front : List Event) × (kind : EventKind) × (events_of d ≡ front ++ record { line = line; kind = kind } ∷ []))
         → ¬ (IsValid g d) × FailsAt g (events_of d) line

@@ -4,6 +4,9 @@ pub mod StartedElements
 pub mod EndedElements
 pub mod StateSteps
 pub mod Positions
+pub mod KeptLevels
+pub mod OpenStates
+pub mod LevelTests
 pub mod LevelRenewal
 pub mod KnownDocuments
 mod Matchers

@@ -1,8 +1,14 @@
 -- A matcher of a grammar, given what the event matcher inside it does.
-use Rattle.std.proofs.Common.{◌≡◌, ◌∙◌, ℕ, List, [], ◌∷◌, ◌++◌, Result, Ok, Err, OnOk, append_assoc, sym, subst}
+use Rattle.std.proofs.Common.{◌≡◌, ◌∙◌, ℕ, List, [], ◌∷◌, ◌++◌, Result, Ok, Err, OnOk, append_assoc, sym, ap, subst}
 use Rattle.rng_model.specs.documents.Handing.{Hands}
 use Rattle.rng_model.specs.documents.PyxTrees.{Event}
+use Rattle.rng_deriv.specs.views.Basis.{Basis}
 use Rattle.rng_deriv.specs.views.Matchers.{HasFailedAt, HasGoneOn, HasRunOut, Knows, Matching}
+
+-- the grammar is in the basis
+pub same_grammar : {A E : Type 0} (r : Result A E) (new old : Basis) → OnOk r (new ≡ old) → OnOk r (new.grammar ≡ old.grammar)
+same_grammar (Ok x) new old same = ap (λ (b : Basis). b.grammar) same
+same_grammar (Err f) new old same = tt
 
 module _ (inside m : Matching) (is : inside ≡ m) where
   pub goes_on : {A E : Type 0} (new : Matching) (e : Event) (r : Result A E) → OnOk r (new.grammar ≡ inside.grammar)

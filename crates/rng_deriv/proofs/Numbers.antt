@@ -1,6 +1,8 @@
 -- Numbers of a table that grows.
 use Rattle.std.proofs.Common.{◌≡◌, ℕ, ◌<◌, ◌+◌, List, [], ◌∷◌, ◌++◌, length, map, take, refl, sym, ap, ◌∙◌, subst, All, arith, slice_index_or, slice_set, drop}
-use Rattle.std.proofs.Common.{append_assoc, Result, Ok, Err, IfOk, OnOk}
+use Rattle.std.proofs.Common.{◌-◌, append_assoc, Option, None, Result, Ok, Err, IfOk, OnOk}
+use Rattle.std.specs.Option.{MatchOption, option_to_list}
+use Rattle.std.proofs.lemmas.Option.{MatchOption-at_none}
 use Rattle.std.proofs.lemmas.List.{length-append, length-set, get_or_append_left, take_at, take_more}
 use Rattle.std.proofs.lemmas.List.Elements.{All-weaker, All-take, All-push, AllZip-push, All-head, All-tail, All-nil, All-cons}
 use Rattle.std.specs.List.{AllZip, refill}
@@ -93,3 +95,12 @@ each_at Is g h old base new ps qs items i d n same first inside lt a e =
     (subst (λ qs. AddsEach (Is h) old new (take i ps ++ slice_index_or ps i d ∷ []) qs) (sym e)
     (each_more (Is h) old base new (take i ps) qs (slice_index_or ps i d) n first (All-take (IsInside old) i ps inside) (inside i d lt)
     (subst (λ g. Adds (Is g (tree_of base (slice_index_or ps i d))) base new n) same a)))
+
+-- ---- a list from which nothing was taken, since it is empty
+
+pub none_left : {A : Type 0} (r : Option A) (xs ys : List A) (n k : ℕ) (Q : A → Type 0) → r ≡ None → xs ≡ ys ++ option_to_list r → ys ≡ take (n - 1) xs
+    → MatchOption r ((n ≡ 0) × (k ≡ 0)) Q → (xs ≡ []) × (ys ≡ [])
+none_left r xs ys n k Q is items rest cases =
+    let nothing = MatchOption-at_none ((n ≡ 0) × (k ≡ 0)) Q is cases in
+    let none : ys ≡ [] = rest ∙ ap (λ n. take (n - 1) xs) nothing.0 in
+    (items ∙ ap (λ r. ys ++ option_to_list r) is ∙ append_nothing ys ∙ none, none)

@@ -62,10 +62,10 @@ module _ (t : Table) (old new : List Node) (ms ns : List PatternNumber) (same : 
           long = long ∙ ready.long;
           taken = record {
             inside = λ i within. (at_id (record { 0 = i }) within).0;
-            same = λ i within g. subst (λ p. Same g p (tree_at t.patterns (record { 0 = i }))) (sym (tree_at_id (record { 0 = i }) within))
-                (ready.taken.same i (subst (λ n. i < n) long within) g);
+            same = λ i within has g. subst (λ p. Same g p (tree_at t.patterns (record { 0 = i }))) (sym (tree_at_id (record { 0 = i }) within))
+                (ready.taken.same i (subst (λ n. i < n) long within) has g);
           };
-          kept = λ place id within o. subst (Obeys place) (sym (tree_at_id id within)) (ready.kept place id (subst (λ n. id.0 < n) long within) o);
+          kept = λ place id within has o. subst (Obeys place) (sym (tree_at_id id within)) (ready.kept place id (subst (λ n. id.0 < n) long within) has o);
         };
         bodies = λ k e found.
             let there = body_inside t k e ready.grammar found in

@@ -1,8 +1,6 @@
 -- Properties of a table that serves a grammar.
-use Rattle.std.proofs.Common.{◌≡◌, ◌∙◌, ◌↔◌, ℕ, ◌<◌, List, [], ◌∷◌, ◌++◌, All, length, fold, sym, ap, subst, arith, Bool, true, false}
+use Rattle.std.proofs.Common.{◌≡◌, ◌∙◌, ◌↔◌, ℕ, ◌<◌, List, [], ◌∷◌, ◌++◌, All, length, fold, refl, sym, ap, subst, arith, Bool, true, false}
 use Rattle.std.proofs.Common.{slice_index_or}
-use Rattle.smallvec.specs.SmallVec.{SmallVec}
-use Rattle.std.specs.HashMap.{HashMap}
 use Rattle.rng_names.specs.plain.Keys.{Keys}
 use Rattle.std.proofs.lemmas.List.{append-nil, append_assoc, get_or_default}
 use Rattle.std.proofs.lemmas.List.Elements.{All-weaker}
@@ -18,6 +16,7 @@ use Rattle.rng_deriv_laws.specs.plain.Restricted.{IsRestricted, IsRestrictedBody
 use Rattle.rng_deriv_laws.specs.plain.Taking.{Same, Takes}
 use Rattle.rng_deriv_laws.proofs.Restricted.{bodies_restricted, start_restricted}
 use Rattle.rng_pattern_table.specs.views.Choices.{SomeTakes}
+use Rattle.rng_pattern_table.specs.plain.AskedFor.{IsAskedFor, as_body, as_start}
 use Rattle.rng_pattern_table.specs.plain.Kept.{AreRestrictedAlike}
 use Rattle.rng_pattern_table.specs.views.Node.{Node}
 use Rattle.rng_pattern_table.specs.views.PatternTable.{Longer}
@@ -25,7 +24,7 @@ use Rattle.rng_pattern_table.specs.views.Taking.{AreTaken}
 use Rattle.rng_pattern_table.specs.views.Trees.{trees, tree_of, tree_over, tree_in, with_tree}
 use Rattle.rng_pattern_table.specs.declared.pattern.PatternNumber.{PatternNumber}
 use Rattle.rng_pattern_table.proofs.Trees.{length-trees, Longer-trans}
-use Rattle.rng_pattern_derivatives.specs.plain.After.{IsLeftOfTag}
+use Rattle.rng_text_derivatives.specs.plain.After.{IsLeftOfTag}
 use Rattle.rng_pattern_derivatives.specs.plain.Kinds.{Obeys}
 use Rattle.rng_model.specs.matching.GrammarReading.{reading_of}
 use Rattle.rng_pattern_derivatives.specs.plain.Starting as starting
@@ -39,7 +38,6 @@ use Rattle.rng_pattern_derivatives.proofs.StartBodies.{bodies_longer, body_insid
 use Rattle.rng_deriv.specs.views.Numbers as numbers
 use Rattle.rng_deriv.specs.views.Numbers.{Adds, AddsStarts, IsChoiceOf, IsInside}
 use Rattle.rng_deriv.specs.declared.derivatives.StartWay.{StartWay}
-use Rattle.rng_deriv.specs.declared.start_memo.StartKey.{StartKey}
 use Rattle.rng_deriv.specs.views.Serving.{IsServed, IsServedBy, nodes_unless}
 use Rattle.rng_deriv.specs.views.Starts.{OpensLike}
 use Rattle.rng_deriv.proofs.JoinedStarts.{starts_are, starts_inside}
@@ -69,9 +67,9 @@ served_longer t old new ns longer served = record {
 -- ---- the table of a grammar
 
 kept_at : (t : Table) (ns : List Node) (numbers : List PatternNumber) → AreRestrictedAlike t ns numbers → (place : Place) (id : PatternId)
-    → id.0 < length numbers → Obeys place (tree_at t.patterns id) → Obeys place (tree_of t ns (slice_index_or numbers id.0 (record { 0 = 0 })).0)
-kept_at t ns numbers alike places.Content id h o = alike.restricted id h o
-kept_at t ns numbers alike places.List id h o = alike.unlisted id h o
+    → id.0 < length numbers → IsAskedFor t id.0 → Obeys place (tree_at t.patterns id) → Obeys place (tree_of t ns (slice_index_or numbers id.0 (record { 0 = 0 })).0)
+kept_at t ns numbers alike places.Content id h has o = alike.restricted id h has o
+kept_at t ns numbers alike places.List id h has o = alike.unlisted id h has o
 
 module _ (t : Table) (ns : List Node) (numbers : List PatternNumber) (keeps : BreaksNone (grammar_of t)) (valid : IsTable t)
     (long : length numbers ≡ length t.patterns) (taken : AreTaken t ns numbers) (alike : AreRestrictedAlike t ns numbers) where
@@ -83,7 +81,8 @@ module _ (t : Table) (ns : List Node) (numbers : List PatternNumber) (keeps : Br
         let there = body_inside t k e valid found in
         let body = subst IsRestrictedBody (body_there t k e found) (bodies_restricted (grammar_of t) keeps k) in
         let inside : e.1.0 < length numbers = omega (arith, there, long) in
-        record { restricted = alike.restricted e.1 inside body.restricted; typed = alike.typed e.1 inside body.typed };
+        let asked = as_body k e found refl in
+        record { restricted = alike.restricted e.1 inside asked body.restricted; typed = alike.typed e.1 inside asked body.typed };
   }
 
 -- ---- the number of its start
@@ -99,12 +98,12 @@ module _ (t : Table) (ns : List Node) (numbers : List PatternNumber) (served : I
     pub start_inside : IsInside (trees t ns) n
     start_inside = subst (IsInside (trees t ns)) start_is (record {
       below = let at = served.ready.taken.inside t.start.0 start_there in let same = length-trees t ns in omega (arith, at, same);
-      restricted = served.ready.kept places.Content t.start start_there (start_restricted (grammar_of t) served.keeps);
+      restricted = served.ready.kept places.Content t.start start_there (as_start refl) (start_restricted (grammar_of t) served.keeps);
     })
 
     pub start_same : Same (reading_of t) (tree_of t ns n.0) (tree_at t.patterns t.start)
     start_same = subst (λ (n : PatternNumber). Same (reading_of t) (tree_of t ns n.0) (tree_at t.patterns t.start)) start_is
-        (served.ready.taken.same t.start.0 start_there (reading_of t))
+        (served.ready.taken.same t.start.0 start_there (as_start refl) (reading_of t))
 
 -- ---- what contracts see of a table, unless a call ran out of memory
 
@@ -129,10 +128,9 @@ none_there t lost ns seen n gone view inside =
     let same = length-trees t [] in
     absurd (omega (arith, at, same))
 
-pub there_served : {Z : Type 0} (t : Table) (keys : Keys) (lost : Bool) (ns : List Node) (numbers : List PatternNumber)
-    (memo : HashMap StartKey (SmallVec StartWay) Z) (known : Known) → lost ≡ false → IsServedBy t keys lost ns numbers memo known
-    → IsServedBy t keys false ns numbers memo known
-there_served t keys lost ns numbers memo known there served = subst (λ b. IsServedBy t keys b ns numbers memo known) there served
+pub there_served : (t : Table) (keys : Keys) (lost : Bool) (ns : List Node) (numbers : List PatternNumber) (known : Known) → lost ≡ false
+    → IsServedBy t keys lost ns numbers known → IsServedBy t keys false ns numbers known
+there_served t keys lost ns numbers known there served = subst (λ b. IsServedBy t keys b ns numbers known) there served
 
 -- ---- what is added
 

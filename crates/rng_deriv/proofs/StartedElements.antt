@@ -10,13 +10,13 @@ use Rattle.rng_model.specs.simple.Tree.{Simple}
 use Rattle.rng_model.specs.matching.Reading.{Reading}
 use Rattle.rng_deriv_laws.specs.plain.Ways.{EachWay}
 use Rattle.rng_deriv_laws.specs.plain.LevelStates.{IsBodyNamed, AreStarts, AreOpened}
-use Rattle.rng_deriv_laws.proofs.LevelSteps.{IsLinked, opened_more}
+use Rattle.rng_deriv_laws.proofs.LevelSteps.{IsLinked, none_opened, opened_more}
 use Rattle.rng_pattern_table.specs.declared.pattern.PatternNumber.{PatternNumber}
 use Rattle.rng_deriv.specs.views.Numbers.{Longer, IsInside, tree_of, way_of, AddsStarts}
 use Rattle.rng_deriv.specs.views.Levels.{link_of, IsBodyOf, IsLinkOf, IsLinkWithin, AddsLinks, AddsOpened}
 use Rattle.rng_deriv.specs.declared.derivatives.StartWay.{StartWay}
-use Rattle.rng_deriv.specs.declared.links.Link.{Link}
-use Rattle.rng_deriv.proofs.Numbers.{longer_through, inside_stays, tree_stays, all_inside_stay, trees_stay}
+use Rattle.rng_levels.specs.declared.link.Link.{Link}
+use Rattle.rng_deriv.proofs.Numbers.{longer_same, longer_through, inside_stays, tree_stays, all_inside_stay, trees_stay}
 use Rattle.rng_deriv.proofs.AddedLinks.{zip_weaker, zip_all}
 
 pub links_stay : (old new : List (Simple ℕ)) → Longer old new → (ls : List Link) → All (λ l. IsInside old l.rest) ls →
@@ -116,6 +116,18 @@ module _ (g : Reading) (q : Name) (old base new : List (Simple ℕ)) (ps : List 
             (subst (λ ls. AreOpened g q (map (tree_of new) ps ++ tree_of new p ∷ []) (map (tree_of new) bodies ++ map (tree_of new) a.bodies) ls)
             (sym (ap (map (link_of new)) a.links_are ∙ map-append (link_of new) links a.links)) more));
       }
+
+-- no alternative around
+pub none_opens : (g : Reading) (q : Name) (trees : List (Simple ℕ)) (bodies : List PatternNumber) (links : List Link) → bodies ≡ [] → links ≡ []
+    → AddsOpened g q trees trees [] bodies links
+none_opens g q trees bodies links no_bodies no_links =
+    subst (λ bs. AddsOpened g q trees trees [] bs links) (sym no_bodies)
+    (subst (λ ls. AddsOpened g q trees trees [] [] ls) (sym no_links) (record {
+      longer = longer_same trees;
+      inside = All-nil (IsInside trees);
+      within = All-nil (IsLinkWithin trees 0 0);
+      opened = none_opened g q;
+    }))
 
 -- for a loop over the alternatives
 pub opens_at : (g h : Reading) (q : Name) (old base new : List (Simple ℕ)) (ps : List PatternNumber) (i : ℕ) (d : PatternNumber) (ways : List StartWay)

@@ -1,6 +1,9 @@
 -- Views of types, and invariants.
+pub mod Basis
+pub mod KeptLevels
 pub mod Levels
 pub mod Numbers
+pub mod OpenPositions
 pub mod Positions
 pub mod LevelRenewal
 pub mod Matchers
@@ -8,5 +11,4 @@ pub mod States
 pub mod Strings
 pub mod PatternRenewal
 pub mod Serving
-pub mod StartMemo
 pub mod Starts

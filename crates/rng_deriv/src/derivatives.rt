@@ -1,18 +1,21 @@
 // What the matcher computes from patterns.
-ghost use Rattle.std.specs.Prelude.{◌≡◌, ◌↔◌, ℕ, List, [], All, IfOk, OnOk, map};
+ghost use Rattle.std.specs.Prelude.{◌≡◌, ◌↔◌, ◌<◌, ℕ, List, [], All, IfOk, OnOk, length, map, true};
 ghost use Rattle.rng_model.specs.matching.Document.{Item};
 ghost use Rattle.rng_deriv_laws.specs.plain.Taking.{Takes};
-ghost use Rattle.rng_model.specs.simple.Table.{Table};
 ghost use Rattle.rng_model.specs.simple.Tree.{Simple};
 ghost use Rattle.rng_model.specs.documents.DocumentViews.{attribute_of};
+ghost use Rattle.rng_model.specs.names.Names as names;
 ghost use Rattle.rng_model.specs.names.NameViews.{name_of};
+ghost use Rattle.rng_names.specs.plain.Keys.{key_of};
 ghost use Rattle.rng_deriv_laws.specs.plain.Derivatives as tree;
 ghost use Rattle.rng_deriv_laws.specs.plain.LevelStates.{IsAfterTag, IsAfterText};
 ghost use Rattle.rng_model.specs.matching.Reading.{Reading};
-ghost use Rattle.rng_deriv.specs.views.Numbers.{Adds, AddsStarts, AreRenewed, IsChoiceOf, IsInside, tree_of};
+ghost use Rattle.rng_deriv.specs.views.Basis.{Basis};
+ghost use Rattle.rng_deriv.specs.views.Numbers.{Adds, AddsStarts, AreRenewed, IsChoiceOf, IsInside, Longer, tree_of};
 
 use crate::lists::Ways;
 use rng_model::{Attr, Name, OutOfMemory};
+use rng_names::NameKey;
 use rng_pattern_table::PatternNumber;
 use std::alloc::Global;
 
@@ -38,8 +41,8 @@ impl Default for StartWay {
 /// RELAX NG Specification, sections 6.2 and 7. Arguments are patterns that obey the restrictions, and so are results.
 /// After a call runs out of memory, nothing is known of the table.
 pub trait Derivatives {
-    /// The tables of the grammar.
-    ghost grammar: { Self → Table };
+    /// The tables of the grammar, and the keys of names.
+    ghost basis: { Self → Basis };
 
     /// The grammar, with the tests of texts.
     ghost reading: { Self → Reading };
@@ -71,7 +74,7 @@ pub trait Derivatives {
     ) -> Result<PatternNumber, OutOfMemory>
         requires { All (IsInside (trees self.old)) members.now }
         ensures reading { OnOk result (reading self.new ≡ reading self.old) }
-        ensures grammar { OnOk result (grammar self.new ≡ grammar self.old) }
+        ensures basis { OnOk result (basis self.new ≡ basis self.old) }
         ensures choice { IfOk result (Adds (IsChoiceOf (reading self.old) (trees self.old) members.now) (trees self.old) (trees self.new)) };
 
     /// Returns what is left of the pattern after a string. Fails only when out of memory.
@@ -83,7 +86,7 @@ pub trait Derivatives {
     ) -> Result<PatternNumber, OutOfMemory>
         requires { IsInside (trees self.old) pattern }
         ensures reading { OnOk result (reading self.new ≡ reading self.old) }
-        ensures grammar { OnOk result (grammar self.new ≡ grammar self.old) }
+        ensures basis { OnOk result (basis self.new ≡ basis self.old) }
         ensures after { IfOk result
             (Adds (IsAfterText (reading self.old) text.now (tree_of (trees self.old) pattern)) (trees self.old) (trees self.new)) };
 
@@ -96,22 +99,34 @@ pub trait Derivatives {
     ) -> Result<PatternNumber, OutOfMemory>
         requires { IsInside (trees self.old) body }
         ensures reading { OnOk result (reading self.new ≡ reading self.old) }
-        ensures grammar { OnOk result (grammar self.new ≡ grammar self.old) }
+        ensures basis { OnOk result (basis self.new ≡ basis self.old) }
         ensures after { IfOk result
             (Adds (IsAfterTag (reading self.old) (map attribute_of attrs.now) (tree_of (trees self.old) body)) (trees self.old) (trees self.new)) };
 
-    /// Returns the ways of the pattern to begin with an element of this name. Fails only when out of memory.
+    /// Returns the key of a name. What is left of a pattern after a start depends on the key alone. Allocates nothing.
+    fn key(&self, name: &Name) -> NameKey
+        ensures key { key_of (basis self.now).keys (name_of name.now) ≡ result.0 }
+        ensures inside { result.0 < length (basis self.now).keys.names };
+
+    /// Returns whether the name is the representative of the key. Then it has the key. Allocates nothing.
+    fn is_key(&self, key: NameKey, name: &Name) -> bool
+        ensures { result ≡ true → key_of (basis self.now).keys (name_of name.now) ≡ key.0 };
+
+    /// Returns the ways of the pattern to begin with an element, the name of which has this key. They are the same for
+    /// each such name. Fails only when out of memory.
     fn starts(
         &mut self,
         alloc: Global,
         pattern: PatternNumber,
-        name: &Name,
+        key: NameKey,
     ) -> Result<Ways, OutOfMemory>
-        requires { IsInside (trees self.old) pattern }
+        requires inside { IsInside (trees self.old) pattern }
+        requires key { key.0 < length (basis self.old).keys.names }
         ensures reading { OnOk result (reading self.new ≡ reading self.old) }
-        ensures grammar { OnOk result (grammar self.new ≡ grammar self.old) }
-        ensures starts { IfOk result (λ ways. AddsStarts (reading self.old) (name_of name.now) (trees self.old) (trees self.new)
-            (tree_of (trees self.old) pattern) ways.items) };
+        ensures basis { OnOk result (basis self.new ≡ basis self.old) }
+        ensures longer { OnOk result (Longer (trees self.old) (trees self.new)) }
+        ensures starts { IfOk result (λ ways. (q : names.Name) → key_of (basis self.old).keys q ≡ key.0
+            → AddsStarts (reading self.old) q (trees self.old) (trees self.new) (tree_of (trees self.old) pattern) ways.items) };
 
     /// Returns whether there are so many patterns that the ones that nobody holds should be freed. Allocates nothing.
     ///
@@ -128,6 +143,6 @@ pub trait Derivatives {
     ) -> Result<Vec<PatternNumber>, OutOfMemory>
         requires { All (IsInside (trees self.old)) held.now }
         ensures reading { OnOk result (reading self.new ≡ reading self.old) }
-        ensures grammar { OnOk result (grammar self.new ≡ grammar self.old) }
+        ensures basis { OnOk result (basis self.new ≡ basis self.old) }
         ensures kept { IfOk result (λ numbers. AreRenewed (trees self.old) (trees self.new) held.now numbers.items) };
 }

@@ -7,8 +7,8 @@ ghost use Rattle.rng_deriv.specs.views.Levels.{AddsEnded, AreEndsWith, IsOnlyRes
 ghost use Rattle.rng_deriv.specs.views.Numbers.{Adds, IsChoiceOf, IsInside, tree_of};
 
 use crate::derivatives::Derivatives;
-use crate::links::Link;
-use crate::lists::{Numbers, Tests};
+use crate::lists::Tests;
+use rng_levels::{Link, Numbers};
 use rng_model::OutOfMemory;
 use rng_pattern_table::PatternNumber;
 use smallvec::SmallVec;
@@ -96,7 +96,7 @@ fn joined<D: Derivatives>(
     requires first { IsInside (D.trees derivatives.old) first }
     requires second { IsInside (D.trees derivatives.old) second }
     ensures reading { OnOk result (D.reading derivatives.new ≡ D.reading derivatives.old) }
-    ensures grammar { OnOk result (D.grammar derivatives.new ≡ D.grammar derivatives.old) }
+    ensures basis { OnOk result (D.basis derivatives.new ≡ D.basis derivatives.old) }
     ensures choice { IfOk result (Adds (IsChoiceOf (D.reading derivatives.old) (D.trees derivatives.old) (first ∷ second ∷ []))
         (D.trees derivatives.old) (D.trees derivatives.new)) }
 {
@@ -118,7 +118,7 @@ fn leave<D: Derivatives>(
     requires outside { All (IsInside (D.trees derivatives.old)) outside.old.items }
     requires link { IsRestWithin (D.trees derivatives.old) (length outside.old.items) link }
     ensures reading { OnOk result (D.reading derivatives.new ≡ D.reading derivatives.old) }
-    ensures grammar { OnOk result (D.grammar derivatives.new ≡ D.grammar derivatives.old) }
+    ensures basis { OnOk result (D.basis derivatives.new ≡ D.basis derivatives.old) }
     ensures leaves { OnOk result (LeavesBy (D.reading derivatives.old) good.now (D.trees derivatives.old) (D.trees derivatives.new) link
         outside.old.items outside.new.items) }
 {
@@ -156,7 +156,7 @@ pub fn ended<D: Derivatives>(
 ) -> Result<Numbers, OutOfMemory>
     requires { All (IsRestWithin (D.trees derivatives.old) around) links.now }
     ensures reading { OnOk result (D.reading derivatives.new ≡ D.reading derivatives.old) }
-    ensures grammar { OnOk result (D.grammar derivatives.new ≡ D.grammar derivatives.old) }
+    ensures basis { OnOk result (D.basis derivatives.new ≡ D.basis derivatives.old) }
     ensures ended { IfOk result (λ outside. AddsEnded (D.reading derivatives.old) good.now around (D.trees derivatives.old)
         (D.trees derivatives.new) links.now outside.items) }
 {

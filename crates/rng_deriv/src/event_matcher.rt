@@ -1,5 +1,9 @@
 // A matcher over any derivatives.
 ghost use Rattle.std.specs.Prelude.{◌≡◌, ℕ, List, [], ◌∷◌, ◌++◌, IfOk, IsErr, OnErr, OnOk, map};
+ghost use Rattle.rng_names.specs.plain.Keys.{Keys};
+ghost use Rattle.rng_model.specs.simple.Tree.{Simple};
+ghost use Rattle.rng_model.specs.matching.Reading.{Reading};
+ghost use Rattle.rng_deriv.specs.views.KeptLevels.{AreKept};
 ghost use Rattle.rng_model.specs.documents.EventView.{event_of};
 ghost use Rattle.rng_model.specs.documents.PyxTrees as trees;
 ghost use Rattle.rng_model.specs.documents.PyxTrees.{IsPyxDocument, Placed, events_of};
@@ -9,9 +13,11 @@ ghost use Rattle.rng_model.specs.declared.outcome.Outcome.{Outcome};
 
 use crate::derivatives::Derivatives;
 use crate::ends::some_end;
+use crate::numbering::level_of;
 use crate::position::Position;
 use crate::progress::{Progress, take_event};
 use crate::state::State;
+use rng_levels::LevelTable;
 use rng_model::{Event, OutOfMemory, Outcome};
 use smallvec::SmallVec;
 use std::alloc::Global;
@@ -36,7 +42,21 @@ impl<D: Derivatives + Drop> Model for EventMatcher<D> {
 
     ghost view = { λ m. (m.derivatives, m.progress) };
 
-    ghost invariant = { λ m. IsProgressInside (D.trees m.derivatives) m.progress };
+    ghost invariant = { λ m. IsProgressInside (D.reading m.derivatives) (D.basis m.derivatives).keys (D.trees m.derivatives) m.progress };
+}
+
+/// Returns what is kept of levels, or an empty table if nothing is kept.
+fn table_of(alloc: Global, progress: Progress) -> LevelTable
+    ensures { (g : Reading) (keys : Keys) (trees : List (Simple ℕ)) → IsProgressInside g keys trees progress → AreKept g keys trees result }
+{
+    match progress {
+        Progress::Going { position, .. } => {
+            let Position { state, .. } = position;
+            let State { table, .. } = state;
+            table
+        }
+        Progress::Failed(_) | Progress::Lost => LevelTable::new(alloc, 0),
+    }
 }
 
 impl<D: Derivatives + Drop> EventMatcher<D> {
@@ -47,11 +67,26 @@ impl<D: Derivatives + Drop> EventMatcher<D> {
         ensures stands { IfOk result (λ m. IsKnown (D.reading m.0) (D.trees m.0) m.1 []) }
         ensures kept { IfOk result (λ m. ¬ (IsLost m.1)) }
     {
+        let nothing = LevelTable::new(alloc, 0);
+        EventMatcher::with_table(alloc, derivatives, nothing)
+    }
+
+    /// Creates a matcher that has had no event yet, with what is kept of levels. Fails only when this call, or an
+    /// earlier call of the derivatives, is out of memory.
+    fn with_table(alloc: Global, derivatives: D, mut table: LevelTable) -> Result<Self, OutOfMemory>
+        requires { AreKept (D.reading derivatives) (D.basis derivatives).keys (D.trees derivatives) table }
+        ensures derivatives { IfOk result (λ m. m.0 ≡ derivatives) }
+        ensures stands { IfOk result (λ m. IsKnown (D.reading m.0) (D.trees m.0) m.1 []) }
+        ensures kept { IfOk result (λ m. ¬ (IsLost m.1)) }
+    {
         let start = derivatives.start()?;
-        let now = SmallVec::from_slice(alloc, &[start])?;
+        let numbers = SmallVec::from_slice(alloc, &[start])?;
+        let now = level_of(&derivatives, alloc, &mut table, numbers)?;
         let state = State {
+            table,
             now,
-            levels: Vec::new(alloc),
+            carried: Vec::new(alloc),
+            steps: Vec::new(alloc),
         };
         let position = Position {
             state,
@@ -72,12 +107,18 @@ impl<D: Derivatives + Drop> EventMatcher<D> {
         ensures stands { IfOk result (λ m. IsKnown (D.reading m.0) (D.trees m.0) m.1 []) }
         ensures kept { IfOk result (λ m. ¬ (IsLost m.1)) }
     {
-        EventMatcher::new(self.alloc, self.derivatives)
+        let EventMatcher {
+            alloc,
+            derivatives,
+            progress,
+        } = self;
+        let table = table_of(alloc, progress);
+        EventMatcher::with_table(alloc, derivatives, table)
     }
 
     /// Creates a matcher with these derivatives and this progress.
     pub fn of_parts(alloc: Global, derivatives: D, progress: Progress) -> Self
-        requires { IsProgressInside (D.trees derivatives) progress }
+        requires { IsProgressInside (D.reading derivatives) (D.basis derivatives).keys (D.trees derivatives) progress }
         ensures { result ≡ (derivatives, progress) }
     {
         EventMatcher {
@@ -90,7 +131,7 @@ impl<D: Derivatives + Drop> EventMatcher<D> {
     /// Returns the derivatives, and what is known of the document.
     pub fn into_parts(self) -> (D, Progress)
         ensures parts { result ≡ self }
-        ensures inside { IsProgressInside (D.trees result.0) result.1 }
+        ensures inside { IsProgressInside (D.reading result.0) (D.basis result.0).keys (D.trees result.0) result.1 }
     {
         (self.derivatives, self.progress)
     }
@@ -106,7 +147,10 @@ impl<D: Derivatives + Drop> EventMatcher<D> {
     {
         match &self.progress {
             Progress::Going { position, line } => {
-                if some_end(&self.derivatives, position.state.now.as_slice()) {
+                if some_end(
+                    &self.derivatives,
+                    position.state.table.numbers(position.state.now),
+                ) {
                     return Ok(Outcome::Valid);
                 }
                 Ok(Outcome::Invalid(*line))
@@ -118,7 +162,7 @@ impl<D: Derivatives + Drop> EventMatcher<D> {
 
     /// Takes the next event. Fails only when out of memory, and always after a call that ran out of memory.
     pub fn take(&mut self, event: Event<'_>) -> Result<(), OutOfMemory>
-        ensures grammar { OnOk result (D.grammar self.new.0 ≡ D.grammar self.old.0) }
+        ensures basis { OnOk result (D.basis self.new.0 ≡ D.basis self.old.0) }
         ensures reading { OnOk result (D.reading self.new.0 ≡ D.reading self.old.0) }
         ensures known { OnOk result ((events : List trees.Event) → IsKnown (D.reading self.old.0) (D.trees self.old.0) self.old.1 events
             → IsKnown (D.reading self.new.0) (D.trees self.new.0) self.new.1 (events ++ event_of event.entry ∷ [])) }

@@ -4,27 +4,33 @@ ghost use Rattle.rng_model.specs.simple.Table.{grammar_of};
 ghost use Rattle.rng_model.specs.restrictions.BreaksNone.{BreaksNone};
 ghost use Rattle.rng_pattern_table.specs.views.Trees.{trees};
 ghost use Rattle.rng_model.specs.matching.GrammarReading.{reading_of};
+ghost use Rattle.rng_model.specs.names.NameViews.{name_of};
+ghost use Rattle.rng_names.specs.plain.Holding.{same_name};
 
 use crate::derivatives::Derivatives;
 use crate::learned::Learned;
 use crate::lists::Ways;
 use crate::pattern_renewal::{Selection, count_start, limit_beside, renewed};
-use crate::start_memo::{StartKey, copied, keep, kept};
 use crate::starts::joined_ways;
 use rng_model::{Attr, Name, OutOfMemory, SimpleGrammar};
-use rng_names::NameKeys;
-use rng_pattern_derivatives::{Known, after_tag, after_text, start};
+use rng_names::{NameKey, NameKeys};
+use rng_pattern_derivatives::{Known, start};
 use rng_pattern_table::{PatternNumber, PatternTable};
+use rng_text_derivatives::{Context, after_tag, after_text};
 use std::alloc::Global;
-use std::collections::HashMap;
 use std::marker::Model;
+
+/// Returns whether the two names are the same.
+fn is_same(own: &Name, name: &Name) -> bool
+    ensures { result ≡ same_name (name_of own.now) (name_of name.now) }
+{
+    own.local.as_str() == name.local.as_str() && own.ns.as_str() == name.ns.as_str()
+}
 
 /// The patterns of a grammar that obeys the restrictions, and what is left of them, by number.
 ///
-/// RELAX NG Specification, sections 6.2 and 7. After a call runs out of memory, there are no patterns. The ways of a
-/// start are kept: the next start of the same pattern, with a name of the same key, costs some look-ups by hashing and
-/// a copy of the ways. The ways of parts of patterns are kept too, so each is computed once for each key of names, and
-/// for strings.
+/// RELAX NG Specification, sections 6.2 and 7. After a call runs out of memory, there are no patterns. The ways of parts
+/// of patterns are kept, so each is computed once for each key of names, and for strings.
 #[derive(Drop)]
 pub struct GrammarDerivatives<'a> {
     pub grammar: &'a SimpleGrammar,
@@ -33,18 +39,18 @@ pub struct GrammarDerivatives<'a> {
 
 impl<'a> Model for GrammarDerivatives<'a> {
     ghost use Rattle.std.specs.Prelude.{List};
-    ghost use Rattle.rng_model.specs.simple.Table.{Table};
     ghost use Rattle.rng_pattern_table.specs.views.Node.{Node};
+    ghost use Rattle.rng_deriv.specs.views.Basis.{Basis};
     ghost use Rattle.rng_deriv.specs.views.Serving.{Serves, nodes_of};
 
-    ghost Value = { Table × List Node };
+    ghost Value = { Basis × List Node };
 
     ghost use Rattle.rng_model.specs.contracts.name.NameClass as classes;
     ghost use Rattle.std.specs.Coded.{codes};
 
     ghost coded = { Prim.hlevel (codes, classes.the_row.coded) };
 
-    ghost view = { λ d. (d.grammar.now, nodes_of d.learned) };
+    ghost view = { λ d. (record { grammar = d.grammar.now; keys = d.learned.keys }, nodes_of d.learned) };
 
     ghost invariant = { λ d. Serves d.grammar.now d.learned };
 }
@@ -55,7 +61,7 @@ impl<'a> GrammarDerivatives<'a> {
     /// Fails only when out of memory. Costs a look-up for each pattern, and sorting the choices.
     pub fn new(alloc: Global, grammar: &'a SimpleGrammar) -> Result<Self, OutOfMemory>
         requires { BreaksNone (grammar_of grammar.now) }
-        ensures { IfOk result (λ d. d.0 ≡ grammar.now) }
+        ensures { IfOk result (λ d. d.0.grammar ≡ grammar.now) }
     {
         // A call of a reader of the grammar proves that its tables are well-formed.
         let _start = grammar.start();
@@ -66,7 +72,6 @@ impl<'a> GrammarDerivatives<'a> {
         let learned = Learned {
             numbers,
             keys,
-            memo: HashMap::new(alloc),
             known,
             starts: 0,
             limit,
@@ -78,11 +83,11 @@ impl<'a> GrammarDerivatives<'a> {
 }
 
 impl Derivatives for GrammarDerivatives<'_> {
-    ghost grammar = { λ d. d.0 };
+    ghost basis = { λ d. d.0 };
 
-    ghost reading = { λ d. reading_of d.0 };
+    ghost reading = { λ d. reading_of d.0.grammar };
 
-    ghost trees = { λ d. trees d.0 d.1 };
+    ghost trees = { λ d. trees d.0.grammar d.1 };
 
     fn start(&self) -> Result<PatternNumber, OutOfMemory> {
         if self.learned.lost {
@@ -129,14 +134,16 @@ impl Derivatives for GrammarDerivatives<'_> {
             return Err(OutOfMemory);
         }
         self.learned.lost = true;
-        let numbers = self.learned.numbers.as_slice();
-        let number = after_text(
+        let context = Context {
             alloc,
-            self.grammar,
-            &self.learned.keys,
+            grammar: self.grammar,
+            keys: &self.learned.keys,
+            numbers: self.learned.numbers.as_slice(),
+        };
+        let number = after_text(
+            &context,
             &mut self.learned.table,
             &mut self.learned.known,
-            numbers,
             pattern,
             text,
         )?;
@@ -154,14 +161,16 @@ impl Derivatives for GrammarDerivatives<'_> {
             return Err(OutOfMemory);
         }
         self.learned.lost = true;
-        let numbers = self.learned.numbers.as_slice();
-        let number = after_tag(
+        let context = Context {
             alloc,
-            self.grammar,
-            &self.learned.keys,
+            grammar: self.grammar,
+            keys: &self.learned.keys,
+            numbers: self.learned.numbers.as_slice(),
+        };
+        let number = after_tag(
+            &context,
             &mut self.learned.table,
             &mut self.learned.known,
-            numbers,
             body,
             attrs,
         )?;
@@ -169,22 +178,25 @@ impl Derivatives for GrammarDerivatives<'_> {
         Ok(number)
     }
 
+    fn key(&self, name: &Name) -> NameKey {
+        self.learned.keys.key(name)
+    }
+
+    fn is_key(&self, key: NameKey, name: &Name) -> bool {
+        if key.0 >= self.learned.keys.len() {
+            return false;
+        }
+        is_same(self.learned.keys.name(key), name)
+    }
+
     fn starts(
         &mut self,
         alloc: Global,
         pattern: PatternNumber,
-        name: &Name,
+        key: NameKey,
     ) -> Result<Ways, OutOfMemory> {
         if self.learned.lost {
             return Err(OutOfMemory);
-        }
-        let asked = StartKey {
-            pattern,
-            name: self.learned.keys.key(name),
-        };
-        if let Some(ways) = kept(&self.learned.memo, asked) {
-            let ways = copied(alloc, ways)?;
-            return Ok(ways);
         }
         self.learned.lost = true;
         count_start(alloc, &mut self.learned.known, &mut self.learned.starts);
@@ -197,10 +209,9 @@ impl Derivatives for GrammarDerivatives<'_> {
             &mut self.learned.known,
             numbers,
             pattern,
-            asked.name,
+            key,
         )?;
         let starts = joined_ways(alloc, &mut self.learned.table, ways.as_slice())?;
-        keep(alloc, &mut self.learned.memo, asked, starts.as_slice())?;
         self.learned.lost = false;
         Ok(starts)
     }
@@ -229,7 +240,6 @@ impl Derivatives for GrammarDerivatives<'_> {
             held,
         )?;
         self.learned.known.forget(alloc);
-        self.learned.memo = HashMap::new(alloc);
         self.learned.numbers = numbers;
         self.learned.limit = limit_beside(table.len());
         self.learned.table = table;

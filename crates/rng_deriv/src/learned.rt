@@ -1,5 +1,4 @@
 // What a matcher has learned about the patterns of a grammar.
-use crate::start_memo::StartMemo;
 use rng_names::NameKeys;
 use rng_pattern_derivatives::Known;
 use rng_pattern_table::{PatternNumber, PatternTable};
@@ -10,8 +9,6 @@ pub struct Learned {
     /// The numbers of the grammar's patterns, by position.
     pub numbers: Vec<PatternNumber>,
     pub keys: NameKeys,
-    /// The ways of earlier starts.
-    pub memo: StartMemo,
     /// The ways that are known of parts of patterns.
     pub known: Known,
     /// The number of starts that were computed since nothing was known of parts.

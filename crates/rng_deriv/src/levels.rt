@@ -5,7 +5,7 @@ ghost use Rattle.rng_deriv_laws.specs.plain.LevelStates.{IsAfterTag, IsAfterText
 ghost use Rattle.rng_deriv.specs.views.Numbers.{AddsEach, IsInside};
 
 use crate::derivatives::Derivatives;
-use crate::lists::Numbers;
+use rng_levels::Numbers;
 use rng_model::{Attr, OutOfMemory};
 use rng_pattern_table::PatternNumber;
 use smallvec::SmallVec;
@@ -20,7 +20,7 @@ pub fn entered<D: Derivatives>(
 ) -> Result<Numbers, OutOfMemory>
     requires { All (IsInside (D.trees derivatives.old)) bodies.now }
     ensures reading { OnOk result (D.reading derivatives.new ≡ D.reading derivatives.old) }
-    ensures grammar { OnOk result (D.grammar derivatives.new ≡ D.grammar derivatives.old) }
+    ensures basis { OnOk result (D.basis derivatives.new ≡ D.basis derivatives.old) }
     ensures entered { IfOk result (λ all. AddsEach (IsAfterTag (D.reading derivatives.old) (map attribute_of attrs.now))
         (D.trees derivatives.old) (D.trees derivatives.new) bodies.now all.items) }
 {
@@ -40,7 +40,7 @@ pub fn after_string<D: Derivatives>(
 ) -> Result<Numbers, OutOfMemory>
     requires { All (IsInside (D.trees derivatives.old)) patterns.now }
     ensures reading { OnOk result (D.reading derivatives.new ≡ D.reading derivatives.old) }
-    ensures grammar { OnOk result (D.grammar derivatives.new ≡ D.grammar derivatives.old) }
+    ensures basis { OnOk result (D.basis derivatives.new ≡ D.basis derivatives.old) }
     ensures after { IfOk result (λ all. AddsEach (IsAfterText (D.reading derivatives.old) text.now)
         (D.trees derivatives.old) (D.trees derivatives.new) patterns.now all.items) }
 {

@@ -1,35 +1,17 @@
 // Ways out of elements.
-ghost use Rattle.std.specs.Prelude.{◌≡◌, ◌⊎◌, ◌++◌, ◌∷◌, [], All, IfOk, OnOk, Some, length, slice_get};
-ghost use Rattle.rng_model.specs.names.NameViews.{name_of};
+ghost use Rattle.std.specs.Prelude.{◌≡◌, ◌⊎◌, ◌<◌, ◌++◌, ◌∷◌, [], All, IfOk, OnOk, Some, length, slice_get};
+ghost use Rattle.rng_model.specs.names.Names as names;
+ghost use Rattle.rng_names.specs.plain.Keys.{key_of};
 ghost use Rattle.rng_deriv.specs.views.Levels.{AddsLinks, AddsOpened};
-ghost use Rattle.rng_deriv.specs.views.Numbers.{IsInside};
+ghost use Rattle.rng_deriv.specs.views.Numbers.{IsInside, Longer};
 
 use crate::derivatives::{Derivatives, StartWay};
-use crate::lists::{Links, Numbers};
-use rng_model::{Name, OutOfMemory};
+use rng_levels::{Link, Links, Numbers};
+use rng_model::OutOfMemory;
+use rng_names::NameKey;
 use rng_pattern_table::PatternNumber;
 use smallvec::SmallVec;
 use std::alloc::Global;
-
-/// A way out of an element: when the alternative at the place `inner` ends, the one around it at the place `outer`
-/// continues with the rest.
-#[derive(Clone, Copy)]
-pub struct Link {
-    pub inner: usize,
-    pub outer: usize,
-    pub rest: PatternNumber,
-}
-
-/// The way out with the first pattern of a table. It represents no way out.
-impl Default for Link {
-    fn default() -> Self {
-        Link {
-            inner: 0,
-            outer: 0,
-            rest: PatternNumber(0),
-        }
-    }
-}
 
 /// The bodies of the elements that a start may begin, each once, and the ways out of them.
 #[derive(Drop)]
@@ -73,23 +55,25 @@ fn add_links(
     Ok(())
 }
 
-/// Returns what an element of this name opens in each of the alternatives.
+/// Returns what an element, the name of which has this key, opens in each of the alternatives.
 pub fn started<D: Derivatives>(
     derivatives: &mut D,
     alloc: Global,
     now: &[PatternNumber],
-    name: &Name,
+    key: NameKey,
 ) -> Result<Opened, OutOfMemory>
-    requires { All (IsInside (D.trees derivatives.old)) now.now }
+    requires now { All (IsInside (D.trees derivatives.old)) now.now }
+    requires key { key.0 < length (D.basis derivatives.old).keys.names }
     ensures reading { OnOk result (D.reading derivatives.new ≡ D.reading derivatives.old) }
-    ensures grammar { OnOk result (D.grammar derivatives.new ≡ D.grammar derivatives.old) }
-    ensures opened { IfOk result (λ o. AddsOpened (D.reading derivatives.old) (name_of name.now) (D.trees derivatives.old) (D.trees derivatives.new)
-        now.now o.bodies.items o.links.items) }
+    ensures basis { OnOk result (D.basis derivatives.new ≡ D.basis derivatives.old) }
+    ensures longer { OnOk result (Longer (D.trees derivatives.old) (D.trees derivatives.new)) }
+    ensures opened { IfOk result (λ o. (q : names.Name) → key_of (D.basis derivatives.old).keys q ≡ key.0
+        → AddsOpened (D.reading derivatives.old) q (D.trees derivatives.old) (D.trees derivatives.new) now.now o.bodies.items o.links.items) }
 {
     let mut bodies = SmallVec::new(alloc);
     let mut links = SmallVec::new(alloc);
     'alternatives: for (outer, pattern) in now.iter().enumerate() {
-        let ways = derivatives.starts(alloc, *pattern, name)?;
+        let ways = derivatives.starts(alloc, *pattern, key)?;
         add_links(&mut bodies, &mut links, outer, ways.as_slice())?;
     }
     Ok(Opened { bodies, links })

@@ -106,7 +106,10 @@ impl<'a> Matcher<'a> {
         self.matcher.outcome()
     }
 
-    /// Returns the `outcome` of a matcher that has taken all events.
+    /// Returns the `outcome` of a matcher that has taken all events, and frees the matcher. Fails and costs as `outcome`
+    /// does.
+    ///
+    /// RELAX NG Specification, section 6.3.
     pub fn finish(self) -> Result<Outcome, OutOfMemory>
         ensures outcome { IfOk result (λ o. (bytes : List ℕ) (d : Placed) → IsPyxDocument bytes d → Knows self.entry (events_of d)
             → IsOutcome (judges_by self.entry) d o) }
@@ -124,10 +127,11 @@ impl Events for Matcher<'_> {
     /// Takes the next event.
     ///
     /// RELAX NG Specification, section 6.2. Fails only when out of memory. After that, each call fails with that error.
-    /// A start costs, for each alternative of the innermost open element, some look-ups by hashing if its pattern and
-    /// the name are known. Otherwise it costs a walk through the parts of the pattern. The same holds for each
-    /// attribute, and for a text. An end costs a choice for each way out of the element. If there are many patterns,
-    /// those that are not held are freed, in one pass over all.
+    /// A start costs a few comparisons or a look-up by hashing if one with a name of its key has been met where the same
+    /// alternatives were left. Otherwise it costs a walk through the parts of each alternative. Each attribute and each
+    /// text costs some look-ups by hashing, or such a walk, for each alternative. An end costs a few comparisons if one
+    /// of this kind has been met, otherwise a choice for each way out of the element. If there are many patterns, or if
+    /// much is kept, what no open element holds is freed, in one pass over all.
     fn event(&mut self, event: Event<'_>) -> Result<(), OutOfMemory>
         ensures stands { OnOk result (Hands HasGoneOn self.old self.new (event_of event.entry ∷ [])) }
         ensures kept { OnOk result (¬ (HasRunOut self.new)) }

@@ -4,10 +4,12 @@ ghost use Rattle.rng_model.specs.documents.PyxTrees as trees;
 ghost use Rattle.rng_model.specs.simple.Tree.{Simple};
 ghost use Rattle.rng_model.specs.documents.DocumentViews.{attribute_of};
 ghost use Rattle.rng_model.specs.names.NameViews.{name_of};
+ghost use Rattle.rng_names.specs.plain.Keys.{Keys};
 ghost use Rattle.rng_deriv_laws.specs.plain.LevelEvents.{LevelMatcher, SettlesLevels};
 ghost use Rattle.rng_model.specs.matching.Reading.{Reading};
-ghost use Rattle.rng_deriv.specs.views.Positions.{AddsStep, IsPositionInside, IsPositionOf};
-ghost use Rattle.rng_deriv.specs.views.States.{IsStateInside, state_of};
+ghost use Rattle.rng_deriv.specs.views.Positions.{AddsStep, IsPositionOf};
+ghost use Rattle.rng_deriv.specs.views.OpenPositions.{IsPositionKept, IsStateKept, open_position, open_state};
+ghost use Rattle.rng_deriv.specs.views.States.{state_of};
 
 use crate::closing::{after_elements, after_lone_string};
 use crate::derivatives::Derivatives;
@@ -28,9 +30,10 @@ pub struct Position {
 /// Settles the held string, given that an element is beside it. A blank string counts as nothing there (RELAX NG
 /// Specification, section 6.2.7).
 fn settle(position: &mut Position)
-    ensures inside { (trees : List (Simple ℕ)) → IsPositionInside trees position.old → IsStateInside trees position.new.state }
-    ensures settles { (g : Reading) (trees : List (Simple ℕ)) (m : LevelMatcher) → IsPositionOf g trees position.old m
-        → SettlesLevels g m.held m.state (state_of trees position.new.state) }
+    ensures kept { (g : Reading) (keys : Keys) (trees : List (Simple ℕ)) → IsPositionKept g keys trees position.old
+        → IsStateKept g keys trees position.new.state }
+    ensures settles { (g : Reading) (trees : List (Simple ℕ)) (m : LevelMatcher) → IsPositionOf g trees (open_position position.old) m
+        → SettlesLevels g m.held m.state (state_of trees (open_state position.new.state)) }
     ensures begun { position.new.has_begun ≡ position.old.has_begun }
     ensures held { position.new.held ≡ None }
 {
@@ -51,11 +54,12 @@ pub fn after_start<D: Derivatives>(
     name: &Name,
     attrs: &[Attr],
 ) -> Result<(), OutOfMemory>
-    requires { IsPositionInside (D.trees derivatives.old) position.old }
+    requires { IsPositionKept (D.reading derivatives.old) (D.basis derivatives.old).keys (D.trees derivatives.old) position.old }
     ensures reading { OnOk result (D.reading derivatives.new ≡ D.reading derivatives.old) }
-    ensures grammar { OnOk result (D.grammar derivatives.new ≡ D.grammar derivatives.old) }
+    ensures basis { OnOk result (D.basis derivatives.new ≡ D.basis derivatives.old) }
+    ensures kept { OnOk result (IsPositionKept (D.reading derivatives.new) (D.basis derivatives.new).keys (D.trees derivatives.new) position.new) }
     ensures step { OnOk result (AddsStep (D.reading derivatives.old) (trees.a_start (name_of name.now) (map attribute_of attrs.now))
-        (D.trees derivatives.old) (D.trees derivatives.new) position.old position.new) }
+        (D.trees derivatives.old) (D.trees derivatives.new) (open_position position.old) (open_position position.new)) }
 {
     settle(position);
     enter(derivatives, alloc, &mut position.state, name, attrs)?;
@@ -70,13 +74,15 @@ pub fn after_text<D: Derivatives>(
     position: &mut Position,
     text: &str,
 ) -> Result<(), OutOfMemory>
-    requires { IsPositionInside (D.trees derivatives.old) position.old }
+    requires { IsPositionKept (D.reading derivatives.old) (D.basis derivatives.old).keys (D.trees derivatives.old) position.old }
     ensures reading { OnOk result (D.reading derivatives.new ≡ D.reading derivatives.old) }
-    ensures grammar { OnOk result (D.grammar derivatives.new ≡ D.grammar derivatives.old) }
+    ensures basis { OnOk result (D.basis derivatives.new ≡ D.basis derivatives.old) }
+    ensures kept { OnOk result (IsPositionKept (D.reading derivatives.new) (D.basis derivatives.new).keys (D.trees derivatives.new) position.new) }
     ensures step { OnOk result (AddsStep (D.reading derivatives.old) (trees.a_string text.now)
-        (D.trees derivatives.old) (D.trees derivatives.new) position.old position.new) }
+        (D.trees derivatives.old) (D.trees derivatives.new) (open_position position.old) (open_position position.new)) }
 {
-    let held = hold(derivatives, alloc, position.state.now.as_slice(), text)?;
+    let now = position.state.now;
+    let held = hold(derivatives, alloc, &mut position.state.table, now, text)?;
     position.held = Some(held);
     Ok(())
 }
@@ -87,11 +93,12 @@ pub fn after_end<D: Derivatives>(
     alloc: Global,
     position: &mut Position,
 ) -> Result<(), OutOfMemory>
-    requires { IsPositionInside (D.trees derivatives.old) position.old }
+    requires { IsPositionKept (D.reading derivatives.old) (D.basis derivatives.old).keys (D.trees derivatives.old) position.old }
     ensures reading { OnOk result (D.reading derivatives.new ≡ D.reading derivatives.old) }
-    ensures grammar { OnOk result (D.grammar derivatives.new ≡ D.grammar derivatives.old) }
+    ensures basis { OnOk result (D.basis derivatives.new ≡ D.basis derivatives.old) }
+    ensures kept { OnOk result (IsPositionKept (D.reading derivatives.new) (D.basis derivatives.new).keys (D.trees derivatives.new) position.new) }
     ensures step { OnOk result (AddsStep (D.reading derivatives.old) trees.an_end
-        (D.trees derivatives.old) (D.trees derivatives.new) position.old position.new) }
+        (D.trees derivatives.old) (D.trees derivatives.new) (open_position position.old) (open_position position.new)) }
 {
     if position.has_begun {
         settle(position);

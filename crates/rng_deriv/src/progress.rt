@@ -1,17 +1,14 @@
 // What is known of a document, event by event.
-ghost use Rattle.std.specs.Prelude.{◌≡◌, ℕ, All, IfOk, IsErr, OnOk};
-ghost use Rattle.std.specs.List.{list_all};
+ghost use Rattle.std.specs.Prelude.{◌≡◌, ℕ, IfOk, IsErr, OnOk};
 ghost use Rattle.rng_model.specs.documents.EventView.{event_of, kind_of};
 ghost use Rattle.rng_model.specs.documents.PyxTrees as trees;
-ghost use Rattle.rng_deriv_laws.specs.plain.Derivatives.{is_not_allowed};
-ghost use Rattle.rng_deriv.specs.views.Numbers.{IsInside, tree_of};
-ghost use Rattle.rng_deriv.specs.views.Positions.{AddsProgress, AddsStep, HasCome, IsFailed, IsKnown, IsLost, IsPositionInside, IsProgressInside, progress_at};
+ghost use Rattle.rng_deriv.specs.views.OpenPositions.{IsPositionKept, open_position};
+ghost use Rattle.rng_deriv.specs.views.Positions.{AddsProgress, AddsStep, HasCome, IsFailed, IsKnown, IsLost, IsProgressInside, progress_at};
 
 use crate::derivatives::Derivatives;
 use crate::level_renewal::renew;
 use crate::position::{Position, after_end, after_start, after_text};
 use rng_model::{Event, EventKind, OutOfMemory};
-use rng_pattern_table::PatternNumber;
 use std::alloc::Global;
 
 /// What is known of a document.
@@ -25,19 +22,6 @@ pub enum Progress {
     Lost,
 }
 
-/// Returns whether no alternative is left, or each is notAllowed.
-fn is_hopeless<D: Derivatives>(derivatives: &D, now: &[PatternNumber]) -> bool
-    requires { All (IsInside (D.trees derivatives.now)) now.now }
-    ensures { result ≡ list_all (λ p. is_not_allowed (tree_of (D.trees derivatives.now) p)) now.now }
-{
-    'alternatives: for pattern in now {
-        if !derivatives.is_not_allowed(*pattern) {
-            return false;
-        }
-    }
-    true
-}
-
 /// Takes an event.
 fn step<D: Derivatives>(
     derivatives: &mut D,
@@ -45,11 +29,12 @@ fn step<D: Derivatives>(
     position: &mut Position,
     kind: EventKind<'_>,
 ) -> Result<(), OutOfMemory>
-    requires { IsPositionInside (D.trees derivatives.old) position.old }
+    requires { IsPositionKept (D.reading derivatives.old) (D.basis derivatives.old).keys (D.trees derivatives.old) position.old }
     ensures reading { OnOk result (D.reading derivatives.new ≡ D.reading derivatives.old) }
-    ensures grammar { OnOk result (D.grammar derivatives.new ≡ D.grammar derivatives.old) }
+    ensures basis { OnOk result (D.basis derivatives.new ≡ D.basis derivatives.old) }
+    ensures kept { OnOk result (IsPositionKept (D.reading derivatives.new) (D.basis derivatives.new).keys (D.trees derivatives.new) position.new) }
     ensures step { OnOk result (AddsStep (D.reading derivatives.old) (kind_of kind.entry)
-        (D.trees derivatives.old) (D.trees derivatives.new) position.old position.new) }
+        (D.trees derivatives.old) (D.trees derivatives.new) (open_position position.old) (open_position position.new)) }
 {
     match kind {
         EventKind::Start { name, attrs } => after_start(derivatives, alloc, position, name, attrs),
@@ -65,15 +50,17 @@ fn go_on<D: Derivatives>(
     position: &mut Position,
     event: Event<'_>,
 ) -> Result<bool, OutOfMemory>
-    requires { IsPositionInside (D.trees derivatives.old) position.old }
+    requires { IsPositionKept (D.reading derivatives.old) (D.basis derivatives.old).keys (D.trees derivatives.old) position.old }
     ensures reading { OnOk result (D.reading derivatives.new ≡ D.reading derivatives.old) }
-    ensures grammar { OnOk result (D.grammar derivatives.new ≡ D.grammar derivatives.old) }
-    ensures progress { IfOk result (λ well. AddsProgress (D.reading derivatives.old) (event_of event.entry)
-        (λ events. (line : ℕ) × HasCome (D.reading derivatives.old) (D.trees derivatives.old) position.old line events) (D.trees derivatives.new)
+    ensures basis { OnOk result (D.basis derivatives.new ≡ D.basis derivatives.old) }
+    ensures kept { IfOk result (λ well. IsProgressInside (D.reading derivatives.new) (D.basis derivatives.new).keys (D.trees derivatives.new)
         (progress_at well position.new event.entry.line)) }
+    ensures progress { IfOk result (λ well. AddsProgress (D.reading derivatives.old) (event_of event.entry)
+        (λ events. (line : ℕ) × HasCome (D.reading derivatives.old) (D.trees derivatives.old) (open_position position.old) line events)
+        (D.trees derivatives.new) (progress_at well position.new event.entry.line)) }
 {
     step(derivatives, alloc, position, event.kind)?;
-    if is_hopeless(derivatives, position.state.now.as_slice()) {
+    if position.state.table.level(position.state.now).dead {
         return Ok(false);
     }
     renew(derivatives, alloc, position)?;
@@ -87,9 +74,10 @@ pub fn take_event<D: Derivatives>(
     progress: &mut Progress,
     event: Event<'_>,
 ) -> Result<(), OutOfMemory>
-    requires { IsProgressInside (D.trees derivatives.old) progress.old }
+    requires { IsProgressInside (D.reading derivatives.old) (D.basis derivatives.old).keys (D.trees derivatives.old) progress.old }
     ensures reading { OnOk result (D.reading derivatives.new ≡ D.reading derivatives.old) }
-    ensures grammar { OnOk result (D.grammar derivatives.new ≡ D.grammar derivatives.old) }
+    ensures basis { OnOk result (D.basis derivatives.new ≡ D.basis derivatives.old) }
+    ensures inside { OnOk result (IsProgressInside (D.reading derivatives.new) (D.basis derivatives.new).keys (D.trees derivatives.new) progress.new) }
     ensures progress { OnOk result (AddsProgress (D.reading derivatives.old) (event_of event.entry)
         (IsKnown (D.reading derivatives.old) (D.trees derivatives.old) progress.old) (D.trees derivatives.new) progress.new) }
     ensures failed { (line : ℕ) → IsFailed line progress.old → OnOk result (IsFailed line progress.new) }

@@ -1,32 +1,36 @@
-// What a matcher keeps of the open elements, at each tag.
-ghost use Rattle.std.specs.Prelude.{◌≡◌, All, OnOk, length, map};
+// What a matcher keeps of the open elements, at each start tag.
+ghost use Rattle.std.specs.Prelude.{◌≡◌, OnOk, map};
 ghost use Rattle.rng_model.specs.documents.DocumentViews.{attribute_of};
 ghost use Rattle.rng_model.specs.names.NameViews.{name_of};
 ghost use Rattle.rng_deriv_laws.specs.plain.LevelStates.{StartsLevel};
-ghost use Rattle.rng_deriv.specs.views.Numbers.{IsInside};
-ghost use Rattle.rng_deriv.specs.views.States.{AddsState, EndsBy, IsStateInside, state_of};
+ghost use Rattle.rng_deriv.specs.views.OpenPositions.{IsStateKept, open_state};
+ghost use Rattle.rng_deriv.specs.views.States.{AddsState, state_of};
 
 use crate::derivatives::Derivatives;
-use crate::ends::ended;
-use crate::levels::entered;
-use crate::links::{Opened, started};
-use crate::lists::{Links, Numbers};
+use crate::numbering::level_in_tag;
+use crate::steps::step_for;
+use rng_levels::{LevelNumber, LevelTable, Links, StepNumber};
 use rng_model::{Attr, Name, OutOfMemory};
-use smallvec::SmallVec;
 use std::alloc::Global;
 
 /// An open element: the number of alternatives around it, and the ways out into them.
 #[derive(Drop)]
-pub struct Level {
+pub struct WaysOut {
     pub around: usize,
     pub links: Links,
 }
 
-/// The alternatives for what remains of the innermost open element, and the levels of all open elements, the innermost last.
+/// The alternatives for what remains of the innermost open element, and the ways out of all open elements, by numbers
+/// of a table.
 #[derive(Drop)]
 pub struct State {
-    pub now: Numbers,
-    pub levels: Vec<Level>,
+    pub table: LevelTable,
+    /// The level of the innermost open element.
+    pub now: LevelNumber,
+    /// The elements that were open when the table was made, the innermost last.
+    pub carried: Vec<WaysOut>,
+    /// The steps to the elements that were opened since then, the innermost last.
+    pub steps: Vec<StepNumber>,
 }
 
 /// Takes a start tag.
@@ -37,43 +41,16 @@ pub fn enter<D: Derivatives>(
     name: &Name,
     attrs: &[Attr],
 ) -> Result<(), OutOfMemory>
-    requires { IsStateInside (D.trees derivatives.old) state.old }
+    requires { IsStateKept (D.reading derivatives.old) (D.basis derivatives.old).keys (D.trees derivatives.old) state.old }
     ensures reading { OnOk result (D.reading derivatives.new ≡ D.reading derivatives.old) }
-    ensures grammar { OnOk result (D.grammar derivatives.new ≡ D.grammar derivatives.old) }
+    ensures basis { OnOk result (D.basis derivatives.new ≡ D.basis derivatives.old) }
+    ensures kept { OnOk result (IsStateKept (D.reading derivatives.new) (D.basis derivatives.new).keys (D.trees derivatives.new) state.new) }
     ensures state { OnOk result (AddsState (StartsLevel (D.reading derivatives.old) (name_of name.now) (map attribute_of attrs.now)
-        (state_of (D.trees derivatives.old) state.old)) (D.trees derivatives.old) (D.trees derivatives.new) state.new) }
+        (state_of (D.trees derivatives.old) (open_state state.old))) (D.trees derivatives.old) (D.trees derivatives.new) (open_state state.new)) }
 {
-    let Opened { bodies, links } = started(derivatives, alloc, state.now.as_slice(), name)?;
-    let around = state.now.len();
-    state.now = entered(derivatives, alloc, bodies.as_slice(), attrs)?;
-    state.levels.push(Level { around, links })?;
-    Ok(())
-}
-
-/// Takes an end tag, if some of the alternatives inside the element may end. If no element is open, there is no promise
-/// about the result.
-pub fn close<D: Derivatives>(
-    derivatives: &mut D,
-    alloc: Global,
-    state: &mut State,
-    good: &[bool],
-) -> Result<(), OutOfMemory>
-    requires { IsStateInside (D.trees derivatives.old) state.old }
-    ensures reading { OnOk result (D.reading derivatives.new ≡ D.reading derivatives.old) }
-    ensures grammar { OnOk result (D.grammar derivatives.new ≡ D.grammar derivatives.old) }
-    ensures state { OnOk result (AddsState (EndsBy (D.reading derivatives.old) good.now (state_of (D.trees derivatives.old) state.old))
-        (D.trees derivatives.old) (D.trees derivatives.new) state.new) }
-{
-    let Some(level) = state.levels.pop() else {
-        state.now = SmallVec::new(alloc);
-        return Ok(());
-    };
-    state.now = ended(
-        derivatives,
-        alloc,
-        good,
-        level.links.as_slice(),
-        level.around,
-    )?;
+    let step = step_for(derivatives, alloc, &mut state.table, state.now, name)?;
+    let child = state.table.step(step).child;
+    state.now = level_in_tag(derivatives, alloc, &mut state.table, child, attrs)?;
+    state.steps.push(step)?;
     Ok(())
 }

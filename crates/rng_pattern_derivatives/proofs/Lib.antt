@@ -1,26 +1,22 @@
-mod WayLists
+pub mod WayLists
 pub mod KeptRestrictions
 mod NumberedWays
 mod JoinedWays
 pub mod AddedWays
-mod PatternNodes
+pub mod PatternNodes
 pub mod GrammarRows
-mod WaysOfLeaves
+pub mod WaysOfLeaves
 mod WaysOfSides
 mod SideWeights
-mod KnownRests
-mod AttributeTakers
-mod LikeAttributes
+pub mod KnownRests
+pub mod AttributeTakers
+pub mod LikeAttributes
 pub mod KnownWays
 mod ElementTakers
 mod PatternsWithoutAttributes
-mod ClosedTags
+pub mod ClosedTags
 pub mod StartBodies
-mod KnownDatatypes
-mod RestsOfWays
-mod LeafKinds
-mod ListPieces
-mod TagAttributes
+pub mod KnownDatatypes
 mod FewerWays
 mod Copies
 mod FewerWaysLaws

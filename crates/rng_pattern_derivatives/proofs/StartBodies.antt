@@ -266,10 +266,10 @@ ready_longer t old new numbers longer ready = record {
   long = ready.long;
   taken = record {
     inside = λ i h. let was = ready.taken.inside i h in let long = Longer-length old new longer in omega (arith, was, long);
-    same = λ i h g. subst (λ p. Same g p (tree_at t.patterns (record { 0 = i }))) (sym (tree_stays t old new _ longer (ready.taken.inside i h)))
-        (ready.taken.same i h g);
+    same = λ i h has g. subst (λ p. Same g p (tree_at t.patterns (record { 0 = i }))) (sym (tree_stays t old new _ longer (ready.taken.inside i h)))
+        (ready.taken.same i h has g);
   };
-  kept = λ place id h o. subst (Obeys place) (sym (tree_stays t old new _ longer (ready.taken.inside id.0 h))) (ready.kept place id h o);
+  kept = λ place id h has o. subst (Obeys place) (sym (tree_stays t old new _ longer (ready.taken.inside id.0 h))) (ready.kept place id h has o);
 }
 
 pub bodies_longer : (t : Table) (old new : List Node) (numbers : List PatternNumber) → Longer old new → IsReady t old numbers

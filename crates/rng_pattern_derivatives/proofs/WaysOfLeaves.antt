@@ -76,7 +76,7 @@ item_leaf (s_value d v) h = refl
 item_leaf (s_one_or_more p) h = absurd h
 item_leaf (s_joined j p r) h = absurd h
 
-attribute_leaf : (p : Simple ℕ) → IsAttributeLeaf p → attribute_ways p ≡ leaf_way p ∷ []
+pub attribute_leaf : (p : Simple ℕ) → IsAttributeLeaf p → attribute_ways p ≡ leaf_way p ∷ []
 attribute_leaf s_not_allowed h = absurd h
 attribute_leaf s_empty h = absurd h
 attribute_leaf s_text h = absurd h

@@ -1,8 +1,6 @@
 -- Plain functions that the code is proved against, and private relations.
-pub mod After
 pub mod Alike
 pub mod Closing
-pub mod Excepts
 pub mod FewerWays
 pub mod Kinds
 pub mod Starting

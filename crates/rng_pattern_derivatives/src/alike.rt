@@ -98,8 +98,8 @@ fn are_alike(grammar: &SimpleGrammar, one: ElementId, other: ElementId) -> bool
     is_same_name(first, second)
 }
 
-/// Returns true only if two names are equal.
-fn is_same_name(one: &Name, other: &Name) -> bool
+/// Returns true only if two names are equal. Allocates nothing.
+pub fn is_same_name(one: &Name, other: &Name) -> bool
     ensures { result ≡ true → name_of one.now ≡ name_of other.now }
 {
     one.ns == other.ns && one.local == other.local

@@ -8,6 +8,7 @@ ghost use Rattle.rng_pattern_derivatives.specs.declared.way.LeafWay.{LeafWay};
 ghost use Rattle.rng_pattern_derivatives.specs.plain.Kinds.{connector_of};
 ghost use Rattle.rng_pattern_derivatives.specs.plain.Ways.{AreInside, AreRestsBehind, IsInside, IsHoleInside, IsTakenOut, StandFor, filled, ways_by};
 
+use crate::known::copied_ways;
 use crate::way::{Hole, Joint, LeafWay, Rests, Ways};
 use rng_model::OutOfMemory;
 use rng_pattern_table::{PatternNumber, PatternTable};
@@ -142,7 +143,20 @@ fn rests_behind(alloc: Global, ways: &[LeafWay], leaf: PatternNumber) -> Result<
     Ok(rests)
 }
 
-/// Returns the same ways, each leaf once: its rest is the choice of its rests.
+/// Returns whether the numbers of the leaves rise, so that each is the leaf of one way. Allocates nothing.
+fn are_rising(ways: &[LeafWay]) -> bool {
+    let mut least = 0;
+    'ways: for way in ways {
+        if way.leaf.0 < least {
+            return false;
+        }
+        least = way.leaf.0.saturating_add(1);
+    }
+    true
+}
+
+/// Returns the same ways, each leaf once: its rest is the choice of its rests. The cost is one pass if the numbers of
+/// the leaves rise, as those of a choice of leaves do. Otherwise each leaf is compared with the others.
 pub fn joined_ways(
     alloc: Global,
     table: &mut PatternTable,
@@ -152,6 +166,9 @@ pub fn joined_ways(
     ensures longer { OnOk result (Longer table.old table.new) }
     ensures ways { IfOk result (λ all. StandFor table.new all.items (λ t. ways_by (tree_of t table.old) ways.now)) }
 {
+    if are_rising(ways) {
+        return copied_ways(alloc, ways);
+    }
     let mut all = SmallVec::new(alloc);
     'ways: for way in ways {
         if place_of(all.as_slice(), way.leaf).is_some() {

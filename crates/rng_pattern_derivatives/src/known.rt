@@ -25,26 +25,32 @@ pub type KnownWays = HashMap<PatternNumber, Ways>;
 /// The known ways for the keys of names that have occurred.
 pub type KnownByKey = HashMap<NameKey, KnownWays>;
 
+/// A key of names for each of some patterns.
+pub type LastKeys = HashMap<PatternNumber, NameKey>;
+
 /// The known ways of patterns, for each kind of what comes first.
 #[derive(Drop)]
 pub struct Known {
-    pub(crate) texts: KnownWays,
+    pub texts: KnownWays,
     /// The ways to take elements with the representative name of a key, by keys.
-    pub(crate) elements: KnownByKey,
+    pub elements: KnownByKey,
     /// The ways to take attributes with the representative name of a key, by keys.
-    pub(crate) attributes: KnownByKey,
+    pub attributes: KnownByKey,
     /// What is left of patterns after the attributes of a tag are taken.
-    pub(crate) rests: KnownRests,
+    pub rests: KnownRests,
     /// The elements that may have a name, by its key.
-    pub(crate) takers: Takers,
+    pub takers: Takers,
     /// For each element the first one that takes the same.
-    pub(crate) alike: Vec<ElementId>,
+    pub alike: Vec<ElementId>,
     /// The attributes that may have a name, by its key.
-    pub(crate) attribute_takers: Takers,
+    pub attribute_takers: Takers,
     /// For the first patterns of the table, the range of positions of the attributes in each.
-    pub(crate) spans: Vec<Span>,
+    pub spans: Vec<Span>,
     /// The datatypes that the grammar names, by positions.
-    pub(crate) datatypes: Datatypes,
+    pub datatypes: Datatypes,
+    /// For patterns with known ways to take an attribute, the key for which they were computed last. It is tried first
+    /// for the next attribute.
+    pub last_keys: LastKeys,
 }
 
 impl Known {
@@ -69,6 +75,7 @@ impl Known {
             attribute_takers,
             spans: Vec::new(alloc),
             datatypes,
+            last_keys: HashMap::new(alloc),
         })
     }
 
@@ -82,6 +89,7 @@ impl Known {
         self.attributes = HashMap::new(alloc);
         self.rests = HashMap::new(alloc);
         self.spans = Vec::new(alloc);
+        self.last_keys = HashMap::new(alloc);
     }
 }
 
@@ -92,7 +100,7 @@ pub fn copied_ways(alloc: Global, ways: &[LeafWay]) -> Result<Ways, OutOfMemory>
     Ok(SmallVec::from_slice(alloc, ways)?)
 }
 
-/// Returns the known ways of a pattern.
+/// Returns the known ways of a pattern. Allocates nothing. The cost is one look-up.
 pub fn known_ways(known: &KnownWays, number: PatternNumber) -> Option<&[LeafWay]>
     ensures { IfSome result (λ ways. HasKnown known.now number ways.now) }
 {

@@ -1,11 +1,11 @@
-//! What is left of a numbered pattern after an attribute, a string or a start tag, and after a tag is closed.
+//! The ways of a numbered pattern to take an attribute, a string or an element first, and what is left of it after a
+//! start tag, and after a tag is closed.
 //!
 //! The patterns of a grammar are in a table that only grows. An item leaves other patterns of this table. What is left
 //! takes what may follow the item, by the rules of matching (RELAX NG Specification, section 6.2). This holds for every
 //! grammar that obeys the restrictions of section 7.
 #![tactic(auto)]
 
-mod after;
 mod alike;
 mod by_key;
 mod closing;
@@ -13,16 +13,22 @@ mod datatypes;
 mod fewer_ways;
 mod filling;
 mod known;
+mod leaf_ways;
 mod leaves;
 mod rests;
 mod spans;
 mod starting;
 mod takers;
-mod texts;
 mod way;
 mod ways;
 
-pub use after::{after_tag, after_text};
-pub use known::{Known, KnownWays};
-pub use starting::start;
-pub use way::{LeafWay, Ways};
+pub use alike::is_same_name;
+pub use closing::close;
+pub use datatypes::Datatypes;
+pub use known::{Known, KnownByKey, KnownWays, LastKeys, known_ways};
+pub use leaf_ways::{attribute_ways, text_ways};
+pub use leaves::rest_of_leaf;
+pub use rests::KnownRests;
+pub use starting::{number_at, start};
+pub use takers::Takers;
+pub use way::{LeafWay, Place, Rests, Ways};

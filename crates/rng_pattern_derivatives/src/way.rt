@@ -1,5 +1,5 @@
 // Ways to begin.
-use rng_model::{Attr, ElementId, Name};
+use rng_model::{ElementId, Name};
 use rng_pattern_table::{PatternNumber, Span};
 use smallvec::SmallVec;
 
@@ -55,14 +55,6 @@ pub enum Candidates<'a> {
 pub enum Place {
     Content,
     List,
-}
-
-/// What comes first, with its content.
-#[derive(Clone, Copy)]
-pub enum First<'a> {
-    /// A string, tried at this place.
-    Text(Place, &'a str),
-    Attribute(&'a Attr),
 }
 
 /// How two patterns are joined.

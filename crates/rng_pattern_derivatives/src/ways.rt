@@ -78,8 +78,8 @@ fn is_idle(table: &PatternTable, candidates: Candidates, number: PatternNumber) 
 /// The most members of an interleave whose ways are kept. More members lead to too many other patterns.
 const MOST_KEPT_MEMBERS: u16 = 4;
 
-/// Returns whether the ways of a pattern are kept.
-fn is_kept(table: &PatternTable, number: PatternNumber) -> bool
+/// Returns whether the ways of a pattern are kept. Allocates nothing.
+pub fn is_kept(table: &PatternTable, number: PatternNumber) -> bool
     requires { number.0 < length table.now }
 {
     match table.pattern(number) {

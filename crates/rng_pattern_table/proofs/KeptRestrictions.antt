@@ -1,6 +1,6 @@
 -- What is made over the members of a pattern of a grammar obeys the restrictions that the pattern obeys, if each member
 -- does.
-use Rattle.std.proofs.Common.{◌≡◌, ℕ, ◌<◌, Bool, true, false, cond, Option, Some, refl, sym, ap, ap₂, ◌∙◌, subst, inl, inr, ⊎_elim}
+use Rattle.std.proofs.Common.{◌≡◌, ℕ, ◌<◌, Bool, true, false, cond, Option, Some, Contains, slice_get, refl, sym, ap, ap₂, ◌∙◌, subst, inl, inr, ⊎_elim}
 use Rattle.std.proofs.Common.{List, [], ◌∷◌, ◌++◌, length, get_or, arith, length-append}
 use Rattle.std.proofs.lemmas.Bool.{cases_lt}
 use Rattle.std.proofs.lemmas.List.{get_or_append_left}
@@ -16,12 +16,17 @@ use Rattle.rng_deriv_laws.specs.plain.Derivatives.{is_empty, is_not_allowed, joi
 use Rattle.rng_deriv_laws.specs.plain.Restricted.{HasNoAttribute, HasNoneGrouped, RepeatsWell, HasTexts, MayBeListed, content_type, type_of_both, type_of_choice}
 use Rattle.rng_deriv_laws.specs.plain.Restricted.{IsTyped}
 use Rattle.rng_deriv_laws.proofs.KeptRestrictions.{none_is_ungrouped}
-use Rattle.rng_pattern_table.specs.plain.Kept.{AreKept, AreRestrictedAlike, HasContentWithin, HasNoLists, IsChoiceOf, IsInterleaveOf, IsMadeOver, KeepsRestrictions}
+use Rattle.rng_pattern_table.specs.declared.uses.Use.{Use}
+use Rattle.rng_pattern_table.specs.plain.AskedFor.{HasNumber, HasPart, IsAskedFor, IsNoChoice, IsOwn}
+use Rattle.rng_pattern_table.specs.plain.Kept.{AreKeptAt, AreRestrictedAlike, HasContentWithin, HasNoLists, IsChoiceOf, IsChoiceTaken, IsInterleaveOf, IsMadeOver}
+use Rattle.rng_pattern_table.specs.plain.Kept.{IsTakenAs, KeepsRestrictions, by_members, by_parts, unnumbered}
 use Rattle.rng_pattern_table.specs.views.Node.{Node}
 use Rattle.rng_pattern_table.specs.views.PatternTable.{Longer}
-use Rattle.rng_pattern_table.specs.views.Taking.{AreTaken, tree_by}
+use Rattle.rng_pattern_table.specs.views.Taking.{AreTakenAt, numbers_at, tree_by}
 use Rattle.rng_pattern_table.specs.views.Trees.{tree_of}
 use Rattle.rng_pattern_table.specs.declared.pattern.PatternNumber.{PatternNumber}
+use Rattle.rng_pattern_table.proofs.OpenedChoices.{each_below, each_has, each_numbered}
+use Rattle.rng_pattern_table.proofs.Taking.{part_below, position_among}
 use Rattle.rng_pattern_table.proofs.Trees.{tree_stays}
 use Rattle.rng_pattern_table.specs.plain.Reduced.{HasAlternative}
 use Rattle.rng_pattern_table.proofs.Alternatives.{IsOfChoices, alternative_has, has_of_alternatives}
@@ -137,11 +142,12 @@ repeat_kept p made h = record {
   not_allowed = λ e. absurd (cc);
 }
 
-choice_has : (Q : Simple ℕ → Type 0) → IsOfChoices Q → (p q whole : Simple ℕ) → Q s_not_allowed → IsChoiceOf p q whole → Q p → Q q → Q whole
-choice_has Q of p q whole none is h i = ⊎_elim
+choice_has : (Q : Simple ℕ → Type 0) → IsOfChoices Q → (f : ℕ → Simple ℕ) (ms : List PatternNumber) (whole : Simple ℕ) → Q s_not_allowed
+    → IsChoiceOf f ms whole → ((m : PatternNumber) → Contains ms m → Q (f m.0)) → Q whole
+choice_has Q of f ms whole none is each = ⊎_elim
     (λ e. subst Q (sym e) none)
     (λ allowed. has_of_alternatives Q of whole allowed
-    (λ s a. ⊎_elim (λ l. alternative_has Q of p s h l) (λ r. alternative_has Q of q s i r) (is.within s a)))
+    (λ s a. let h = is.within s a in alternative_has Q of (f h.0.0) s (each h.0 h.1) h.2))
     is.reduced
 
 -- a content type within another
@@ -166,75 +172,116 @@ HasWithin-of_choices most = record {
   sides = λ p q h. within_sides (content_type p) (content_type q) h.0 most h.1 h.2;
 }
 
-choice_content : (p q whole : Simple ℕ) (c : ContentType) → IsChoiceOf p q whole → HasContentWithin c p → HasContentWithin c q → HasContentWithin c whole
-choice_content p q whole c is h i = ⊎_elim
+choice_content : (f : ℕ → Simple ℕ) (ms : List PatternNumber) (whole : Simple ℕ) (c : ContentType) → IsChoiceOf f ms whole
+    → ((m : PatternNumber) → Contains ms m → HasContentWithin c (f m.0)) → HasContentWithin c whole
+choice_content f ms whole c is each = ⊎_elim
     (λ e. inr e)
     (λ allowed. inl (has_of_alternatives (HasWithin c) (HasWithin-of_choices c) whole allowed
-    (λ s a. ⊎_elim (of_side p s h) (of_side q s i) (is.within s a))))
+    (λ s a. let h = is.within s a in of_member (f h.0.0) s (each h.0 h.1) h.2)))
     is.reduced
   where
-    of_side : (p s : Simple ℕ) → HasContentWithin c p → HasAlternative p s → HasWithin c s
-    of_side p s h a = ⊎_elim
+    of_member : (p s : Simple ℕ) → HasContentWithin c p → HasAlternative p s → HasWithin c s
+    of_member p s h a = ⊎_elim
         (λ t. alternative_has (HasWithin c) (HasWithin-of_choices c) p s t a)
         (λ e. absurd (subst (λ p. HasAlternative p s) e a))
         h
 
-choice_kept : (p q made other whole : Simple ℕ) → KeepsRestrictions p made → KeepsRestrictions q other → IsChoiceOf made other whole
-    → KeepsRestrictions (s_joined choice p q) whole
-choice_kept p q made other whole h i is = record {
-  bare = λ o. choice_has HasNoAttribute (record { of_both = λ p q h i. (h, i); sides = λ p q h. h }) made other whole tt is (h.bare o.0) (i.bare o.1);
-  ungrouped = λ o.
-      choice_has HasNoneGrouped (record { of_both = λ p q h i. (h, i); sides = λ p q h. h }) made other whole tt is (h.ungrouped o.0) (i.ungrouped o.1);
-  repeats = λ o. choice_has RepeatsWell (record { of_both = λ p q h i. (h, i); sides = λ p q h. h }) made other whole tt is (h.repeats o.0) (i.repeats o.1);
-  texts = λ o.
-      choice_has (HasTexts MayBeListed) (record { of_both = λ p q h i. (h, i); sides = λ p q h. h }) made other whole tt is (h.texts o.0) (i.texts o.1);
-  unlisted = λ o.
-      choice_has HasNoLists (record { of_both = λ p q h i. (h, i); sides = λ p q h. h }) made other whole tt is (h.unlisted o.0) (i.unlisted o.1);
-  content = λ c e.
-      let b = both_members (content_type p) (content_type q) c e in
-      choice_content made other whole c is
-      (content_wider made b.0 c (λ x f. subst (λ c. greater x c ≡ c) b.4 (within_first x b.0 b.1 f)) (h.content b.0 b.2))
-      (content_wider other b.1 c (λ x f. subst (λ c. greater x c ≡ c) b.4 (within_second x b.0 b.1 f)) (i.content b.1 b.3));
-  not_allowed = λ e. absurd (cc);
-}
+-- ---- a choice of the members of a choice
+
+module _ (t : Table) (us : List Use) (old new : List Node) (numbers : List PatternNumber) (first second : PatternId) (n : ℕ)
+    (first_below : first.0 < length numbers) (second_below : second.0 < length numbers) (kept : AreKeptAt (HasNumber t us) t old numbers)
+    (is : IsChoiceTaken t us numbers first second old new n) where
+  abbrev pub whole : Simple ℕ
+  whole = s_joined choice (tree_at t.patterns first) (tree_at t.patterns second)
+
+  member_kept : (id : PatternId) → Contains is.positions id → KeepsRestrictions (tree_at t.patterns id) (tree_by t old numbers id)
+  member_kept id h =
+      kept id.0 (each_below t us first second (length numbers) first_below second_below is.opened id (inr h))
+      (each_numbered t us first second is.opened id h)
+
+  -- what each member obeys, if it keeps it
+  each_number : (Q P : Simple ℕ → Type 0) → ((p q : Simple ℕ) → Q (s_joined choice p q) → Q p × Q q) → Q whole
+      → ((p made : Simple ℕ) → KeepsRestrictions p made → Q p → P made)
+      → (m : PatternNumber) → Contains (numbers_at numbers is.positions) m → P (tree_of t old m.0)
+  each_number Q P sides h keeps m c =
+      let at = position_among numbers is.positions m c in
+      subst (λ (m : PatternNumber). P (tree_of t old m.0)) at.2
+      (keeps (tree_at t.patterns at.0) (tree_by t old numbers at.0) (member_kept at.0 at.1) (each_has t us first second Q sides h is.opened at.0 (inr at.1)))
+
+  keeps_all : (Q : Simple ℕ → Type 0) → IsOfChoices Q → Q s_not_allowed → ((p made : Simple ℕ) → KeepsRestrictions p made → Q p → Q made)
+      → Q whole → Q (tree_of t new n)
+  keeps_all Q of none keeps h =
+      choice_has Q of (tree_of t old) (numbers_at numbers is.positions) (tree_of t new n) none is.made (each_number Q Q of.sides h keeps)
+
+  pub choice_kept : KeepsRestrictions whole (tree_of t new n)
+  choice_kept = record {
+    bare = keeps_all HasNoAttribute (record { of_both = λ p q h i. (h, i); sides = λ p q h. h }) tt (λ p made k. k.bare);
+    ungrouped = keeps_all HasNoneGrouped (record { of_both = λ p q h i. (h, i); sides = λ p q h. h }) tt (λ p made k. k.ungrouped);
+    repeats = keeps_all RepeatsWell (record { of_both = λ p q h i. (h, i); sides = λ p q h. h }) tt (λ p made k. k.repeats);
+    texts = keeps_all (HasTexts MayBeListed) (record { of_both = λ p q h i. (h, i); sides = λ p q h. h }) tt (λ p made k. k.texts);
+    unlisted = keeps_all HasNoLists (record { of_both = λ p q h i. (h, i); sides = λ p q h. h }) tt (λ p made k. k.unlisted);
+    content = λ c e.
+        choice_content (tree_of t old) (numbers_at numbers is.positions) (tree_of t new n) c is.made
+        (each_number (HasWithin c) (HasContentWithin c) (HasWithin-of_choices c).sides (c, e, greater_itself c)
+        (λ p made k h. content_wider made h.0 c (λ x f. wider x h.0 c f h.2) (k.content h.0 h.1)));
+    not_allowed = λ e. absurd (cc);
+  }
+    where
+      wider : (x y most : ContentType) → greater x y ≡ y → greater y most ≡ most → greater x most ≡ most
+      wider x y most f g = subst (λ z. greater x z ≡ z) g (within_first x y most f)
 
 -- ---- a row of the grammar
 
-pub row_kept : (t : Table) (f : PatternId → Simple ℕ) (row : rows.Simple) (made : Simple ℕ) (n : ℕ) → AreChildrenBelow n row
-    → ((id : PatternId) → id.0 < n → KeepsRestrictions (tree_at t.patterns id) (f id)) → IsMadeOver t f row made
+parts_kept : (t : Table) (f : PatternId → Simple ℕ) (row : rows.Simple) (made : Simple ℕ)
+    → ((id : PatternId) → HasPart row id.0 → KeepsRestrictions (tree_at t.patterns id) (f id)) → IsMadeOver t f row made
     → KeepsRestrictions (tree_over (tree_at t.patterns) row) made
-row_kept t f simple.NotAllowed made n below each is = subst (KeepsRestrictions _) (sym is) (kept_same _)
-row_kept t f simple.Empty made n below each is = subst (KeepsRestrictions _) (sym is) (kept_same _)
-row_kept t f simple.Text made n below each is = subst (KeepsRestrictions _) (sym is) (kept_same _)
-row_kept t f (simple.Element e) made n below each is = subst (KeepsRestrictions _) (sym is) (kept_same _)
-row_kept t f (simple.Attribute class body) made n below each is = subst (KeepsRestrictions _) (sym is) (kept_same _)
-row_kept t f (simple.List body) made n below each is = subst (KeepsRestrictions _) (sym is) (kept_same _)
-row_kept t f (simple.Data datatype) made n below each is = subst (KeepsRestrictions _) (sym is) (kept_same _)
-row_kept t f (simple.DataExcept datatype except) made n below each is = subst (KeepsRestrictions _) (sym is) (kept_same _)
-row_kept t f (simple.Value value) made n below each is = subst (KeepsRestrictions _) (sym is) (kept_same _)
-row_kept t f (simple.OneOrMore body) made n below each is = subst (KeepsRestrictions _) (sym is) (repeat_kept _ _ (each body below))
-row_kept t f (simple.Group a b) made n below each is = subst (KeepsRestrictions _) (sym is) (group_kept _ _ _ _ (each a below.0) (each b below.1))
-row_kept t f (simple.Interleave a b) made n below each is = interleave_kept _ _ _ _ _ (each a below.0) (each b below.1) is
-row_kept t f (simple.Choice a b) made n below each is = choice_kept _ _ _ _ _ (each a below.0) (each b below.1) is
+parts_kept t f simple.NotAllowed made each is = subst (KeepsRestrictions _) (sym is) (kept_same _)
+parts_kept t f simple.Empty made each is = subst (KeepsRestrictions _) (sym is) (kept_same _)
+parts_kept t f simple.Text made each is = subst (KeepsRestrictions _) (sym is) (kept_same _)
+parts_kept t f (simple.Element e) made each is = subst (KeepsRestrictions _) (sym is) (kept_same _)
+parts_kept t f (simple.Attribute class body) made each is = subst (KeepsRestrictions _) (sym is) (kept_same _)
+parts_kept t f (simple.List body) made each is = subst (KeepsRestrictions _) (sym is) (kept_same _)
+parts_kept t f (simple.Data datatype) made each is = subst (KeepsRestrictions _) (sym is) (kept_same _)
+parts_kept t f (simple.DataExcept datatype except) made each is = subst (KeepsRestrictions _) (sym is) (kept_same _)
+parts_kept t f (simple.Value value) made each is = subst (KeepsRestrictions _) (sym is) (kept_same _)
+parts_kept t f (simple.OneOrMore body) made each is = subst (KeepsRestrictions _) (sym is) (repeat_kept _ _ (each body refl))
+parts_kept t f (simple.Group a b) made each is = subst (KeepsRestrictions _) (sym is) (group_kept _ _ _ _ (each a (inl refl)) (each b (inr refl)))
+parts_kept t f (simple.Interleave a b) made each is = interleave_kept _ _ _ _ _ (each a (inl refl)) (each b (inr refl)) is
+parts_kept t f (simple.Choice a b) made each is = absurd is
+
+pub row_kept : (t : Table) (us : List Use) (old new : List Node) (numbers : List PatternNumber) (row : rows.Simple) (n : ℕ)
+    → AreKeptAt (HasNumber t us) t old numbers → AreChildrenBelow (length numbers) row → slice_get t.patterns (length numbers) ≡ Some row
+    → ((k : ℕ) → HasPart row k → IsOwn us k) → HasNumber t us (length numbers) → IsTakenAs t us numbers (length numbers) row old new n
+    → KeepsRestrictions (tree_over (tree_at t.patterns) row) (tree_of t new n)
+row_kept t us old new numbers row n kept below found parts numbered (by_parts plain is made) =
+    parts_kept t (tree_by t old numbers) row (tree_of t new n)
+    (λ id part. kept id.0 (part_below row (length numbers) id.0 below part) (λ p at. inr (parts id.0 part))) made
+row_kept t us old new numbers row n kept below found parts numbered (by_members first second e is) =
+    let sides = subst (AreChildrenBelow (length numbers)) e below in
+    subst (λ r. KeepsRestrictions (tree_over (tree_at t.patterns) r) (tree_of t new n)) (sym e)
+    (choice_kept t us old new numbers first second n sides.0 sides.1 kept is)
+row_kept t us old new numbers row n kept below found parts numbered (unnumbered first second e none) =
+    absurd (⊎_elim (λ plain. subst IsNoChoice e plain) (λ own. none own) (numbered row found))
 
 -- ---- all rows
 
 -- one more
-pub one_kept : (t : Table) (old new : List Node) (numbers more : List PatternNumber) (number : PatternNumber) (row : rows.Simple)
-    → AreTaken t old numbers → AreKept t old numbers → Longer old new → more ≡ numbers ++ number ∷ [] → AreChildrenBelow (length numbers) row
-    → tree_at t.patterns (record { 0 = length numbers }) ≡ tree_over (tree_at t.patterns) row
-    → IsMadeOver t (tree_by t old numbers) row (tree_of t new number.0) → AreKept t new more
-one_kept t old new numbers more number row taken kept longer added below is made =
-    subst (AreKept t new) (sym added) (λ i h. ⊎_elim
+pub one_kept : (t : Table) (us : List Use) (old new : List Node) (numbers more : List PatternNumber) (number : PatternNumber) (row : rows.Simple)
+    → AreTakenAt (HasNumber t us) t old numbers → AreKeptAt (HasNumber t us) t old numbers → Longer old new → more ≡ numbers ++ number ∷ []
+    → AreChildrenBelow (length numbers) row → slice_get t.patterns (length numbers) ≡ Some row
+    → tree_at t.patterns (record { 0 = length numbers }) ≡ tree_over (tree_at t.patterns) row → ((k : ℕ) → HasPart row k → IsOwn us k)
+    → IsTakenAs t us numbers (length numbers) row old new number.0 → AreKeptAt (HasNumber t us) t new more
+one_kept t us old new numbers more number row taken kept longer added below found is parts own =
+    subst (AreKeptAt (HasNumber t us) t new) (sym added) (λ i h has. ⊎_elim
     (λ l. let stays = get_or_append_left numbers (number ∷ []) (record { 0 = 0 }) i l in
     subst (KeepsRestrictions (tree_at t.patterns (record { 0 = i })))
-    (sym (ap (λ (k : PatternNumber). tree_of t new k.0) stays ∙ tree_stays t old new _ longer (taken.inside i l))) (kept i l))
+    (sym (ap (λ (k : PatternNumber). tree_of t new k.0) stays ∙ tree_stays t old new _ longer (taken.inside i l))) (kept i l has))
     (λ l. let here : i ≡ length numbers = omega (arith, h, l, length-append numbers (number ∷ [])) in
     let end = ap (λ j. get_or (numbers ++ number ∷ []) j (record { 0 = 0 })) here ∙ get_or-append_seam numbers number [] (record { 0 = 0 }) in
     subst (KeepsRestrictions (tree_at t.patterns (record { 0 = i }))) (sym (ap (λ (k : PatternNumber). tree_of t new k.0) end))
     (subst (λ j. KeepsRestrictions (tree_at t.patterns (record { 0 = j })) (tree_of t new number.0)) (sym here)
     (subst (λ p. KeepsRestrictions p (tree_of t new number.0)) (sym is)
-    (row_kept t (tree_by t old numbers) row (tree_of t new number.0) (length numbers) below (λ id k. kept id.0 k) made))))
+    (row_kept t us old new numbers row number.0 kept below found parts (subst (HasNumber t us) here has) own))))
     (cases_lt i (length numbers)))
 
 typed_kept : (p made : Simple ℕ) → KeepsRestrictions p made → IsTyped p → IsTyped made
@@ -243,9 +290,10 @@ typed_kept p made h typed = ⊎_elim
     (λ e. inr (h.not_allowed e))
     typed
 
-pub restricted_alike : (t : Table) (ns : List Node) (numbers : List PatternNumber) → AreKept t ns numbers → AreRestrictedAlike t ns numbers
-restricted_alike t ns numbers kept = record {
-  restricted = λ id h o. let k = kept id.0 h in record { repeats = k.repeats o.repeats; texts = k.texts o.texts };
-  unlisted = λ id h o. (kept id.0 h).unlisted o;
-  typed = λ id h o. typed_kept _ _ (kept id.0 h) o;
+pub restricted_alike : (Has : ℕ → Type 0) (t : Table) (ns : List Node) (numbers : List PatternNumber) → ((k : ℕ) → IsAskedFor t k → Has k)
+    → AreKeptAt Has t ns numbers → AreRestrictedAlike t ns numbers
+restricted_alike Has t ns numbers asked kept = record {
+  restricted = λ id h has o. let k = kept id.0 h (asked id.0 has) in record { repeats = k.repeats o.repeats; texts = k.texts o.texts };
+  unlisted = λ id h has o. (kept id.0 h (asked id.0 has)).unlisted o;
+  typed = λ id h has o. typed_kept _ _ (kept id.0 h (asked id.0 has)) o;
 }

@@ -14,6 +14,8 @@ mod OnlyMember
 mod ContentTypes
 mod KeptRestrictions
 mod Interleaves
+mod GrammarUses
+mod OpenedChoices
 pub mod Taking
 mod Renumbering
 mod CopiedPatterns

@@ -33,12 +33,12 @@ module _ (t : Table) (ns ms : List Node) (numbers places : List PatternNumber) (
   pub taken_selected : AreTaken t ns (take k numbers) → AreTaken t ms (take k places)
   taken_selected taken = record {
     inside = λ i h. All-get_or (λ n. n.0 < length ms) (take k places) i (record { 0 = 0 }) h (All-take (λ n. n.0 < length ms) k places inside);
-    same = λ i h g. subst (λ p. Same g p (tree_at t.patterns (record { 0 = i }))) (sym (same_tree i h)) (taken.same i (omega (arith, h, long)) g);
+    same = λ i h has g. subst (λ p. Same g p (tree_at t.patterns (record { 0 = i }))) (sym (same_tree i h)) (taken.same i (omega (arith, h, long)) has g);
   }
 
   pub restricted_selected : AreRestrictedAlike t ns (take k numbers) → AreRestrictedAlike t ms (take k places)
   restricted_selected alike = record {
-    restricted = λ id h o. subst IsRestricted (sym (same_tree id.0 h)) (alike.restricted id (omega (arith, h, long)) o);
-    unlisted = λ id h o. subst HasNoLists (sym (same_tree id.0 h)) (alike.unlisted id (omega (arith, h, long)) o);
-    typed = λ id h o. subst IsTyped (sym (same_tree id.0 h)) (alike.typed id (omega (arith, h, long)) o);
+    restricted = λ id h has o. subst IsRestricted (sym (same_tree id.0 h)) (alike.restricted id (omega (arith, h, long)) has o);
+    unlisted = λ id h has o. subst HasNoLists (sym (same_tree id.0 h)) (alike.unlisted id (omega (arith, h, long)) has o);
+    typed = λ id h has o. subst IsTyped (sym (same_tree id.0 h)) (alike.typed id (omega (arith, h, long)) has o);
   }

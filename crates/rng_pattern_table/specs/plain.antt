@@ -1,4 +1,5 @@
 -- Plain functions that the code is proved against, and private relations.
+pub mod AskedFor
 pub mod Copies
 pub mod Facts
 pub mod Kept

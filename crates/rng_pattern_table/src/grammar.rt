@@ -1,24 +1,29 @@
 // The patterns of a grammar, put into a table.
-ghost use Rattle.std.specs.Prelude.{◌≡◌, ◌⊎◌, ◌<◌, All, IfOk, Some, length, slice_get};
+ghost use Rattle.std.specs.Prelude.{◌≡◌, ◌⊎◌, ◌<◌, ◌≤◌, All, IfOk, OnOk, Some, length, slice_get};
 ghost use Rattle.rng_model.specs.simple.Table.{AreChildrenBelow, Table};
 ghost use Rattle.rng_model.specs.matching.Reading.{Reading};
 ghost use Rattle.rng_deriv_laws.specs.plain.Taking.{Same};
 ghost use Rattle.rng_pattern_table.specs.plain.Facts.{members_of};
-ghost use Rattle.rng_pattern_table.specs.plain.Kept.{AreRestrictedAlike, Interleaves, IsMadeOver};
+ghost use Rattle.rng_pattern_table.specs.plain.AskedFor.{IsNoChoice};
+ghost use Rattle.rng_pattern_table.specs.plain.Kept.{AreRestrictedAlike, Interleaves, IsChoiceTaken, IsMadeOver, IsTakenAs};
 ghost use Rattle.rng_pattern_table.specs.views.PatternTable.{Longer};
-ghost use Rattle.rng_pattern_table.specs.views.Taking.{AreTaken, taken_over, tree_by};
+ghost use Rattle.rng_pattern_table.specs.views.Taking.{AreTaken, numbers_at, taken_over, tree_by};
 ghost use Rattle.rng_pattern_table.specs.views.Trees.{tree_of};
 
 use crate::pattern::{Pattern, PatternNumber};
 use crate::pattern_table::PatternTable;
+use crate::uses::Uses;
 use rng_model::{OutOfMemory, PatternId, Simple, SimpleGrammar};
 use std::alloc::Global;
 
 impl PatternTable {
-    /// Returns a table with the patterns of a grammar, and the number of each.
+    /// Returns a table with the patterns of a grammar, and a number for each position.
     ///
-    /// The pattern of each number takes what the grammar's pattern takes, and obeys the restrictions that it obeys
-    /// (RELAX NG Specification, section 7). Fails only when out of memory.
+    /// For the start, the body of each element, and each direct part of a pattern that is no choice, the pattern of the
+    /// number takes what the grammar's pattern takes, and obeys the restrictions that it obeys (RELAX NG Specification,
+    /// section 7). A choice that is only a side of another choice has no pattern of its own, so that a choice of many
+    /// members costs what its members cost. Fails only when out of memory. The cost is a look-up for each pattern, and a
+    /// sort of the members of each choice that has a pattern.
     pub fn of(
         alloc: Global,
         grammar: &SimpleGrammar,
@@ -27,23 +32,73 @@ impl PatternTable {
         ensures taken { IfOk result (λ r. AreTaken grammar.now r.0 r.1.items) }
         ensures restricted { IfOk result (λ r. AreRestrictedAlike grammar.now r.0 r.1.items) }
     {
+        let uses = Uses::of(alloc, grammar)?;
         let mut table = PatternTable::new(alloc);
         let mut numbers = Vec::new(alloc);
         'rows: while let Some(row) = grammar.pattern(PatternId(numbers.len())) {
-            let position = PatternId(numbers.len());
-            numbers.push(table.take(alloc, row, position, numbers.as_slice())?)?;
+            let number = table.take_row(alloc, &uses, numbers.as_slice(), row)?;
+            numbers.push(number)?;
         }
         Ok((table, numbers))
     }
 
-    /// Returns the number of the grammar's pattern at a position, whose members have these numbers.
-    fn take(
+    /// Returns the number of the grammar's next pattern, if those before it have these numbers. A choice without a
+    /// number of its own gets that of notAllowed.
+    fn take_row(
         &mut self,
         alloc: Global,
+        uses: &Uses<'_>,
+        numbers: &[PatternNumber],
+        row: &Simple,
+    ) -> Result<PatternNumber, OutOfMemory>
+        requires row { slice_get uses.now.grammar.now.patterns (length numbers.now) ≡ Some row.now }
+        requires below { AreChildrenBelow (length numbers.now) row.now }
+        requires inside { All (λ n. n.0 < length self.old) numbers.now }
+        ensures longer { OnOk result (Longer self.old self.new) }
+        ensures inside { IfOk result (λ n. n.0 < length self.new) }
+        ensures taken { IfOk result (λ n. IsTakenAs uses.now.grammar.now uses.now.by_position.items numbers.now (length numbers.now) row.now
+            self.old self.new n.0) }
+    {
+        let position = PatternId(numbers.len());
+        match row {
+            Simple::Choice(first, second) if uses.is_own(position) => {
+                self.take_choice(alloc, uses, numbers, *first, *second)
+            }
+            Simple::Choice(_, _) => self.not_allowed(),
+            _ => self.take(row, position, numbers),
+        }
+    }
+
+    /// Returns the number of the choice of the grammar that has these sides.
+    fn take_choice(
+        &mut self,
+        alloc: Global,
+        uses: &Uses<'_>,
+        numbers: &[PatternNumber],
+        first: PatternId,
+        second: PatternId,
+    ) -> Result<PatternNumber, OutOfMemory>
+        requires within { length numbers.now ≤ length uses.now.grammar.now.patterns }
+        requires first { first.0 < length numbers.now }
+        requires second { second.0 < length numbers.now }
+        requires inside { All (λ n. n.0 < length self.old) numbers.now }
+        ensures longer { OnOk result (Longer self.old self.new) }
+        ensures inside { IfOk result (λ n. n.0 < length self.new) }
+        ensures taken { IfOk result (λ n. IsChoiceTaken uses.now.grammar.now uses.now.by_position.items numbers.now first second self.old self.new n.0) }
+    {
+        let members = uses.members(alloc, first, second)?;
+        let members = numbers_at(alloc, numbers, members.as_slice())?;
+        self.choice(alloc, members.as_slice())
+    }
+
+    /// Returns the number of the grammar's pattern at a position, which is no choice and whose parts have these numbers.
+    fn take(
+        &mut self,
         row: &Simple,
         position: PatternId,
         numbers: &[PatternNumber],
     ) -> Result<PatternNumber, OutOfMemory>
+        requires kind { IsNoChoice row.now }
         requires below { AreChildrenBelow (length numbers.now) row.now }
         requires inside { All (λ n. n.0 < length self.old) numbers.now }
         ensures longer { Longer self.old self.new }
@@ -67,9 +122,7 @@ impl PatternTable {
             Simple::Interleave(first, second) => {
                 self.balanced(numbers[first.0], numbers[second.0])
             }
-            Simple::Choice(first, second) => {
-                self.choice(alloc, &[numbers[first.0], numbers[second.0]])
-            }
+            Simple::Choice(_, _) => unreachable!(),
         }
     }
 
@@ -126,4 +179,20 @@ impl PatternTable {
     {
         self.facts(number).members
     }
+}
+
+/// Returns the numbers at these positions.
+fn numbers_at(
+    alloc: Global,
+    numbers: &[PatternNumber],
+    positions: &[PatternId],
+) -> Result<Vec<PatternNumber>, OutOfMemory>
+    requires { All (λ p. p.0 < length numbers.now) positions.now }
+    ensures { IfOk result (λ all. all.items ≡ numbers_at numbers.now positions.now) }
+{
+    let mut all = Vec::new(alloc);
+    for position in positions {
+        all.push(numbers[position.0])?;
+    }
+    Ok(all)
 }

@@ -14,6 +14,7 @@ mod making;
 mod pattern;
 mod pattern_table;
 mod selecting;
+mod uses;
 
 pub use pattern::{Facts, Pattern, PatternNumber, Span};
 pub use pattern_table::PatternTable;

@@ -21,7 +21,7 @@ use Rattle.rng_print.proofs.Numberings.{all_contained, all_append, all_each}
 use Rattle.rng_print_laws.proofs.NumberedNames.{item_no_keyword, prefix_apart}
 use Rattle.rng_print_laws.proofs.LineSentences.{KnowsType, KnowsTypes, KnowsItem, lines_sentence}
 use Rattle.rng_print_laws.proofs.LineNesting.{Shallow, ShallowItem, lines_nest}
-use Rattle.rng_print_laws.proofs.ResolvedPrefixes.{Knows, Apart, AreApart, file_found}
+use Rattle.rng_print_laws.proofs.ResolvedPrefixes.{Knows, HasOtherPrefix, HaveDistinctPrefixes, file_found}
 use Rattle.rng_print_laws.proofs.LineDeclarations.{rules_kept}
 
 -- ---- what is reached is printable
@@ -147,20 +147,20 @@ other_than : (w : List (List ℕ)) (u v : List ℕ) → has bytes_eq (w ++ u ∷
 other_than w u v h e = false≢true (sym h ∙ subst (λ (x : List ℕ). has bytes_eq (w ++ u ∷ []) x ≡ true) e (has_last bytes_eq bytes_exact bytes_itself w u))
 
 apart_from : (ns : List (List ℕ)) → length ns < 2 ^ 64 → (w us : List (List ℕ)) → AreNew bytes_eq bytes_exact bytes_itself w us
-    → AllByRecursion (λ v. has bytes_eq ns v ≡ true) us → AreApart ns us
+    → AllByRecursion (λ v. has bytes_eq ns v ≡ true) us → HaveDistinctPrefixes ns us
 apart_from ns lt w [] n h = tt
 apart_from ns lt w (u ∷ us) n h =
     (both us (new_behind (w ++ u ∷ []) us n.1) h.1, apart_from ns lt (w ++ u ∷ []) us n.1 h.1)
   where
     both : (us : List (List ℕ)) → AllByRecursion (λ v. has bytes_eq (w ++ u ∷ []) v ≡ false) us → AllByRecursion (λ v. has bytes_eq ns v ≡ true) us
-        → AllByRecursion (Apart ns u) us
+        → AllByRecursion (HasOtherPrefix ns u) us
     both [] i j = tt
     both (v ∷ us) i j = (prefix_apart ns lt u v h.0 j.0 (other_than w u v i.0), both us i.1 j.1)
 
 all_itself : (ns : List (List ℕ)) → AllByRecursion (λ v. has bytes_eq ns v ≡ true) ns
 all_itself ns = all_each (λ v. has bytes_eq ns v ≡ true) ns (λ v c. has_contained bytes_eq bytes_exact bytes_itself ns v c)
 
-namespaces_apart : (us : List (List ℕ)) → length (first_times bytes_eq us) < 2 ^ 64 → AreApart (first_times bytes_eq us) (first_times bytes_eq us)
+namespaces_apart : (us : List (List ℕ)) → length (first_times bytes_eq us) < 2 ^ 64 → HaveDistinctPrefixes (first_times bytes_eq us) (first_times bytes_eq us)
 namespaces_apart us lt =
     apart_from (first_times bytes_eq us) lt [] (first_times bytes_eq us)
     (subst (AreNew bytes_eq bytes_exact bytes_itself []) (sym (and_fresh bytes_eq bytes_exact bytes_itself [] us))

@@ -18,7 +18,7 @@ use Rattle.rnc_model.specs.declarations.DeclarationRules.{prefixes_of_components
 use Rattle.rng_print_laws.specs.plain.LinesSyntax as lines
 use Rattle.rng_print.proofs.SameTests.{bytes_itself}
 use Rattle.rng_print.proofs.Numberings.{all_append}
-use Rattle.rng_print_laws.proofs.ResolvedPrefixes.{Apart, AreApart}
+use Rattle.rng_print_laws.proofs.ResolvedPrefixes.{HasOtherPrefix, HaveDistinctPrefixes}
 
 among_all : {A : Type 0} (P : A → Type 0) {x : A} {xs : List A} → Among x xs → AllByRecursion P xs → P x
 among_all P here h = h.0
@@ -53,19 +53,19 @@ module _ (ns : List (List ℕ)) where
   same_prefix : (p q : List ℕ) → bytes_eq p q ≡ false → namespace_prefix p ≡ namespace_prefix q → ⊥
   same_prefix p q e same = let s : p ≡ q = cc in false≢true (sym e ∙ ap (bytes_eq p) (sym s) ∙ bytes_itself p)
 
-  prefixes_apart : (u : List ℕ) (us : List (List ℕ)) → AllByRecursion (Apart ns u) us
+  prefixes_apart : (u : List ℕ) (us : List (List ℕ)) → AllByRecursion (HasOtherPrefix ns u) us
       → AllByRecursion (λ v. namespace_prefix (prefix_of ns u) ≡ namespace_prefix (prefix_of ns v) → ⊥) us
   prefixes_apart u [] h = tt
   prefixes_apart u (v ∷ us) h = (same_prefix (prefix_of ns u) (prefix_of ns v) h.0, prefixes_apart u us h.1)
 
   -- the first one does not occur again
-  first_once : (u : List ℕ) (us : List (List ℕ)) → AllByRecursion (Apart ns u) us → (x : Declarable) (v : syntax.Uri)
+  first_once : (u : List ℕ) (us : List (List ℕ)) → AllByRecursion (HasOtherPrefix ns u) us → (x : Declarable) (v : syntax.Uri)
       → x ≡ namespace_prefix (prefix_of ns u) → Among (x, v) (declared us) → ⊥
   first_once u us h x v is among =
       among_all (λ e. namespace_prefix (prefix_of ns u) ≡ e.0 → ⊥) among
       (each_declared (λ e. namespace_prefix (prefix_of ns u) ≡ e.0 → ⊥) us (prefixes_apart u us h)) (sym is)
 
-  none_twice : (us : List (List ℕ)) → AreApart ns us → (x : Declarable) → IsTwiceIn x (declared us) → ⊥
+  none_twice : (us : List (List ℕ)) → HaveDistinctPrefixes ns us → (x : Declarable) → IsTwiceIn x (declared us) → ⊥
   none_twice [] a x twice = elim twice [ ]
   none_twice (u ∷ us) a x (at_first {v = v} among) = first_once u us a.0 x v refl among
   none_twice (u ∷ us) a x (later twice) = none_twice us a.1 x twice
@@ -223,7 +223,7 @@ module _ (ns : List (List ℕ)) where
   abbrev IsServed : Declarable → Type 0
   IsServed x = (x ≡ datatype_prefix (codes "xsd")) ⊎ ((u : syntax.Uri) × Among (x, u) (declared ns))
 
-  module _ (g : Grammar) (items : List Item) (apart : AreApart ns ns)
+  module _ (g : Grammar) (items : List Item) (apart : HaveDistinctPrefixes ns ns)
       (serves : (P : List ℕ → Type 0) → AllByRecursion P ns → AllByRecursion (λ i. AllByRecursion P (namespaces_of g i)) items) where
     served : (x : Declarable) → Among x (prefixes_of_body (lines.file g ns items).body) → IsServed x
     served x among =

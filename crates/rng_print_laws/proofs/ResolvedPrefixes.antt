@@ -198,12 +198,12 @@ components_found s g ns items d t k n = rw (reference_found s items g.start t, d
 -- ---- declarations
 
 -- two of these do not have the same prefix
-abbrev pub Apart : List (List ℕ) → List ℕ → List ℕ → Type 0
-Apart ns u v = bytes_eq (prefix_of ns u) (prefix_of ns v) ≡ false
+abbrev pub HasOtherPrefix : List (List ℕ) → List ℕ → List ℕ → Type 0
+HasOtherPrefix ns u v = bytes_eq (prefix_of ns u) (prefix_of ns v) ≡ false
 
-abbrev pub AreApart : List (List ℕ) → List (List ℕ) → Type 0
-AreApart ns [] = Unit {0}
-AreApart ns (u ∷ us) = AllByRecursion (Apart ns u) us × AreApart ns us
+abbrev pub HaveDistinctPrefixes : List (List ℕ) → List (List ℕ) → Type 0
+HaveDistinctPrefixes ns [] = Unit {0}
+HaveDistinctPrefixes ns (u ∷ us) = AllByRecursion (HasOtherPrefix ns u) us × HaveDistinctPrefixes ns us
 
 -- nothing is declared for the prefixes of these
 abbrev AreFree : Scope → List (List ℕ) → List (List ℕ) → Type 0
@@ -216,7 +216,7 @@ one_declared : (s : Scope) (ns : List (List ℕ)) (u : List ℕ) → s.namespace
     → declare s (syntax.namespace (prefix_of ns u) (syntax.literal u)) ≡ Some (with_namespace s ns u)
 one_declared s ns u e = rw e refl
 
-still_free : (s : Scope) (ns : List (List ℕ)) (u : List ℕ) (us : List (List ℕ)) → AllByRecursion (Apart ns u) us → AreFree s ns us
+still_free : (s : Scope) (ns : List (List ℕ)) (u : List ℕ) (us : List (List ℕ)) → AllByRecursion (HasOtherPrefix ns u) us → AreFree s ns us
     → AreFree (with_namespace s ns u) ns us
 still_free s ns u [] a f = tt
 still_free s ns u (v ∷ us) a f = (rw a.0 f.0, still_free s ns u us a.1 f.1)
@@ -232,12 +232,12 @@ record Declared (s : Scope) (ns us : List (List ℕ)) : Type 0 where
   stays : (q : List ℕ) → AllByRecursion (λ u. bytes_eq (prefix_of ns u) q ≡ false) us → scope.namespaces q ≡ s.namespaces q
   known : KnowsAll scope ns us
 
-apart_other : (ns : List (List ℕ)) (u : List ℕ) (us : List (List ℕ)) → AllByRecursion (Apart ns u) us
+apart_other : (ns : List (List ℕ)) (u : List ℕ) (us : List (List ℕ)) → AllByRecursion (HasOtherPrefix ns u) us
     → AllByRecursion (λ v. bytes_eq (prefix_of ns v) (prefix_of ns u) ≡ false) us
 apart_other ns u [] a = tt
 apart_other ns u (v ∷ us) a = (bytes_other_way (prefix_of ns u) (prefix_of ns v) a.0, apart_other ns u us a.1)
 
-all_declared : (s : Scope) (ns us : List (List ℕ)) → AreApart ns us → AreFree s ns us → Declared s ns us
+all_declared : (s : Scope) (ns us : List (List ℕ)) → HaveDistinctPrefixes ns us → AreFree s ns us → Declared s ns us
 all_declared s ns [] a f = record { scope = s; is = refl; default = refl; stays = λ q h. refl; known = tt }
 all_declared s ns (u ∷ us) a f =
     let more = all_declared (with_namespace s ns u) ns us a.1 (still_free s ns u us a.0 f.1) in
@@ -250,7 +250,7 @@ all_declared s ns (u ∷ us) a f =
     }
 
 -- what is declared for all namespaces suffices for some of them
-pub file_found : (g : Grammar) (ns : List (List ℕ)) (items : List Item) → KnowsType g.start → AllByRecursion (KnowsItem g) items → AreApart ns ns
+pub file_found : (g : Grammar) (ns : List (List ℕ)) (items : List Item) → KnowsType g.start → AllByRecursion (KnowsItem g) items → HaveDistinctPrefixes ns ns
     → ((s : Scope) → KnowsAll s ns ns → AllByRecursion (λ i. KnowsAll s ns (namespaces_of g i)) items)
     → file_tree (lines.file g ns items) ≡ Some (trees.lines_tree g items)
 unfolding file_tree

@@ -1,8 +1,10 @@
 -- Rows that meet, in lists and one by one.
 use Rattle.std.proofs.Common.{◌≡◌, inl, inr, refl, ap, sym, ◌∙◌, subst, ℕ, ◌+◌, ◌<◌, Bool, true≢false, IsTrue, IsFalse}
 use Rattle.std.proofs.Common.{List, [], ◌∷◌, ◌++◌, length, slice_index_or, All, Contains, get_or, Vec, vec_items, Result, Ok, Err, IfOk, arith}
-use Rattle.std.proofs.lemmas.Bool.{cases_lt}
-use Rattle.std.proofs.lemmas.List.{get_or-map}
+use Rattle.std.proofs.Common.{Some, set, slice_get, true}
+use Rattle.std.proofs.lemmas.Bool.{cases_eq, cases_lt}
+use Rattle.std.proofs.lemmas.List.{get_or-map, get_or-set_other, length-set}
+use Rattle.std.proofs.lemmas.Option.{get_or_from_slice_get, slice_get-get_or, slice_get_within}
 use Rattle.std.proofs.lemmas.List.Elements.{Contains-push_cases}
 use Rattle.rng_model.specs.names.Names.{Overlap}
 use Rattle.rng_model.specs.simple.Table.{Table}
@@ -101,3 +103,15 @@ module _ {of : NamesOf} {t : Table} {above : List (List ℕ)} where
         let of_class : Overlap (class_of class) (class_of m.second.1) = subst (λ (l : ℕ × NameClass). Overlap (class_of l.1) (class_of m.second.1)) e m.overlap in
         let here : Contains alone m.first.0 = subst (λ xs. Contains xs m.first.0) (sym one) (0, omega arith, sym (ap (λ (l : ℕ × NameClass). l.0) e)) in
         absurd (true≢false (sym (found (between_more here (all m.second.0 m.second.1 m.second_there of_class) m.meet)) ∙ untrue))
+
+-- one more row is marked, of which the same holds as of those that are marked
+pub marked_more : (P : ℕ → Type 0) (marks : List Bool) (row : ℕ) → ((k : ℕ) → slice_get marks k ≡ Some true → P k) → P row
+    → (k : ℕ) → slice_get (set marks row true) k ≡ Some true → P k
+marked_more P marks row each own k h = elim (cases_eq k row) [
+  | inl e ↦ subst P (sym e) own
+  | inr n ↦
+      let inside = slice_get_within (set marks row true) k true h in
+      let there : k < length marks = omega (arith, inside, length-set marks row true) in
+      each k (slice_get-get_or marks k true there
+      ∙ ap Some (sym (get_or-set_other marks row k true true n) ∙ get_or_from_slice_get (set marks row true) k true true h))
+]

@@ -1,7 +1,6 @@
-/* rncv.h: a RELAX NG validator. It compiles a schema once and judges documents by it, one after the other.
+/* rncv.h: a RELAX NG validator. It compiles a schema once, and then judges documents, one after the other.
  *
- * A schema is a set of files in the RELAX NG Compact Syntax. A document is in the notation of PYX, one event a line (docs/XML.md says how XML
- * is turned into it).
+ * A schema is a set of files in the RELAX NG Compact Syntax. A document is in PYX, one event a line (docs/XML.md says how to make it of XML).
  *
  *     rncv_schema schema = RNCV_NOTHING;
  *     rncv_fault fault;
@@ -19,14 +18,14 @@
  * Handles. `rncv_schema` holds nothing, or a schema, or a schema with a document in progress. Start each one as RNCV_NOTHING, pass its address,
  * and free it by rncv_schema_free. Do not change what is in it. Do not copy it and use both copies: rncv_schema_share makes a second one.
  *
- * Ownership. Each function copies what it keeps. The caller's bytes may go as soon as a function returns. The library allocates by `malloc`
+ * Ownership. Each function copies what it keeps. The caller may free its bytes as soon as a function returns. The library allocates by `malloc`
  * and `realloc`, and frees by `free`.
  *
  * Threads. There is no global state. Calls on different handles may run in different threads at the same time. Calls on one handle may not: give
- * each thread a handle of its own by rncv_schema_share. A handle may go to another thread between two calls.
+ * each thread a handle of its own by rncv_schema_share. A handle may move to another thread between two calls.
  *
- * What the caller must keep. The arguments of one call are different objects. No pointer is NULL, but where a comment allows it. No function is
- * called from a signal handler, or in the child of a fork of a process with several threads.
+ * Rules for the caller. The arguments of one call are different objects. No pointer is NULL, unless a comment allows it. Do not call a function from
+ * a signal handler, or in the child of a fork of a process with several threads.
  *
  * Output. The library writes nothing, opens no file, and does not end the process.
  */
@@ -45,7 +44,7 @@
 extern "C" {
 #endif
 
-/* A schema, and perhaps a document in progress. */
+/* A handle: a schema, and perhaps a document in progress. */
 typedef struct rncv_schema {
     void *hidden;
 } rncv_schema;
@@ -53,8 +52,8 @@ typedef struct rncv_schema {
 /* A handle that holds nothing. */
 #define RNCV_NOTHING {NULL}
 
-/* A file of a schema. `name` is UTF-8, and is what other files mention it by. The text need not end in a zero.
- * The pointers are not NULL, also where the length beside them is 0. */
+/* A file of a schema. `name` is UTF-8. Other files mention the file by this name. The text need not end in a zero.
+ * The pointers are not NULL, even if the length beside them is 0. */
 typedef struct rncv_file {
     const uint8_t *name;
     size_t name_length;
@@ -65,19 +64,19 @@ typedef struct rncv_file {
 /* Why files are refused: they break the clause S1 to S27 with this number (rncv_clause_title). */
 typedef struct rncv_fault {
     int32_t clause; /* 1 to 27 */
-    int64_t file;   /* the index of the first file with the name of the file that breaks the clause; -1 where the clause is not of one file,
+    int64_t file;   /* the index of the first file with the name of the file that breaks the clause; -1 if the clause is not about one file,
                        or no file with that name was passed */
-    int64_t offset; /* where in that file, in bytes from 0; for the clauses 3 to 8, else -1 */
-    int64_t line;   /* the line, from 1; CR LF, CR and LF end one each; for the clauses 3 to 8, else -1 */
-    int64_t column; /* the column, from 1, in characters as they are written; for the clauses 3 to 8, else -1 */
+    int64_t offset; /* where in that file, in bytes from 0, for the clauses 3 to 8; otherwise -1 */
+    int64_t line;   /* the line, from 1, for the clauses 3 to 8; otherwise -1. CR LF, CR and LF end a line each. */
+    int64_t column; /* the column, from 1, in characters as they are written, for the clauses 3 to 8; otherwise -1 */
 } rncv_fault;
 
-/* What a document is. */
+/* The verdict on a document. */
 typedef struct rncv_verdict {
     int32_t kind;   /* RNCV_VALID, RNCV_INVALID or RNCV_BROKEN */
-    int32_t clause; /* RNCV_BROKEN: the document breaks the clause P1 to P13 with this number; else 0 */
-    uint64_t line;  /* RNCV_INVALID: the line, from 1, after which no continuation is valid; RNCV_BROKEN: the line of the clause, 0 where
-                       it has none; RNCV_VALID: 0 */
+    int32_t clause; /* RNCV_BROKEN: the document breaks the clause P1 to P13 with this number; otherwise 0 */
+    uint64_t line;  /* RNCV_INVALID: the line, from 1, after which no continuation is valid; RNCV_BROKEN: the line of the clause, 0 if the
+                       document has no line; RNCV_VALID: 0 */
 } rncv_verdict;
 
 /* The kinds of a verdict. */
@@ -87,62 +86,61 @@ enum {
     RNCV_BROKEN = 2
 };
 
-/* The statuses. A comment below names those that a function answers, besides RNCV_DONE. */
+/* The statuses. The comment of each function names those that it returns besides RNCV_DONE. */
 enum {
     RNCV_DONE = 0,      /* the call did what it says */
     RNCV_REFUSED = 1,   /* the files of the schema break a clause */
     RNCV_MALFORMED = 2, /* the document breaks a clause */
-    RNCV_MEMORY = 3,    /* there was no memory */
+    RNCV_MEMORY = 3,    /* out of memory */
     RNCV_MISUSE = 4,    /* the handle does not hold what the call needs, or an argument is wrong */
     RNCV_SPACE = 5      /* the buffer is too small */
 };
 
-/* Compiles the schema of `count` files, of which the first is the main one, and puts it into `schema`. What `schema` held is freed.
+/* Compiles the schema of `count` files, the first of which is the main one, and puts it into `schema`. What `schema` held is freed.
  *
- * RNCV_REFUSED: the files break a clause, and `fault` says which. RNCV_MEMORY. RNCV_MISUSE: `count` is 0, or a name is not UTF-8.
- * Without RNCV_DONE `schema` stays as it was. Without RNCV_REFUSED `fault` stays as it was. `files` may be NULL where `count` is 0. */
+ * RNCV_REFUSED: the files break a clause, and `fault` says which. RNCV_MEMORY: out of memory. RNCV_MISUSE: `count` is 0, or a name is not UTF-8.
+ * Unless the status is RNCV_DONE, `schema` is unchanged. Unless it is RNCV_REFUSED, `fault` is unchanged. `files` may be NULL if `count` is 0. */
 int32_t rncv_compile(const rncv_file *files, size_t count, rncv_schema *schema, rncv_fault *fault);
 
-/* Makes `other` a second handle on the same schema, as for another thread. What `other` held is freed. Each of the two is freed by itself.
+/* Makes `other` a second handle on the same schema, for example for another thread. What `other` held is freed. Free each of the two by itself.
  * The schema is shared and not copied.
  *
- * RNCV_MEMORY. RNCV_MISUSE: `schema` holds no schema, or a document is in progress. Without RNCV_DONE `other` stays as it was. */
+ * RNCV_MEMORY: out of memory. RNCV_MISUSE: `schema` holds no schema, or a document is in progress. Unless the status is RNCV_DONE, `other` is
+ * unchanged. */
 int32_t rncv_schema_share(rncv_schema *schema, rncv_schema *other);
 
-/* Frees what the handle holds, and lets go of a document in progress. The handle holds nothing from then on. A second call does nothing. */
+/* Frees what the handle holds, a document in progress too. Then the handle holds nothing. A second call does nothing. */
 void rncv_schema_free(rncv_schema *schema);
 
-/* Begins a document. One that is in progress is let go of. What was worked out of the schema for earlier documents is kept, and makes this one
- * cheaper.
+/* Begins a document, and drops one that is in progress. What was worked out of the schema for earlier documents is kept, and makes this one cheaper.
  *
- * RNCV_MEMORY: no document is in progress; the handle still holds the schema. RNCV_MISUSE: the handle holds nothing. */
+ * RNCV_MEMORY: out of memory; no document is in progress, and the handle still holds the schema. RNCV_MISUSE: the handle holds nothing. */
 int32_t rncv_document_begin(rncv_schema *schema);
 
-/* Hands the next bytes of the document to it. A piece may end anywhere, in the middle of a line or of a character too.
- * `bytes` may be NULL where `length` is 0.
+/* Takes the next bytes of the document. A piece may end anywhere, even inside a line or a character. `bytes` may be NULL if `length` is 0.
  *
- * RNCV_MALFORMED: the document breaks a clause; rncv_document_end says which, and where. RNCV_MEMORY: there was no memory, or the document
- * came to 2^63 bytes. Each later call for this document answers the same. RNCV_MISUSE: no document is in progress. */
+ * RNCV_MALFORMED: the document breaks a clause; rncv_document_end says which, and where. RNCV_MEMORY: out of memory, or the document would have
+ * 2^63 bytes or more. After one of these two, each later call for this document returns the same. RNCV_MISUSE: no document is in progress. */
 int32_t rncv_document_feed(rncv_schema *schema, const uint8_t *bytes, size_t length);
 
-/* Writes the line, from 1, from which on nothing valid can begin to `line`, and 0 while no such line is known. Once it is known,
- * rncv_document_end tells RNCV_INVALID with this line, or RNCV_BROKEN, or answers RNCV_MEMORY. Takes no memory.
+/* Writes to `line` the line, from 1, after which no continuation is valid, or 0 while no such line is known. Once it is known, the verdict of
+ * rncv_document_end is RNCV_INVALID with this line, or RNCV_BROKEN, or its status is RNCV_MEMORY. Allocates nothing.
  *
- * RNCV_MISUSE: no document is in progress; `line` stays as it was. */
+ * RNCV_MISUSE: no document is in progress; `line` is unchanged. */
 int32_t rncv_document_invalid_since(rncv_schema *schema, uint64_t *line);
 
-/* Ends the document and writes the verdict on it to `verdict`. The handle holds the schema from then on, for the next document.
- * The status is RNCV_DONE whatever the verdict is.
+/* Ends the document and writes the verdict on it to `verdict`. Then the handle holds the schema, for the next document. The status is RNCV_DONE
+ * for every verdict.
  *
- * RNCV_MEMORY: there was no memory for the document; it has ended too, and `verdict` stays as it was. RNCV_MISUSE: no document is in progress;
- * `verdict` stays as it was. */
+ * RNCV_MEMORY: memory ran out for the document; it has ended, and `verdict` is unchanged. RNCV_MISUSE: no document is in progress; `verdict` is
+ * unchanged. */
 int32_t rncv_document_end(rncv_schema *schema, rncv_verdict *verdict);
 
 /* Writes the simple form of the schema, as text, to `buffer`, which has `size` bytes, and the text's length to `length`. The text does not end in
- * a zero. `buffer` may be NULL where `size` is 0. Each call prints the form anew.
+ * a zero. `buffer` may be NULL if `size` is 0. Each call prints the form anew.
  *
- * RNCV_SPACE: the text does not fit; nothing is written to `buffer`, and `length` says how many bytes it wants. RNCV_MEMORY and RNCV_MISUSE:
- * `length` stays as it was; misuse is that the handle holds no schema, or a document is in progress. */
+ * RNCV_SPACE: the text does not fit; nothing is written to `buffer`, and `length` is the number of bytes that it needs. RNCV_MEMORY: out of memory.
+ * RNCV_MISUSE: the handle holds no schema, or a document is in progress. After these two `length` is unchanged. */
 int32_t rncv_simple(rncv_schema *schema, uint8_t *buffer, size_t size, size_t *length);
 
 /* The title of a clause, in English: group 'S' with 1 to 27, or group 'P' with 1 to 13. NULL for any other. The text is constant, ends in a

@@ -81,7 +81,7 @@ class Judging:
             self.kept.extend(batch)
 
     def found_invalid(self, line: Optional[int]) -> None:
-        """Takes the line of which the library says that nothing valid begins so."""
+        """Takes the line after which the library says that no continuation is valid."""
         if line is not None and self._standings:
             self.invalid = line, self.standing(line)
 

@@ -5,16 +5,16 @@
     with rncv.compile("examples/letter/s.rnc") as validator, open("examples/letter/document.pyx", "rb") as document:
         print(validator.validate(document))
 
-A schema is a set of files in the RELAX NG Compact Syntax. A document is in the notation of PYX, one event a line (docs/XML.md says how XML is turned
-into it). A schema is compiled once and judges documents one after the other.
+A schema is a set of files in the RELAX NG Compact Syntax. A document is in PYX, one event a line (docs/XML.md says how to make it of XML). A schema is
+compiled once, and then judges documents, one after the other.
 
-The library is the file that the variable RNCV_LIBRARY names, or `lib/librncv.so` in the folder that it names; else it is looked for beside this
-package, in `build/library/lib` of the checkout that this package is in, where `make install` put it beside this package, and where the system keeps
-libraries. It is loaded at the first call that wants it.
+The variable RNCV_LIBRARY names the library, or a folder that has `lib/librncv.so`. Without it the module looks beside this package, in
+`build/library/lib` of the checkout that has this package, where `make install` put the library, and where the system keeps libraries. It loads the
+library at the first call that needs it.
 
 Threads. A validator judges one document at a time: a second one at the same time is a RuntimeError. `Validator.share` makes another validator by the
-same schema, for another thread. The library runs without the lock of the interpreter. No object of this module is copied or pickled. After `os.fork`
-in a process with several threads the child does not use the validators of its parent.
+same schema, for another thread. The library runs without the lock of the interpreter. No object of this module can be copied or pickled. After
+`os.fork` in a process with several threads, do not use the validators of the parent in the child.
 """
 
 from __future__ import annotations
@@ -59,9 +59,9 @@ class LibraryError(OSError):
 class SchemaError(ValueError):
     """The files are not a schema: they break a clause, S1 to S27.
 
-    `clause` is its number, and `title` says in English what it asks for. `file` is the name of the file that breaks it, and `index` the place of the
-    first file with this name; both are None where the clause is not of one file, or where that file was not handed in. For
-    S3 to S8 `offset` is where in the file it does, in bytes from 0, and `line` and `column` count from 1; for the other clauses these are None.
+    `clause` is its number, and `title` says in English what it requires. `file` is the name of the file that breaks it, and `index` the position of the
+    first file with this name. Both are None if the clause is not about one file, or if that file was not handed in. For S3 to S8 `offset`, in bytes
+    from 0, and `line` and `column`, from 1, say where the file breaks the clause. For the other clauses these are None.
     """
 
     def __init__(
@@ -85,11 +85,11 @@ class SchemaError(ValueError):
 
 @dataclasses.dataclass(frozen=True)
 class Verdict:
-    """What a document is. It is true exactly if the document is valid, and `str` of it is the answer of the program.
+    """The verdict on a document. It is true exactly if the document is valid, and `str` of it is the answer of the program.
 
-    `kind` is "valid", "invalid" or "malformed". `clause` is the number of the clause P1 to P13 that a malformed document breaks, else 0. `line` counts
-    from 1: of an invalid document the line after which no continuation is valid, of a malformed one the line of the clause, or 0 where it has none;
-    0 for a valid one.
+    `kind` is "valid", "invalid" or "malformed". `clause` is the number of the clause P1 to P13 that a malformed document breaks, otherwise 0. `line`
+    counts from 1. For an invalid document it is the line after which no continuation is valid. For a malformed one it is the line of the clause, or 0
+    if the document has no line. For a valid one it is 0.
     """
 
     kind: str
@@ -103,7 +103,7 @@ class Verdict:
 
     @property
     def title(self) -> Optional[str]:
-        """What the clause asks for, in English; None where the document breaks none."""
+        """What the clause requires, in English; None if the document breaks none."""
         return clause_title("P", self.clause)
 
     def __bool__(self) -> bool:
@@ -133,7 +133,7 @@ class _File(ctypes.Structure):
 
 
 class _Fault(ctypes.Structure):
-    """Why files are refused, as the library tells it."""
+    """Why files are refused, as the library reports it."""
 
     _fields_ = [
         ("clause", ctypes.c_int32),
@@ -145,7 +145,7 @@ class _Fault(ctypes.Structure):
 
 
 class _Verdict(ctypes.Structure):
-    """What a document is, as the library tells it."""
+    """The verdict on a document, as the library reports it."""
 
     _fields_ = [("kind", ctypes.c_int32), ("clause", ctypes.c_int32), ("line", ctypes.c_uint64)]
 
@@ -171,10 +171,10 @@ class Validator:
         self._free.atexit = False
 
     def validate(self, document: Union[Bytes, BinaryIO, Iterable[Bytes]]) -> Verdict:
-        """Judges a document: bytes, a binary file, which is read from where it stands to its end, or pieces that come one after the other.
+        """Judges a document: bytes, a binary file, which is read from its position to its end, or pieces that come one after the other.
 
-        No more of a file or of the pieces is taken once the document is malformed. An exception of the file or of the pieces goes to the caller, and
-        the validator can judge the next document. RuntimeError: another document is in progress. MemoryError: there was no memory.
+        Once the document is malformed, no more of a file or of the pieces is read. An exception of the file or of the pieces goes to the caller, and
+        the validator can judge the next document. RuntimeError: another document is in progress. MemoryError: out of memory.
         """
         pieces = _pieces_of(document)
         with self.begin() as begun:
@@ -186,8 +186,7 @@ class Validator:
     def begin(self) -> Document:
         """Begins a document, which is then fed piece by piece.
 
-        RuntimeError: another document is in progress; it is one until it is finished, closed, or no longer referred to. MemoryError: there was no
-        memory.
+        RuntimeError: another document is in progress, that is, not finished, not closed, and still referred to. MemoryError: out of memory.
         """
         with self._lock:
             self._want_free()
@@ -200,9 +199,9 @@ class Validator:
             return document
 
     def share(self) -> Validator:
-        """Another validator by the same schema, which is not copied: as for another thread. Each of the two is closed by itself.
+        """Returns another validator by the same schema, for example for another thread. The schema is not copied. Close each of the two by itself.
 
-        RuntimeError: a document is in progress. MemoryError: there was no memory.
+        RuntimeError: a document is in progress. MemoryError: out of memory.
         """
         with self._lock:
             self._let_go()
@@ -211,9 +210,9 @@ class Validator:
             return Validator(other)
 
     def simple_text(self) -> bytes:
-        """The simple form of the schema, printed: a schema in the compact syntax again.
+        """Returns the printed simple form of the schema, which is a schema in the compact syntax itself.
 
-        RuntimeError: a document is in progress. MemoryError: there was no memory.
+        RuntimeError: a document is in progress. MemoryError: out of memory.
         """
         with self._lock:
             self._let_go()
@@ -227,7 +226,7 @@ class Validator:
                     return ctypes.string_at(text, length.value)
 
     def close(self) -> None:
-        """Frees the schema, and lets go of a document in progress. A second call does nothing."""
+        """Frees the schema, and drops a document in progress. A second call does nothing."""
         with self._lock:
             self._closed, self._document = True, None
             self._free()
@@ -252,14 +251,14 @@ class Validator:
             raise ValueError("the validator is closed")
 
     def _want_free(self) -> None:
-        """Wants that no document is in progress to which somebody refers."""
+        """Raises an error if a document is in progress to which somebody refers."""
         self._want_open()
         if self._document is not None and self._document() is not None:
             raise RuntimeError("a document is in progress: a validator judges one at a time, and Validator.share makes another one")
         self._document = None
 
     def _let_go(self) -> None:
-        """Wants that no document is in progress, and lets go of one to which nobody refers."""
+        """Raises an error if a document is in progress, and drops one to which nobody refers."""
         self._want_free()
         self._library.rncv_document_end(self._handle, _Verdict())
 
@@ -267,17 +266,17 @@ class Validator:
 class Document:
     """A document in progress. `Validator.begin` makes one.
 
-    A `with` block lets go of it at its end. Every call on one that was finished or let go of raises ValueError.
+    A `with` block drops it at its end. Every call on one that was finished or dropped raises ValueError.
     """
 
     def __init__(self, validator: Validator) -> None:
         self._validator = validator
 
     def feed(self, piece: Bytes) -> bool:
-        """Takes the next bytes. A piece may end anywhere, in the middle of a line or of a character too.
+        """Takes the next bytes. A piece may end anywhere, even inside a line or a character.
 
-        It answers False once the document is malformed, and then more bytes change nothing; else True. MemoryError: there was no memory, and each
-        later call for this document says the same.
+        Returns False once the document is malformed, and then more bytes change nothing; otherwise True. MemoryError: out of memory, and each later
+        call for this document raises it too.
         """
         if type(piece) is bytes and len(piece) <= _CALL_BYTES:
             return self._feed_part(piece)
@@ -285,7 +284,7 @@ class Document:
             return all(map(self._feed_part, parts))
 
     def invalid_since(self) -> Optional[int]:
-        """The line, from 1, from which on nothing valid can begin; None while no such line is known."""
+        """Returns the line, from 1, after which no continuation is valid; None while no such line is known."""
         line = ctypes.c_uint64()
         with self._validator._lock:
             self._want_progress()
@@ -293,7 +292,7 @@ class Document:
         return line.value or None
 
     def finish(self) -> Verdict:
-        """Ends the document. The validator is free for the next one. MemoryError: there was no memory for the document, which has ended too."""
+        """Ends the document, and returns the verdict. The validator can judge the next one. MemoryError: memory ran out; the document has ended."""
         told = _Verdict()
         with self._validator._lock:
             self._want_progress()
@@ -303,7 +302,7 @@ class Document:
         return Verdict(_KINDS[told.kind], told.clause, told.line)
 
     def close(self) -> None:
-        """Lets go of the document, without a verdict. Does nothing where it has ended."""
+        """Drops the document, without a verdict. Does nothing if it has ended."""
         with self._validator._lock:
             if self._is_in_progress():
                 self._validator._document = None
@@ -321,7 +320,7 @@ class Document:
         raise TypeError("a document is not copied or pickled")
 
     def _feed_part(self, part: bytes) -> bool:
-        """Takes bytes that are just `bytes`, in one call; the answer is that of `feed`."""
+        """Takes bytes that are just `bytes`, in one call; returns what `feed` returns."""
         with self._validator._lock:
             self._want_progress()
             status = self._validator._library.rncv_document_feed(self._validator._handle, part, len(part))
@@ -349,14 +348,14 @@ def compile(*paths: Path) -> Validator: ...
 
 
 def compile(*files: Any) -> Validator:
-    """Compiles the schema of these files, of which the first is the main one.
+    """Compiles the schema of these files, the first of which is the main one.
 
-    They are paths, or one mapping of names to bytes. The name of a file is what other files mention it by, byte for byte: the path as it was given, or
-    the name in the mapping. (`pathlib` gives `./a.rnc` as `a.rnc`.) Of a file at most 1,048,577 bytes are read, since a longer one is refused. Files
-    that nest very deeply in one another may want more stack than the thread has, and that ends the process: docs/LIBRARY.md has figures.
+    They are paths, or one mapping of names to bytes. Other files mention a file by its name, byte for byte: the path as it was given, or the name in
+    the mapping. (`pathlib` gives `./a.rnc` as `a.rnc`.) At most 1,048,577 bytes of a file are read, since a longer one is refused. Files that nest very
+    deeply in one another may need more stack than the thread has, and that ends the process: docs/LIBRARY.md has figures.
 
-    SchemaError: the files break a clause. OSError: a file cannot be read. ValueError: there is no file, or a name is not UTF-8. MemoryError: there was
-    no memory. LibraryError: there is no library.
+    SchemaError: the files break a clause. OSError: a file cannot be read. ValueError: there is no file, or a name is not UTF-8. MemoryError: out of
+    memory. LibraryError: there is no library.
     """
     library = _library()
     if len(files) == 1 and isinstance(files[0], Mapping):
@@ -380,7 +379,7 @@ def compile(*files: Any) -> Validator:
 
 
 def clause_title(group: str, clause: int) -> Optional[str]:
-    """The title of a clause, in English: group "S" with 1 to 27, or group "P" with 1 to 13. None for any other."""
+    """Returns the title of a clause, in English: group "S" with 1 to 27, or group "P" with 1 to 13. None for any other."""
     if group not in ("S", "P") or not 0 < clause < 100:
         return None
     title: Optional[bytes] = _library().rncv_clause_title(group.encode("ascii"), clause)
@@ -388,12 +387,12 @@ def clause_title(group: str, clause: int) -> Optional[str]:
 
 
 def _known(number: int) -> Optional[int]:
-    """A number that the library tells, where -1 is none."""
+    """A number that the library returns, or None for -1."""
     return None if number < 0 else number
 
 
 def _want_done(status: int) -> None:
-    """Wants that a call was done."""
+    """Raises an error if a call failed."""
     if status == _MEMORY:
         raise MemoryError("rncv: out of memory")
     if status != _DONE:

@@ -6,15 +6,9 @@ use Rattle.std.specs.Str.{chars, is_utf8}
 use Rattle.rng_model.specs.names.Characters.{is_ncname, is_xml_char}
 use Rattle.rng_model.specs.documents.Lines.{Line, line_limit}
 use Rattle.rng_model.specs.documents.PyxLines.{Said, WrittenName, start, attribute, text, end, instruction}
-use Rattle.pyx.specs.plain.Cuts.{behind, either_way, at_byte, unescaped}
-
--- a name, cut at its first colon
-abbrev pub cut_name : Option (List ℕ × List ℕ) → List ℕ → WrittenName
-cut_name None bytes = record { prefix = None; local = bytes }
-cut_name (Some p) bytes = record { prefix = Some p.0; local = p.1 }
-
-unfoldable pub written_of : List ℕ → WrittenName
-written_of bytes = cut_name (at_byte 58 bytes) bytes
+use Rattle.pyx_namespaces.specs.plain.Cuts.{behind, either_way, at_byte}
+use Rattle.pyx_namespaces.specs.plain.WrittenNames.{written_of}
+use Rattle.pyx.specs.plain.Escapes.{unescaped}
 
 abbrev pub are_ncnames : Option (List ℕ × List ℕ) → List ℕ → Bool
 are_ncnames None bytes = is_ncname (chars bytes)

@@ -1,6 +1,6 @@
 -- The view of the open elements, and the names that are known among them.
 use Rattle.std.specs.Prelude.{◌≡◌, ◌<◌, ◌≤◌, ℕ, List, [], map, reverse, slice_index_or, Result, Ok, Err, Option, Some, None, string_bytes}
-use Rattle.std.specs.Prelude.{Bool, false, true, ◌∷◌, length}
+use Rattle.std.specs.Prelude.{Bool, false, true, ◌∷◌, ◌++◌, length, take, drop}
 use Rattle.std.specs.List.{All}
 use Rattle.rng_model.specs.names.Names.{Name}
 use Rattle.rng_model.specs.documents.PyxNamespaces.{WrittenAttribute}
@@ -9,13 +9,16 @@ use Rattle.rng_model.specs.names.NameViews.{name_of}
 use Rattle.rng_model.specs.declared.document.Attr.{Attr}
 use Rattle.pyx.specs.declared.fault.LineFault.{LineFault}
 use Rattle.pyx.specs.declared.fault.LineFault.TheVariants as faults
-use Rattle.pyx.specs.declared.written.WrittenAttribute as written
-use Rattle.pyx.specs.declared.scope.OpenElement.{OpenElement}
+use Rattle.pyx_namespaces.specs.declared.written.WrittenAttribute as written
+use Rattle.pyx.specs.declared.elements.OpenElement.{OpenElement}
 use Rattle.pyx.specs.declared.known.KnownName.{KnownName}
 use Rattle.rng_model.specs.documents.PyxLines.{WrittenName}
-use Rattle.pyx.specs.plain.LineReader.{is_name, written_of}
-use Rattle.pyx.specs.plain.TagReader.{Declared, Element, element_name, same_written}
-use Rattle.pyx.specs.plain.DocumentReader.{Open, declared_in}
+use Rattle.pyx.specs.plain.LineReader.{is_name}
+use Rattle.pyx_namespaces.specs.plain.WrittenNames.{written_of}
+use Rattle.pyx_namespaces.specs.views.WrittenAttributes.{written_attribute}
+use Rattle.pyx_namespaces.specs.plain.Declarations.{Declared, same_written}
+use Rattle.pyx.specs.plain.TagReader.{Element, element_name}
+use Rattle.pyx.specs.plain.DocumentReader.{Open}
 
 -- the clause of a fault of a tag; none if memory ran out
 abbrev pub clause_of : LineFault → Option ℕ
@@ -27,26 +30,26 @@ abbrev pub resolved : {A : Type 0} → Option A → Result A ℕ
 resolved None = Err 11
 resolved (Some a) = Ok a
 
-abbrev pub written_attribute : written.WrittenAttribute → WrittenAttribute
-written_attribute a = record { name = written_of (string_bytes a.name); content = string_bytes a.value }
-
--- the name of one of its lines, as it is written
-abbrev pub written_bytes : written.WrittenAttribute → List ℕ
-written_bytes a = string_bytes a.name
-
 abbrev pub open_as : List ℕ → List written.WrittenAttribute → Open
 open_as name declarations = record { name = written_of name; declared = map written_attribute declarations }
 
-abbrev pub open_of : OpenElement → Open
-open_of e = open_as (string_bytes e.name) e.declarations.items
+abbrev pub open_with : OpenElement → List WrittenAttribute → Open
+open_with e ds = record { name = written_of (string_bytes e.name); declared = ds }
 
--- the open elements, the innermost first
-abbrev pub stack_of : List OpenElement → List Open
-stack_of opened = reverse (map open_of opened)
+-- The open elements, the innermost first. The declarations are in one list, the innermost first. Each element has its
+-- number of them.
+abbrev pub stack_in : List OpenElement → List WrittenAttribute → List Open
+stack_in [] ds = []
+stack_in (e ∷ outer) ds = open_with e (take e.count ds) ∷ stack_in outer (drop e.count ds)
 
--- the declarations that hold inside these open elements
-abbrev pub scope_of : List OpenElement → Declared
-scope_of opened = declared_in (stack_of opened)
+-- the same for elements of which the innermost is last
+abbrev pub stack_of : List OpenElement → List WrittenAttribute → List Open
+stack_of opened ds = stack_in (reverse opened) ds
+
+-- the declarations of all elements
+abbrev pub all_declared : List Open → List WrittenAttribute
+all_declared [] = []
+all_declared (o ∷ outer) = o.declared ++ all_declared outer
 
 -- ---- names that are known
 
@@ -75,9 +78,11 @@ IsJudged bytes = 0 < length bytes → is_name bytes ≡ true
 abbrev pub IsNamed : OpenElement → Type 0
 IsNamed e = IsJudged (string_bytes e.name)
 
--- what is kept: the open elements, the name of the tag that has begun, and the names that are known
-pub record AreKept (opened : List OpenElement) (begun : List ℕ) (round : ℕ) (names : List KnownName) : Type 0 where
-  pub known : AreKnown (scope_of opened) round names
+-- what is kept: the open elements, their declarations, the name of the tag that has begun, and the names that are known
+pub record AreKept (opened : List OpenElement) (ds : List WrittenAttribute) (begun : List ℕ) (round : ℕ) (names : List KnownName) : Type 0 where
+  pub known : AreKnown (ds ∷ []) round names
+  -- no declaration is of no element
+  pub whole : all_declared (stack_of opened ds) ≡ ds
   pub judged : IsJudged begun
   pub all_judged : All IsNamed opened
 

@@ -7,7 +7,7 @@ use Rattle.rng_model.specs.matching.SchemaMatching.{IsValidBySchema}
 use Rattle.rncv_model.specs.answers.Verdict.{IsMalformed, IsValidDocument}
 use Rattle.rncv_model.specs.declared.verdict.Verdict.{Verdict}
 use Rattle.rncv_model.specs.declared.verdict.Verdict.TheVariants.{Invalid}
-use Rattle.rncv_validator.specs.views.Documents.{HasBeenFed, IsFaultOfFed, Judging, UnlessMemory, failed_since, told_by}
+use Rattle.rncv_validator.specs.views.Documents.{HasBeenFed, IsFaultOfFed, Judging, KnowsAllNames, UnlessMemory, failed_since, told_by}
 use Rattle.rncv_validator.specs.views.Validators.{Judges}
 use Rattle.rncv_validator.specs.declared.fault.DocumentFault.{DocumentFault}
 use Rattle.rncv_validator.specs.declared.fault.DocumentFault.TheVariants as faults
@@ -64,8 +64,9 @@ pub record HasEnded (document : Judging) (number : ℤ) (old new : Judgement) : 
   pub told : new ≡ told_at_end old answer
 
 -- The line after which no continuation is valid, or 0 if it is not known. If it is known, no document that begins with
--- what was fed is valid.
+-- what was fed is valid. If it is not, each start that was fed has a name that some element may have.
 pub record IsInvalidSince (line : ℕ) (document : Judging) : Type 0 where
   pub value : line ≡ unwrap_or (failed_since document) 0
   pub hopeless : IfSome (failed_since document) (λ since. (s : Schema) (bytes rest : List ℕ) → Judges document.grammar s
       → HasBeenFed document bytes → ¬ (IsValidDocument (IsValidBySchema s) (bytes ++ rest)))
+  pub known : failed_since document ≡ None → document.fault ≡ None → (bytes : List ℕ) (fed : HasBeenFed document bytes) → KnowsAllNames document bytes fed

@@ -5,21 +5,20 @@ use Rattle.rng_model.specs.simple.Tree.{Simple}
 use Rattle.rng_model.specs.matching.Reading.{Reading}
 use Rattle.rng_deriv_laws.specs.plain.LevelEvents.{LevelMatcher}
 use Rattle.rng_pattern_table.specs.declared.pattern.PatternNumber.{PatternNumber}
+use Rattle.rng_levels.specs.declared.link.Link.{Link}
 use Rattle.rng_deriv.specs.views.Numbers.{IsInside, tree_of}
-use Rattle.rng_deriv.specs.views.States.{IsStateInside, state_of}
-use Rattle.rng_deriv.specs.views.Positions.{IsPositionInside, IsPositionOf}
-use Rattle.rng_deriv.specs.declared.links.Link.{Link}
-use Rattle.rng_deriv.specs.declared.state.Level.{Level}
-use Rattle.rng_deriv.specs.declared.state.State.{State}
-use Rattle.rng_deriv.specs.declared.position.Position.{Position}
+use Rattle.rng_deriv.specs.views.OpenPositions.{OpenPosition, open_level}
+use Rattle.rng_deriv.specs.views.States.{IsStateInside, OpenLevel, OpenState, state_of}
+use Rattle.rng_deriv.specs.views.Positions.{IsPositionOf}
+use Rattle.rng_deriv.specs.declared.state.WaysOut.{WaysOut}
 
 -- what the ways out of an element leave
 abbrev pub rests_of : List Link → List PatternNumber
 rests_of links = map (λ l. l.rest) links
 
 -- what the ways out of all these elements leave
-abbrev pub rests_in : List Level → List PatternNumber
-rests_in levels = flat_map (λ l. rests_of l.links.items) levels
+abbrev pub rests_in : List WaysOut → List PatternNumber
+rests_in levels = flat_map (λ (l : WaysOut). rests_of l.links.items) levels
 
 -- the links, each with one of the numbers as its rest
 abbrev pub with_rests : List Link → List PatternNumber → List Link
@@ -36,16 +35,19 @@ pub record IsLinkRenewed (old new : List (Simple ℕ)) (l k : Link) : Type 0 whe
   pub outer : k.outer ≡ l.outer
   pub rest : IsRenewed old new l.rest k.rest
 
-pub record IsLevelRenewed (old new : List (Simple ℕ)) (l k : Level) : Type 0 where
+pub record IsLevelRenewed (old new : List (Simple ℕ)) (l k : OpenLevel) : Type 0 where
   pub around : k.around ≡ l.around
-  pub links : AllZip (IsLinkRenewed old new) l.links.items k.links.items
+  pub links : AllZip (IsLinkRenewed old new) l.links k.links
+
+-- the same of what is stored
+abbrev pub AreWaysRenewed : List (Simple ℕ) → List (Simple ℕ) → WaysOut → WaysOut → Type 0
+AreWaysRenewed old new l k = IsLevelRenewed old new (open_level l) (open_level k)
 
 -- the states are the same over trees
-pub record IsStateRenewed (old new : List (Simple ℕ)) (s t : State) : Type 0 where
+pub record IsStateRenewed (old new : List (Simple ℕ)) (s t : OpenState) : Type 0 where
   pub inside : IsStateInside new t
   pub same : state_of new t ≡ state_of old s
 
 -- the positions are the same over level states
-pub record IsPositionRenewed (old new : List (Simple ℕ)) (p q : Position) : Type 0 where
-  pub inside : IsPositionInside new q
-  pub same : (g : Reading) (m : LevelMatcher) → IsPositionOf g old p m → IsPositionOf g new q m
+abbrev pub IsPositionRenewed : List (Simple ℕ) → List (Simple ℕ) → OpenPosition → OpenPosition → Type 0
+IsPositionRenewed old new p q = (g : Reading) (m : LevelMatcher) → IsPositionOf g old p m → IsPositionOf g new q m

@@ -10,7 +10,7 @@ use Rattle.rng_deriv_laws.specs.plain.LevelStates.{AreOpened, AreEnded, IsAfterT
 use Rattle.rng_pattern_table.specs.declared.pattern.PatternNumber.{PatternNumber}
 use Rattle.rng_deriv.specs.views.Numbers.{Longer, IsInside, tree_of}
 use Rattle.rng_deriv.specs.declared.derivatives.StartWay.{StartWay}
-use Rattle.rng_deriv.specs.declared.links.Link.{Link}
+use Rattle.rng_levels.specs.declared.link.Link.{Link}
 
 abbrev pub link_of : List (Simple ℕ) → Link → level.Link
 link_of trees l = record { inner = l.inner; outer = l.outer; rest = tree_of trees l.rest }

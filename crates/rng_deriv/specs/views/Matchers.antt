@@ -6,6 +6,7 @@ use Rattle.rng_model.specs.matching.Reading.{Reading}
 use Rattle.rng_model.specs.matching.GrammarReading.{reading_of}
 use Rattle.rng_pattern_table.specs.views.Node.{Node}
 use Rattle.rng_pattern_table.specs.views.Trees.{trees}
+use Rattle.rng_deriv.specs.views.Basis.{Basis}
 use Rattle.rng_deriv.specs.views.Positions.{IsFailed, IsKnown, IsLost, IsProgressInside}
 use Rattle.rng_deriv.specs.views.Serving.{Serves, nodes_of}
 use Rattle.rng_deriv.specs.declared.matcher_state.MatcherState.{MatcherState}
@@ -18,8 +19,8 @@ pub record Matching : Type 0 where
   pub patterns : List Node
   pub progress : Progress
 
-abbrev pub matching_of : (Table × List Node) × Progress → Matching
-matching_of m = record { grammar = m.0.0; patterns = m.0.1; progress = m.1 }
+abbrev pub matching_of : (Basis × List Node) × Progress → Matching
+matching_of m = record { grammar = m.0.0.grammar; patterns = m.0.1; progress = m.1 }
 
 -- the grammar that documents are judged by
 abbrev pub judges_by : Matching → Reading
@@ -59,4 +60,4 @@ matching_in t s = record { grammar = t; patterns = nodes_of s.learned; progress 
 -- the state is that of a matcher by this grammar
 pub record IsStateBy (t : Table) (s : MatcherState) : Type 0 where
   pub serves : Serves t s.learned
-  pub inside : IsProgressInside (trees t (nodes_of s.learned)) s.progress
+  pub inside : IsProgressInside (reading_of t) s.learned.keys (trees t (nodes_of s.learned)) s.progress

@@ -1,9 +1,6 @@
 -- The patterns of a grammar in a table, for a matcher.
 use Rattle.std.specs.Prelude.{⊤, List, [], Bool, true, false}
-use Rattle.smallvec.specs.SmallVec.{SmallVec}
-use Rattle.std.specs.HashMap.{HashMap}
 use Rattle.rng_names.specs.plain.Keys.{Keys, KeysServe}
-use Rattle.rng_deriv.specs.declared.derivatives.StartWay.{StartWay}
 use Rattle.rng_model.specs.simple.Table.{Table, grammar_of}
 use Rattle.rng_model.specs.restrictions.BreaksNone.{BreaksNone}
 use Rattle.rng_pattern_table.specs.views.Node.{Node}
@@ -11,9 +8,8 @@ use Rattle.rng_pattern_table.specs.declared.pattern.PatternNumber.{PatternNumber
 use Rattle.rng_pattern_derivatives.specs.views.KnownWays.{AreAllKnown}
 use Rattle.rng_pattern_derivatives.specs.plain.Starting.{IsReady, HasRestrictedBodies}
 use Rattle.rng_pattern_derivatives.specs.declared.known.Known.{Known}
-use Rattle.rng_deriv.specs.views.StartMemo.{AreAnswers}
+use Rattle.rng_deriv.specs.views.Basis.{Basis}
 use Rattle.rng_deriv.specs.declared.learned.Learned.{Learned}
-use Rattle.rng_deriv.specs.declared.start_memo.StartKey.{StartKey}
 
 -- the grammar obeys the restrictions, its patterns are in the table under these numbers, and the bodies of its elements
 -- obey the restrictions there too
@@ -22,15 +18,19 @@ pub record IsServed (t : Table) (ns : List Node) (numbers : List PatternNumber) 
   pub ready : IsReady t ns numbers
   pub bodies : HasRestrictedBodies t ns numbers
 
--- the table is so, and what is kept of starts and known of ways is right for it, unless a call ran out of memory
-abbrev pub IsServedBy : {Z : Type 0} → Table → Keys → Bool → List Node → List PatternNumber → HashMap StartKey (SmallVec StartWay) Z → Known → Type 0
-IsServedBy t keys true ns numbers memo known = ⊤
-IsServedBy t keys false ns numbers memo known = IsServed t ns numbers × KeysServe t keys × AreAnswers t ns keys memo × AreAllKnown t keys ns known
+-- the table is so, and what is known of ways is right for it, unless a call ran out of memory
+abbrev pub IsServedBy : Table → Keys → Bool → List Node → List PatternNumber → Known → Type 0
+IsServedBy t keys true ns numbers known = ⊤
+IsServedBy t keys false ns numbers known = IsServed t ns numbers × KeysServe t keys × AreAllKnown t keys ns known
 
 -- the patterns of a table; none after a call ran out of memory
 abbrev pub nodes_unless : Bool → List Node → List Node
 nodes_unless true ns = []
 nodes_unless false ns = ns
+
+-- a grammar and its patterns, of what contracts see
+abbrev pub seen_of : Basis × List Node → Table × List Node
+seen_of d = (d.0.grammar, d.1)
 
 -- the patterns of what was learned
 abbrev pub nodes_of : Learned → List Node
@@ -38,4 +38,4 @@ nodes_of l = nodes_unless l.lost l.table
 
 -- this was learned about this grammar
 abbrev pub Serves : Table → Learned → Type 0
-Serves t l = IsServedBy t l.keys l.lost l.table l.numbers.items l.memo l.known
+Serves t l = IsServedBy t l.keys l.lost l.table l.numbers.items l.known

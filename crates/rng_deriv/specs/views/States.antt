@@ -1,4 +1,4 @@
--- What a matcher keeps of the open elements, and the level state that it represents.
+-- What a matcher knows of the open elements, as lists of numbers, and the level state that it represents.
 use Rattle.std.specs.Prelude.{◌≡◌, ◌⊎◌, ℕ, List, [], ◌∷◌, All, fold, map, Bool}
 use Rattle.rng_model.specs.simple.Tree.{Simple}
 use Rattle.rng_model.specs.matching.Reading.{Reading}
@@ -6,29 +6,39 @@ use Rattle.rng_deriv_laws.specs.plain.LevelStates as level
 use Rattle.rng_deriv_laws.specs.plain.LevelStates.{LevelState, AreEnded, EndsLevel}
 use Rattle.rng_deriv.specs.views.Numbers.{Longer, IsInside, tree_of}
 use Rattle.rng_deriv.specs.views.Levels.{link_of, IsRestWithin}
-use Rattle.rng_deriv.specs.declared.state.Level.{Level}
-use Rattle.rng_deriv.specs.declared.state.State.{State}
+use Rattle.rng_pattern_table.specs.declared.pattern.PatternNumber.{PatternNumber}
+use Rattle.rng_levels.specs.declared.link.Link.{Link}
 
-abbrev pub with_level : List (Simple ℕ) → List (List level.Link) → Level → List (List level.Link)
-with_level trees levels l = map (link_of trees) l.links.items ∷ levels
+-- an open element: the number of alternatives around it, and the ways out into them
+pub record OpenLevel : Type 0 where
+  pub around : ℕ
+  pub links : List Link
+
+-- the alternatives for what remains of the innermost open element, and the open elements, the innermost last
+pub record OpenState : Type 0 where
+  pub now : List PatternNumber
+  pub levels : List OpenLevel
+
+abbrev pub with_level : List (Simple ℕ) → List (List level.Link) → OpenLevel → List (List level.Link)
+with_level trees levels l = map (link_of trees) l.links ∷ levels
 
 -- the levels as lists of links over trees, the innermost first
-abbrev pub levels_of : List (Simple ℕ) → List Level → List (List level.Link)
+abbrev pub levels_of : List (Simple ℕ) → List OpenLevel → List (List level.Link)
 levels_of trees levels = fold (with_level trees) [] levels
 
-abbrev pub state_of : List (Simple ℕ) → State → LevelState
-state_of trees s = record { now = map (tree_of trees) s.now.items; levels = levels_of trees s.levels.items }
+abbrev pub state_of : List (Simple ℕ) → OpenState → LevelState
+state_of trees s = record { now = map (tree_of trees) s.now; levels = levels_of trees s.levels }
 
 -- the links lead to alternatives around, and what they leave has a number of the table
-abbrev pub IsLevelInside : List (Simple ℕ) → Level → Type 0
-IsLevelInside trees l = All (IsRestWithin trees l.around) l.links.items
+abbrev pub IsLevelInside : List (Simple ℕ) → OpenLevel → Type 0
+IsLevelInside trees l = All (IsRestWithin trees l.around) l.links
 
-pub record IsStateInside (trees : List (Simple ℕ)) (s : State) : Type 0 where
-  pub now : All (IsInside trees) s.now.items
-  pub levels : All (IsLevelInside trees) s.levels.items
+pub record IsStateInside (trees : List (Simple ℕ)) (s : OpenState) : Type 0 where
+  pub now : All (IsInside trees) s.now
+  pub levels : All (IsLevelInside trees) s.levels
 
 -- the level state of the state satisfies `Is`, in a table that may have grown
-pub record AddsState (Is : LevelState → Type 0) (old new : List (Simple ℕ)) (s : State) : Type 0 where
+pub record AddsState (Is : LevelState → Type 0) (old new : List (Simple ℕ)) (s : OpenState) : Type 0 where
   pub longer : Longer old new
   pub inside : IsStateInside new s
   pub is : Is (state_of new s)

@@ -14,6 +14,7 @@ use Rattle.rng_deriv_laws.specs.plain.Reading.{body_of}
 use Rattle.rng_deriv_laws.specs.plain.Derivatives as tree
 use Rattle.rng_deriv_laws.specs.plain.Derivatives.{bodies_of, started}
 use Rattle.rng_deriv_laws.specs.plain.Ways.{EachWay, Opens}
+use Rattle.rng_pattern_table.specs.plain.AskedFor.{IsAskedFor}
 use Rattle.rng_pattern_table.specs.views.Node.{Node}
 use Rattle.rng_pattern_table.specs.views.Taking.{AreTaken, tree_by}
 use Rattle.rng_pattern_table.specs.views.Trees.{tree_of}
@@ -24,13 +25,13 @@ use Rattle.rng_pattern_derivatives.specs.plain.Ways.{AreInside, ways_by}
 use Rattle.rng_pattern_derivatives.specs.declared.way.Place.{Place}
 use Rattle.rng_pattern_derivatives.specs.declared.way.LeafWay.{LeafWay}
 
--- the patterns of the grammar are in the table, with these numbers
+-- the patterns of the grammar that are asked for are in the table, with these numbers
 pub record IsReady (t : Table) (ns : List Node) (numbers : List PatternNumber) : Type 0 where
   pub grammar : IsTable t
   pub long : length numbers ≡ length t.patterns
   pub taken : AreTaken t ns numbers
   -- and obey in the table what they obey in the grammar
-  pub kept : (place : Place) (id : PatternId) → id.0 < length numbers → Obeys place (tree_at t.patterns id) → Obeys place (tree_by t ns numbers id)
+  pub kept : (place : Place) (id : PatternId) → id.0 < length numbers → IsAskedFor t id.0 → Obeys place (tree_at t.patterns id) → Obeys place (tree_by t ns numbers id)
 
 -- the bodies of elements, as they are in the table, obey the restrictions
 abbrev pub HasRestrictedBodies : Table → List Node → List PatternNumber → Type 0

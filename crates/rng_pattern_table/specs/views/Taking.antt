@@ -1,5 +1,5 @@
 -- The patterns of a grammar in a table of patterns.
-use Rattle.std.specs.Prelude.{ℕ, ◌<◌, List, length, slice_index_or, Some}
+use Rattle.std.specs.Prelude.{ℕ, ◌<◌, List, length, map, slice_index_or, Some}
 use Rattle.rng_model.specs.simple.Tree as tree
 use Rattle.rng_model.specs.simple.Table.{Table, tree_at}
 use Rattle.rng_model.specs.declared.simple.PatternId.{PatternId}
@@ -7,6 +7,7 @@ use Rattle.rng_model.specs.declared.simple.Simple.{Simple}
 use Rattle.rng_model.specs.declared.simple.Simple.TheVariants as simple
 use Rattle.rng_model.specs.matching.Reading.{Reading}
 use Rattle.rng_deriv_laws.specs.plain.Taking.{Same}
+use Rattle.rng_pattern_table.specs.plain.AskedFor.{IsAskedFor}
 use Rattle.rng_pattern_table.specs.views.Node.{Node}
 use Rattle.rng_pattern_table.specs.views.Trees.{attribute_found, data_found, tree_of}
 use Rattle.rng_pattern_table.specs.declared.pattern.PatternNumber.{PatternNumber}
@@ -31,9 +32,17 @@ taken_over t of (simple.Choice a b) = tree.s_joined tree.choice (of a) (of b)
 abbrev pub tree_by : Table → List Node → List PatternNumber → PatternId → tree.Simple ℕ
 tree_by t ns numbers id = tree_of t ns (slice_index_or numbers id.0 (record { 0 = 0 })).0
 
--- each of the first patterns of a grammar has a number in the table, whose pattern takes what the grammar's pattern
--- takes
-pub record AreTaken (t : Table) (ns : List Node) (numbers : List PatternNumber) : Type 0 where
+-- each of the first patterns of a grammar has a number in the table, and where the positions have a property, the pattern
+-- of the number takes what the grammar's pattern takes
+pub record AreTakenAt (Has : ℕ → Type 0) (t : Table) (ns : List Node) (numbers : List PatternNumber) : Type 0 where
   pub inside : (i : ℕ) → i < length numbers → (slice_index_or numbers i (record { 0 = 0 })).0 < length ns
-  pub same : (i : ℕ) → i < length numbers → (g : Reading)
+  pub same : (i : ℕ) → i < length numbers → Has i → (g : Reading)
       → Same g (tree_by t ns numbers (record { 0 = i })) (tree_at t.patterns (record { 0 = i }))
+
+-- the same for all positions that are asked for
+abbrev pub AreTaken : Table → List Node → List PatternNumber → Type 0
+AreTaken t = AreTakenAt (IsAskedFor t) t
+
+-- the numbers at these positions
+abbrev pub numbers_at : List PatternNumber → List PatternId → List PatternNumber
+numbers_at numbers ids = map (λ (id : PatternId). slice_index_or numbers id.0 (record { 0 = 0 })) ids

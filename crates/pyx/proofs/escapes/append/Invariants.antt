@@ -1,7 +1,7 @@
 use Rattle.std.proofs.Common.{◌≡◌, string_bytes, length}
 use denote.Text.{Utf8}
 use denote.Shadow.{shadow}
-use Rattle.pyx.specs.plain.Cuts.{unescaped, in_front}
+use Rattle.pyx.specs.plain.Escapes.{unescaped, in_front}
 use Rattle.pyx.proofs.escapes.append.Given as goal
 
 abbrev pub invariant-escapes : goal.invariant-escapes

@@ -1,32 +1,43 @@
-use Rattle.std.proofs.Common.{subst, List, ℕ, OnOk}
+use Rattle.std.proofs.Common.{ℕ, List, OnOk, Some, refl, subst}
+use Rattle.rng_levels.specs.views.LevelTable.{levels_in}
 use Rattle.rng_deriv_laws.specs.plain.LevelStates.{EndsWith}
-use Rattle.rng_deriv.specs.views.Levels.{AreEndsWith}
-use Rattle.rng_deriv.specs.views.States.{AddsState, EndsBy, EndsIf, state_of}
-use Rattle.rng_deriv.specs.views.Strings.{AddsHeld, IsHeld}
-use Rattle.rng_deriv.proofs.Numbers.{on_ok_weaker}
-use Rattle.rng_deriv.proofs.Positions.{ends_lone}
+use Rattle.rng_deriv.specs.views.OpenPositions.{held_string, open_state, open_string}
+use Rattle.rng_deriv.specs.views.States.{AddsState, EndsIf, OpenState, state_of}
+use Rattle.rng_deriv.specs.views.Strings.{IsHeld}
+use Rattle.rng_deriv.specs.declared.state.State.{State}
+use Rattle.rng_deriv.proofs.KeptLevels.{below_grows}
+use Rattle.rng_deriv.proofs.OpenStates.{ends_held_ok, kept_at, state_grows, state_inside}
 use Rattle.rng_deriv.proofs.closing.after_lone_string.Goals as goal
+
+pub after_string-requires-clause-kept : goal.after_string-requires-clause-kept
+after_string-requires-clause-kept g c =
+    let trees = g.D.Derivatives.trees in
+    let reading = g.D.Derivatives.reading in
+    let basis = g.D.Derivatives.basis in
+    let a = c.args.derivatives.now in
+    let d = c.held_or_empty.new.derivatives in
+    let s = c.args.state.now in
+    let told = c.in_ok-held.ensures in
+    let n : State = record { table = c.held_or_empty.new.table; now = s.now; carried = s.carried; steps = s.steps } in
+    kept_at (reading a) (reading d) (basis a).keys (basis d).keys (trees a) (trees d) told.held.longer s n c.requires.state told.adds
+    (below_grows (levels_in s.table) (levels_in n.table) s.now.0 told.adds.levels c.requires.state.now) refl refl
 
 pub returns-clause-ended : goal.returns-clause-ended
 returns-clause-ended g c =
     let trees = g.D.Derivatives.trees in
-    let reading = g.D.Derivatives.reading c.args.derivatives.now in
-    let old = trees c.args.derivatives.now in
-    let mid = trees c.held_or_empty.new.derivatives in
-    let new = trees c.close.new.derivatives in
+    let reading = g.D.Derivatives.reading in
+    let basis = g.D.Derivatives.basis in
+    let a = c.args.derivatives.now in
+    let b = c.held_or_empty.new.derivatives in
+    let d = c.after_string.new.derivatives in
     let s = c.args.state.now in
-    let h = c.in_ok-held.held in
-    let good = c.in_ok-good.good.items in
-    let held = subst (λ ns. AddsHeld (IsHeld reading old ns c.args.string) reading old mid ns h) c.as_slice.ensures c.in_ok-held.ensures.held in
-    let which =
-    subst (λ r. AreEndsWith r mid s.now.items h.after.items h.blank s.now.items good) c.in_ok-held.ensures.reading
-    (subst (λ ns. AreEndsWith (g.D.Derivatives.reading c.held_or_empty.new.derivatives) mid ns h.after.items h.blank ns good) c.as_slice-2.ensures
-    (subst (λ ns. AreEndsWith (g.D.Derivatives.reading c.held_or_empty.new.derivatives) mid c.as_slice-2.result.now ns h.blank c.as_slice-2.result.now good)
-    c.as_slice-3.ensures c.in_ok-good.ensures)) in
-    let after = c.close.new.state in
-    on_ok_weaker c.close.result (AddsState (EndsBy reading good (state_of mid s)) mid new after)
-    (AddsState (λ n. (t : List ℕ) → IsHeld reading old s.now.items c.args.string t → EndsIf reading (EndsWith reading t) (state_of old s) n) old new after)
-    (λ e. ends_lone reading old mid new s after c.args.string h good c.requires.state held which e)
-    (subst (λ r. OnOk c.close.result (AddsState (EndsBy r good (state_of mid s)) mid new after)) c.in_ok-held.ensures.reading
-    (subst (λ bs. OnOk c.close.result (AddsState (EndsBy (g.D.Derivatives.reading c.held_or_empty.new.derivatives) bs (state_of mid s)) mid new after))
-    c.as_slice-4.ensures c.close.ensures.state))
+    let told = c.in_ok-held.ensures in
+    let m : State = record { table = c.held_or_empty.new.table; now = s.now; carried = s.carried; steps = s.steps } in
+    let held = held_string m.table c.in_ok-held.held in
+    let grows = state_grows (reading a) (reading b) (basis a).keys (basis b).keys (trees a) (trees b) told.held.longer s m c.requires.state told.adds
+    refl refl refl in
+    let n = open_state c.after_string.new.state in
+    ends_held_ok (reading a) (reading b) (trees a) (trees b) (trees d) (open_state s) n (open_string s.table c.args.string) held c.after_string.result
+    told.reading (state_inside (reading a) (basis a).keys (trees a) s c.requires.state) told.held
+    (subst (λ (o : OpenState). OnOk c.after_string.result (AddsState (λ n. (t : List ℕ) → IsHeld (reading b) (trees b) o.now (Some held) t
+    → EndsIf (reading b) (EndsWith (reading b) t) (state_of (trees b) o) n) (trees b) (trees d) n)) grows c.after_string.ensures.ended)

@@ -16,7 +16,7 @@ links-init g c =
     record {
       within = omega arith;
       same = c.in_ok-none.ensures.reading;
-      grammar = c.in_ok-none.ensures.grammar;
+      basis = c.in_ok-none.ensures.basis;
       first = subst (λ ls. AddsEnded (g.D.Derivatives.reading c.args.derivatives.now) c.args.good.now c.args.around (trees c.args.derivatives.now)
           (trees c.choice.new.self) ls c.in_ok-outside.outside.items) (sym (drop_all (length links) links (omega arith)))
           (no_ends (g.D.Derivatives.reading c.args.derivatives.now) c.args.good.now c.args.around (trees c.args.derivatives.now) (trees c.choice.new.self)
@@ -35,7 +35,7 @@ links-preserved g c =
     record {
       within = omega (arith, within);
       same = c.in_ok-leave.ensures.reading ∙ before.same;
-      grammar = c.in_ok-leave.ensures.grammar ∙ before.grammar;
+      basis = c.in_ok-leave.ensures.basis ∙ before.basis;
       first = ends_at (reading c.links.derivatives) (reading c.args.derivatives.now) c.args.good.now c.args.around (trees c.args.derivatives.now)
           (trees c.links.derivatives) (trees c.leave.new.derivatives) c.args.links.now i _ c.links.outside.items c.leave.new.outside.items
           before.same (subst (λ k. AddsEnded (reading c.args.derivatives.now) c.args.good.now c.args.around (trees c.args.derivatives.now)

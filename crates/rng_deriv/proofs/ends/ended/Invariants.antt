@@ -8,7 +8,7 @@ invariant-links g l =
     let reading = g.D.Derivatives.reading in record {
       within : l.left ≤ length l.links;
       same : reading l.derivatives ≡ reading l.fn.derivatives;
-      grammar : g.D.Derivatives.grammar l.derivatives ≡ g.D.Derivatives.grammar l.fn.derivatives;
+      basis : g.D.Derivatives.basis l.derivatives ≡ g.D.Derivatives.basis l.fn.derivatives;
       first : AddsEnded (reading l.fn.derivatives) l.good l.around (trees l.fn.derivatives) (trees l.derivatives)
           (drop l.left l.links) l.outside.items;
     }

@@ -1,7 +1,7 @@
 use Rattle.std.proofs.Common.{rules, ◌≡◌, ◌∙◌, refl, sym, ap, length, slice_index_or}
 use Rattle.std.proofs.lemmas.List.{length-set}
 use Rattle.rng_pattern_table.specs.declared.pattern.PatternNumber.{PatternNumber}
-use Rattle.rng_deriv.specs.declared.links.Link.{Link}
+use Rattle.rng_levels.specs.declared.link.Link.{Link}
 use Rattle.rng_deriv.proofs.Numbers.{set_lent}
 use Rattle.rng_deriv.proofs.LevelRenewal.{with_at, with_none}
 use Rattle.rng_deriv.proofs.level_renewal.put_rests.Goals as goal

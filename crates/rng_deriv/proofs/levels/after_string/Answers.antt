@@ -10,7 +10,7 @@ patterns-preserved g c =
     let before = c.patterns.invariant in
     record {
       same = c.in_ok-after_text.ensures.reading ∙ before.same;
-      grammar = c.in_ok-after_text.ensures.grammar ∙ before.grammar;
+      basis = c.in_ok-after_text.ensures.basis ∙ before.basis;
       first = each_at (λ r. IsAfterText r c.args.text.now) (reading c.patterns.derivatives) (reading c.args.derivatives.now)
           (trees c.args.derivatives.now) (trees c.patterns.derivatives) (trees c.after_text.new.self) c.args.patterns.now c.patterns.after.items
           c.push.new.self.items c.patterns.pattern-index _ c.in_ok-after_text.field-0 before.same before.first c.requires c.patterns-test.true

@@ -8,7 +8,7 @@ invariant-patterns g l =
     let trees = g.D.Derivatives.trees in
     let reading = g.D.Derivatives.reading in record {
       same : reading l.derivatives ≡ reading l.fn.derivatives;
-      grammar : g.D.Derivatives.grammar l.derivatives ≡ g.D.Derivatives.grammar l.fn.derivatives;
+      basis : g.D.Derivatives.basis l.derivatives ≡ g.D.Derivatives.basis l.fn.derivatives;
       first : AddsEach (IsAfterText (reading l.fn.derivatives) l.text) (trees l.fn.derivatives) (trees l.derivatives)
           (take l.pattern-index l.patterns) l.after.items;
     }

@@ -11,7 +11,7 @@ bodies-preserved g c =
     let before = c.bodies.invariant in
     record {
       same = c.in_ok-after_tag.ensures.reading ∙ before.same;
-      grammar = c.in_ok-after_tag.ensures.grammar ∙ before.grammar;
+      basis = c.in_ok-after_tag.ensures.basis ∙ before.basis;
       first = each_at (λ r. IsAfterTag r (map attribute_of c.args.attrs.now)) (reading c.bodies.derivatives) (reading c.args.derivatives.now)
           (trees c.args.derivatives.now) (trees c.bodies.derivatives) (trees c.after_tag.new.self) c.args.bodies.now c.bodies.entered.items
           c.push.new.self.items c.bodies.body-index _ c.in_ok-after_tag.field-0 before.same before.first c.requires c.bodies-test.true

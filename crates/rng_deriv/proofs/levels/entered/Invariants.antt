@@ -9,7 +9,7 @@ invariant-bodies g l =
     let trees = g.D.Derivatives.trees in
     let reading = g.D.Derivatives.reading in record {
       same : reading l.derivatives ≡ reading l.fn.derivatives;
-      grammar : g.D.Derivatives.grammar l.derivatives ≡ g.D.Derivatives.grammar l.fn.derivatives;
+      basis : g.D.Derivatives.basis l.derivatives ≡ g.D.Derivatives.basis l.fn.derivatives;
       first : AddsEach (IsAfterTag (reading l.fn.derivatives) (map attribute_of l.attrs)) (trees l.fn.derivatives) (trees l.derivatives)
           (take l.body-index l.bodies) l.entered.items;
     }

@@ -10,4 +10,4 @@ returns-in-Failed-clause-progress g c =
     let reading = g.D.Derivatives.reading c.args.derivatives.now in
     let event = event_of c.args.event in
     subst (λ p. AddsProgress reading event (IsKnown reading trees p) trees p) (sym c.in-Failed.is)
-    (record { inside = tt; stands = λ es fails. fails_on reading es _ event fails })
+    (λ es fails. fails_on reading es _ event fails)

@@ -1,9 +1,19 @@
 use Rattle.std.proofs.Common.{◌+◌, List, get_or, refl, subst, sym}
 use Rattle.std.proofs.lemmas.List.Elements.{Contains-get_or}
-use Rattle.rng_pattern_derivatives.specs.plain.Ways.{AreRestsBehind}
+use Rattle.rng_pattern_table.specs.views.Trees.{tree_of}
+use Rattle.rng_pattern_table.proofs.Choices.{if_ok}
+use Rattle.rng_pattern_derivatives.specs.plain.Ways.{AreRestsBehind, StandFor, ways_by}
 use Rattle.rng_pattern_derivatives.specs.declared.way.LeafWay.{LeafWay}
+use Rattle.rng_pattern_derivatives.proofs.NumberedWays.{stands_itself}
 use Rattle.rng_pattern_derivatives.proofs.JoinedWays.{AreJoined, join_made, joined_stand, one_joined, rests_inside, way_to}
 use Rattle.rng_pattern_derivatives.proofs.filling.joined_ways.Goals as goal
+
+pub returns-then-are_rising-clause-ways : goal.returns-then-are_rising-clause-ways
+returns-then-are_rising-clause-ways c =
+    let ns = c.args.table.now in
+    let ways : List LeafWay = c.args.ways.now in
+    if_ok c.copied_ways.result _ _ (λ copy e. subst (λ all. StandFor ns all (λ t. ways_by (tree_of t ns) ways)) (sym e) (stands_itself ns ways c.requires))
+    c.copied_ways.ensures
 
 pub choice-requires : goal.choice-requires
 choice-requires c = λ k d h.

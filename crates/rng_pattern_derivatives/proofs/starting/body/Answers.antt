@@ -1,7 +1,8 @@
-use Rattle.std.proofs.Common.{◌∙◌, ◌<◌, length, sym, subst, arith}
+use Rattle.std.proofs.Common.{◌∙◌, ◌<◌, length, refl, sym, subst, arith}
 use Rattle.rng_model.specs.names.NameViews.{name_of}
 use Rattle.rng_deriv_laws.specs.plain.Reading.{body_of}
 use Rattle.rng_deriv_laws.specs.plain.Taking.{Same}
+use Rattle.rng_pattern_table.specs.plain.AskedFor.{as_body}
 use Rattle.rng_pattern_table.specs.views.Taking.{tree_by}
 use Rattle.rng_pattern_table.specs.views.Trees.{tree_of}
 use Rattle.rng_pattern_table.specs.declared.pattern.PatternNumber.{PatternNumber}
@@ -53,7 +54,7 @@ returns-in-Some c =
         leaf_started g (name_of c.args.name.now) (tree_of t ns c.args.leaf.0) k
             (is_over t ns c.args.leaf.0 c.pattern.result.now _ c.pattern.ensures.table c.pattern.ensures.found c.in-Element.is)
             has,
-        subst Takes is (subst (λ p. Same g (tree_by t ns c.args.numbers.now e.1) p) (sym (body_there t k e found)) (c.requires.ready.taken.same e.1.0 there g)),
+        subst Takes is (subst (λ p. Same g (tree_by t ns c.args.numbers.now e.1) p) (sym (body_there t k e found)) (c.requires.ready.taken.same e.1.0 there (as_body k e found refl) g)),
         λ bodies.
             let b = bodies k e found in
             subst Obeys is (record { restricted = b.restricted; body = record { typed = b.typed; element = k; named = has } }),

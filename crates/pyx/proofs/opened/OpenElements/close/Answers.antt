@@ -1,9 +1,9 @@
-use Rattle.std.proofs.Common.{◌≡◌, ◌∙◌, ap, sym, length}
-use Rattle.std.proofs.lemmas.Bool.{eqb-true}
+use Rattle.std.proofs.Common.{◌∙◌, List, ap}
 use Rattle.std.proofs.lemmas.List.Elements.{All-pop}
-use Rattle.pyx.specs.views.ElementView.{IsNamed, scope_of}
-use Rattle.pyx.proofs.KnownNames.{known_alike}
-use Rattle.pyx.proofs.OpenStack.{namespaces_same}
+use Rattle.rng_model.specs.documents.PyxNamespaces.{WrittenAttribute}
+use Rattle.pyx.specs.plain.DocumentReader.{around}
+use Rattle.pyx.specs.views.ElementView.{Elements, IsNamed, stack_of}
+use Rattle.pyx.proofs.OpenStack.{stack_close, whole_close}
 use Rattle.pyx.proofs.opened.OpenElements.close.Goals as goal
 
 pub invariant_of-self : goal.invariant_of-self
@@ -11,20 +11,16 @@ invariant_of-self c =
     let old = c.self.inside.opened.items in
     let new = c.pop-closed.new.self.items in
     record {
-      known = c.forget.ensures (scope_of old) (scope_of new) c.self.invariant.known;
+      known = c.undeclare.ensures.known;
+      whole = rw (c.undeclare.ensures.removed)
+          (whole_close old new c.in-Some.element c.self.inside.declarations c.in-Some.ensures.items c.self.invariant.whole);
       judged = c.self.invariant.judged;
       all_judged = (All-pop IsNamed old new _ c.pop-closed.ensures.items c.self.invariant.all_judged).0;
     }
 
-pub invariant_of-self-else-not-is_empty : goal.invariant_of-self-else-not-is_empty
-invariant_of-self-else-not-is_empty c =
-    let old = c.self.inside.opened.items in
+pub returns-in-Some-clause-opened : goal.returns-in-Some-clause-opened
+returns-in-Some-clause-opened c =
     let new = c.pop-closed.new.self.items in
-    let none : length c.in-Some.element.declarations.items ≡ 0 =
-    ap length (sym c.as_slice.ensures.value) ∙ eqb-true _ 0 (sym c.is_empty.ensures ∙ c.if-not-is_empty.false) in
-    record {
-      known = known_alike (scope_of old) (scope_of new) c.self.inside.round c.self.inside.known.items
-          (λ p. sym (namespaces_same old new c.in-Some.element c.in-Some.ensures.items none p)) c.self.invariant.known;
-      judged = c.self.invariant.judged;
-      all_judged = (All-pop IsNamed old new _ c.pop-closed.ensures.items c.self.invariant.all_judged).0;
-    }
+    ap (λ (ds : List WrittenAttribute). stack_of new ds) c.undeclare.ensures.removed
+    ∙ stack_close c.self.inside.opened.items new c.in-Some.element c.self.inside.declarations c.in-Some.ensures.items
+    ∙ ap (λ (e : Elements). around e.opened) c.self.view_is

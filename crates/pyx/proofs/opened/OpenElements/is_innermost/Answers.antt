@@ -1,8 +1,9 @@
-use Rattle.std.proofs.Common.{◌≡◌, ◌<◌, ◌∙◌, ◌==◌, ℕ, List, [], ◌∷◌, arith, ap, sym, false, length, rules}
+use Rattle.std.proofs.Common.{◌≡◌, ◌<◌, ◌∙◌, ◌==◌, ◌&&◌, ℕ, List, [], ◌∷◌, arith, ap, sym, false, length}
 use Rattle.std.proofs.lemmas.Bool.{eqb-true}
-use Rattle.pyx.specs.plain.LineReader.{written_of}
-use Rattle.pyx.specs.plain.TagReader.{same_written}
-use Rattle.pyx.specs.views.ElementView.{stack_of}
+use Rattle.pyx_namespaces.specs.plain.WrittenNames.{written_of}
+use Rattle.pyx_namespaces.specs.plain.Declarations.{same_written}
+use Rattle.pyx.specs.plain.LineReader.{is_name}
+use Rattle.pyx.specs.views.ElementView.{Elements, is_innermost}
 use Rattle.pyx.proofs.OpenNames.{named_last, not_innermost, same_as_innermost}
 use Rattle.pyx.proofs.opened.OpenElements.is_innermost.Goals as goal
 
@@ -11,12 +12,14 @@ some [] e = absurd cc
 some (x ∷ xs) e = omega arith
 
 pub returns-then-not-is_empty : goal.returns-then-not-is_empty
-returns-then-not-is_empty c = same_as_innermost c.in-Some.element.now c.args.name.now c.args.self.now.opened (stack_of c.in-Some.field-0-1.now) c.is_same.result
-    (sym (search rules) ∙ c.in-Some.ensures.stack)
-    (named_last c.self.inside.opened.items c.in-Some.field-0-1.now c.in-Some.element.now (sym c.as_slice.ensures.value ∙ c.in-Some.ensures.parts)
-    c.self.invariant.all_judged)
-    (some c.args.name.now (sym c.is_empty.ensures ∙ c.if-not-is_empty.true))
-    (c.is_same.ensures ∙ ap (λ x. same_written (written_of x) (written_of c.args.name.now)) c.as_str.ensures.value)
+returns-then-not-is_empty c =
+    let parts = sym c.as_slice.ensures.value ∙ c.in-Some.ensures.parts in
+    let name = c.args.name.now in
+    same_as_innermost c.self.inside.opened.items c.in-Some.field-0-1.now c.in-Some.element.now c.self.inside.declarations name c.is_same.result parts
+    (named_last c.self.inside.opened.items c.in-Some.field-0-1.now c.in-Some.element.now parts c.self.invariant.all_judged)
+    (some name (sym c.is_empty.ensures ∙ c.if-not-is_empty.true))
+    (c.is_same.ensures ∙ ap (λ x. same_written (written_of x) (written_of name)) c.as_str.ensures.value)
+    ∙ ap (λ (e : Elements). is_name name && is_innermost (written_of name) e.opened) c.self.view_is
 
 pub returns-else-not-is_empty : goal.returns-else-not-is_empty
 returns-else-not-is_empty c = rw (c.if-not-is_empty.false)

@@ -12,12 +12,12 @@ returns-in_err-end_text g c =
     let s = state_of c.args.self.now in
     let inside : (s.root && is_outside s) ≡ false = elim c.else-self.branch [
       | else-self-via-then-self+else-is_empty w ↦
-          not_outside s w.elements.result.now (w.elements.ensures ∙ c.in_ok-begin.ensures.opened) (sym w.is_empty.ensures ∙ w.if-is_empty.false)
+          not_outside s c.begin.new.self.opened c.in_ok-begin.ensures.opened (sym w.is_empty.ensures ∙ w.if-is_empty.false)
       | else-self-via-else-self w ↦ ap (λ b. b && is_outside s) w.if-self.false
     ] in
     let good : is_name c.args.name.now ≡ true = search rules in
     let few : nat_le 512 (length s.opened) ≡ false =
-    few_open s c.elements-2.result.now (c.elements-2.ensures ∙ c.in_ok-begin.ensures.opened) (omega (arith, c.if-elements-ge-OPEN_LIMIT.false)) in
+    few_open s c.begin.new.self.opened c.in_ok-begin.ensures.opened (omega (arith, c.len.ensures, c.if-len-ge-OPEN_LIMIT.false)) in
     rw (start_judged c.args.bytes c.args.name.now s (state_of (record c.args.self.now { elements = c.begin.new.self })).tag c.begin.new.self.opened good inside few c.in_ok-begin.ensures.opened) (search rules)
 
 pub returns : goal.returns
@@ -25,10 +25,10 @@ returns g c =
     let s = state_of c.args.self.now in
     let inside : (s.root && is_outside s) ≡ false = elim c.else-self.branch [
       | else-self-via-then-self+else-is_empty w ↦
-          not_outside s w.elements.result.now (w.elements.ensures ∙ c.in_ok-begin.ensures.opened) (sym w.is_empty.ensures ∙ w.if-is_empty.false)
+          not_outside s c.begin.new.self.opened c.in_ok-begin.ensures.opened (sym w.is_empty.ensures ∙ w.if-is_empty.false)
       | else-self-via-else-self w ↦ ap (λ b. b && is_outside s) w.if-self.false
     ] in
     let good : is_name c.args.name.now ≡ true = search rules in
     let few : nat_le 512 (length s.opened) ≡ false =
-    few_open s c.elements-2.result.now (c.elements-2.ensures ∙ c.in_ok-begin.ensures.opened) (omega (arith, c.if-elements-ge-OPEN_LIMIT.false)) in
+    few_open s c.begin.new.self.opened c.in_ok-begin.ensures.opened (omega (arith, c.len.ensures, c.if-len-ge-OPEN_LIMIT.false)) in
     rw (start_judged c.args.bytes c.args.name.now s (state_of (record c.args.self.now { elements = c.begin.new.self })).tag c.begin.new.self.opened good inside few c.in_ok-begin.ensures.opened) (search rules)

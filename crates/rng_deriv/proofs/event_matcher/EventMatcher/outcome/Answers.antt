@@ -4,6 +4,7 @@ use Rattle.rng_model.specs.documents.PyxTrees.{events_of}
 use Rattle.rng_deriv_laws.specs.plain.Derivatives.{is_nullable}
 use Rattle.rng_deriv.specs.views.Numbers.{tree_of}
 use Rattle.rng_model.specs.matching.Outcomes.{IsValid, FailsAt}
+use Rattle.rng_deriv.specs.views.OpenPositions.{open_position}
 use Rattle.rng_deriv.specs.views.Positions.{IsKnown}
 use Rattle.rng_deriv.proofs.KnownDocuments.{failed, ends_valid, ends_invalid}
 use Rattle.rng_deriv.proofs.event_matcher.EventMatcher.outcome.Goals as goal
@@ -15,10 +16,10 @@ returns-then-some_end-clause-outcome g c = λ bytes d is known.
     let derivatives = c.self.inside.derivatives in
     let now = subst (λ m. IsKnown (reading m.0) (trees m.0) m.1 (events_of d)) (sym c.self.view_is) known in
     let come = subst (λ p. IsKnown (reading derivatives) (trees derivatives) p (events_of d)) c.in-Going.is now in
-    let some = subst (λ ns. list_any (λ n. is_nullable (tree_of (trees derivatives) n)) ns ≡ true) c.as_slice.ensures
+    let some = subst (λ ns. list_any (λ n. is_nullable (tree_of (trees derivatives) n)) ns ≡ true) c.numbers.ensures
     (sym c.some_end.ensures ∙ c.if-some_end.true) in
     subst (λ m. IsValid (reading m.0) d) c.self.view_is
-    (ends_valid (reading derivatives) (trees derivatives) c.in-Going.position c.in-Going.line bytes d is come some)
+    (ends_valid (reading derivatives) (trees derivatives) (open_position c.in-Going.position) c.in-Going.line bytes d is come some)
 
 pub returns-else-some_end-clause-outcome : goal.returns-else-some_end-clause-outcome
 returns-else-some_end-clause-outcome g c = λ bytes d is known.
@@ -27,10 +28,10 @@ returns-else-some_end-clause-outcome g c = λ bytes d is known.
     let derivatives = c.self.inside.derivatives in
     let now = subst (λ m. IsKnown (reading m.0) (trees m.0) m.1 (events_of d)) (sym c.self.view_is) known in
     let come = subst (λ p. IsKnown (reading derivatives) (trees derivatives) p (events_of d)) c.in-Going.is now in
-    let none = subst (λ ns. list_any (λ n. is_nullable (tree_of (trees derivatives) n)) ns ≡ false) c.as_slice.ensures
+    let none = subst (λ ns. list_any (λ n. is_nullable (tree_of (trees derivatives) n)) ns ≡ false) c.numbers.ensures
     (sym c.some_end.ensures ∙ c.if-some_end.false) in
     subst (λ m. ¬ (IsValid (reading m.0) d) × FailsAt (reading m.0) (events_of d) c.in-Going.line) c.self.view_is
-    (ends_invalid (reading derivatives) (trees derivatives) c.in-Going.position c.in-Going.line bytes d is come none)
+    (ends_invalid (reading derivatives) (trees derivatives) (open_position c.in-Going.position) c.in-Going.line bytes d is come none)
 
 pub returns-in-Failed-clause-outcome : goal.returns-in-Failed-clause-outcome
 returns-in-Failed-clause-outcome g c = λ bytes d is known.

@@ -1,4 +1,3 @@
-use Rattle.rng_deriv.proofs.KeptStarts.{none_kept}
 use Rattle.rng_deriv.proofs.ServedTables.{served_first}
 use Rattle.rng_deriv.proofs.grammar_derivatives.GrammarDerivatives.new.Goals as goal
 
@@ -7,6 +6,5 @@ invariant_of-result c = (
   served_first c.args.grammar.now c.in_ok-table.table c.in_ok-table.numbers.items c.requires c.start-start.ensures.valid c.in_ok-table.ensures.long
       c.in_ok-table.ensures.taken c.in_ok-table.ensures.restricted,
   c.in_ok-keys.ensures,
-  (λ k ws h. absurd (none_kept c.new-2.result c.new-2.ensures.empty k ws h)),
   c.in_ok-known.ensures c.in_ok-table.table,
 )

@@ -1,13 +1,14 @@
 use Rattle.std.proofs.Common.{◌≤◌, ◌-◌, length}
-use Rattle.rng_pattern_table.specs.plain.Kept.{AreKept}
-use Rattle.rng_pattern_table.specs.views.Taking.{AreTaken}
+use Rattle.rng_pattern_table.specs.plain.AskedFor.{HasNumber}
+use Rattle.rng_pattern_table.specs.plain.Kept.{AreKeptAt}
+use Rattle.rng_pattern_table.specs.views.Taking.{AreTakenAt}
 use Rattle.rng_pattern_table.proofs.pattern_table.PatternTable.of.Given as goal
 
 abbrev pub invariant-rows : goal.invariant-rows
 invariant-rows l = record {
   within : length l.numbers.items ≤ length l.grammar.patterns;
-  taken : AreTaken l.grammar l.table l.numbers.items;
-  kept : AreKept l.grammar l.table l.numbers.items;
+  taken : AreTakenAt (HasNumber l.grammar l.uses.by_position.items) l.grammar l.table l.numbers.items;
+  kept : AreKeptAt (HasNumber l.grammar l.uses.by_position.items) l.grammar l.table l.numbers.items;
 }
 
 abbrev pub decreases-rows : goal.decreases-rows

@@ -1,0 +1,41 @@
+// The elements that are open, as they are kept.
+ghost use Rattle.std.specs.Prelude.{◌≡◌, ◌++◌, ◌<◌, [], ◌∷◌, IfSome, MatchOption, length, map, reverse};
+ghost use Rattle.pyx_namespaces.specs.views.DeclarationView.{declaration_of};
+ghost use Rattle.pyx.specs.views.ElementView.{stack_of};
+ghost use Rattle.pyx.specs.views.Held.{opened_held};
+
+use pyx_namespaces::{Declaration, declarations_len, name_len};
+
+/// An element whose end has not been read.
+#[derive(Drop)]
+pub struct OpenElement {
+    /// The name as it is written.
+    pub name: String,
+    /// The number of declarations of its tag.
+    pub count: usize,
+}
+
+/// Returns the innermost of the elements, and those around it.
+pub fn innermost(opened: &[OpenElement]) -> Option<(&OpenElement, &[OpenElement])>
+    ensures parts { MatchOption result (opened.now ≡ []) (λ x. opened.now ≡ x.1.now ++ x.0.now ∷ []) }
+    ensures shorter { IfSome result (λ x. length x.1.now < length opened.now) }
+{
+    opened.split_last()
+}
+
+/// Returns how many bytes are kept of these elements, with these declarations: their names and their declarations.
+#[tactic(auto, unfolding(crate::specs::views::Held::opened_held))]
+pub fn opened_len(opened: &[OpenElement], declarations: &[Declaration]) -> u64
+    ensures { result ≡ opened_held (stack_of opened.now (map declaration_of (reverse declarations.now))) }
+{
+    match innermost(opened) {
+        Some((element, outer)) => {
+            let count = declarations.len().saturating_sub(element.count);
+            let (around, own) = declarations.split_at(count);
+            name_len(element.name.as_str())
+                .saturating_add(declarations_len(own))
+                .saturating_add(opened_len(outer, around))
+        }
+        None => 0,
+    }
+}

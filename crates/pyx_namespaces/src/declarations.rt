@@ -1,0 +1,161 @@
+// The declarations of the open elements.
+ghost use Rattle.std.specs.Prelude.{◌≡◌, ◌++◌, [], ◌∷◌, IfOk, OnOk, MatchOption, MatchResult, List, length, map, reverse, drop, string_bytes};
+ghost use Rattle.std.specs.Option.{option_map};
+ghost use Rattle.pyx_namespaces.specs.declared.places.Declaration.{Declaration};
+ghost use Rattle.pyx_namespaces.specs.plain.Declarations.{beforehand, namespace_of};
+ghost use Rattle.pyx_namespaces.specs.views.DeclarationView.{AreFound, declaration_of};
+ghost use Rattle.pyx_namespaces.specs.views.WrittenAttributes.{written_attribute};
+
+use crate::places::{Declaration, Places};
+use crate::written::{WrittenAttribute, XML_URI, declared_by};
+use rng_model::OutOfMemory;
+use std::alloc::Global;
+use std::marker::Model;
+
+/// The declarations of the open elements, in one list, and for each prefix the place of its innermost one.
+///
+/// A look-up costs a search in an ordered map, whatever is open. To add or remove a declaration costs a search too.
+/// Contracts see the list, the innermost first: of one tag the first one is innermost.
+#[derive(Drop)]
+pub struct Declarations {
+    /// The innermost last.
+    list: Vec<Declaration>,
+    places: Places,
+}
+
+impl Model for Declarations {
+    ghost use Rattle.std.specs.Prelude.{List, map, reverse};
+    ghost use Rattle.rng_model.specs.documents.PyxNamespaces as namespaces;
+    ghost use Rattle.pyx_namespaces.specs.views.DeclarationView.{AreFound, declaration_of};
+
+    ghost Value = { List namespaces.WrittenAttribute };
+
+    ghost view = { λ d. map declaration_of (reverse d.list.items) };
+
+    ghost invariant = { λ d. AreFound d.places (reverse d.list.items) };
+}
+
+/// Returns the namespace of a prefix, or the default one, by the declarations that hold before any other.
+fn beforehand(prefix: Option<&str>) -> Option<&'static str>
+    ensures { option_map (λ x. x.now) result ≡ beforehand (option_map (λ x. x.now) prefix.entry) }
+{
+    match prefix {
+        None => Some(""),
+        Some("xml") => Some(XML_URI),
+        Some(_) => None,
+    }
+}
+
+/// Makes this the place of what a declaration of this name declares, and returns the place of the one that it hides.
+fn cover(
+    alloc: Global,
+    places: &mut Places,
+    name: &str,
+    place: usize,
+) -> Result<Option<usize>, OutOfMemory>
+    ensures { IfOk result (λ hidden. (outer : List Declaration) (own : Declaration) → string_bytes own.written.name ≡ name.now → own.hidden ≡ hidden
+        → length outer ≡ place → AreFound places.old outer → AreFound places.new (own ∷ outer)) }
+{
+    match declared_by(name) {
+        Some(prefix) => places.set(alloc, prefix, place),
+        None => Ok(None),
+    }
+}
+
+/// Takes away the place of a declaration that was removed. The one that it hides holds again.
+fn uncover(places: &mut Places, removed: &Declaration)
+    ensures { (outer : List Declaration) → AreFound places.old (removed.now ∷ outer) → AreFound places.new outer }
+{
+    match declared_by(removed.written.name.as_str()) {
+        Some(prefix) => places.restore(prefix, removed.hidden),
+        None => {}
+    }
+}
+
+/// Adds a declaration, which is then the innermost.
+fn add(
+    alloc: Global,
+    list: &mut Vec<Declaration>,
+    places: &mut Places,
+    written: WrittenAttribute,
+) -> Result<(), OutOfMemory>
+    requires { AreFound places.old (reverse list.old.items) }
+    ensures found { OnOk result (AreFound places.new (reverse list.new.items)) }
+    ensures added { OnOk result (map declaration_of (reverse list.new.items) ≡ written_attribute written ∷ map declaration_of (reverse list.old.items)) }
+{
+    let hidden = cover(alloc, places, written.name.as_str(), list.len())?;
+    list.push(Declaration { written, hidden })?;
+    Ok(())
+}
+
+impl Declarations {
+    /// Creates a value without declarations. Allocates nothing.
+    pub fn new(alloc: Global) -> Self
+        ensures { result ≡ [] }
+    {
+        Declarations {
+            list: Vec::new(alloc),
+            places: Places::new(alloc),
+        }
+    }
+
+    /// Returns the declarations, the innermost last.
+    pub fn as_slice(&self) -> &[Declaration]
+        ensures { map declaration_of (reverse result.now) ≡ self.now }
+    {
+        self.list.as_slice()
+    }
+
+    /// Returns the namespace of a prefix, or the default one, where these declarations hold.
+    pub fn namespace(&self, prefix: Option<&str>) -> Option<&str>
+        ensures { option_map (λ x. x.now) result ≡ namespace_of (self.now ∷ []) (option_map (λ x. x.now) prefix.entry) }
+    {
+        match self.places.get(prefix) {
+            Some(place) => Some(self.list[place].written.value.as_str()),
+            None => beforehand(prefix),
+        }
+    }
+
+    /// Adds a declaration, which is then the innermost. Removes all if memory runs out.
+    fn push(&mut self, alloc: Global, written: WrittenAttribute) -> Result<(), OutOfMemory>
+        ensures { MatchResult result (λ x. self.new ≡ written_attribute written ∷ self.old) (λ e. self.new ≡ []) }
+    {
+        match add(alloc, &mut self.list, &mut self.places, written) {
+            Ok(()) => Ok(()),
+            Err(fault) => {
+                self.list.clear();
+                self.places.clear();
+                Err(fault)
+            }
+        }
+    }
+
+    /// Removes the innermost declaration and returns it.
+    pub fn pop(&mut self) -> Option<WrittenAttribute>
+        ensures removed { self.new ≡ drop 1 self.old }
+        ensures returned { MatchOption result (self.old ≡ []) (λ written. self.old ≡ written_attribute written ∷ self.new) }
+    {
+        match self.list.pop() {
+            Some(removed) => {
+                uncover(&mut self.places, &removed);
+                Some(removed.written)
+            }
+            None => None,
+        }
+    }
+
+    /// Adds the declarations of a tag, inside the others, and leaves the tag without them. Removes all declarations if
+    /// memory runs out.
+    pub fn add_tag(
+        &mut self,
+        alloc: Global,
+        tag: &mut Vec<WrittenAttribute>,
+    ) -> Result<(), OutOfMemory>
+        ensures { MatchResult result (λ x. self.new ≡ map written_attribute tag.old.items ++ self.old) (λ e. self.new ≡ []) }
+    {
+        'declarations: while let Some(written) = tag.pop() {
+            self.push(alloc, written)?;
+        }
+        Ok(())
+    }
+}

@@ -1,0 +1,23 @@
+-- The line in numbers tells what the line of the document tells.
+use Rattle.std.proofs.Common.{◌≡◌, ◌∙◌, ℕ, List, ◌++◌, Option, IfSome, ap, subst}
+use Rattle.std.specs.Prelude.{unwrap_or}
+use Rattle.rng_model.specs.schema.Schema.{Schema}
+use Rattle.rng_model.specs.matching.SchemaMatching.{IsValidBySchema}
+use Rattle.rncv_model.specs.answers.Verdict.{IsValidDocument}
+use Rattle.rncv_validator.specs.views.Documents.{HasBeenFed, Judging, KnowsAllNames, failed_since}
+use Rattle.rncv_validator.specs.views.Validators.{Judges}
+use Rattle.rncv_c.specs.views.Calls.{IsInvalidSince}
+use Rattle.rncv_c.proofs.documents.hopeless_line.Goals as goal
+
+-- no document that begins with what was fed is valid
+IsHopeless : Judging → Option ℕ → Type 0
+IsHopeless document found = IfSome found (λ since. (s : Schema) (bytes rest : List ℕ) → Judges document.grammar s → HasBeenFed document bytes
+    → ¬ (IsValidDocument (IsValidBySchema s) (bytes ++ rest)))
+
+pub returns : goal.returns
+unfolding IsHopeless
+returns c = record {
+  value = c.unwrap_or.ensures ∙ ap (λ (o : Option ℕ). unwrap_or o 0) c.invalid_since.ensures.value;
+  hopeless = subst (IsHopeless c.args.document.now) c.invalid_since.ensures.value c.invalid_since.ensures.hopeless;
+  known = λ none. c.invalid_since.ensures.known (c.invalid_since.ensures.value ∙ none);
+}

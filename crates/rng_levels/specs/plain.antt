@@ -1,0 +1,2 @@
+-- Plain functions that the code computes.
+pub mod Bits

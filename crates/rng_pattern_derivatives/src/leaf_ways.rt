@@ -1,0 +1,91 @@
+// The ways of a pattern to take a string or an attribute.
+ghost use Rattle.std.specs.Prelude.{◌<◌, IfOk, OnOk, length};
+ghost use Rattle.rng_pattern_table.specs.views.PatternTable.{Longer};
+ghost use Rattle.rng_pattern_table.specs.views.Trees.{tree_of};
+ghost use Rattle.rng_pattern_derivatives.specs.views.KnownWays.{AreAllKnown, AreKnown};
+ghost use Rattle.rng_pattern_derivatives.specs.plain.Ways.{AreWaysOf};
+ghost use Rattle.rng_pattern_derivatives.specs.declared.way.Kind.TheVariants as kinds;
+
+use crate::by_key::ways_by_key;
+use crate::known::{Known, KnownWays, LastKeys};
+use crate::spans::add_spans;
+use crate::way::{Candidates, Kind, Ways};
+use crate::ways::{is_kept, ways};
+use rng_model::{Name, OutOfMemory, SimpleGrammar};
+use rng_names::{NameKey, NameKeys};
+use rng_pattern_table::{PatternNumber, PatternTable};
+use std::alloc::Global;
+
+/// Returns the ways of a pattern to take a string first. Fails only when out of memory. Those of its parts are kept.
+pub fn text_ways(
+    alloc: Global,
+    grammar: &SimpleGrammar,
+    table: &mut PatternTable,
+    known: &mut KnownWays,
+    number: PatternNumber,
+) -> Result<Ways, OutOfMemory>
+    requires inside { number.0 < length table.old }
+    requires known { AreKnown grammar.now table.old kinds.Text known.old }
+    ensures longer { OnOk result (Longer table.old table.new) }
+    ensures known { OnOk result (AreKnown grammar.now table.new kinds.Text known.new) }
+    ensures ways { IfOk result (λ ws. AreWaysOf grammar.now table.new kinds.Text (tree_of grammar.now table.old number.0) ws.items) }
+{
+    ways(
+        alloc,
+        grammar,
+        table,
+        known,
+        Candidates::Any,
+        Kind::Text,
+        number,
+    )
+}
+
+/// Keeps the key for which the ways of a pattern are computed, if these ways are kept. Fails only when out of memory.
+fn keep_last_key(
+    table: &PatternTable,
+    last_keys: &mut LastKeys,
+    number: PatternNumber,
+    key: NameKey,
+) -> Result<(), OutOfMemory>
+    requires { number.0 < length table.now }
+{
+    if is_kept(table, number) {
+        last_keys.insert(number, key)?;
+    }
+    Ok(())
+}
+
+/// Returns the ways of a pattern to take an attribute with this name first. They are those for the representative of
+/// its key, which no name class distinguishes from the name. Fails only when out of memory. Those of its parts are kept.
+pub fn attribute_ways(
+    alloc: Global,
+    grammar: &SimpleGrammar,
+    keys: &NameKeys,
+    table: &mut PatternTable,
+    known: &mut Known,
+    name: &Name,
+    number: PatternNumber,
+) -> Result<Ways, OutOfMemory>
+    requires inside { number.0 < length table.old }
+    requires known { AreAllKnown grammar.now keys.now table.old known.old }
+    ensures longer { OnOk result (Longer table.old table.new) }
+    ensures known { OnOk result (AreAllKnown grammar.now keys.now table.new known.new) }
+    ensures ways { IfOk result (λ ws. AreWaysOf grammar.now table.new (kinds.Attribute name.entry) (tree_of grammar.now table.old number.0) ws.items) }
+{
+    add_spans(table, &mut known.spans)?;
+    let key = keys.key(name);
+    keep_last_key(table, &mut known.last_keys, number, key)?;
+    let takers = known.attribute_takers.of(key);
+    let candidates = Candidates::Attributes(takers, known.spans.as_slice());
+    ways_by_key(
+        alloc,
+        grammar,
+        table,
+        &mut known.attributes,
+        key,
+        candidates,
+        Kind::Attribute(keys.name(key)),
+        number,
+    )
+}

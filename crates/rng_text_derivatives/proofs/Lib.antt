@@ -1,0 +1,5 @@
+mod RestsOfWays
+mod LeafKinds
+mod ListPieces
+mod TagAttributes
+mod SettledRests

@@ -1,0 +1,42 @@
+use Rattle.std.proofs.Common.{sym, subst, rules}
+use Rattle.rng_pattern_table.proofs.Choices.{if_ok}
+use Rattle.rng_pattern_table.specs.views.Trees.{tree_of}
+use Rattle.rng_text_derivatives.specs.plain.After.{AreWaysFor}
+use Rattle.rng_pattern_derivatives.specs.views.KnownWays.{IsAttributeKind, IsElementKind}
+use Rattle.rng_pattern_derivatives.proofs.ClosedTags.{both_ok}
+use Rattle.rng_pattern_derivatives.proofs.AttributeTakers.{spans_longer}
+use Rattle.rng_pattern_derivatives.proofs.KnownRests.{rests_longer}
+use Rattle.rng_pattern_derivatives.proofs.KnownWays.{by_key_longer}
+use Rattle.rng_text_derivatives.proofs.RestsOfWays.{ways_for_attribute, ways_for_text}
+use Rattle.rng_text_derivatives.proofs.after.ways_for.Goals as goal
+
+pub returns-in-Text-clause-ways : goal.returns-in-Text-clause-ways
+returns-in-Text-clause-ways c =
+    let t = c.args.context.now.grammar.now in
+    let p = tree_of t c.args.table.now c.args.number.0 in
+    if_ok c.text_ways.result _ _ (λ ws h. subst (λ first. AreWaysFor t c.text_ways.new.table first p ws.items) (sym c.in-Text.is)
+    (ways_for_text t c.text_ways.new.table c.in-Text.field-0 c.in-Text.field-1 p ws.items h)) c.text_ways.ensures.ways
+
+pub returns-in-Attribute-clause-ways : goal.returns-in-Attribute-clause-ways
+returns-in-Attribute-clause-ways c =
+    let t = c.args.context.now.grammar.now in
+    let p = tree_of t c.args.table.now c.args.number.0 in
+    if_ok c.attribute_ways.result _ _ (λ ws h. subst (λ first. AreWaysFor t c.attribute_ways.new.table first p ws.items) (sym c.in-Attribute.is)
+    (ways_for_attribute t c.attribute_ways.new.table c.in-Attribute.attr _ p ws.items (search rules) h)) c.attribute_ways.ensures.ways
+
+pub returns-in-Text-clause-known : goal.returns-in-Text-clause-known
+returns-in-Text-clause-known c =
+    if_ok c.text_ways.result _ _ (λ ws h. record {
+      serve = c.requires.known.serve;
+      texts = h.1;
+      elements = by_key_longer IsElementKind c.args.context.now.grammar.now c.args.context.now.keys.now c.args.table.now c.text_ways.new.table h.0 c.args.known.now.elements
+          c.requires.known.elements;
+      attributes = by_key_longer IsAttributeKind c.args.context.now.grammar.now c.args.context.now.keys.now c.args.table.now c.text_ways.new.table h.0
+          c.args.known.now.attributes c.requires.known.attributes;
+      rests = rests_longer c.args.table.now c.text_ways.new.table h.0 c.args.known.now.rests c.requires.known.rests;
+      takers = c.requires.known.takers;
+      alike = c.requires.known.alike;
+      attribute_takers = c.requires.known.attribute_takers;
+      spans = spans_longer c.args.context.now.grammar.now c.args.table.now c.text_ways.new.table h.0 c.args.known.now.spans.items c.requires.known.spans;
+      datatypes = c.requires.known.datatypes;
+    }) (both_ok c.text_ways.result _ _ c.text_ways.ensures.longer c.text_ways.ensures.known)

@@ -1,0 +1,4 @@
+-- Plain functions that the code is proved against, and private relations.
+pub mod After
+pub mod Excepts
+pub mod Settling

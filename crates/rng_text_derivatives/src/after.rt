@@ -1,0 +1,355 @@
+// What is left of a pattern after a string, and after attributes.
+ghost use Rattle.std.specs.Prelude.{◌≡◌, ◌↔◌, ◌<◌, true, [], ◌∷◌, IfOk, OnOk, length, map, slice_get};
+ghost use Rattle.rng_model.specs.datatypes.Blanks.{pieces};
+ghost use Rattle.rng_model.specs.documents.DocumentViews.{attribute_of};
+ghost use Rattle.rng_model.specs.matching.Document.{a_text};
+ghost use Rattle.rng_model.specs.matching.GrammarReading.{reading_of};
+ghost use Rattle.rng_model.specs.simple.Table.{tree_at};
+ghost use Rattle.rng_deriv_laws.specs.plain.LevelStates.{IsAfterText};
+ghost use Rattle.rng_deriv_laws.specs.plain.Restricted.{IsRestricted, MayBeListed};
+ghost use Rattle.rng_deriv_laws.specs.plain.Taking.{Takes, WeaklyTakes};
+ghost use Rattle.rng_pattern_table.specs.plain.AskedFor.{IsAskedFor};
+ghost use Rattle.rng_pattern_table.specs.views.PatternTable.{Longer};
+ghost use Rattle.rng_pattern_table.specs.views.Trees.{attribute_found, tree_of};
+ghost use Rattle.rng_pattern_derivatives.specs.plain.Starting.{IsReady};
+ghost use Rattle.rng_pattern_derivatives.specs.plain.Ways.{AreInside};
+ghost use Rattle.rng_pattern_derivatives.specs.views.KnownWays.{AreAllKnown};
+ghost use Rattle.rng_text_derivatives.specs.plain.After.{AreRests, AreWaysFor, IsLeafFor, IsLeft, IsLeftOfTag, TellsTaken};
+ghost use Rattle.rng_text_derivatives.specs.declared.first.First.TheVariants as firsts;
+
+use crate::context::Context;
+use crate::first::First;
+use crate::leaf_tests::{data_takes, is_blank, is_leaf_for, list_body};
+use crate::settled::{Rest, settled};
+use rng_model::{Attr, OutOfMemory, PatternId, Pieces, Simple};
+use rng_names::contains;
+use rng_pattern_derivatives::{
+    Known, LeafWay, Place, Rests, Ways, attribute_ways, close, number_at, rest_of_leaf, text_ways,
+};
+use rng_pattern_table::{Pattern, PatternNumber, PatternTable};
+use smallvec::SmallVec;
+
+/// Returns the ways of a pattern to take this first.
+fn ways_for(
+    context: &Context,
+    table: &mut PatternTable,
+    known: &mut Known,
+    first: First,
+    number: PatternNumber,
+) -> Result<Ways, OutOfMemory>
+    requires inside { number.0 < length table.old }
+    requires known { AreAllKnown context.now.grammar.now context.now.keys.now table.old known.old }
+    ensures longer { OnOk result (Longer table.old table.new) }
+    ensures known { OnOk result (AreAllKnown context.now.grammar.now context.now.keys.now table.new known.new) }
+    ensures ways { IfOk result (λ ws. AreWaysFor context.now.grammar.now table.new first.entry (tree_of context.now.grammar.now table.old number.0) ws.items) }
+{
+    match first {
+        First::Text(_, _) => text_ways(
+            context.alloc,
+            context.grammar,
+            table,
+            &mut known.texts,
+            number,
+        ),
+        First::Attribute(attr) => attribute_ways(
+            context.alloc,
+            context.grammar,
+            context.keys,
+            table,
+            known,
+            &attr.name,
+            number,
+        ),
+    }
+}
+
+/// Returns what is left of a pattern after a string among the children of an element: a pattern that takes what may
+/// follow.
+///
+/// RELAX NG Specification, section 6.2, for patterns that obey section 7. Fails only when out of memory. The cost is that
+/// of the ways of the pattern to take a string, and of the tests of their leaves.
+pub fn after_text(
+    context: &Context,
+    table: &mut PatternTable,
+    known: &mut Known,
+    number: PatternNumber,
+    text: &str,
+) -> Result<PatternNumber, OutOfMemory>
+    requires inside { number.0 < length table.old }
+    requires ready { IsReady context.now.grammar.now table.old context.now.numbers.now }
+    requires known { AreAllKnown context.now.grammar.now context.now.keys.now table.old known.old }
+    ensures longer { OnOk result (Longer table.old table.new) }
+    ensures known { OnOk result (AreAllKnown context.now.grammar.now context.now.keys.now table.new known.new) }
+    ensures inside { IfOk result (λ rest. rest.0 < length table.new) }
+    ensures after { IfOk result (λ rest. IsRestricted (tree_of context.now.grammar.now table.old number.0)
+        → IsAfterText (reading_of context.now.grammar.now) text.now (tree_of context.now.grammar.now table.old number.0) (tree_of context.now.grammar.now table.new rest.0)) }
+    ensures kept { IfOk result (λ rest. IsRestricted (tree_of context.now.grammar.now table.old number.0) → IsRestricted (tree_of context.now.grammar.now table.new rest.0)) }
+{
+    after(
+        context,
+        table,
+        known,
+        First::Text(Place::Content, text),
+        number,
+    )
+}
+
+/// Returns what is left of a pattern after the attributes of a tag, once the tag is closed. The result takes alone what
+/// the pattern takes with these attributes.
+///
+/// RELAX NG Specification, sections 6.2 and 6.2.7, for patterns that obey section 7. Fails only when out of
+/// memory. The cost for each attribute is that of the ways of the pattern to take one with its name, and of the tests of
+/// their values. Then there is a walk over the parts that contain an attribute.
+pub fn after_tag(
+    context: &Context,
+    table: &mut PatternTable,
+    known: &mut Known,
+    number: PatternNumber,
+    attrs: &[Attr],
+) -> Result<PatternNumber, OutOfMemory>
+    requires inside { number.0 < length table.old }
+    requires ready { IsReady context.now.grammar.now table.old context.now.numbers.now }
+    requires known { AreAllKnown context.now.grammar.now context.now.keys.now table.old known.old }
+    ensures longer { OnOk result (Longer table.old table.new) }
+    ensures known { OnOk result (AreAllKnown context.now.grammar.now context.now.keys.now table.new known.new) }
+    ensures after { IfOk result (IsLeftOfTag context.now.grammar.now table.old table.new (map attribute_of attrs.now) number) }
+{
+    let mut rest = number;
+    'attrs: for attr in attrs {
+        rest = after(context, table, known, First::Attribute(attr), rest)?;
+    }
+    close(context.alloc, table, &mut known.rests, rest)
+}
+
+/// Returns what is left of a pattern after this.
+#[cycle(after)]
+fn after(
+    context: &Context,
+    table: &mut PatternTable,
+    known: &mut Known,
+    first: First,
+    number: PatternNumber,
+) -> Result<PatternNumber, OutOfMemory>
+    requires inside { number.0 < length table.old }
+    requires ready { IsReady context.now.grammar.now table.old context.now.numbers.now }
+    requires known { AreAllKnown context.now.grammar.now context.now.keys.now table.old known.old }
+    ensures longer { OnOk result (Longer table.old table.new) }
+    ensures known { OnOk result (AreAllKnown context.now.grammar.now context.now.keys.now table.new known.new) }
+    ensures left { IfOk result (IsLeft context.now.grammar.now table.old table.new first.entry number) }
+{
+    if is_leaf_for(table, first, number) {
+        return after_leaf(context, table, known, first, number);
+    }
+    after_ways(context, table, known, first, number)
+}
+
+/// Returns what is left of a leaf of the sort that may take this, after it.
+#[cycle(after)]
+fn after_leaf(
+    context: &Context,
+    table: &mut PatternTable,
+    known: &mut Known,
+    first: First,
+    leaf: PatternNumber,
+) -> Result<PatternNumber, OutOfMemory>
+    requires inside { leaf.0 < length table.old }
+    requires ready { IsReady context.now.grammar.now table.old context.now.numbers.now }
+    requires known { AreAllKnown context.now.grammar.now context.now.keys.now table.old known.old }
+    requires leaf { IsLeafFor first (tree_of context.now.grammar.now table.old leaf.0) }
+    ensures longer { OnOk result (Longer table.old table.new) }
+    ensures known { OnOk result (AreAllKnown context.now.grammar.now context.now.keys.now table.new known.new) }
+    ensures left { IfOk result (IsLeft context.now.grammar.now table.old table.new first.entry leaf) }
+{
+    if !takes(context, table, known, first, leaf)? {
+        return table.not_allowed();
+    }
+    rest_of_leaf(table, leaf)
+}
+
+/// The same for any pattern.
+#[cycle(after)]
+fn after_ways(
+    context: &Context,
+    table: &mut PatternTable,
+    known: &mut Known,
+    first: First,
+    number: PatternNumber,
+) -> Result<PatternNumber, OutOfMemory>
+    requires inside { number.0 < length table.old }
+    requires ready { IsReady context.now.grammar.now table.old context.now.numbers.now }
+    requires known { AreAllKnown context.now.grammar.now context.now.keys.now table.old known.old }
+    ensures longer { OnOk result (Longer table.old table.new) }
+    ensures known { OnOk result (AreAllKnown context.now.grammar.now context.now.keys.now table.new known.new) }
+    ensures left { IfOk result (IsLeft context.now.grammar.now table.old table.new first.entry number) }
+{
+    match settled(context, table, known, first, number) {
+        Rest::Only(rest) => Ok(rest),
+        Rest::Two(first, second) => table.choice(context.alloc, &[first, second]),
+        Rest::Nothing => table.not_allowed(),
+        Rest::Unknown => after_all_ways(context, table, known, first, number),
+    }
+}
+
+/// The same by all ways of the pattern: the choice of what they leave.
+#[cycle(after)]
+fn after_all_ways(
+    context: &Context,
+    table: &mut PatternTable,
+    known: &mut Known,
+    first: First,
+    number: PatternNumber,
+) -> Result<PatternNumber, OutOfMemory>
+    requires inside { number.0 < length table.old }
+    requires ready { IsReady context.now.grammar.now table.old context.now.numbers.now }
+    requires known { AreAllKnown context.now.grammar.now context.now.keys.now table.old known.old }
+    ensures longer { OnOk result (Longer table.old table.new) }
+    ensures known { OnOk result (AreAllKnown context.now.grammar.now context.now.keys.now table.new known.new) }
+    ensures left { IfOk result (IsLeft context.now.grammar.now table.old table.new first.entry number) }
+{
+    let ways = ways_for(context, table, known, first, number)?;
+    let rests = rests(context, table, known, first, ways.as_slice())?;
+    table.choice(context.alloc, rests.as_slice())
+}
+
+/// Returns the rests of the ways whose leaves take this.
+#[cycle(after)]
+fn rests(
+    context: &Context,
+    table: &mut PatternTable,
+    known: &mut Known,
+    first: First,
+    ways: &[LeafWay],
+) -> Result<Rests, OutOfMemory>
+    requires inside { AreInside table.old ways.now }
+    requires ready { IsReady context.now.grammar.now table.old context.now.numbers.now }
+    requires known { AreAllKnown context.now.grammar.now context.now.keys.now table.old known.old }
+    ensures longer { OnOk result (Longer table.old table.new) }
+    ensures known { OnOk result (AreAllKnown context.now.grammar.now context.now.keys.now table.new known.new) }
+    ensures rests { IfOk result (λ rests. AreRests context.now.grammar.now table.old table.new first.entry ways.now rests.items) }
+{
+    let mut rests = SmallVec::new(context.alloc);
+    'ways: for way in ways {
+        if takes(context, table, known, first, way.leaf)? {
+            rests.push(way.rest)?;
+        }
+    }
+    Ok(rests)
+}
+
+/// Returns whether a leaf takes this.
+#[cycle(after)]
+fn takes(
+    context: &Context,
+    table: &mut PatternTable,
+    known: &mut Known,
+    first: First,
+    leaf: PatternNumber,
+) -> Result<bool, OutOfMemory>
+    requires inside { leaf.0 < length table.old }
+    requires ready { IsReady context.now.grammar.now table.old context.now.numbers.now }
+    requires known { AreAllKnown context.now.grammar.now context.now.keys.now table.old known.old }
+    ensures longer { OnOk result (Longer table.old table.new) }
+    ensures known { OnOk result (AreAllKnown context.now.grammar.now context.now.keys.now table.new known.new) }
+    ensures taken { IfOk result (TellsTaken (reading_of context.now.grammar.now) first.entry (tree_of context.now.grammar.now table.old leaf.0)) }
+{
+    match (first, table.pattern(leaf)) {
+        (First::Text(_, _), Pattern::Text) => Ok(true),
+        (First::Text(place, text), Pattern::Data(position)) => {
+            let position = *position;
+            match list_body(context.grammar, place, position) {
+                Some(body) => list_takes(context, table, known, text, body),
+                None => data_takes(context, &known.datatypes, position, text),
+            }
+        }
+        (First::Attribute(attr), Pattern::Attribute(position)) => {
+            let position = *position;
+            attribute_takes(context, table, known, attr, position)
+        }
+        _ => Ok(false),
+    }
+}
+
+/// Returns whether a list with this body takes a string: the body takes the pieces between blanks, one after the other.
+///
+/// RELAX NG Specification, section 6.2.10.
+#[cycle(after)]
+fn list_takes(
+    context: &Context,
+    table: &mut PatternTable,
+    known: &mut Known,
+    text: &str,
+    body: PatternId,
+) -> Result<bool, OutOfMemory>
+    requires inside { body.0 < length context.now.numbers.now }
+    requires ready { IsReady context.now.grammar.now table.old context.now.numbers.now }
+    requires known { AreAllKnown context.now.grammar.now context.now.keys.now table.old known.old }
+    ensures longer { OnOk result (Longer table.old table.new) }
+    ensures known { OnOk result (AreAllKnown context.now.grammar.now context.now.keys.now table.new known.new) }
+    ensures taken { IfOk result (λ b. IsAskedFor context.now.grammar.now body.0 → MayBeListed (tree_at context.now.grammar.now.patterns body)
+        → (b ≡ true) ↔ Takes (reading_of context.now.grammar.now) (tree_at context.now.grammar.now.patterns body) [] (map a_text (pieces text.now))) }
+{
+    let mut rest = number_at(context.numbers, body);
+    'pieces: for piece in Pieces::new(text) {
+        rest = after(context, table, known, First::Text(Place::List, piece), rest)?;
+    }
+    Ok(table.facts(rest).nullable)
+}
+
+/// Returns whether the attribute pattern at a position of the grammar takes an attribute.
+#[cycle(after)]
+fn attribute_takes(
+    context: &Context,
+    table: &mut PatternTable,
+    known: &mut Known,
+    attr: &Attr,
+    position: PatternId,
+) -> Result<bool, OutOfMemory>
+    requires ready { IsReady context.now.grammar.now table.old context.now.numbers.now }
+    requires known { AreAllKnown context.now.grammar.now context.now.keys.now table.old known.old }
+    ensures longer { OnOk result (Longer table.old table.new) }
+    ensures known { OnOk result (AreAllKnown context.now.grammar.now context.now.keys.now table.new known.new) }
+    ensures taken { IfOk result (TellsTaken (reading_of context.now.grammar.now) (firsts.Attribute attr.entry)
+        (attribute_found context.now.grammar.now (slice_get context.now.grammar.now.patterns position.0))) }
+{
+    let Some(row) = context.grammar.pattern(position) else {
+        return Ok(false);
+    };
+    let Simple::Attribute(class, body) = row else {
+        return Ok(false);
+    };
+    if !contains(class, &attr.name) {
+        return Ok(false);
+    }
+    value_takes(context, table, known, attr.value.as_str(), *body)
+}
+
+/// Returns whether a pattern weakly takes the value of an attribute.
+///
+/// RELAX NG Specification, section 6.2.7.
+#[cycle(after)]
+fn value_takes(
+    context: &Context,
+    table: &mut PatternTable,
+    known: &mut Known,
+    value: &str,
+    body: PatternId,
+) -> Result<bool, OutOfMemory>
+    requires inside { body.0 < length context.now.numbers.now }
+    requires ready { IsReady context.now.grammar.now table.old context.now.numbers.now }
+    requires known { AreAllKnown context.now.grammar.now context.now.keys.now table.old known.old }
+    ensures longer { OnOk result (Longer table.old table.new) }
+    ensures known { OnOk result (AreAllKnown context.now.grammar.now context.now.keys.now table.new known.new) }
+    ensures taken { IfOk result (λ b. IsAskedFor context.now.grammar.now body.0 → IsRestricted (tree_at context.now.grammar.now.patterns body)
+        → (b ≡ true) ↔ WeaklyTakes (reading_of context.now.grammar.now) (tree_at context.now.grammar.now.patterns body) [] (a_text value.now ∷ [])) }
+{
+    let body = number_at(context.numbers, body);
+    let empty = table.facts(body).nullable;
+    let rest = after(
+        context,
+        table,
+        known,
+        First::Text(Place::Content, value),
+        body,
+    )?;
+    Ok(table.facts(rest).nullable || empty && is_blank(value))
+}

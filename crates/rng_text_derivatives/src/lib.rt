@@ -1,0 +1,16 @@
+//! What is left of a numbered pattern after a string, and after the attributes of a start tag.
+//!
+//! The ways of the pattern (`rng_pattern_derivatives`) say which leaf may take the string or the attribute, and what is
+//! left then. The leaves are tested. What is left takes what may follow, by the rules of matching (RELAX NG
+//! Specification, section 6.2). This holds for every grammar that obeys the restrictions of section 7.
+#![tactic(auto)]
+
+mod after;
+mod context;
+mod first;
+mod leaf_tests;
+mod settled;
+mod texts;
+
+pub use after::{after_tag, after_text};
+pub use context::Context;
