@@ -98,7 +98,8 @@ impl Reader {
     ///
     /// Returns `Ok` exactly if all bytes are a document. The events that were handed out are then its events. An error
     /// is `PyxFault::At`, the broken clause with the least line, and there the least number, or `PyxFault::Memory`.
-    /// After an error of `feed` it is the same error. The cost is at most that of one line and one tag.
+    /// After an error of `feed` it is the same error. XML 1.0, sections 2.2 and 3.1; Namespaces in XML 1.0, sections 3 to
+    /// 6. The cost is at most that of one line and one tag.
     pub fn finish<E: Events>(self, events: &mut E) -> Result<(), PyxFault>
         ensures document { UnlessMemory result (Ends (Hands E.stands events.old events.new) self result) }
         ensures sticky { IfSome self.fault (λ f. result ≡ Err f) }

@@ -54,7 +54,7 @@ impl Text {
         }
     }
 
-    /// Returns the decoded text.
+    /// Returns the decoded text, in UTF-8. Allocates nothing, and costs no pass over the text.
     pub fn as_str(&self) -> &str
         ensures { result.now ≡ bytes_of self.now }
     {

@@ -1,15 +1,14 @@
 // From the words of a command line to one answer.
-ghost use Rattle.std.specs.Prelude.{◌≡◌, ◌≢◌, ◌<◌, vec_len, Err, IfOk, IfErr};
+ghost use Rattle.std.specs.Prelude.{◌≡◌, ◌≢◌, Err, IfOk, IfErr};
 ghost use Rattle.std.specs.IoError.{error_kind};
 ghost use Rattle.std.specs.Vec.Iter.{into_iter_items};
 ghost use Rattle.rncv_model.specs.answers.Run.{WritesAnswer};
-ghost use Rattle.rncv_cli.specs.plain.Answering.{IsAnswerOver, IsAnswerTo, IsReadBy, LeavesWritten};
+ghost use Rattle.rncv_cli.specs.plain.Answering.{IsAnswerTo, IsReadBy, LeavesWritten};
 ghost use Rattle.rncv_cli.specs.plain.CommandLine.{words_behind_name};
-ghost use Rattle.rncv_cli.specs.views.Faults.{IsFaultOver, IsFaultTo};
+ghost use Rattle.rncv_cli.specs.views.Faults.{IsFaultTo};
 
 use crate::command_line::words_given;
 use crate::fault::{Fault, fault_of_words};
-use crate::invocation::Words;
 use crate::schema_files::read_files;
 use rncv_run::{Status, run};
 use rng_model::Device;
@@ -18,14 +17,18 @@ use std::env::Args;
 use std::io;
 use std::io::{ErrorKind, Read, Write};
 
-/// Runs the command that the words after the program's name ask for, as `answer_words` does, and returns the writer.
+/// Runs the command that the words after the program's name ask for, on the files that they name and with a reader that
+/// has the document. Writes the answer, flushes the writer, and returns it.
+///
 /// The words are those that `std::env::args` returns, the program's name first. `open_file` opens the file with a name,
-/// as `std::fs::open` does. `reader` has the document. The answer is written to `writer`.
+/// as `std::fs::open` does. The answer and the status are those of `run` for the command and for what is read of the
+/// files. The first file is the main one.
 ///
 /// Fails with `Usage` if the words are no command line, or if `args` returned an error in their place, as for a word
-/// that is not UTF-8. Fails with `Memory` if such an error is out of memory. Only the answer for the given words is
-/// written, or a beginning of it after a failed write or flush. Costs what `answer_words` costs, and copies of the
-/// words.
+/// that is not UTF-8. Fails with `File` and the first file that cannot be read, before the document is read. Fails with
+/// `Read` if a read of the document failed, with `Write` if a write or flush failed, and with `Memory` when out of
+/// memory, also if `args` was. After `Write`, a beginning of the answer is written, or all of it; after any other fault
+/// nothing is. Costs what `words`, `read_files` and `run` cost, and copies of the words.
 pub fn answer_command_line<O: Fn(&str) -> io::Result<T>, T: Read + Drop, R: Read + Drop, W: Write>(
     alloc: Global,
     given: io::Result<Args>,
@@ -48,37 +51,10 @@ pub fn answer_command_line<O: Fn(&str) -> io::Result<T>, T: Read + Drop, R: Read
         Ok(all) => all,
         Err(error) => return (Err(fault_of_words(&error)), writer),
     };
-    match words_given(alloc, all) {
-        Ok(words) => answer_words(alloc, words, open_file, reader, writer),
-        Err(fault) => (Err(fault), writer),
-    }
-}
-
-/// Reads the files that the words name, and runs the command with a reader that has the document. Writes the answer,
-/// flushes the writer, and returns it. `open_file` opens the file with a name.
-///
-/// The answer and the status are those of `run` for the command and for what is read of the files. The first file is
-/// the main one. Fails with `File` and the first file that cannot be read, before the document is read. Fails with
-/// `Read` if a read of the document failed, with `Write` if a write or flush failed, and with `Memory` when out of
-/// memory. After `Write`, a beginning of the answer is written, or all of it; after any other fault nothing is. Requires
-/// words with at least one file. Costs what `read_files` and `run` cost.
-pub fn answer_words<O: Fn(&str) -> io::Result<T>, T: Read + Drop, R: Read + Drop, W: Write>(
-    alloc: Global,
-    words: Words,
-    open_file: O,
-    reader: R,
-    writer: W,
-) -> (Result<Status, Fault>, W)
-    requires files { 0 < vec_len words.files }
-    requires opened { O.IsAlwaysCallable open_file }
-    ensures answer { IfOk result.0 (λ status. WritesAnswer
-        (IsAnswerOver (IsReadBy O.Fn open_file T.remaining) words.command words.files.items (R.remaining reader))
-        status (W.contents writer) (W.contents result.1)) }
-    ensures fault { IfErr result.0 (IsFaultOver (IsReadBy O.Fn open_file T.remaining) words.files.items) }
-    ensures written { IfErr result.0 (λ fault. LeavesWritten
-        (IsAnswerOver (IsReadBy O.Fn open_file T.remaining) words.command words.files.items (R.remaining reader))
-        fault (W.contents writer) (W.contents result.1)) }
-{
+    let words = match words_given(alloc, all) {
+        Ok(words) => words,
+        Err(fault) => return (Err(fault), writer),
+    };
     let files = match read_files(alloc, words.files, open_file) {
         Ok(files) => files,
         Err(fault) => return (Err(fault), writer),

@@ -13,7 +13,7 @@ mod fault;
 mod invocation;
 mod schema_files;
 
-pub use answering::{answer_command_line, answer_words};
+pub use answering::answer_command_line;
 pub use command_line::{words, words_given};
 pub use exit_code::exit_of;
 pub use fault::Fault;

@@ -34,9 +34,9 @@ use Rattle.pyx.proofs.ReaderAfterPiece.{fed_stuck}
 use Rattle.pyx.proofs.ReaderOutcome.{is_fault_after}
 use Rattle.pyx.proofs.WholeBytes.{in_pieces}
 use Rattle.rng_deriv.specs.declared.matcher_state.MatcherState.{MatcherState}
-use Rattle.rng_deriv.specs.declared.progress.Progress.{Progress}
-use Rattle.rng_deriv.specs.declared.progress.Progress.TheVariants as progress
-use Rattle.rng_deriv.specs.views.Positions.{IsKnown}
+use Rattle.rng_event_matcher.specs.declared.progress.Progress.{Progress}
+use Rattle.rng_event_matcher.specs.declared.progress.Progress.TheVariants as progress
+use Rattle.rng_event_matcher.specs.views.Positions.{IsKnown}
 use Rattle.rng_pattern_table.specs.views.Trees.{trees}
 use Rattle.rng_deriv.specs.views.Matchers.{HasFailedAt, HasGoneOn, HasRunOut, IsStateBy, Knows, Matching, failed_line, judges_by, matching_in}
 use Rattle.rncv_validator.specs.plain.Judging.{IsUnknownTo, verdict_of}

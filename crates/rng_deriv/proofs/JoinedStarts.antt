@@ -29,9 +29,9 @@ use Rattle.rng_pattern_derivatives.specs.plain.Ways.{AreInside, IsInside, way_by
 use Rattle.rng_pattern_derivatives.specs.declared.way.LeafWay as numbered
 use Rattle.rng_pattern_derivatives.proofs.KeptRestrictions.{each_both, each_first, each_second}
 use Rattle.rng_pattern_derivatives.proofs.StartBodies.{append_opens, opens_both, opens_first, opens_second}
-use Rattle.rng_deriv.specs.views.Numbers as numbers
-use Rattle.rng_deriv.specs.views.Numbers.{way_of}
-use Rattle.rng_deriv.specs.declared.derivatives.StartWay.{StartWay}
+use Rattle.rng_event_matcher.specs.views.Numbers as numbers
+use Rattle.rng_event_matcher.specs.views.Numbers.{way_of}
+use Rattle.rng_event_matcher.specs.declared.derivatives.StartWay.{StartWay}
 use Rattle.rng_deriv.specs.views.Starts.{IsWayInside, OpensLike, with_way}
 
 -- ---- patterns that nothing matches

@@ -10,8 +10,8 @@ use Rattle.rng_pattern_table.specs.declared.pattern.PatternNumber.{PatternNumber
 use Rattle.rng_model.specs.matching.GrammarReading.{reading_of}
 use Rattle.rng_pattern_derivatives.specs.views.KnownWays.{AreAllKnown}
 use Rattle.rng_pattern_derivatives.specs.declared.known.Known.{Known}
-use Rattle.rng_deriv.specs.views.Numbers.{AddsStarts, tree_of, way_of}
-use Rattle.rng_deriv.specs.declared.derivatives.StartWay.{StartWay}
+use Rattle.rng_event_matcher.specs.views.Numbers.{AddsStarts, tree_of, way_of}
+use Rattle.rng_event_matcher.specs.declared.derivatives.StartWay.{StartWay}
 use Rattle.rng_deriv.proofs.NamesOfOneKey.{no_less, no_more, starts_alike}
 use Rattle.rng_deriv.specs.views.Serving.{IsServedBy}
 use Rattle.rng_deriv.proofs.ServedTables.{served_longer}

@@ -14,9 +14,9 @@ use Rattle.rng_pattern_table.specs.declared.pattern.PatternNumber.{PatternNumber
 use Rattle.rng_pattern_table.proofs.Trees.{length-trees}
 use Rattle.rng_pattern_derivatives.specs.plain.Kinds.{Obeys}
 use Rattle.rng_pattern_derivatives.proofs.StartBodies.{body_inside}
-use Rattle.rng_deriv.specs.views.Numbers as numbers
-use Rattle.rng_deriv.specs.views.Numbers.{AreRenewed, IsInside}
-use Rattle.rng_deriv.proofs.LevelRenewal.{zip_split}
+use Rattle.rng_event_matcher.specs.views.Numbers as numbers
+use Rattle.rng_event_matcher.specs.views.Numbers.{AreRenewed, IsInside}
+use Rattle.rng_event_matcher.proofs.LevelRenewal.{zip_split}
 use Rattle.rng_deriv.specs.views.PatternRenewal.{AreSameTrees, IsSameTree}
 use Rattle.rng_deriv.specs.views.Serving.{IsServed}
 

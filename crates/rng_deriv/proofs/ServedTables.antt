@@ -35,9 +35,9 @@ use Rattle.rng_pattern_derivatives.specs.declared.way.Place.TheVariants as place
 use Rattle.rng_pattern_derivatives.specs.declared.way.LeafWay as numbered
 use Rattle.rng_pattern_derivatives.proofs.GrammarRows.{body_there}
 use Rattle.rng_pattern_derivatives.proofs.StartBodies.{bodies_longer, body_inside, ready_longer}
-use Rattle.rng_deriv.specs.views.Numbers as numbers
-use Rattle.rng_deriv.specs.views.Numbers.{Adds, AddsStarts, IsChoiceOf, IsInside}
-use Rattle.rng_deriv.specs.declared.derivatives.StartWay.{StartWay}
+use Rattle.rng_event_matcher.specs.views.Numbers as numbers
+use Rattle.rng_event_matcher.specs.views.Numbers.{Adds, AddsStarts, IsChoiceOf, IsInside}
+use Rattle.rng_event_matcher.specs.declared.derivatives.StartWay.{StartWay}
 use Rattle.rng_deriv.specs.views.Serving.{IsServed, IsServedBy, nodes_unless}
 use Rattle.rng_deriv.specs.views.Starts.{OpensLike}
 use Rattle.rng_deriv.proofs.JoinedStarts.{starts_are, starts_inside}

@@ -1,14 +1,5 @@
 -- Views of types, and invariants.
-pub mod Basis
-pub mod KeptLevels
-pub mod Levels
-pub mod Numbers
-pub mod OpenPositions
-pub mod Positions
-pub mod LevelRenewal
 pub mod Matchers
-pub mod States
-pub mod Strings
 pub mod PatternRenewal
 pub mod Serving
 pub mod Starts

@@ -7,11 +7,10 @@ ghost use Rattle.rng_model.specs.matching.GrammarReading.{reading_of};
 ghost use Rattle.rng_model.specs.names.NameViews.{name_of};
 ghost use Rattle.rng_names.specs.plain.Holding.{same_name};
 
-use crate::derivatives::Derivatives;
 use crate::learned::Learned;
-use crate::lists::Ways;
-use crate::pattern_renewal::{Selection, count_start, limit_beside, renewed};
+use crate::pattern_renewal::{Selection, copied, count_start, limit_beside, renewed};
 use crate::starts::joined_ways;
+use rng_event_matcher::{Derivatives, Ways};
 use rng_model::{Attr, Name, OutOfMemory, SimpleGrammar};
 use rng_names::{NameKey, NameKeys};
 use rng_pattern_derivatives::{Known, start};
@@ -40,7 +39,7 @@ pub struct GrammarDerivatives<'a> {
 impl<'a> Model for GrammarDerivatives<'a> {
     ghost use Rattle.std.specs.Prelude.{List};
     ghost use Rattle.rng_pattern_table.specs.views.Node.{Node};
-    ghost use Rattle.rng_deriv.specs.views.Basis.{Basis};
+    ghost use Rattle.rng_event_matcher.specs.views.Basis.{Basis};
     ghost use Rattle.rng_deriv.specs.views.Serving.{Serves, nodes_of};
 
     ghost Value = { Basis × List Node };
@@ -227,6 +226,10 @@ impl Derivatives for GrammarDerivatives<'_> {
     ) -> Result<Vec<PatternNumber>, OutOfMemory> {
         if self.learned.lost {
             return Err(OutOfMemory);
+        }
+        // What is known of the patterns stays, if only the levels are crowded.
+        if !self.is_crowded() {
+            return copied(alloc, held);
         }
         self.learned.lost = true;
         let Selection {

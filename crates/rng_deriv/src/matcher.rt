@@ -10,9 +10,9 @@ ghost use Rattle.rng_model.specs.matching.Outcomes.{IsOutcome};
 ghost use Rattle.rng_deriv.specs.views.Matchers.{HasFailedAt, HasGoneOn, HasRunOut, IsStateBy, Knows, judges_by, matching_in};
 ghost use Rattle.rng_model.specs.declared.outcome.Outcome.{Outcome};
 
-use crate::event_matcher::EventMatcher;
 use crate::grammar_derivatives::GrammarDerivatives;
 use crate::matcher_state::MatcherState;
+use rng_event_matcher::EventMatcher;
 use rng_model::{Event, Events, OutOfMemory, Outcome, SimpleGrammar};
 use std::alloc::Global;
 use std::marker::Model;

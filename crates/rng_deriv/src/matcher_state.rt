@@ -3,7 +3,7 @@ ghost use Rattle.std.specs.Prelude.{◌≡◌};
 ghost use Rattle.rng_deriv.specs.views.Matchers.{failed_line};
 
 use crate::learned::Learned;
-use crate::progress::Progress;
+use rng_event_matcher::Progress;
 
 /// What a matcher keeps of a document, and what it has learned about a grammar, without the grammar.
 ///

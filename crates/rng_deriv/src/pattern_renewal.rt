@@ -47,7 +47,7 @@ fn joined(
 }
 
 /// Returns a copy of numbers. Fails only when out of memory.
-fn copied(alloc: Global, numbers: &[PatternNumber]) -> Result<Vec<PatternNumber>, OutOfMemory>
+pub fn copied(alloc: Global, numbers: &[PatternNumber]) -> Result<Vec<PatternNumber>, OutOfMemory>
     ensures { IfOk result (λ copy. copy.items ≡ numbers.now) }
 {
     let mut copy = Vec::new(alloc);

@@ -1,15 +1,14 @@
 // The ways of a start, without those that nothing matches.
 ghost use Rattle.std.specs.Prelude.{◌≡◌, ◌||◌, ◌<◌, All, IfOk, IfNone, IfSome, OnOk, Some, length, slice_get};
 ghost use Rattle.rng_model.specs.simple.Table.{Table};
-ghost use Rattle.rng_deriv.specs.declared.derivatives.StartWay.{StartWay};
+ghost use Rattle.rng_event_matcher.specs.declared.derivatives.StartWay.{StartWay};
 ghost use Rattle.rng_deriv_laws.specs.plain.Derivatives.{is_not_allowed};
 ghost use Rattle.rng_pattern_table.specs.views.PatternTable.{Longer};
 ghost use Rattle.rng_pattern_table.specs.views.Trees.{tree_of};
 ghost use Rattle.rng_pattern_derivatives.specs.plain.Ways.{AreInside, IsInside, IsTakenOut, ways_by};
 ghost use Rattle.rng_deriv.specs.views.Starts.{IsWayInside, OpensLike, with_way};
 
-use crate::derivatives::StartWay;
-use crate::lists::Ways;
+use rng_event_matcher::{StartWay, Ways};
 use rng_model::OutOfMemory;
 use rng_pattern_table::{PatternNumber, PatternTable};
 use smallvec::SmallVec;

@@ -63,7 +63,7 @@ impl Schema {
     }
 
     /// Returns the components of the grammar at a place, in order, including those of included files, or `None` if no
-    /// grammar is at that place. Allocates nothing.
+    /// grammar is at that place. Allocates nothing. Costs a look-up by hashing the place, in the length of the place.
     ///
     /// RELAX NG Specification, sections 4.7 and 4.11.
     pub fn components(&self, place: &Place) -> Option<&[Component]>
@@ -76,7 +76,7 @@ impl Schema {
     }
 
     /// Returns the place of the grammar around the one at a place, or `None` for the main grammar and if no grammar is
-    /// at that place. Allocates nothing.
+    /// at that place. Allocates nothing. Costs a look-up by hashing the place, in the length of the place.
     ///
     /// RELAX NG Specification, section 4.18.
     pub fn outer(&self, place: &Place) -> Option<&Place>

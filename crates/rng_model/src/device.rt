@@ -74,7 +74,8 @@ impl<R: Read> Device<R> {
     /// Reads into the front of a slice, and returns the number of bytes read. Allocates nothing.
     ///
     /// Every error of the reader counts as a failed call, also the error for an interrupted call. Once 2^62 or more
-    /// bytes were read, this fails without a call of the reader, and counts as a failed call.
+    /// bytes were read, this fails without a call of the reader, and counts as a failed call. Requires a device that has
+    /// counted fewer than 2^64 - 1 failed calls. Costs at most one call of the reader.
     pub fn read(&mut self, buf: &mut [u8]) -> Result<usize, DeviceFault>
         requires { device_failures self.old < 2 ^ 64 - 1 }
         ensures bound { ReadsAtMost result buf.new }
@@ -103,6 +104,7 @@ impl<W: Write> Device<W> {
     /// Allocates nothing.
     ///
     /// A call that writes nothing of a slice that is not empty counts as failed, as does every error of the writer.
+    /// Requires a device that has counted fewer than 2^64 - 1 failed calls. Costs one call of the writer.
     pub fn write(&mut self, buf: &[u8]) -> Result<usize, DeviceFault>
         requires { device_failures self.old < 2 ^ 64 - 1 }
         ensures bound { WritesAtMost result buf.now }
@@ -121,7 +123,8 @@ impl<W: Write> Device<W> {
 
     /// Flushes the writer. Allocates nothing.
     ///
-    /// Every error of the writer counts as a failed call.
+    /// Every error of the writer counts as a failed call. Requires a device that has counted fewer than 2^64 - 1 failed
+    /// calls. Costs one call of the writer.
     pub fn flush(&mut self) -> Result<(), DeviceFault>
         requires { device_failures self.old < 2 ^ 64 - 1 }
         ensures bytes { Keeps (W.contents (device_inner self.old)) (W.contents (device_inner self.new)) }

@@ -10,7 +10,8 @@ use std::io::Write;
 /// Writes all of a slice, in as many calls of the writer as it needs.
 ///
 /// Fails if a call of the writer fails, which the device counts. Then a beginning of the slice is written, and nothing
-/// after it. An empty slice makes no call. Allocates nothing, and makes at most as many calls as there are bytes.
+/// after it. An empty slice makes no call. Requires a device that has counted fewer than 2^64 - 1 failed calls. Allocates
+/// nothing, and makes at most as many calls as there are bytes.
 pub fn write_whole<W: Write>(output: &mut Device<W>, bytes: &[u8]) -> Result<(), DeviceFault>
     requires { device_failures output.old < 2 ^ 64 - 1 }
     ensures ok { OnOk result (Appends (W.contents (device_inner output.old)) (W.contents (device_inner output.new)) bytes.now) }

@@ -1,5 +1,5 @@
 // Name classes that are prepared for comparisons.
-ghost use Rattle.std.specs.Prelude.{◌≡◌, ◌↔◌, IfOk, IsTrue, IsFalse};
+ghost use Rattle.std.specs.Prelude.{◌≡◌, ◌↔◌, IfOk, IsOk, IsTrue, IsFalse};
 ghost use Rattle.std.specs.Bool.{Decides};
 ghost use Rattle.rng_model.specs.names.Names.{In, Overlap, AreApart};
 ghost use Rattle.rng_model.specs.names.NameViews.{class_of, name_of};
@@ -45,10 +45,11 @@ impl<'a> Model for PreparedClass<'a> {
 }
 
 impl<'a> PreparedClass<'a> {
-    /// Prepares a class. Fails only when out of memory, and never for a plain name. Linear in the size of the class, apart
-    /// from hashing.
+    /// Prepares a class. Fails only when out of memory, and never for a plain name. Costs hashing, and a pass over the
+    /// class.
     pub fn of(alloc: Global, class: &'a NameClass) -> Result<Self, OutOfMemory>
-        ensures { IfOk result (λ prepared. prepared ≡ class.now) }
+        ensures class { IfOk result (λ prepared. prepared ≡ class.now) }
+        ensures plain { IsPlain class.now → IsOk result }
     {
         match class {
             NameClass::Name(name) => Ok(PreparedClass {

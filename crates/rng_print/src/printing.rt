@@ -42,8 +42,8 @@ pub fn printed_text(alloc: Global, grammar: &SimpleGrammar) -> Result<Vec<u8>, O
 ///
 /// The text is complete before its first byte is written. So after `PrintFault::Memory` the device is unchanged. After
 /// `PrintFault::Write`, which comes only if the device counted a failed call, a beginning of the text is written.
-/// Nothing is flushed. The cost is that of `printed_text`, and at most one call of the writer for each byte of the
-/// text.
+/// Nothing is flushed. Requires a device that has counted fewer than 2^64 - 1 failed calls. RELAX NG Specification,
+/// section 5. The cost is that of `printed_text`, and at most one call of the writer for each byte of the text.
 pub fn print<W: Write>(
     alloc: Global,
     grammar: &SimpleGrammar,

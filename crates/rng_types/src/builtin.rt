@@ -43,8 +43,8 @@ impl Builtin {
     ///
     /// The built-in library has the empty URI, and the other one is `http://www.w3.org/2001/XMLSchema-datatypes`.
     /// Returns a datatype exactly if there is one, with the bounds that the parameters write. Returns each fault
-    /// exactly if it holds. No two faults hold of one datatype. Allocates nothing. The cost is a few passes over the
-    /// parameters.
+    /// exactly if it holds. No two faults hold of one datatype. RELAX NG Specification, section 4.16; XML Schema Part 2,
+    /// section 4.3. Allocates nothing. The cost is a few passes over the parameters.
     pub fn find(lib: &str, name: &str, params: &[(String, String)]) -> Result<Builtin, TypeFault>
         ensures found { (t : BuiltInType) → (seen built_in_type_of result ≡ Ok t) ↔ HasType (datatype_at lib.now name.now params.now) t }
         ensures fault { (f : TypeFault) → (result ≡ Err f) ↔ HasFault f (datatype_at lib.now name.now params.now) }

@@ -36,11 +36,6 @@ state_of s = record {
   count = s.lines;
 }
 
--- the fault that is broken in a document; none if memory ran out
-abbrev pub broken_by : PyxFault → Option Fault
-broken_by faults_at.Memory = None
-broken_by (faults_at.At clause line) = Some (record { clause = clause; line = line })
-
 -- The call returned what this turn gives, unless memory ran out.
 abbrev pub Takes : {A S : Type 0} → Result A PyxFault → S → (List Event → Type 0) → Turn S → Type 0
 Takes (Ok x) new handed turn = (turn.0 ≡ Ok new) × handed turn.1

@@ -39,14 +39,6 @@ IsUnreadable reads names Read = ⊥
 IsUnreadable reads names Write = ⊥
 IsUnreadable reads names Usage = ⊥
 
--- the faults of the program for words that name these files
-abbrev pub IsFaultOver : (Text → List ℕ → Type 0) → List (String Global) → Fault → Type 0
-IsFaultOver reads names Memory = ⊤
-IsFaultOver reads names Read = ⊤
-IsFaultOver reads names Write = ⊤
-IsFaultOver reads names (File name) = IsFirstUnread reads names name
-IsFaultOver reads names Usage = ⊥
-
 -- the first file of a command line that is not read
 pub record IsFirstUnreadOf (reads : Text → List ℕ → Type 0) (words : List Text) (name : String Global) : Type 0 where
   pub command : Command

@@ -13,7 +13,7 @@ use Rattle.rng_model.specs.declared.pyx_fault.PyxFault.TheVariants as pyx
 use Rattle.pyx.specs.views.ReaderAfterPiece.{Kept, Stands}
 use Rattle.rng_deriv.specs.views.Matchers.{HasRunOut, IsStateBy, Knows, Matching, failed_line, matching_in}
 use Rattle.rng_deriv.specs.declared.matcher_state.MatcherState.{MatcherState}
-use Rattle.rng_deriv.specs.declared.progress.Progress.TheVariants as progress
+use Rattle.rng_event_matcher.specs.declared.progress.Progress.TheVariants as progress
 use Rattle.rncv_model.specs.declared.verdict.Verdict.{Verdict}
 use Rattle.rncv_model.specs.declared.verdict.Verdict.TheVariants.{Valid, Malformed, Invalid}
 use Rattle.rncv_validator.specs.declared.fault.DocumentFault.{DocumentFault}

@@ -8,7 +8,7 @@ use Rattle.rng_pattern_table.specs.declared.pattern.PatternNumber.{PatternNumber
 use Rattle.rng_pattern_derivatives.specs.views.KnownWays.{AreAllKnown}
 use Rattle.rng_pattern_derivatives.specs.plain.Starting.{IsReady, HasRestrictedBodies}
 use Rattle.rng_pattern_derivatives.specs.declared.known.Known.{Known}
-use Rattle.rng_deriv.specs.views.Basis.{Basis}
+use Rattle.rng_event_matcher.specs.views.Basis.{Basis}
 use Rattle.rng_deriv.specs.declared.learned.Learned.{Learned}
 
 -- the grammar obeys the restrictions, its patterns are in the table under these numbers, and the bodies of its elements

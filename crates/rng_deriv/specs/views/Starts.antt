@@ -6,8 +6,8 @@ use Rattle.rng_model.specs.simple.Table.{Table}
 use Rattle.rng_deriv_laws.specs.plain.Derivatives as tree
 use Rattle.rng_deriv_laws.specs.plain.Restricted.{IsRestricted}
 use Rattle.rng_deriv_laws.specs.plain.Ways.{EachWay, Opens}
-use Rattle.rng_deriv.specs.views.Numbers.{way_of}
-use Rattle.rng_deriv.specs.declared.derivatives.StartWay.{StartWay}
+use Rattle.rng_event_matcher.specs.views.Numbers.{way_of}
+use Rattle.rng_event_matcher.specs.declared.derivatives.StartWay.{StartWay}
 use Rattle.rng_pattern_table.specs.views.Node.{Node}
 use Rattle.rng_pattern_table.specs.views.Trees.{trees, tree_of}
 use Rattle.rng_model.specs.matching.GrammarReading.{reading_of}

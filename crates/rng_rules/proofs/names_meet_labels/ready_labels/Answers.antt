@@ -11,7 +11,7 @@ loop-label-preserved c =
     let old = c.loop-label.all.items in
     let label = c.label-item.result in
     ap (map ready_label_of) c.in_ok-push.ensures.items ∙ map-append ready_label_of old _
-    ∙ ap₂ (λ xs y. xs ++ (label.row, y) ∷ []) c.loop-label.invariant c.in_ok-class.ensures
+    ∙ ap₂ (λ xs y. xs ++ (label.row, y) ∷ []) c.loop-label.invariant c.in_ok-class.ensures.class
     ∙ sym (taken label_of ls i label c.loop-label-test.true c.label-item.is)
 
 pub returns : goal.returns

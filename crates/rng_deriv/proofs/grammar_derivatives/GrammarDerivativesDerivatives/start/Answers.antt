@@ -6,7 +6,7 @@ use Rattle.rng_deriv_laws.specs.plain.Taking.{Same}
 use Rattle.rng_pattern_table.specs.declared.pattern.PatternNumber.{PatternNumber}
 use Rattle.rng_pattern_table.specs.views.Node.{Node}
 use Rattle.rng_pattern_table.specs.views.Trees.{trees}
-use Rattle.rng_deriv.specs.views.Numbers.{IsInside, tree_of}
+use Rattle.rng_event_matcher.specs.views.Numbers.{IsInside, tree_of}
 use Rattle.rng_deriv.specs.views.Serving.{seen_of}
 use Rattle.rng_deriv.proofs.ServedTables.{seen_there, start_inside, start_same, there_served}
 use Rattle.rng_deriv.proofs.grammar_derivatives.GrammarDerivativesDerivatives.start.Goals as goal

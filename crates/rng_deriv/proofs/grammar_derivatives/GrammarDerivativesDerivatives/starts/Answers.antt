@@ -8,8 +8,8 @@ use Rattle.rng_pattern_table.proofs.Trees.{Longer-trans}
 use Rattle.rng_pattern_derivatives.specs.plain.Ways.{ways_by}
 use Rattle.rng_pattern_derivatives.specs.plain.Starting.{AreStarts}
 use Rattle.rng_pattern_derivatives.specs.declared.way.LeafWay as numbered
-use Rattle.rng_deriv.specs.views.Basis.{Basis}
-use Rattle.rng_deriv.specs.views.Numbers as table
+use Rattle.rng_event_matcher.specs.views.Basis.{Basis}
+use Rattle.rng_event_matcher.specs.views.Numbers as table
 use Rattle.rng_deriv.specs.views.Serving.{seen_of}
 use Rattle.rng_deriv.specs.views.Starts.{OpensLike}
 use Rattle.rng_pattern_derivatives.proofs.KnownWays.{all_longer}
