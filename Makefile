@@ -3,7 +3,7 @@
 #   make            prove and build the program, the library and the programs for XML; this wants the toolchain (README.md)
 #   make try        look before the proofs are made; this proves nothing
 #   make test       all proofs and tests (.ci/run)
-#   make install    install what is built; this builds nothing. PREFIX (else /usr/local) and DESTDIR are heeded
+#   make install    install what is built; this builds nothing. It uses PREFIX (else /usr/local) and DESTDIR
 #   make uninstall  remove what `make install` with the same PREFIX and DESTDIR installed
 #   make deb        build/package/rncv_VERSION_ARCHITECTURE.deb, without the network
 #

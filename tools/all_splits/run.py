@@ -1,11 +1,11 @@
 #!/usr/bin/env python3
-"""A second program for matching, which tries all splits as the rules of matching say (RELAX NG Specification, section 6.2).
+"""A second program for matching. It tries all splits, as the rules of matching say (RELAX NG Specification, section 6.2).
 
-It writes what `rncv_run_cases` reads and must print of small documents: the schemas and the documents of at most six lines
-into crates/rncv_run_cases/data/, and the letters, one for each document and schema (V: valid, I: invalid), to standard output:
-the end of crates/rncv_run_cases/stdout. The schemas hold every kind of pattern; the last ones are put together at random.
+It writes the input of `rncv_run_cases` for small documents, and the output that `rncv_run_cases` must print for it. The schemas and the documents of at
+most six lines go to crates/rncv_run_cases/data/. A letter for each document and schema (V: valid, I: invalid) goes to standard output. These letters are
+the end of crates/rncv_run_cases/stdout. The schemas contain every kind of pattern. The last schemas are random.
 
-    tools/all_splits/run.py [--kinds all]        (at the top of the repository; without it the kinds that `valid` serves today)
+    tools/all_splits/run.py [--kinds all]        (at the top of the repository; without --kinds only the schemas of FIRST_KINDS)
 """
 import argparse
 import functools
@@ -160,7 +160,7 @@ def are_equal(datatype, one, other):
 
 
 def unpadded(items):
-    """The items without a blank string before them and one after them."""
+    """The items without a blank string before them and without one after them."""
     if len(items) in (2, 3) and is_text(items[0]) and is_blank(items[0]):
         items = items[1:]
     if len(items) == 2 and is_text(items[1]) and is_blank(items[1]):
@@ -170,7 +170,7 @@ def unpadded(items):
 
 @functools.cache
 def matches(pattern, attributes, items):
-    """Whether a sequence of attributes, in any order, and a sequence of items match a pattern."""
+    """Whether attributes, in any order, and a sequence of items match a pattern."""
     return RULES[pattern[0]](pattern, attributes, items)
 
 
@@ -204,7 +204,7 @@ def matches_value(pattern, attributes, items):
 
 
 def matches_group(pattern, attributes, items):
-    """Whether the members share out the attributes in some way, and the items one after the other."""
+    """Whether the attributes can be distributed over the members in any way, and the items in order, so that each member matches its share."""
     first, others = pattern[1][0], pattern[1][1:]
     if not others:
         return matches(first, attributes, items)
@@ -213,7 +213,7 @@ def matches_group(pattern, attributes, items):
 
 
 def matches_interleave(pattern, attributes, items):
-    """Whether the members share out the attributes and the items in some way."""
+    """Whether the attributes and the items can be distributed over the members in any way, so that each member matches its share."""
     first, others = pattern[1][0], pattern[1][1:]
     if not others:
         return matches(first, attributes, items)
@@ -222,7 +222,7 @@ def matches_interleave(pattern, attributes, items):
 
 
 def matches_one_or_more(pattern, attributes, items):
-    """Whether all of it is a copy, or a part that is not empty is one and the rest is more of them."""
+    """Whether the whole matches the body, or a part that is not empty matches it and the rest, also not empty, is more such parts."""
     if matches(pattern[1], attributes, items):
         return True
     return any((taken or cut) and (left or items[cut:]) and matches(pattern[1], taken, items[:cut])
@@ -247,14 +247,14 @@ RULES = {
 
 
 def parts(sequence):
-    """All ways to put what a sequence has into two, in its order."""
+    """All ways to split a sequence into two subsequences."""
     for chosen in itertools.product([False, True], repeat=len(sequence)):
         yield (tuple(it for it, mine in zip(sequence, chosen) if mine),
                tuple(it for it, mine in zip(sequence, chosen) if not mine))
 
 
 def weakly(pattern, attributes, items):
-    """As `matches`, but nothing stands for an empty string, and a blank string for nothing."""
+    """Like `matches`, but no items also count as an empty string, and a single blank string also counts as no items."""
     if matches(pattern, attributes, items):
         return True
     if not items:
@@ -351,7 +351,7 @@ def some_children(rng, depth):
 
 
 def some_attributes(rng):
-    """Patterns of attributes whose names do not meet."""
+    """Patterns of attributes with different names."""
     one = rng.choice([X, optional(X), attribute("x", some_values(rng)), star(attribute(all_but("y"), TEXT))])
     other = rng.choice([Y, optional(Y), optional(attribute("y", some_values(rng)))])
     return rng.choice([(), (), (one,), (other,), (one, other), (choice(one, other),)])
@@ -368,7 +368,7 @@ STRINGS = ("data", "value", "list", "choice")
 
 
 def random_schemas(count, seed=1):
-    """Schemas put together at random, each of which obeys the restrictions (section 7)."""
+    """Random schemas that obey the restrictions (section 7)."""
     rng = random.Random(seed)
     found = []
     while len(found) < count:
@@ -388,7 +388,7 @@ def with_text(children, text):
 
 
 def read(lines):
-    """The root of a document, or nothing where the lines are none."""
+    """The root of a document; None if the lines are not a document."""
     opened, root, text, in_tag = [], None, "", False
     for line in lines:
         kind, rest = line[0], line[1:]

@@ -1,20 +1,21 @@
 #!/usr/bin/env python3
-"""Computes which definitions the public contracts are written in, and says where they stand.
+"""Computes which definitions the public contracts use, and says where they are.
 
-    tools/believed/run.py [TOP]         (TOP: a checkout, else the one that this file stands in)
-    tools/believed/run.py --list [TOP]  the same, each file in a line of its own
+    tools/believed/run.py [TOP]         (TOP: a checkout, else the one of this file)
+    tools/believed/run.py --list [TOP]  the same, and a line for each file or type
     tools/believed/run.py --why FILE    the imports that lead from a call to this file, or to this type
 
-The calls are those of tools/believed/calls.txt. A call's contract is its `requires` and `ensures`; of a type, those of its methods, what its `Model` says
-(its value, view and invariant), and what it says for other traits; of a trait that bounds a parameter, all of it. From the names in these clauses the import closure
-goes by files: a name leads to the file of its `ghost use` line, a file of `specs/` to the files of its `use` lines, and a module of `specs.declared` to
-the Rust type that it stands for, which leads on to the types of its fields, or to what its `Model` says where it has one.
+The calls are in tools/believed/calls.txt. The contract of a function is its `requires` and `ensures`. The contract of a type is the contracts of its
+methods, what its `Model` says (its value, view and invariant), and what it says for other traits. A trait that bounds a parameter counts as a whole.
 
-It fails if a file or a type of the closure stands outside the crates rng_model, rnc_model and rncv_model, but for those of
-tools/believed/exceptions.txt, each with its reason; and if the tour in docs/DEFINITIONS.md, the tables whose first column is `File`, does not list
-exactly the files of the closure. The kit's own crates are left out. An exception `stays` where it is, and is read like the rest; one that is `carried`
-is a predicate or a view that contracts only hand from one call to the next, so that nothing depends on what it says: the closure stops there, and the
-tour does not list it.
+The closure starts from the names in these clauses, and follows the imports file by file. A name leads to the file of its `ghost use` line. A file of
+`specs/` leads to the files of its `use` lines. A module of `specs.declared` leads to its Rust type. A type leads to what its `Model` says, if it has
+one, else to the types of its fields.
+
+It fails if a file or a type of the closure is outside the crates rng_model, rnc_model and rncv_model, unless tools/believed/exceptions.txt has it with
+a reason. It also fails if the tour in docs/DEFINITIONS.md (the tables whose first column is `File`) does not list exactly the files of the closure. The
+kit's own crates are left out. An exception that `stays` is followed like the rest. An exception that is `carried` is a predicate or a view that
+contracts only pass from one call to the next. Nothing depends on what it says, so the closure stops there, and the tour does not list it.
 """
 import collections
 import os
@@ -42,7 +43,7 @@ class Crates:
         return self.top / name
 
     def text(self, name):
-        """The text of a file, by its path from the top, with comments blank."""
+        """The text of a file, by its path from the top, without comments."""
         if name not in self.texts:
             text = self.path(name).read_text()
             comment = r"//[^\n]*" if name.endswith(".rt") else r"(?m)(?:^|(?<=\s))--(?:[ \t][^\n]*|$)"
@@ -60,7 +61,7 @@ class Crates:
 
 
 def node_of_module(crates, module):
-    """The file or the Rust type that a module `crate.specs.PATH` is; None for one of the kit or of proofs."""
+    """The file or the Rust type of a module `crate.specs.PATH`; None for a module of the kit or of proofs."""
     parts = module.split(".")
     if not crates.is_crate(parts[0]) or parts[1:2] != ["specs"]:
         return None
@@ -74,7 +75,7 @@ def node_of_module(crates, module):
 
 
 def reexported(crates, parts):
-    """The module that a `pub use` line of the crate's `specs/Lib.antt` hands on under this name."""
+    """The module that a `pub use` line of the crate's `specs/Lib.antt` exports under this name."""
     for module, names in imports(crates.text(f"crates/{parts[0]}/specs/Lib.antt")):
         if parts[2] in names:
             return ".".join([module, *parts[3:]])
@@ -82,7 +83,7 @@ def reexported(crates, parts):
 
 
 def node_of_declared(crates, crate, parts):
-    """The Rust type `FILE: NAME` of a module below `specs.declared`; None of what is no type (constants, an impl that is derived)."""
+    """The Rust type `FILE: NAME` of a module below `specs.declared`; None if it is not a type (constants, a derived impl)."""
     for end in range(len(parts), 0, -1):
         name = f"crates/{crate}/src/{'/'.join(parts[:end])}.rt"
         if crates.path(name).is_file():
@@ -91,7 +92,7 @@ def node_of_declared(crates, crate, parts):
 
 
 def imports(text):
-    """The imports of a text: (module, names), where names is None if all of it is taken; an alias is a name."""
+    """The imports of a text as (module, names). An alias counts as a name."""
     for found in USE.finditer(re.sub(r"\{([^}]*)\}", lambda at: "{" + at[1].replace("\n", " ") + "}", text)):
         module, names, alias = found[1], found[2], found[3]
         if names is not None:
@@ -116,7 +117,7 @@ def balanced(text, start):
 
 
 def clauses(text, start):
-    """The clauses of the function whose `fn` stands at this offset, and where its body begins."""
+    """The clauses of the function whose `fn` is at this offset, and where its body begins."""
     said = []
     at = text.index("(", start)
     at = balanced(text, at)
@@ -134,13 +135,13 @@ def clauses_in(block):
 
 
 def signature(text, start):
-    """The words of a function's head, from its name to its first clause or its body."""
+    """The text of a function's head, from its `fn` to its first clause or its body."""
     end = re.compile(r"\b(?:requires|ensures)\b|\{|;").search(text, balanced(text, text.index("(", start)))
     return text[start:end.start() if end else len(text)]
 
 
 def blocks(text, head):
-    """The texts of the blocks whose head, up to the brace, matches."""
+    """The texts of the blocks whose head, up to the brace, matches a pattern."""
     for found in re.finditer(head, text, re.M):
         start = text.index("{", found.end() - 1 if found[0].endswith("{") else found.end())
         yield text[start:balanced(text, start)]
@@ -168,7 +169,7 @@ class Closure:
             self.open.append(node)
 
     def add_names(self, file, said, parent):
-        """What these words of a Rust file lead to: spec files by its `ghost use` lines, and Rust types that they name."""
+        """Adds what these words of a Rust file lead to: spec files by its `ghost use` lines, and the Rust types that they name."""
         text = self.crates.text(file)
         for module, names in imports(text):
             if names & said:
@@ -177,7 +178,7 @@ class Closure:
             self.add(self.rust_type(file, word), parent)
 
     def rust_type(self, file, word):
-        """The Rust type of the repository that a word stands for in a file, if it stands for one."""
+        """The Rust type of the repository that a word means in a file, if it means one."""
         if not re.fullmatch(r"[A-Z]\w*", word):
             return None
         text = self.crates.text(file)
@@ -209,7 +210,7 @@ class Closure:
                 self.follow_type(node)
 
     def follow_type(self, node):
-        """What a Rust type leads to: all that a trait says; what the `Model` says of a type, or else its fields."""
+        """Adds what a Rust type leads to: all clauses of a trait; what the `Model` of a type says, or else the type's fields."""
         file, name = node.split(": ")
         text = self.crates.text(file)
         if re.search(r"\btrait %s\b" % name, text):
@@ -228,7 +229,7 @@ class Closure:
             self.add_names(file, words(said + clauses_in(block)), f"{file}: {name}")
 
     def add_call(self, crate, name, *methods):
-        """The contract of a public call: of a function, or of a type with its public methods, or only with these."""
+        """Adds the contract of a public call: a function, or a type with all its public methods or only with these methods."""
         call = f"{crate} {name}"
         for file in self.crates.sources(crate):
             text = self.crates.text(file)
@@ -273,14 +274,14 @@ class Closure:
 
 
 def declaration(text, name):
-    """The declaration of a struct or an enum, without what stands before it."""
+    """The declaration of a struct or an enum, without the lines before it."""
     found = re.search(TYPE % name, text, re.M)
     end = re.compile(r"[{(;]").search(text, found.end())
     return text[found.start():end.end()] if end[0] == ";" else text[found.start():balanced(text, end.start())]
 
 
 def rows(path):
-    """The lines of a file of data without its comments."""
+    """The lines of a data file without comments and empty lines."""
     return [line for line in path.read_text().splitlines() if line.strip() and not line.startswith("#")]
 
 
@@ -297,13 +298,13 @@ def is_file(node):
 
 
 def stands_right(node):
-    """Whether a file or a type stands where what is to be believed has to."""
+    """Whether a file or a type is in a place that is allowed for believed definitions."""
     crate, folder = node.split("/")[1:3]
     return crate in MODELS and (folder == "specs" if is_file(node) else folder == "src")
 
 
 def toured(top):
-    """The files that the tour lists, by the first column of its tables whose head is `File`."""
+    """The files that the tour lists, in the first column of the tables with the head `File`."""
     listed, takes = [], False
     for line in (pathlib.Path(top) / TOUR).read_text().splitlines():
         cells = [cell.strip() for cell in line.strip().strip("|").split("|")]
@@ -317,14 +318,14 @@ def toured(top):
 
 
 def faults(top, closure, exceptions):
-    """What is wrong: a node outside, an exception that is none, a file that the tour lacks or has too much."""
+    """What is wrong: a node outside, an unnecessary exception, a file that the tour lacks, or one that it should not list."""
     nodes = set(closure.parent)
     for node in sorted(nodes):
         if not stands_right(node) and node not in exceptions:
-            yield f"{node} is in the closure and stands outside {', '.join(MODELS)}: by {closure.way_to(node)[-2]}"
+            yield f"{node} is in the closure and outside {', '.join(MODELS)}: by {closure.way_to(node)[-2]}"
     for node in sorted(exceptions):
         if node not in nodes | closure.met or node in nodes and stands_right(node):
-            yield f"tools/believed/exceptions.txt: {node} is no exception any more"
+            yield f"tools/believed/exceptions.txt: {node} is not an exception"
     files, listed = {node for node in nodes if is_file(node)}, toured(top)
     for name in sorted(files - set(listed)):
         yield f"{TOUR}: the tour lacks {name}"
@@ -336,7 +337,7 @@ def faults(top, closure, exceptions):
 
 
 def print_by_folder(closure, whole):
-    """The closure by folder: its files and their lines, and its Rust types."""
+    """Prints the closure by folder: its files and their lines, and its Rust types."""
     folders = collections.defaultdict(list)
     for node in sorted(closure.parent):
         folders[node.rsplit("/", 1)[0]].append(node)
@@ -362,7 +363,7 @@ def judged(top, data):
 
 
 def print_ways(closure, part):
-    """How each node whose name has this part is reached."""
+    """Prints how each node with this part in its name is reached."""
     for node in closure.parent:
         if part in node:
             print("\n    ".join(closure.way_to(node)))
@@ -388,7 +389,7 @@ if __name__ == "__main__":
         status = main(sys.argv[1:])
         sys.stdout.flush()
     except BrokenPipeError:
-        # as a program ends by SIGPIPE, without a word
+        # ends like a program that SIGPIPE ends, without a message
         os.dup2(os.open(os.devnull, os.O_WRONLY), sys.stdout.fileno())
         status = 141
     sys.exit(status)

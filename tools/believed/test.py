@@ -1,5 +1,5 @@
 #!/usr/bin/env python3
-"""Tests of tools/believed/run.py: on copies of this checkout and of a small one, planted faults have to be told, each and no other.
+"""Tests of tools/believed/run.py: in copies of this checkout and of a small one, it must report each planted fault, and no other.
 
     tools/believed/test.py
 """
@@ -46,7 +46,7 @@ fn inner(name: &Name) -> bool
 
 
 class Small(unittest.TestCase):
-    """What is followed, and what is told, in a checkout of two crates."""
+    """What is followed, and what is reported, in a checkout of two crates."""
 
     def setUp(self):
         self.room = tempfile.TemporaryDirectory()
@@ -76,7 +76,7 @@ class Small(unittest.TestCase):
     def test_file_outside(self):
         self.add("crates/rng_model/specs/names/Names.antt", "use Rattle.high.specs.plain.Steps.{step}\n")
         self.assertEqual([fault.split(":")[0] for fault in self.judged()[1]],
-                         ["crates/high/specs/plain/Steps.antt is in the closure and stands outside rng_model, rnc_model, rncv_model", TOUR])
+                         ["crates/high/specs/plain/Steps.antt is in the closure and outside rng_model, rnc_model, rncv_model", TOUR])
 
     def test_type_outside(self):
         self.add("crates/high/src/lib.rt", "pub enum Kind {\n    Good,\n}\n")
@@ -111,7 +111,7 @@ impl Takes for Taker {
         self.write("exceptions.txt", "crates/high/specs/plain/Steps.antt stays because it is read\n")
         self.assertEqual(self.judged()[1], [f"{TOUR}: the tour lacks crates/high/specs/plain/Steps.antt"])
         self.write("crates/rng_model/specs/names/Names.antt", "")
-        self.assertIn("tools/believed/exceptions.txt: crates/high/specs/plain/Steps.antt is no exception any more", self.judged()[1])
+        self.assertIn("tools/believed/exceptions.txt: crates/high/specs/plain/Steps.antt is not an exception", self.judged()[1])
 
 
 class Planted(unittest.TestCase):
@@ -131,7 +131,7 @@ class Planted(unittest.TestCase):
         cls.closure, cls.before = judged(cls.top, HERE)
 
     def told(self):
-        """The faults that are told now and were not before."""
+        """The faults that are new in the copy."""
         return set(judged(self.top, HERE)[1]) - set(self.before)
 
     def test_the_calls_are_there(self):
@@ -147,7 +147,7 @@ class Planted(unittest.TestCase):
         self.addCleanup(known.write_text, text)
         self.addCleanup((self.top / planted).unlink)
         self.assertEqual({fault.split(": by ")[0] for fault in self.told()},
-                         {f"{planted} is in the closure and stands outside rng_model, rnc_model, rncv_model", f"{TOUR}: the tour lacks {planted}"})
+                         {f"{planted} is in the closure and outside rng_model, rnc_model, rncv_model", f"{TOUR}: the tour lacks {planted}"})
 
     def test_line_missing(self):
         page = (self.top / TOUR).read_text()

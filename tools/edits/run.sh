@@ -1,12 +1,12 @@
 #!/bin/sh
-# Tries the edits of crates/NAME/edits/, which the gate does not try: the prover must refuse each.
+# Tries the edits of crates/NAME/edits/. The gate does not try them. The prover must refuse each.
 #
 #   tools/edits/run.sh [NAME..]     the edits of these crates; with no NAME, of all crates that have such a folder
 #   tools/edits/run.sh --help       prints this
 #
-# It works on a scratch clone of what is committed, in which a crate's edits/ stands in the place of its must-fail/, and removes the clone in the end.
-# Libraries that were built in this checkout (crates/NAME/out/rlib) are used again where rt finds that they fit; it proves and builds the others first.
-# One line for each edit, after those of its crate were tried. Status 0: each was refused; 1: one was not, or could not be tried; 2: a word is wrong.
+# It works on a scratch clone of what is committed, and removes the clone at the end. In the clone, a crate's edits/ replaces its must-fail/. Libraries
+# that were built in this checkout (crates/NAME/out/rlib) are used again if rt finds that they fit. rt proves and builds the others first. There is one
+# line for each edit, after all edits of its crate. Status 0: each was refused; 1: one was not, or could not be tried; 2: an argument is wrong.
 set -e
 top=$(cd "$(dirname "$0")/../.." && pwd)
 case ${1-} in
@@ -67,7 +67,7 @@ for name; do
     grep -q "^$edit: " "$room/lines" || { echo "$edit: NOT TRIED"; status=1; untried=yes; }
   done
   if [ "${untried-}" ]; then
-    echo "the last lines of what rt must-fail $name said:"
+    echo "the last lines of the output of rt must-fail $name:"
     tail -n 5 "$room/log"
     untried=
   fi

@@ -3,9 +3,9 @@
 
     tools/edits/test.py [TOP]      (TOP: a checkout, else the one of this file)
 
-The gate reads must-fail/ alone, so an edit of edits/ would otherwise rot unseen where its line moves. An edit has a line `file: PATH`, and then pairs of lines
-`old: TEXT` and `new: TEXT`. Each old text is in that file exactly once, after the pairs above it. Each fault is one line, and the exit status is then 1.
-First a planted fault has to be found.
+The gate reads must-fail/ only. Without this check, nobody would notice an edit of edits/ that no longer fits its file. An edit has a line `file: PATH`,
+and then pairs of lines `old: TEXT` and `new: TEXT`. Each old text must be in that file exactly once, after the pairs above it. Each fault is printed as
+one line, and the exit status is then 1. The script first checks that it finds a planted fault.
 """
 import pathlib
 import sys
@@ -43,7 +43,7 @@ def faults(top):
 
 
 def finds_a_planted_fault():
-    """Returns whether an edit whose text is not there is found, and one whose text is there is not."""
+    """Returns whether an edit with a missing text is reported, and an edit with an existing text is not."""
     with tempfile.TemporaryDirectory() as room:
         crate = pathlib.Path(room, "crates", "a")
         for folder in ("src", "edits"):

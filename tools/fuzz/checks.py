@@ -1,4 +1,4 @@
-"""What must hold of every schema and document. Each check returns what is wrong, or nothing."""
+"""What must hold for every schema and document. Each check returns what is wrong, or None."""
 import random
 
 import documents
@@ -8,7 +8,7 @@ from writing import FEATURES, ORDER, UNDEFINED, written
 
 
 class Trial:
-    """A schema, its clothes, a document, and the document that it was made from."""
+    """A schema, the seed and features of its written form, a document, and the document that it was made from."""
 
     def __init__(self, schema, seed, features, lines, source):
         self.schema, self.seed, self.features, self.lines, self.source = schema, seed, tuple(features), list(lines), source
@@ -30,11 +30,11 @@ class Trial:
 
 
 class Bench:
-    """What the checks run."""
+    """The programs that the checks use, and the counts."""
 
     def __init__(self, program, jing=None, library=None):
         self.program, self.jing, self.library = program, jing, library
-        self.counts = dict.fromkeys(["schemas", "refused", "valid", "invalid", "told at once", "malformed", "continuations", "by jing"], 0)
+        self.counts = dict.fromkeys(["schemas", "refused", "valid", "invalid", "reported at once", "malformed", "continuations", "by jing"], 0)
 
 
 def check_answers(bench, trial):
@@ -52,7 +52,7 @@ ODD = ["{", "}", "(", ")", "[", "]", "|", "&", ",", "=", "?", "*", "-", "~", '"'
 
 
 def broken(text, chance):
-    """The bytes of a text with something left out, doubled or put in, perhaps with a byte that is no UTF-8."""
+    """The bytes of a text with a part removed, doubled or inserted, perhaps with a byte that is not UTF-8."""
     at, length = chance.randrange(len(text) + 1), chance.choice([0, 1, 1, 2, 5, 20])
     put = chance.choice([chance.choice(ODD), "", text[at:at + length] * 2])
     changed_text = (text[:at] + put + text[at + length:]).encode()
@@ -63,7 +63,7 @@ def broken(text, chance):
 
 
 def check_broken(bench, trial):
-    """Broken schemas and documents get an answer, all commands refuse alike, and pieces change nothing."""
+    """Broken schemas and documents get an answer, all commands refuse a schema in the same way, and pieces do not change the answer."""
     chance = random.Random(f"{trial.seed}/{trial.lines!r}")
     files, document = trial.dressed, broken("".join(it + "\n" for it in trial.lines), chance)
     if chance.random() < 0.7:
@@ -89,7 +89,7 @@ def check_matcher(bench, trial):
 
 
 def check_jing(bench, trial):
-    """jing agrees on the schema in these clothes, and on the document."""
+    """jing agrees on the schema in this written form, and on the document."""
     if bench.jing is None:
         return None
     trial = trial.but(features=[it for it in trial.features if it != UNDEFINED])
@@ -98,7 +98,7 @@ def check_jing(bench, trial):
         return None
     peer = bench.jing.schema(trial.dressed)
     if peer.startswith("refused invalid parameter"):
-        # jing refuses a lower bound above the upper one, and by the standard nothing is allowed
+        # jing refuses a lower bound above the upper one; by the standard, such a type allows nothing
         return None
     if peer.startswith("refused") != (said.kind == "refused"):
         return f"`{said.line}`, and jing says of the schema: {peer}"
@@ -110,28 +110,28 @@ def check_jing(bench, trial):
 
 
 def check_simple(bench, trial):
-    """The simple form gives itself, and the same answer."""
+    """The simple form of the simple form is itself, and it gives the same answer as the schema."""
     form = bench.program.run("simple", trial.dressed)
     if form.status != 0 or len(form.printed) > 1_048_576:
         return None
     files = [("simple.rnc", form.printed)]
     if bench.program.run("simple", files).printed != form.printed:
-        return "the simple form of the simple form is another"
+        return "the simple form of the simple form is different"
     one, other = (bench.program.run("valid", it, trial.document).line for it in (trial.dressed, files))
     return None if one == other else f"`{one}` by the schema, `{other}` by its simple form"
 
 
 def check_clothes(bench, trial):
-    """A schema that is renamed, commented, or spread over files and grammars says the same; and one in another order."""
+    """A schema gives the same answers with other names, with comments, spread over files and grammars, and in another order."""
     plain = bench.program.run("check", trial.plain).line
     dressed = bench.program.run("check", trial.dressed).line
     if plain != dressed:
-        return f"`{plain}`, and in other clothes `{dressed}`"
+        return f"`{plain}`, and in another written form `{dressed}`"
     forms = [bench.program.run("simple", it).printed for it in (trial.plain, trial.dressed)]
     if ORDER not in trial.features and forms[0] != forms[1]:
-        return "the simple form is another in other clothes"
+        return "the simple form is different in another written form"
     one, other = (bench.program.run("valid", it, trial.document).line for it in (trial.plain, trial.dressed))
-    return None if one == other else f"`{one}`, and in other clothes `{other}`"
+    return None if one == other else f"`{one}`, and in another written form `{other}`"
 
 
 def check_order(bench, trial):
@@ -177,16 +177,16 @@ def check_continuations(bench, trial):
 
 
 def check_known(bench, trial):
-    """A start with a name that no element may have is told at the first line after its tag, or before."""
+    """A start tag with a name that no element may have is reported at the first line after the tag, or earlier."""
     said = bench.program.run("valid", trial.plain, trial.document)
     if said.kind != "invalid":
         return None
     line = unknown_line(trial)
-    return f"`{said.line}`, but the start that line {line} ends has an unknown name" if line and told_line(said) > line else None
+    return f"`{said.line}`, but the start tag before line {line} has an unknown name" if line and told_line(said) > line else None
 
 
 def unknown_line(trial):
-    """The line that ends the first start of an element with a name that no element of the schema has."""
+    """The first line after the first start tag with a name that no element of the schema has."""
     classes = [it[1] for it in all_patterns(trial.schema) if it[0] == "element"]
     reader = documents.LineReader(Watching(classes))
     for number, line in enumerate(trial.lines, 1):
@@ -200,7 +200,7 @@ def unknown_line(trial):
 
 
 class Watching:
-    """Takes the place of `Judging`, and looks at names alone."""
+    """Replaces `Judging`, and looks only at names."""
 
     def __init__(self, classes):
         self.classes, self.is_unknown = classes, False
@@ -251,7 +251,7 @@ class Ignoring(Watching):
 
 
 def read(prefix, judging):
-    """A reader that took the lines, or nothing."""
+    """A reader that has read the lines; None if they are malformed."""
     reader = documents.LineReader(judging)
     try:
         for line in prefix:
@@ -267,7 +267,7 @@ def is_document(lines):
 
 
 def by_chance(trial, prefix, chance):
-    """The prefix, some lines of the source, and what closes all."""
+    """The prefix, some text lines of the source, and the end tags of all open elements."""
     lines = prefix + [it for it in trial.source if it[0] == "-" and chance.random() < 0.3]
     reader = read(lines, Ignoring())
     if reader is None or reader.is_done:
@@ -278,7 +278,7 @@ def by_chance(trial, prefix, chance):
 
 
 def completed(schema, prefix, chance, with_text):
-    """The prefix, completed to a valid document by the plain matcher's reckoning; nothing where it finds none."""
+    """The prefix, completed to a document that is valid by the plain matcher; None if it finds none."""
     patterns = matching.Patterns(schema)
     reader = read(prefix, matching.Judging(patterns))
     if reader is None or reader.is_done:
@@ -310,7 +310,7 @@ def completed(schema, prefix, chance, with_text):
 
 
 def missing_declarations(reader, chance):
-    """Declarations of the prefixes that a tag uses and that are declared nowhere yet."""
+    """Declarations for the prefixes of a tag that are not declared yet."""
     name, attributes = reader.tag
     used = [it.split(":")[0] for it in (name, *(it for it, _ in attributes)) if ":" in it]
     known = {"xmlns", *reader.scopes[-1], *(it[6:] for it, _ in attributes if it.startswith("xmlns:"))}
@@ -318,13 +318,13 @@ def missing_declarations(reader, chance):
 
 
 def after_text(judging):
-    """What is left where the pending text is all, or comes beside elements."""
+    """What is left after the pending text, which may be the whole content or come beside elements."""
     taken = judging.patterns.derived(matching.Patterns.string, judging.left, judging.pending)
     return judging.patterns.choice([judging.left, taken]) if matching.is_blank(judging.pending) else taken
 
 
 def one_more(left, sampler, reader, chance):
-    """What is left after the innermost element, which is filled and closed, and the lines."""
+    """Fills and closes the innermost element. Returns what is left after it, and the lines."""
     ways = [it for it in (left.parts if left.kind == "choice" else [left]) if sampler.can(it, 4)]
     way = chance.choice(ways)
     if way.kind != "after":

@@ -1,6 +1,6 @@
-"""Documents as trees, as PYX lines and as XML; samples of what a pattern allows, and changed ones.
+"""Documents as trees, as PYX lines and as XML. Random documents that a pattern allows, and changed ones.
 
-An element is (name, attributes, items): a name is (uri, local), attributes are pairs of a name and a value, an item is an element or a text.
+An element is (name, attributes, items). A name is (uri, local), attributes are pairs of a name and a value, and an item is an element or a text.
 """
 import re
 
@@ -12,7 +12,7 @@ CANDIDATES = TEXTS + WORDS + ["-5", "5", "8", "10", "+9", "abc", "abcdef", "tt",
 
 
 class Sampler:
-    """Draws what a node of `matching.Patterns` allows."""
+    """Makes random content that a node of `matching.Patterns` allows."""
 
     def __init__(self, patterns, chance):
         self.patterns, self.chance, self.possible = patterns, chance, {}
@@ -41,11 +41,11 @@ class Sampler:
         return kind not in ("data", "value") or bool(self.texts(node))
 
     def texts(self, node):
-        """Texts that a datatype or a value takes."""
+        """Texts that a datatype or a value allows."""
         return [it for it in [*CANDIDATES, node.parts[1] if node.kind == "value" else ""] if self.patterns.is_taken(node, it)]
 
     def content(self, node, depth):
-        """Attributes and items by a node that can be."""
+        """Random attributes and items for a node. `can` must hold for it."""
         kind, parts = node.kind, node.parts
         if kind == "choice":
             return self.content(self.chance.choice([it for it in parts if self.can(it, depth)]), depth)
@@ -84,7 +84,7 @@ class Sampler:
         return "".join(it for it in self.content(body, 0)[1])
 
     def name(self, name_class):
-        """A name of the class, or any one where none is at hand."""
+        """A name in the class, or any name if none of the known ones is in it."""
         if name_class[0] == "name":
             return name_class[1:]
         names = [(uri, local) for uri in [*NAMESPACES, "urn:other"] for local in LOCALS + OTHERS]
@@ -92,7 +92,7 @@ class Sampler:
         return self.chance.choice(found or names)
 
     def root(self, node, depth=6):
-        """A document's root by the node of a schema's start; None where there is none of this depth."""
+        """A document's root for the node of a schema's start; None if there is none with this depth."""
         if not self.can(node, depth):
             return None
         items = [it for it in self.content(node, depth)[1] if not isinstance(it, str)]
@@ -100,7 +100,7 @@ class Sampler:
 
 
 def tidied(element):
-    """The element with each attribute once."""
+    """The element in which each attribute occurs once."""
     name, attributes, items = element
     return name, list(dict(attributes).items()), [it if isinstance(it, str) else tidied(it) for it in items]
 
@@ -108,7 +108,7 @@ def tidied(element):
 # ---- changes
 
 def elements(root):
-    """Each element below, the root first."""
+    """The root and each element below it."""
     yield root
     for it in root[2]:
         if not isinstance(it, str):
@@ -116,7 +116,7 @@ def elements(root):
 
 
 def changed(root, chance):
-    """The document with one or two changes; each element is copied, and then changed in place."""
+    """The document with one or two changes. The elements are copied, and the copies are changed."""
     root = copied(root)
     for _ in range(chance.choice([1, 1, 2])):
         change_one(chance.choice(list(elements(root))), chance)
@@ -172,13 +172,13 @@ def unescaped(text):
 
 
 class LineWriter:
-    """Writes a document as PYX lines, with prefixes by chance."""
+    """Writes a document as PYX lines, with random prefixes."""
 
     def __init__(self, chance):
         self.chance, self.lines = chance, []
 
     def prefix(self, uri, scope, added, may_be_default):
-        """A prefix of the uri, declared in `added` where none is in scope."""
+        """A prefix for the uri, perhaps a new one. A new prefix is declared in `added`."""
         now = {**scope, **added}
         known = [it for it, other in now.items() if other == uri and (it or may_be_default)]
         if uri == XML:
@@ -229,7 +229,7 @@ def as_bytes(lines):
 
 
 class Malformed(Exception):
-    """The lines are no document."""
+    """The lines are not a document."""
 
 
 def split_name(name):
@@ -240,7 +240,7 @@ def split_name(name):
 
 
 class LineReader:
-    """Reads PYX lines and tells a `Judging` of them. What it reads has none of the faults of characters, and is far within the limits."""
+    """Reads PYX lines and reports them to a `Judging`. It finds no faults of characters, and no broken limits: its input has none."""
 
     def __init__(self, judging):
         self.judging, self.scopes, self.opened = judging, [{"": "", "xml": XML}], []
@@ -282,7 +282,7 @@ class LineReader:
         self.tag[1].append((name, unescaped(value)))
 
     def finish_tag(self):
-        """The tag is whole: its declarations hold for it."""
+        """Reports the tag, which is complete now: its declarations apply to it."""
         if self.tag is None:
             return
         name, attributes = self.begin_tag()
@@ -332,7 +332,7 @@ def verdict(patterns, lines):
 
 
 class Building:
-    """Takes the place of `matching.Judging`, and builds the tree."""
+    """Replaces `matching.Judging`, and builds the tree."""
 
     def __init__(self):
         self.opened = [("", [], [])]
@@ -352,7 +352,7 @@ class Building:
 
 
 def tree_of(lines):
-    """The root of a document; nothing where it is malformed."""
+    """The root of a document; None if it is malformed."""
     reader = LineReader(Building())
     try:
         for line in lines:

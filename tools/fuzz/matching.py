@@ -1,6 +1,6 @@
 """A plain matcher: derivatives of patterns, by section 6 of the RELAX NG specification. It shares nothing with the program under test.
 
-A pattern of the generator (`schemas.py`) is a tuple. `Patterns` turns it into nodes that occur once each, and derives these.
+A pattern of the generator (`schemas.py`) is a tuple. `Patterns` turns it into nodes and computes their derivatives. Each node occurs once.
 """
 import re
 
@@ -28,7 +28,7 @@ def is_blank(text):
 
 
 def read_value(datatype, text):
-    """What a text is as a value of a datatype; None where the datatype does not allow it."""
+    """The value of a text by a datatype; None if the datatype does not allow it."""
     if datatype in ("string", "xsd:string"):
         return text
     text = collapsed(text)
@@ -65,7 +65,7 @@ def in_class(name_class, name):
 
 
 class Node:
-    """A pattern that occurs once: equal ones are the same object."""
+    """A pattern. Equal patterns are the same object."""
     __slots__ = ("kind", "parts", "nullable", "number")
 
     def __init__(self, kind, parts, nullable, number):
@@ -120,7 +120,7 @@ class Patterns:
     # ---- from the generator's tuples
 
     def of(self, pattern):
-        """The node of a pattern; an element is not looked into."""
+        """The node of a pattern. The content of an element is not read."""
         kind = pattern[0]
         if kind in ("empty", "text"):
             return self.empty if kind == "empty" else self.text
@@ -142,7 +142,7 @@ class Patterns:
         return self.node(*pattern, nullable=False)
 
     def body(self, node):
-        """The node of what an element, attribute, list or except holds."""
+        """The node of the content of an element, attribute, list or except."""
         pattern = node.parts[-1]
         if pattern not in self.bodies:
             self.bodies[pattern] = self.of(pattern)
@@ -157,13 +157,13 @@ class Patterns:
         return self.kept[key]
 
     def into_after(self, change, node):
-        """The node with what comes after its open element changed."""
+        """The node in which the part after its open element is changed."""
         if node.kind == "after":
             return self.after(node.parts[0], change(node.parts[1]))
         return self.choice([self.into_after(change, it) for it in node.parts]) if node.kind == "choice" else self.none
 
     def start(self, node, name):
-        """After the start of a tag of this name."""
+        """The derivative by the start of a tag with this name."""
         derive = lambda it: self.derived(Patterns.start, it, name)
         kind, parts = node.kind, node.parts
         if kind == "choice":
@@ -194,11 +194,11 @@ class Patterns:
         return self.empty if kind == "attribute" and in_class(parts[0], name) and self.takes(self.body(node), value) else self.none
 
     def takes(self, node, text):
-        """Whether a text is all that the pattern asks for."""
+        """Whether the text alone matches the pattern."""
         return node.nullable and is_blank(text) or self.derived(Patterns.string, node, text).nullable
 
     def close(self, node):
-        """After the end of a start tag: what still wants an attribute is not allowed."""
+        """The derivative by the end of a start tag: a pattern that still needs an attribute becomes not allowed."""
         derive = lambda it: self.derived(Patterns.close, it)
         kind, parts = node.kind, node.parts
         if kind == "choice":
@@ -230,7 +230,7 @@ class Patterns:
         return self.empty if self.is_taken(node, text) else self.none
 
     def is_taken(self, node, text):
-        """Whether a value, a datatype or a list takes the text."""
+        """Whether a value, a datatype or a list allows the text."""
         kind, parts = node.kind, node.parts
         if kind == "value":
             given = read_value(parts[0] or "token", text)
@@ -251,7 +251,7 @@ class Patterns:
 
 
 class Judging:
-    """A document on its way: what is left to match, and the text that is not yet known to be whole."""
+    """A document that is being judged: what is left to match, and the pending text, which may not be complete yet."""
 
     def __init__(self, patterns):
         self.patterns = patterns
@@ -264,13 +264,13 @@ class Judging:
         return other
 
     def flush(self):
-        """The pending text comes beside an element."""
+        """Matches the pending text, which comes beside an element."""
         if not is_blank(self.pending):
             self.left = self.patterns.derived(Patterns.string, self.left, self.pending)
         self.pending = ""
 
     def open(self, name, attributes):
-        """The start of a tag, with attributes, and more may come."""
+        """The start of a tag with attributes. More attributes may come."""
         self.flush()
         self.has_element[-1] = True
         self.has_element.append(False)

@@ -1,4 +1,4 @@
-"""Makes a trial that shows a fault smaller, for as long as it shows it."""
+"""Makes a trial with a fault smaller, while it still shows the fault."""
 import random
 import time
 
@@ -10,7 +10,7 @@ SECONDS = 60
 
 
 def reduced(trial, fails):
-    """The smallest trial that is found within a minute."""
+    """The smallest trial with the fault that is found within a minute."""
     end = time.monotonic() + SECONDS
     size = None
     while size != size_of(trial) and time.monotonic() < end:
@@ -25,7 +25,7 @@ def size_of(trial):
 
 
 def first_that_fails(trial, variants, fails, end):
-    """The trial after as many steps as there are, each to a variant that fails too."""
+    """Replaces the trial by a smaller variant that fails too, as often as there is one."""
     found = True
     while found and time.monotonic() < end:
         found = next((it for it in variants(trial) if size_of(it) < size_of(trial) and time.monotonic() < end and fails(it)), None)
@@ -51,7 +51,7 @@ def below(pattern):
 
 
 def inner_elements(trial):
-    """An element of the schema as the start, and one of the document as the root."""
+    """Uses an element of the schema as the start, and an element of the document as the root."""
     root = documents.tree_of(trial.lines)
     patterns = [it for body in (trial.schema.start, *trial.schema.definitions.values()) for it in (body, *below(body)) if it[0] == "element"]
     for element in list(documents.elements(root))[1:] if root else []:
@@ -61,7 +61,7 @@ def inner_elements(trial):
 
 
 def fewer_namespaces(trial):
-    """Without a namespace, in the schema and in the document."""
+    """Replaces a namespace by the empty one, in the schema and in the document."""
     root = documents.tree_of(trial.lines)
     if root is None:
         return
@@ -71,14 +71,14 @@ def fewer_namespaces(trial):
 
 
 def without(value, uri):
-    """A pattern or an element in which another uri is the empty one."""
+    """A pattern or an element in which the empty uri replaces this one."""
     if isinstance(value, (tuple, list)):
         return type(value)(without(it, uri) for it in value)
     return "" if value == uri else value
 
 
 def fewer_lines(trial):
-    """Without a run of lines; without an element's own two."""
+    """Removes consecutive lines, a whole element, or only the start and the end line of an element."""
     lines = trial.lines
     size = len(lines) // 2
     while size > 0:
@@ -104,7 +104,7 @@ def fewer_patterns(trial):
 
 
 def smaller(pattern):
-    """Patterns with a part left out or replaced by one that is in it."""
+    """Patterns in which a part is removed, or replaced by a simpler one."""
     inner = children(pattern)
     yield from inner
     if count(pattern) > 1:
@@ -121,7 +121,7 @@ def smaller(pattern):
 
 
 def simpler_names(trial):
-    """With a simpler name class at one place, and lines with shorter values."""
+    """Uses a simpler name class at one place, or a shorter text in one line."""
     schema = trial.schema
     for pattern in renamed(schema.start):
         yield trial.but(schema=Schema(pattern, schema.definitions))

@@ -1,20 +1,20 @@
 #!/usr/bin/env python3
-"""Random schemas and documents, over what must always hold of the program. It is no part of the gate.
+"""Checks what must always hold of the program, with random schemas and documents. It is not part of the gate.
 
     tools/fuzz/run.py --minutes N [--seed S] [--cases N] [--from N] [--most N] [--found FOLDER] [--no-jing] [PROGRAM]
 
-PROGRAM is `crates/rncv/out/rncv` where none is given. A case is a schema, which is written down in several ways (definitions, includes with overriding,
-externals, nested grammars, prefixes, annotations, comments, another order), and some documents, valid ones and changed ones. It has to hold that
+The default PROGRAM is `crates/rncv/out/rncv`. A case is a schema and some documents, valid ones and changed ones. The schema is written in several ways
+(definitions, includes with overriding, externals, nested grammars, prefixes, annotations, comments, another order). These must hold:
 
-- the simple form gives itself, and the same answers;
-- all ways to write a schema down give the same answers, and those in the same order the same simple form;
-- a document in pieces of 1, 2, 3 and 4,096 bytes gives the same answer (by the C library where RNCV_LIBRARY names it, else through a pipe);
+- the simple form of a simple form is itself, and gives the same answers as the schema;
+- all ways to write a schema give the same answers, and the ways with the same order give the same simple form;
+- a document in pieces of 1, 2, 3 and 4,096 bytes gives the same answer (by the C library if RNCV_LIBRARY names it, else through a pipe);
 - after `invalid line N` no continuation of the first N lines that is tried is valid;
-- a plain matcher (`matching.py`) agrees, and jing where it and a Java compiler are installed;
-- a schema or a document with broken text gets the same refusal by all commands, in whatever pieces;
-- no run ends by a signal, takes more than 10 seconds or 200 MB, or prints anything but an answer.
+- a plain matcher (`matching.py`) agrees, and so does jing if it and a Java compiler are installed;
+- all commands give the same refusal for a schema with broken text, and pieces do not change the answer for broken texts;
+- no run ends by a signal, takes more than 10 seconds or 200 MB, or prints anything except an answer.
 
-What breaks one of these is made smaller and written to a folder of `tools/fuzz/found`. Its `report.txt` says how to repeat it. The status is 0 where
+A case that breaks one of these is made smaller and written to a folder of `tools/fuzz/found`. Its `report.txt` says how to repeat it. The status is 0 if
 nothing was found, else 1. The same seed gives the same cases.
 """
 import argparse
@@ -36,7 +36,7 @@ ODD_LINES = ["-", ")a", "(a", "Ax 1", "Axmlns urn:a", "Axmlns:p urn:b", "Axmlns:
 
 
 def raw_changed(lines, chance):
-    """The lines with one of them left out, doubled, moved or put in."""
+    """The lines with one line removed, copied, moved or inserted."""
     lines = list(lines)
     at = chance.randrange(len(lines))
     kind = chance.randrange(4)
@@ -52,7 +52,7 @@ def raw_changed(lines, chance):
 
 
 def case_documents(schema, chance):
-    """Pairs of a document's lines and those of the document that it was made from. Where both have an element, both mostly write it alike."""
+    """Pairs of a document's lines and the lines of the document that it was made from. Both mostly write the same element in the same way."""
     written = chance.random()
     patterns = matching.Patterns(schema)
     sampler = documents.Sampler(patterns, chance)
@@ -69,7 +69,7 @@ def case_documents(schema, chance):
 
 
 def before_event(lines):
-    """The lines without the tag or the text at their end, which the line after them tells."""
+    """The lines without the tag or the text at their end: the line after them reports that."""
     end = len(lines)
     last = lines[-1][:1] if lines else ""
     while end and lines[end - 1][:1] in ("-?" if last in "-?" else "A" if last in "(A" else " "):
@@ -78,7 +78,7 @@ def before_event(lines):
 
 
 def count(bench, trial, said):
-    """Counts an answer, and whether an invalid one is known to be told at the first event that no valid document has."""
+    """Counts an answer. For `invalid`, also counts whether it is known to be reported at the first event that no valid document has."""
     bench.counts[said.kind] = bench.counts.get(said.kind, 0) + 1
     if said.kind != "invalid":
         return
@@ -86,11 +86,11 @@ def count(bench, trial, said):
     chance = random.Random(repr(prefix))
     completions = (completed(trial.schema, prefix, chance, number > 5) for number in range(8))
     patterns = matching.Patterns(trial.schema)
-    bench.counts["told at once"] += any(it and documents.verdict(patterns, it) == "valid" for it in completions)
+    bench.counts["reported at once"] += any(it and documents.verdict(patterns, it) == "valid" for it in completions)
 
 
 def one_case(bench, name):
-    """What is found in a case: for each check that fails its name, the trial and what is wrong."""
+    """What is found in a case: for each check that fails, its name, the trial and what is wrong."""
     chance = random.Random(name)
     schema = schemas.made(name)
     bench.counts["schemas"] += 1
@@ -119,7 +119,7 @@ def made_smaller(bench, check, trial):
 
 
 def write_found(folder, bench, check, trial, wrong, again):
-    """Writes a smaller trial down, and returns its folder."""
+    """Makes a trial smaller and writes it. Returns its folder and what is wrong."""
     trial = made_smaller(bench, check, trial)
     wrong = CHECKS[check](bench, trial) or wrong
     at = next(folder / f"{check}-{number}" for number in range(10**6) if not (folder / f"{check}-{number}").exists())
@@ -145,7 +145,7 @@ def words():
     given.add_argument("program", nargs="?", type=pathlib.Path, default=HERE.parents[1] / "crates/rncv/out/rncv")
     given = given.parse_args()
     if given.minutes is None and given.cases is None:
-        sys.exit("--minutes or --cases says how long")
+        sys.exit("--minutes or --cases is needed")
     return given
 
 

@@ -1,4 +1,4 @@
-"""Runs the program under test, and jing where it is installed."""
+"""Runs the program under test, and jing if it is installed."""
 import os
 import pathlib
 import re
@@ -45,7 +45,7 @@ def fault_of(command, printed, status, seconds, megabytes):
 
 
 class Program:
-    """The program under test. What it answers is kept until `forget`."""
+    """The program under test. Its answers are kept until `forget`."""
 
     def __init__(self, path, room):
         self.path, self.room, self.kept, self.runs = str(path), pathlib.Path(room), {}, 0
@@ -54,7 +54,7 @@ class Program:
         self.kept.clear()
 
     def run(self, command, files, document=b"", piece=None):
-        """Runs it over files, each a name and a text, and a document that comes in pieces of so many bytes."""
+        """Runs it on files, each a name and a text, and on a document in pieces of `piece` bytes."""
         key = (command, tuple(files), document, piece)
         if key not in self.kept:
             folder = self.room / "schema"
@@ -125,7 +125,7 @@ class Jing:
 
 
 def jing(room):
-    """jing, or nothing where it or a Java compiler is not installed."""
+    """jing, or None if it or a Java compiler is not installed."""
     if not shutil.which("javac") or not shutil.which("dpkg"):
         return None
     try:
@@ -135,7 +135,7 @@ def jing(room):
 
 
 def library():
-    """The Python module over the C library that RNCV_LIBRARY names, or nothing."""
+    """The Python module for the C library that RNCV_LIBRARY names, or None."""
     if not os.environ.get("RNCV_LIBRARY"):
         return None
     sys.path.insert(0, str(HERE.parent / "python"))

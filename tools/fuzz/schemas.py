@@ -1,4 +1,4 @@
-"""Random schemas as trees: what the matcher judges by, and what `writing.py` writes down in many ways.
+"""Random schemas as trees. The matcher uses them, and `writing.py` writes them in many ways.
 
 A pattern is a tuple: ("empty",), ("text",), ("notAllowed",), ("choice" or "group" or "interleave", members), ("plus" or "star" or "optional" or "mixed"
 or "list", body), ("data", type, params, except or None), ("value", type or None, text), ("element" or "attribute", class, body), ("ref", name).
@@ -20,7 +20,7 @@ TYPES = ["string", "token", "xsd:string", "xsd:token", "xsd:NCName", "xsd:NMTOKE
 
 
 class Schema:
-    """A start and definitions, each of which a ref may name; a ring of refs goes through an element."""
+    """A start and definitions. A ref may name each definition. A ring of refs goes through an element."""
 
     def __init__(self, start, definitions):
         self.start, self.definitions = start, definitions
@@ -42,7 +42,7 @@ def children(pattern):
 
 
 def with_children(pattern, new):
-    """The pattern with others in it; `new` has as many."""
+    """The pattern with its children replaced by `new`, which has the same number."""
     kind = pattern[0]
     if kind in ("choice", "group", "interleave"):
         return (kind, tuple(new))
@@ -64,7 +64,7 @@ def refs(pattern):
 
 
 class Place:
-    """Where a pattern is made: what it may hold so that the schema obeys section 7."""
+    """A place for a pattern: what the pattern may contain so that the schema obeys section 7."""
 
     def __init__(self, elements, attributes, depth, rest=True, text=True, repeated=False):
         self.elements, self.attributes, self.depth = elements, attributes, depth
@@ -75,7 +75,7 @@ class Place:
 
 
 class Maker:
-    """Makes one schema from a source of chance. A wild one does not heed section 7."""
+    """Makes one schema from a random source. A wild one ignores section 7."""
 
     def __init__(self, chance, wild=False):
         self.chance, self.wild = chance, wild
@@ -100,7 +100,7 @@ class Maker:
         one = self.element(place)
         return ("choice", (one, self.element(place))) if self.chance.random() < 0.15 else one
 
-    # ---- dense schemas: few elements and attributes, in deep content models of many ways
+    # ---- dense schemas: few elements and attributes, in deep content models that match in many ways
 
     def dense(self):
         names = self.elements[:4]
@@ -125,7 +125,7 @@ class Maker:
         return (self.chance.choice(["group", "choice"]), tuple(self.ways(names, depth - 1) for _ in range(self.chance.choice([2, 2, 3, 4]))))
 
     def attribute_ways(self, names):
-        """Attributes of these names in all kinds of patterns; the members of a group or an interleave share none."""
+        """Attributes with these names in all kinds of patterns. The members of a group or an interleave have different names."""
         pick = self.chance.random()
         if len(names) == 1 or pick < 0.2:
             made = self.attribute(self.chance.choice(names))
@@ -154,7 +154,7 @@ class Maker:
         return self.namespace_class(others)
 
     def except_of(self, others, in_namespace=False):
-        """A class to leave out, with these names at least."""
+        """A class for an except. It contains at least these names."""
         more = [self.chance.choice(self.elements)] if self.chance.random() < 0.5 else []
         if not in_namespace and self.chance.random() < 0.3:
             more.append(("namespace", self.chance.choice(NAMESPACES), None))
@@ -178,7 +178,7 @@ class Maker:
     # ---- contents
 
     def content(self, place):
-        """What an element holds: attributes and the rest."""
+        """The content of an element: attributes and the rest."""
         self.left -= 1
         owned, others = self.parted(place.attributes)
         members = self.own_attributes(owned if self.left > 0 else owned[:1])
@@ -222,7 +222,7 @@ class Maker:
         return EMPTY if pick < 0.3 else TEXT if pick < 0.6 else NOT_ALLOWED if pick < 0.63 else self.value()
 
     def particle(self, place):
-        """Elements, with text beside them where the place lets it be."""
+        """Elements, with text beside them if the place allows it."""
         self.left -= 1
         pick = self.chance.random()
         if self.left <= 0 or pick < 0.3:
@@ -250,7 +250,7 @@ class Maker:
         return (kind, tuple(found))
 
     def interleave(self, place):
-        """Members whose names do not meet; one of them may hold text."""
+        """Members with different names. One of them may contain text."""
         names = list(place.elements)
         self.chance.shuffle(names)
         cut = self.chance.randrange(1, len(names)) if len(names) > 1 else 1
@@ -298,7 +298,7 @@ class Maker:
 
 
 def without_unused(schema):
-    """The schema without the definitions that nothing refers to."""
+    """The schema without the unused definitions."""
     found, waiting = set(), list(refs(schema.start))
     while waiting:
         name = waiting.pop()
@@ -309,7 +309,7 @@ def without_unused(schema):
 
 
 def made(seed):
-    """The schema of a seed: a dense one, a wild one, or neither."""
+    """The schema for a seed: a dense one, a wild one, or neither."""
     chance = random.Random(seed)
     pick = chance.random()
     maker = Maker(chance, wild=pick < 0.12)

@@ -1,7 +1,7 @@
 #!/usr/bin/env python3
 """A quick test of the fuzz tool:   tools/fuzz/test.py [PROGRAM]
 
-Some cases of a fixed seed find nothing. A program with a planted fault is found out, and the case is made small.
+Some cases of a fixed seed find nothing. In a program with a planted fault the fault is found, and the case is made small.
 """
 import os
 import pathlib
@@ -12,7 +12,7 @@ import unittest
 
 HERE = pathlib.Path(__file__).resolve().parent
 PROGRAM = HERE.parents[1] / "crates/rncv/out/rncv"
-# It says of a valid document that it is invalid, where the schema has an interleave.
+# It calls a valid document invalid if the schema has an interleave.
 FAULTY = """#!/bin/sh
 answer=$("$REAL_PROGRAM" "$@")
 status=$?
@@ -23,7 +23,7 @@ fi
 printf '%s\\n' "$answer"
 exit $status
 """
-# It tells each invalid document at its first line.
+# It reports each invalid document at its first line.
 HASTY = """#!/bin/sh
 answer=$("$REAL_PROGRAM" "$@")
 status=$?
@@ -45,7 +45,7 @@ class FuzzTest(unittest.TestCase):
         self.assertIn("0 faults found", told)
 
     def found(self, text, check):
-        """What is found in a program with a fault: the schema, the document and the report."""
+        """What is found in a faulty program: the schema, the document and the report."""
         with tempfile.TemporaryDirectory() as room:
             faulty = pathlib.Path(room, "faulty")
             faulty.write_text(text)

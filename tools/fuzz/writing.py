@@ -1,20 +1,20 @@
-"""Writes a schema of `schemas.py` down as files of the compact syntax. One tree has many clothes, and all of them say the same.
+"""Writes a schema of `schemas.py` as files of the compact syntax. One tree has many written forms, and all of them mean the same.
 
-`Clothes` says which: what is a definition of its own, in an included file, in an external one, in a nested grammar, overridden, joined by `|=`; which
-prefixes, comments, annotations, escapes and parentheses there are. The same seed and features give the same files.
+`Clothes` chooses the form. A pattern may be a definition, in an included or external file, in a nested grammar, overridden, or joined by `|=`. There may
+be prefixes, comments, annotations, escapes and parentheses. The same seed and features give the same files.
 """
 import random
 
 from schemas import XML
 
 XSD = "http://www.w3.org/2001/XMLSchema-datatypes"
-# Those that leave the simple form as it is, and `order`, which does not.
+# The features do not change the simple form. Only `order` does.
 FEATURES = ("definitions", "external", "nested", "include", "override", "combine", "div", "unused", "prefixes", "comments", "annotations", "escapes",
             "parentheses", "segments", "names", "undefined")
 ORDER = "order"
-# What is overridden refers to what is not defined. jing refuses this.
+# With this feature an overridden component refers to an undefined name. jing refuses this.
 UNDEFINED = "undefined"
-# Where blanks, comments and line ends may be.
+# This character marks a place for blanks, comments and line ends.
 GAP = "\x01"
 KEYWORDS = set("attribute default datatypes div element empty external grammar include inherit list mixed namespace notAllowed parent start string text "
                "token".split())
@@ -29,7 +29,7 @@ def words(*parts):
 
 
 class Clothes:
-    """Decides by a seed, and by what is decided about, so that a change of one part of a schema leaves the others as they are."""
+    """Makes random choices. Each choice depends on the seed and its subject only, so a change in one part of a schema does not change the others."""
 
     def __init__(self, seed, features):
         self.seed, self.features = seed, frozenset(features)
@@ -66,7 +66,7 @@ class File:
             self.lines.append(words("datatypes", "t", "=", self.literal(XSD)))
 
     def prefix(self, uri):
-        """A prefix of the uri, which is declared where there is none."""
+        """A prefix for the uri. Declares one if there is none."""
         found = [it for it, other in self.declared.items() if other == uri]
         if found:
             return found[0]
@@ -98,7 +98,7 @@ class File:
         return words(*(GAP.join(["~"] * (at > 0) + [segment(it, chance, escaped)]) for at, it in enumerate(segments)))
 
     def qualified(self, name, is_attribute=False):
-        """An expanded name as it is written."""
+        """The written form of an expanded name."""
         uri, local = name
         plain = uri == "" if is_attribute else uri == self.default
         chance = self.clothes.chance("name", name, self.name)
@@ -114,7 +114,7 @@ class File:
 
 
 def segment(text, chance, escaped):
-    """A text between quotes; what cannot be there as it is is escaped."""
+    """A text between quotes. Characters that cannot be written directly are escaped."""
     quote = "'" if '"' in text else '"'
     written = ""
     for it in text:
@@ -134,7 +134,7 @@ def spelled(name, chance, clothes):
 
 
 class Part:
-    """A part of a grammar in one file: the braces of it, or a file that is included."""
+    """A part of a grammar in one file: the grammar's braces, or an included file."""
 
     def __init__(self, file, around=None):
         self.file, self.around = file, around
@@ -142,7 +142,7 @@ class Part:
 
 
 class Grammar:
-    """A grammar that is being written: what it defines, and in which of its parts."""
+    """A grammar that is being written: its definitions, and the parts that have them."""
 
     def __init__(self, writer, file, parent=None):
         self.writer, self.clothes, self.parent = writer, writer.clothes, parent
@@ -167,7 +167,7 @@ class Grammar:
         return name
 
     def part_for(self, *about):
-        """The part where a definition goes, which may be a new file."""
+        """The part for a definition. It may be a new file."""
         chance = self.clothes.chance("part", *about)
         if self.clothes.is_so("include", 0.4, *about) and len(self.parts) < 4 and self.writer.has_room():
             around = chance.choice(self.parts)
@@ -180,7 +180,7 @@ class Grammar:
         return chance.choice(self.parts) if "include" in self.clothes.features else self.top
 
     def define(self, name, pattern, *about):
-        """Puts a definition of this written name (`start` has none to quote) into a part."""
+        """Puts a definition of this written name into a part. (`start` is not quoted.)"""
         part = self.part_for(name, *about)
         target, file = part.components, part.file
         if part.around and self.clothes.is_so("override", 0.5, name, *about):
@@ -201,7 +201,7 @@ class Grammar:
         return words("div", "{", component, "}") if self.clothes.is_so("div", 0.15, component) else component
 
     def ref(self, name):
-        """How a definition of the schema is referred to from this grammar."""
+        """The text that refers to a definition of the schema in this grammar."""
         if self.parent is None:
             if name not in self.names:
                 self.names[name] = quoted(self.fresh(name))
@@ -221,7 +221,7 @@ class Grammar:
         return name
 
     def written(self):
-        """The components, and those of the files that it includes are put there."""
+        """Writes the components of the included files into these files, and returns the other components."""
         for part in reversed(self.parts[1:]):
             part.file.lines.append(self.of_part(part))
         return self.of_part(self.top)
@@ -284,7 +284,7 @@ class Writer:
     # ---- patterns
 
     def pattern(self, pattern, grammar, file, is_whole=False):
-        """The text of a pattern; one that is not whole is a primary one with a sign after it at most."""
+        """The text of a pattern. If it is not whole, it is a primary pattern, or one with a sign after it."""
         about = (pattern, grammar.number)
         if not is_whole:
             if self.clothes.is_so("definitions", 0.15, *about):
@@ -299,7 +299,7 @@ class Writer:
         return text
 
     def external(self, pattern, grammar, file):
-        """The pattern in a file of its own, as it is or in a grammar."""
+        """Puts the pattern into a new file, alone or in a grammar, and returns the mention."""
         mention, new = self.mention(file, "external", pattern, grammar.number)
         if self.clothes.is_so("nested", 0.5, "external", pattern):
             text = self.grammar(pattern, new, grammar)
@@ -310,12 +310,12 @@ class Writer:
         return mention
 
     def primary(self, pattern, grammar, file):
-        """The text of a pattern before a sign: one with a sign is in parentheses."""
+        """The text of a pattern before a sign. A pattern that ends with a sign gets parentheses."""
         text = self.pattern(pattern, grammar, file)
         return words("(", text, ")") if text[-1] in "?*+" else text
 
     def bare(self, pattern, grammar, file):
-        """The text, and whether it is a particle."""
+        """The text of a pattern, and whether it is a particle."""
         kind = pattern[0]
         if kind in ("choice", "group", "interleave"):
             return self.members(pattern, grammar, file)
@@ -386,5 +386,5 @@ def is_simple(name_class):
 
 
 def written(schema, seed=0, features=()):
-    """The files of a schema, in clothes of this seed and these features."""
+    """The files of a schema, written with this seed and these features."""
     return Writer(schema, Clothes(seed, features)).write()

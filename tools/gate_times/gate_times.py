@@ -1,10 +1,10 @@
-"""What the gate costs: run.sh says how to call it.
+"""Measures what the gate costs. run.sh says how to call it.
 
-Times of a processor are read from /proc four times a second, of each process of the prover: whose crate it checks, and whether that is the
-crate's proof, its tests or a must-fail edit, is told by its words and its folder.
+It reads the processor time of each process of the prover from /proc, four times a second. The arguments and the folder of a process show which crate it
+checks, and whether it checks the crate's proofs, its tests or a must-fail edit.
 
-What a machine is worth is told by crates that have not changed: reference.txt beside this has the minutes of their proofs in an earlier table, with a
-checksum of what was proved, and by how much that table's processor is slower than the one for which the budget was set.
+Crates that have not changed show the speed of the machine. reference.txt beside this file has the minutes of their proofs in an earlier table, and a
+checksum of what was proved. It also says how much slower the processor of that table is than the one for which the budget was set.
 """
 import hashlib
 import json
@@ -23,7 +23,7 @@ TICK = os.sysconf("SC_CLK_TCK")
 
 
 def crates():
-    """The crates of crates.txt, each with those of the repository that it uses, lowest first."""
+    """The crates of crates.txt, each with the crates of the repository that it uses, the lowest crate first."""
     uses = {}
     with open(f"{ROOT}/crates.txt", encoding="utf-8") as lines:
         for line in lines:
@@ -67,12 +67,12 @@ class Watch:
         self.thread.join()
         by_pid = {pid: it for (pid, _), it in self.processes.items()}
         for it in self.processes.values():
-            # a copy of the prover that shares its work may have no crate among its words
+            # a child process of the prover that does a part of the work may have no crate among its arguments
             top = it
             while "--crate-name" not in top["words"] and top["parent"] in by_pid and by_pid[top["parent"]] is not top:
                 top = by_pid[top["parent"]]
             words = top["words"]
-            # (another checkout's checks and edits, run beside this, are not the gate's; `rt` is the parent of the check of an edit)
+            # (checks and edits of another checkout that run at the same time do not belong to this gate; `rt` is the parent of the check of an edit)
             is_own = top["folder"].startswith(f"{ROOT}/") or "/rt-edit-" in top["folder"] and top["parent"] == str(gate)
             it["crate"] = words[words.index("--crate-name") + 1] if is_own and "--crate-name" in words else ""
             it["part"] = "edits" if "/rt-edit-" in it["folder"] else "tests" if "--test" in words else "proofs"
@@ -80,7 +80,7 @@ class Watch:
 
 
 def from_nothing():
-    """`rt ci` that takes nothing from an earlier run. A kit that keeps what a run proved has a flag for that; an older one always proves all."""
+    """The command `rt ci` that uses nothing from an earlier run. A kit that keeps results has a flag for that. An older kit always proves all."""
     usage = subprocess.run(["rt", "--help"], stdout=subprocess.PIPE, stderr=subprocess.STDOUT, text=True, errors="replace").stdout
     return ["rt", "ci", *(["--anew"] if "--anew" in usage else [])]
 
@@ -116,7 +116,7 @@ def table(seen):
     minutes = lambda seconds: f"{seconds / 60:.1f}"
     total = [0.0] * 4
     for crate in crates():
-        # the first edit's check is from nothing; the last check is of the crate itself, where there are two edits or more
+        # the check of the first edit is from nothing; if there are two edits or more, the last check is of the crate itself
         each = [*edits[crate].values()]
         first, more = each[:1], each[1:-1] if len(each) > 2 else []
         row = [took[crate, "proofs"], took[crate, "tests"], sum(first), sum(each[1:])]
@@ -128,15 +128,15 @@ def table(seen):
     way, length = longest({key: end - start for key, (start, end) in spans.items()})
     for crate in crates():
         names = sorted(it.removesuffix(".edit") for it in os.listdir(f"{ROOT}/crates/{crate}/must-fail")) if edits[crate] else []
-        # (a crate's edits are tried in the order of their names; the first check is also that of the whole crate)
+        # (a crate's edits are tried in the order of their names; the first check is also the check of the whole crate)
         dear = sorted(zip([*edits[crate].values()][1:], names[1:]), reverse=True)[:3]
         if dear:
-            print(f"\nThe dearest edits of `{crate}`: " + ", ".join(f"`{name}` {seconds:.0f}" for seconds, name in dear), end="")
+            print(f"\nThe costliest edits of `{crate}`: " + ", ".join(f"`{name}` {seconds:.0f}" for seconds, name in dear), end="")
     print(f"\n\nThe longest way: {minutes(length)} minutes on the clock, {', '.join(way)}")
 
 
 def code_of(path):
-    """The text of a file without blank lines and lines of comments, which cost nothing to prove."""
+    """The text of a file without blank lines and comment lines. These cost nothing to prove."""
     mark = b"--" if path.endswith(".antt") else b"//"
     with open(path, "rb") as it:
         lines = [line.rstrip() for line in it.read().split(b"\n")]
@@ -144,7 +144,7 @@ def code_of(path):
 
 
 def checksum(crate):
-    """Of what the proofs of a crate are about."""
+    """A checksum of the sources, specifications and proofs of a crate."""
     summed = hashlib.sha256()
     for folder in ("src", "specs", "proofs"):
         for path, folders, files in os.walk(f"{ROOT}/crates/{crate}/{folder}"):
@@ -156,12 +156,12 @@ def checksum(crate):
 
 
 def compare(total, took):
-    """Prints how much longer this machine took for what has not changed, and what the whole is by the budget's measure."""
+    """Prints how much longer this machine took for unchanged crates, and the total in the measure of the budget."""
     with open(f"{os.path.dirname(os.path.abspath(__file__))}/reference.txt", encoding="utf-8") as lines:
         rows = [line.split() for line in lines if line.strip() and not line.startswith("#")]
     factor = float(rows[0][1])
     then = {crate: (float(minutes), summed) for crate, minutes, summed in rows[1:]}
-    # (a check loads the statements alone of the crates below, so a change there costs this crate little)
+    # (a check loads only the statements of the crates below, so a change there costs this crate little)
     same = [(crate, then[crate][0]) for crate in crates() if crate in then and then[crate][1] == checksum(crate)]
     before, now = sum(minutes for _, minutes in same), sum(took[crate, "proofs"] for crate, _ in same) / 60
     print(f"\nUnchanged: {len(same)} crates, whose proofs took {before:.1f} minutes and now take {now:.1f}: {now / before:.2f} times as long.")
@@ -169,7 +169,7 @@ def compare(total, took):
 
 
 def longest(clock):
-    """The longest chain of parts that wait for one another, and how long it took on the clock."""
+    """The longest chain of parts that wait for each other, and how long it took on the clock."""
     ways = {}
     for crate, uses in crates().items():
         before = max((ways[dep, "proofs"] for dep in uses), key=lambda it: it[1], default=([], 0))
@@ -191,7 +191,7 @@ def functions():
 
 
 def dearest(crate, folder):
-    """Prints the ten functions whose checks took longest, by the times at which the ends of the checks are told."""
+    """Prints the ten functions whose checks took longest, by the times at which the checks are reported as ended."""
     ran = subprocess.Popen(["rt", "check", "--jobs", "1"], cwd=folder, stdout=subprocess.PIPE, stderr=subprocess.STDOUT, text=True, errors="replace")
     ended, before, start, last = [], None, time.time(), ""
     for last in ran.stdout:

@@ -1,6 +1,6 @@
 """The productions of the compact syntax, and a program that tries them wherever they may begin."""
 
-# What stands between quotes is that keyword or sign; words in capitals are kinds of tokens, OTHER any token that is no bracket.
+# A quoted word is a keyword or a sign. Words in capitals are kinds of tokens. OTHER is any token that is not a bracket.
 GRAMMAR = """
 file = declarations pattern | declarations contents
 declarations = | declaration declarations
@@ -59,7 +59,7 @@ def read_productions():
 
 
 def split_alternatives(text):
-    """The parts between bars that stand outside quotes."""
+    """The parts between bars that are outside quotes."""
     parts, current = [], []
     for word in text.split():
         if word == "|":
@@ -74,7 +74,7 @@ RULES = read_productions()
 
 
 def kind(word):
-    """The kind of a token as it is written."""
+    """The kind of a written token."""
     if word in SIGNS:
         return "SIGN"
     if word in KEYWORDS:
@@ -121,7 +121,7 @@ class Follower:
 
 
 def judged(words):
-    """`sentence`, or the place of the first token such that no sentence begins with the tokens up to and with it."""
+    """`sentence`, or the place of the first token such that no sentence begins with the tokens up to and including it."""
     follower = Follower(words)
     if len(words) in follower.ends("file", 0):
         return "sentence"

@@ -1,4 +1,4 @@
-"""Random sentences of the compact syntax, each with the tree that it is made with. Annotations stand wherever one may, and leave the tree as it is."""
+"""Random sentences of the compact syntax, each made together with its tree. Annotations may be wherever one is allowed, and do not change the tree."""
 import random
 
 import trees as t
@@ -15,12 +15,12 @@ XML = Prefix("xml", "xml", "lang", t.XML)
 XSD = Prefix("xsd", "xsd", "integer", t.XSD)
 
 
-# what an annotation may hold beside other annotations: names of other namespaces, and what means something elsewhere
+# what an annotation may contain besides other annotations: names of other namespaces, and words and signs that have a meaning elsewhere
 CONTENT = "x \\y a:documentation xsd:* 'a' \"\"\"b\"\"\" = |= &= , | & ? * + - ~ external include inherit namespace start text".split()
 
 
 class Sentence:
-    """The words of a sentence so far, and what its declarations declare. One in so many places has an annotation, or none if that is 0."""
+    """The words of a sentence so far, and its declarations. One in `annotated` places has an annotation; 0 means no annotations."""
 
     def __init__(self, seed, annotated=0):
         self.random, self.words = random.Random(seed), []
@@ -34,13 +34,13 @@ class Sentence:
         self.words += words
 
     def either(self, *words):
-        """Puts one of these words, each with what it says, and returns that."""
+        """Puts one of these words, and returns its meaning."""
         word, says = self.random.choice(words)
         self.put(word)
         return says
 
     def annotation(self):
-        """Puts an annotation, or none."""
+        """Puts an annotation, or nothing."""
         if self.annotated and self.annotations.randrange(self.annotated) == 0:
             self.brackets(2)
 
@@ -119,7 +119,7 @@ class Sentence:
     # names, datatypes, mentions
 
     def wide(self):
-        """`*` or `p:*`: whether it has a prefix, and its namespace."""
+        """Puts `*` or `p:*`, and returns whether it has a prefix, and its namespace."""
         if self.one_in(2):
             self.put("*")
             return False, None

@@ -1,4 +1,4 @@
-"""File trees, as `{:?}` prints those of `rnc_grammar`."""
+"""File trees in the form in which `{:?}` prints the trees of `rnc_grammar`."""
 
 XML = "http://www.w3.org/XML/1998/namespace"
 XSD = "http://www.w3.org/2001/XMLSchema-datatypes"

@@ -1,4 +1,4 @@
-"""Worked cases: texts, each with the tree or the broken clause that the rules give."""
+"""Worked cases: texts with the tree or the broken clause that the rules give."""
 import trees as t
 
 X, Y, Z = t.ref("x"), t.ref("y"), t.ref("z")
@@ -6,7 +6,7 @@ A, B = t.name(None, "a"), t.name(None, "b")
 DATE, INTEGER = t.datatype(t.XSD, "date"), t.datatype(t.XSD, "integer")
 
 PATTERNS = {
-    # what one word says, or two
+    # patterns of one or two words
     "x": X,
     "\\start": t.ref("start"),
     "parent x": t.parent("x"),
@@ -14,7 +14,7 @@ PATTERNS = {
     "empty": t.EMPTY,
     "text": t.TEXT,
     "notAllowed": t.NOT_ALLOWED,
-    # what stands in braces
+    # patterns with braces
     "element element { empty }": t.element(t.name(None, "element"), t.EMPTY),
     "attribute a { text }": t.attribute(t.name("", "a"), t.TEXT),
     "list { x }": t.list_of(X),
@@ -47,7 +47,7 @@ PATTERNS = {
     "string": t.data(t.STRING),
     "token { }": t.data(t.TOKEN),
     "xsd:integer { minInclusive = '1' list = '2' ~ '3' }": t.data(INTEGER, ("minInclusive", "1"), ("list", "23")),
-    # datatypes with what they except
+    # datatypes with an except
     "xsd:date { } - x": t.data(DATE, excepted=X),
     # name classes of an element
     "element * { text }": t.element(t.ANY, t.TEXT),
@@ -71,7 +71,7 @@ PATTERNS = {
     "element a { external 'b' , grammar { div { include 'c' } } }": t.element(
         A, t.group(t.external(t.mention("b", None, 4)), t.grammar(t.div(t.include(t.mention("c", None, 11)))))
     ),
-    # patterns that are no grammars
+    # patterns that are not grammars
     "grammar { } ?": t.optional(t.grammar()),
     "grammar { } , x": t.group(t.grammar(), X),
     "( grammar { } | x )": t.choice(t.grammar(), X),
@@ -131,7 +131,7 @@ DATATYPES = {
     "namespace d = 'v' datatypes d = 'u' datatypes e = 'w' d:t": "u",
 }
 
-# a mention of the file `b`, with what that one inherits and the place of the mention
+# a mention of the file `b`, with the namespace that `b` inherits and the place of the mention
 EXTERNALS = {
     'external "b"': (None, 1),
     'default namespace = "u" external "b"': ("u", 5),
@@ -175,7 +175,7 @@ GRAMMARS = {
     ],
 }
 
-# tokens that are no sentence, whatever they declare, each with the place of the fault
+# tokens that are not a sentence, with any declarations, each with the place of the fault
 NO_SENTENCES = {
     "element a { foo | bar , baz }": 7,
     "element a { empty": 5,
@@ -208,7 +208,7 @@ NO_SENTENCES = {
     "( x }": 3,
     'namespace p = "u" namespace p = "u" empty empty': 10,
     "element p:a { empty": 5,
-    # annotations where none may stand, that hold what none may, or that do not end
+    # annotations at a wrong place, with wrong content, or without an end
     "element a { empty [ x ] }": 5,
     "[ x ] [ y ] element a { empty }": 4,
     "element a { [ [ ] empty }": 8,
@@ -276,7 +276,7 @@ def nested(wrap, body, count):
     return body
 
 
-# brackets in brackets, 128 and one more, and brackets that are never closed or were never opened
+# nested brackets, 128 and 129 deep, and brackets that are never closed or were never opened
 NESTED = {
     enclosed("(", "empty", ")", 128): t.pattern_file(t.EMPTY),
     enclosed("list {", "empty", "}", 128): t.pattern_file(nested(t.list_of, t.EMPTY, 128)),
@@ -299,13 +299,13 @@ MANY = 1_000
 
 
 def many_prefixes(mentioned):
-    """A schema that declares many prefixes, and mentions so many."""
+    """A schema that declares many prefixes and uses `mentioned` of them."""
     declared = " ".join(f"namespace p{it} = 'u{it}'" for it in range(MANY))
     return f"{declared} element {' | '.join(f'p{it}:a' for it in range(mentioned))} {{ empty }}"
 
 
 def cases():
-    """All texts with what is to be printed of them."""
+    """All texts, each with what must be printed for it."""
     yield from ((text, t.pattern_file(pattern)) for text, pattern in PATTERNS.items())
     yield from ((text, t.pattern_file(t.element(t.name(uri, "a"), t.EMPTY))) for text, uri in ELEMENTS.items())
     yield from ((text, t.pattern_file(t.data(t.datatype(library, "t")))) for text, library in DATATYPES.items())

@@ -1,4 +1,4 @@
-"""Writes the rows and the wanted output of `rnc_grammar_cases` into its folder: run.sh says more."""
+"""Writes the rows and the expected output of `rnc_grammar_cases` into its folder. run.sh says more."""
 import os
 import random
 import re
@@ -15,7 +15,7 @@ MENTION = re.compile(r'(External|Include)\(Mention { href: ("(?:[^"\\]|\\.)*"), 
 
 
 def members(printed):
-    """How many members the list has that this text begins with."""
+    """The number of members of the list at the beginning of this text."""
     depth, count, quoted, before = 0, 0, False, ""
     for it in printed:
         quoted ^= it == '"' and before != "\\"
@@ -29,20 +29,20 @@ def members(printed):
 
 
 def components_of(printed):
-    """How many components the grammar has that a file with this printed tree is; None of another file."""
+    """The number of components if a file with this printed tree is a grammar, else None."""
     inner = printed.removeprefix("Pattern(").removesuffix(")") if printed.startswith("Pattern(Grammar(") else printed
     return members(inner[len("Grammar(") :]) if inner.startswith("Grammar([") else None
 
 
 def mentions(printed):
-    """The files that one with this printed tree mentions, as the program prints them: an include with how many components stand in its braces."""
+    """The files that a file with this printed tree mentions, as the program prints them. An include has the number of components in its braces."""
     for it in MENTION.finditer(printed):
         kind, href, token = it.groups()
         yield f" external {href} at {token}" if kind == "External" else f" include {href} at {token} over {members(printed[it.end() :])}"
 
 
 def answer(printed):
-    """What the program prints of a file with this printed tree, or that breaks this clause."""
+    """What the program prints for a file with this printed tree, or for one that breaks this clause."""
     if printed.startswith("clause"):
         return printed
     count = components_of(printed)
@@ -55,7 +55,7 @@ def row(text):
 
 
 def sentences(count):
-    """Random sentences with their printed trees, none twice: without annotations, and half of them with annotations too."""
+    """Different random sentences with their printed trees. All are made without annotations, and half of them also with annotations."""
     made = {}
     for seed in range(count):
         for annotated in (0,) if seed % 2 else (0, 3):
@@ -66,7 +66,7 @@ def sentences(count):
 
 
 def neighbors(words, choice):
-    """The words with one of them dropped, doubled, or replaced by another, at each place."""
+    """The words themselves, and at each place with one word dropped, doubled, or replaced by another."""
     yield words
     for place in range(len(words)):
         front, back = words[:place], words[place + 1 :]
@@ -76,7 +76,7 @@ def neighbors(words, choice):
 
 
 def beside(count):
-    """Texts one token beside short random sentences, with what the productions say of them."""
+    """Texts that differ from short random sentences in one token, with the judgement of the productions."""
     made, choice = {}, random.Random(0)
     for seed in range(count):
         sentence = Sentence(1_000_000 + seed, seed % 2 and 4)
@@ -97,7 +97,7 @@ def main(folder):
     with open(f"{folder}/stdout", "w", encoding="utf-8") as stdout:
         for name, rows in parts.items():
             with open(f"{folder}/data/{name}", "w", encoding="utf-8") as data:
-                # (a row that is empty stands as a space, which no token is)
+                # (an empty row is written as a space, which is not a token)
                 data.writelines(f"{row(text) or '%20'}\n" for text in rows)
             stdout.writelines(f"{it}\n" for it in rows.values())
 

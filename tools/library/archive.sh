@@ -1,9 +1,9 @@
 #!/bin/sh
 # Makes librncv_c.a, the static library of the crate rncv_c:   tools/library/archive.sh BACKEND FILE      (BACKEND: llvm or rattle)
 #
-# `rt lib` makes it, and proves what has changed since it did so last; over nothing that is all crates below. Where the variable RNCV_AFTER_CI is set,
-# `rt ci` has just passed on these sources: then only rncv_c is checked once more, over the libraries that `rt ci` has left in crates/*/out/rlib, which
-# `rt lib` does not take. That is not looked at here.
+# `rt lib` makes it, and proves what has changed since its last run. Without such a run that is all crates below. If the variable RNCV_AFTER_CI is set,
+# `rt ci` has just passed on these sources. Then only rncv_c is checked once more, over the libraries that `rt ci` left in crates/*/out/rlib, which
+# `rt lib` does not take. This script does not check that `rt ci` passed.
 set -eu
 
 here=$(cd "$(dirname "$0")" && pwd)

@@ -5,7 +5,7 @@
 
 The schema has some 8,000 lines and 300 elements, like one for books and articles. A generator with a seed makes it, and documents that are valid by
 it. Printed are milliseconds, on the clock and of a processor: to compile the schema once; to judge N documents of about 1 KB by it, one after the
-other; and to judge one of about 20 KB again and again. Where PROGRAM is told, the built `rncv`, it judges the first of the documents, one a run, for
+other; and to judge one of about 20 KB again and again. With PROGRAM, the built `rncv`, it also judges the first of the documents, one a run, for
 comparison. The calls are those of the Python package (`tools/python`), so they take what the C library takes and a little more.
 
 With --jing JAR, jing judges the same documents, as XML files, in one running Java machine: several rounds, so that the machine is warm. jing reads and
@@ -40,7 +40,7 @@ def class_of(kind, number):
 
 
 class Grammar:
-    """A schema of many elements, and the documents that it has."""
+    """A schema of many elements, and documents for it."""
 
     def __init__(self, chance):
         self.chance = chance
@@ -75,7 +75,7 @@ class Grammar:
         self.lines += ['  attribute xml:lang { xsd:token }?', ""]
 
     def attribute_lines(self, name):
-        """The attributes of an element of its own, which are remembered for the documents."""
+        """An element's own attributes. They are remembered for the documents."""
         found, lines = [], []
         for attribute in ATTRIBUTES[:1 + self.chance.randrange(len(ATTRIBUTES))]:
             kind = self.chance.randrange(4)
@@ -126,7 +126,7 @@ class Grammar:
         return f"{kind}.{self.chance.choice(range(topic, count, TOPICS))}"
 
     def document(self, size):
-        """A valid document of about so many bytes."""
+        """A valid document of about this many bytes."""
         self.out, self.size, self.target = [], 0, size
         self.put("(section.0", "Axmlns http://example.org/ns/book")
         self.section_body("section.0", 0)
@@ -154,7 +154,7 @@ class Grammar:
         return " ".join(self.chance.choice(WORDS) for _ in range(count))
 
     def section_body(self, name, depth):
-        """What stands in a section, behind its tag's name, and its end."""
+        """What is in a section after its tag's name, and its end."""
         self.own_attributes(name)
         parts = [("(title", f"-{self.words(4)}", ")title")] + [("(author", f"-{self.words(2)}", ")author")] * self.chance.randrange(3)
         self.chance.shuffle(parts)
@@ -197,7 +197,7 @@ class Grammar:
 
 
 def took(call):
-    """What a call answers, and the milliseconds on the clock and of a processor that it took."""
+    """What a call returns, and the milliseconds on the clock and of a processor that it took."""
     clock, processor = time.perf_counter(), time.process_time()
     answer = call()
     return answer, (time.perf_counter() - clock) * 1000, (time.process_time() - processor) * 1000
@@ -208,14 +208,14 @@ def tell(what, clock, processor):
 
 
 def judged(validator, documents):
-    """Judges the documents, which all are valid."""
+    """Judges the documents. All of them are valid."""
     for document in documents:
         if not validator.validate(document):
             sys.exit(f"bench.py: a document is {validator.validate(document)}")
 
 
 def program_runs(program, schema, documents):
-    """The milliseconds on the clock and of a processor of all runs of the program, one a document."""
+    """The milliseconds on the clock and of a processor of all runs of the program, one run for each document."""
     with tempfile.TemporaryDirectory(prefix="rncv-bench-") as room:
         path = pathlib.Path(room, "s.rnc")
         path.write_bytes(schema)
@@ -259,7 +259,7 @@ def jing_rounds(jar, schema, documents, rounds):
 
 
 def tell_jing(jar, schema, documents, large):
-    """Prints what jing takes."""
+    """Prints the times of jing."""
     first, *later = jing_rounds(jar, schema, documents, 10)
     print(f"| jing: all documents, in a machine that begins | {first:.2f} | |\n| jing: all documents again (least of {len(later)} rounds) | {min(later):.2f} | |")
     first, *later = jing_rounds(jar, schema, [large], 2_000)

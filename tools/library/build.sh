@@ -1,9 +1,9 @@
 #!/bin/sh
 # Builds the C library:   tools/library/build.sh [FOLDER] [BACKEND]
 #
-# FOLDER (else build/library at the top of the repository) then has include/rncv.h, lib/librncv.a, lib/librncv.so and lib/pkgconfig/rncv.pc.
-# BACKEND is `llvm` or `rattle`, the compiler of the proved code. PREFIX says where the files will be installed; else rncv.pc names FOLDER.
-# It wants `rt`, a C compiler and binutils. What has changed is proved (archive.sh).
+# FOLDER, by default build/library at the top of the repository, then has include/rncv.h, lib/librncv.a, lib/librncv.so and lib/pkgconfig/rncv.pc.
+# BACKEND is `llvm` or `rattle`, the compiler of the proved code. PREFIX says where the files will be installed. Without it rncv.pc names FOLDER.
+# The script needs `rt`, a C compiler and binutils. What has changed is proved (archive.sh).
 set -eu
 
 here=$(cd "$(dirname "$0")" && pwd)
@@ -28,8 +28,8 @@ if [ -z "$archive" ]; then
     "$here/archive.sh" "$backend" "$archive" > "$folder/archive.log" 2>&1 || { cat "$folder/archive.log"; exit 1; }
 fi
 
-# One object: the proved code, the kit's three functions over malloc, realloc and free, and the titles of the clauses. It shows the names of
-# the header alone.
+# One object: the proved code, the kit's three functions over malloc, realloc and free, and the titles of the clauses. It exports only the names of
+# the header.
 (cd "$folder/objects" && ar x "$archive" && ar x "$kit/c/liblibc_c.a" heap.pic.o)
 python3 -B "$here/clause_titles.py" "$top/docs/CLAUSES.md" > "$folder/clause_titles.c"
 $cc -std=c11 -Wall -Wextra -Wconversion -Werror -O2 -fPIC -I"$here/include" -c -o "$folder/objects/clause_titles.o" "$folder/clause_titles.c"

@@ -1,9 +1,10 @@
 #!/bin/sh
 # Builds the C library and tests it:   tools/library/test.sh
 #
-# Once as LLVM and once as Rattle's own compiler build it: each test program, alone, under valgrind and with the sanitizers of the C compiler; the
-# names that the shared object exports against those of the header; the header as C and as C++; and the shared object from Python. What is not installed is told and skipped.
-# It writes below build/library-tests/. RNCV_LIBRARY names a folder where build.sh has built the library by LLVM, which is then not built again.
+# LLVM builds it once, and Rattle's own compiler once. For each build the script tests: each test program, alone, under valgrind and with the sanitizers
+# of the C compiler; the names that the shared object exports against those of the header; the header as C and as C++; and the shared object from Python.
+# What is not installed is reported and skipped.
+# It writes below build/library-tests/. RNCV_LIBRARY names a folder where build.sh has built the library by LLVM. That is then not built again.
 # RNCV_ARCHIVE names a built librncv_c.a to test instead, and then nothing is proved here.
 set -eu
 
@@ -36,9 +37,11 @@ for backend in ${BACKENDS:-llvm rattle}; do
         echo "no C++ compiler: the header is not read as C++"
     fi
 
-    # the names that are exported are those of the header, and no other
+    # the names that both libraries export are those of the header, and no other
     nm -D --defined-only "$build/lib/librncv.so" | sed 's/.* //' | sort > "$build/tests/exported"
     grep -oE '\brncv_[a-z_]+\(' "$here/include/rncv.h" | tr -d '(' | sort -u > "$build/tests/declared"
+    diff "$build/tests/declared" "$build/tests/exported"
+    nm -g --defined-only "$build/lib/librncv.a" | awk 'NF == 3 { print $3 }' | sort > "$build/tests/exported"
     diff "$build/tests/declared" "$build/tests/exported"
 
     for source in "$here"/tests/*_test.c; do

@@ -1,6 +1,6 @@
-"""Large and hostile inputs. Each row has a name, a command, the stack in KiB (or nothing, for the usual one), and what makes its files and document.
+"""Large and hostile inputs. Each row has a name, a command, the stack in KiB (None for the usual stack), and a function that makes its files and document.
 
-What makes them takes a factor: 1, or a tenth for quick runs. It gives the texts of the files, which are named f0.rnc, f1.rnc and so on, and the document.
+The function takes a factor: 1, or a tenth for quick runs. It returns the texts of the files, which are named f0.rnc, f1.rnc and so on, and the document.
 """
 MEBIBYTE = 1_048_576
 LIST = 500
@@ -18,7 +18,7 @@ def short(number):
 
 
 def lists(sign, members):
-    """The members joined by the sign, in lists of 500 that are joined so again: within the limit of depth."""
+    """The members joined by the sign. Lists of 500 are joined in the same way again, to stay within the limit of depth."""
     members = list(members)
     while len(members) > LIST:
         members = ["(" + sign.join(members[at:at + LIST]) + ")" for at in range(0, len(members), LIST)]
@@ -30,7 +30,7 @@ def names(count, front=""):
 
 
 def filled(front, part, back=""):
-    """A file of nearly a mebibyte: the front, the part again and again, the back."""
+    """A file of nearly a mebibyte: the front, the part repeated, the back."""
     def make(factor):
         room = int(MEBIBYTE * factor) - len(front) - len(back)
         return [front + part * (room // len(part)) + back], ""
@@ -38,12 +38,12 @@ def filled(front, part, back=""):
 
 
 def joined(sign, member, front="element a {", back="}"):
-    """Members with a sign between, as many as a file has room for."""
+    """As many members with a sign between them as fit into a file."""
     return filled(front + member, sign + member, back)
 
 
 def numbered(member, front="", room=MEBIBYTE):
-    """Members with numbers in them, as many as a file has room for."""
+    """As many numbered members as fit into a file."""
     def make(factor):
         parts, left = [front], int(room * factor) - len(front) - 50
         while left > 0:
@@ -64,7 +64,7 @@ def many_files(factor):
 
 
 def nested_files(front, back, last, files=64):
-    """Files of 126 brackets in one another, the next file in the innermost."""
+    """Files of 126 nested brackets. The innermost mentions the next file."""
     def make(factor):
         count = max(2, int(files * factor))
         return [front * BRACKETS + (f'external "f{i + 1}.rnc"' if i + 1 < count else last) + back * BRACKETS for i in range(count)], ""
@@ -107,7 +107,7 @@ def names_in_two_choices(factor):
 
 
 def included_often(count, size):
-    """A file of components, so often included."""
+    """A file of components that is included `count` times."""
     def make(factor):
         inner = "".join(f"x{i} = element e{i} {{ empty }}\n" for i in range(size)) if size else components(1, int((MEBIBYTE - 100) * factor))
         return ['include "f1.rnc" { }\n' * int(count * factor), inner], ""
@@ -135,7 +135,7 @@ def brackets(factor):
 
 
 def levels(count, rule, last, children):
-    """Definitions, each over the next one, and so many children `b`."""
+    """Definitions, each made from the next one by the rule, and a document of children `b`."""
     def make(factor):
         size = int(count * factor)
         rules = "".join(f"x{i} = {rule.replace('#', f'x{i + 1}')}\n" for i in range(size))

@@ -1,11 +1,11 @@
 #!/usr/bin/env python3
-"""Runs the program over large and hostile inputs, and prints a table. It is no part of the gate.
+"""Runs the program on large and hostile inputs, and prints a table. It is not part of the gate.
 
     tools/limits/run.py [--only WORD] [--quick] [--seconds N] [--megabytes N] [PROGRAM]
 
-PROGRAM is `crates/rncv/out/rncv` where none is given. `inputs.py` has the rows. A run gets 120 seconds of a processor and 4,096 MiB of addresses, and
-where a row says so a stack of that size. `--only` picks the rows that have WORD in their name; `--quick` makes their sizes a tenth. The least memory
-that is told is that of this process, some 13 MiB.
+The default PROGRAM is `crates/rncv/out/rncv`. `inputs.py` has the rows. A run may use 120 seconds of a processor and 4,096 MiB of addresses. If a row
+has a stack size, the run gets that stack. `--only` picks the rows that have WORD in their name. `--quick` makes their sizes a tenth. The least reported
+memory is that of this process, some 13 MiB.
 """
 import argparse
 import os
@@ -22,7 +22,7 @@ LIMITS = 'ulimit -c 0; ulimit -t "$1"; ulimit -v "$2"; [ "$3" = 0 ] || ulimit -s
 
 
 def write_input(make, factor, folder):
-    """Writes the files and the document, in a process of its own: what it holds would count as the program's memory."""
+    """Writes the files and the document in another process. Memory of this process would count as the program's memory."""
     writer = os.fork()
     if writer == 0:
         files, document = make(factor)
@@ -31,7 +31,7 @@ def write_input(make, factor, folder):
         (folder / "document.pyx").write_text(document, encoding="utf-8")
         os._exit(0)
     if os.waitpid(writer, 0)[1]:
-        sys.exit("an input was not made")
+        sys.exit("an input could not be made")
     return [f"f{at}.rnc" for at in range(len(list(folder.glob("f*.rnc"))))]
 
 

@@ -1,11 +1,11 @@
 #!/usr/bin/env python3
-"""Looks for small schemas whose documents take long. It is no part of the gate.
+"""Searches for small schemas whose documents take long. It is not part of the gate.
 
     tools/limits/search.py --minutes N [--seed S] [--keep FOLDER] [PROGRAM]
 
-PROGRAM is `crates/rncv/out/rncv` where none is given. Schemas of at most 10 KB are made of nested `?`, `*`, `+`, `&`, `|`, lists and attributes; documents
-of 100 KB to 1 MB are drawn from the names and values of the schema. The schemas whose documents take the most time a byte are kept and changed further.
-At the end the worst ones are printed beside records of short elements, and written to FOLDER (build/limits-search where it is not said).
+The default PROGRAM is `crates/rncv/out/rncv`. Schemas of at most 10 KB are made of nested `?`, `*`, `+`, `&`, `|`, lists and attributes. Documents of
+100 KB to 1 MB are drawn at random from the names and values of the schema. The schemas whose documents take the most time a byte are kept and changed
+further. At the end the worst ones are printed after records of short elements, and written to FOLDER (default: build/limits-search).
 """
 import argparse
 import os
@@ -27,7 +27,7 @@ RECORDS = ("element doc { element record { attribute id { xsd:integer }, attribu
 
 
 class Maker:
-    """Patterns by chance. One is (sign, members), ("element", name), ("attribute", name) or ("value", text)."""
+    """Makes random patterns. A pattern is (sign, members), ("element", name), ("attribute", name) or ("value", text)."""
 
     def __init__(self, chance):
         self.chance = chance
@@ -44,7 +44,7 @@ class Maker:
         return (sign, [self.pattern(depth - 1) for _ in range(self.chance.choice([2, 2, 3, 5]))])
 
     def values(self, depth):
-        """What is in a list."""
+        """A random pattern for the content of a list."""
         if depth == 0:
             return ("value", self.chance.choice("abc"))
         sign = self.chance.choice(["?", "*", "+", ",", ",", "|"])
@@ -56,7 +56,7 @@ class Maker:
         return self.pattern(self.chance.randrange(2, 7))
 
     def changed(self, pattern):
-        """The pattern with one of its parts changed."""
+        """The pattern with one part changed."""
         if len(pattern) < 2 or isinstance(pattern[1], str) or self.chance.random() < 0.2:
             return self.replaced(pattern)
         members = list(pattern[1])
@@ -109,7 +109,7 @@ def schema_of(pattern):
 
 
 def drawn(pattern, chance, room):
-    """Attributes and children by the pattern; what an interleave has is mixed."""
+    """Random attributes and children by the pattern. The children of an interleave are shuffled."""
     sign, parts = pattern
     if sign in ("element", "value"):
         return [], [parts]
@@ -150,7 +150,7 @@ def document_of(pattern, chance):
 
 
 class Measured:
-    """A schema and a document, and what they took."""
+    """A schema and a document, and the time and memory that they took."""
 
     def __init__(self, pattern, schema, document, answer, seconds, memory):
         self.pattern, self.schema, self.document, self.answer, self.memory = pattern, schema, document, answer, memory
@@ -195,7 +195,7 @@ def records(chance):
 
 
 def search(judge, chance, end):
-    """The worst that were found. Half of the schemas are new until there are some, and later one in five."""
+    """The worst schemas that were found. All schemas are new until KEPT of them are kept, and later one in five."""
     maker, kept = Maker(chance), []
     while time.monotonic() < end:
         is_new = len(kept) < KEPT or chance.random() < 0.2

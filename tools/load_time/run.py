@@ -1,10 +1,10 @@
 #!/usr/bin/env python3
-"""Times `check` of the built program over schemas of several files. It is no part of the gate.
+"""Times `check` of the built program on schemas of several files. It is not part of the gate.
 
     tools/load_time/run.py [PROGRAM]
 
-PROGRAM is `crates/rncv/out/rncv` where none is given. Each line tells the answer, the seconds of a processor and the greatest memory. All of a
-schema is loaded before a clause from S11 on is judged.
+The default PROGRAM is `crates/rncv/out/rncv`. Each line has the answer, the seconds of a processor and the greatest memory. The whole schema is loaded
+before the clauses from S11 on are judged.
 """
 import os
 import pathlib
@@ -19,13 +19,13 @@ LEVELS = 126
 
 
 def defines(number, room=MEBIBYTE - 100):
-    """Components of names of their own, up to nearly a file's size."""
+    """Components with different names, nearly as many as fit into a file."""
     text = "".join(f"x{number}_{j} = element e{j} {{ attribute a {{ text }}, empty }}\n" for j in range(room // 60))
     return text[: text.rfind("\n", 0, room) + 1]
 
 
 def chain(front, back, last):
-    """64 files, each nested as deep as may be, with a mention of the next inside."""
+    """64 files, each nested as deeply as allowed. The innermost pattern mentions the next file."""
     return [front * LEVELS + (f'external "f{i + 1}.rnc"' if i < 63 else last) + back * LEVELS for i in range(64)]
 
 
@@ -64,7 +64,7 @@ def schemas():
 
 
 def write_files(number):
-    """The files of the schema of this number, written by a process of their own: what this one holds would count as the program's memory."""
+    """Writes the files of the schema with this number in another process. Memory of this process would count as the program's memory."""
     writer = os.fork()
     if writer == 0:
         for at, (_, texts) in enumerate(schemas()):

@@ -1,7 +1,8 @@
 #!/bin/sh
 # Tests of the language server, in less than 15 seconds:   tools/lsp/test.sh [LIBRARY]     (LIBRARY: the built librncv.so, else the one that the
 # variable RNCV_LIBRARY names, else that of build/library)
-# They want Python 3.9 or newer and no package. Without the library they are skipped aloud; where the variable RNCV_REQUIRED is set that is a failure.
+# They need Python 3.9 or newer and no package. Without the library they are skipped with a message. If the variable RNCV_REQUIRED is set, that is a
+# failure.
 here=$(cd "$(dirname "$0")" && pwd)
 library=${1:-${RNCV_LIBRARY:-$here/../../build/library/lib/librncv.so}}
 [ -d "$library" ] && library=$library/lib/librncv.so
@@ -16,7 +17,7 @@ room=$(mktemp -d)
 trap 'rm -rf "$room"' EXIT
 cd "$here" || exit 1
 
-# The parts run side by side, and what they print comes in order.
+# The parts run in parallel, and their output is printed in order.
 for part in rpc schemas xml units; do
     (
         "${PYTHON:-python3}" -m unittest discover -s tests -t tests -p "test_$part.py" >"$room/$part" 2>&1

@@ -1,14 +1,16 @@
 #!/usr/bin/env python3
-"""Times the reader of documents and the matcher together. It is no part of the gate.
+"""Times the reader of documents and the matcher together. It is not part of the gate.
 
     tools/match_time/run.py [--only WORD] [--times N] [--seconds N] [--built PROGRAM] [--records N] [--jing]
 
-It builds `program.txt` over the crates that it uses in a copy of them (or takes PROGRAM, which was built so before), makes schemas and documents, and
-judges each N times (3 where it is not said), of which the quickest counts. Each line tells the bytes of the document, the milliseconds of a processor,
-the greatest memory, and what the matcher said; what takes longer than so many seconds (20) is given up. `--records` says how many records the first
-document has (45,000). `--jing` judges the same documents, as XML, by jing within one running Java machine (packages `jing`, `libjing-java` and a JDK)
-on one processor: its columns have the milliseconds on the clock of compiling the schema, of judging the document for the first time by it, and of
-judging it once more, with what was kept from the times before; each the least of 12; what takes longer than five times so many seconds is given up.
+It builds `program.txt` with the crates that it uses, in a copy of them. `--built` names a PROGRAM that was built in the same way. It makes schemas and
+documents, and judges each document N times (default: 3). The quickest run counts. Each line has the bytes of the document, the milliseconds of a
+processor, the greatest memory, and the answer of the matcher. A run that takes longer than `--seconds` (default: 20) is stopped. `--records` is the number
+of records in the first document (default: 45,000).
+
+`--jing` judges the same documents, as XML, with jing in one running Java machine on one processor. It needs the packages `jing`, `libjing-java` and a JDK.
+Its columns have the milliseconds on the clock for compiling the schema, for judging the document the first time, and for judging it again. The last time
+uses what was kept from earlier times. Each is the least of 12. A run that takes longer than five times `--seconds` is stopped.
 """
 import argparse
 import os
@@ -39,7 +41,7 @@ def members(sign, count, name="e"):
 
 
 def lists(count):
-    """A `,` list of so many members, in lists of 500 for the depth's sake."""
+    """A group of `count` members, in lists of 500 to limit the depth."""
     parts = [f"({', '.join(f'element e{i} {{ empty }}' for i in range(at, min(at + 500, count)))})" for at in range(0, count, 500)]
     return ", ".join(parts)
 
@@ -132,7 +134,7 @@ def optional_attributes(draw):
 
 
 def attributes(prefixes, count):
-    """Declarations of these prefixes, each of a namespace of its own name, and so many attributes, of them in turn, or of none."""
+    """Declares each prefix with its own name as the namespace. Then `count` attributes, with the prefixes in turn or without one."""
     declared = "".join(f"Axmlns:{prefix} {prefix}\n" for prefix in prefixes)
     return declared + "".join(f"A{prefixes[i % len(prefixes)] + ':' if prefixes else ''}x{i} {i}\n" for i in range(count))
 
@@ -167,7 +169,7 @@ def groups_of_attributes(count):
 
 
 def levels(count, member, last):
-    """Of each level two ways, to the same next one and a member that may be left out."""
+    """Two ways at each level. Both have the next level and a different optional member."""
     rules = (f"x{i} = (x{i + 1}, {member(f'y{i}')}?) | (x{i + 1}, {member(f'z{i}')}?)" for i in range(count))
     return "\n".join(["start = element doc { x0 }", *rules, f"x{count} = {last}"])
 
@@ -189,13 +191,13 @@ def equal_optionals(count):
 
 
 def other_optionals(count):
-    """Members of one name, each with a body of its own, and as many children that each of them takes."""
+    """Members with one name, each with a different body, and as many children. Each member matches each child."""
     members_of = ", ".join(f"element b {{ text, element c{i} {{ empty }}? }}?" for i in range(count))
     return lambda draw: (f"element doc {{ {members_of} }}", root([element("b")] * count))
 
 
 def doubled(count, last, choices, times):
-    """Definitions, each the next one twice; so many times the children that one of the choices names by their letters."""
+    """Definitions, each the next one twice. The document has, `times` times, the children of one of the choices, named by its letters."""
     rules = [f"x{i} = x{i + 1}, x{i + 1}" for i in range(count)]
     schema = "\n".join(["start = element doc { x0 }", *rules, f"x{count} = {last}"])
     return lambda draw: (schema, root(element(name) for _ in range(times) for name in draw.choice(choices)))
@@ -262,7 +264,7 @@ def built(folder):
 
 
 def judged(program, folder, document, seconds):
-    """What the program says, its milliseconds and its greatest memory in MiB."""
+    """The program's answer, its milliseconds and its greatest memory in MiB."""
     before = resource.getrusage(resource.RUSAGE_CHILDREN)
     with open(document, "rb") as source, subprocess.Popen(
             ["/usr/bin/time", "-f", "%M", program], cwd=folder, stdin=source, stdout=subprocess.PIPE, stderr=subprocess.PIPE, text=True) as child:
@@ -292,7 +294,7 @@ def as_xml(document):
 
 
 def jing_classes(folder):
-    """Where Java finds the loop around jing, compiled."""
+    """Compiles the loop around jing, and returns the class path for Java."""
     installed = subprocess.run(["dpkg", "-L", "libjing-java"], stdout=subprocess.PIPE, text=True, check=True).stdout.split()
     jar = next(path for path in installed if path.endswith("/jing.jar"))
     subprocess.run(["javac", "-cp", jar, "-d", str(folder), str(HERE / "JingLoop.java")], check=True)
@@ -304,7 +306,7 @@ def on_one_processor():
 
 
 def by_jing(classes, folder, document, seconds):
-    """The least milliseconds that jing takes to compile the schema, to judge the document and to judge it once more, and what it says."""
+    """The least milliseconds that jing takes to compile the schema, to judge the document and to judge it again, and its answer."""
     (folder / "document.xml").write_text(as_xml(document), encoding="utf-8")
     words = ["java", "-Xss512m", "-cp", classes, "JingLoop", str(folder / "s.rnc"), str(folder / "document.xml")]
     try:

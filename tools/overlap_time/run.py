@@ -1,11 +1,11 @@
 #!/usr/bin/env python3
-"""Times `overlap` over large classes. It is no part of the gate.
+"""Times `overlap` on large classes. It is not part of the gate.
 
     tools/overlap_time/run.py [PROGRAM]
 
-PROGRAM is `crates/parts_cases/out/parts_cases` where none is given: it answers rows, and this writes one row for it, of two classes in their
-words (`crates/parts_cases/src/name_classes.rt`). Each line tells the answers, either way round, and the seconds of a processor for the two calls
-together, less those for the same row with one call that is quick (what it takes to read the row and to make the classes).
+The default PROGRAM is `crates/parts_cases/out/parts_cases`. It answers rows. This script writes one row with two classes in its notation
+(`crates/parts_cases/src/name_classes.rt`). Each line has the answers for both orders of the classes, and the seconds of a processor for the two calls.
+The time of a row with the same classes and a quick call is subtracted: it is the time to read the row and to make the classes.
 """
 import pathlib
 import resource
@@ -17,7 +17,7 @@ HERE = pathlib.Path(__file__).resolve().parent
 
 
 def choice(words):
-    """The choice of the classes, nested in twos to a small depth."""
+    """The choice of the classes, as a tree of pairs with a small depth."""
     words = list(words)
     while len(words) > 1:
         pairs = [f"{a} {b} |" for a, b in zip(words[::2], words[1::2])]
@@ -46,7 +46,7 @@ ROWS = [
 
 
 def run(program, row):
-    """What is printed for the row, and the seconds of a processor."""
+    """The output for the row, and the seconds of a processor."""
     with tempfile.TemporaryDirectory() as folder:
         for name in ("texts", "types", "model"):
             pathlib.Path(folder, f"{name}.txt").touch()

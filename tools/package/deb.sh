@@ -1,8 +1,8 @@
 #!/bin/sh
 # Makes a Debian package of what is built:   tools/package/deb.sh [FOLDER]      (`make deb`; FOLDER, else build/package)
 #
-# It wants dpkg-deb and no network, and builds nothing. The variables PROGRAM, LIBRARY and XML_PROGRAMS are those of install.sh. The date in the
-# package is SOURCE_DATE_EPOCH, else that of the last commit, so the same files make the same package. MAINTAINER is who answers for the package.
+# It needs dpkg-deb and no network, and builds nothing. The variables PROGRAM, LIBRARY and XML_PROGRAMS are those of install.sh. The date in the
+# package is SOURCE_DATE_EPOCH, else that of the last commit, so the same files make the same package. MAINTAINER names the package's maintainer.
 set -eu
 umask 022
 
@@ -26,11 +26,11 @@ root=$room/root
 
 RNCV_REQUIRED=1 PREFIX=/usr DESTDIR=$root ZSHDIR=share/zsh/vendor-completions PYTHON=/usr/bin/python3 "$top/tools/package/install.sh" install 2> "$room/log" || {
     cat "$room/log" >&2
-    # a package without the language server is still one
+    # a package without the language server is still a package
     [ "$(grep -c '^  ' "$room/log")" = 1 ] && grep -q '^  rncv-lsp:' "$room/log" || exit 1
 }
 
-# symbols are for those who build, and pages are compressed
+# only those who build need symbols, and pages are compressed
 elf() { [ "$(head -c 4 "$1" | tr -d '\177')" = ELF ]; }
 if command -v strip > /dev/null; then
     for file in "$root"/usr/bin/* "$root/usr/lib/librncv.so.$version"; do
@@ -42,7 +42,7 @@ if command -v strip > /dev/null; then
 fi
 find "$root/usr/share/man" -type f -exec gzip -9n {} +
 
-# what Debian wants to know of every package
+# what Debian needs to know about every package
 doc=$root/usr/share/doc/rncv
 if [ -f "$top/LICENSE" ]; then
     mv "$doc/LICENSE" "$doc/copyright"
@@ -57,13 +57,13 @@ fi
 printf 'rncv (%s) unstable; urgency=medium\n\n  * Version %s.\n\n -- %s  %s\n' "$version" "$version" "$maintainer" \
     "$(LC_ALL=C date -u -d "@$date" '+%a, %d %b %Y %H:%M:%S +0000')" | gzip -9nc > "$doc/changelog.gz"
 
-# The toolchain says how the program is linked. Where it loads no library, lintian has to know that this is meant.
+# The toolchain decides how the program is linked. If the program loads no library, lintian has to know that this is intended.
 if command -v readelf > /dev/null && elf "$root/usr/bin/rncv" && ! LC_ALL=C readelf -l "$root/usr/bin/rncv" | grep -q INTERP; then
     mkdir -p "$root/usr/share/lintian/overrides"
     printf '# the toolchain of the proved program links it so\nrncv: statically-linked-binary [usr/bin/rncv]\n' > "$root/usr/share/lintian/overrides/rncv"
 fi
 
-# Which packages the programs load libraries from. dpkg-shlibdeps knows which version is needed; without it the oldest that will do are named.
+# The packages from which the programs load libraries. dpkg-shlibdeps knows which versions are needed. Without it, the oldest that work are named.
 depends=
 if command -v dpkg-shlibdeps > /dev/null; then
     mkdir -p "$room/source/debian"

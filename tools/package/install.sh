@@ -1,14 +1,14 @@
 #!/bin/sh
 # Installs what is built, or removes it:   tools/package/install.sh install|uninstall      (`make install`, `make uninstall`)
 #
-# It builds nothing. What is not built is told at the end, and left out; where the variable RNCV_REQUIRED is set that is a failure, and so it is
-# where nothing is built. Variables, each with its default:
+# It builds nothing. What is not built is left out, and reported at the end. That is a failure if the variable RNCV_REQUIRED is set, or if nothing is
+# built. Variables, each with its default:
 #   PREFIX        /usr/local
-#   DESTDIR       empty; it stands before each path, and is in no file
+#   DESTDIR       empty; it comes before each path, and is in no file
 #   PROGRAM       crates/rncv/out/rncv, the built program
 #   LIBRARY       build/library, the folder of the built library
 #   XML_PROGRAMS  build/xml, the folder of rncv-xml and xml2pyx
-#   PYTHON        the interpreter in the first line of the Python programs, else what they name: the python3 of PATH
+#   PYTHON        the interpreter in the first line of the Python programs; by default what they name, the python3 of PATH
 #   ZSHDIR        share/zsh/site-functions, below PREFIX
 set -eu
 umask 022
@@ -20,7 +20,7 @@ install | uninstall) ;;
 *) echo "usage: tools/package/install.sh install|uninstall" >&2; exit 2 ;;
 esac
 
-# A path of the caller's is one of the top of the repository, where `make` runs.
+# Relative paths of the caller begin at the top of the repository, where `make` runs.
 cd "$top"
 prefix=${PREFIX:-/usr/local}
 case $prefix in
@@ -48,9 +48,9 @@ lacks() {
   $1"
 }
 
-# Makes way for a file, and its folder. False: it is to be removed, and is.
+# Removes an old file, and makes the folder for a new one. False: it is only to be removed, and is.
 room_for() {
-    # the caller asks for the answer, and so `set -e` does not end this function
+    # the caller tests the status, so `set -e` does not end this function
     rm -f "$1" || exit 1
     [ "$action" = install ] || return 1
     [ -d "${1%/*}" ] || mkdir -p "${1%/*}" || exit 1
@@ -69,7 +69,7 @@ link() {
     ln -s "$1" "$root/$2"
 }
 
-# page TARGET NAME: a man page that is read by another name too
+# page TARGET NAME: another name for a man page
 page() {
     room_for "$root/share/man/$2" || return 0
     printf '.so %s\n' "$1" > "$root/share/man/$2"
@@ -109,7 +109,7 @@ for name in rncv-xml xml2pyx; do
     fi
 done
 
-# the library, its header, and what pkg-config says of it
+# the library, its header, and what pkg-config says about it
 if [ "$action" = uninstall ] || [ -f "$library/lib/librncv.so.$version" ]; then
     put 644 "$library/lib/librncv.so.$version" "lib/librncv.so.$version"
     link "librncv.so.$version" "lib/librncv.so.${version%%.*}"
@@ -117,7 +117,7 @@ if [ "$action" = uninstall ] || [ -f "$library/lib/librncv.so.$version" ]; then
     put 644 "$library/lib/librncv.a" lib/librncv.a
     put 644 "$library/include/rncv.h" include/rncv.h
     if room_for "$root/lib/pkgconfig/rncv.pc"; then
-        # in a replacement of sed \, & and the | between its parts are no plain characters; in a path of rncv.pc a blank is none
+        # in a replacement of sed \, & and the | between its parts are special characters; in a path of rncv.pc a blank is one
         plain=$(printf '%s\n' "$prefix" | sed -e 's/ /\\ /g' -e 's/[\\&|]/\\&/g')
         sed -e "s|@prefix@|$plain|" -e "s|@version@|$version|" tools/library/rncv.pc.in > "$root/lib/pkgconfig/rncv.pc"
         chmod 644 "$root/lib/pkgconfig/rncv.pc"
@@ -128,7 +128,7 @@ else
     lacks "librncv: not in $library"
 fi
 
-# the programs and the packages in Python, which are not built; they find one another in share as they do in tools
+# the programs and the packages in Python, which are not built. They find each other in share as they do in tools
 python_program tools/schema/rncv-profile "$share/schema/rncv-profile" rncv-profile
 modules tools/schema "$share/schema"
 if [ "$action" = uninstall ] || [ -f tools/lsp/rncv-lsp ]; then
@@ -179,7 +179,7 @@ find examples -type f | while IFS= read -r source; do
 done
 
 if [ "$action" = uninstall ]; then
-    # what Python wrote there, and the folders of our own, which are empty now
+    # what Python wrote there, and our own folders, which are empty now
     for folder in "$share" "$doc"; do
         [ -d "$root/$folder" ] || continue
         find "$root/$folder" -depth -type d -name __pycache__ -exec rm -rf {} \;

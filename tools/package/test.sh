@@ -1,11 +1,11 @@
 #!/bin/sh
 # Tests of what is installed, in less than 20 seconds:   tools/package/test.sh [PROGRAM]     (PROGRAM: the built rncv, else crates/rncv/out/rncv)
 #
-# It installs into empty folders, some with a blank in their names, uses what is there, and makes, looks at and unpacks the Debian package.
-# RNCV_LIBRARY names the folder of the library, else build/library or build/library-tests/llvm. RNCV_XML_PROGRAMS names that of rncv-xml and xml2pyx,
-# else they are built. Where the program is not built, a stub stands in for it, and what wants its answers is skipped aloud. So is what wants another
-# program that is not installed. Where the variable RNCV_REQUIRED is set, a missing program or library is a failure.
-# The image of the Dockerfile is built only where RNCV_BUILDER names a builder (docker, podman), since that wants the network.
+# It installs into empty folders, some with a blank in their names, and uses what is there. It makes, checks and unpacks the Debian package.
+# RNCV_LIBRARY names the folder of the library, by default build/library or build/library-tests/llvm. RNCV_XML_PROGRAMS names that of rncv-xml and
+# xml2pyx. Without it they are built. If the program is not built, a stub replaces it, and what needs its answers is skipped with a message. So is what
+# needs another program that is not installed. If the variable RNCV_REQUIRED is set, a missing program or library is a failure.
+# The image of the Dockerfile is built only if RNCV_BUILDER names a builder (docker, podman), since that needs the network.
 set -eu
 
 here=$(cd "$(dirname "$0")" && pwd)
@@ -69,7 +69,7 @@ makes() {
 
 # --- the Debian package, beside what follows
 
-# installs_in ROOT: dpkg installs the package in an empty root with a list of packages of its own, which has none of those that it depends on
+# installs_in ROOT: dpkg installs the package in an empty root with its own list of packages, which has none of those that the package depends on
 installs_in() {
     mkdir -p "$1/var/lib/dpkg/info" "$1/var/lib/dpkg/updates"
     : > "$1/var/lib/dpkg/status"
@@ -355,7 +355,7 @@ for name in rncv-xml xml2pyx rncv-profile rncv-lsp; do
     done
 done
 if has bash; then
-    # completed COMMAND WORD..: what bash completes the last word by, where only s.rnc and untitled.xml are; `compopt` wants a line that is edited
+    # completed COMMAND WORD..: how bash completes the last word, where only s.rnc and untitled.xml are; `compopt` needs a line that is edited
     completed() {
         # shellcheck disable=SC2016  # bash reads this
         (cd "$room/editing" && bash -c 'compopt() { :; }; . "$1"; shift; COMP_WORDS=("$@"); COMP_CWORD=$(($# - 1)); call=$(complete -p "$1"); call=${call#*-F };

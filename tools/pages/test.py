@@ -1,18 +1,20 @@
 #!/usr/bin/env python3
-"""Checks the pages: README.md and the other *.md at the top, and those of docs.
+"""Checks the pages: README.md and the other *.md files at the top, and the pages of docs.
 
     tools/pages/test.py [TOP]      (TOP: a checkout, else the one of this file)
 
-- A link `[..](FILE#PART)` leads to a file, and to a heading where it has a part. So does a heading in quotes after a page, as in `PAGE`, "HEADING".
-- A path between backticks that looks like one of the repository exists. It begins with a folder of the top or with a crate, or it ends as a source or a
-  page does; such a name is that of some file, in whichever folder. A file of lemmas may lack its ending. Patterns with `*` match something. What a build
-  makes is not looked for (`out`, `build`), nor a name with a part in capitals, as in crates/NAME/src.
-- Each crate of crates.txt is in one row of the maps of docs/ARCHITECTURE.md, the tables whose first column is `Crate`, and each row there is a crate. A
-  row `NAME_cases` or `NAME_tests` is for all crates of such a name.
-- No sentence of README.md has over 45 words.
+- A link `[..](FILE#PART)` leads to a file; if it has a part, it leads to a heading. The same holds for a heading in quotes after a page, as in `PAGE`,
+  "HEADING".
+- A path between backticks that looks like a path of the repository exists. Such a path begins with a folder of the top or with a crate, or it has the
+  ending of a source or a page. A name with such an ending may be in any folder. A file of lemmas may lack its ending. A pattern with `*` matches
+  something. Products of a build (`out`, `build`) and names with a part in capitals, as in crates/NAME/src, are not checked.
+- Each crate of crates.txt is in one row of the maps of docs/ARCHITECTURE.md (the tables whose first column is `Crate`), and each row there is a crate. A
+  row `NAME_cases` or `NAME_tests` is for all crates with such a name.
+- No sentence of README.md has more than 45 words.
 - Each fenced block says what it is, and is closed.
 
-Each fault is one line, and the exit status is then 1. First the checks are tried on a copy with planted faults, and each of these has to be reported.
+Each fault is printed as one line, and the exit status is then 1. The checks are also tried on copies with planted faults. Each planted fault must be
+reported, and no other new fault.
 """
 import os
 import pathlib
@@ -90,7 +92,7 @@ def link_faults(checkout, page, text):
 
 
 def heading_faults(checkout, page, text):
-    """Headings that a page names in quotes after another page, and that are not there."""
+    """Missing headings that a page names in quotes after another page."""
     body = "\n".join(line for _, line in prose(text))
     for beside, from_top, heading in NAMED_HEADING.findall(body):
         path = os.path.normpath(os.path.join(os.path.dirname(page), beside)) if beside else from_top
@@ -100,7 +102,7 @@ def heading_faults(checkout, page, text):
 
 
 def is_missing(checkout, word):
-    """Whether a word looks like a path of the repository and is none."""
+    """Whether a word looks like a path of the repository but is not one."""
     word = word.rstrip("/.,;:")
     parts = word.split("/")
     if not re.fullmatch(r"[\w.*\-/]+", word) or set(parts) & set(MADE) or re.search(r"(?<![\w.])[A-Z]{2,}(?:_\w+)?(?![\w.])", word):
@@ -121,7 +123,7 @@ def made_here(text):
 
 
 def path_faults(checkout, page, text):
-    """Paths between backticks that are not there."""
+    """Paths between backticks that do not exist."""
     made = made_here(text)
     for number, line in prose(text):
         for code in CODE.findall(line):
@@ -131,7 +133,7 @@ def path_faults(checkout, page, text):
 
 
 def fence_faults(page, text):
-    """Fenced blocks without a kind, and one that is not closed."""
+    """Fenced blocks without a kind, and a block that is not closed."""
     opened = None
     for number, line in enumerate(text.splitlines(), 1):
         found = FENCE.match(line)
@@ -182,7 +184,7 @@ def map_rows(text):
 
 
 def map_faults(checkout):
-    """Crates that the maps lack or have twice, and rows of the maps that are no crate."""
+    """Crates that the maps lack or have twice, and rows of the maps that are not a crate."""
     rows = list(map_rows(checkout.text(MAPS)))
     names = [name for _, name in rows]
     kinds = tuple(name[len("NAME"):] for name in names if name.startswith("NAME_"))
@@ -194,11 +196,11 @@ def map_faults(checkout):
             yield f"{MAPS}: the maps have the crate {crate} {count} times"
     for number, name in rows:
         if name not in checkout.crates and not name.startswith("NAME_"):
-            yield f"{MAPS}:{number}: {name} is no crate of crates.txt"
+            yield f"{MAPS}:{number}: {name} is not a crate of crates.txt"
 
 
 def faults(checkout):
-    """All that is wrong with the pages of a checkout, a line each."""
+    """A line for each fault in the pages of a checkout."""
     for page in checkout.pages():
         text = checkout.text(page)
         yield from link_faults(checkout, page, text)
@@ -221,13 +223,13 @@ PLANTS = (
     ("docs/CLAUSES.md", "\n```text\nx\n", "the block is not closed"),
     ("README.md", "\n" + "word " * MOST_WORDS + "end.\n", f"a sentence of {MOST_WORDS + 1} words"),
     (MAPS, "\n| Crate | What |\n|---|---|\n| `rng_model` | again |\n", "the maps have the crate rng_model 2 times"),
-    (MAPS, "\n| Crate | What |\n|---|---|\n| `not_there` | |\n", "not_there is no crate of crates.txt"),
+    (MAPS, "\n| Crate | What |\n|---|---|\n| `not_there` | |\n", "not_there is not a crate of crates.txt"),
     ("crates.txt", "\nnot_mapped: rng_model\n", "no map has the crate not_mapped"),
 )
 
 
 def copied(top, folder, page, more):
-    """A copy of a checkout by links, with more text behind one of its files."""
+    """A copy of a checkout with links to its files, and with more text at the end of one file."""
     for path in top.iterdir():
         if path.name not in (".git", "docs", page):
             (folder / path.name).symlink_to(path)
@@ -239,7 +241,7 @@ def copied(top, folder, page, more):
 
 
 def planted_faults(checkout, known):
-    """Planted faults that are not reported, or not alone."""
+    """Planted faults that are not reported, or that cause other new faults."""
     for page, more, wanted in PLANTS:
         with tempfile.TemporaryDirectory(prefix="pages-") as room:
             folder = pathlib.Path(room)
@@ -250,7 +252,7 @@ def planted_faults(checkout, known):
 
 
 def main():
-    """Checks the pages, and the checks; the exit status."""
+    """Checks the pages, and the checks themselves. Returns the exit status."""
     checkout = Checkout(sys.argv[1] if len(sys.argv) > 1 else HERE.parents[2])
     found = list(faults(checkout))
     found += planted_faults(checkout, set(found))

@@ -1,5 +1,5 @@
-/* The floor: cuts the lines of a document, keeps the names of what is open, looks names up, and replaces escapes. It judges
-   nothing but end tags, so no reader of documents can do with less. Prints what it counted. */
+/* The floor: cuts a document into lines, keeps the names of open elements, looks names up, and replaces escapes. It judges
+   nothing but end tags, so no reader of documents can do less. Prints what it counted. */
 #include <stdio.h>
 #include <stdlib.h>
 #include <string.h>
@@ -12,7 +12,7 @@ static char piece[2 * PIECE], text[PIECE], *open_names[OPEN];
 static size_t lengths[OPEN], depth, counts[256], bytes, known;
 static unsigned table[4096];
 
-/* Looks the name up by its FNV hash, and puts it there. */
+/* Looks the name up by its FNV hash, and stores it. */
 static void look_up(const char *name, size_t length) {
     unsigned hash = 2166136261u;
     for (size_t i = 0; i < length; i++) hash = (hash ^ (unsigned char)name[i]) * 16777619u;

@@ -1,12 +1,13 @@
 #!/usr/bin/env python3
-"""Times the reader of documents alone, beside a program that only cuts their lines. It is no part of the gate.
+"""Times the reader of documents alone, and compares it with a program that only cuts the lines (the floor). It is not part of the gate.
 
     tools/read_time/run.py [--only WORD] [--times N] [--built PROGRAM]
 
-It makes the documents, builds `program.txt` over the crates `pyx`, `pyx_namespaces` and `rng_model` in a copy of them (or takes PROGRAM, which was built so before), and
-`floor.c` by the C compiler, and feeds each document to both at the standard input, N times (3 where it is not said), of which the quickest counts. Each line tells the milliseconds of a processor,
-the megabytes a second, the greatest memory, how often the floor's time that is, and what is the floor's. A document is all of one block, written as
-often as its size wants.
+It builds `program.txt` with the crates `pyx`, `pyx_namespaces` and `rng_model`, in a copy of them. `--built` names a PROGRAM that was built in the same
+way. It compiles `floor.c`, makes the documents, and feeds each document to both programs on standard input, N times (default: 3). The quickest run counts.
+
+Each line has the milliseconds of a processor, the megabytes a second and the greatest memory. Then it has the quotient of the time and the floor's time,
+and the floor's time. A document repeats one block as often as its size needs.
 """
 import argparse
 import os
@@ -22,7 +23,7 @@ MEGABYTE = 1_000_000
 
 
 def numbers(seed):
-    """Numbers that look drawn, the same each time: `draw(n)` is below n."""
+    """Pseudo-random numbers, the same each time: `draw(n)` is below n."""
     state = seed
 
     def draw(below):
@@ -54,7 +55,7 @@ def records():
 
 
 def blank_texts():
-    """The records, with a blank text before each start and each end of what has elements."""
+    """The records, with a blank text before each start tag and before the end tag of each record."""
     for part in records():
         if part[0] != "A":
             yield "-\\n  \n" if part[1:].startswith("record\n") else "-\\n    \n"
@@ -69,7 +70,7 @@ def namespaced_records():
 
 
 def prefixed_records():
-    """The records, each of its elements named by a prefix."""
+    """The records, with a prefix in the name of each element."""
     yield "(r:records\nAxmlns:r urn:x:records\n"
     for part in records():
         yield "".join(f"{line[0]}r:{line[1:]}" if line[0] in "()" else line for line in part.splitlines(keepends=True))
@@ -129,7 +130,7 @@ SHAPES = [
 
 
 def write_document(path, size, shape):
-    """Writes a document of about so many megabytes; the shape's block stands in its root, behind the root's whole tag."""
+    """Writes a document of about `size` megabytes: the shape's block, repeated in the root after the root's whole tag."""
     block = "".join(shape()).encode()
     count = max(1, size * MEGABYTE // len(block))
     with open(path, "wb") as file:
@@ -140,7 +141,7 @@ def write_document(path, size, shape):
 
 
 def build_reader(folder):
-    """The reader's program."""
+    """Builds the program for the reader, and returns its path."""
     for name in ("rng_model", "pyx_namespaces", "pyx"):
         shutil.copytree(CRATES / name, folder / "crates" / name)
     program = folder / "crates/read_time"
@@ -155,7 +156,7 @@ def build_reader(folder):
 
 
 def spent_by(program, document, answer):
-    """The milliseconds of a processor and the mebibytes that the program took. It is started by this call alone, and prints into `answer`."""
+    """The milliseconds of a processor and the mebibytes that the program took. Its output goes to `answer`."""
     actions = [(os.POSIX_SPAWN_OPEN, 0, document, os.O_RDONLY, 0), (os.POSIX_SPAWN_OPEN, 1, answer, os.O_WRONLY | os.O_CREAT | os.O_TRUNC, 0o600)]
     child = os.posix_spawn(program, [program], os.environ, file_actions=actions)
     _, status, used = os.wait4(child, 0)

@@ -1,5 +1,6 @@
-/* The program `rncv` by the C library, with no memory of its own, so that each growth is one of the library:   by_library valid|check|simple FILES..
- * It answers as `rncv` does for files of at most 4,096 bytes (docs/LANGUAGE.md), but for the name of a file that is not handed in. */
+/* The program `rncv` by the C library:   by_library valid|check|simple FILES..
+ * It allocates nothing itself, so each growth is one of the library. It answers as `rncv` does for files of at most 4,096 bytes (docs/LANGUAGE.md),
+ * except the name of a file that is not handed in. */
 #include "rncv.h"
 
 #include <fcntl.h>
@@ -24,7 +25,7 @@ static int fails(const char *why) {
     return say(2, why, FAILED);
 }
 
-/* What the library refuses is told with the clause, and of S1 to S8 with the file. */
+/* Reports a refusal of the library with the clause, and for S1 to S8 with the file. */
 static int refused(const rncv_file *files, const rncv_fault *fault) {
     if (fault->clause > 8 || fault->file < 0) {
         snprintf(answer, sizeof answer, "refused S%d\n", (int)fault->clause);

@@ -1,10 +1,10 @@
 #!/bin/sh
-# Runs a built program of cases with each growth of memory refused in turn. It is no proof and no part of the gate. It
-# asks for a C compiler.
+# Runs a built program of cases with each growth of memory refused in turn. It is not a proof, and not part of the gate. It
+# needs a C compiler.
 #
 #   tools/refused_growths/cases.sh NAME_cases
 #
-# Each line that the program writes must be the one that is wanted or tell that memory was wanting.
+# Each line that the program writes must be the expected line, or report that it ran out of memory.
 set -eu
 here=$(cd "$(dirname "$0")" && pwd)
 crate=$here/../../crates/$1
@@ -16,9 +16,9 @@ told=0
 for growth in $(seq 1 4000); do
     REFUSE=$growth LD_PRELOAD=$folder/refuse.so ../out/"$1" >"$folder/out" 2>"$folder/err" || true
     if ! awk 'NR == FNR { want[FNR] = $0; next } $0 != want[FNR] && !/out of memory|OutOfMemory/ { exit 1 }' ../stdout "$folder/out"; then
-        echo "growth $growth: wrote a line that is not wanted"
+        echo "growth $growth: wrote an unexpected line"
         exit 1
     fi
     cmp -s ../stdout "$folder/out" || told=$((told + 1))
 done
-echo "$told growths refused and told; every other run wrote what is wanted"
+echo "$told growths refused and reported; every other run wrote the expected lines"

@@ -1,7 +1,7 @@
 /* Makes one growth of a program's memory fail:   REFUSE=N LD_PRELOAD=./refuse.so PROGRAM     (N counts from 1; 0 refuses none)
  *
- * Where REFUSE_TO names an open descriptor, the shim writes a letter there as it refuses: `s` where the block that was to change has room for the
- * new size (a shrink), else `g`. So whoever runs the program sees whether the growth of that number was there at all. */
+ * If REFUSE_TO names an open descriptor, the shim writes a letter to it when it refuses: `s` if the old block has room for the new size (a shrink),
+ * else `g`. So the caller sees whether the program had a growth of that number at all. */
 #include <malloc.h>
 #include <stdlib.h>
 #include <sys/syscall.h>

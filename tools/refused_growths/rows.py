@@ -1,10 +1,12 @@
 #!/usr/bin/env python3
 """Runs a program with each growth of memory refused in turn:   rows.py PROGRAM SHIM [valid|check|simple DOCUMENT FILE..]
 
-PROGRAM is the built `rncv`, or another that answers as it does (`by_library.c`). SHIM is `refuse.c` as a shared object. The rows of `rows.txt` are run,
-and words that are no command line; or one row with these files, whose answer is that of a run in which nothing is refused. A run whose growth was
-refused has to answer `rncv: out of memory`, with status 4 and nothing on standard output. A refused shrink may leave the row's own answer. So may a
-few growths of the reader of documents, which keeps buffers for later lines where there is room. test.sh and run.sh build what is needed and call this.
+PROGRAM is the built `rncv`, or another program with the same answers (`by_library.c`). SHIM is `refuse.c` as a shared object. It runs the rows of
+`rows.txt` and wrong command lines. With more arguments it runs one row with these files, and expects the answer of a run in which nothing is refused.
+
+If a growth was refused, the run must answer `rncv: out of memory`, with status 4 and nothing on standard output. After a refused shrink, the row's own
+answer is allowed too. The same holds for a few growths of the reader of documents: it keeps buffers for later lines only if there is room. test.sh and
+run.sh build what is needed and call this.
 """
 import os
 import pathlib
@@ -16,18 +18,18 @@ from urllib.parse import unquote_to_bytes
 HERE = pathlib.Path(__file__).resolve().parent
 NO_MEMORY = 4, b"", b"rncv: out of memory\n"
 USAGE = 5, b"", b"usage: rncv valid|check|simple FILES..\n"
-# Words that are no command line. Those of the last two are more, or longer, than the first room for words.
+# Wrong command lines. In the last two, a word is too long, or there are too many words, for the first room for words.
 WRONG_WORDS = [], ["--"], ["check"], ["print", "s.rnc"], ["check", "-x", "s.rnc"], ["--", "--", "s.rnc"], ["x" * 2000, "s.rnc"], ["print"] + ["s.rnc"] * 200
 SECONDS = 300
 SPARED = 3
 
 
 class Row:
-    """What a program is given, and what it has to answer: a status and what it writes on both streams."""
+    """The input of a program, and its expected answer: a status and what it writes on both streams."""
 
     def __init__(self, words, files, document, wanted):
         self.words, self.files, self.document, self.wanted = words, files, document, wanted
-        # How many growths other than shrinks may leave the answer.
+        # How many refused growths, other than shrinks, may leave the answer unchanged.
         self.spared = SPARED if words[:1] in (["valid"], [b"valid"]) else 0
 
     def __str__(self):
@@ -35,14 +37,14 @@ class Row:
 
     @classmethod
     def read(cls, line):
-        """The row of a line of `rows.txt`."""
+        """The row in a line of `rows.txt`."""
         command, status, answer, document, *files = (unquote_to_bytes(field) for field in line.split("\t"))
         named = list(zip(files[::2], files[1::2]))
         return cls([command, *(name for name, _ in named)], named, document, (int(status), answer, b""))
 
 
 class Runner:
-    """Runs of one program in the current folder, each with one growth refused. The streams are files, so that a run costs little."""
+    """Runs one program in the current folder, each time with one growth refused. The streams are files, so that a run is cheap."""
 
     def __init__(self, program, shim, folder):
         self._program = program
@@ -57,7 +59,7 @@ class Runner:
                 file.write(text)
 
     def run(self, row, growth):
-        """What a run answers, and the letter of what was refused, which is empty where there was no growth of this number."""
+        """The answer of a run, and the letter of the refused call. The letter is empty if there was no growth with this number."""
         streams = self._out, self._errors, self._told
         for stream in streams:
             os.ftruncate(stream, 0)
@@ -70,7 +72,7 @@ class Runner:
 
 
 class Count:
-    """How many growths were refused, and how many of these left the answer as it was."""
+    """How many growths were refused, and how many of these left the answer unchanged."""
 
     def __init__(self):
         self.refused = self.left = self.wrong = 0
@@ -106,14 +108,14 @@ def refuse_each(runner, row, count):
 
 
 def rows_of(path):
-    """The rows of a file, and after them words that are no command line."""
+    """The rows of a file, and then the wrong command lines."""
     lines = pathlib.Path(path).read_text(encoding="utf-8").splitlines()
     rows = [Row.read(line) for line in lines if line and not line.startswith("#")]
     return rows + [Row(words, [(b"s.rnc", b"element a { empty }")], b"", USAGE) for words in WRONG_WORDS]
 
 
 def row_over(runner, command, document, *names):
-    """The row of files that are there."""
+    """The row for existing files."""
     row = Row([command, *names], [], pathlib.Path(document).read_bytes(), None)
     runner.begin(row)
     row.wanted = runner.run(row, 0)[0]
@@ -121,7 +123,7 @@ def row_over(runner, command, document, *names):
 
 
 def main(program, shim, *words):
-    """Tries all rows, or the one of these words, and answers the exit status."""
+    """Tries all rows, or the one of these words, and returns the exit status."""
     count, rows = Count(), [] if words else rows_of(HERE / "rows.txt")
     signal.alarm(0 if words else SECONDS)
     with tempfile.TemporaryDirectory() as folder, tempfile.TemporaryDirectory() as room:

@@ -1,10 +1,10 @@
 #!/bin/sh
-# Runs the built program over schema files and a document with each growth of memory refused in turn:
+# Runs the built program on schema files and a document with each growth of memory refused in turn:
 #
 #   tools/refused_growths/run.sh valid|check|simple DOCUMENT FILE..
 #
-# The answer has to be that of a run in which nothing is refused, or `rncv: out of memory` with status 4 and nothing written. test.sh does the same for
-# stored schemas. It is no part of the gate, and asks for Python 3 and a C compiler.
+# The answer must be the answer of a run in which nothing is refused, or `rncv: out of memory` with status 4 and nothing on standard output. test.sh does
+# the same for stored schemas. It is not part of the gate, and needs Python 3 and a C compiler.
 set -eu
 here=$(cd "$(dirname "$0")" && pwd)
 folder=$(mktemp -d)

@@ -1,9 +1,9 @@
 #!/bin/sh
-# Runs the built program with each growth of memory refused in turn, over all rows of rows.txt:   tools/refused_growths/test.sh [PROGRAM]
+# Runs the built program with each growth of memory refused in turn, on all rows of rows.txt:   tools/refused_growths/test.sh [PROGRAM]
 #
-# PROGRAM is the built rncv, else crates/rncv/out/rncv. The same rows are run by the C library (by_library.c), which RNCV_LIBRARY names, else
-# build/library. It wants Python 3, and a C compiler and glibc for the shim (refuse.c). What is missing is told and skipped; with the variable
-# RNCV_REQUIRED set a missing program is a failure.
+# PROGRAM is the built rncv, else crates/rncv/out/rncv. The C library runs the same rows (by_library.c); RNCV_LIBRARY names it, else it is in
+# build/library. It needs Python 3, and a C compiler and glibc for the shim (refuse.c). What is missing is reported and skipped. If the variable
+# RNCV_REQUIRED is set, a missing program is a failure.
 set -eu
 here=$(cd "$(dirname "$0")" && pwd)
 program=${1:-$here/../../crates/rncv/out/rncv}
@@ -32,6 +32,6 @@ if [ -f "$library/lib/librncv.a" ]; then
     compiled -I"$library/include" -o "$room/by_library" "$here/by_library.c" "$library/lib/librncv.a" -lpthread
     python3 -B "$here/rows.py" "$room/by_library" "$room/refuse.so" || status=1
 else
-    echo "tools/refused_growths: no librncv in $library, and the rows are not run by it"
+    echo "tools/refused_growths: no librncv in $library: it does not run the rows"
 fi
 exit "$status"

@@ -1,11 +1,11 @@
 #!/usr/bin/env python3
-"""Times the whole program, and tells what memory it takes. It is no part of the gate.
+"""Measures the time and the memory of the whole program. It is not part of the gate.
 
     tools/run_time/run.py PROGRAM [--starts N] [--megabytes N]
 
-First it starts PROGRAM (`rncv`) N times (200 where it is not said) on a schema and a document of a line or two, in turn with `xmllint` where that is
-installed (with the same schema in XML syntax), and prints the medians. Then it hands in valid documents without an end in sight, cut off after so
-many megabytes (2, 20 and 200), and prints the time and the greatest memory: what is kept of a document does not grow with it.
+First it starts PROGRAM (`rncv`) N times (default: 200) on a small schema and a small document. If `xmllint` is installed, it runs in turn with PROGRAM,
+with the same schema in XML syntax. The medians are printed. Then PROGRAM judges long valid documents of N megabytes (default: 2, 20 and 200), and the time
+and the greatest memory are printed. They show that the memory for a document does not grow with the document.
 """
 import argparse
 import os

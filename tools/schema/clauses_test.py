@@ -1,5 +1,5 @@
 #!/usr/bin/env python3
-"""Runs each example of docs/CLAUSES.md: a broken one gives just its clause, a repair none.
+"""Runs each example of docs/CLAUSES.md: a broken example breaks its clause, a repair breaks none.
 
     tools/schema/clauses_test.py [PROGRAM]      (PROGRAM: the built rncv, else crates/rncv/out/rncv)
 """
@@ -16,7 +16,7 @@ CLAUSES = [f"S{number}" for number in range(1, 28)] + [f"P{number}" for number i
 
 
 def spelled(mark):
-    """The bytes that a mark of the page stands for."""
+    """The bytes that a mark of the page means."""
     times, text, byte, _, end = mark.groups()
     if times:
         return text * int(times) + end
@@ -35,7 +35,7 @@ def files(example):
 
 
 def answer(program, clause, example):
-    """What the program says of an example."""
+    """What the program prints for an example."""
     with tempfile.TemporaryDirectory() as folder:
         is_schema = clause[0] == "S"
         given = files(example) if is_schema else [("s.rnc", b"element a { empty }")]
@@ -47,7 +47,7 @@ def answer(program, clause, example):
 
 
 def faults(program, page):
-    """A line for each example that does not give what it is to give, and for each clause without one."""
+    """A line for each example with a wrong answer, and one if the page does not have exactly the clauses in order."""
     met = []
     for clause, broken, repair in PARTS.findall(page):
         met.append(clause)

@@ -17,14 +17,14 @@ TOKEN = re.compile(rf"""(?P<blank>(?:[ \t\r\n]|\#[^\r\n]*)+)
 ESCAPE = re.compile(r"\\(x+)\{([0-9A-Fa-f]+)\}")
 BAD_ESCAPE = re.compile(r"\\x+\{(?![0-9A-Fa-f]+\})")
 LINE_END = re.compile("\r\n|\r|\n")
-# What an escaped line feed and carriage return are while tokens are cut: they end no line. No character of XML is one of these two.
+# These two replace an escaped line feed and carriage return while the text is cut into tokens, since these end no line. XML allows neither of the two.
 ESCAPED_ENDS = {"\n": "\ufffe", "\r": "\uffff"}
 UNHIDDEN = str.maketrans({hidden: shown for shown, hidden in ESCAPED_ENDS.items()})
 
 
 @dataclasses.dataclass(frozen=True)
 class Encoding:
-    """How a file's bytes were read. `told` says what is not UTF-8 about them, at the offset `at` of the text, and `change` what UTF-8 has instead."""
+    """A file's text, and how its bytes were read. `told` reports what is not plain UTF-8, at the offset `at`. `change` is what the copy has instead."""
     text: str
     told: str = ""
     change: str = ""
@@ -34,7 +34,7 @@ class Encoding:
 
 @dataclasses.dataclass(frozen=True)
 class Token:
-    """A token. `text` is what it says: a literal's text without its quotes, a quoted identifier's name. `start` and `end` are offsets of the file's text."""
+    """A token. `text` is its content: a literal without its quotes, a quoted identifier's name. `start` and `end` are offsets in the file's text."""
     kind: str
     text: str
     start: int
@@ -49,14 +49,14 @@ class Token:
 
 @dataclasses.dataclass(frozen=True)
 class Escape:
-    """An escape, as it is written and as the profile wants it; `shorter` is empty where it already does."""
+    """An escape, and how the profile wants it written. `shorter` is empty if it is already written that way."""
     start: int
     end: int
     shorter: str
 
 
 class NoToken(Exception):
-    """At `offset` neither a blank, a comment nor a token begins, or a character or an escape is a bad one."""
+    """No blank, comment or token begins at `offset`, or a character or an escape there is bad."""
 
     def __init__(self, offset, what):
         super().__init__(what)
@@ -64,7 +64,7 @@ class NoToken(Exception):
 
 
 def utf_16(data, name):
-    """The text of UTF-16; what is none has no place in a copy."""
+    """The text of bytes in UTF-16. If they are broken UTF-16, the encoding has no change for a copy."""
     try:
         return Encoding(data.decode(name), "the encoding is UTF-16", "UTF-8")
     except UnicodeDecodeError as fault:
@@ -72,7 +72,7 @@ def utf_16(data, name):
 
 
 def decoded(data):
-    """The text of a file's bytes. UTF-16 is told by its mark or its zero bytes; what is no UTF-8 is taken for ISO 8859-1."""
+    """The text of a file's bytes. A mark or a zero byte shows UTF-16. Bytes that are not UTF-8 are read as ISO 8859-1."""
     for mark, name in ((codecs.BOM_UTF16_LE, "utf-16-le"), (codecs.BOM_UTF16_BE, "utf-16-be")):
         if data.startswith(mark):
             return utf_16(data[2:], name)
@@ -80,7 +80,7 @@ def decoded(data):
         return utf_16(data, "utf-16-be" if data[0] == 0 else "utf-16-le")
     marked = data.startswith(codecs.BOM_UTF8)
     data = data.removeprefix(codecs.BOM_UTF8)
-    mark = "a byte order mark stands first" if marked else ""
+    mark = "a byte order mark is first" if marked else ""
     try:
         return Encoding(data.decode("utf-8"), mark, "none" if marked else "")
     except UnicodeDecodeError as fault:
@@ -89,7 +89,7 @@ def decoded(data):
 
 
 class Places:
-    """Lines and columns of a text's offsets, both from 1; a column is a count of characters."""
+    """The lines and columns of a text's offsets. Both count from 1, and columns count characters."""
 
     def __init__(self, text):
         self.starts = [0, *(end.end() for end in LINE_END.finditer(text))]
@@ -100,20 +100,20 @@ class Places:
 
 
 def character(digits):
-    """The character of an escape, or none if XML has none of that number."""
+    """The character of an escape; empty if XML has no character with that number."""
     number = int(digits, 16)
     found = chr(number) if number <= 0x10FFFF else ""
     return "" if not found or re.match(NOT_XML, found) else ESCAPED_ENDS.get(found, found)
 
 
 def unescaped(text):
-    """The text with its escapes replaced, the offset where each of its characters came from (and that of the end), and the escapes."""
+    """The text with its escapes replaced; the original offset of each of its characters, and of its end; and the escapes."""
     parts, offsets, escapes, last = [], [], [], 0
     for found in ESCAPE.finditer(text):
         marks, digits = found.groups()
         shown = character(digits)
         if not shown:
-            raise NoToken(found.start(), f"the character {digits} is none of XML")
+            raise NoToken(found.start(), f"the character {digits} is not allowed in XML")
         parts += [text[last:found.start()], shown]
         offsets += [*range(last, found.start()), found.start()]
         short = f"\\x{{{digits.lstrip('0')}}}"
@@ -123,7 +123,7 @@ def unescaped(text):
 
 
 def meaning(kind, written):
-    """What a token says."""
+    """The content of a token."""
     if kind == "literal":
         quote = 3 if len(written) >= 6 and written[:3] in ('"""', "'''") else 1
         return written[quote:-quote].translate(UNHIDDEN)
@@ -131,10 +131,10 @@ def meaning(kind, written):
 
 
 def tokens(text):
-    """The tokens of a text and its escapes, in order; comments and blanks are none."""
+    """The tokens of a text and its escapes, in order. Comments and blanks are not tokens."""
     bad = re.search(NOT_XML, text)
     if bad:
-        raise NoToken(bad.start(), f"the character {ord(bad[0]):X} is none of XML")
+        raise NoToken(bad.start(), f"the character {ord(bad[0]):X} is not allowed in XML")
     bad = BAD_ESCAPE.search(text)
     if bad:
         raise NoToken(bad.start(), "a bad escape begins here")

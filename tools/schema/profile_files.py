@@ -1,4 +1,4 @@
-"""A schema's files with those that they mention: read, judged by the profile, and copied into it. Nothing here is proved."""
+"""Reads the files of a schema and the files that they mention, compares them with the profile, and writes copies. Nothing here is proved."""
 import os
 import pathlib
 import urllib.parse
@@ -12,11 +12,11 @@ UNSURE = "the same if they were ISO 8859-1"
 
 
 class OutsideCopy(Exception):
-    """A copy that would stand where a file of the schema does."""
+    """A copy would replace a file of the schema."""
 
 
 class SchemaFile:
-    """A file of a schema: its text and what is found in it. `path` is how it is named to people, `name` what its copy is called."""
+    """A file of a schema: its text and what is found in it. `path` is its name in messages, `name` is the name of its copy."""
 
     def __init__(self, path, data):
         self.path, self.name = path, os.path.basename(path)
@@ -33,7 +33,7 @@ class SchemaFile:
             self.read()
 
     def read(self):
-        """Finds what single tokens show; datatypes wait until all files are read."""
+        """Finds what single tokens show. Datatypes are judged later, when all files are read."""
         try:
             found, escapes = tokens(self.text)
         except NoToken as fault:
@@ -47,7 +47,7 @@ class SchemaFile:
         self.mentions = self.reader.mentions
 
     def resolve(self, href):
-        """The path of a mention, beside this file; none for what would have to be fetched."""
+        """The path of a mention, relative to this file; None for a file that would have to be fetched."""
         try:
             parts = urllib.parse.urlsplit(href)
         except ValueError:
@@ -57,13 +57,13 @@ class SchemaFile:
         return os.path.normpath(os.path.join(os.path.dirname(self.path), urllib.parse.unquote(parts.path)))
 
     def collect(self):
-        """Takes over what the reader found."""
+        """Adds what the reader found."""
         if self.reader:
             self.findings += self.reader.findings
             self.edits += self.reader.edits
 
     def copy(self):
-        """The text with its edits, of which one that lies in another vanishes."""
+        """The text with its edits. An edit inside another edit is ignored."""
         parts, last = [], 0
         for edit in sorted(self.edits, key=lambda edit: (edit.start, -edit.end)):
             if edit.start >= last:
@@ -73,19 +73,19 @@ class SchemaFile:
         return "".join([*parts, self.text[last:]])
 
     def gap(self, before, edit):
-        """The text before what is left out, without blanks at a line's end, and what is in its place: its line ends, or a blank between tokens."""
+        """The text before an omitted part, without blanks at a line's end, and its replacement: the line ends of the part, or a blank between tokens."""
         after = self.text[edit.end:edit.end + 1]
         ends = "\n" * len(LINE_END.findall(self.text[edit.start:edit.end]))
         return [before.rstrip(" \t") if after in ("", "\r", "\n") else before, ends or (" " if after.strip() else "")]
 
 
 def quoted(name):
-    """A literal of the compact syntax; a name with all four quotes is none that files have."""
+    """A literal of the compact syntax. No file has a name with all four kinds of quotes."""
     return next((quote + name + quote for quote in ('"', "'", '"""', "'''") if quote not in name), f'"{name}"')
 
 
 def load(schemas):
-    """The files by path, in the order in which they are first named, and a line for each that cannot be read."""
+    """The files by path, in the order of their first mention, and a line for each file that cannot be read."""
     files, missing = {}, []
     waiting = [(os.path.normpath(schema), schema) for schema in reversed(schemas)]
     asked = set()
@@ -107,7 +107,7 @@ def load(schemas):
 
 
 def flat_names(paths):
-    """For each path a name without directories, told from the others by a number."""
+    """A name without directories for each path. A number makes equal names different."""
     names, taken = {}, set()
     for path in paths:
         stem, end = os.path.splitext(os.path.basename(path))
@@ -121,7 +121,7 @@ def flat_names(paths):
 
 
 def judge_mentions(file, names):
-    """A mention has to be the flat name of its file, byte for byte."""
+    """Finds the mentions that are not, byte for byte, the flat name of their file."""
     for mention in file.mentions:
         target = file.resolve(mention.href)
         if target is None:
@@ -133,7 +133,7 @@ def judge_mentions(file, names):
 
 
 def read_all(schemas):
-    """All files of a schema with what is found in them, and a line for each that cannot be read."""
+    """All files of a schema with what is found in them, and a line for each file that cannot be read."""
     files, missing = load(schemas)
     names = flat_names(files)
     traits = Traits()
@@ -151,12 +151,12 @@ def read_all(schemas):
 
 
 def loosened(file):
-    """The findings of which the copy accepts more than the original."""
+    """The findings for which the copy accepts more than the original."""
     return [finding for finding in file.findings if finding.change and finding.effect in (MORE, BOTH)]
 
 
 def marked(file, profile):
-    """The copy's text, with a comment at its end where it accepts more than the original; `rncv-xml` looks for that."""
+    """The copy's text. If it accepts more than the original, a comment at its end says so; `rncv-xml` looks for that comment."""
     count, text = len(loosened(file)), file.copy()
     if count == 0:
         return text
@@ -165,7 +165,7 @@ def marked(file, profile):
 
 
 def profile_lines(files):
-    """What each copy accepts more, a line each."""
+    """A line for each finding for which a copy accepts more than the original."""
     for file in files:
         for finding in sorted(loosened(file), key=lambda finding: finding.at):
             row, column = file.places.of(finding.at)
@@ -173,8 +173,8 @@ def profile_lines(files):
 
 
 def copied(files, folder):
-    """Writes the copies and answers their paths, that of the main file first. No file of the schema is written over. Where a copy accepts more than
-    the original, a file beside the copies says so, and is answered last."""
+    """Writes the copies and returns their paths, the main file first. Does not overwrite any file of the schema. If a copy accepts more than the
+    original, a file beside the copies says so, and its path is the last one."""
     folder.mkdir(parents=True, exist_ok=True)
     profile = os.path.splitext(files[0].name)[0] + ".profile.txt"
     lines = "".join(profile_lines(files))

@@ -1,6 +1,6 @@
-"""Goes over the tokens of a schema file and finds what lies outside the profile. Nothing here is proved.
+"""Reads the tokens of a schema file and finds what is outside the profile. Nothing here is proved.
 
-No full parser: of each word it is known whether it stands in a name class, where a pattern is due, or where a component may begin, and that is enough.
+This is not a full parser. It knows whether a word is in a name class, where a pattern must come, or where a component may begin. That is enough.
 """
 import dataclasses
 import itertools
@@ -14,7 +14,7 @@ LIBRARIES = {"xsd": XSD}
 
 @dataclasses.dataclass(frozen=True)
 class Finding:
-    """What is outside the profile, at an offset; what the copy has instead (none: it is not brought over), and what it then accepts."""
+    """What is outside the profile, and its offset; what the copy has instead (empty: it is not brought over), and what the copy then accepts."""
     at: int
     what: str
     change: str = ""
@@ -23,7 +23,7 @@ class Finding:
 
 @dataclasses.dataclass(frozen=True)
 class Edit:
-    """A stretch of the file's text that the copy writes otherwise."""
+    """A part of the file's text, and the text that the copy has instead."""
     start: int
     end: int
     text: str
@@ -31,7 +31,7 @@ class Edit:
 
 @dataclasses.dataclass(frozen=True)
 class Mention:
-    """An `include` or `external`: the name as it is written, and its stretch."""
+    """An `include` or `external`: the text of its literal, and the literal's offsets."""
     href: str
     start: int
     end: int
@@ -39,7 +39,7 @@ class Mention:
 
 @dataclasses.dataclass(frozen=True)
 class Traits:
-    """What a schema's files have anywhere: a list, an except of a datatype, and a reference in one of these."""
+    """Whether a schema's files have a list, an except of a datatype, or a reference in such an except."""
     lists: bool = False
     excepts: bool = False
     except_refs: bool = False
@@ -49,22 +49,22 @@ class Traits:
 
 
 class Reader:
-    """One pass over the tokens. `uses` are the datatypes, each with its last token's end and whether an except stands around it."""
+    """One pass over the tokens. `uses` are the datatypes, each with its last token's end and whether it is in an except."""
 
     def __init__(self, tokens):
         self.tokens = tokens
         self.next = 0
-        self.due = False            # a pattern or name class is due
-        self.in_class = False       # behind `element` or `attribute`, before the brace
-        self.opens = "pattern"      # what the next brace holds
-        self.open = []              # of each open bracket: what it holds, and if it is in the except of a datatype
+        self.due = False            # a pattern or name class must come next
+        self.in_class = False       # after `element` or `attribute`, before the brace
+        self.opens = "pattern"      # what the next brace contains
+        self.open = []              # for each open bracket: what it contains, and whether it is in the except of a datatype
         self.except_due = False
         self.libraries = dict(LIBRARIES)
         self.findings, self.edits, self.mentions, self.uses = [], [], [], []
         self.lists = self.excepts = self.except_refs = False
 
     def at(self, offset=0):
-        """The token that many after the next one, or none."""
+        """The token so many places after the next one, or None."""
         index = self.next + offset
         return self.tokens[index] if index < len(self.tokens) else None
 
@@ -105,7 +105,7 @@ class Reader:
             self.operand(token)
 
     def group_end(self, offset):
-        """The index behind the square brackets that open so many tokens on."""
+        """The index after the group in square brackets that opens so many tokens after the next one."""
         index, depth = self.next + offset, 0
         while index < len(self.tokens):
             depth += self.tokens[index].is_sign("[") - self.tokens[index].is_sign("]")
@@ -115,13 +115,13 @@ class Reader:
         return index
 
     def drop(self, token, end, what):
-        """The copy has not what begins at the token and ends before the index."""
+        """The copy omits what begins at the token and ends before the index."""
         self.findings.append(Finding(token.start, what, "nothing there"))
         self.edits.append(Edit(token.start, self.tokens[end - 1].end, ""))
         self.next = end
 
     def annotation(self):
-        """An annotation stays, unless another one or a declaration follows."""
+        """Reads an annotation. It stays, unless another one or a declaration follows."""
         token, end = self.at(), self.group_end(0)
         follows = self.tokens[end] if end < len(self.tokens) else None
         if follows and follows.is_sign("["):
@@ -133,7 +133,7 @@ class Reader:
             self.next = end
 
     def following(self):
-        """`>> name [ .. ]`, the name left out too."""
+        """Reads and drops `>> name [ .. ]`."""
         token = self.at()
         self.drop(token, self.group_end(2) if self.sees("[", offset=2) else self.next + 1, "annotations that follow (>>) are not served")
 
@@ -162,7 +162,7 @@ class Reader:
         self.due = holds != "components"
 
     def takes_except(self):
-        """If what stands here is in the except of a datatype, of which this is the first token or which is around it."""
+        """Whether the next token is in the except of a datatype: it is the except's first token, or the bracket around it is in one."""
         taken = self.except_due or bool(self.open) and self.open[-1][1]
         self.except_due = False
         return taken
@@ -191,7 +191,7 @@ class Reader:
             self.except_refs |= in_except
 
     def literal(self):
-        """The text of a literal with its joined segments, and its end."""
+        """The text of a literal with its joined segments, and its end; None if no literal is here."""
         token = self.at()
         if token is None or token.kind != "literal":
             return None, 0
@@ -213,7 +213,7 @@ class Reader:
         self.opens = "components" if keyword.text == "include" else "pattern"
 
     def declarations(self):
-        """The declarations that stand here; of datatypes the prefix and the library are kept."""
+        """Reads the declarations here, and keeps the prefix and the library of each `datatypes`."""
         while self.at() and self.at().is_keyword("namespace", "default", "datatypes"):
             keyword, names = self.at(), []
             self.next += 1
@@ -241,7 +241,7 @@ class Reader:
             self.uses.append((TypeUse(library, name, token.start, tuple(params), value, self.sees("-")), end, in_except))
 
     def params(self):
-        """The parameters in braces, and where these end; annotations between them are passed over."""
+        """The parameters in braces, and where the braces end. Skips annotations between them."""
         params, end = [], self.at().end
         self.next += 1
         while self.at() and not self.sees("}"):
@@ -263,7 +263,7 @@ class Reader:
         return Traits(self.lists, self.excepts, self.except_refs)
 
     def judge_types(self, traits):
-        """Finds the datatypes that are not served, once the traits of all files are known. In an except more is less."""
+        """Finds the datatypes that are not served, when the traits of all files are known. In an except, more becomes less."""
         for use, end, in_except in self.uses:
             text, told = judged(use, not (traits.lists or traits.excepts))
             for each in told:

@@ -1,4 +1,5 @@
-"""What of datatypes, parameters and values the profile serves, and what stands nearest to the rest (docs/LANGUAGE.md). Nothing here is proved."""
+"""The datatypes, parameters and values that the profile serves, and the nearest replacements for the others (docs/LANGUAGE.md). Nothing here is
+proved."""
 import dataclasses
 import re
 
@@ -21,7 +22,7 @@ def signed(bits):
     return -2 ** (bits - 1), 2 ** (bits - 1) - 1
 
 
-# The integers of XML Schema by their bounds. Where no sign stands before a digit, `integer` accepts one.
+# The bounds of the integer types of XML Schema. `integer` accepts a sign also for the types (UNSIGNED) that allow none.
 INTEGERS = {"long": signed(64), "int": signed(32), "short": signed(16), "byte": signed(8), "nonNegativeInteger": (0, None), "positiveInteger": (1, None),
             "nonPositiveInteger": (None, 0), "negativeInteger": (None, -1)}
 UNSIGNED = {"unsignedLong": (0, 2 ** 64 - 1), "unsignedInt": (0, 2 ** 32 - 1), "unsignedShort": (0, 2 ** 16 - 1), "unsignedByte": (0, 2 ** 8 - 1)}
@@ -32,7 +33,7 @@ FACETS = frozenset("length minLength maxLength pattern minInclusive maxInclusive
 
 @dataclasses.dataclass(frozen=True)
 class Nearest:
-    """The served type that stands nearest, what a copy with it accepts as data and as a value, and if lengths count the same."""
+    """The nearest served type, what a copy with it accepts as data and as a value, and whether lengths count the same."""
     base: str
     data: str = MORE
     value: str = SAME
@@ -67,7 +68,7 @@ class TypeUse:
 
 @dataclasses.dataclass(frozen=True)
 class Told:
-    """What of a datatype is outside the profile. `effect` says what a copy accepts with `change`; without one it is not brought over."""
+    """A part of a datatype that is outside the profile. `effect` is what a copy with `change` accepts; without a change it is not brought over."""
     at: int
     what: str
     change: str = ""
@@ -75,7 +76,7 @@ class Told:
 
 
 class NotBroughtOver(Exception):
-    """A parameter, at its place, that no served type stands for."""
+    """A parameter, at its place, that no served type can express."""
 
     def __init__(self, told):
         super().__init__(told.what)
@@ -83,15 +84,15 @@ class NotBroughtOver(Exception):
 
 
 def allows(base, text):
-    """If a served type of XML Schema without parameters allows the text."""
+    """Whether a served type of XML Schema without parameters allows the text."""
     return base not in ALLOWED or re.fullmatch(ALLOWED[base], " ".join(re.split("[ \t\r\n]+", text.strip(" \t\r\n")))) is not None
 
 
 def number(param, signed_too):
-    """The number that a parameter says; one that is none breaks the published syntax too."""
+    """The number in a parameter. A parameter that is not a number breaks the published syntax too."""
     text = param.value.strip(" \t\r\n")
     if not re.fullmatch("[+-]?[0-9]+" if signed_too else r"\+?[0-9]+", text):
-        raise NotBroughtOver(Told(param.at, f"the parameter {param.name} is no number: {param.value!r}"))
+        raise NotBroughtOver(Told(param.at, f"the parameter {param.name} is not a number: {param.value!r}"))
     return int(text)
 
 
@@ -114,7 +115,7 @@ def is_bound(param):
 
 
 def text_param(param, name, base):
-    """What becomes of a parameter of a type whose texts are characters: its facets, and what is told."""
+    """The facets that replace a parameter of a type whose texts are characters, and what is reported, if anything."""
     if is_length(param):
         return [(param.name, param.value)], None
     if param.name == "pattern":
@@ -130,7 +131,7 @@ def text_param(param, name, base):
 
 
 def integer_bounds(param, name):
-    """The bounds that a parameter of an integer says, lower and upper."""
+    """The lower and the upper bound that a parameter of an integer sets."""
     if param.name not in FACETS - {"length", *LENGTHS}:
         raise wrong(param, name)
     if param.name in ("pattern", "fractionDigits"):
@@ -141,13 +142,13 @@ def integer_bounds(param, name):
 
 
 def joined(bounds):
-    """The facets of all bounds together."""
+    """The facets that combine all bounds."""
     lowers, uppers = ([bound for bound in side if bound is not None] for side in zip(*bounds))
     return [*(("minInclusive", max(lowers)) for _ in lowers[:1]), *(("maxInclusive", min(uppers)) for _ in uppers[:1])]
 
 
 def integer_param_told(param, bounds):
-    """What is told of a parameter of an integer, or none if it is served."""
+    """What is reported about a parameter of an integer; None if it is served."""
     if is_bound(param):
         return None
     if param.name in ("pattern", "fractionDigits"):
@@ -159,14 +160,14 @@ def integer_param_told(param, bounds):
 
 
 def integer_use(use, own):
-    """The facets of an integer with its own bounds, and what is told of its parameters."""
+    """The facets of an integer with its own bounds, and what is reported about its parameters."""
     bounds = [own, *(integer_bounds(param, use.name) for param in use.params)]
     told = [integer_param_told(param, bound) for param, bound in zip(use.params, bounds[1:])]
     return joined(bounds), [each for each in told if each]
 
 
 def text_use(use, base, lengths):
-    """The facets of a type whose texts are characters, and what is told of its parameters."""
+    """The facets of a type whose texts are characters, and what is reported about its parameters."""
     facets, told = [], []
     for param in use.params:
         if param.name in FACETS and not lengths:
@@ -179,14 +180,14 @@ def text_use(use, base, lengths):
 
 
 def data_use(use, base, own, lengths):
-    """The text that stands for a type with its parameters, and what is told of these."""
+    """The text of a type with its parameters, and what is reported about the parameters."""
     names = [param.name for param in use.params if param.name != "pattern"]
     twice = next((param for param in use.params if names.count(param.name) > 1), None)
     if twice:
-        raise NotBroughtOver(Told(twice.at, f"the parameter {twice.name} stands twice"))
+        raise NotBroughtOver(Told(twice.at, f"the parameter {twice.name} appears twice"))
     facets, told = integer_use(use, own) if base == "integer" else text_use(use, base, lengths)
     if len({facet for facet, _ in facets}) < len(facets):
-        raise NotBroughtOver(Told(use.params[0].at, "the parameter length stands beside another length"))
+        raise NotBroughtOver(Told(use.params[0].at, "the parameter length appears with another length"))
     return written(base, facets), told
 
 
@@ -196,7 +197,7 @@ def is_within(text, bounds):
 
 
 def value_told(use, base, own, effect, known):
-    """What is told of a value, whose type, with bounds of its own, the copy replaces by `base`."""
+    """The text that replaces a value's type (empty: the type stays), and what is reported. `own` are the type's bounds, and `base` replaces the type."""
     if not allows(base, use.value) or base == "integer" and not is_within(use.value, own):
         return "", [Told(use.at, f"xsd:{use.name} does not allow the value {use.value!r}")]
     if known:
@@ -205,7 +206,7 @@ def value_told(use, base, own, effect, known):
 
 
 def schema_type(use, lists):
-    """A type of XML Schema: the text that replaces it (none: it stays), and what is told."""
+    """The text that replaces a type of XML Schema (empty: it stays), and what is reported."""
     name, known = use.name, use.name in SERVED
     own, base, near = (None, None), name, Nearest(name, SAME, SAME)
     if name in INTEGERS or name in UNSIGNED:
@@ -219,7 +220,7 @@ def schema_type(use, lists):
             return text, [Told(use.at, f"the datatype xsd:{name} is not served", text, SAME if name == "NMTOKENS" else MORE)]
         near, base = Nearest("token", lengths=False), "token"
     elif not known:
-        return "", [Told(use.at, f"xsd:{name} is no datatype of XML Schema")]
+        return "", [Told(use.at, f"xsd:{name} is not a datatype of XML Schema")]
     if use.value is not None:
         return value_told(use, base, own, near.value, known)
     own_told = [] if known else [Told(use.at, f"the datatype xsd:{name} is not served", written(base, joined([own])), near.data)]
@@ -231,18 +232,18 @@ def schema_type(use, lists):
 
 
 def other_type(use, lists):
-    """A type of another library than that of XML Schema."""
+    """The same for a type of another library than XML Schema's."""
     if use.library == COMPATIBILITY and use.name in ("ID", "IDREF", "IDREFS"):
         return schema_type(dataclasses.replace(use, library=XSD), lists)
     if use.library == "" and use.name in ("string", "token"):
         told = [Told(param.at, f"{use.name} takes no parameter {param.name}; xsd:{use.name} takes lengths") for param in use.params]
         return "", told
-    what = f"the datatype library {use.library!r} is not served" if use.library else f"{use.name} is none of the built-in datatypes"
+    what = f"the datatype library {use.library!r} is not served" if use.library else f"{use.name} is not a built-in datatype"
     if use.value is not None or not use.library:
         return "", [Told(use.at, what)]
     return "xsd:string", [Told(use.at, what, "xsd:string", MORE)]
 
 
 def judged(use, lists):
-    """What replaces a datatype as it is written (none: it stays), and what is told of it. `lists` says that a type may become a list pattern."""
+    """The text that replaces a datatype (empty: it stays), and what is reported about it. `lists` says that a type may become a list pattern."""
     return schema_type(use, lists) if use.library == XSD else other_type(use, lists)

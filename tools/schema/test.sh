@@ -1,11 +1,11 @@
 #!/bin/sh
 # Tests of the tools about schemas:   tools/schema/test.sh [PROGRAM]     (PROGRAM: the built rncv, else crates/rncv/out/rncv)
-# Without a program what needs none is tested and the rest is skipped aloud; with the variable RNCV_REQUIRED set that is a failure.
+# Without a program, the parts that need none are tested, and the skipped parts are reported. If the variable RNCV_REQUIRED is set, that is a failure.
 here=$(cd "$(dirname "$0")" && pwd)
 program=${1:-$here/../../crates/rncv/out/rncv}
 if [ ! -x "$program" ]; then
     if [ -n "$RNCV_REQUIRED" ]; then echo "test.sh: no program at $program" >&2; exit 1; fi
-    echo "test.sh: no program at $program; skipped: the examples of CLAUSES.md, and that rncv takes the copies" >&2
+    echo "test.sh: no program at $program; skipped: the examples of CLAUSES.md, and that rncv accepts the copies" >&2
 fi
 python3 -B "$here/clauses_test.py" "$program"; clauses=$?
 python3 -B "$here/test_profile.py" "$here" "$program" && exit "$clauses"

@@ -14,7 +14,7 @@ sys.path.insert(0, str(HERE))
 from compact_tokens import NoToken, decoded, tokens  # noqa: E402
 from profile_reader import Reader, Traits  # noqa: E402
 
-# Of each kind of finding: the main file's bytes, and the lines that it gives with --write, without the file's name.
+# For each kind of finding: the main file's bytes, and the lines printed with --write, without the file's name.
 SERVED = [
     b'element a { attribute * { xsd:string { maxLength = "3" } }+, (xsd:token - ("x" | [ b = "c" ] "y")) }',
     b'namespace n = inherit default namespace = "u" # >> [\n [ n:x = "1" ] element div | n:b { attribute (n:* - n:b) { list { "a"* } }+ | xsd:integer "1" }',
@@ -28,9 +28,9 @@ FINDINGS = [
     ("utf-16 without a mark", "element a { empty }".encode("utf-16-be"), ["1:1: the encoding is UTF-16; the copy has UTF-8, and accepts the same"]),
     ("latin-1", b"# \xe9\nelement caf\xe9 { empty }",
      ["1:3: the byte E9 is not UTF-8; the copy has these bytes as ISO 8859-1 in UTF-8, and accepts the same if they were ISO 8859-1"]),
-    ("mark", b"\xef\xbb\xbfelement a { empty }", ["1:1: a byte order mark stands first; the copy has none, and accepts the same"]),
+    ("mark", b"\xef\xbb\xbfelement a { empty }", ["1:1: a byte order mark is first; the copy has none, and accepts the same"]),
     ("mark and latin-1", b"\xef\xbb\xbfelement caf\xe9 { empty }",
-     ["1:12: a byte order mark stands first, and the byte E9 is not UTF-8; the copy has these bytes as ISO 8859-1 in UTF-8, and accepts "
+     ["1:12: a byte order mark is first, and the byte E9 is not UTF-8; the copy has these bytes as ISO 8859-1 in UTF-8, and accepts "
       "the same if they were ISO 8859-1"]),
     ("annotation elements", b'a:b [ "x" ] start = element div { empty }\n div { \\start [ ] }',
      ["1:1: an annotation element among components is not served; the copy has nothing there, and accepts the same",
@@ -70,19 +70,19 @@ FINDINGS = [
     ("length", b'element a { xsd:token { minLength = "0000000001" } }',
      ['1:25: the parameter minLength is not written as 1 to 9 digits; the copy has minLength = "1", and accepts the same']),
 ]
-# What cannot be brought over: the copy has it as it is, and is told of it again.
+# What cannot be brought over: the copy has it unchanged, and it is reported for the copy too.
 LEFT = [
     ("value not allowed", b'element a { xsd:boolean "yes" }', ["1:13: xsd:boolean does not allow the value 'yes'"]),
     ("value out of bounds", b'element a { xsd:byte "128" }', ["1:13: xsd:byte does not allow the value '128'"]),
-    ("no type", b"element a { xsd:number }", ["1:13: xsd:number is no datatype of XML Schema"]),
-    ("no built-in", b'datatypes d = "" element a { d:text }', ["1:30: text is none of the built-in datatypes"]),
+    ("no type", b"element a { xsd:number }", ["1:13: xsd:number is not a datatype of XML Schema"]),
+    ("no built-in", b'datatypes d = "" element a { d:text }', ["1:30: text is not a built-in datatype"]),
     ("value of a library", b'datatypes d = "u" element a { d:t "1" }', ["1:31: the datatype library 'u' is not served"]),
     ("no parameter", b'element a { xsd:int { minLength = "1" } }',
      ["1:13: the datatype xsd:int is not served", "1:23: xsd:int takes no parameter minLength"]),
     ("parameter of token", b'element a { token { maxLength = "1" } }', ["1:21: token takes no parameter maxLength; xsd:token takes lengths"]),
-    ("parameter twice", b'element a { xsd:token { maxLength = "1" maxLength = "2" } }', ["1:25: the parameter maxLength stands twice"]),
-    ("two lengths", b'element a { xsd:token { maxLength = "1" length = "1" } }', ["1:25: the parameter length stands beside another length"]),
-    ("no number", b'element a { xsd:token { maxLength = "x" } }', ["1:25: the parameter maxLength is no number: 'x'"]),
+    ("parameter twice", b'element a { xsd:token { maxLength = "1" maxLength = "2" } }', ["1:25: the parameter maxLength appears twice"]),
+    ("two lengths", b'element a { xsd:token { maxLength = "1" length = "1" } }', ["1:25: the parameter length appears with another length"]),
+    ("no number", b'element a { xsd:token { maxLength = "x" } }', ["1:25: the parameter maxLength is not a number: 'x'"]),
     ("long bound", b'element a { xsd:integer { maxInclusive = "1' + b"0" * 38 + b'" } }', ["1:27: the parameter maxInclusive has more than 38 digits"]),
     ("long length", b'element a { xsd:token { maxLength = "1000000000" } }', ["1:25: the parameter maxLength has more than 9 digits"]),
     ("size", b"element a { empty }\n" + b"#" * 1_048_576, ["1:1: the file has more than 1,048,576 bytes"]),
@@ -91,9 +91,9 @@ LEFT = [
     ("no uri", b'external "http://["', ["1:10: the file http://[ would have to be fetched"]),
     ("xml", b"<grammar/>", ["1:1: the XML syntax of RELAX NG is not served (trang writes the compact one)"]),
     ("no token", b'element a {\n "x }', ["2:2: no token begins here: the file is not read further"]),
-    ("no character", b"element a\x01 { empty }", ["1:10: the character 1 is none of XML: the file is not read further"]),
+    ("no character", b"element a\x01 { empty }", ["1:10: the character 1 is not allowed in XML: the file is not read further"]),
     ("no escape", b"element a\\x{4G} { empty }", ["1:10: a bad escape begins here: the file is not read further"]),
-    ("no escaped character", b"element \\x{D800} { empty }", ["1:9: the character D800 is none of XML: the file is not read further"]),
+    ("no escaped character", b"element \\x{D800} { empty }", ["1:9: the character D800 is not allowed in XML: the file is not read further"]),
 ]
 
 
@@ -118,7 +118,7 @@ class Profile(unittest.TestCase):
         return self.run_in(HERE / "rncv-profile", *words)
 
     def checked(self, *names):
-        """The copies break no clause, as the program says."""
+        """Wants that the program finds no broken clause in the copies."""
         if PROGRAM.exists():
             self.assertEqual(self.run_in(PROGRAM.resolve(), "check", *names)[::2], ("schema ok\n", 0))
 
@@ -238,11 +238,11 @@ class Tokens(unittest.TestCase):
 
 
 class Sentences(unittest.TestCase):
-    """The texts of `rnc_grammar_cases` and `parts_cases`, with the trees and the clauses that stand beside them."""
+    """The texts of `rnc_grammar_cases` and `parts_cases`, with the trees and clauses that belong to them."""
 
     @staticmethod
     def rows(crate, *names):
-        """The bytes of each row and what is printed of it."""
+        """The bytes of each row and what is printed for it."""
         folder = TOP / "crates" / crate
         lines = [line for name in names for line in (folder / "data" / name).read_text(encoding="utf-8").split("\n") if line and line[0] != "#"]
         answers = (folder / "stdout").read_text(encoding="utf-8").split("\n")
@@ -284,7 +284,7 @@ class Sentences(unittest.TestCase):
 
     @staticmethod
     def clause(reading, cuts):
-        """The clause that a text breaks by itself; S5 only where tokens are asked for."""
+        """The number of the clause that a text alone breaks; S5 only if the text is cut into tokens."""
         if reading.told:
             return "3"
         try:

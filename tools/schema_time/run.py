@@ -1,9 +1,9 @@
 #!/usr/bin/env python3
-"""Times the built program over large schemas of one file. It is no part of the gate.
+"""Times the built program on large schemas of one file. It is not part of the gate.
 
     tools/schema_time/run.py [PROGRAM]
 
-PROGRAM is `crates/rncv/out/rncv` where none is given. Each line tells the answer, the seconds of a processor and the greatest memory.
+The default PROGRAM is `crates/rncv/out/rncv`. Each line has the answer, the seconds of a processor and the greatest memory.
 """
 import os
 import pathlib
@@ -12,12 +12,12 @@ import tempfile
 
 HERE = pathlib.Path(__file__).resolve().parent
 COUNT = 20000
-# members of a list: each is one level of the tree deeper than the one before it
+# members of a list: each is one level deeper in the tree than the previous one
 LIST = 500
 
 
 def lists(sign, members):
-    """The members joined by the sign, in lists of 500 that are joined so again."""
+    """The members joined by the sign, in lists of 500 that are joined in the same way."""
     sign = f" {sign} "
     return sign.join("(" + sign.join(members[i : i + LIST]) + ")" for i in range(0, len(members), LIST))
 
@@ -35,7 +35,7 @@ def names(front, count):
 
 
 def doubled(levels, sign, last):
-    """Definitions each of which mentions the next one twice."""
+    """Definitions. Each mentions the next one twice."""
     return "".join(f"x{i} = x{i + 1} {sign} x{i + 1}\n" for i in range(levels)) + f"x{levels} = {last}\n"
 
 
@@ -69,7 +69,7 @@ def schemas():
 
 
 def refs(count, last):
-    """Elements each of which refers to the next one."""
+    """Definitions of elements. Each element refers to the next one."""
     return "".join(f"x{i} = element b {{ x{i + 1} }}\n" for i in range(count)) + f"x{count} = {last}\n"
 
 
@@ -84,7 +84,7 @@ def simple_forms():
 
 
 def run(program, command, schema):
-    """What is answered, the seconds of a processor, and the greatest memory in MB."""
+    """The answer, the seconds of a processor, and the greatest memory in MB."""
     with tempfile.TemporaryDirectory() as folder:
         pathlib.Path(folder, "s.rnc").write_text(schema)
         document = pathlib.Path(folder, "document")

@@ -1,5 +1,5 @@
-"""Tests of `rncv-xml`, `xml2pyx`, `rncv-profile` and `rncv-lsp` over standard streams that fail: one line tells it, no traceback does, and nothing is
-called valid that was not judged. test.sh calls this. Their own tests have more of closed pipes, and of names and folders.
+"""Tests of `rncv-xml`, `xml2pyx`, `rncv-profile` and `rncv-lsp` with standard streams that fail. One line must report the failure, without a traceback,
+and nothing is called valid that was not judged. test.sh calls this. The programs' own tests have more cases of closed pipes, names and folders.
 """
 import errno
 import os
@@ -17,7 +17,7 @@ FORMATS = ["--all"], ["--format", "json"], ["--format", "sarif"], ["--format", "
 
 
 class Programs(InFolder):
-    """What a program has to be there for."""
+    """Files for the programs. A program that is not built skips its tests."""
 
     def setUp(self):
         super().setUp()
@@ -27,7 +27,7 @@ class Programs(InFolder):
         self.write("a.rnc", b"element a { text }")
 
     def built(self, program):
-        """The program, where it was built."""
+        """Returns the program. Skips the test if it is not built."""
         if not os.access(program, os.X_OK):
             self.skipTest(f"{program.name} is not built")
         return program
@@ -49,7 +49,7 @@ class InC(Programs):
 
 
 class Streams(InC):
-    """Standard streams of these that are closed, full, or no streams."""
+    """Standard streams of these programs that are closed, full, or not streams."""
 
     def test_all_is_well(self):
         self.assertEqual(self.convert("-"), (0, PYX, b""))
@@ -73,7 +73,7 @@ class Streams(InC):
 
     @staticmethod
     def last(line, words):
-        """What standard error gets: before this line the notes of --verbose."""
+        """The expected standard error: the notes of --verbose, and then this line."""
         return (b"rncv-xml: schema file a.rnc\n" if "--verbose" in words else b"") + line.encode() + b"\n"
 
     def test_closed_pipe(self):
@@ -98,7 +98,7 @@ class Streams(InC):
 
 
 class Calls(WithCalls, InC):
-    """Calls of the two programs in C that fail, or move less than they could."""
+    """Calls of the two programs in C that fail, or that read or write less than they could."""
 
     def judged(self, *words, **plans):
         return self.planned(self.built(RNCV_XML), ("-j1", "--all", "a.rnc", *words), given=DOCUMENT, **plans)[:3]
@@ -139,17 +139,17 @@ class Calls(WithCalls, InC):
 
 
 class Python(Programs):
-    """The programs in Python. Standard input that is a folder ends the interpreter before any of them begins."""
+    """The programs in Python. If standard input is a folder, the interpreter ends before any of them begins."""
 
     def run_python(self, *words, **more):
-        """A run with Python's own buffers, as users have it, and no status or line that only Python gives."""
+        """A run with Python's own buffers, as for users. Wants no traceback or exception on standard error."""
         answer = self.run_program(sys.executable, ("-B", *words), given=DOCUMENT, environment={"PYTHONUNBUFFERED": ""}, **more)
         self.assertNotIn(b"Traceback", answer[2] or b"")
         self.assertNotIn(b"Exception", answer[2] or b"")
         return answer
 
     def outputs(self):
-        """Streams that take no output: what is told of each, and the status."""
+        """Streams that accept no output: the reported fault of each, and the status."""
         yield "standard output is closed", 4, {"closed": [1]}
         yield "No space left on device", 4, {"stdout": self.full()}
         yield None, CLOSED_PIPE, {"stdout": self.pipe_end(1), "before": closed_pipe_kills}
@@ -182,7 +182,7 @@ class Python(Programs):
         self.assertEqual(self.run_python(SECOND, "d.xml", closed=[0, 1, 2]), (4, None, None))
 
     def test_language_server(self):
-        """It ends with status 1, as where its client is gone. What it cannot send is dropped."""
+        """It ends with status 1, as when its client is gone. Messages that it cannot send are dropped."""
         closed = b"rncv-lsp: a standard stream is closed\n"
         self.assertEqual(self.run_python(LSP, closed=[0]), (1, b"", closed))
         self.assertEqual(self.run_python(LSP, closed=[1]), (1, None, closed))

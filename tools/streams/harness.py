@@ -1,7 +1,7 @@
-"""What the tests of streams share: a fresh folder, and runs of a program over streams that are closed, full, or fail as a plan says.
+"""The common part of the tests of streams: a fresh folder, and runs of a program with streams that are closed, full, or fail by a plan.
 
 RNCV_PROGRAM names the built `rncv`, RNCV_XML_PROGRAMS the folder with `rncv-xml` and `xml2pyx`, and RNCV_CALLS the shim of `calls.c` as a shared object.
-What is not there is skipped.
+Tests of what is missing are skipped.
 """
 import os
 import pathlib
@@ -38,13 +38,13 @@ class InFolder(unittest.TestCase):
         return path
 
     def device(self, name, mode):
-        """An open file of the folder, or a device, which is closed with the test."""
+        """An open file of the folder, or a device. It is closed at the end of the test."""
         file = open(self.folder / name, mode, buffering=0)
         self.addCleanup(file.close)
         return file
 
     def full(self):
-        """A device that takes no byte."""
+        """A device that accepts no byte."""
         if not os.path.exists("/dev/full"):
             self.skipTest("there is no /dev/full")
         return self.device("/dev/full", "wb")
@@ -58,10 +58,10 @@ class InFolder(unittest.TestCase):
         return file
 
     def run_program(self, program, words, *, given=b"(a\n)a\n", closed=(), before=None, environment=None, **streams):
-        """The status of a run, and what it writes on both streams; none for a stream that is closed or somewhere else.
+        """The status of a run, and what it writes on both streams; None for a stream that is closed or goes elsewhere.
 
-        `given` is standard input, `closed` are the numbers of streams that the program does not have, `before` is called in the new process, and
-        `streams` may have a stdin, a stdout or a stderr."""
+        `given` is standard input, and `closed` are the numbers of the closed streams. `before` is called in the new process. `streams` may have a stdin, a
+        stdout or a stderr."""
         def begin():
             for number in closed:
                 os.close(number)
@@ -85,7 +85,7 @@ class WithCalls(InFolder):
         super().setUp()
 
     def planned(self, program, words, *, given=b"(a\n)a\n", read=None, write=None, file=None, opened=None):
-        """The status of a run, what it writes on both streams, and a letter for each of its calls."""
+        """The status of a run by the plans, what it writes on both streams, and a letter for each of its calls."""
         log = self.device("calls", "wb+")
         plans = {"CALLS_READ": read, "CALLS_WRITE": write, "CALLS_FILE": file, "CALLS_OPEN": opened}
         environment = {name: ",".join(map(str, plan)) for name, plan in plans.items() if plan is not None}
@@ -94,10 +94,10 @@ class WithCalls(InFolder):
 
 
 def closed_pipe_kills():
-    """Sets SIGPIPE as a shell leaves it."""
+    """Sets SIGPIPE to its default action, as under a shell."""
     signal.signal(signal.SIGPIPE, signal.SIG_DFL)
 
 
 def closed_pipe_is_told():
-    """Lets a write to a closed pipe fail, with no signal."""
+    """Makes a write to a closed pipe fail without a signal."""
     signal.signal(signal.SIGPIPE, signal.SIG_IGN)

@@ -1,4 +1,4 @@
-"""Tests of `rncv` over standard streams, files and words that fail, by docs/LANGUAGE.md ("Answers"). test.sh calls this."""
+"""Tests of `rncv` with standard streams, files and arguments that fail, by docs/LANGUAGE.md ("Answers"). test.sh calls this."""
 import errno
 import os
 import resource
@@ -10,7 +10,7 @@ READ_FAILED = 4, b"", b"rncv: read failed\n"
 WRITE_FAILED = 4, None, b"rncv: write failed\n"
 USAGE = 5, b"", b"usage: rncv valid|check|simple FILES..\n"
 VALID, OK, FORM, REFUSED = ((0, b"valid\n", b""), (0, b"schema ok\n", b""), (0, SIMPLE, b""), (3, b"refused S6 file broken.rnc\n", b""))
-# An answer of each kind: the words, the document, and what is answered.
+# An answer of each kind: the arguments, the document, and the answer.
 ANSWERS = [
     (("valid", "s.rnc"), b"(a\n)a\n", VALID),
     (("valid", "s.rnc"), b"(b\n)b\n", (1, b"invalid line 2\n", b"")),
@@ -28,13 +28,13 @@ class Program(InFolder):
         return self.run_program(RNCV, words, **more)
 
     def cannot_read(self, name, *words, **more):
-        """Wants that this file is told as one that cannot be read."""
+        """Wants a report that this file cannot be read."""
         name = os.fsencode(name)
         self.assertEqual(self.run_rncv(*words, **more), (4, b"", b"rncv: cannot read file " + name + b"\n"))
 
 
 class Inputs(Program):
-    """Standard input that is not there, or no document."""
+    """Standard input that is closed, or is not a document."""
 
     def test_all_is_well(self):
         for words, document, wanted in ANSWERS:
@@ -56,7 +56,7 @@ class Inputs(Program):
         self.assertEqual(self.run_rncv("valid", "s.rnc", stdin=self.device("written", "wb")), READ_FAILED)
 
     def test_nothing_yet(self):
-        """A pipe that is not waited for, and has nothing."""
+        """An empty pipe that does not block."""
         ends = os.pipe2(os.O_NONBLOCK)
         for end in ends:
             self.addCleanup(os.close, end)
@@ -68,13 +68,13 @@ class Inputs(Program):
         self.assertEqual(self.run_rncv("valid", "s.rnc", stdin=self.pipe_end(0)), wanted)
 
     def test_endless(self):
-        """An answer does not wait for the end of an input that has none."""
+        """An answer does not wait for the end of an endless input."""
         self.assertEqual(self.run_rncv("valid", "s.rnc", stdin=self.device("/dev/zero", "rb")), (2, b"malformed P10 line 1\n", b""))
         self.assertEqual(self.run_rncv("valid", "s.rnc", given=b"(a\n)b\n" + b"?x\n" * 1_000_000), (2, b"malformed P8 line 2\n", b""))
 
 
 class Outputs(Program):
-    """Standard output and standard error that take nothing."""
+    """Standard output and standard error that accept nothing."""
 
     def test_closed(self):
         for words, document, _ in ANSWERS:
@@ -90,7 +90,7 @@ class Outputs(Program):
         self.assertEqual((self.folder / "d.pyx").read_bytes(), b"(a\n)a\n")
 
     def test_no_room_yet(self):
-        """A pipe that is not waited for, and is full."""
+        """A full pipe that does not block."""
         ends = os.pipe2(os.O_NONBLOCK)
         for end in ends:
             self.addCleanup(os.close, end)
@@ -106,7 +106,7 @@ class Outputs(Program):
                 self.assertEqual(self.run_rncv(*words, given=document, stdout=self.pipe_end(1), before=before), WRITE_FAILED, words)
 
     def test_no_errors(self):
-        """Where standard error takes nothing, the exit status is all that is told."""
+        """If standard error accepts nothing, only the exit status reports the fault."""
         failing = (("check", "none.rnc"), 4), (("check", "-x"), 5), ((), 5)
         for words, document, (status, out, _) in ANSWERS:
             self.assertEqual(self.run_rncv(*words, given=document, closed=[2]), (status, out, None), words)
@@ -116,7 +116,7 @@ class Outputs(Program):
             self.assertEqual(self.run_rncv(*words, stderr=self.pipe_end(1), before=closed_pipe_kills), (status, b"", None), words)
 
     def test_nothing_is_there(self):
-        """A file that is opened in the place of a stream is no stream: nothing is read from it as a document, or written to it."""
+        """A file that gets the number of a closed stream is not used as a stream: no document is read from it, and nothing is written to it."""
         before = {path.name: path.read_bytes() for path in self.folder.iterdir()}
         for words, _, _ in ANSWERS:
             self.assertEqual(self.run_rncv(*words, closed=[0, 1]), WRITE_FAILED if words != ("valid", "s.rnc") else (4, None, b"rncv: read failed\n"), words)
@@ -126,7 +126,7 @@ class Outputs(Program):
 
 
 class Files(Program):
-    """Files that are none, and words that name none."""
+    """Files that do not exist or cannot be read, and arguments that name no file."""
 
     def test_no_file(self):
         (self.folder / "circle.rnc").symlink_to("circle.rnc")
@@ -165,13 +165,13 @@ class Files(Program):
 
 
 class Calls(WithCalls):
-    """Reads and writes that fail, or move less than they could."""
+    """Reads and writes that fail, or transfer less than they could."""
 
     def calls(self, *words, **plans):
         return self.planned(RNCV, words, **plans)
 
     def answers(self, wanted, *words, calls="", **plans):
-        """Wants an answer, and calls that the expression describes."""
+        """Wants an answer, and calls that match the regular expression."""
         *answer, log = self.calls(*words, **plans)
         self.assertEqual(tuple(answer), wanted, (words, plans))
         self.assertRegex(log, f"^(?:{calls})$")
@@ -203,7 +203,7 @@ class Calls(WithCalls):
         self.answers((2, b"malformed P8 line 2\n", b""), "valid", "s.rnc", given=b"(a\n)b\n(c\n", read=[6, -errno.EIO], calls="of+rw+")
 
     def test_no_document_is_read_for_nothing(self):
-        """Each read would fail; a schema that is refused, `check` and `simple` make none."""
+        """Each read would fail, but a refused schema, `check` and `simple` make none."""
         for words, _, wanted in UNREAD:
             self.answers(wanted, *words, read=[-errno.EIO], calls="of+w+")
         self.answers(USAGE, "valid", "-x", read=[-errno.EIO], calls="e+")
@@ -224,7 +224,7 @@ class Calls(WithCalls):
         self.answers((4, b"start ", WRITE_FAILED[2]), "simple", "eight.rnc", write=[1] * 6 + [-errno.EIO], calls="of+w{7}e+")
 
     def test_each_write_fails_in_turn(self):
-        """What is written before is a beginning of the answer, and no further write is made."""
+        """The earlier writes are a beginning of the answer, and no write follows the failed one."""
         for words, document, (status, out, errors) in ANSWERS:
             for writes in range(len(out) + 1):
                 wanted, calls = (status, out, errors), f"w{{{len(out)}}}"

@@ -1,9 +1,9 @@
 #!/bin/sh
-# Tests of the programs over standard streams, files and words that fail:   tools/streams/test.sh [PROGRAM]
+# Tests of the programs with standard streams, files and arguments that fail:   tools/streams/test.sh [PROGRAM]
 #
-# PROGRAM is the built rncv, else crates/rncv/out/rncv. program_test.py is about it, around_test.py about the programs around it: RNCV_XML_PROGRAMS
-# names the folder with rncv-xml and xml2pyx, else build/xml. Calls that fail come from a shim, which wants a C compiler (calls.c). What is missing is
-# told and skipped; with the variable RNCV_REQUIRED set a missing rncv is a failure. It takes less than half a minute.
+# PROGRAM is the built rncv, else crates/rncv/out/rncv. program_test.py tests it. around_test.py tests the programs around it: RNCV_XML_PROGRAMS names the
+# folder with rncv-xml and xml2pyx, else build/xml. A shim makes calls fail; it needs a C compiler (calls.c). What is missing is reported and skipped. If
+# the variable RNCV_REQUIRED is set, a missing rncv is a failure. The tests take less than half a minute.
 here=$(cd "$(dirname "$0")" && pwd)
 RNCV_PROGRAM=${1:-$here/../../crates/rncv/out/rncv}
 RNCV_CALLS=

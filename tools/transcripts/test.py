@@ -1,20 +1,20 @@
 #!/usr/bin/env python3
-"""Runs the transcripts of README.md and of docs/*.md, and wants what is printed there.
+"""Runs the transcripts of README.md and of docs/*.md, and compares their output with the pages.
 
     tools/transcripts/test.py [PROGRAM]      (PROGRAM: the built rncv, else crates/rncv/out/rncv)
 
-Each fenced block of a page says behind its fence what it is:
+Each fenced block of a page says what it is, in the words after its fence:
 
 - `KIND FILE`, as in "rnc order.rnc": a file, written before the commands of the page run.
-- `console`: a transcript. Each line `$ COMMAND` (which goes on in lines `> ..`) is run by `sh`, and what it prints, on both streams, has to stand
-  below it. It has to end with status 0, unless the next command begins with `echo $?`.
-- `console wants PROGRAM..`: the same, skipped aloud where one of these is not installed.
-- `console unrun`: commands that are too long for a test; they are told and not run.
-- A word of ELSEWHERE: what is tested by another script, or is no example.
+- `console`: a transcript. `sh` runs each line `$ COMMAND` (with its continuation lines `> ..`). The output on both streams must be the text below it. The
+  command must end with status 0, unless the next command begins with `echo $?`.
+- `console wants PROGRAM..`: the same, but skipped with a message if one of these programs is not installed.
+- `console unrun`: commands that take too long for a test. They are reported, and not run.
+- A word of ELSEWHERE: another script tests the block, or it is not an example.
 
-A block that says nothing, or has a line `$ ..` and is no transcript, is a fault, so that no example stands untested by mistake. Each page has a copy of
-README.md, docs, examples and tools for itself, each block begins at its top, and there the built program is crates/rncv/out/rncv and on the path. So
-are the programs in the folder that the variable RNCV_XML_PROGRAMS names: rncv-xml and xml2pyx.
+A block without words is a fault. So is a block that has a line `$ ..` and is not a transcript. Thus no example is left untested by mistake. Each page has
+its own copy of README.md, docs, examples and tools, and each block begins at the top of the copy. There, crates/rncv/out/rncv is the built program. It
+is on the path, and so are the programs in the folder that the variable RNCV_XML_PROGRAMS names: rncv-xml and xml2pyx.
 """
 import dataclasses
 import difflib
@@ -35,13 +35,13 @@ ELSEWHERE = {
     "broken": "tools/schema/clauses_test.py",
     "repair": "tools/schema/clauses_test.py",
     "recipe": "tools/xml/tests/recipes_test.py",
-    "text": "no example: grammars, drawings, forms of command lines",
+    "text": "not an example: grammars, drawings, forms of command lines",
 }
 
 
 @dataclasses.dataclass
 class Block:
-    """A fenced block: its page, the line of its fence, what it says it is, and its text."""
+    """A fenced block: its page, the line of its fence, the words after the fence, and its text."""
     page: str
     line: int
     words: list
@@ -54,22 +54,22 @@ class Block:
         return len(self.words) == 2 and self.words[0] not in ("console", *ELSEWHERE)
 
     def commands(self):
-        """The commands, each with what is to be printed."""
+        """The commands, each with the output that the page has."""
         return [(command.replace("\n> ", "\n"), wanted) for command, wanted in COMMAND.findall(self.text)]
 
     def fault(self):
-        """What is wrong with the block as it stands, if anything."""
+        """What is wrong with the block itself, if anything."""
         if not self.words:
             return "the block does not say what it is"
         if self.words[0] == "console":
             known = self.words[1:] in ([], ["unrun"]) or self.words[1:2] == ["wants"] and len(self.words) > 2
-            return None if known and self.text.startswith("$ ") else "no transcript: `console`, `console wants PROGRAM..` or `console unrun`"
+            return None if known and self.text.startswith("$ ") else "not a transcript: `console`, `console wants PROGRAM..` or `console unrun`"
         if re.search(r"^\$ ", self.text, re.M):
-            return "the block has commands and is no transcript"
+            return "the block has commands and is not a transcript"
         return None if self.is_file() or self.words[0] in ELSEWHERE and len(self.words) == 1 else f"no kind of block: {' '.join(self.words)}"
 
     def skipped(self):
-        """Why the transcript is not run, if it is not."""
+        """Why the transcript is not run; None if it is run."""
         if self.words[1:] == ["unrun"]:
             return "it says so"
         lacking = [program for program in self.words[2:] if not shutil.which(program, path=search_path(built_xml()))]
@@ -83,19 +83,19 @@ def built_xml():
 
 
 def search_path(folders):
-    """A value of PATH: the folders before those that are in it anyway."""
+    """A value of PATH: these folders, and then those of the current PATH."""
     return os.pathsep.join([*map(str, folders), os.environ["PATH"]])
 
 
 def blocks_of(page, text):
-    """The fenced blocks of a page; a fence that belongs to none is told as a block without a kind."""
+    """The fenced blocks of a page. If a fence belongs to no block, a block without words is added, which is a fault."""
     found = [Block(page, text.count("\n", 0, at.start()) + 1, at[1].split(), at[2]) for at in BLOCK.finditer(text)]
     fences = len(re.findall(r"^[ >]*(?:```|~~~)", text, re.M))
     return found + [Block(page, 1, [], "")] * (fences != 2 * len(found))
 
 
 def scratch(folder, program):
-    """A copy of what the pages speak of, with the program where `rt ci` leaves it."""
+    """Copies the files that the pages use, with the program where `rt ci` puts it. Returns the environment for the commands."""
     for name in COPIED:
         if (TOP / name).is_dir():
             shutil.copytree(TOP / name, folder / name, ignore=shutil.ignore_patterns("__pycache__"))
@@ -110,7 +110,7 @@ def scratch(folder, program):
 
 
 def ran(commands, folder, environment):
-    """What each command printed, and its status; of one that is not come to, nothing."""
+    """The output and the status of each command, up to a command that did not end. That one has the status None."""
     told = "told=$?; printf '\\n%s %s\\n' '" + MARK + "' \"$told\"; (exit \"$told\")\n"
     script = "exec 2>&1\n" + "".join(f"{command}{told}" for command in commands)
     run = subprocess.run(["sh", "-c", script], cwd=folder, env=environment, stdin=subprocess.DEVNULL, stdout=subprocess.PIPE, timeout=60, check=False)
@@ -120,7 +120,7 @@ def ran(commands, folder, environment):
 
 
 def faults_of(block, folder, environment):
-    """A line or more for each command that does not do what the transcript says."""
+    """A text for each command that does not do what the transcript says."""
     commands = block.commands()
     followed = [command for command, _ in commands[1:]] + [""]
     for (command, wanted), (printed, status), after in zip(commands, ran([command for command, _ in commands], folder, environment), followed):
@@ -131,7 +131,7 @@ def faults_of(block, folder, environment):
 
 
 def tested(page, program):
-    """Runs a page, tells what was found, and answers how many commands were run and how many faults there are."""
+    """Runs a page, prints the faults, and returns the numbers of commands and of faults."""
     blocks = blocks_of(page, (TOP / page).read_text(encoding="utf-8"))
     faults = [f"{block.place()}: {block.fault()}\n" for block in blocks if block.fault()]
     count = 0

@@ -3,11 +3,11 @@
 
     tools/xml/bench.py [--programs FOLDER] [--work FOLDER] [--repeat N] [--core N] [--megabytes N] [--documents N] [--only TEXT]
 
-FOLDER has rncv-xml (else build/xml). Each program runs on one processor, or where the row says so on two. The times are the least of N: of the clock,
-and the seconds of a processor; the memory is the most of all. jing is measured cold (its Java machine starts, and judges all the documents that are
-named) and, where a Java compiler is there, in a machine that runs (`warm`: the schema is loaded once, the least time of a validation). xmllint gets the
-schema as trang writes it. What is not installed is left out: apt-get install jing trang libxml2-utils default-jdk-headless. It wants GNU time and
-taskset.
+FOLDER has rncv-xml; by default it is build/xml. Each program runs on one processor, or on two if the row says so. The times are the least of N runs: on
+the clock, and in seconds of a processor. The memory is the most of all runs. jing is measured cold: its Java machine starts, and judges all the
+documents that are named. If a Java compiler is installed, it is also measured in a running machine (`warm`): the schema is loaded once, and the time is
+the least of a validation. xmllint gets the schema as trang writes it. What is not installed is left out: apt-get install jing trang libxml2-utils
+default-jdk-headless. It needs GNU time and taskset.
 """
 import argparse
 import os
@@ -95,7 +95,7 @@ class Bench:
         self.start = min(self.once(["true"])[0] for _ in range(20))
 
     def once(self, words):
-        """Seconds, seconds of a processor, KiB and the status of one run. `time` is small: the memory of what measures does not count."""
+        """Seconds, seconds of a processor, KiB and the status of one run. `time` is small, so the memory of the program that measures does not count."""
         with tempfile.NamedTemporaryFile() as measured:
             begun = time.perf_counter()
             run = subprocess.run(["taskset", "-c", self.cores, "/usr/bin/time", "-q", "-f", "%U %S %M", "-o", measured.name, *map(str, words)],
@@ -105,7 +105,7 @@ class Bench:
             return seconds, float(user) + float(system), int(memory), run.returncode
 
     def run(self, words):
-        """The least times of several runs, the most memory, and whether each run said that all is valid. The start of `time` is taken off."""
+        """The least times of several runs, the most memory, and whether each run said that all is valid. The time to start `time` is subtracted."""
         runs = [self.once(words) for _ in range(self.given.repeat)]
         return (max(min(run[0] for run in runs) - self.start, 0), min(run[1] for run in runs), max(run[2] for run in runs),
                 all(run[3] == 0 for run in runs))
@@ -128,7 +128,7 @@ class Bench:
         return f"{self.folder}:{jar}"
 
     def peers(self, name, documents, classes):
-        """What each program is called with."""
+        """The words that call each program."""
         schema = self.folder / f"{name}.rnc"
         yield "rncv-xml", [self.given.programs / "rncv-xml", "-j", str(self.cores.count(",") + 1), schema, *documents]
         if shutil.which("jing"):

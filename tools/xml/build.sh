@@ -1,9 +1,9 @@
 #!/bin/sh
 # Builds rncv-xml and xml2pyx:   tools/xml/build.sh [FOLDER]
 #
-# FOLDER, else build/xml at the top of the repository, then has the two programs. They want a C compiler, the headers of expat (2.4 or later) and,
-# for rncv-xml, the library: RNCV_LIBRARY names its folder, else build/library, where tools/library/build.sh leaves it. What is missing is told, with
-# status 2. CC and CFLAGS are heeded; ONLY=xml2pyx builds that alone, which wants no library.
+# FOLDER, by default build/xml at the top of the repository, then has the two programs. They need a C compiler, the headers of expat (2.4 or later) and,
+# for rncv-xml, the library. RNCV_LIBRARY names its folder, by default build/library, where tools/library/build.sh leaves it. If something is missing,
+# the script says what, and ends with status 2. It uses CC and CFLAGS. ONLY=xml2pyx builds that program alone, which needs no library.
 set -eu
 
 here=$(cd "$(dirname "$0")" && pwd)
@@ -21,7 +21,7 @@ mkdir -p "$folder"
 work=$(mktemp -d "$folder/objects.XXXXXX")
 trap 'rm -rf "$work"' EXIT
 
-# a program of three lines says whether expat is there, and new enough
+# a program of a few lines says whether expat is there, and new enough
 cat > "$work/expat.c" << 'EOF'
 #include <expat.h>
 #if XML_MAJOR_VERSION * 100 + XML_MINOR_VERSION < 204

@@ -1,8 +1,9 @@
 #!/bin/sh
 # Gives generated documents and mutants of them to the programs, built with the sanitizers of the compiler:   tools/xml/fuzz.sh [SECONDS]
 #
-# 60 seconds, if no number is given. FUZZ_SEED says where to begin. rncv-xml is among the programs where the library is built (RNCV_LIBRARY). Each
-# document has to end with a status of the programs, without a word of the sanitizers, and well-formed exactly if the converter in Python says so.
+# It takes 60 seconds if no number is given. FUZZ_SEED says where to begin. rncv-xml is among the programs if the library is built (RNCV_LIBRARY). For each
+# document a program has to end with one of its statuses, without a message of the sanitizers. It has to call the document well-formed exactly if the
+# converter in Python does.
 set -eu
 here=$(cd "$(dirname "$0")" && pwd)
 room=$(mktemp -d)

@@ -1,9 +1,9 @@
 #!/bin/sh
 # Tests of rncv-xml and xml2pyx, in less than a minute:   tools/xml/test.sh [PROGRAM]     (PROGRAM: the built rncv, else crates/rncv/out/rncv)
 #
-# It builds the programs into a temporary folder, unless RNCV_XML_PROGRAMS names one where they are. They want a C compiler, the headers of expat, and
-# librncv (RNCV_LIBRARY, else build/library). What is missing is told and skipped; with the variable RNCV_REQUIRED set that is a failure.
-# RNCV_XML_DOCUMENTS says on how many generated documents, and mutants of them, the converters in C and in Python are compared; else on 300.
+# It builds the programs into a temporary folder, unless RNCV_XML_PROGRAMS names one where they are. They need a C compiler, the headers of expat, and
+# librncv (RNCV_LIBRARY, by default build/library). What is missing is reported and skipped. With the variable RNCV_REQUIRED set that is a failure.
+# RNCV_XML_DOCUMENTS says on how many generated documents, and mutants of them, the converters in C and in Python are compared, by default 300.
 here=$(cd "$(dirname "$0")" && pwd)
 program=${1:-$here/../../crates/rncv/out/rncv}
 if [ -n "$RNCV_REQUIRED" ] && [ ! -x "$program" ]; then echo "test.sh: no program at $program" >&2; exit 1; fi

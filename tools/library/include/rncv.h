@@ -67,7 +67,7 @@ typedef struct rncv_fault {
     int64_t file;   /* the index of the first file with the name of the file that breaks the clause; -1 if the clause is not about one file,
                        or no file with that name was passed */
     int64_t offset; /* where in that file, in bytes from 0, for the clauses 3 to 8; otherwise -1 */
-    int64_t line;   /* the line, from 1, for the clauses 3 to 8; otherwise -1. CR LF, CR and LF end a line each. */
+    int64_t line;   /* the line, from 1, for the clauses 3 to 8; otherwise -1. CR LF, CR and LF each end a line. */
     int64_t column; /* the column, from 1, in characters as they are written, for the clauses 3 to 8; otherwise -1 */
 } rncv_fault;
 
@@ -96,55 +96,61 @@ enum {
     RNCV_SPACE = 5      /* the buffer is too small */
 };
 
-/* Compiles the schema of `count` files, the first of which is the main one, and puts it into `schema`. What `schema` held is freed.
+/* Compiles the schema of `count` files, and puts it into `schema`. The first file is the main one. What `schema` held is freed.
  *
  * RNCV_REFUSED: the files break a clause, and `fault` says which. RNCV_MEMORY: out of memory. RNCV_MISUSE: `count` is 0, or a name is not UTF-8.
- * Unless the status is RNCV_DONE, `schema` is unchanged. Unless it is RNCV_REFUSED, `fault` is unchanged. `files` may be NULL if `count` is 0. */
+ * Unless the status is RNCV_DONE, `schema` is unchanged. Unless it is RNCV_REFUSED, `fault` is unchanged. `files` may be NULL if `count` is 0.
+ *
+ * The caller keeps `files` and may free them after the call. Only one thread at a time may use `schema`. */
 int32_t rncv_compile(const rncv_file *files, size_t count, rncv_schema *schema, rncv_fault *fault);
 
 /* Makes `other` a second handle on the same schema, for example for another thread. What `other` held is freed. Free each of the two by itself.
  * The schema is shared and not copied.
  *
  * RNCV_MEMORY: out of memory. RNCV_MISUSE: `schema` holds no schema, or a document is in progress. Unless the status is RNCV_DONE, `other` is
- * unchanged. */
+ * unchanged. Only one thread at a time may use each of the two handles, and two threads may use both at the same time. */
 int32_t rncv_schema_share(rncv_schema *schema, rncv_schema *other);
 
-/* Frees what the handle holds, a document in progress too. Then the handle holds nothing. A second call does nothing. */
+/* Frees what the handle holds, including a document in progress. Then the handle holds nothing. A second call does nothing. Only one thread at a
+ * time may use the handle. */
 void rncv_schema_free(rncv_schema *schema);
 
-/* Begins a document, and drops one that is in progress. What was worked out of the schema for earlier documents is kept, and makes this one cheaper.
+/* Begins a document, and drops one that is in progress. What was worked out from the schema for earlier documents is kept, and makes this one cheaper.
  *
- * RNCV_MEMORY: out of memory; no document is in progress, and the handle still holds the schema. RNCV_MISUSE: the handle holds nothing. */
+ * RNCV_MEMORY: out of memory; no document is in progress, and the handle still holds the schema. RNCV_MISUSE: the handle holds nothing.
+ * The handle owns the document until rncv_document_end. Only one thread at a time may use the handle. */
 int32_t rncv_document_begin(rncv_schema *schema);
 
 /* Takes the next bytes of the document. A piece may end anywhere, even inside a line or a character. `bytes` may be NULL if `length` is 0.
  *
  * RNCV_MALFORMED: the document breaks a clause; rncv_document_end says which, and where. RNCV_MEMORY: out of memory, or the document would have
- * 2^63 bytes or more. After one of these two, each later call for this document returns the same. RNCV_MISUSE: no document is in progress. */
+ * 2^63 bytes or more. After one of these two, each later call for this document returns the same. RNCV_MISUSE: no document is in progress.
+ * The caller keeps `bytes` and may free them after the call. Only one thread at a time may use the handle. */
 int32_t rncv_document_feed(rncv_schema *schema, const uint8_t *bytes, size_t length);
 
 /* Writes to `line` the line, from 1, after which no continuation is valid, or 0 while no such line is known. Once it is known, the verdict of
  * rncv_document_end is RNCV_INVALID with this line, or RNCV_BROKEN, or its status is RNCV_MEMORY. Allocates nothing.
  *
- * RNCV_MISUSE: no document is in progress; `line` is unchanged. */
+ * RNCV_MISUSE: no document is in progress; `line` is unchanged. Only one thread at a time may use the handle. */
 int32_t rncv_document_invalid_since(rncv_schema *schema, uint64_t *line);
 
 /* Ends the document and writes the verdict on it to `verdict`. Then the handle holds the schema, for the next document. The status is RNCV_DONE
  * for every verdict.
  *
  * RNCV_MEMORY: memory ran out for the document; it has ended, and `verdict` is unchanged. RNCV_MISUSE: no document is in progress; `verdict` is
- * unchanged. */
+ * unchanged. Only one thread at a time may use the handle. */
 int32_t rncv_document_end(rncv_schema *schema, rncv_verdict *verdict);
 
 /* Writes the simple form of the schema, as text, to `buffer`, which has `size` bytes, and the text's length to `length`. The text does not end in
- * a zero. `buffer` may be NULL if `size` is 0. Each call prints the form anew.
+ * a zero. `buffer` may be NULL if `size` is 0. Each call prints the form again.
  *
  * RNCV_SPACE: the text does not fit; nothing is written to `buffer`, and `length` is the number of bytes that it needs. RNCV_MEMORY: out of memory.
- * RNCV_MISUSE: the handle holds no schema, or a document is in progress. After these two `length` is unchanged. */
+ * RNCV_MISUSE: the handle holds no schema, or a document is in progress. After these two `length` is unchanged. The caller owns `buffer`. Only one
+ * thread at a time may use the handle. */
 int32_t rncv_simple(rncv_schema *schema, uint8_t *buffer, size_t size, size_t *length);
 
 /* The title of a clause, in English: group 'S' with 1 to 27, or group 'P' with 1 to 13. NULL for any other. The text is constant, ends in a
- * zero, and is never freed. */
+ * zero, and is never freed. Any thread may call this at any time. */
 const char *rncv_clause_title(char group, int32_t clause);
 
 #ifdef __cplusplus

@@ -1,4 +1,4 @@
-/* What each function answers. */
+/* What each function returns. */
 #include "testing.h"
 
 #define BOOK "start = element book { attribute id { text }, title+, part* }\ntitle = element title { text }\ninclude \"part.rnc\"\n"
@@ -85,7 +85,7 @@ static void refuses(void) {
     refuse(bad_bytes, 1, 3, 0);
 }
 
-/* Without RNCV_DONE the handle stays as it was, a document in progress too. */
+/* Without RNCV_DONE the handle is unchanged, and so is a document in progress. */
 static void keeps_what_was_held(void) {
     rncv_schema schema = RNCV_NOTHING;
     rncv_file bad = file_of("s.rnc", "element a {");
@@ -101,7 +101,7 @@ static void keeps_what_was_held(void) {
     rncv_schema_free(&schema);
 }
 
-/* What a handle held is freed where something else is put into it, a document in progress too. */
+/* What a handle held is freed when something else is put into it, including a document in progress. */
 static void puts_in_place(void) {
     rncv_schema schema = RNCV_NOTHING;
     rncv_schema other = RNCV_NOTHING;
@@ -165,7 +165,7 @@ static void knows_early(void) {
     rncv_schema_free(&schema);
 }
 
-/* A document that is broken stays so, and one that is let go of has no effect on the next. */
+/* A document that is broken stays broken, and one that is dropped has no effect on the next. */
 static void begins_anew(void) {
     rncv_schema schema = RNCV_NOTHING;
     rncv_verdict verdict;
@@ -179,7 +179,7 @@ static void begins_anew(void) {
     CHECK(feed(&schema, VALID) == RNCV_DONE);
     CHECK(rncv_document_feed(&schema, NULL, 0) == RNCV_DONE);
     CHECK(rncv_document_end(&schema, &verdict) == RNCV_DONE && verdict.kind == RNCV_VALID);
-    /* what is in progress is let go of with the handle */
+    /* a document in progress is freed with the handle */
     CHECK(rncv_document_begin(&schema) == RNCV_DONE);
     CHECK(feed(&schema, "(book\nAid 1\n(ti") == RNCV_DONE);
     rncv_schema_free(&schema);

@@ -1,4 +1,4 @@
-/* Each allocation refused in turn, and from each one on. Linked with -Wl,--wrap=malloc,--wrap=realloc, so that the two functions below stand for
+/* Refuses each allocation in turn, and all from each one on. It is linked with -Wl,--wrap=malloc,--wrap=realloc, so that the two functions below are
  * the library's malloc and realloc. */
 #include "testing.h"
 
@@ -29,7 +29,7 @@ void *__wrap_realloc(void *block, size_t size) {
                "d = element d { list { \"x\", xsd:token* } }\n"
 #define DOCUMENT "(a\nAb 12\n(c\n-one\n)c\n(d\n-x y\n)d\n)a\n"
 
-/* One run: 1 if it came to its end, 0 if a call answered RNCV_MEMORY. Every other answer is right. */
+/* One run: returns 1 if it reached its end, 0 if a call returned RNCV_MEMORY. Every other answer is right. */
 static int run_once(void) {
     rncv_schema schema = RNCV_NOTHING;
     rncv_schema other = RNCV_NOTHING;
@@ -68,7 +68,7 @@ static int run_once(void) {
     return status == RNCV_DONE;
 }
 
-/* Where a document lost memory, the schema still serves. */
+/* After a document ran out of memory, the schema still works. */
 static void recovers(void) {
     rncv_schema schema = RNCV_NOTHING;
     rncv_verdict verdict;
@@ -110,7 +110,7 @@ int main(void) {
         growth = 0;
         first = refused;
         last = refused + 1000000;
-        CHECK(!run_once() || refused > 0); /* what is refused later on may be spared */
+        CHECK(!run_once() || refused > 0); /* a run can do without some later growths */
     }
     first = last = -1;
     CHECK(run_once());

@@ -1,7 +1,7 @@
-/* Calls in the wrong order, on empty handles and with wrong arguments: each answers RNCV_MISUSE and changes nothing. */
+/* Calls in the wrong order, on empty handles and with wrong arguments: each returns RNCV_MISUSE and changes nothing. */
 #include "testing.h"
 
-/* Each call that wants a schema with no document, or any schema, on a handle that holds nothing. */
+/* Each call that needs a schema with no document, or any schema, on a handle that holds nothing. */
 static void on_nothing(rncv_schema *schema) {
     rncv_schema other = RNCV_NOTHING;
     rncv_verdict verdict = {7, 7, 7};
@@ -30,7 +30,7 @@ static void on_a_schema(void) {
     CHECK(feed(&schema, "(a\n") == RNCV_MISUSE);
     CHECK(rncv_document_invalid_since(&schema, &line) == RNCV_MISUSE && line == 99);
     CHECK(rncv_document_end(&schema, &verdict) == RNCV_MISUSE && verdict.kind == 7);
-    /* it still serves */
+    /* it still works */
     CHECK(rncv_document_begin(&schema) == RNCV_DONE);
     CHECK(feed(&schema, "(a\n)a\n") == RNCV_DONE);
     CHECK(rncv_document_end(&schema, &verdict) == RNCV_DONE && verdict.kind == RNCV_VALID);
@@ -56,7 +56,7 @@ static void on_a_document(void) {
     CHECK(rncv_simple(&schema, NULL, 0, &length) == RNCV_MISUSE && length == 99);
     CHECK(feed(&schema, "(a\n)a\n") == RNCV_DONE);
     CHECK(rncv_document_end(&schema, &verdict) == RNCV_DONE && verdict.kind == RNCV_VALID);
-    /* a shared schema outlives the handle that it came from */
+    /* a shared schema outlives the handle from which it was shared */
     CHECK(rncv_schema_share(&schema, &other) == RNCV_DONE);
     rncv_schema_free(&schema);
     CHECK(rncv_document_begin(&other) == RNCV_DONE);

@@ -1,9 +1,9 @@
 #!/usr/bin/env python3
-"""Runs the programs of the pages about the library, and wants what stands there.
+"""Runs the programs on the pages about the library, and compares what they print with the pages.
 
     tools/library/tests/readme_test.py FOLDER      (FOLDER: where the library was built, with include and lib)
 
-A program is a fenced block `c NAME` or `python NAME`, and prints what stands in the next block `text`. Those of C are compiled twice, with the shared
+A program is a fenced block `c NAME` or `python NAME`, and must print the next block `text`. Those of C are compiled twice, with the shared
 and the static library. Each runs in a folder of its own with `examples` and `tools` of this checkout.
 """
 import os
@@ -38,7 +38,7 @@ def pages():
 
 
 def compiled(built, room, name):
-    """The commands that run a program of C, by the library that is used."""
+    """The commands that run a program of C, by the library that it uses."""
     compiler = [*shlex.split(os.environ.get("CC", "cc")), *WARNINGS, "-O2", f"-I{built / 'include'}", name]
     libraries = {"shared": [f"-L{built / 'lib'}", f"-Wl,-rpath,{built / 'lib'}", "-lrncv"], "static": [str(built / "lib/librncv.a")]}
     for kind, words in libraries.items():
@@ -49,7 +49,7 @@ def compiled(built, room, name):
 def faults(built, kind, name, program, printed):
     """A line for each way in which a program does not print what the page says."""
     if printed is None:
-        yield "no block `text` stands behind it"
+        yield "no block `text` follows it"
         return
     environment = {**os.environ, "RNCV_LIBRARY": str(built / "lib/librncv.so"), "PYTHONPATH": str(TOP / "tools/python"), "PYTHONDONTWRITEBYTECODE": "1"}
     with tempfile.TemporaryDirectory(prefix="readme-") as folder:

@@ -1,8 +1,8 @@
 """Rows of cases through the C library:   rows_test.py librncv.so
 
-For each row of crates/rncv_run_cases the library answers what the program does, which the gate compares with crates/rncv_run_cases/stdout; documents
-are fed whole, and then in pieces of 4,096 bytes and of one, or of 97 where they are long. The library does not tell the name of a file that was not handed in, so that it is looked
-for here among the mentions.
+For each row of crates/rncv_run_cases the library answers what the program does. The gate compares the program with crates/rncv_run_cases/stdout.
+Documents are fed whole, and then in pieces of 4,096 bytes and of one byte, or of 97 if they are long. The library does not report the name of a file
+that was not handed in. So this program looks for that name among the mentions.
 """
 
 import ctypes
@@ -25,7 +25,7 @@ def rows(name):
 
 
 def joined(fields):
-    """Pieces, each followed by how often it stands there; the last number may be left out."""
+    """Pieces, each followed by how often it is there. The last number may be left out."""
     return b"".join(piece * int(times or 1) for piece, times in zip(fields[::2], [*fields[1::2], b"1"]))
 
 
@@ -33,7 +33,7 @@ MENTION = re.compile(rb"""\b(?:include|external)\s+(?:"([^"\n]*)"|'([^'\n]*)')""
 
 
 def first_missing(files):
-    """The first name in load order that is not handed in, as far as plain mentions tell."""
+    """The first name in load order that is not handed in, as far as plain mentions show."""
     handed_in = dict(reversed(files))
     names = [files[0][0]]
     for name in names:
@@ -44,7 +44,7 @@ def first_missing(files):
 
 
 class Program:
-    """What the program answers, by the library."""
+    """The answers of the program, by the library."""
 
     def __init__(self, path):
         self.lib = library(path)

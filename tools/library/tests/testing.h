@@ -35,7 +35,7 @@ static inline int32_t feed(rncv_schema *schema, const char *text) {
     return rncv_document_feed(schema, (const uint8_t *)text, strlen(text));
 }
 
-/* Whether a slow test is to do less, as under valgrind. */
+/* Whether a slow test should do less, as under valgrind. */
 static inline int is_quick(void) {
     return getenv("RNCV_QUICK") != NULL;
 }

@@ -1,4 +1,4 @@
-/* Four threads, each with a handle of its own on one schema. */
+/* Four threads, each with its own handle on one schema. */
 #include "testing.h"
 
 #include <pthread.h>
@@ -14,7 +14,7 @@ struct work {
 
 static void *judge_many(void *given) {
     struct work *work = given;
-    int count = is_quick() ? 50 : 2000;
+    int count = is_quick() ? 50 : 2500;
 
     for (int i = 0; i < count; i++) {
         int is_good = (i + work->number) % 2 == 0;

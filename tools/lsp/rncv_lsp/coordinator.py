@@ -1,4 +1,4 @@
-"""Judges what has changed: schemas in one thread, each XML document in a job. It goes over all that is open each time; what did not change is known."""
+"""Judges what has changed: schemas in one thread, each XML document in a job. It looks at all open documents each time, and keeps known results."""
 from __future__ import annotations
 
 import dataclasses
@@ -20,13 +20,13 @@ from rncv_lsp.xml_judging import judged, well_formed
 from rncv_lsp.xml_model import Named, schema_named
 from rncv_lsp.xml_source import GivenUp
 
-# How long the server waits for more messages before it judges, and how often it looks whether files that it used have changed.
+# How long the server waits for more messages before it judges, and how often it checks whether the files that it used have changed.
 SETTLE_SECONDS, MOST_SETTLE_SECONDS, POLL_SECONDS = 0.03, 0.3, 1.0
 
 
 @dataclasses.dataclass(frozen=True)
 class Task:
-    """An XML document to judge: by a schema, or only whether it is well formed. `findings` are those of how it names its schema."""
+    """An XML document to judge: by a schema, or only whether it is well formed. `findings` are about how the document names its schema."""
 
     document: Document
     outcome: Optional[Outcome] = None
@@ -34,7 +34,7 @@ class Task:
     clauses_url: str = ""
 
     def is_like(self, other: Optional["Task"]) -> bool:
-        """Whether the other one has the same answer."""
+        """Whether the other task has the same answer."""
         if other is None or self.document is not other.document or self.outcome is not other.outcome:
             return False
         return self.findings == other.findings and self.clauses_url == other.clauses_url
@@ -60,7 +60,7 @@ class Coordinator:
         start_thread(self._work, "coordinator")
 
     def touch(self) -> None:
-        """Says that something has changed."""
+        """Records that something has changed."""
         with self._changed:
             self._is_dirty = True
             self._changed.notify()
@@ -71,7 +71,7 @@ class Coordinator:
             self._wait()
             try:
                 self._go_over()
-            except Exception as error:  # whatever it is, the server goes on
+            except Exception as error:  # whatever happens, the server continues
                 self._connection.log(1, told(error))
 
     def _wait(self) -> None:
@@ -88,7 +88,7 @@ class Coordinator:
             self._is_dirty = False
 
     def _go_over(self) -> None:
-        """Judges what is open as it is now."""
+        """Judges the open documents as they are now."""
         documents = self._documents.snapshot()
         view = FileView(documents, self._disk)
         named = {document.uri: self._named(document) for document in documents if not document.is_schema}
@@ -110,24 +110,24 @@ class Coordinator:
         self._forget(documents, named, outcomes, view)
 
     def _named(self, document: Document) -> Optional[Named]:
-        """The schema of a document, which is XML or one that the settings take for it."""
+        """The schema of a document, if it is XML or the settings give it a schema."""
         by_rule = document.path is not None and schema_by_rule(self.settings, document.path, self.roots) is not None
         return schema_named(document, self.settings, self.roots) if by_rule or document.is_xml else None
 
     def _outcome(self, schema: SchemaSet) -> Outcome:
-        """What becomes of a schema; nothing is known of it where there is no library or no memory."""
+        """The result of compiling a schema; an empty result if there is no library or no memory."""
         try:
             return self._schemas.outcome(schema)
         except rncv.LibraryError as error:
             if not self._is_told:
-                self._connection.notify("window/showMessage", {"type": 1, "message": f"rncv-lsp: no schema is read: {error}"})
+                self._connection.notify("window/showMessage", {"type": 1, "message": f"rncv-lsp: cannot read schemas: {error}"})
             self._is_told = True
         except MemoryError as error:
             self._connection.log(1, told(error))
         return Outcome("")
 
     def _publish_schemas(self, schemas: List[Tuple[SchemaSet, Outcome]], documents: List[Document]) -> None:
-        """Publishes what is found in the files of schemas. A file that is open gets a list, also an empty one."""
+        """Publishes what is found in the files of schemas. An open file always gets a list, even an empty one."""
         found: Dict[str, Dict[str, List[Dict[str, Any]]]] = {}
         for schema, outcome in schemas:
             each = {file.document.uri: [] for file in schema.files.values() if file.document}  # type: Dict[str, List[Dict[str, Any]]]
@@ -141,14 +141,14 @@ class Coordinator:
         return diagnostic(lines, finding, self._documents.encoding, self.settings.clauses_url)
 
     def _put(self, task: Task) -> None:
-        """Has a document judged, unless that was done before."""
+        """Starts to judge a document, unless that was done for an equal task."""
         uri = task.document.uri
         if not task.is_like(self._tasks.get(uri)):
             self._tasks[uri] = task
             self._jobs.put(uri, lambda: self._judge(task))
 
     def _judge(self, task: Task) -> None:
-        """Judges a document, in a thread of its own."""
+        """Judges a document, in a thread of the jobs."""
         document = task.document
 
         def is_cancelled() -> bool:
@@ -166,7 +166,7 @@ class Coordinator:
         self._publisher.set_one(f"xml:{document.uri}", document.uri, told_of, lambda: None if is_cancelled() else document.version)
 
     def _validator(self, uri: str, outcome: Outcome) -> rncv.Validator:
-        """The validator of a document, which is kept while its schema stays the same."""
+        """The validator of a document. It is kept while the document's schema stays the same."""
         known = self._validators.get(uri)
         if known is None or known[0] != outcome.name:
             known = outcome.name, outcome.validator.share()
@@ -174,7 +174,7 @@ class Coordinator:
         return known[1]
 
     def _forget(self, documents: List[Document], named: Dict[str, Optional[Named]], outcomes: Dict[str, Outcome], view: FileView) -> None:
-        """Forgets what belongs to documents that are closed, and to schemas that nobody has."""
+        """Forgets what belongs to closed documents, and to schemas that are not used."""
         uris = {document.uri for document in documents if named.get(document.uri) is not None or (document.uri in named and document.is_xml)}
         for uri in [uri for uri in self._tasks if uri not in uris]:
             del self._tasks[uri]
@@ -186,12 +186,12 @@ class Coordinator:
 
 
 def uri_of_file(file: SchemaFile) -> str:
-    """The URI under which a file's diagnostics are sent: that of the client, if it is open."""
+    """The URI under which a file's diagnostics are sent: the client's URI, if the file is open."""
     return file.document.uri if file.document else uri_of(file.path)
 
 
 def task_of(document: Document, named: Optional[Named], schema: Optional[SchemaSet], outcomes: Dict[str, Outcome]) -> Task:
-    """What is to be done with a document."""
+    """The task for a document."""
     if named is None:
         return Task(document)
     if named.path is None:

@@ -19,7 +19,7 @@ XML_BEGINS = re.compile("\ufeff?<\\?xml[ \t\r\n]")
 
 
 def path_of(uri: str) -> Optional[str]:
-    """The path of a file's URI; none for another URI."""
+    """The path of a file's URI; None for another URI."""
     try:
         parts = urllib.parse.urlsplit(uri)
         path = os.fsdecode(urllib.parse.unquote_to_bytes(parts.path))
@@ -36,7 +36,7 @@ def uri_of(path: str) -> str:
 
 @dataclasses.dataclass(frozen=True)
 class Document:
-    """A document as it is open in the client. `key` tells files apart: the path without links, or the URI of what is no file."""
+    """A document as it is open in the client. `key` identifies it: the path with links resolved, or the URI if it is not a file."""
 
     uri: str
     path: Optional[str]
@@ -78,7 +78,7 @@ def new_document(item: Any) -> Document:
 
 
 def version_in(item: Any, otherwise: int) -> int:
-    """The version that a client says, if it says one."""
+    """The version that a client sends; `otherwise` if it sends none."""
     found = item.get("version")
     return found if isinstance(found, int) else otherwise
 
@@ -92,13 +92,13 @@ class Documents:
         self._open: Dict[str, Document] = {}
 
     def open(self, document: Document) -> None:
-        """Takes a document that is opened."""
+        """Adds a document that the client has opened."""
         with self._lock:
             self._open.pop(document.uri, None)
             self._open[document.uri] = document
 
     def change(self, item: Any, changes: List[Any]) -> None:
-        """Changes a document. Nothing is changed if one of the changes is no good."""
+        """Changes a document. If one of the changes is bad, nothing is changed."""
         uri = member(item, "uri", str)
         document = self.current(uri)
         if document is None:
@@ -111,7 +111,7 @@ class Documents:
             self._open[uri] = dataclasses.replace(document, version=version_in(item, document.version), text=text)
 
     def close(self, uri: str) -> None:
-        """Lets go of a document."""
+        """Removes a document."""
         with self._lock:
             self._open.pop(uri, None)
 
@@ -131,7 +131,7 @@ class Documents:
 
 
 def checked(change: Any) -> Any:
-    """A change, once its range is known to be a good one."""
+    """Returns the change, or raises RpcFault if its range is bad."""
     for end in ("start", "end"):
         place = member(member(change, "range", dict), end, dict)
         member(place, "line", int)

@@ -1,4 +1,4 @@
-"""What is found in a text, and how the protocol says it."""
+"""What is found in a text, and its form in the protocol."""
 from __future__ import annotations
 
 import dataclasses
@@ -12,7 +12,7 @@ ERROR, WARNING, INFORMATION = 1, 2, 3
 
 @dataclasses.dataclass(frozen=True)
 class Finding:
-    """Something between two offsets of a text. `code` is a clause, as S6, or a word; `title` is the title of the clause."""
+    """A finding between two offsets of a text. `code` is a clause, such as S6, or a word. `title` is the title of the clause."""
 
     start: int
     end: int
@@ -28,7 +28,7 @@ def first_line(lines: Text) -> "tuple[int, int]":
 
 
 def slug(heading: str) -> str:
-    """The name that a heading of a page in Markdown has in its address."""
+    """The name of a Markdown heading in an address."""
     return re.sub(r"[^\w\- ]", "", heading.lower()).replace(" ", "-")
 
 

@@ -1,4 +1,4 @@
-"""Messages on a stream of bytes: a header with `Content-Length`, an empty line, and so many bytes."""
+"""Messages on a stream of bytes: a header with `Content-Length`, an empty line, and as many bytes as it says."""
 from __future__ import annotations
 
 from typing import BinaryIO, Optional
@@ -9,11 +9,11 @@ PIECE_BYTES = 1_048_576
 
 
 class FramingFault(Exception):
-    """What was read is no message. The stream can be read on."""
+    """What was read is not a message. The stream can still be read."""
 
 
 def read_message(source: BinaryIO) -> Optional[bytes]:
-    """The bytes of the next message, or none at the end of the stream. Lines that are no header, and empty lines before it, are passed over."""
+    """The bytes of the next message, or None at the end of the stream. Skips lines that are not part of a header, and empty lines before it."""
     length: Optional[int] = None
     is_begun = False
     while line := source.readline(HEADER_BYTES):
@@ -29,18 +29,18 @@ def read_message(source: BinaryIO) -> Optional[bytes]:
 
 
 def length_in(words: bytes, before: Optional[int]) -> Optional[int]:
-    """The length that a line of the header says, else the one from before."""
+    """The length in a line of the header; `before` if the line has none."""
     name, _, value = words.partition(b":")
     if name.strip().lower() != b"content-length":
         return before
     number = value.strip()
     if not number.isdigit() or len(number) > 18:
-        raise FramingFault("a Content-Length that is no number")
+        raise FramingFault("a Content-Length that is not a number")
     return int(number)
 
 
 def body(source: BinaryIO, length: int) -> Optional[bytes]:
-    """The bytes of a message; none where the stream ends before. What is longer than any message is read and dropped."""
+    """The bytes of a message; None if the stream ends too early. A message that is too long is read and dropped."""
     if length > MESSAGE_BYTES:
         while length > 0 and (piece := source.read(min(length, PIECE_BYTES))):
             length -= len(piece)

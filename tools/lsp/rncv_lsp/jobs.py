@@ -1,4 +1,4 @@
-"""Threads that judge documents. Of each document only the last job counts."""
+"""Threads that judge documents. Only the last job for each document counts."""
 from __future__ import annotations
 
 import threading
@@ -19,7 +19,7 @@ def start_thread(action: Job, name: str) -> None:
 
 
 class Jobs:
-    """Runs jobs, at most one for each name at a time, and those that wait in their order."""
+    """Runs jobs: at most one for each name at a time, and waiting jobs in their order."""
 
     def __init__(self, tell: Callable[[BaseException], None]) -> None:
         self._tell = tell
@@ -29,7 +29,7 @@ class Jobs:
         self._threads = 0
 
     def put(self, name: str, job: Job) -> None:
-        """Takes a job; one of the same name that still waits is dropped."""
+        """Takes a job, and drops a job of the same name that still waits."""
         with self._changed:
             self._waiting[name] = job
             self._changed.notify()
@@ -49,12 +49,12 @@ class Jobs:
                 self._changed.wait()
 
     def _work(self) -> None:
-        """Runs one job after the other."""
+        """Runs one job after another."""
         while True:
             name, job = self._next()
             try:
                 job()
-            except Exception as error:  # whatever it is, the thread goes on
+            except Exception as error:  # whatever happens, the thread continues
                 self._tell(error)
             with self._changed:
                 self._running.discard(name)

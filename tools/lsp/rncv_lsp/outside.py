@@ -1,4 +1,4 @@
-"""What the server takes from other folders of the repository: the package `rncv`, tokens of the compact syntax, and the converter of XML."""
+"""What the server imports from other folders of the repository: the package `rncv`, tokens of the compact syntax, and the converter of XML."""
 import pathlib
 import sys
 

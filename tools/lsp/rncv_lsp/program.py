@@ -1,4 +1,4 @@
-"""The program `rncv-lsp`: its words, its streams and its end."""
+"""The program `rncv-lsp`: its arguments, its streams and its end."""
 from __future__ import annotations
 
 import argparse
@@ -7,12 +7,13 @@ import sys
 
 from rncv_lsp import __version__
 
-DESCRIPTION = """A language server for RELAX NG schemas in the compact syntax, and for XML documents that have one. It speaks the Language Server Protocol on its
-standard streams, and reads no file but schemas. The variable RNCV_LIBRARY names the library. docs/EDITORS.md says how to set up editors."""
+DESCRIPTION = """A language server for RELAX NG schemas in the compact syntax, and for XML documents that have such a schema. It uses the Language Server
+Protocol on its standard streams, and reads no files except schemas. The variable RNCV_LIBRARY names the library. docs/EDITORS.md says how to set up
+editors."""
 
 
 def failed(why: str) -> int:
-    """Tells why the server ends, where there is a standard error, and answers the exit status."""
+    """Prints why the server ends, if there is a standard error, and returns the exit status."""
     if sys.stderr is not None:
         try:
             print(f"rncv-lsp: {why}", file=sys.stderr, flush=True)
@@ -25,17 +26,17 @@ def main() -> None:
     """Runs the server, and ends the process with its status."""
     parser = argparse.ArgumentParser(prog="rncv-lsp", description=DESCRIPTION)
     parser.add_argument("--version", action="version", version=f"rncv-lsp {__version__}")
-    parser.add_argument("--stdio", action="store_true", help="speak on the standard streams, as it does anyway")
+    parser.add_argument("--stdio", action="store_true", help="use the standard streams (it always does)")
     parser.parse_args()
     try:
         from rncv_lsp.server import Server
     except ImportError as error:
-        print(f"rncv-lsp: {error}: it wants the folder `tools` around it, as in the repository", file=sys.stderr)
+        print(f"rncv-lsp: {error}: it needs the folder `tools` around it, as in the repository", file=sys.stderr)
         sys.exit(2)
     if sys.stdin is None or sys.stdout is None:
         sys.exit(failed("a standard stream is closed"))
     source, sink = sys.stdin.buffer, sys.stdout.buffer
-    # What anything else prints goes elsewhere.
+    # Other output goes to standard error.
     sys.stdout = sys.stderr
     try:
         status = Server(source, sink).run()
@@ -43,5 +44,5 @@ def main() -> None:
         status = 130
     except OSError as error:
         status = failed(f"standard input: {error.strerror}")
-    # Threads that judge are not waited for.
+    # Do not wait for the threads that judge.
     os._exit(status)

@@ -1,4 +1,4 @@
-"""Sends diagnostics: for each document what all who judge have found in it, and nothing twice."""
+"""Sends diagnostics: for each document, all that the judges have found in it, and nothing twice."""
 from __future__ import annotations
 
 import json
@@ -11,7 +11,7 @@ Diagnostics = List[Dict[str, Any]]
 
 
 class Publisher:
-    """Keeps, of each who judges, what was found in which document. It may be called from any thread."""
+    """Keeps what each judge found in which document. It may be called from any thread."""
 
     def __init__(self, connection: Connection) -> None:
         self._connection = connection
@@ -21,8 +21,8 @@ class Publisher:
         self._sent: Dict[str, Tuple[Optional[int], str]] = {}
 
     def set_all(self, prefix: str, found: Mapping[str, Dict[str, Diagnostics]], versions: Mapping[str, int]) -> None:
-        """Takes all that the judges whose names begin so have found. What these judges, and others of such a name, found before is gone. The versions
-        are those of the documents that are open; of others no version is sent."""
+        """Takes all that the judges whose names begin with the prefix have found, and forgets everything older from such judges. The versions are those of
+        the open documents. No version is sent for other documents."""
         with self._lock:
             self._versions = dict(versions)
             before = {name: each for name, each in self._found.items() if name.startswith(prefix)}
@@ -31,7 +31,7 @@ class Publisher:
             self._send(uri for each in (*before.values(), *found.values()) for uri in each)
 
     def set_one(self, name: str, uri: str, found: Diagnostics, is_wanted: Callable[[], Optional[int]]) -> None:
-        """Takes what one has found in one document, unless that is no longer wanted: `is_wanted` answers the document's version."""
+        """Takes what one judge found in one document. `is_wanted` returns the document's version, or None if the finding is no longer wanted."""
         with self._lock:
             version = is_wanted()
             if version is None:
@@ -41,14 +41,14 @@ class Publisher:
             self._send([uri])
 
     def drop(self, names: Callable[[str], bool]) -> None:
-        """Forgets what those have found whose names are such."""
+        """Forgets what the judges with such names have found."""
         with self._lock:
             gone = [name for name in self._found if names(name)]
             uris = [uri for name in gone for uri in self._found.pop(name)]
             self._send(uris)
 
     def _send(self, uris: Iterable[str]) -> None:
-        """Sends what is found in these documents, if it is something else than was sent."""
+        """Sends what is found in these documents, if it differs from what was sent."""
         for uri in dict.fromkeys(uris):
             texts: Dict[str, Any] = {}
             for each in self._found.values():

@@ -14,7 +14,7 @@ Handler = Callable[[Any], Any]
 
 
 class RpcFault(Exception):
-    """A request that is answered by an error, or a notification that is not taken."""
+    """A request that gets an error as its answer, or a notification that is not accepted."""
 
     def __init__(self, code: int, what: str) -> None:
         super().__init__(what)
@@ -22,15 +22,15 @@ class RpcFault(Exception):
 
 
 def member(value: Any, name: str, kind: Any) -> Any:
-    """A member of an object, of this kind."""
+    """A member of an object. Raises RpcFault if it does not have this kind."""
     found = value.get(name) if isinstance(value, dict) else None
     if not isinstance(found, kind) or isinstance(found, bool):
-        raise RpcFault(INVALID_PARAMS, f"the parameters have no good {name!r}")
+        raise RpcFault(INVALID_PARAMS, f"the parameters have no valid {name!r}")
     return found
 
 
 def error_answer(identity: Any, fault: RpcFault) -> Dict[str, Any]:
-    """The answer to a request that was not done."""
+    """The answer to a request that failed."""
     return {"jsonrpc": "2.0", "id": identity, "error": {"code": fault.code, "message": fault.what}}
 
 
@@ -39,11 +39,11 @@ def parsed(data: bytes) -> Any:
     try:
         return json.loads(data.decode("utf-8"))
     except (ValueError, RecursionError):
-        raise RpcFault(PARSE_ERROR, "the message is no JSON in UTF-8") from None
+        raise RpcFault(PARSE_ERROR, "the message is not JSON in UTF-8") from None
 
 
 class Connection:
-    """The other side: takes messages one at a time, from any thread."""
+    """The connection to the other side. It takes messages one at a time, from any thread."""
 
     def __init__(self, sink: BinaryIO) -> None:
         self._sink = sink
@@ -53,7 +53,7 @@ class Connection:
         self._is_closed = False
 
     def send(self, message: Any) -> None:
-        """Sends a message, or a list of them. Where the other side is gone it is dropped: the end of the input will tell."""
+        """Sends a message, or a list of them. Drops it if the other side is gone; the end of the input will show that."""
         data = json.dumps(message, separators=(",", ":")).encode("ascii")
         with self._lock:
             try:
@@ -74,19 +74,19 @@ class Connection:
         self.send({"jsonrpc": "2.0", "id": identity, "method": method, "params": params})
 
     def answered(self, message: Dict[str, Any]) -> None:
-        """Takes an answer of the other side."""
+        """Takes an answer from the other side."""
         identity = message.get("id")
         then = self._waiting.pop(identity, None) if isinstance(identity, int) else None
         if then is not None and "result" in message:
             then(message["result"])
 
     def log(self, kind: int, text: str) -> None:
-        """Tells the client's log: an error (1), a warning (2) or an information (3)."""
+        """Writes to the client's log: an error (1), a warning (2) or an information (3)."""
         self.notify("window/logMessage", {"type": kind, "message": f"rncv-lsp: {text}"})
 
 
 class Dispatcher:
-    """Hands each message to the handler of its method. `allow` may raise for a request, or answer False for a notification that is to be dropped."""
+    """Passes each message to the handler of its method. `allow` may raise for a request, or return False for a notification to drop."""
 
     def __init__(self, connection: Connection, allow: Callable[[str, bool], bool]) -> None:
         self._connection, self._allow = connection, allow
@@ -108,7 +108,7 @@ class Dispatcher:
             self._connection.send(answer)
 
     def _take_batch(self, values: List[Any]) -> None:
-        """Takes the messages of a batch. Those before one that ends the server are answered too."""
+        """Takes the messages of a batch. Messages before one that ends the server are answered too."""
         answers: List[Any] = []
         try:
             for value in values:
@@ -119,13 +119,13 @@ class Dispatcher:
                 self._connection.send(answers)
 
     def refuse(self, fault: RpcFault) -> None:
-        """Tells that something was no message."""
+        """Reports that something was not a message."""
         self._connection.send(error_answer(None, fault))
 
     def _answer(self, message: Any) -> Optional[Dict[str, Any]]:
-        """The answer to one message; none to a notification, or to an answer."""
+        """The answer to one message; None for a notification or an answer."""
         if not isinstance(message, dict):
-            return error_answer(None, RpcFault(INVALID_REQUEST, "the message is no object"))
+            return error_answer(None, RpcFault(INVALID_REQUEST, "the message is not an object"))
         method, identity = message.get("method"), message.get("id")
         if method is None and ("result" in message or "error" in message):
             self._guarded(lambda: self._connection.answered(message))
@@ -135,7 +135,7 @@ class Dispatcher:
             self._guarded(lambda: self._notified(method, message.get("params")))
             return None
         if not is_named or isinstance(identity, bool) or not isinstance(identity, (int, float, str, type(None))):
-            return error_answer(None, RpcFault(INVALID_REQUEST, "the message is no request"))
+            return error_answer(None, RpcFault(INVALID_REQUEST, "the message is not a request"))
         return self._requested(message)
 
     def _requested(self, message: Dict[str, Any]) -> Dict[str, Any]:
@@ -149,26 +149,26 @@ class Dispatcher:
             return {"jsonrpc": "2.0", "id": identity, "result": handler(message.get("params"))}
         except RpcFault as fault:
             return error_answer(identity, fault)
-        except Exception as error:  # whatever it is, the server goes on
+        except Exception as error:  # whatever happens, the server continues
             self._connection.log(1, told(error))
             return error_answer(identity, RpcFault(INTERNAL_ERROR, told(error)))
 
     def _notified(self, method: str, params: Any) -> None:
-        """Takes a notification; one that is not known is passed over."""
+        """Takes a notification. Ignores an unknown one."""
         handler = self.notifications.get(method)
         if self._allow(method, False) and handler is not None:
             handler(params)
 
     def _guarded(self, action: Callable[[], None]) -> None:
-        """Does what has no answer. A fault goes to the client's log."""
+        """Runs an action that has no answer. A fault goes to the client's log."""
         try:
             action()
         except RpcFault as fault:
             self._connection.log(2, fault.what)
-        except Exception as error:  # whatever it is, the server goes on
+        except Exception as error:  # whatever happens, the server continues
             self._connection.log(1, told(error))
 
 
 def told(error: BaseException) -> str:
-    """An error that the server did not expect, in one line."""
+    """One line about an error that the server did not expect."""
     return f"internal error: {type(error).__name__}: {error}"

@@ -1,4 +1,4 @@
-"""The files of a schema: those that are open in the client as they stand there, the others from the disk. Nothing is fetched."""
+"""The files of a schema: the open ones as they are in the client, the others from the disk. Nothing is fetched."""
 from __future__ import annotations
 
 import dataclasses
@@ -15,13 +15,13 @@ from rncv_lsp.texts import Text
 
 MOST_FILES = 64
 SCHEME = re.compile(r"([A-Za-z][-+.0-9A-Za-z]+):")
-# The name of the main file. No file mentions it, since XML does not have the first character.
+# The name of the main file. No file can mention it, since XML does not allow its first character.
 MAIN = "\x01main"
 
 
 @dataclasses.dataclass(frozen=True)
 class SchemaFile:
-    """A file of a schema. `key` tells files apart, `path` is where it was found, and `document` is it as it is open in the client."""
+    """A file of a schema. `key` identifies it, `path` is where it was found, and `document` is set if it is open in the client."""
 
     key: str
     path: str
@@ -30,17 +30,17 @@ class SchemaFile:
 
     @functools.cached_property
     def lines(self) -> Text:
-        """The text with its lines. What is no UTF-8 has other characters in its place."""
+        """The text with its lines. Bytes that are not UTF-8 are replaced by other characters."""
         return self.document.lines if self.document else Text(self.content.decode("utf-8", "replace"))
 
     @property
     def mentions(self) -> Tuple[Mention, ...]:
-        """What the file mentions. One that is too long is refused, and mentions nothing."""
+        """What the file mentions. A file that is too long is refused, and mentions nothing."""
         return mentions_of(self.lines.text) if len(self.content) <= FILE_BYTES else ()
 
 
 def state_of(path: str) -> Optional[Tuple[int, ...]]:
-    """What changes when a file is written; none where no file is."""
+    """A value that changes when the file is written; None if there is no file."""
     try:
         found = os.stat(path)
     except (OSError, ValueError):
@@ -49,13 +49,13 @@ def state_of(path: str) -> Optional[Tuple[int, ...]]:
 
 
 class Disk:
-    """Files as they were read, and whether they are still so."""
+    """The files that were read. A file that has changed is read again."""
 
     def __init__(self) -> None:
         self._known: Dict[str, Tuple[Tuple[int, ...], SchemaFile]] = {}
 
     def find(self, path: str) -> Optional[SchemaFile]:
-        """The file at a path; none where no file is, or where it cannot be read. One byte more than a file may have is read at most."""
+        """The file at a path; None if there is no file or it cannot be read. Reads at most one byte more than a file may have."""
         state, known = state_of(path), self._known.get(path)
         if state is None or (known is not None and known[0] == state):
             return known[1] if state and known else None
@@ -74,7 +74,7 @@ class Disk:
 
 
 class FileView:
-    """The files as they are at one moment: the open documents, and the disk. `states` has each path that was looked for, as it was before."""
+    """The files at one moment: the open documents, and the disk. `states` has the state of each path that was looked up, taken before it was read."""
 
     def __init__(self, documents: Iterable[Document], disk: Disk) -> None:
         self._open = {document.key: document for document in documents if document.path is not None}
@@ -88,7 +88,7 @@ class FileView:
             self.states[path] = state_of(path)
             try:
                 document = self._open.get(os.path.realpath(path))
-            except (OSError, ValueError):  # what is no path
+            except (OSError, ValueError):  # not a path
                 document = None
             self._looked_up[path] = opened(document, path) if document else self._disk.find(path)
         return self._looked_up[path]
@@ -101,7 +101,7 @@ def opened(document: Document, path: Optional[str] = None) -> SchemaFile:
 
 @dataclasses.dataclass(frozen=True)
 class Trouble:
-    """A mention that leads to no file, or of which it is not clear to which file it leads."""
+    """A mention that leads to no file, or that could mean two files."""
 
     file: SchemaFile
     mention: Mention
@@ -110,7 +110,7 @@ class Trouble:
 
 @dataclasses.dataclass
 class SchemaSet:
-    """The files of a schema, each under the name by which it is handed in, the main one first."""
+    """The files of a schema under the names that the library gets, the main file first."""
 
     main: SchemaFile
     files: Dict[str, SchemaFile]
@@ -124,8 +124,8 @@ class SchemaSet:
 
 
 def ways(words: str, path: str) -> Iterator[str]:
-    """Where the words of a mention may lead, beside the file that mentions them: as they stand, and as a URI. Nowhere, if they are no text, or if the
-    file would have to be fetched."""
+    """The paths to which the words of a mention may lead, relative to the file that mentions them. The words are read literally, and as a URI. There is no
+    path if they are not text, or if the file would have to be fetched."""
     if any("\ud800" <= letter <= "\udfff" for letter in words):
         return
     if SCHEME.match(words):
@@ -141,7 +141,7 @@ def ways(words: str, path: str) -> Iterator[str]:
 
 
 def collected(main: SchemaFile, view: FileView) -> SchemaSet:
-    """The files of the schema whose main file this is, in the order in which the library loads them."""
+    """The files of the schema with this main file, in the order in which the library loads them."""
     schema = SchemaSet(main, {MAIN: main})
     meant: Dict[str, Optional[SchemaFile]] = {}
     waiting, read = [main], {(os.path.dirname(main.path), main.key)}
@@ -150,7 +150,7 @@ def collected(main: SchemaFile, view: FileView) -> SchemaSet:
         for mention in file.mentions:
             found = target(schema, file, mention, view)
             if mention.words in meant and key_of(meant[mention.words]) != key_of(found):
-                what = f"{mention.words!r} is another file where another file mentions it: one name is one file"
+                what = f"{mention.words!r} means another file where another file mentions it: one name must mean one file"
                 schema.unclear.append(Trouble(file, mention, what))
                 continue
             meant[mention.words] = found
@@ -165,11 +165,11 @@ def collected(main: SchemaFile, view: FileView) -> SchemaSet:
 
 
 def target(schema: SchemaSet, file: SchemaFile, mention: Mention, view: FileView) -> Optional[SchemaFile]:
-    """The file that is mentioned. Where there is none, or there are two, the schema notes it."""
+    """The mentioned file. If there is none, or there are two, the schema records that."""
     places = list(ways(mention.words, file.path))
     found = [each for each in map(view.find, places) if each is not None]
     if not found:
-        where = f"there is no {places[-1]}" if places else "this is no file beside the schema, and nothing is fetched"
+        where = f"there is no {places[-1]}" if places else "this is not a file beside the schema, and nothing is fetched"
         schema.missing.append(Trouble(file, mention, where))
         return None
     if any(each.key != found[0].key for each in found):
@@ -178,13 +178,13 @@ def target(schema: SchemaSet, file: SchemaFile, mention: Mention, view: FileView
 
 
 def key_of(file: Optional[SchemaFile]) -> Optional[str]:
-    """What tells a file from others."""
+    """What identifies a file."""
     return None if file is None else file.key
 
 
 def main_files(candidates: List[SchemaFile], sets: Dict[str, SchemaSet], reached: Iterable[str]) -> List[SchemaFile]:
-    """Those of the open schemas that are judged as main files: which no other of them mentions, and which are in no schema that is judged anyway. Of
-    files that mention each other the one that was opened first is taken."""
+    """The open schema files that are judged as main files. No other open one mentions them, and they are in no schema that is judged anyway. If files mention
+    each other, the one that was opened first is taken."""
     covered = set(reached)
     chosen: List[SchemaFile] = []
     others = {file.key: {key for other in candidates if other.key != file.key for key in sets[other.key].keys} for file in candidates}

@@ -1,4 +1,4 @@
-"""The tokens of a schema's file: which files it mentions, which literals it has, and how far the token at a place goes."""
+"""The tokens of a schema's file: the files it mentions, its literals, and where the token at a place ends."""
 from __future__ import annotations
 
 import dataclasses
@@ -14,7 +14,7 @@ LITERAL_LENGTH = 100
 
 @dataclasses.dataclass(frozen=True)
 class Mention:
-    """An `include` or an `external`: the name that it mentions, and where the literal stands."""
+    """An `include` or an `external`: the name that it mentions, and where the literal is."""
 
     words: str
     start: int
@@ -23,7 +23,7 @@ class Mention:
 
 @functools.lru_cache(maxsize=4)
 def tokens_of(text: str) -> Tuple[Token, ...]:
-    """The tokens of a text. Where no token begins a character is passed over, so that a file that is being written keeps its mentions."""
+    """The tokens of a text. If no token begins at a character, the character is skipped, so that a file that is being edited keeps its mentions."""
     try:
         return tuple(tokens(text)[0])
     except NoToken:
@@ -31,7 +31,7 @@ def tokens_of(text: str) -> Tuple[Token, ...]:
 
 
 def loose_tokens(text: str) -> Iterator[Token]:
-    """The tokens of a text as it is written, with its escapes not replaced."""
+    """The tokens of a text as it is written: escapes are not replaced."""
     at = 0
     while at < len(text):
         found = TOKEN.match(text, at)
@@ -41,7 +41,7 @@ def loose_tokens(text: str) -> Iterator[Token]:
 
 
 def literal_at(found: Sequence[Token], index: int) -> Optional[Mention]:
-    """The literal that begins at this token, with its joined segments; or none."""
+    """The literal that begins at this token, with its joined segments, or None."""
     words, end = [], 0
     first = index
     while index < len(found) and found[index].kind == "literal":
@@ -55,7 +55,7 @@ def literal_at(found: Sequence[Token], index: int) -> Optional[Mention]:
 
 @functools.lru_cache(maxsize=128)
 def mentions_of(text: str) -> Tuple[Mention, ...]:
-    """What a file mentions, in the order of its tokens; in annotations nothing is a mention."""
+    """What a file mentions, in the order of its tokens. Annotations contain no mentions."""
     if not ("include" in text or "external" in text or "\\x" in text):
         return ()
     depth, mentions = 0, []
@@ -69,19 +69,19 @@ def mentions_of(text: str) -> Tuple[Mention, ...]:
 
 
 def literals_of(texts: Sequence[str]) -> List[str]:
-    """Literals of a schema's files, the first ones that are short: values to try."""
+    """The first short literals of a schema's files, as values to try."""
     found = dict.fromkeys(token.text for text in texts for token in tokens_of(text) if token.kind == "literal" and len(token.text) <= LITERAL_LENGTH)
     return list(found)[:MOST_LITERALS]
 
 
 def has_start(text: str) -> bool:
-    """Whether a file has a component of its own that is a start, or might have one."""
+    """Whether a file has, or might have, a start component of its own."""
     found = tokens_of(text)
     return any(token.is_keyword("start") and following.is_sign("=", "|=", "&=") for token, following in zip(found, found[1:]))
 
 
 def end_of_token(text: str, start: int) -> int:
-    """Where the token ends that begins at a place. Where none does, the place of an escape, an open literal or a character ends there."""
+    """Where the token that begins at a place ends. If no token begins there: where an escape, an unclosed literal or a character ends."""
     ends = {token.start: token.end for token in tokens_of(text)}
     escape = ESCAPE.match(text, start)
     if escape and ends.get(start, 0) < escape.end():

@@ -1,4 +1,4 @@
-"""Schemas that are compiled, kept for as long as their files stay as they are, and what is found in files that are none."""
+"""Compiled schemas, which are kept as long as their files do not change, and what is found in files that are not a schema."""
 from __future__ import annotations
 
 import dataclasses
@@ -15,7 +15,7 @@ PART_HINT = "if this file is a part of another schema, open that one too"
 
 @dataclasses.dataclass(frozen=True)
 class Outcome:
-    """What became of a schema's files: a validator, or a fault. `name` tells schemas apart, and `texts` are the files."""
+    """The result of compiling a schema's files: a validator, or a fault. `name` identifies the schema, and `texts` are the files."""
 
     name: str
     validator: Optional[rncv.Validator] = None
@@ -28,7 +28,7 @@ class Outcome:
 
 
 def name_of(schema: SchemaSet) -> str:
-    """A name of the files' names and bytes."""
+    """A name that depends on the files' names and bytes: a hash."""
     total = hashlib.sha256()
     for name, file in schema.files.items():
         for part in (name.encode("utf-8", "surrogatepass"), file.content):
@@ -37,13 +37,13 @@ def name_of(schema: SchemaSet) -> str:
 
 
 class Schemas:
-    """The schemas that were compiled. One thread uses it."""
+    """The compiled schemas. Only one thread uses an object."""
 
     def __init__(self) -> None:
         self._known: Dict[str, Outcome] = {}
 
     def outcome(self, schema: SchemaSet) -> Outcome:
-        """Compiles a schema, unless just these files were compiled before."""
+        """Compiles a schema, unless the result for exactly these files is known."""
         name = name_of(schema)
         if name not in self._known:
             self._known[name] = compiled(name, schema)
@@ -89,7 +89,7 @@ def finding_of(trouble: Trouble, code: str, title: str) -> Finding:
 
 
 def refusal(schema: SchemaSet, outcome: Outcome) -> Optional[str]:
-    """What a document that wants this schema is told of it; none where the schema is good."""
+    """The message for a document whose schema this is; None if nothing is wrong with the schema."""
     found = findings_of(schema, outcome)
     if not found:
         return None

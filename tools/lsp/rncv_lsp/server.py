@@ -1,4 +1,4 @@
-"""The language server: what it answers, and what it does when documents and settings change."""
+"""The language server: its answers, and what it does when documents and settings change."""
 from __future__ import annotations
 
 import os
@@ -44,7 +44,7 @@ class Server:
         })
 
     def run(self) -> int:
-        """Reads messages until the client says so, or is gone. The exit status: 0 where it wanted the server shut down before, else 1."""
+        """Reads messages until the client sends `exit` or is gone. Returns the exit status: 0 after a request `shutdown`, else 1."""
         try:
             while True:
                 try:
@@ -60,11 +60,11 @@ class Server:
         return 0 if self._state == "down" else 1
 
     def _allow(self, method: str, is_request: bool) -> bool:
-        """Whether a notification is taken now; a request that is not raises."""
+        """Whether a notification is accepted now. Raises RpcFault for a request that is not accepted."""
         is_ready = self._state == "ready"
         if is_request and method == "initialize":
             if self._state != "new":
-                raise RpcFault(INVALID_REQUEST, "the server was initialized before")
+                raise RpcFault(INVALID_REQUEST, "the server was already initialized")
         elif is_request and not is_ready:
             is_new = self._state == "new"
             raise RpcFault(NOT_INITIALIZED if is_new else INVALID_REQUEST, "the server is not initialized" if is_new else "the server is shut down")
@@ -90,7 +90,7 @@ class Server:
         }
 
     def _shutdown(self, params: Any) -> None:
-        """Takes no more documents."""
+        """Accepts no more documents."""
         self._state = "down"
 
     def _exit(self, params: Any) -> None:
@@ -113,7 +113,7 @@ class Server:
         self._coordinator.touch()
 
     def _configured(self, params: Any) -> None:
-        """Takes new settings. A client that sends none is asked for them, if it answers that."""
+        """Takes new settings. If the client sends none, asks for them, if the client supports that."""
         section = within(params, "settings", "rncv")
         if section is not None:
             self._set(section)
@@ -121,24 +121,24 @@ class Server:
             self._ask_settings()
 
     def _ask_settings(self) -> None:
-        """Asks the client for its settings, if it answers that."""
+        """Asks the client for its settings, if it supports that."""
         if self._asks_settings:
             self._connection.ask("workspace/configuration", {"items": [{"section": "rncv"}]}, self._settings_told)
 
     def _settings_told(self, result: Any) -> None:
-        """Takes the settings that the client answers, if it has some."""
+        """Takes the settings in the client's answer, if there are any."""
         if isinstance(result, list) and result and isinstance(result[0], dict) and result[0]:
             self._set(result[0])
 
     def _set(self, value: Any) -> None:
-        """Takes settings. What is no good of them goes to the client's log."""
+        """Takes settings. What is wrong with them goes to the client's log."""
         self._coordinator.settings, faults = settings_of(value)
         for fault in faults:
             self._connection.log(2, fault)
         self._coordinator.touch()
 
     def _folders_changed(self, params: Any) -> None:
-        """Takes the folders of the workspace."""
+        """Takes a change of the workspace's folders."""
         event = member(params, "event", dict)
         gone = set(folders_in(event.get("removed")))
         kept = [root for root in self._coordinator.roots if root not in gone]
@@ -147,7 +147,7 @@ class Server:
 
 
 def within(value: Any, *names: str) -> Any:
-    """A member of members; none where one of them is missing."""
+    """The member at this path of names; None if one is missing."""
     for name in names:
         value = value.get(name) if isinstance(value, dict) else None
     return value
@@ -161,7 +161,7 @@ def folders_in(listed: Any) -> List[str]:
 
 
 def folders_of(params: Any) -> List[str]:
-    """The paths of the folders that a client begins with."""
+    """The paths of the workspace's folders when a client starts."""
     listed = folders_in(within(params, "workspaceFolders"))
     root, path = within(params, "rootUri"), within(params, "rootPath")
     alone: Optional[str] = path_of(root) if isinstance(root, str) else path if isinstance(path, str) else None

@@ -1,4 +1,4 @@
-"""What a client sets: which schema goes with which document, and where the clauses are explained."""
+"""The settings of a client: the schemas of documents, and where the clauses are explained."""
 from __future__ import annotations
 
 import dataclasses
@@ -30,23 +30,23 @@ class Settings:
 
 
 def settings_of(value: Any) -> Tuple[Settings, List[str]]:
-    """The settings in what a client sends, and what of it was no good."""
+    """The settings that a client sends, and what is wrong with them."""
     section = value.get("rncv", value) if isinstance(value, dict) else {}
     section = section if isinstance(section, dict) else {}
     faults: List[str] = []
     listed = section.get("schemas") or []
     rules = [rule_of(each, faults) for each in listed] if isinstance(listed, list) else []
     if not isinstance(listed, list):
-        faults.append("the setting schemas is no list")
+        faults.append("the setting schemas is not a list")
     url = section.get("clausesUrl") or ""
     if not isinstance(url, str):
-        faults.append("the setting clausesUrl is no text")
+        faults.append("the setting clausesUrl is not a string")
         url = ""
     return Settings(tuple(rule for rule in rules if rule is not None), url), faults
 
 
 def rule_of(value: Any, faults: List[str]) -> Optional[SchemaRule]:
-    """A rule of the setting `schemas`; a fault is told where it is none."""
+    """A rule of the setting `schemas`. If the value is not a rule, adds a fault and returns None."""
     pattern, schema = (value.get("pattern"), value.get("schema")) if isinstance(value, dict) else (None, None)
     if isinstance(pattern, str) and isinstance(schema, str) and pattern and schema:
         return SchemaRule(pattern, schema)
@@ -65,7 +65,7 @@ def part_of_glob(found: "re.Match[str]") -> str:
     kind, words = found.lastgroup, found[0]
     if kind == "set":
         mark = "^" if words[1] in "!^" and len(words) > 3 else ""
-        # A sign that means something in a set of a regular expression stands for itself, but for the one of a range.
+        # Signs with a meaning in a set of a regular expression are escaped, except the one of a range.
         return f"[{mark}{SIGNS.sub(escaped, words[1 + len(mark):-1])}]"
     if kind == "either":
         return "(?:" + "|".join(glob(part).pattern[:-2] for part in found["either"].split(",")) + ")"
@@ -74,12 +74,12 @@ def part_of_glob(found: "re.Match[str]") -> str:
 
 
 def escaped(sign: "re.Match[str]") -> str:
-    """A sign that stands for itself."""
+    """A sign with a backslash, so that it has no special meaning."""
     return "\\" + sign[0]
 
 
 def matches(pattern: str, path: str, roots: Tuple[str, ...]) -> bool:
-    """Whether a document's path matches: the whole path, the path in a folder of the workspace, or its last part where the pattern has no slash."""
+    """Whether a document's path matches: the whole path, the path in a folder of the workspace, or its last part if the pattern has no slash."""
     names = [path, *(os.path.relpath(path, root) for root in roots if is_in(path, root))]
     names += [] if "/" in pattern else [os.path.basename(path)]
     try:
@@ -89,12 +89,12 @@ def matches(pattern: str, path: str, roots: Tuple[str, ...]) -> bool:
 
 
 def is_in(path: str, root: str) -> bool:
-    """Whether the path lies in the folder."""
+    """Whether the path is in the folder."""
     return path.startswith(root.rstrip("/") + "/")
 
 
 def schema_by_rule(settings: Settings, path: str, roots: Tuple[str, ...]) -> Optional[str]:
-    """The path of the schema that the settings give to a document, if any. It is looked for in the folder of the workspace, else beside the document."""
+    """The path of the schema that the settings give to a document, if any. It is relative to the folder of the workspace, or else to the document."""
     for rule in settings.schemas:
         if matches(rule.pattern, path, roots):
             named = path_of(rule.schema) if rule.schema.lower().startswith("file:") else rule.schema

@@ -7,7 +7,7 @@ import re
 from typing import Any, Dict, List
 
 LINE_END = re.compile("\r\n|\r|\n")
-# How many units a character takes: the widths in bytes of one unit.
+# For each encoding: the codec, and the width of one unit in bytes.
 CODECS = {"utf-8": ("utf-8", 1), "utf-16": ("utf-16-le", 2), "utf-32": ("utf-32-le", 4)}
 
 
@@ -31,13 +31,13 @@ class Text:
         return [0, *(end.end() for end in LINE_END.finditer(self.text))]
 
     def line_end(self, line: int) -> int:
-        """Where a line ends, counted from 0, before what ends it."""
+        """Where a line (counted from 0) ends, before its line end."""
         start = self.starts[line]
         limit = self.starts[line + 1] if line + 1 < len(self.starts) else len(self.text)
         return start + len(self.text[start:limit].rstrip("\r\n"))
 
     def offset(self, line: int, character: int, encoding: str) -> int:
-        """The offset of a position of the protocol. What lies behind a line is its end, what lies behind the text is the end of that."""
+        """The offset of a position of the protocol. A position after the end of a line means that end. One after the text means the end of the text."""
         if line >= len(self.starts):
             return len(self.text)
         start, end = self.starts[line], self.line_end(line)

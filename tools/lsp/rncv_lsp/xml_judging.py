@@ -1,4 +1,4 @@
-"""Judges a document by a compiled schema, or only whether it is well formed, and tells what is found in its text."""
+"""Judges a document by a compiled schema, or only whether it is well formed, and returns what is found in its text."""
 from __future__ import annotations
 
 import re
@@ -15,7 +15,7 @@ BATCH = 256
 KEPT_BYTES = 1_048_576
 MOST_NOTES = 100
 NAME = r"[^\s<>/&=\"'?!;]+"
-# What may stand at a place: an end tag, the beginning of a start tag, a reference, an instruction, a name, or any character.
+# What may be at a place: an end tag, the beginning of a start tag, a reference, an instruction, a name, or any character.
 AT_PLACE = re.compile(rf"</{NAME}\s*>?|<{NAME}|&{NAME};|<\?.*?\?>|{NAME}|[^\r\n]", re.S)
 ATTRIBUTE = re.compile(rf"""\s+({NAME})\s*=\s*(?:"[^"]*"|'[^']*')""")
 LIMITS = {
@@ -26,11 +26,11 @@ LIMITS = {
 
 
 class ClauseBroken(Exception):
-    """The document breaks a clause, P1 to P13, so that no more of it is judged."""
+    """The document breaks a clause, P1 to P13. The rest of it is not judged."""
 
 
 class Judging:
-    """One document, as it is judged. It keeps what the last lines tell of, and the first lines of the document for probes."""
+    """The judging of one document. It keeps the standings of the last lines, and the first lines of the document for probes."""
 
     def __init__(self, document: rncv.Document) -> None:
         self._document, self._trail = document, Trail()
@@ -55,12 +55,12 @@ class Judging:
             self.feed()
 
     def tell(self, place: Place, what: str) -> None:
-        """Takes a note of what is left out."""
+        """Records what is left out of the document."""
         if len(self.notes) < MOST_NOTES:
             self.notes.append((place, what))
 
     def feed(self) -> None:
-        """Hands the lines of the batch to the library."""
+        """Passes the lines of the batch to the library."""
         batch, self._batch = self._batch, []
         data = b"".join(batch)
         if self.invalid is None:
@@ -73,7 +73,7 @@ class Judging:
         self._standings = self._standings[-BATCH:]
 
     def _keep(self, batch: List[bytes], size: int) -> None:
-        """Keeps lines for probes, unless that becomes too much."""
+        """Keeps lines for probes. If they become too many, keeps none."""
         self._kept_bytes += size
         if self._kept_bytes > KEPT_BYTES:
             self.kept = None
@@ -86,7 +86,7 @@ class Judging:
             self.invalid = line, self.standing(line)
 
     def standing(self, line: int) -> Standing:
-        """What the line of this number, from 1, tells of; the last line where it is not known."""
+        """The standing of the line with this number, from 1; that of the last line if it is not known."""
         index = line - 1 - (self._count - len(self._standings))
         return self._standings[index if 0 <= index < len(self._standings) else -1]
 
@@ -113,7 +113,7 @@ def judged(document: Document, validator: rncv.Validator, literals: Literals, is
 
 
 def convert_all(document: Document, judging: Judging, found: List[Finding], is_cancelled: Cancelled) -> None:
-    """Converts a document. What is wrong with it is found at the place where the conversion ends."""
+    """Converts a document. If the conversion fails, adds a finding at the place where it ends."""
     try:
         hand_on(Source(bytes_of(document.text), is_cancelled), judging.put, judging.place, judging.tell)
     except Fault as fault:
@@ -121,7 +121,7 @@ def convert_all(document: Document, judging: Judging, found: List[Finding], is_c
 
 
 def well_formed(document: Document, is_cancelled: Cancelled) -> List[Finding]:
-    """What is found in a document that has no schema: only whether it is well formed."""
+    """What is found in a document without a schema: only whether it is well formed."""
     try:
         want_well_formed(Source(bytes_of(document.text, True), is_cancelled))
     except Fault as fault:
@@ -130,12 +130,12 @@ def well_formed(document: Document, is_cancelled: Cancelled) -> List[Finding]:
 
 
 def finding_of(document: Document, fault: Fault) -> Finding:
-    """What the converter says of a document."""
+    """The finding for a fault of the converter."""
     return Finding(*span(document, fault.place), fault.what, "malformed" if fault.is_malformed else "outside")
 
 
 def broken(document: Document, judging: Judging, verdict: rncv.Verdict) -> Finding:
-    """What the library says of a document that breaks a clause."""
+    """The finding for a document that breaks a clause."""
     standing, title = judging.standing(verdict.line), verdict.title or ""
     what = LIMITS.get(standing.kind, title) if verdict.clause == 10 else title
     return Finding(*span(document, standing.own), f"malformed P{verdict.clause}: {what}", f"P{verdict.clause}", title)
@@ -147,14 +147,14 @@ def offset(document: Document, place: Place) -> int:
 
 
 def span(document: Document, place: Place) -> Tuple[int, int]:
-    """What stands at a place: a tag's beginning, a reference, a name, or one character."""
+    """The offsets of what is at a place: a tag's beginning, a reference, a name, or one character."""
     start = offset(document, place)
     found = AT_PLACE.match(document.text, start)
     return start, found.end() if found else start
 
 
 def invalid(document: Document, standing: Standing, stands: Stands) -> Finding:
-    """What the library says of an invalid document, at what is wrong."""
+    """The finding for an invalid document, at the part that is wrong."""
     own, tag = standing.own, standing.tag
     if stands.kind == "attribute" and tag is not None:
         return Finding(*attribute_span(document, tag.begin, stands.name), f"invalid: at attribute {stands.name}", "invalid")
@@ -170,7 +170,7 @@ def invalid(document: Document, standing: Standing, stands: Stands) -> Finding:
 
 
 def attribute_span(document: Document, tag: Place, name: str) -> Tuple[int, int]:
-    """Where an attribute stands in its tag; the tag's beginning where it does not stand there."""
+    """Where an attribute is in its tag; the tag's beginning if it is not there."""
     start, at = span(document, tag)
     end = at
     while found := ATTRIBUTE.match(document.text, at):
@@ -181,7 +181,7 @@ def attribute_span(document: Document, tag: Place, name: str) -> Tuple[int, int]
 
 
 def text_span(document: Document, begin: Place, behind: Place) -> Tuple[int, int]:
-    """Where a text stands, without the blanks around it."""
+    """Where a text is, without the blanks around it."""
     start, end = offset(document, begin), offset(document, behind)
     words = document.text[start:end]
     if not words.strip():

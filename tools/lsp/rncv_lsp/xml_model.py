@@ -1,4 +1,4 @@
-"""Which schema a document names: by `<?xml-model href=".."?>` before its root, else by the settings."""
+"""Finds the schema of a document: by `<?xml-model href=".."?>` before its root, else by the settings."""
 from __future__ import annotations
 
 import dataclasses
@@ -21,7 +21,7 @@ PROLOG_BYTES = 1_048_576
 
 @dataclasses.dataclass(frozen=True)
 class Named:
-    """A schema that goes with a document, and the words of the document that name it. `path` is where it is, none if it would have to be fetched."""
+    """The schema of a document, and the place in the document that names it. `path` is None if the schema would have to be fetched."""
 
     words: str
     path: Optional[str]
@@ -48,7 +48,7 @@ def schema_named(document: Document, settings: Settings, roots: Tuple[str, ...])
 
 
 def by_instruction(document: Document, words: str, place: Place) -> Optional[Named]:
-    """The schema of an instruction `xml-model`, if that is one in the compact syntax."""
+    """The schema of an instruction `xml-model`, if it is in the compact syntax."""
     values = {found[1]: html.unescape(found[2] if found[2] is not None else found[3]) for found in ATTRIBUTE.finditer(words)}
     href = values.get("href", "")
     plain = re.split("[?#]", href)[0]
@@ -61,7 +61,7 @@ def by_instruction(document: Document, words: str, place: Place) -> Optional[Nam
 
 
 def path_beside(document: Document, href: str) -> Optional[str]:
-    """The path of a reference beside the document: as a URI, or as it stands where only that is a file."""
+    """The path of a reference, relative to the document. The reference is read as a URI, or literally if only that is a file."""
     if SCHEME.match(href):
         return path_of(href)
     if document.path is None:

@@ -1,4 +1,4 @@
-"""Which of several things at one place is the wrong one: found by judging the first lines of the document again, with changes."""
+"""Finds which of several things at one place is wrong. It judges the first lines of the document again, with changes."""
 from __future__ import annotations
 
 import itertools
@@ -13,14 +13,14 @@ Literals = Callable[[], Sequence[str]]
 
 
 class Stands(NamedTuple):
-    """What is wrong: an `element`, an `attribute`, a `text`, the `end` of an element, or nothing that is known (``). `name` is its name."""
+    """What is wrong: an `element`, an `attribute`, a `text`, the `end` of an element, or unknown (an empty kind). `name` is its name."""
 
     kind: str
     name: str = ""
 
 
 class Probes:
-    """Judges first lines of a document. `lines` are those before the line that is told; none where they were not kept."""
+    """Judges the first lines of a document. `lines` are the lines before the reported one; None if they were not kept."""
 
     def __init__(self, validator: rncv.Validator, lines: Optional[List[bytes]], literals: Literals) -> None:
         self._validator, self._lines, self._literals = validator, lines, literals
@@ -30,21 +30,21 @@ class Probes:
         """What is wrong at the line."""
         is_end, tag, text = standing.kind == b")", standing.tag, standing.text
         if tag is not None:
-            # An end tag tells of the start before it, and of the end: an instruction in its place tells of the start alone.
+            # An end tag reports the start before it, and the end. An instruction in its place reports the start alone.
             if not (is_end and self._goes_on([*self._first(), b"?x\n"])):
                 return self._in_tag(tag)
         elif text is not None:
-            # An end tag tells of the text before it, and of the end.
+            # An end tag reports the text before it, and the end.
             if not is_end or (not text.is_blank and (self._lines is None or self._has_better_text(standing.name))):
                 return Stands("text")
         return Stands("end", standing.name) if is_end else Stands("")
 
     def _first(self) -> List[bytes]:
-        """The lines that are kept."""
+        """The lines that were kept."""
         return self._lines or []
 
     def _goes_on(self, lines: List[bytes]) -> bool:
-        """Whether these lines go on to something valid. Where nothing was kept the answer is no."""
+        """Whether these lines can be continued to something valid. If nothing was kept, or no work is left, the answer is no."""
         data = b"".join(lines)
         self._left -= len(data)
         if self._lines is None or self._left < 0:
@@ -53,17 +53,17 @@ class Probes:
             return document.feed(data) and document.invalid_since() is None
 
     def _values(self) -> Iterator[bytes]:
-        """Values to try, as they stand in a line, while there is work left to be done."""
+        """Values to try, in the form of a line, while more work is allowed."""
         for value in itertools.chain(VALUES, self._more()):
             if self._left > 0:
                 yield value.replace("\\", "\\\\").replace("\n", "\\n").replace("\t", "\\t").encode("utf-8", "replace")
 
     def _more(self) -> Iterator[str]:
-        """The literals of the schema, which are looked up when they are wanted."""
+        """The literals of the schema. They are looked up only when they are needed."""
         yield from self._literals()
 
     def _has_better_text(self, name: str) -> bool:
-        """Whether the end tag is good behind another text. If it is not, something is missing before it."""
+        """Whether the end tag is good after another text. If it is not, something is missing before it."""
         before, end = without_text(self._first()), b")" + name.encode("utf-8", "replace") + b"\n"
         return any(self._goes_on([*before, b"-" + value + b"\n", end]) for value in self._values())
 
@@ -93,7 +93,7 @@ class Probes:
 
 
 def without_text(lines: List[bytes]) -> List[bytes]:
-    """The lines without the text at their end, and without the instructions in that."""
+    """The lines without the text at their end, and without the instructions in this text."""
     end = len(lines)
     while end > 0 and lines[end - 1][:1] in (b"-", b"?"):
         end -= 1

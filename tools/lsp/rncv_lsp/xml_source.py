@@ -1,4 +1,4 @@
-"""XML documents as bytes for the parser, and what the converter makes of them. Of the converter in Python this module alone knows."""
+"""XML documents as bytes for the parser, and their conversion. Only this module uses the converter in Python."""
 from __future__ import annotations
 
 import io
@@ -17,11 +17,11 @@ Cancelled = Callable[[], bool]
 
 
 class GivenUp(Exception):
-    """The document is judged no more, since it has changed."""
+    """The judging stops, since the document has changed."""
 
 
 class Fault(Exception):
-    """What is wrong with a document, with the line and the column from 1. `is_malformed` tells XML that is not well formed from what is not read."""
+    """What is wrong with a document, with the line and the column from 1. `is_malformed`: the XML is not well formed; else it is outside the profile."""
 
     def __init__(self, place: Place, what: str, is_malformed: bool) -> None:
         super().__init__(what)
@@ -29,7 +29,7 @@ class Fault(Exception):
 
 
 class Source(io.RawIOBase):
-    """The bytes of a document, which end where the document has changed meanwhile."""
+    """The bytes of a document. Reading raises GivenUp once the document has changed."""
 
     def __init__(self, data: bytes, is_cancelled: Cancelled) -> None:
         super().__init__()
@@ -45,8 +45,8 @@ class Source(io.RawIOBase):
 
 
 def bytes_of(text: str, is_any: bool = False) -> bytes:
-    """A document's text in UTF-8. An encoding that it declares is that of the file on the disk, so blanks stand in its place; for one that is not served
-    only if any is taken."""
+    """A document's text in UTF-8. A declared encoding is about the file on the disk, so it is replaced by blanks. An encoding that is not served is
+    replaced only if `is_any`."""
     found = DECLARED.match(text, len(MARK) if text.startswith(MARK) else 0)
     if found and (is_any or is_served(found[2] or found[3] or "")):
         text = text[:found.start(1)] + " " * len(found[1]) + text[found.end(1):]
@@ -54,13 +54,13 @@ def bytes_of(text: str, is_any: bool = False) -> bytes:
 
 
 def offset_of(text: str, place: Place, at: Callable[[int, int], int]) -> int:
-    """The offset in the text of a line and a column of its bytes: a byte order mark is no column."""
+    """The offset in the text of a line and a column of its bytes. A byte order mark is not a column."""
     line, column = place
     return at(line, column + (1 if line == 1 and text.startswith(MARK) else 0))
 
 
 def hand_on(source: Source, put: Callable[[bytes], None], place: Callable[[Place], None], tell: Callable[[Place, str], None]) -> None:
-    """Hands on the lines of PYX of a document, after each its place, and what is left out of the document. Raises Fault where it cannot go on."""
+    """Passes on a document's lines of PYX, the place of each line after it, and what is left out. Raises Fault where it cannot continue."""
     try:
         convert(source, put, lambda own, told: place(own), lambda line, column, what: tell((line, column), what))
     except Malformed as fault:
@@ -85,17 +85,17 @@ class Begun(Exception):
 
 
 def instructions(data: bytes, take: Callable[[str, str, Place], None]) -> None:
-    """Hands on the target, the text and the place of each instruction before the root, but for those of the document type."""
+    """Passes on the target, the text and the place of each instruction before the root, except those in the document type."""
     parser = xml.parsers.expat.ParserCreate()
     types = []
 
     def instruction(target: str, words: str) -> None:
-        """Hands on an instruction, outside the document type."""
+        """Passes on an instruction outside the document type."""
         if len(types) % 2 == 0:
             take(target, words, (parser.CurrentLineNumber, parser.CurrentColumnNumber + 1))
 
     def start(name: str, attributes: object) -> None:
-        """Ends the reading."""
+        """Stops the parser at the root."""
         raise Begun
 
     parser.ProcessingInstructionHandler = instruction
@@ -109,6 +109,6 @@ def instructions(data: bytes, take: Callable[[str, str, Place], None]) -> None:
 
 
 def clean(text: Optional[str], limit: int = 40) -> str:
-    """A text to show: on one line, and not long."""
+    """A text for messages: on one line, and not long."""
     shown = "".join(letter if letter.isprintable() else repr(letter)[1:-1] for letter in (text or "")[:limit])
     return shown + (".." if text and len(text) > limit else "")

@@ -1,4 +1,4 @@
-"""What a line of PYX tells of. The library tells an element's start at the first line behind its tag, and a text at the next start or end tag."""
+"""What a line of PYX reports. The library reports an element's start at the first line after its tag, and a text at the next start or end tag."""
 from __future__ import annotations
 
 from typing import NamedTuple, Optional
@@ -37,14 +37,14 @@ def is_blank(line: bytes) -> bool:
 
 
 class Trail:
-    """Goes over the lines of a document in their order."""
+    """Takes the lines of a document in their order."""
 
     def __init__(self) -> None:
         self._tag: Optional[Tag] = None
         self._text: Optional[Run] = None
 
     def take(self, line: bytes, own: Place) -> Standing:
-        """What the next line tells of."""
+        """The standing of the next line."""
         kind, text = line[:1], self._text
         name = line[1:-1].partition(b" ")[0].decode("utf-8", "replace") if kind in b"(A)" else ""
         standing = Standing(kind, own, name, self._tag, text)

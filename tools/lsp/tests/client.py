@@ -1,4 +1,4 @@
-"""A scripted client: it starts the server as a process, and speaks with it on its standard streams."""
+"""A scripted client: it starts the server as a process, and uses its standard streams."""
 from __future__ import annotations
 
 import json
@@ -20,7 +20,7 @@ SCHEMA = "start = element list { element item { attribute at { xsd:integer }, te
 
 
 def framed(message: Any) -> bytes:
-    """The bytes of a message, which may be text that is no JSON."""
+    """The bytes of a message. A text is sent as it is, even if it is not JSON."""
     data = (message if isinstance(message, str) else json.dumps(message)).encode("utf-8")
     return b"Content-Length: %d\r\n\r\n" % len(data) + data
 
@@ -63,7 +63,7 @@ class Client:
         self.write(framed({"jsonrpc": "2.0", "method": method, "params": params}))
 
     def take(self, limit: float = SECONDS) -> Any:
-        """Takes a message of the server: diagnostics are kept, requests are answered."""
+        """Takes a message from the server, keeps diagnostics, and answers requests."""
         try:
             message = self._messages.get(timeout=limit)
         except queue.Empty:
@@ -87,11 +87,11 @@ class Client:
         return self.answer(self._next)
 
     def answer(self, identity: Any) -> Dict[str, Any]:
-        """Waits for the answer of this identity."""
+        """Waits for the answer with this identity."""
         return self.until(lambda message: isinstance(message, dict) and "method" not in message and message.get("id") == identity)
 
     def until(self, is_it: Callable[[Any], bool]) -> Any:
-        """Waits for a message that is such."""
+        """Waits for a message that satisfies `is_it`."""
         limit = time.monotonic() + SECONDS
         while time.monotonic() < limit:
             message = self.take()
@@ -100,7 +100,7 @@ class Client:
         raise AssertionError(f"no such message; diagnostics: {self.diagnostics}")
 
     def initialize(self, options: Any = None, folder: Optional[pathlib.Path] = None, **capabilities: Any) -> Dict[str, Any]:
-        """Begins, and answers what the server says of itself."""
+        """Initializes the server, and returns its result."""
         params = {"processId": None, "rootUri": folder.as_uri() if folder else None, "capabilities": capabilities, "initializationOptions": options}
         result = self.request("initialize", params)["result"]
         self.notify("initialized")
@@ -122,7 +122,7 @@ class Client:
         self.notify("textDocument/didClose", textDocument={"uri": uri})
 
     def found(self, uri: str, version: Optional[int] = 1) -> List[Dict[str, Any]]:
-        """Waits for what is found in a document of this version."""
+        """Waits for the diagnostics of a document in this version."""
         while uri not in self.versions or self.versions[uri] != version:
             self.take()
         return self.diagnostics[uri]
@@ -137,13 +137,13 @@ class Client:
         return self.diagnostics[uri]
 
     def stop(self) -> int:
-        """Ends the server as a client should, and answers its status."""
+        """Ends the server as a client should, and returns its status."""
         self.request("shutdown")
         self.notify("exit")
         return self.ended()
 
     def ended(self) -> int:
-        """Waits for the server's end, and answers its status."""
+        """Waits for the server's end, and returns its status."""
         return self.process.wait(timeout=SECONDS)
 
     def kill(self) -> None:
@@ -169,7 +169,7 @@ def span(told: Dict[str, Any]) -> "tuple[int, int, int, int]":
 
 
 class WithServer(unittest.TestCase):
-    """A server that was initialized, and a fresh folder. Where `SHARED` is set the tests of a class have one server, one after the other."""
+    """An initialized server, and a fresh folder. If `SHARED` is set, all tests of a class use one server, one after another."""
 
     OPTIONS: Any = None
     CAPABILITIES: Dict[str, Any] = {}
@@ -211,7 +211,7 @@ class WithServer(unittest.TestCase):
         return (self.folder / name).as_uri()
 
     def write(self, name: str, text: str) -> str:
-        """Writes a file, and answers its URI."""
+        """Writes a file, and returns its URI."""
         path = self.folder / name
         path.parent.mkdir(parents=True, exist_ok=True)
         path.write_bytes(text.encode("utf-8"))

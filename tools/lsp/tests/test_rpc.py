@@ -1,4 +1,4 @@
-"""Tests of messages: how they are framed, what is answered, and how the server ends."""
+"""Tests of messages: their framing, the answers, and the end of the server."""
 import json
 import shutil
 import subprocess
@@ -10,7 +10,7 @@ from client import SCHEMA, SERVER, WithServer, framed
 
 
 class Ends(WithServer):
-    """The words of the program, and its statuses."""
+    """The arguments of the program, and its exit statuses."""
 
     def test_words(self):
         for words, status, shown in ((["--help"], 0, "RNCV_LIBRARY"), (["--version"], 0, "rncv-lsp 0."), (["--other"], 2, "")):
@@ -83,12 +83,12 @@ class NotInitialized(WithServer):
 
 
 class Messages(WithServer):
-    """Messages that are odd, or none."""
+    """Odd messages, and bytes that are not messages."""
 
     SHARED = True
 
     def error(self, data):
-        """The code of the error without an identity that some bytes are answered by."""
+        """Sends bytes, and returns the code of the error answer without an identity."""
         self.client.write(data)
         answer = self.client.answer(None)
         return answer["error"]["code"]

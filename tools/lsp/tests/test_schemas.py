@@ -11,12 +11,12 @@ S6 = "S6: the tokens are a sentence of the grammar (CS 2)"
 
 
 class Places(WithServer):
-    """Where a fault is told."""
+    """Where a fault is reported."""
 
     SHARED = True
 
     def one(self, text, name="s.rnc"):
-        """The only thing that is found in a schema."""
+        """The only finding in a schema."""
         uri = self.uri(name)
         self.client.versions.pop(uri, None)
         self.client.open(uri, text)
@@ -198,7 +198,7 @@ class Files(WithServer):
         self.write("d/d.rnc", 'include "c.rnc"')
         self.client.change(main, 3, 'start = c | d\ninclude "c.rnc" include "d/d.rnc"')
         self.client.found(main, 3)
-        self.assertIn("one name is one file", self.client.codes(self.uri("d/d.rnc"), ["files"])[0]["message"])
+        self.assertIn("one name must mean one file", self.client.codes(self.uri("d/d.rnc"), ["files"])[0]["message"])
         self.client.change(main, 4, 'start = c | d\ninclude "./c.rnc" include "d/d.rnc"')
         self.assertEqual(self.client.found(main, 4), [])
         self.client.codes(self.uri("d/d.rnc"), [])

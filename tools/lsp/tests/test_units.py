@@ -1,4 +1,4 @@
-"""Tests of parts of the server by themselves."""
+"""Tests of single parts of the server."""
 import io
 import json
 import queue
@@ -72,7 +72,7 @@ class Units(unittest.TestCase):
 
 
 class Verdicts(unittest.TestCase):
-    """What is found in a document is what the library says of the same lines."""
+    """The findings in a document agree with the library's verdict on the same lines."""
 
     SCHEMA = b"""start = element a { attribute x { xsd:integer }?, (element b { attribute y { "1" | "2" }?, xsd:integer }
                  | element c { (element b { text })*, text })*, element d { empty }? }"""
@@ -119,7 +119,7 @@ class Broken:
 
 
 class Faults(unittest.TestCase):
-    """What goes wrong in the server is told, and it goes on."""
+    """The server reports its own errors, and continues."""
 
     def setUp(self):
         self.sink = io.BytesIO()

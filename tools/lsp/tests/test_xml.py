@@ -20,7 +20,7 @@ class Documents(WithServer):
         self.count = 0
 
     def found(self, text, name="a.xml"):
-        """What is found in a document: the codes with the ranges and the messages."""
+        """The findings in a document: the codes, ranges and messages."""
         self.count += 1
         uri = self.uri(name)
         if uri in self.client.versions:
@@ -30,7 +30,7 @@ class Documents(WithServer):
         return [(told["code"], span(told), told["message"]) for told in self.client.found(uri, self.count)]
 
     def one(self, text, name="a.xml"):
-        """The only thing that is found in a document."""
+        """The only finding in a document."""
         found = self.found(MODEL + text, name)
         self.assertEqual(len(found), 1, found)
         return found[0]

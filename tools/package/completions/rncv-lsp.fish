@@ -1,5 +1,5 @@
 # Completion for fish: rncv-lsp.
 complete -c rncv-lsp -f
-complete -c rncv-lsp -l stdio -d 'Speak on the standard streams, as it does anyway'
+complete -c rncv-lsp -l stdio -d 'Use the standard streams (it always does)'
 complete -c rncv-lsp -s h -l help -d 'A summary'
 complete -c rncv-lsp -l version -d 'The version'

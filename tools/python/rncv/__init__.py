@@ -5,15 +5,15 @@
     with rncv.compile("examples/letter/s.rnc") as validator, open("examples/letter/document.pyx", "rb") as document:
         print(validator.validate(document))
 
-A schema is a set of files in the RELAX NG Compact Syntax. A document is in PYX, one event a line (docs/XML.md says how to make it of XML). A schema is
-compiled once, and then judges documents, one after the other.
+A schema is a set of files in the RELAX NG Compact Syntax. A document is in PYX, one event a line (docs/XML.md says how to make it from XML). A schema
+is compiled once, and then judges documents, one after another.
 
-The variable RNCV_LIBRARY names the library, or a folder that has `lib/librncv.so`. Without it the module looks beside this package, in
+The variable RNCV_LIBRARY names the library, or a folder that has `lib/librncv.so`. Without it the module searches beside this package, in
 `build/library/lib` of the checkout that has this package, where `make install` put the library, and where the system keeps libraries. It loads the
 library at the first call that needs it.
 
-Threads. A validator judges one document at a time: a second one at the same time is a RuntimeError. `Validator.share` makes another validator by the
-same schema, for another thread. The library runs without the lock of the interpreter. No object of this module can be copied or pickled. After
+Threads. A validator judges one document at a time: a second one at the same time is a RuntimeError. `Validator.share` makes another validator for the
+same schema, for example for another thread. The library runs without the lock of the interpreter. No object of this module can be copied or pickled. After
 `os.fork` in a process with several threads, do not use the validators of the parent in the child.
 """
 
@@ -38,13 +38,13 @@ __version__ = "0.9.0"
 Bytes = Union[bytes, bytearray, memoryview]
 Path = Union[str, "os.PathLike[str]"]
 
-# One more than a file of a schema may have: a longer one breaks S2, and no more of it is read.
+# One more than a file of a schema may have. A longer file breaks S2, and no more of it is read.
 _FILE_BYTES = 1_048_577
-# So much is read of a file of a document at once.
+# How much is read at once from the file of a document.
 _READ_BYTES = 65_536
-# So much is handed to the library in one call. Between two calls the interpreter answers signals.
+# How much is passed to the library in one call. Between two calls the interpreter handles signals.
 _CALL_BYTES = 1_048_576
-# The first buffer for a simple form; a longer form is asked for twice.
+# The size of the first buffer for a simple form. For a longer form the library is called twice.
 _TEXT_BYTES = 65_536
 
 _DONE, _REFUSED, _MALFORMED, _MEMORY, _MISUSE, _SPACE = range(6)
@@ -53,14 +53,14 @@ _NAMES = ("librncv.so", "librncv.so.0", "librncv.dylib")
 
 
 class LibraryError(OSError):
-    """The C library was not found, or is not that of this module."""
+    """The C library was not found, or does not fit this module."""
 
 
 class SchemaError(ValueError):
     """The files are not a schema: they break a clause, S1 to S27.
 
     `clause` is its number, and `title` says in English what it requires. `file` is the name of the file that breaks it, and `index` the position of the
-    first file with this name. Both are None if the clause is not about one file, or if that file was not handed in. For S3 to S8 `offset`, in bytes
+    first file with this name. Both are None if the clause is not about one file, or if that file was not given. For S3 to S8 `offset`, in bytes
     from 0, and `line` and `column`, from 1, say where the file breaks the clause. For the other clauses these are None.
     """
 
@@ -85,7 +85,7 @@ class SchemaError(ValueError):
 
 @dataclasses.dataclass(frozen=True)
 class Verdict:
-    """The verdict on a document. It is true exactly if the document is valid, and `str` of it is the answer of the program.
+    """The verdict on a document. It is true exactly if the document is valid, and its `str` is the answer of the program.
 
     `kind` is "valid", "invalid" or "malformed". `clause` is the number of the clause P1 to P13 that a malformed document breaks, otherwise 0. `line`
     counts from 1. For an invalid document it is the line after which no continuation is valid. For a malformed one it is the line of the clause, or 0
@@ -103,7 +103,7 @@ class Verdict:
 
     @property
     def title(self) -> Optional[str]:
-        """What the clause requires, in English; None if the document breaks none."""
+        """What the broken clause requires, in English; None if the document breaks none."""
         return clause_title("P", self.clause)
 
     def __bool__(self) -> bool:
@@ -151,10 +151,10 @@ class _Verdict(ctypes.Structure):
 
 
 class Validator:
-    """A compiled schema. `rncv.compile` makes one; it judges documents one after the other.
+    """A compiled schema. `rncv.compile` makes one. It judges documents one after another.
 
-    What was worked out of the schema for one document is kept for the next ones. A `with` block closes it at its end. A validator that is no longer
-    used is freed with or without `close`. Every call on one that is closed raises ValueError.
+    What it computes from the schema for one document is kept for the next ones. A `with` block closes it at its end. A validator that is no longer used
+    is freed with or without `close`. Every call on a closed validator raises ValueError.
     """
 
     def __init__(self, handle: _Schema) -> None:
@@ -162,18 +162,18 @@ class Validator:
             raise TypeError("a validator is made by rncv.compile")
         self._library = _library()
         self._handle = handle
-        # Each call on the handle is made under this lock. A destructor or a signal may call again in the same thread, before or after such a call.
+        # Each call on the handle holds this lock. A destructor or a signal may make another call in the same thread, before or after such a call.
         self._lock = threading.RLock()
         self._document: Optional[weakref.ReferenceType[Document]] = None
         self._closed = False
         self._free = weakref.finalize(self, self._library.rncv_schema_free, handle)
-        # Not at the end of the process: a thread may then still be in a call.
+        # Do not free it at the end of the process: a thread may still be in a call.
         self._free.atexit = False
 
     def validate(self, document: Union[Bytes, BinaryIO, Iterable[Bytes]]) -> Verdict:
-        """Judges a document: bytes, a binary file, which is read from its position to its end, or pieces that come one after the other.
+        """Judges a document: bytes, a binary file, or pieces that come one after another. A file is read from its position to its end.
 
-        Once the document is malformed, no more of a file or of the pieces is read. An exception of the file or of the pieces goes to the caller, and
+        Once the document is malformed, no more of a file or of the pieces is read. An exception from the file or the pieces goes to the caller, and
         the validator can judge the next document. RuntimeError: another document is in progress. MemoryError: out of memory.
         """
         pieces = _pieces_of(document)
@@ -184,7 +184,7 @@ class Validator:
             return begun.finish()
 
     def begin(self) -> Document:
-        """Begins a document, which is then fed piece by piece.
+        """Begins a document. It is then fed piece by piece.
 
         RuntimeError: another document is in progress, that is, not finished, not closed, and still referred to. MemoryError: out of memory.
         """
@@ -199,7 +199,7 @@ class Validator:
             return document
 
     def share(self) -> Validator:
-        """Returns another validator by the same schema, for example for another thread. The schema is not copied. Close each of the two by itself.
+        """Returns another validator for the same schema, for example for another thread. The schema is not copied. Close each of the two separately.
 
         RuntimeError: a document is in progress. MemoryError: out of memory.
         """
@@ -210,7 +210,7 @@ class Validator:
             return Validator(other)
 
     def simple_text(self) -> bytes:
-        """Returns the printed simple form of the schema, which is a schema in the compact syntax itself.
+        """Returns the printed simple form of the schema. This is a schema in the compact syntax too.
 
         RuntimeError: a document is in progress. MemoryError: out of memory.
         """
@@ -251,14 +251,14 @@ class Validator:
             raise ValueError("the validator is closed")
 
     def _want_free(self) -> None:
-        """Raises an error if a document is in progress to which somebody refers."""
+        """Raises an error if a document is in progress and is still referred to."""
         self._want_open()
         if self._document is not None and self._document() is not None:
             raise RuntimeError("a document is in progress: a validator judges one at a time, and Validator.share makes another one")
         self._document = None
 
     def _let_go(self) -> None:
-        """Raises an error if a document is in progress, and drops one to which nobody refers."""
+        """Drops a document that is no longer referred to. Raises an error if another document is in progress."""
         self._want_free()
         self._library.rncv_document_end(self._handle, _Verdict())
 
@@ -266,7 +266,7 @@ class Validator:
 class Document:
     """A document in progress. `Validator.begin` makes one.
 
-    A `with` block drops it at its end. Every call on one that was finished or dropped raises ValueError.
+    A `with` block drops it at its end. Every call on a finished or dropped document raises ValueError.
     """
 
     def __init__(self, validator: Validator) -> None:
@@ -292,7 +292,7 @@ class Document:
         return line.value or None
 
     def finish(self) -> Verdict:
-        """Ends the document, and returns the verdict. The validator can judge the next one. MemoryError: memory ran out; the document has ended."""
+        """Ends the document and returns the verdict. The validator can judge the next one. MemoryError: out of memory; the document has ended."""
         told = _Verdict()
         with self._validator._lock:
             self._want_progress()
@@ -320,7 +320,7 @@ class Document:
         raise TypeError("a document is not copied or pickled")
 
     def _feed_part(self, part: bytes) -> bool:
-        """Takes bytes that are just `bytes`, in one call; returns what `feed` returns."""
+        """Passes an object of type `bytes` to the library in one call. Returns what `feed` returns."""
         with self._validator._lock:
             self._want_progress()
             status = self._validator._library.rncv_document_feed(self._validator._handle, part, len(part))
@@ -348,11 +348,11 @@ def compile(*paths: Path) -> Validator: ...
 
 
 def compile(*files: Any) -> Validator:
-    """Compiles the schema of these files, the first of which is the main one.
+    """Compiles the schema of these files. The first file is the main one.
 
     They are paths, or one mapping of names to bytes. Other files mention a file by its name, byte for byte: the path as it was given, or the name in
-    the mapping. (`pathlib` gives `./a.rnc` as `a.rnc`.) At most 1,048,577 bytes of a file are read, since a longer one is refused. Files that nest very
-    deeply in one another may need more stack than the thread has, and that ends the process: docs/LIBRARY.md has figures.
+    the mapping. (`pathlib` gives `./a.rnc` as `a.rnc`.) At most 1,048,577 bytes of a file are read, since a longer file is refused. Files that are nested
+    very deeply may need more stack than the thread has, and that ends the process: docs/LIBRARY.md has figures.
 
     SchemaError: the files break a clause. OSError: a file cannot be read. ValueError: there is no file, or a name is not UTF-8. MemoryError: out of
     memory. LibraryError: there is no library.
@@ -364,7 +364,7 @@ def compile(*files: Any) -> Validator:
         pairs = [(_name_of(path), _beginning_of(path)) for path in files]
     if not pairs:
         raise ValueError("a schema has at least one file")
-    # The array below points into these.
+    # The array below points into these objects.
     kept = [(_utf8_of(name), text) for name, text in pairs]
     given = (_File * len(kept))(*[_File(name, len(name), text, len(text)) for name, text in kept])
     handle, fault = _Schema(), _Fault()
@@ -396,7 +396,7 @@ def _want_done(status: int) -> None:
     if status == _MEMORY:
         raise MemoryError("rncv: out of memory")
     if status != _DONE:
-        raise RuntimeError(f"rncv: a call of the library answered {status}")
+        raise RuntimeError(f"rncv: a call of the library returned {status}")
 
 
 def _name_of(path: Any) -> str:
@@ -407,7 +407,7 @@ def _name_of(path: Any) -> str:
 
 
 def _beginning_of(path: Any) -> bytes:
-    """As much of the file as is read of one."""
+    """The beginning of the file: as much as is ever read."""
     with open(path, "rb") as file:
         return file.read(_FILE_BYTES)
 
@@ -422,7 +422,7 @@ def _utf8_of(name: Any) -> bytes:
 
 
 def _whole(data: Any) -> bytes:
-    """Some bytes, copied unless they are just `bytes`."""
+    """The data as `bytes`; copied unless its type is `bytes`."""
     if type(data) is bytes:
         return data
     with memoryview(data) as view:
@@ -430,14 +430,14 @@ def _whole(data: Any) -> bytes:
 
 
 def _parts_of(data: Any) -> Generator[bytes, None, None]:
-    """The bytes in parts for one call each, copied where they might change during the call; one part where they are empty."""
+    """Copies of the bytes in parts, each for one call. There is one part if they are empty."""
     with _flat(data) as view:
         for begin in range(0, max(1, len(view)), _CALL_BYTES):
             yield view[begin:begin + _CALL_BYTES].tobytes()
 
 
 def _flat(data: Any) -> memoryview:
-    """A view of the bytes one by one."""
+    """A one-dimensional view of single bytes."""
     view = memoryview(data)
     if view.ndim == 1 and view.itemsize == 1:
         return view
@@ -446,7 +446,7 @@ def _flat(data: Any) -> memoryview:
 
 
 def _pieces_of(document: Any) -> Iterator[Any]:
-    """The pieces of a document, however it was given."""
+    """The pieces of a document, in whatever form it was given."""
     if isinstance(document, str):
         raise TypeError("a document is bytes, and not str")
     if isinstance(document, (bytes, bytearray, memoryview)):
@@ -461,16 +461,16 @@ def _read_pieces(file: Any) -> Iterator[Any]:
     while True:
         piece = file.read(_READ_BYTES)
         if piece is None:
-            raise BlockingIOError("the file has no bytes as yet: it has to be one that waits for them")
+            raise BlockingIOError("the file has no bytes yet: it must be a file that waits for them")
         if not piece:
             if isinstance(piece, str):
-                raise TypeError("a document is a binary file, and not one of text")
+                raise TypeError("a document is a binary file, not a text file")
             return
         yield piece
 
 
 def _is_buffer(document: Any) -> bool:
-    """Whether an object shows its bytes, as an array does."""
+    """Whether an object gives access to its bytes, as an array does."""
     try:
         memoryview(document).release()
     except TypeError:
@@ -490,11 +490,11 @@ def _library() -> ctypes.CDLL:
         except (OSError, AttributeError) as error:
             missed.append(f"  {place}: {error}")
     looked_for = "\n".join(missed)
-    raise LibraryError(f"no library of rncv. tools/library/build.sh builds it, and RNCV_LIBRARY may name it. These were looked for:\n{looked_for}")
+    raise LibraryError(f"no library of rncv. tools/library/build.sh builds it, and RNCV_LIBRARY may name it. These places were searched:\n{looked_for}")
 
 
 def _places() -> Iterator[tuple[str, Optional[str]]]:
-    """Where the library may be, in the order in which it is looked for, with the file or the name to load, if there is one."""
+    """The places where the library may be, in search order, each with the file or the name to load, if there is one."""
     named = os.environ.get("RNCV_LIBRARY")
     if named:
         path = pathlib.Path(named).resolve()
@@ -514,7 +514,7 @@ def _places() -> Iterator[tuple[str, Optional[str]]]:
 
 
 def _typed(library: ctypes.CDLL) -> ctypes.CDLL:
-    """The library, once its functions are there and have their types."""
+    """Returns the library with the types of its functions. Raises AttributeError if it lacks one."""
     schema, size, status = ctypes.POINTER(_Schema), ctypes.c_size_t, ctypes.c_int32
     for name, kinds, kind in [
         ("rncv_compile", [ctypes.POINTER(_File), size, schema, ctypes.POINTER(_Fault)], status),

@@ -1,4 +1,4 @@
-"""What the pages and the examples of the repository say: the expected answers of the tests."""
+"""Reads the expected answers of the tests from the pages and the examples of the repository."""
 import pathlib
 import re
 import sys
@@ -32,5 +32,5 @@ def document_of(example):
 
 
 def served():
-    """The examples of which docs/LANGUAGE.md says that they are valid: a folder, and the names of its files, the main one first."""
+    """The examples that are valid by docs/LANGUAGE.md: a folder, and the names of its files, the main one first."""
     return [(TOP / "examples" / folder, names.split()) for folder, names in SERVED.findall(page("docs/LANGUAGE.md"))]

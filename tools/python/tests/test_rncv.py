@@ -1,4 +1,4 @@
-"""Tests of the Python package. What they expect stands in docs/CLAUSES.md, docs/LANGUAGE.md, README.md and `examples`."""
+"""Tests of the Python package. The expected answers are in docs/CLAUSES.md, docs/LANGUAGE.md, README.md and `examples`."""
 import array
 import contextlib
 import copy
@@ -29,13 +29,13 @@ PROGRAM = pathlib.Path(os.environ.get("RNCV") or TOP / "crates/rncv/out/rncv")
 
 
 def cut(data, size):
-    """The bytes in pieces of a size."""
+    """The bytes in pieces of this size."""
     return (data[begin:begin + size] for begin in range(0, len(data), size))
 
 
 @contextlib.contextmanager
 def folder(path=None):
-    """A folder to work in, and back again."""
+    """Works in a fresh folder, and changes back at the end."""
     before = os.getcwd()
     with tempfile.TemporaryDirectory() as room:
         os.chdir(path or room)
@@ -46,17 +46,17 @@ def folder(path=None):
 
 
 def python(code, room=None, **variables):
-    """Runs Python on some code, with the package of this checkout, or that in a folder."""
+    """Runs code in Python, with the package of this checkout or the one in a folder."""
     kept = {name: value for name, value in os.environ.items() if name != "RNCV_LIBRARY"}
     environment = {**kept, "PYTHONPATH": str(room or TOP / "tools/python"), "PYTHONDONTWRITEBYTECODE": "1", **variables}
     return subprocess.run([sys.executable, "-c", code], env=environment, capture_output=True, text=True, timeout=60, check=False)
 
 
 class Documents(unittest.TestCase):
-    """Verdicts as the pages have them, however a document comes."""
+    """The verdicts are those of the pages, in whatever form a document comes."""
 
     def judged(self, validator, document):
-        """The verdict on a document, which is the same in pieces, of files and of bytes of each kind."""
+        """The verdict on a document. Wants the same verdict for pieces, for files and for each kind of bytes."""
         verdict = validator.validate(document)
         small = [1, 7] if len(document) < 100_000 else []
         for size in [*small, 4096]:
@@ -119,7 +119,7 @@ class Documents(unittest.TestCase):
             file.seek(6)
             with open(os.dup(file.fileno()), "rb", buffering=0) as raw:
                 self.assertTrue(validator.validate(raw))
-            # a malformed one is read no further than where that is known
+            # a malformed document is not read further once that is known
             pieces = iter([b"text\n"] * 3)
             self.assertEqual(str(validator.validate(pieces)), "malformed P4 line 1")
             self.assertEqual(len(list(pieces)), 2)
@@ -169,7 +169,7 @@ class Documents(unittest.TestCase):
 
 
 class Schemas(unittest.TestCase):
-    """Which files are schemas, and how it is told which are not."""
+    """Which files are schemas, and how a refusal is reported."""
 
     def refused(self, *files):
         with self.assertRaises(rncv.SchemaError) as caught:
@@ -187,7 +187,7 @@ class Schemas(unittest.TestCase):
             with self.subTest(number):
                 error = self.refused(schema_of(broken))
                 self.assertEqual(error.clause, number)
-                # docs/LANGUAGE.md: S1 to S8 are told with a file; that of S1 was not handed in
+                # docs/LANGUAGE.md: S1 to S8 are reported with a file; the file of S1 was not given
                 self.assertEqual(error.index, 0 if 2 <= number <= 8 else None)
                 self.assertEqual(error.file, "s.rnc" if 2 <= number <= 8 else None)
                 rncv.compile(schema_of(repair)).close()
@@ -221,7 +221,7 @@ class Schemas(unittest.TestCase):
             self.assertEqual((error.clause, error.file, error.index), (1, "parts/b.rnc", 1))
             with self.assertRaises(FileNotFoundError):
                 rncv.compile("m.rnc", "none.rnc")
-            # a long file is not read whole, and is refused
+            # a long file is refused, and is not read to its end
             (room / "m.rnc").write_bytes(b"element a { empty } #" + b"x" * 3_000_000)
             self.assertEqual(self.refused("m.rnc").clause, 2)
 
@@ -278,7 +278,7 @@ class Schemas(unittest.TestCase):
 
 
 class Progress(unittest.TestCase):
-    """Documents in progress, and what becomes of those that are broken off."""
+    """Documents in progress, and documents that are abandoned."""
 
     def setUp(self):
         self.validator = rncv.compile(A)
@@ -382,7 +382,7 @@ class Progress(unittest.TestCase):
         self.assertTrue(self.validator.validate(GOOD))
 
     def test_memory_that_is_refused(self):
-        """As the header has it: no document without memory for its begin, and an end without a verdict."""
+        """As the header says: without memory a document does not begin, and it ends without a verdict."""
         memory = 3
         for name in ("rncv_document_begin", "rncv_document_feed", "rncv_document_end", "rncv_schema_share", "rncv_simple"):
             with self.subTest(name), mock.patch.object(self.validator._library, name, return_value=memory):
@@ -510,12 +510,12 @@ print("end")
 
 
 class Library(unittest.TestCase):
-    """Where the library is looked for, and want of memory."""
+    """Where the library is searched, and running out of memory."""
 
     CODE = "import rncv; print(rncv.compile({'s.rnc': b'element a { empty }'}).validate(b'(a\\n)a\\n'))"
 
     def package(self, room):
-        """A copy of the package without what is around it."""
+        """A copy of the package alone."""
         room.mkdir(parents=True)
         (room / "rncv").mkdir()
         (room / "rncv/__init__.py").write_bytes((TOP / "tools/python/rncv/__init__.py").read_bytes())
@@ -539,7 +539,7 @@ class Library(unittest.TestCase):
             (top / "tools/library/include").mkdir(parents=True)
             (top / "tools/library/include/rncv.h").touch()
             self.assertEqual(python(self.CODE, path).stdout, "valid\n")
-            # the variable comes first, and stands alone
+            # if the variable is set, only its place is searched
             run = python(self.CODE, path, RNCV_LIBRARY=str(room / "none.so"))
             self.assertIn(f"RNCV_LIBRARY={room / 'none.so'}", run.stderr)
             self.assertNotIn("checkout/build", run.stderr)
@@ -576,7 +576,7 @@ print(validator.validate(b"(a\\n)a\\n"), rncv.compile({"s.rnc": text}).validate(
 
 
 class Xml(unittest.TestCase):
-    """PYX of `tools/xml`, handed over as docs/LIBRARY.md shows it."""
+    """PYX of `tools/xml`, passed on as docs/LIBRARY.md shows it."""
 
     def test_letters(self):
         from pyx_writer import convert

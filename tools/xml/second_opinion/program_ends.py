@@ -5,7 +5,7 @@ import sys
 
 
 def line_bytes(text):
-    """The bytes of a line. Names of files keep theirs; a character that the encoding at hand does not have is escaped."""
+    """The bytes of a line. Names of files keep their bytes. A character that the encoding does not have is escaped."""
     try:
         return os.fsencode(text + "\n")
     except UnicodeEncodeError:
@@ -26,7 +26,7 @@ def put_line(text):
 
 
 def tell_line(text):
-    """Writes a line to standard error, if there is one."""
+    """Writes a line to standard error, if that is there."""
     try:
         errors = binary(sys.stderr, "standard error")
         errors.write(line_bytes(text))
@@ -36,13 +36,13 @@ def tell_line(text):
 
 
 def what(fault, named=None):
-    """What a fault of the system is, and of which file, where that is not the one that is named anyway."""
+    """What a fault of the system is, and of which file, unless that is the one that is named anyway."""
     file = os.fsdecode(fault.filename) if isinstance(fault.filename, (str, bytes)) else named
     return f"{fault.strerror or fault}" + (f": {file}" if file not in (None, named) else "")
 
 
 def ends(program, main):
-    """Runs the program and ends the process. Ctrl-C and a closed pipe end it quietly, as a shell tells of these."""
+    """Runs the program and ends the process. Ctrl-C and a closed pipe end it quietly, with the status that a shell has for them."""
     try:
         status = main()
         if sys.stdout is not None:
@@ -54,7 +54,7 @@ def ends(program, main):
     except OSError as fault:
         tell_line(f"{program}: {what(fault)}")
         status = 4
-    except Exception as fault:  # whatever it is, one line tells it
+    except Exception as fault:  # whatever it is, one line reports it
         tell_line(f"{program}: {type(fault).__name__}: {fault}")
         status = 4
     os._exit(status)

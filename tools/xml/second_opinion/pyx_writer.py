@@ -1,6 +1,6 @@
-"""XML to PYX lines, as a stream: a second opinion on what the programs in C make of a document. Nothing here is proved.
+"""Converts XML to PYX lines, as a stream: a second opinion on what the programs in C make of a document. Nothing here is proved.
 
-The PYX is that of docs/LANGUAGE.md. Memory is bounded by one tag and one piece of text, and not by the document.
+The PYX is that of docs/LANGUAGE.md. The memory is bounded by one tag and one piece of text, not by the document.
 """
 import xml.parsers.expat
 
@@ -12,12 +12,12 @@ TEXT_BYTES = 65_536
 
 
 def escaped(text):
-    """A value or a text as it stands in a PYX line."""
+    """A value or a text as it is in a PYX line."""
     return text.replace("\\", "\\\\").replace("\n", "\\n").replace("\t", "\\t")
 
 
 def cut(text, limit=LINE_BYTES - 1):
-    """The UTF-8 of escaped pieces of `text`, in order, each of at most `limit` bytes; no escape and no character is cut."""
+    """The UTF-8 of escaped pieces of `text`, in order, each of at most `limit` bytes. No escape and no character is cut."""
     data = escaped(text).encode("utf-8")
     begin = 0
     while len(data) - begin > limit:
@@ -32,15 +32,15 @@ def cut(text, limit=LINE_BYTES - 1):
 
 
 def backslashes_before(data, begin, end):
-    """How many backslashes stand right before `end`, from `begin` on."""
+    """How many backslashes are directly before `end`, from `begin` on."""
     return end - begin - len(data[begin:end].rstrip(b"\\"))
 
 
 class PyxWriter:
-    """Takes expat's calls and hands on PYX lines.
+    """Takes expat's calls and passes on PYX lines.
 
-    `put(line)` gets each with its line feed, `place(own, told)` where in the XML it is of, and where that begins of which `rncv` tells by this line
-    (each a line and a column), and `tell(line, column, what)` what is left out of the document without harm to its form.
+    `put(line)` gets each line with its line feed. `place(own, told)` gets two places in the XML, each a line and a column: where the PYX line comes from,
+    and where the thing begins that `rncv` reports by this line. `tell(line, column, what)` gets what is left out of the document without harm to its form.
     """
 
     def __init__(self, put, place, tell):
@@ -62,12 +62,12 @@ class PyxWriter:
         raise OutsideProfile(*place, f"{what}: outside the profile")
 
     def declaration(self, version, encoding, standalone):
-        """The XML declaration. In a document that says that it stands alone expat drops nothing."""
+        """Takes the XML declaration. In a document that says that it is standalone, expat drops nothing."""
         self.declarations.standalone = standalone == 1
         self.feed.declared(encoding)
 
     def line(self, data, place):
-        """One PYX line; one that is too long is outside the profile."""
+        """Passes on one PYX line. A line that is too long is outside the profile."""
         if len(data) > LINE_BYTES:
             kind = "attribute" if data[:1] == b"A" else "name"
             self.refuse(place, f"{kind} of more than {LINE_BYTES:,} bytes")
@@ -75,7 +75,7 @@ class PyxWriter:
         self.place(place, self.told(data[:1], place))
 
     def told(self, kind, place):
-        """Where that begins of which a line of this kind tells: the start behind whose tag it is the first line, or the text before a start."""
+        """Where the thing begins that a line of this kind reports: a start, if this is the first line after its tag; or the text before a start."""
         if kind == b"A":
             return place
         tag, text = self.begun_tag, self.begun_text
@@ -97,7 +97,7 @@ class PyxWriter:
         self.line(b")" + name.encode("utf-8"), self.here())
 
     def text(self, text):
-        """Holds a piece of text, up to some 64 KiB of them."""
+        """Holds a piece of text. Some 64 KiB are held at most."""
         if not self.held:
             self.held_place = self.here()
         self.held.append(text)
@@ -106,14 +106,14 @@ class PyxWriter:
             self.text_ends()
 
     def text_ends(self):
-        """Hands on the text that is held, with the place where it began."""
+        """Passes on the text that is held, with the place where it began."""
         if self.held:
             for piece in cut("".join(self.held)):
                 self.line(b"-" + piece, self.held_place)
             self.held, self.held_size = [], 0
 
     def instruction(self, target, data):
-        """A processing instruction vanishes; its line stands so that texts join across it, cut where it is long."""
+        """A processing instruction vanishes. It has a line so that texts join across it. A long line is cut."""
         if target == GOES_ON:
             return
         self.text_ends()
@@ -122,5 +122,5 @@ class PyxWriter:
 
 
 def convert(source, put, place=lambda own, told: None, tell=lambda line, column, what: None):
-    """Reads the XML of the binary file `source` to its end and hands on its PYX lines."""
+    """Reads the XML of the binary file `source` to its end and passes on its PYX lines."""
     PyxWriter(put, place, tell).feed.all_of(source)

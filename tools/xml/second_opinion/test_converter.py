@@ -1,4 +1,4 @@
-"""Tests of the second opinion: the converter in Python, on which the one in C is compared.   second_opinion/test_converter.py"""
+"""Tests of the second opinion: the converter in Python, with which the one in C is compared.   second_opinion/test_converter.py"""
 import io
 import itertools
 import pathlib
@@ -26,7 +26,7 @@ def unescaped(text):
 
 
 class Conversion(unittest.TestCase):
-    """What stands in the PYX of a document."""
+    """What is in the PYX of a document."""
 
     def test_elements_attributes_texts(self):
         lines, places = pyx(b'<?xml version="1.0"?>\n<a x="1\t2"><!-- gone -->\n  <p:b xmlns:p="u"/>t\\</a>')
@@ -115,7 +115,7 @@ class UnreadDtd(unittest.TestCase):
     """What a DTD that is not read could change is outside the profile, with its place."""
 
     def outside(self, xml, place, what):
-        """Wants the document refused at the place, in each kind of encoding."""
+        """Checks that the document is refused at this place, in each kind of encoding."""
         for encoding, declared in (("utf-8", ""), ("utf-16", ""), ("latin-1", '<?xml version="1.0" encoding="ISO-8859-1"?>\n')):
             with self.subTest(xml=xml, encoding=encoding), self.assertRaises(pyx_writer.OutsideProfile) as fault:
                 pyx((declared + xml).encode(encoding))
@@ -194,7 +194,7 @@ class LongMarkup(unittest.TestCase):
     UNITS = ("x", "-x", "\r\n", "\n\r", "\u00e9", "\u4e2d", "\U0001f600", "?x", ">", "<&", "''", " ")
 
     def outcome(self, xml, encoding, piece, longest):
-        """What the document is with pieces and long markup of so many bytes, without the lines of instructions."""
+        """The result for the document with pieces and long markup of this many bytes, without the lines of instructions."""
         lines, places = [], []
         with unittest.mock.patch.multiple(xml_feed, PIECE_BYTES=piece, LONG_BYTES=longest):
             try:

@@ -1,7 +1,7 @@
-"""What expat leaves out of a document without a word: found here, and refused. Nothing here is proved.
+"""Finds what expat silently leaves out of a document, and refuses it. Nothing here is proved.
 
-Once a document has an external DTD or a reference to a parameter entity, expat drops references in attributes to entities that are not declared, and
-behind a parameter entity that is not read it drops declarations.
+Once a document has an external DTD or a reference to a parameter entity, expat drops some references in attributes: those to entities that are not
+declared. After a parameter entity that is not read, it drops declarations.
 """
 import re
 import xml.parsers.expat
@@ -31,7 +31,7 @@ class Entities:
         self.texts[name], self.places[name] = text, place
 
     def undeclared(self, text):
-        """An entity to which the text refers, directly or through others, and that is not declared; none if there is no such."""
+        """An entity that the text refers to, directly or through others, and that is not declared. None if there is no such entity."""
         seen, waiting = set(), REFERENCE.findall(text)
         while waiting:
             name = waiting.pop()
@@ -45,7 +45,7 @@ class Entities:
         return None
 
     def undeclared_in_tags(self):
-        """Such an entity in an attribute of a tag that stands in an entity's text, with the place of the latter; none if there is no such."""
+        """Such an entity in an attribute of a tag in an entity's text, with the place of the entity with that text. None if there is no such entity."""
         for name, text in self.texts.items():
             for tag in TAG_BEGINS.finditer(text or ""):
                 found = self.undeclared(values_of(text, tag.start())[0])
@@ -55,7 +55,7 @@ class Entities:
 
 
 class Declarations:
-    """Watches the document's own DTD. `feed` knows the places; `refuse(place, what)` ends the reading, `tell(line, column, what)` does not."""
+    """Watches the document's own DTD. `feed` knows the places. `refuse(place, what)` stops the reading, `tell(line, column, what)` does not."""
 
     def __init__(self, parser, feed, refuse, tell):
         self.parser, self.feed, self.refuse, self.tell = parser, feed, refuse, tell
@@ -71,7 +71,7 @@ class Declarations:
         parser.SkippedEntityHandler = self.skipped
 
     def begins(self, name, system, public, has_internal):
-        """The document type; an external part is told, since it is not loaded. The tokens of the internal part go to `token`, but for comments."""
+        """Takes the document type. An external part is reported, since it is not loaded. The tokens of the internal part go to `token`, except comments."""
         self.external_dtd = system, public
         if system is not None:
             self.drops = True
@@ -83,7 +83,7 @@ class Declarations:
         self.tell(*self.feed.here(), f"{what} {why}: its entities and attribute defaults are not there")
 
     def token(self, text):
-        """A token of a declaration that no handler takes: those of attribute lists, and all that expat drops."""
+        """Takes a token of a declaration that no handler takes: those of attribute lists, and all that expat drops."""
         if text in ("<!ATTLIST", "<!ENTITY") and self.unread and not self.standalone:
             self.refuse(self.feed.here(), "a declaration behind a parameter entity that is not loaded")
         if text == "<!ATTLIST":
@@ -105,7 +105,7 @@ class Declarations:
             self.entities.declare(name, text, self.feed.here())
 
     def external(self, context, base, system, public):
-        """A parameter entity, or the external DTD, has no context; another entity belongs to the document's content."""
+        """A parameter entity and the external DTD have no context. Any other entity belongs to the document's content."""
         if context is not None:
             self.refuse(self.feed.here(), f"external entity {system!r} is not loaded")
         if (system, public) != self.external_dtd:
@@ -126,7 +126,7 @@ class Declarations:
             self.declared(*found)
 
     def check_tag(self, place):
-        """Refuses a tag of which an attribute refers to an entity that is not declared."""
+        """Refuses the tag if one of its attributes refers to an entity that is not declared."""
         values = ""
         for text in self.feed.source() if self.drops else ():
             values, is_whole = values_of(text, 0) if text.startswith("<") else ("", True)

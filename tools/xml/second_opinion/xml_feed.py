@@ -1,4 +1,4 @@
-"""Hands expat a document piece by piece, in time that grows with the document alone. Nothing here is proved."""
+"""Passes a document to expat piece by piece, in time that grows with the document alone. Nothing here is proved."""
 import codecs
 import dataclasses
 import importlib
@@ -15,7 +15,7 @@ NOT_MALFORMED = ("out of memory", "unknown encoding", "limit on input amplificat
 
 
 class OutsideProfile(Exception):
-    """What the XML has and the profile does not, with its place (line and column from 1)."""
+    """Something that the XML has and the profile does not have, with its place (line and column from 1)."""
 
     def __init__(self, line, column, what):
         super().__init__(what)
@@ -23,7 +23,7 @@ class OutsideProfile(Exception):
 
 
 class Malformed(OutsideProfile):
-    """What expat says of XML that is not well formed."""
+    """What expat says about XML that is not well formed."""
 
 
 @dataclasses.dataclass(frozen=True)
@@ -35,7 +35,7 @@ class Kind:
 
 
 KINDS = (Kind("<!--", "-->", "<!--"), Kind("<?", "?>", f"<?{GOES_ON} "))
-# Where such a token may be cut: behind a character that neither begins its end nor a line end, and before the first byte of a character.
+# Where such a token may be cut: after a character that begins neither its end nor a line end, and before the first byte of a character.
 SEAMS = {
     "latin-1": re.compile(rb".+?[^-?\r](?=[^\x80-\xbf])", re.S),
     "utf-16-le": re.compile(rb"(?:..)*?(?!-\0|\?\0|\r\0)..(?=.[^\xdc-\xdf])", re.S),
@@ -62,10 +62,10 @@ def is_served(encoding):
 
 
 class Feed:
-    """The way of a document's bytes into expat. It keeps those from the token on that expat has not read to its end.
+    """Passes a document's bytes to expat. It keeps the bytes from the start of the token that expat has not read to its end.
 
-    Some versions of expat read an unfinished token again from its start at each call. So a long comment or instruction is handed over in several,
-    which vanish as one does; each other token gets larger pieces while it lasts, and has a limit.
+    Some versions of expat read an unfinished token again from its start at each call. So a long comment or instruction is passed as several, which
+    vanish as one does. The pieces of any other token get larger while it lasts, and such a token has a limit.
     """
 
     def __init__(self, parser):
@@ -78,11 +78,11 @@ class Feed:
             parser.SetReparseDeferralEnabled(False)
 
     def here(self):
-        """The line and the column, from 1, of what the parser is at."""
+        """The line and the column, from 1, at which the parser is."""
         return self.unshifted(self.parser.CurrentLineNumber, self.parser.CurrentColumnNumber)
 
     def unshifted(self, line, column):
-        """The place in the document, without a byte order mark, and without what the seams of long tokens have added to this line."""
+        """The place in the document, without a byte order mark, and without what the seams of long tokens added to this line."""
         return line, max(1, column + 1 - (self.shift if line == self.shift_line else 0))
 
     def declared(self, encoding):
@@ -113,7 +113,7 @@ class Feed:
         return self.first
 
     def take(self, piece):
-        """Hands over a piece, with a seam in it where it goes on with a long comment or instruction."""
+        """Passes a piece. If it continues a long comment or instruction, it gets a seam."""
         if len(self.kept) >= LONG_BYTES:
             piece = self.after_seam(piece)
         self.parse(piece, False)
@@ -121,7 +121,7 @@ class Feed:
             raise OutsideProfile(*self.here(), f"markup of more than {TOKEN_BYTES:,} bytes: outside the profile")
 
     def after_seam(self, piece):
-        """Cuts the unfinished token at the first place in the piece where that can be, and returns the rest of the piece."""
+        """Cuts the unfinished token at the first possible place in the piece, and returns the rest of the piece."""
         kind = next((kind for kind in KINDS if self.kept.startswith(kind.opens.encode(self.units))), None)
         is_aligned = self.units == "latin-1" or len(self.kept) % 2 == 0
         seam = SEAMS[self.units].match(piece) if kind and is_aligned else None
@@ -131,13 +131,13 @@ class Feed:
         return piece[seam.end():]
 
     def goes_on(self, kind, data):
-        """Whether the unfinished token has its end neither in what is kept nor in the bytes behind that, and is no declaration `<?xml`."""
+        """Whether the end of the unfinished token is neither in the kept bytes nor in the bytes after them, and it is no declaration `<?xml`."""
         opens, closes = (text.encode(self.units) for text in (kind.opens, kind.closes))
         begins = self.kept[len(opens):len(opens) + 6].decode(self.units, "replace").lower()
         return not begins.startswith("xml") and (self.kept + data).find(closes, len(opens)) < 0
 
     def part(self, piece, kind):
-        """Ends the token behind the piece, and opens one of its kind."""
+        """Ends the token after the piece, and opens another of its kind."""
         if self.cut_at != self.begin:
             self.cut_place = self.here()
         closes, reopens = (text.encode(self.units) for text in (kind.closes, kind.reopens))
@@ -148,7 +148,7 @@ class Feed:
         self.shift_line, self.cut_at = line, end
 
     def parse(self, data, is_last):
-        """Parses some bytes, and keeps those of the token that they do not end."""
+        """Parses some bytes, and keeps those of the unfinished token."""
         self.kept += data
         try:
             self.parser.Parse(data, is_last)
@@ -162,7 +162,7 @@ class Feed:
             self.begin = index
 
     def told(self, fault):
-        """What expat says, at its place in the document; of a long token that does not end, the place is its beginning."""
+        """What expat says, at its place in the document. For a long token that does not end, the place is its beginning."""
         text = xml.parsers.expat.ErrorString(fault.code)
         place = self.cut_place if self.parser.ErrorByteIndex == self.cut_at else self.unshifted(fault.lineno, fault.offset)
         if text in NOT_MALFORMED:
@@ -170,7 +170,7 @@ class Feed:
         return Malformed(*place, f"malformed XML: {text}")
 
     def source(self):
-        """The document's text from the tag on that the parser is at: longer and longer pieces of what is kept; none where that has no reference."""
+        """The document's text from the tag at which the parser is: longer and longer pieces of the kept bytes. It has no piece if these have no reference."""
         begin, size = self.parser.CurrentByteIndex - self.begin, 1_024
         while self.kept.find(b"&", begin) >= 0:
             yield bytes(self.kept[begin:begin + size]).decode(self.encoding, "replace")

@@ -5,8 +5,8 @@
 #include <string.h>
 
 enum {
-    SLOTS = 16,           /* pieces that wait at most */
-    STACK_BYTES = 8388608 /* of the thread that converts: expat calls itself for an entity in an entity */
+    SLOTS = 16,           /* the most pieces that wait */
+    STACK_BYTES = 8388608 /* for the thread that converts: expat calls itself for an entity in an entity */
 };
 
 /* A copy of a piece. */
@@ -49,7 +49,7 @@ static bool copy(struct slot *slot, const struct piece *piece) {
     return !slot->bytes.failed;
 }
 
-/* Puts a piece on, once there is room for it. */
+/* Puts a piece on the belt, once there is room for it. */
 static bool put(void *context, const struct piece *piece) {
     struct belt *belt = context;
     pthread_mutex_lock(&belt->lock);
@@ -87,7 +87,7 @@ static void *convert_all(void *context) {
     return NULL;
 }
 
-/* Takes the pieces off, until there are no more or no more are wanted. */
+/* Takes pieces off the belt, until there are no more or the taker wants no more. */
 static void take_all(struct belt *belt) {
     bool wants_more = true;
     while (wants_more) {

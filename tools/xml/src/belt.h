@@ -4,8 +4,8 @@
 
 #include "conversion.h"
 
-/* As `convert`, which it calls where no thread can be begun. The taker is called for pieces by the thread that calls this, and for notes and by the
- * giver by the other one; what the two of them share is theirs to keep apart. */
+/* Does what `convert` does, and calls `convert` itself if it cannot start a thread. The calling thread hands the pieces to the taker. The other thread
+ * calls the giver, and hands the notes to the taker. The giver and the taker must protect what the two threads share. */
 void belt_convert(const struct giver *giver, const struct taker *taker, struct fault *fault);
 
 #endif

@@ -1,5 +1,4 @@
-/* Bytes that grow. A growth that is refused is kept in mind (`failed`), and what is added from then on is lost, so that one look at the end is
- * enough. */
+/* An array of bytes that grows. If a growth fails, `failed` is set, and what is added later is lost. So one check at the end is enough. */
 #ifndef BYTES_H
 #define BYTES_H
 
@@ -14,7 +13,7 @@ struct bytes {
     bool failed;
 };
 
-/* A part of a text that someone else keeps. */
+/* A part of a text. The text has another owner. */
 struct span {
     const char *data;
     size_t length;
@@ -22,10 +21,10 @@ struct span {
 
 #define NO_BYTES {NULL, 0, 0, false}
 
-/* Makes the room larger. What failed once has no room from then on: its capacity is its length. */
+/* Makes the room larger. After a failure there is no more room: the capacity is the length. */
 bool bytes_grow(struct bytes *bytes, size_t more);
 
-/* Makes room for `more` bytes behind those that are there. */
+/* Makes room for `more` bytes after those that are there. */
 static inline bool bytes_reserve(struct bytes *bytes, size_t more) {
     return more <= bytes->capacity - bytes->length || bytes_grow(bytes, more);
 }
@@ -48,12 +47,12 @@ static inline void bytes_add_byte(struct bytes *bytes, char byte) {
 }
 
 void bytes_format(struct bytes *bytes, const char *format, ...) __attribute__((format(printf, 2, 3)));
-/* A number with its thousands parted by commas. */
+/* Adds a number with commas between its thousands. */
 void bytes_add_count(struct bytes *bytes, unsigned long long count);
-/* Lets go of the first `length` bytes. */
+/* Removes the first `length` bytes. */
 void bytes_cut_front(struct bytes *bytes, size_t length);
 void bytes_clear(struct bytes *bytes);
-/* What is there, with a zero behind it; an empty text where there was no memory. */
+/* Returns the bytes with a zero after them, or an empty text if memory ran out. */
 const char *bytes_text(struct bytes *bytes);
 void bytes_free(struct bytes *bytes);
 

@@ -6,8 +6,8 @@
 #include <string.h>
 
 enum {
-    PIECE_BYTES = 65536,  /* of PYX, handed on at once */
-    TEXT_CHARACTERS = 65536 /* of a text that are held at most */
+    PIECE_BYTES = 65536,  /* of PYX, handed to the taker at once */
+    TEXT_CHARACTERS = 65536 /* the most characters of a text that are held */
 };
 
 struct writer {
@@ -15,7 +15,7 @@ struct writer {
     struct declarations declarations;
     const struct taker *taker;
     struct fault *fault;
-    struct bytes pyx; /* the lines of the piece, and behind these the line of a text that goes on */
+    struct bytes pyx; /* the lines of the piece, and after them the line of an unfinished text */
     size_t done;      /* how many of these bytes are whole lines */
     struct place *places;
     size_t count;
@@ -24,11 +24,11 @@ struct writer {
     bool has_text;
     struct place text_place;
     size_t text_bytes;
-    size_t text_characters; /* counted once there are as many bytes as a text may have characters */
+    size_t text_characters; /* counted once the text has TEXT_CHARACTERS bytes */
     bool counts;
 };
 
-/* Bytes of the XML that are escaped in the PYX. */
+/* Whether a byte of the XML is escaped in the PYX. */
 static bool is_escaped(char byte) {
     return byte == '\\' || byte == '\n' || byte == '\t';
 }
@@ -53,7 +53,7 @@ static void out_of_memory(struct writer *writer) {
     feed_refuse(&writer->feed, FAULT_MEMORY, (struct place){0, 0}, "out of memory");
 }
 
-/* Hands on the lines that are there. */
+/* Hands the whole lines to the taker. */
 static void flush(struct writer *writer) {
     struct piece piece = {writer->pyx.data, writer->done, writer->places, writer->count, writer->first};
     if (writer->fault->kind != FAULT_NONE || writer->count == 0) {
@@ -83,7 +83,7 @@ static bool has_room_for_place(struct writer *writer) {
     return true;
 }
 
-/* Ends the line that stands behind the whole ones. One that is too long is outside the profile. */
+/* Ends the line after the whole ones. A line that is too long is outside the profile. */
 static void line_ends(struct writer *writer, struct place place) {
     if (writer->pyx.length - writer->done > LINE_BYTES) {
         const char *kind = writer->pyx.data[writer->done] == 'A' ? "attribute" : "name";
@@ -105,7 +105,7 @@ static void line_ends(struct writer *writer, struct place place) {
     }
 }
 
-/* How much of an escaped text goes into one line: no escape and no character is cut. */
+/* How much of an escaped text goes into one line. No escape and no character is cut. */
 static size_t cut_at(const char *text, size_t length, size_t limit) {
     if (length <= limit) {
         return length;
@@ -121,7 +121,7 @@ static size_t cut_at(const char *text, size_t length, size_t limit) {
     return (end - begin) % 2 == 1 ? end - 1 : end;
 }
 
-/* Ends a text that is too long for one line, in several. */
+/* Ends a text that is too long for one line: it gets several. */
 static void long_text_ends(struct writer *writer) {
     struct bytes text = NO_BYTES;
     bytes_add(&text, writer->pyx.data + writer->done + 1, writer->pyx.length - writer->done - 1);
@@ -139,7 +139,7 @@ static void long_text_ends(struct writer *writer) {
     bytes_free(&text);
 }
 
-/* Ends the text that goes on, if there is one. */
+/* Ends the unfinished text, if there is one. */
 static void text_ends(struct writer *writer) {
     if (!writer->has_text) {
         return;
@@ -160,7 +160,7 @@ static size_t characters_of(const char *text, size_t length) {
     return count;
 }
 
-/* How many characters the text that goes on has, of which the last bytes are these. */
+/* How many characters the unfinished text has. These are its last bytes. */
 static size_t held_characters(struct writer *writer, const char *text, size_t length) {
     if (writer->counts) {
         return writer->text_characters += characters_of(text, length);
@@ -232,7 +232,7 @@ static void take_end(void *context, const XML_Char *name) {
     line_ends(writer, feed_here(&writer->feed));
 }
 
-/* An instruction vanishes; its line stands so that texts join across it, cut where it is long. */
+/* An instruction vanishes. It has a line so that texts join across it. A long line is cut. */
 static void take_instruction(void *context, const XML_Char *target, const XML_Char *data) {
     struct writer *writer = context;
     if (writer->fault->kind != FAULT_NONE || strcmp(target, GOES_ON) == 0) {
@@ -277,7 +277,7 @@ static void take_doctype(void *context, const XML_Char *name, const XML_Char *sy
     (void)has_internal;
     if (writer->fault->kind == FAULT_NONE) {
         declarations_begin(&writer->declarations, system, public);
-        XML_SetCommentHandler(writer->feed.parser, take_comment); /* so that the tokens are no comments */
+        XML_SetCommentHandler(writer->feed.parser, take_comment); /* so that no token is a comment */
         XML_SetDefaultHandlerExpand(writer->feed.parser, take_token);
     }
 }
@@ -343,7 +343,7 @@ static void read_all(struct writer *writer, const struct giver *giver) {
             break;
         }
         if (!giver->read(giver->context, room.data, wanted, &length, writer->fault)) {
-            fault_set(writer->fault, FAULT_DEVICE, (struct place){0, 0}, "read failed"); /* unless the giver says more */
+            fault_set(writer->fault, FAULT_DEVICE, (struct place){0, 0}, "read failed"); /* unless the giver has set a fault */
             break;
         }
         if (length > 0 && feed_take(&writer->feed, room.data, length)) {

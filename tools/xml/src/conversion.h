@@ -1,4 +1,4 @@
-/* XML to PYX, as a stream. Memory is bounded by one tag and one piece of text, and not by the document. */
+/* Converts XML to PYX, as a stream. The memory is bounded by one tag and one piece of text, not by the document. */
 #ifndef CONVERSION_H
 #define CONVERSION_H
 
@@ -6,7 +6,7 @@
 
 enum { LINE_BYTES = 65536 };
 
-/* Some lines of the PYX, whole ones, and where in the XML each of them is. */
+/* Some whole lines of the PYX, and where each of them is in the XML. */
 struct piece {
     const char *bytes;
     size_t length;
@@ -15,20 +15,20 @@ struct piece {
     uint64_t first; /* the number of the first line, from 1 */
 };
 
-/* Who takes the PYX. */
+/* The receiver of the PYX. */
 struct taker {
-    bool (*piece)(void *context, const struct piece *piece); /* false: no more is wanted */
-    void (*note)(void *context, struct place place, const char *what); /* what of the document is left out, without harm to its form */
+    bool (*piece)(void *context, const struct piece *piece); /* takes a piece; false: it wants no more */
+    void (*note)(void *context, struct place place, const char *what); /* takes a note: what is left out of the document without harm to its form */
     void *context;
 };
 
-/* Who gives the XML: writes at most `size` bytes, and how many, 0 at the end. False: the reading failed, and the fault says why. */
+/* The source of the XML. `read` writes at most `size` bytes, and their number to `length`: 0 at the end. False: it failed, and the fault says why. */
 struct giver {
     bool (*read)(void *context, char *bytes, size_t size, size_t *length, struct fault *fault);
     void *context;
 };
 
-/* Converts a document. Without a fault the taker has had all of it. */
+/* Converts a document. If there is no fault, the taker has received all of it. */
 void convert(const struct giver *giver, const struct taker *taker, struct fault *fault);
 
 #endif

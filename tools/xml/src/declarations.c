@@ -6,14 +6,14 @@ static void refuse(struct declarations *declarations, struct place place, const 
     feed_refuse(declarations->feed, FAULT_OUTSIDE, place, what);
 }
 
-/* Ends the reading where memory was wanting. */
+/* Stops the reading if memory ran out. */
 static void check_memory(struct declarations *declarations) {
     if (declarations->entities.failed || declarations->list.failed || declarations->system.failed || declarations->public.failed) {
         feed_refuse(declarations->feed, FAULT_MEMORY, (struct place){0, 0}, "out of memory");
     }
 }
 
-/* Refuses the document at the place, since the entity is not declared in it. */
+/* Refuses the document at this place, since it does not declare the entity. */
 static void refuse_undeclared(struct declarations *declarations, struct place place, struct bytes *name) {
     struct bytes what = NO_BYTES;
     bytes_format(&what, "entity '%s' is not declared in the document itself: outside the profile", bytes_text(name));
@@ -21,7 +21,7 @@ static void refuse_undeclared(struct declarations *declarations, struct place pl
     bytes_free(&what);
 }
 
-/* Refuses the document at the place if the text refers to an entity that is not declared. */
+/* Refuses the document at this place if the text refers to an entity that is not declared. */
 static void check(struct declarations *declarations, struct span text, struct place place) {
     struct bytes name = NO_BYTES;
     if (entities_undeclared(&declarations->entities, text, &name)) {
@@ -95,7 +95,7 @@ static bool is_external_dtd(struct declarations *declarations, const char *syste
            strcmp(bytes_text(&declarations->public), public == NULL ? "" : public) == 0;
 }
 
-/* A parameter entity, or the external DTD, has no context; another entity belongs to the document's content. */
+/* A parameter entity and the external DTD have no context. Any other entity belongs to the document's content. */
 void declarations_external(struct declarations *declarations, const char *context, const char *system, const char *public) {
     if (context != NULL) {
         struct bytes what = NO_BYTES;

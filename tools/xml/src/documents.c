@@ -9,7 +9,7 @@
 
 enum {
     MOST_DEPTH = 1000, /* of folders */
-    LOOKED_AT = 65536, /* bytes of a list of names, to see how they are parted */
+    LOOKED_AT = 65536, /* bytes of a list of names, to find what separates them */
     MOST_NAME = 1048576
 };
 
@@ -79,7 +79,7 @@ static int compare_names(const void *one, const void *other) {
     return strcmp(*(char *const *)one, *(char *const *)other);
 }
 
-/* The names in a folder, sorted; NULL with `errno` set. */
+/* The names in a folder, sorted. NULL: it failed, and `errno` says why. */
 static struct names *names_of(const char *folder) {
     struct names *names = calloc(1, sizeof *names);
     DIR *directory = names == NULL ? NULL : opendir(folder);
@@ -109,14 +109,14 @@ static struct names *names_of(const char *folder) {
     return names;
 }
 
-/* There is no document at the name. Always true: that is an answer too. */
+/* Notes why the name gives no document. Returns true: that is an answer too. */
 static bool fails(struct document *document, const char *why) {
     document->is_failed = true;
     bytes_add_text(&document->why, why);
     return true;
 }
 
-/* Begins to go through a folder. Always an answer for the name if that fails. */
+/* Begins to search a folder. True: that failed, which is the answer for its name. */
 static bool enter(struct documents *documents, const char *folder, struct document *document) {
     if (documents->depth == MOST_DEPTH) {
         return fails(document, "the folders are too deep");
@@ -143,7 +143,7 @@ static bool enter(struct documents *documents, const char *folder, struct docume
     return false;
 }
 
-/* Whether the name in a folder is one to take. */
+/* Whether to take this name in a folder. */
 static bool is_wanted(const struct options *options, const char *name) {
     if (options->glob_count == 0) {
         return fnmatch("*.xml", name, 0) == 0;
@@ -156,7 +156,7 @@ static bool is_wanted(const struct options *options, const char *name) {
     return false;
 }
 
-/* The next document of the innermost folder. A link to a folder is not followed: it may lead in a circle. False: there is none here. */
+/* Looks at the next name in the innermost folder. A link to a folder is not followed: it may lead in a circle. False: it gives no document. */
 static bool next_in_folder(struct documents *documents, struct document *document) {
     struct names *names = documents->folders[documents->depth - 1];
     struct stat found;
@@ -199,7 +199,7 @@ static bool read_list(struct documents *documents, struct document *document) {
     return length > 0;
 }
 
-/* Opens the list, and sees in its first bytes how the names are parted. False: `document` says what failed. */
+/* Opens the list, and finds in its first bytes what separates the names. False: `document` says what failed. */
 static bool begin_list(struct documents *documents, struct document *document) {
     struct fault fault = NO_FAULT;
     documents->list_is_begun = true;
@@ -219,7 +219,7 @@ static bool begin_list(struct documents *documents, struct document *document) {
     return !document->is_failed;
 }
 
-/* The next name of the list. False: there is none. */
+/* Gets the next name of the list. False: there is none. */
 static bool next_in_list(struct documents *documents, struct document *document) {
     if (!documents->list_is_begun && !begin_list(documents, document)) {
         document->name = strdup(documents->options->files_from);
@@ -248,7 +248,7 @@ static bool next_in_list(struct documents *documents, struct document *document)
     }
 }
 
-/* A name that is given or in the list: a folder is gone through, standard input is read once. False: no document is made of it yet. */
+/* Takes a name that is given or in the list. A folder is searched. Standard input is read once. False: the name gives no document yet. */
 static bool take_name(struct documents *documents, struct document *document) {
     struct stat found;
     if (strcmp(document->name, "-") == 0) {

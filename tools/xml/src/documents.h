@@ -1,39 +1,39 @@
-/* The documents that are to be judged, one after the other: names as they are given, those in folders, and those of a list. */
+/* The documents to judge, one after the other: those that are given, those in folders, and those in a list. */
 #ifndef DOCUMENTS_H
 #define DOCUMENTS_H
 
 #include "options.h"
 #include "program.h"
 
-/* A document, or why there is none at a name. */
+/* A document, or the reason why a name gives none. */
 struct document {
-    char *name; /* NULL: there was no memory */
+    char *name; /* NULL: out of memory */
     bool is_failed;
-    struct bytes why; /* what the system says */
+    struct bytes why; /* why there is no document */
 };
 
-struct names; /* the names of a folder, in their order */
+struct names; /* the names in a folder, in their order */
 
 struct documents {
     const struct options *options;
     struct streams streams;
-    size_t next;         /* of those that are given */
+    size_t next;         /* the next of the documents that are given */
     struct source list;  /* of --files-from */
     bool list_is_begun;
     bool list_has_ended;
-    struct bytes waiting; /* of the list's bytes */
+    struct bytes waiting; /* the bytes of the list that were read and not used yet */
     char separator;
-    struct names **folders; /* those that are being gone through, the innermost last */
+    struct names **folders; /* those that are being searched, the innermost last */
     size_t depth;
     size_t capacity;
     bool input_was_named;
     bool has_ended;
-    uint64_t known; /* how many there are, if that is known at the begin; else 0 */
+    uint64_t known; /* how many there are, if that is known at the start; else 0 */
 };
 
 void documents_open(struct documents *documents, const struct options *options, struct streams streams);
 
-/* The next document, which is then the caller's. False: there is none. */
+/* Gets the next document, which the caller then owns. False: there is none. */
 bool documents_next(struct documents *documents, struct document *document);
 void documents_close(struct documents *documents);
 void document_free(struct document *document);

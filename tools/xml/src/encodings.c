@@ -6,7 +6,7 @@
 
 enum { ROOM = 16384, LONGEST_CHARACTER = 64 };
 
-/* The length of what the byte alone is in UTF-8, written to `text`; 0 if it is no character. */
+/* Writes what the byte alone is in UTF-8 to `text`, and returns the length. 0: the byte is no character. */
 static size_t alone(iconv_t descriptor, char byte, char *text, size_t size) {
     char *from = &byte;
     char *to = text;
@@ -19,7 +19,7 @@ static size_t alone(iconv_t descriptor, char byte, char *text, size_t size) {
     return size - room;
 }
 
-/* Whether ASCII is itself in the encoding, but for `\` and `~`. */
+/* Whether ASCII is itself in the encoding, except `\` and `~`. */
 static bool keeps_ascii(struct transcoder *transcoder) {
     char text[16];
     for (int code = 0; code < 127; code++) {
@@ -56,7 +56,7 @@ bool transcoder_open(struct transcoder *transcoder, const char *encoding) {
     return true;
 }
 
-/* One call of iconv: takes some of the bytes, from `from` on. */
+/* Calls iconv once. It takes some of the bytes, from `from` on. */
 static size_t some(struct transcoder *transcoder, char **from, size_t *left, struct bytes *text) {
     if (!bytes_reserve(text, ROOM)) {
         errno = ENOMEM;
@@ -69,7 +69,7 @@ static size_t some(struct transcoder *transcoder, char **from, size_t *left, str
     return answer;
 }
 
-/* Whether the text has, from `begin` on, one of the characters that stand for `\` and `~` in some tables and not in others. */
+/* Whether the text has, from `begin` on, a character that replaces `\` or `~` in some tables and not in others. */
 static bool is_doubtful(const struct transcoder *transcoder, const struct bytes *text, size_t begin) {
     if (!transcoder->has_doubts) {
         return false;

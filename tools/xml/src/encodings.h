@@ -1,4 +1,4 @@
-/* Encodings that expat does not know, by iconv. */
+/* Decodes, by iconv, the encodings that expat does not know. */
 #ifndef ENCODINGS_H
 #define ENCODINGS_H
 
@@ -8,24 +8,24 @@
 
 enum decoded {
     DECODED,
-    DECODED_DOUBTFUL, /* a byte that programs read as different characters */
+    DECODED_DOUBTFUL, /* there is a byte that programs read as different characters */
     DECODED_NO_MEMORY
 };
 
 struct transcoder {
     iconv_t descriptor;
-    struct bytes waiting; /* the first bytes of a character whose rest has not come yet */
-    bool has_doubts;      /* whether the bytes of `\` and `~` are other characters in this table, as in that of Shift_JIS */
+    struct bytes waiting; /* the first bytes of a character whose other bytes have not come yet */
+    bool has_doubts;      /* whether the byte of `\` or of `~` is another character in this table, as in that of Shift_JIS */
 };
 
-/* Whether the encoding is served: iconv knows it, and in it ASCII is itself, so that the declaration was read as it is meant. The bytes of `\` and
- * `~` may be others. */
+/* Opens the transcoder. False: the encoding is not served. It is served if iconv knows it and ASCII is itself in it, so that the declaration was read
+ * as it is meant. The bytes of `\` and `~` may be other characters. */
 bool transcoder_open(struct transcoder *transcoder, const char *encoding);
 
-/* Adds the bytes as UTF-8 to `text`. Where they are none of the encoding a byte 0xFF stands, which no UTF-8 has. */
+/* Adds the bytes as UTF-8 to `text`. Bytes that the encoding does not have become a byte 0xFF, which no UTF-8 has. */
 enum decoded transcoder_add(struct transcoder *transcoder, const char *bytes, size_t length, struct bytes *text);
 
-/* Adds what the encoding still holds back, at the end of the input. */
+/* Adds what the encoding still holds back at the end of the input. */
 enum decoded transcoder_end(struct transcoder *transcoder, struct bytes *text);
 void transcoder_close(struct transcoder *transcoder);
 

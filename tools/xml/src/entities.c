@@ -16,7 +16,7 @@ static size_t hash_of(struct span name) {
     return (size_t)(hash ^ (hash >> 32));
 }
 
-/* The slot in which the name stands, or a free one. */
+/* The slot that has the name, or a free one. */
 static struct entity **slot_of(struct entity **slots, size_t slot_count, struct span name) {
     size_t at = hash_of(name) & (slot_count - 1);
     while (slots[at] != NULL && (strlen(slots[at]->name) != name.length || memcmp(slots[at]->name, name.data, name.length) != 0)) {
@@ -39,7 +39,7 @@ static bool is_predefined(struct span name) {
     return false;
 }
 
-/* Takes the next reference to an entity off the text. Character references are none. */
+/* Takes the next reference to an entity off the text. A character reference is not one. */
 static bool next_reference(struct span *text, struct span *name) {
     const char *end = text->data + text->length;
     const char *at = text->data;
@@ -114,7 +114,7 @@ static struct entity *entity_of(const char *name, struct span text, struct place
 }
 
 void entities_declare(struct entities *entities, const char *name, struct span text, struct place place) {
-    /* the first declaration of a name is the one that counts, and expat tells no other */
+    /* the first declaration of a name is the one that counts, and expat reports no other */
     if (found(entities, (struct span){name, strlen(name)}) != NULL) {
         return;
     }
@@ -138,7 +138,7 @@ bool entities_count_referring(struct entities *entities, struct span text) {
     return entities->referring <= MOST_REFERRING;
 }
 
-/* The entities that a search has come to, in their order; those before `done` have been looked into. */
+/* The entities that a search has reached, in order. Those before `done` have been searched. */
 struct search {
     struct entity **seen;
     size_t count;
@@ -160,7 +160,7 @@ static bool search_add(struct search *search, struct entity *entity) {
     return true;
 }
 
-/* Comes to all entities to which the text refers. Whether one of them is not declared; its name is then written to `undeclared`. */
+/* Goes to the entities that the text refers to. Returns whether one of them is not declared. If so, writes its name to `undeclared`. */
 static bool look_into(struct entities *entities, struct span text, struct search *search, struct bytes *undeclared) {
     struct span name;
     while (text.data != NULL && next_reference(&text, &name)) {
@@ -199,7 +199,7 @@ bool entities_undeclared(struct entities *entities, struct span text, struct byt
     return is_undeclared;
 }
 
-/* The same of the attributes of the tags in a text. `values` is room for the work. */
+/* The same for the attributes of the tags in a text. `values` is working space. */
 static bool undeclared_in_tags_of(struct entities *entities, struct span text, struct bytes *values, struct bytes *name) {
     for (size_t at = 0; at < text.length; at++) {
         if (text.data[at] != '<' || (at + 1 < text.length && memchr("!?/", text.data[at + 1], 3) != NULL)) {

@@ -1,20 +1,20 @@
-/* The general entities that a document declares, and whether a text refers to one that it does not. */
+/* The general entities that a document declares, and whether a text refers to one that it does not declare. */
 #ifndef ENTITIES_H
 #define ENTITIES_H
 
 #include "bytes.h"
 #include "fault.h"
 
-/* How many entities of a document may refer to others. Expat calls itself for an entity in an entity, so that the depth needs a bound. */
+/* How many entities of a document may refer to others. Expat calls itself for an entity in an entity, so the depth needs a bound. */
 enum { MOST_REFERRING = 1000 };
 
 struct entity {
     char *name;
-    char *text; /* NULL for one outside the document */
+    char *text; /* NULL for an entity outside the document */
     size_t length;
     struct place place;
-    size_t seen;  /* the number of the search that came here last */
-    bool is_whole; /* each entity to which it refers, directly or through others, is declared */
+    size_t seen;  /* the number of the last search that reached it */
+    bool is_whole; /* each entity that it refers to, directly or through others, is declared */
 };
 
 struct entities {
@@ -25,23 +25,23 @@ struct entities {
     size_t slot_count;
     size_t searches;
     size_t referring;
-    bool failed; /* there was no memory */
+    bool failed; /* memory ran out */
 };
 
-/* Declares an entity. The text is NULL for one outside the document. */
+/* Declares an entity. The text is NULL for an entity outside the document. */
 void entities_declare(struct entities *entities, const char *name, struct span text, struct place place);
 
-/* Counts a text that refers to entities, general or parameter entities. False: there are too many of them. */
+/* Counts the text if it refers to entities, general or parameter entities. False: too many texts do. */
 bool entities_count_referring(struct entities *entities, struct span text);
 
-/* Whether the text refers, directly or through others, to an entity that is not declared; its name is then written to `name`. */
+/* Whether the text refers, directly or through others, to an entity that is not declared. If so, writes its name to `name`. */
 bool entities_undeclared(struct entities *entities, struct span text, struct bytes *name);
 
-/* The same of the attributes of tags that stand in entities' texts; `place` is then that of the entity with the tag. */
+/* The same for the attributes of the tags in entities' texts. `place` is then the place of the entity with the tag. */
 bool entities_undeclared_in_tags(struct entities *entities, struct bytes *name, struct place *place);
 void entities_free(struct entities *entities);
 
-/* Adds the quoted values of the tag that begins the text to `values`. Whether the tag ends in the text. */
+/* Adds the quoted values of the tag at the start of the text to `values`. Returns whether the tag ends in the text. */
 bool tag_values(struct span text, struct bytes *values);
 
 #endif

@@ -1,4 +1,4 @@
-/* What ends the reading of a document, and where. */
+/* Why the reading of a document stops, and where. */
 #ifndef FAULT_H
 #define FAULT_H
 
@@ -6,7 +6,7 @@
 
 #include <stdint.h>
 
-/* A line and a column of the XML, both from 1; a column counts characters. Line 0: no place. */
+/* A line and a column of the XML, both from 1. A column counts characters. Line 0: no place. */
 struct place {
     uint64_t line;
     uint64_t column;
@@ -15,10 +15,10 @@ struct place {
 enum fault_kind {
     FAULT_NONE,
     FAULT_MALFORMED, /* the XML is not well formed */
-    FAULT_OUTSIDE,   /* the XML has something that the profile has not */
+    FAULT_OUTSIDE,   /* the XML has something that the profile does not have */
     FAULT_DEVICE,    /* a file or a device failed */
-    FAULT_MEMORY,    /* there was no memory */
-    FAULT_STOPPED    /* whoever takes the PYX wants no more */
+    FAULT_MEMORY,    /* out of memory */
+    FAULT_STOPPED    /* the receiver of the PYX wants no more */
 };
 
 struct fault {
@@ -29,7 +29,7 @@ struct fault {
 
 #define NO_FAULT {FAULT_NONE, {0, 0}, NO_BYTES}
 
-/* Keeps the first fault in mind; a later one changes nothing. */
+/* Sets the first fault. A later one changes nothing. */
 void fault_set(struct fault *fault, enum fault_kind kind, struct place place, const char *format, ...) __attribute__((format(printf, 4, 5)));
 void fault_free(struct fault *fault);
 

@@ -3,10 +3,10 @@
 #include <string.h>
 
 enum {
-    PIECE_BYTES = 65536,     /* of the document, handed over at once */
-    LONG_BYTES = 1048576,    /* a token from which on it is handed over in several */
+    PIECE_BYTES = 65536,     /* of the document, passed at once */
+    LONG_BYTES = 1048576,    /* the length from which on a comment or an instruction is passed as several */
     TOKEN_BYTES = 16777216,  /* the longest token that is no comment and no instruction */
-    FIRST_BYTES = 4          /* show the units */
+    FIRST_BYTES = 4          /* these show the units */
 };
 
 /* A kind of token that may be cut in two anywhere: how it opens, how it closes, and how its next part opens. */
@@ -26,7 +26,7 @@ static void prepare(struct feed *feed) {
     XML_SetBillionLaughsAttackProtectionMaximumAmplification(feed->parser, 100.0F);
     XML_SetBillionLaughsAttackProtectionActivationThreshold(feed->parser, 8388608);
 #if XML_MAJOR_VERSION * 100 + XML_MINOR_VERSION >= 206
-    XML_SetReparseDeferralEnabled(feed->parser, XML_FALSE); /* pieces that grow do the same, and tell of each token at once */
+    XML_SetReparseDeferralEnabled(feed->parser, XML_FALSE); /* pieces that grow do the same, and report each token at once */
 #endif
     feed->install(feed->parser, feed->context);
 }
@@ -59,7 +59,7 @@ void feed_close(struct feed *feed) {
     bytes_free(&feed->text);
 }
 
-/* The place in the document, without a byte order mark, and without what the seams of long tokens have added to its line. */
+/* The place in the document, without a byte order mark, and without what the seams of long tokens added to its line. */
 static struct place unshifted(const struct feed *feed, uint64_t line, uint64_t column) {
     uint64_t shift = line == feed->shift_line ? feed->shift : 0;
     return (struct place){line, column + 1 > shift + 1 ? column + 1 - shift : 1};
@@ -79,8 +79,8 @@ static bool out_of_memory(struct feed *feed) {
     return false;
 }
 
-/* Expat does not know the encoding. If iconv does, the document is begun again; expat's own way to take such an encoding has no characters above
- * U+FFFF, and none of which the first byte does not tell the length. */
+/* Expat does not know the encoding. If iconv does, the document begins again. Expat's own way to read such an encoding has no characters above U+FFFF,
+ * and needs the length of each character from its first byte. */
 static int is_unknown(void *context, const XML_Char *name, XML_Encoding *encoding) {
     struct feed *feed = context;
     (void)encoding;
@@ -98,7 +98,7 @@ static int is_unknown(void *context, const XML_Char *name, XML_Encoding *encodin
     return XML_STATUS_ERROR;
 }
 
-/* Whether two names of encodings are one: ASCII, and no difference between capitals and small letters. */
+/* Whether two names of encodings are the same, in ASCII and without regard to case. */
 static bool is_named(const char *encoding, const char *name) {
     for (; *encoding != '\0' && *name != '\0'; encoding++, name++) {
         char small = *encoding >= 'A' && *encoding <= 'Z' ? (char)(*encoding - 'A' + 'a') : *encoding;
@@ -127,7 +127,7 @@ size_t feed_wants(const struct feed *feed) {
     return kept < PIECE_BYTES ? PIECE_BYTES : kept > LONG_BYTES ? LONG_BYTES : kept;
 }
 
-/* What expat says, at its place; of a long token that does not end the place is its beginning. */
+/* Reports what expat says, at its place. For a long token that does not end, the place is its beginning. */
 static void tell(struct feed *feed) {
     enum XML_Error code = XML_GetErrorCode(feed->parser);
     const char *text = XML_ErrorString(code);
@@ -148,7 +148,7 @@ static void tell(struct feed *feed) {
     }
 }
 
-/* Parses bytes, and keeps those of the token that they do not end. */
+/* Parses bytes, and keeps those of the unfinished token. */
 static bool parse(struct feed *feed, const char *bytes, size_t length, bool is_last) {
     bytes_add(&feed->kept, bytes, length);
     if (feed->kept.failed) {
@@ -172,7 +172,7 @@ static bool parse(struct feed *feed, const char *bytes, size_t length, bool is_l
     return true;
 }
 
-/* A character of ASCII as the document writes it. */
+/* Adds a character of ASCII as the document writes it. */
 static void add_unit(const struct feed *feed, struct bytes *bytes, char character) {
     if (feed->units == UNITS_16_BIG) {
         bytes_add_byte(bytes, '\0');
@@ -193,7 +193,7 @@ static size_t unit_size(const struct feed *feed) {
     return feed->units == UNITS_BYTES ? 1 : 2;
 }
 
-/* The unit at the place, if it is one of ASCII; else 0x80. */
+/* The unit at this place, if it is in ASCII; else 0x80. */
 static unsigned char unit_at(const struct feed *feed, const char *bytes) {
     unsigned char low = (unsigned char)bytes[feed->units == UNITS_16_BIG ? 1 : 0];
     unsigned char high = feed->units == UNITS_BYTES ? 0 : (unsigned char)bytes[feed->units == UNITS_16_BIG ? 0 : 1];
@@ -206,7 +206,7 @@ static bool begins_character(const struct feed *feed, const char *bytes) {
     return feed->units == UNITS_BYTES ? (byte & 0xC0) != 0x80 : byte < 0xDC || byte > 0xDF;
 }
 
-/* Where a comment or an instruction may be cut: behind a character that neither begins its end nor a line end, and before the first unit of a
+/* Where a comment or an instruction may be cut: after a character that begins neither its end nor a line end, and before the first unit of a
  * character. 0: nowhere in these bytes. */
 static size_t seam_in(const struct feed *feed, const char *bytes, size_t length) {
     size_t size = unit_size(feed);
@@ -219,7 +219,7 @@ static size_t seam_in(const struct feed *feed, const char *bytes, size_t length)
     return 0;
 }
 
-/* Where the text stands in the bytes, from an offset on; their length if it does not. */
+/* Where the text is in the bytes, from an offset on; their length if it is not there. */
 static size_t found_at(const struct bytes *bytes, const struct bytes *text, size_t from) {
     if (text->length == 0 || bytes->length < from + text->length) {
         return bytes->length;
@@ -235,7 +235,7 @@ static size_t found_at(const struct bytes *bytes, const struct bytes *text, size
     return bytes->length;
 }
 
-/* Whether what is kept begins as the kind does, and is no declaration `<?xml`. */
+/* Whether the kept bytes begin as the kind does, and are no declaration `<?xml`. */
 static bool is_of_kind(const struct feed *feed, const struct kind *kind) {
     static const char declaration[] = "xml";
     size_t size = unit_size(feed);
@@ -255,8 +255,8 @@ static bool is_of_kind(const struct feed *feed, const struct kind *kind) {
     return !is_declaration;
 }
 
-/* Whether the unfinished token has its end neither in what is kept nor in the bytes behind that. The bytes are added to what is kept for the time
- * of the search. */
+/* Whether the end of the unfinished token is neither in the kept bytes nor in the bytes after them. These are added to the kept bytes during the
+ * search. */
 static bool goes_on(struct feed *feed, const struct kind *kind, const char *bytes, size_t length) {
     struct bytes closes = NO_BYTES;
     size_t kept = feed->kept.length;
@@ -269,7 +269,7 @@ static bool goes_on(struct feed *feed, const struct kind *kind, const char *byte
     return goes;
 }
 
-/* Ends the token behind the bytes, and opens one of its kind. */
+/* Ends the token after the bytes, and opens another of its kind. */
 static bool part(struct feed *feed, const struct kind *kind, const char *bytes, size_t length) {
     struct bytes seam = NO_BYTES;
     if (feed->cut_at != feed->begin) {
@@ -296,7 +296,7 @@ static bool part(struct feed *feed, const struct kind *kind, const char *bytes, 
     return is_good;
 }
 
-/* Cuts the unfinished token at the first place in the bytes where that can be. How many of the bytes are done then. */
+/* Cuts the unfinished token at the first possible place in the bytes. Writes to `done` how many of the bytes were passed. */
 static bool cut(struct feed *feed, const char *bytes, size_t length, size_t *done) {
     *done = 0;
     for (size_t at = 0; at < sizeof kinds / sizeof *kinds; at++) {
@@ -327,7 +327,7 @@ static void see_units(struct feed *feed) {
     feed->shift = feed->is_marked || memcmp(first, "\xFF\xFE", 2) == 0 || memcmp(first, "\xFE\xFF", 2) == 0;
 }
 
-/* Hands over bytes of which the units are known, with a seam where they go on with a long comment or instruction. */
+/* Passes bytes whose units are known. If they continue a long comment or instruction, it gets a seam. */
 static bool take(struct feed *feed, const char *bytes, size_t length) {
     size_t done = 0;
     if (feed->kept.length >= LONG_BYTES && !cut(feed, bytes, length, &done)) {
@@ -352,7 +352,7 @@ static bool is_decoded(struct feed *feed, enum decoded decoded) {
     return decoded == DECODED;
 }
 
-/* Hands over bytes by way of the transcoder. */
+/* Passes bytes through the transcoder. */
 static bool take_transcoded(struct feed *feed, const char *bytes, size_t length) {
     bytes_clear(&feed->text);
     enum decoded decoded = transcoder_add(&feed->transcoder, bytes, length, &feed->text);
@@ -362,7 +362,7 @@ static bool take_transcoded(struct feed *feed, const char *bytes, size_t length)
     return is_decoded(feed, decoded);
 }
 
-/* Begins the document again as UTF-8, where expat does not know its encoding and iconv does. */
+/* Begins the document again as UTF-8. Expat does not know its encoding, and iconv does. */
 static bool begin_again(struct feed *feed) {
     struct bytes raw = feed->kept;
     feed->kept = (struct bytes)NO_BYTES;
@@ -378,7 +378,7 @@ static bool begin_again(struct feed *feed) {
     return is_good;
 }
 
-/* What to do after a piece: begin again, where the document's first line asks for it. */
+/* What to do after a piece: begin again if the document's first line asks for it. */
 static bool settled(struct feed *feed, bool is_good) {
     bool asks = !is_good && feed->fault->kind == FAULT_NONE && feed->unknown.length > 0 && !feed->is_transcoded;
     return asks ? begin_again(feed) : is_good;
@@ -419,7 +419,7 @@ bool feed_end(struct feed *feed) {
     return is_decoded(feed, decoded);
 }
 
-/* A code point as UTF-8. */
+/* Adds a code point as UTF-8. */
 static void add_code(struct bytes *text, unsigned code) {
     if (code < 0x80) {
         bytes_add_byte(text, (char)code);
@@ -467,7 +467,7 @@ bool feed_tag_values(const struct feed *feed, struct bytes *values) {
     XML_Index index = XML_GetCurrentByteIndex(feed->parser);
     size_t begin = index < feed->begin ? feed->kept.length : (size_t)(index - feed->begin);
     if (begin + unit_size(feed) > feed->kept.length || unit_at(feed, feed->kept.data + begin) != '<') {
-        return true; /* the tag stands in an entity's text, and is looked at there */
+        return true; /* the tag is in an entity's text, and is checked there */
     }
     size_t left = feed->kept.length - begin;
     if (feed->units == UNITS_BYTES && !feed->is_latin) {

@@ -1,7 +1,7 @@
-/* The way of a document's bytes into expat, in time that grows with the document alone.
+/* Passes a document's bytes to expat, in time that grows with the document alone.
  *
- * Expat may read an unfinished token again from its start at each call. So a long comment or instruction is handed over in several, which vanish as
- * one does; each other token gets larger pieces while it lasts, and has a limit. */
+ * Expat may read an unfinished token again from its start at each call. So a long comment or instruction is passed as several, which vanish as one
+ * does. The pieces of any other token get larger while it lasts, and such a token has a limit. */
 #ifndef FEED_H
 #define FEED_H
 
@@ -9,17 +9,17 @@
 #include "entities.h"
 #include "fault.h"
 
-#define XML_DTD 1 /* expat.h shows the limits on amplification then */
+#define XML_DTD 1 /* then expat.h declares the limits on amplification */
 #include <expat.h>
 
 #if XML_MAJOR_VERSION * 100 + XML_MINOR_VERSION < 204
 #error "expat 2.4 or later is wanted: earlier ones have no limit on amplification"
 #endif
 
-/* The target of the instruction as which a long one goes on. It has no line in the PYX. */
+/* The target of an instruction that continues a long one. It has no line in the PYX. */
 #define GOES_ON "rncv-xml-goes-on"
 
-/* The characters of a document, as expat takes them. */
+/* How the characters of a document are written, as expat reads them. */
 enum units {
     UNITS_NOT_KNOWN,
     UNITS_BYTES, /* UTF-8, or another encoding in which ASCII is itself */
@@ -30,45 +30,45 @@ enum units {
 struct feed {
     XML_Parser parser;
     struct fault *fault;
-    struct bytes kept; /* the bytes from the token on that expat has not read to its end */
-    XML_Index begin;   /* the place of the first of these, in expat's count */
-    struct bytes first; /* the first bytes, until there are enough of them to know the units */
+    struct bytes kept; /* the bytes from the start of the token that expat has not read to its end */
+    XML_Index begin;   /* the place of the first of these, as expat counts */
+    struct bytes first; /* the first bytes, until there are enough to know the units */
     enum units units;
     bool is_latin;   /* the document declares ISO-8859-1 */
-    bool is_marked;  /* a byte order mark of UTF-8 stands first */
-    uint64_t shift_line; /* the line with a byte order mark or a seam, and by how many columns that shifts it */
+    bool is_marked;  /* a byte order mark of UTF-8 comes first */
+    uint64_t shift_line; /* the line with a byte order mark or a seam, and (`shift`) by how many columns that shifts it */
     uint64_t shift;
-    XML_Index cut_at; /* where the last long token ends, and where that began; -1: there is none */
+    XML_Index cut_at; /* the end of the last part that was cut off a long token, and (`cut_place`) where that token began; -1: there is none */
     struct place cut_place;
-    struct bytes unknown; /* an encoding that expat does not know, and that iconv may */
+    struct bytes unknown; /* an encoding that expat does not know and iconv does */
     struct transcoder transcoder;
     bool is_transcoded;
-    struct bytes text; /* what the transcoder made */
+    struct bytes text; /* the output of the transcoder */
     void (*install)(XML_Parser parser, void *context); /* sets the handlers of a parser */
     void *context;
 };
 
-/* False: there was no memory, and the fault says so. */
+/* False: out of memory, and the fault says so. */
 bool feed_open(struct feed *feed, struct fault *fault, void (*install)(XML_Parser parser, void *context), void *context);
 void feed_close(struct feed *feed);
 
-/* The line and the column of what the parser is at. */
+/* The line and the column at which the parser is. */
 struct place feed_here(const struct feed *feed);
 
 /* Takes the encoding that the document declares. */
 void feed_declared(struct feed *feed, const char *encoding);
 
-/* How many bytes to hand over next. */
+/* How many bytes to pass next. */
 size_t feed_wants(const struct feed *feed);
 
-/* Hands over bytes, or tells that there are no more. False: there is a fault. */
+/* Passes bytes, or says that there are no more. False: there is a fault. */
 bool feed_take(struct feed *feed, const char *bytes, size_t length);
 bool feed_end(struct feed *feed);
 
-/* The quoted values of the tag that the parser is at, as UTF-8. False: there was no memory. */
+/* Gets the quoted values of the tag at which the parser is, as UTF-8. False: out of memory. */
 bool feed_tag_values(const struct feed *feed, struct bytes *values);
 
-/* Ends the reading with a fault of the document. */
+/* Stops the reading with a fault of the document. */
 void feed_refuse(struct feed *feed, enum fault_kind kind, struct place place, const char *what);
 
 #endif

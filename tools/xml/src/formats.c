@@ -18,7 +18,7 @@ void add_text(struct bytes *line, const struct result *result, bool has_color) {
     bytes_add_text(line, has_color ? "\033[0m\n" : "\n");
 }
 
-/* A string of JSON. A byte that is no UTF-8 is written as `\udcXX`, which Python's file names take back. */
+/* Adds a string of JSON. A byte that is not UTF-8 is written as `\udcXX`, which Python's file names turn back into the byte. */
 static void add_string(struct bytes *line, const char *text, size_t length) {
     bytes_add_byte(line, '"');
     for (size_t at = 0; at < length;) {
@@ -73,7 +73,7 @@ void add_json(struct bytes *line, const struct result *result) {
     bytes_add_text(line, "}\n");
 }
 
-/* Text in a command of GitHub's: `%` and line ends escaped, in a property `:` and `,` as well. */
+/* Adds text to a command of GitHub's. `%` and line ends are escaped, and in a property `:` and `,` too. */
 static void add_command_text(struct bytes *line, const char *text, bool is_property) {
     for (; *text != '\0'; text++) {
         bool is_escaped = *text == '%' || *text == '\r' || *text == '\n' || (is_property && (*text == ':' || *text == ','));
@@ -98,7 +98,7 @@ void add_github(struct bytes *line, const struct result *result) {
     bytes_add_byte(line, '\n');
 }
 
-/* The path as a URI reference: what is not plain is escaped. */
+/* Adds the path as a URI reference. What is not plain is escaped. */
 static void add_uri(struct bytes *line, const char *path) {
     static const char plain[] = "-._~/!$&'()*+,;=@";
     bytes_add_byte(line, '"');

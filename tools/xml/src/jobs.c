@@ -5,11 +5,11 @@
 #include <string.h>
 
 enum {
-    WINDOW_OF_EACH = 32,  /* documents that may be done before the one that is told next, for each thread */
-    STACK_BYTES = 8388608 /* of a thread: expat calls itself for an entity in an entity */
+    WINDOW_OF_EACH = 32,  /* for each thread, the documents that may be done before the next one is reported */
+    STACK_BYTES = 8388608 /* for a thread: expat calls itself for an entity in an entity */
 };
 
-/* A document and its answer, until it is told. */
+/* A document and its answer, until it is reported. */
 struct slot {
     struct document document;
     struct answer answer;
@@ -43,7 +43,7 @@ static void tell_one(struct report *report, struct slot *slot) {
     document_free(&slot->document);
 }
 
-/* Takes the next document into a slot; NULL where there is none. */
+/* Takes the next document into a slot. NULL: there is none. */
 static struct slot *take(struct jobs *jobs) {
     struct document document;
     struct slot *slot = NULL;
@@ -60,7 +60,7 @@ static struct slot *take(struct jobs *jobs) {
     return slot;
 }
 
-/* A slot is done: tells it and those that wait for it, in their order. */
+/* Marks a slot as done. Reports the next documents that are done, in their order. */
 static void give_back(struct jobs *jobs, struct slot *slot) {
     pthread_mutex_lock(&jobs->lock);
     slot->is_done = true;
@@ -100,7 +100,7 @@ static bool run_alone(struct documents *documents, struct shared *shared, struct
     return true;
 }
 
-/* Begins the threads that can be begun, and waits for them. How many there were. */
+/* Starts the threads that can be started, and waits for them. Returns how many there were. */
 static unsigned run_threads(struct judge *judges, unsigned count) {
     pthread_t *threads = calloc(count, sizeof *threads);
     pthread_attr_t attributes;

@@ -7,7 +7,7 @@
 #include <string.h>
 
 enum {
-    PREFIX_BYTES = 1048576, /* of the PYX, kept for changes */
+    PREFIX_BYTES = 1048576, /* of the PYX, kept to try changes */
     MOST_NOTES = 100,
     SHOWN_CHARACTERS = 40 /* of a text */
 };
@@ -20,7 +20,7 @@ struct judging {
     struct fault *fault;
     uint64_t invalid_line; /* 0: not known */
     struct told told;
-    struct place broken_place; /* of the clause that the document breaks */
+    struct place broken_place; /* where the document breaks a clause */
     char broken_kind;
     rncv_verdict verdict;
     bool is_broken;
@@ -58,7 +58,7 @@ int status_of(enum verdict verdict) {
     }
 }
 
-/* The length of the character that begins here, as UTF-8 says it; 1 for what is none. */
+/* The length in UTF-8 of the character that begins here; 1 if none does. */
 static size_t character_length(const char *text, size_t left) {
     unsigned char byte = (unsigned char)text[0];
     size_t length = byte < 0xC2 ? 1 : byte < 0xE0 ? 2 : byte < 0xF0 ? 3 : byte < 0xF5 ? 4 : 1;
@@ -101,7 +101,7 @@ static void keep(struct judge *judge, const struct piece *piece) {
     }
 }
 
-/* The document breaks a clause: where, and by what kind of line. */
+/* The document breaks a clause. Notes where, and at what kind of line. */
 static void break_off(struct judging *judging, const struct piece *piece) {
     struct told told;
     if (rncv_document_end(&judging->judge->schema, &judging->verdict) != RNCV_DONE) {
@@ -115,7 +115,7 @@ static void break_off(struct judging *judging, const struct piece *piece) {
     told_free(&told);
 }
 
-/* Hands the lines to the library. False: no more of them are wanted. */
+/* Passes the lines to the library. False: no more are wanted. */
 static bool take_piece(void *context, const struct piece *piece) {
     struct judging *judging = context;
     struct judge *judge = judging->judge;
@@ -164,7 +164,7 @@ static bool read_counted(void *context, char *bytes, size_t size, size_t *length
     return true;
 }
 
-/* The limit that a document with this kind of line at its fault goes over. */
+/* The limit that a document exceeds if its fault is at this kind of line. */
 static const char *limit_of(char kind) {
     switch (kind) {
     case '(':
@@ -188,7 +188,7 @@ static void answer_broken(const struct judging *judging) {
     bytes_format(&answer->message, "malformed P%d: %s, see docs/CLAUSES.md", clause, title == NULL ? "" : title);
 }
 
-/* `invalid`, and what stands at the place. */
+/* Answers `invalid`, and what is at the place. */
 static void answer_invalid(struct judging *judging) {
     struct answer *answer = judging->answer;
     static const char *const words[] = {"invalid", "invalid: at <", "invalid: at attribute ", "invalid: at text \"", "invalid: at the end of <"};
@@ -200,14 +200,14 @@ static void answer_invalid(struct judging *judging) {
     bytes_add_text(&answer->message, ends[answer->stands]);
 }
 
-/* What the fault of the conversion makes of the document. */
+/* The answer for a fault of the conversion. */
 static void answer_fault(const struct fault *fault, struct answer *answer) {
     answer->verdict = fault->kind == FAULT_MALFORMED ? VERDICT_MALFORMED : fault->kind == FAULT_OUTSIDE ? VERDICT_OUTSIDE : VERDICT_FAILED;
     answer->place = fault->place;
     add_shown(&answer->message, fault->what.data, fault->what.length, SIZE_MAX);
 }
 
-/* Ends the document, which was handed over whole. */
+/* Ends the document, after the whole of it was passed. */
 static void end_document(struct judging *judging) {
     struct judge *judge = judging->judge;
     struct piece nothing = {"", 0, NULL, 0, UINT64_MAX};

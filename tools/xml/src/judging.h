@@ -1,4 +1,4 @@
-/* One document, judged by a schema. */
+/* Judges one document by a schema. */
 #ifndef JUDGING_H
 #define JUDGING_H
 
@@ -12,12 +12,12 @@
 enum verdict {
     VERDICT_VALID,
     VERDICT_INVALID,
-    VERDICT_MALFORMED, /* no well-formed XML, or no document of the profile's */
-    VERDICT_OUTSIDE,   /* what the XML has is outside the profile */
+    VERDICT_MALFORMED, /* not well-formed XML, or not a document of the profile */
+    VERDICT_OUTSIDE,   /* something in the XML is outside the profile */
     VERDICT_FAILED     /* a file, a device or memory failed */
 };
 
-/* What stands at the place that is told. */
+/* What is at the place that is reported. */
 enum stands {
     STANDS_NOT_KNOWN,
     STANDS_TAG,
@@ -30,41 +30,41 @@ struct answer {
     enum verdict verdict;
     struct place place; /* line 0: none */
     enum stands stands;
-    struct bytes name;    /* of the element or the attribute; the text's first characters */
-    int clause;           /* the document breaks P1 to P13; else 0 */
-    struct bytes message; /* what is said of it, without its place; empty for a valid document */
-    struct bytes notes;   /* lines of what is left out of it, each ended by a line feed, without the document's name */
+    struct bytes name;    /* the name of the element or the attribute, or the first characters of the text */
+    int clause;           /* 1 to 13 if the document breaks P1 to P13; else 0 */
+    struct bytes message; /* what is said about the document, without the place; empty if it is valid */
+    struct bytes notes;   /* lines about what is left out of it, each ended by a line feed, without the document's name */
     size_t note_count;
 };
 
-/* No verdict yet: nothing is valid by accident. */
+/* No verdict yet. It is not VERDICT_VALID, so nothing is valid by accident. */
 #define NO_ANSWER {VERDICT_FAILED, {0, 0}, STANDS_NOT_KNOWN, NO_BYTES, 0, NO_BYTES, NO_BYTES, 0}
 
 struct jobs;
 
-/* What is shared by all who judge. */
+/* What all judges share. */
 struct shared {
     rncv_schema schema;
-    const char *const *values; /* texts to try in the place of an attribute's value, to find a wrong one */
+    const char *const *values; /* texts to try instead of an attribute's value, to find a wrong one */
     size_t value_count;
     struct streams streams;
     atomic_ullong bytes_read;
-    bool is_by_two;    /* a large document is converted by one thread and judged by another */
-    struct jobs *jobs; /* those of which the threads are; NULL for one thread */
-    void (*tick)(void *context); /* is called every now and then while a document is read */
+    bool is_by_two;    /* one thread converts a large document, and another judges it */
+    struct jobs *jobs; /* the jobs that the threads work on; NULL for one thread */
+    void (*tick)(void *context); /* is called now and then while a document is read */
     void *context;
 };
 
-/* Who judges: one for each thread. */
+/* A judge: one for each thread. */
 struct judge {
     struct shared *shared;
     rncv_schema schema;
-    struct bytes prefix; /* the first lines of the document, to try changes of it */
+    struct bytes prefix; /* the first lines of the document, to try changes to it */
     bool prefix_is_all;
     struct trail trail;
 };
 
-/* False: there was no memory. */
+/* False: out of memory. */
 bool judge_open(struct judge *judge, struct shared *shared);
 void judge_close(struct judge *judge);
 
@@ -72,10 +72,10 @@ void judge_close(struct judge *judge);
 void judge_document(struct judge *judge, const char *name, struct answer *answer);
 void answer_free(struct answer *answer);
 
-/* The exit status that a verdict asks for. */
+/* The exit status for a verdict. */
 int status_of(enum verdict verdict);
 
-/* The text with its control characters written as `\n`, `\x85` and the like, so that it stays on its line. At most `limit` characters are shown. */
+/* Adds the text with its control characters written as `\n`, `\x85` and the like, so that it stays on its line. Shows at most `limit` characters. */
 void add_shown(struct bytes *line, const char *text, size_t length, size_t limit);
 
 #endif

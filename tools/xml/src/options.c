@@ -54,23 +54,23 @@ const char *options_help(void) {
            "\n"
            "Documents:\n"
            "  -r, --recursive      judge the documents in folders\n"
-           "      --glob PATTERN   the names to take in folders; may stand several times (else *.xml)\n"
+           "      --glob PATTERN   the names to take in folders; can be repeated (else *.xml)\n"
            "      --files-from FILE  names of documents, a line each, or ended by a zero byte each; `-` is standard input\n"
            "      --stdin-name NAME  how standard input is called in what is printed\n"
            "  -j, --jobs N         judge N documents at once, 64 at most (else the number of processors)\n"
            "Schema:\n"
-           "      --map HREF=FILE  the file that HREF means in an include or external; may stand several times\n"
+           "      --map HREF=FILE  the file that HREF means in an include or external; can be repeated\n"
            "      --strict-profile  a schema that rncv-profile loosened is refused (status 3)\n"
            "Output:\n"
            "      --all            a line for each document, `FILE: valid` too\n"
            "  -v, --verbose        the same, with the files of the schema and a closing line\n"
-           "  -q, --quiet          nothing but the exit status, and what keeps the program from its work\n"
+           "  -q, --quiet          print nothing but failures; the exit status says the rest\n"
            "      --format FORMAT  text, json (an object a line, for each document), sarif or github\n"
-           "      --color WHEN     auto, always or never; NO_COLOR is heeded\n"
+           "      --color WHEN     auto, always or never; NO_COLOR is respected\n"
            "  -h, --help           this text\n"
            "      --version        the version\n"
            "\n"
-           "A line is `FILE:LINE:COLUMN: invalid: at <b>`, with what stands at the place; a valid document has none.\n"
+           "A line is `FILE:LINE:COLUMN: invalid: at <b>`, with what is at the place; a valid document has no line.\n"
            "Exit status, the greatest of: 0 all valid; 1 some invalid; 2 some malformed or outside the profile; 3 the schema is refused;\n"
            "4 a file or a device failed; 5 wrong words. 130 after Ctrl-C, 141 if the output is a closed pipe.\n";
 }
@@ -92,7 +92,7 @@ static bool is_wrong(struct options *options, const char *what, const char *word
     return false;
 }
 
-/* The place of the word in a list that ends in NULL; -1 if it is not there. */
+/* The index of the word in a list that ends in NULL; -1 if it is not there. */
 static int place_in(const char *const *list, const char *word) {
     for (int at = 0; list[at] != NULL; at++) {
         if (strcmp(list[at], word) == 0) {
@@ -183,7 +183,7 @@ static void take_flag(struct options *options, enum name name) {
     options->wants_version |= name == NAME_VERSION;
 }
 
-/* The option that the word is, and its value if that stands in the word. */
+/* The option that the word is, and its value if that is in the word. */
 static const struct option *option_of(const char *word, const char **value) {
     *value = NULL;
     for (size_t at = 0; at < sizeof known / sizeof *known; at++) {
@@ -201,7 +201,7 @@ static const struct option *option_of(const char *word, const char **value) {
     return NULL;
 }
 
-/* Takes the option at the place; goes on to the last word that belongs to it. */
+/* Takes the option at this place, and moves `at` to the last word that belongs to it. */
 static bool take_option(struct options *options, char **words, int count, int *at) {
     const char *value;
     const char *word = words[*at];
@@ -219,7 +219,7 @@ static bool take_option(struct options *options, char **words, int count, int *a
     return take_value(options, option->name, value == NULL ? words[++*at] : value);
 }
 
-/* Where the words that are neither options nor values go: before a `--` and behind it. */
+/* The words that are neither options nor values: those before a `--`, and those after it. */
 struct sides {
     const char **list[2];
     size_t count[2];
@@ -242,8 +242,8 @@ static bool read_sides(struct options *options, int count, char **words, struct 
     return true;
 }
 
-/* Parts the words into files of the schema and documents. With `--` between them all before it are files of the schema; where none stands before it,
- * or there is no `--`, the first word is the schema. */
+/* Divides the words into files of the schema and documents. All words before a `--` are files of the schema. If there is no `--`, or no word before it,
+ * the first word is the schema. */
 static bool part_words(struct options *options, struct sides *sides) {
     bool is_first = !sides->are_parted || sides->count[0] == 0;
     size_t side = sides->are_parted && sides->count[0] == 0;
@@ -267,7 +267,7 @@ static bool part_words(struct options *options, struct sides *sides) {
     return true;
 }
 
-/* What does not go together. */
+/* Whether the options go together. If not, `wrong` says why. */
 static bool is_sound(struct options *options) {
     bool has_input = false;
     for (size_t at = 0; at < options->document_count; at++) {

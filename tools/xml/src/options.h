@@ -11,7 +11,7 @@ enum format {
     FORMAT_GITHUB
 };
 
-/* When a thing is done that suits a terminal. */
+/* When to do what suits a terminal. */
 enum when {
     WHEN_TERMINAL,
     WHEN_ALWAYS,
@@ -30,7 +30,7 @@ struct options {
     struct mapping *mappings;
     size_t mapping_count;
     const char *files_from;
-    const char *input_name; /* how standard input is called */
+    const char *input_name; /* the name of standard input in what is printed */
     unsigned jobs;          /* 0: as many as there are processors */
     enum format format;
     enum when color;
@@ -44,7 +44,7 @@ struct options {
     struct bytes wrong; /* what is wrong with the words */
 };
 
-/* False: the words are wrong, and `wrong` says what; or there was no memory. */
+/* False: the words are wrong, and `wrong` says what is wrong; or memory ran out. */
 bool options_read(struct options *options, int count, char **words);
 void options_free(struct options *options);
 const char *options_help(void);

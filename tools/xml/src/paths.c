@@ -50,7 +50,7 @@ static int hexadecimal(char byte) {
     return byte >= '0' && byte <= '9' ? byte - '0' : byte >= 'a' && byte <= 'f' ? byte - 'a' + 10 : byte >= 'A' && byte <= 'F' ? byte - 'A' + 10 : -1;
 }
 
-/* Adds the text with `%20` and the like replaced. A zero byte is no part of a path, and stays as it is written. */
+/* Adds the text with `%20` and the like replaced. A path has no zero byte, so `%00` stays as it is written. */
 static void add_unquoted(struct bytes *path, const char *text, size_t length) {
     for (size_t at = 0; at < length; at++) {
         int high = text[at] == '%' && at + 2 < length ? hexadecimal(text[at + 1]) : -1;
@@ -64,7 +64,7 @@ static void add_unquoted(struct bytes *path, const char *text, size_t length) {
     }
 }
 
-/* The length of a scheme with its colon at the words' begin: two characters at least. 0: there is none. */
+/* The length of the scheme at the start of the words, with its colon. A scheme has at least two characters. 0: there is none. */
 static size_t scheme_length(const char *words, size_t length) {
     size_t at = 0;
     while (at < length) {
@@ -82,7 +82,7 @@ static size_t scheme_length(const char *words, size_t length) {
     return 0;
 }
 
-/* The path of a `file:` URI of this machine, as it is written. Without data: it would have to be fetched. */
+/* The path of a `file:` URI of this machine, as it is written. Without data: the file would have to be fetched. */
 static struct span local_path(const char *words, size_t length, size_t scheme) {
     struct span path = {words + scheme, length - scheme};
     if (scheme != 5 || strncasecmp(words, "file:", 5) != 0) {
@@ -105,7 +105,7 @@ static struct span local_path(const char *words, size_t length, size_t scheme) {
     return path;
 }
 
-/* Begins a way in the folder of the path, but where the words say a path from the root. */
+/* Begins a way with the folder of the path, unless the words are a path from the root. */
 static struct bytes *add_way(struct ways *ways, struct span words, const char *path) {
     struct bytes *way = &ways->list[ways->count++];
     const char *slash = strrchr(path, '/');
@@ -142,7 +142,7 @@ void ways_free(struct ways *ways) {
     bytes_free(&ways->list[1]);
 }
 
-/* Takes the last part off a normal path, if it is one to take off. */
+/* Takes the last part off a normal path. False: it cannot be taken off. */
 static bool take_off(struct bytes *normal, size_t root) {
     size_t at = normal->length;
     while (at > root && normal->data[at - 1] != '/') {

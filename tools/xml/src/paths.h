@@ -1,4 +1,4 @@
-/* Names of files: where the words of a mention lead. */
+/* Names of files: the paths that the words of a mention may mean. */
 #ifndef PATHS_H
 #define PATHS_H
 
@@ -7,14 +7,14 @@
 /* Whether the bytes are UTF-8. */
 bool is_utf_8(const char *bytes, size_t length);
 
-/* Whether a file, and no folder or device, stands at the path. */
+/* Whether a file, and no folder or device, is at the path. */
 bool is_file(const char *path);
 
-/* Whether both paths lead to one thing, or neither to any. */
+/* Whether both paths lead to the same thing, or neither leads to anything. */
 bool is_same(const char *first, const char *second);
 
-/* The ways in which the words of a mention may be a path beside the file at `path`: as they stand, and as a URI. At most two, the first empty if the
- * file would have to be fetched. */
+/* The ways in which the words of a mention may be a path beside the file at `path`: as they are written, and as a URI. There are at most two. The first
+ * is empty if the file would have to be fetched. */
 struct ways {
     struct bytes list[2];
     size_t count;

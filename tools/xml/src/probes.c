@@ -3,12 +3,12 @@
 #include <string.h>
 
 enum {
-    BYTES_OF_EACH = 65536, /* handed to the library for one document, and .. */
-    TIMES_ITS_LENGTH = 8,  /* .. so many times its first lines: many invalid documents take little longer than valid ones */
+    BYTES_OF_EACH = 65536, /* passed to the library for one document, and .. */
+    TIMES_ITS_LENGTH = 8,  /* .. its first lines this many times: many invalid documents take little longer than valid ones */
     MOST_PARTS = 5
 };
 
-/* A text in parts, as it is handed to the library. */
+/* A text in parts, as it is passed to the library. */
 struct parts {
     struct span list[MOST_PARTS];
     size_t count;
@@ -22,10 +22,10 @@ enum outcome {
 
 struct probing {
     struct judge *judge;
-    size_t left; /* how many bytes may still be handed over */
+    size_t left; /* how many bytes may still be passed */
 };
 
-/* The tag that is told: its lines in the prefix. */
+/* The tag that is reported: its lines in the prefix. */
 struct tag {
     struct span before; /* all lines before it */
     struct span start;  /* its `(` line */
@@ -61,7 +61,7 @@ static enum outcome outcome_of(struct probing *probing, const struct parts *part
     return since == 0 ? OUTCOME_GOES_ON : OUTCOME_ENDS;
 }
 
-/* The lines before the line of this number, from 1. False: it was not kept. */
+/* Gets the lines before the line with this number, from 1. False: that line was not kept. */
 static bool lines_before(const struct judge *judge, uint64_t line, struct span *lines) {
     const char *at = judge->prefix.data;
     const char *end = at + judge->prefix.length;
@@ -79,7 +79,7 @@ static bool lines_before(const struct judge *judge, uint64_t line, struct span *
     return at < end;
 }
 
-/* Whether the lines, and one more, go on to something valid. */
+/* Whether something valid may follow the lines and one more line. */
 static enum outcome with_line(struct probing *probing, struct span lines, const char *line) {
     struct parts parts = {.count = 0};
     add(&parts, lines.data, lines.length);
@@ -87,7 +87,7 @@ static enum outcome with_line(struct probing *probing, struct span lines, const 
     return outcome_of(probing, &parts);
 }
 
-/* The tag whose lines are the last of these. */
+/* The tag that the last of these lines are. */
 static struct tag last_tag(struct span lines) {
     size_t begin = lines.length;
     struct tag tag = {lines, {lines.data + lines.length, 0}, {lines.data + lines.length, 0}};
@@ -111,11 +111,11 @@ static bool is_declaration(struct span attribute) {
     return attribute.length > 6 && memcmp(attribute.data, "Axmlns", 6) == 0 && (attribute.data[6] == ' ' || attribute.data[6] == ':');
 }
 
-/* Whether the tag goes on with another line, or none, in the place of this attribute. */
+/* Whether something valid may follow the tag with another line, or none, instead of this attribute. */
 static enum outcome with_attribute(struct probing *probing, const struct tag *tag, struct span attribute, struct span line) {
     struct parts parts = {.count = 0};
     const char *behind = attribute.data + attribute.length;
-    add(&parts, tag->before.data, (size_t)(attribute.data - tag->before.data)); /* the tag's start and the attributes before this one, too */
+    add(&parts, tag->before.data, (size_t)(attribute.data - tag->before.data)); /* with the tag's start and the attributes before this one */
     add(&parts, line.data, line.length);
     add(&parts, behind, (size_t)(tag->attributes.data + tag->attributes.length - behind));
     add(&parts, "?x\n", 3);
@@ -138,7 +138,7 @@ static bool has_better_value(struct probing *probing, const struct tag *tag, str
     return is_better;
 }
 
-/* The lines without the text that is the last of them, and that may be in several lines. */
+/* The lines without the text at their end. It may have several lines. */
 static struct span without_text(struct span lines) {
     size_t end = lines.length;
     while (end > 0) {
@@ -154,7 +154,7 @@ static struct span without_text(struct span lines) {
     return (struct span){lines.data, end};
 }
 
-/* Whether the end tag of this name is good behind another text. If it is not, what is wrong is the end: something is missing before it. */
+/* Whether the end tag of this name is good after another text. If not, the end is wrong: something is missing before it. */
 static bool has_better_text(struct probing *probing, struct span lines, const struct bytes *name) {
     const struct shared *shared = probing->judge->shared;
     struct span before = without_text(lines);
@@ -174,7 +174,7 @@ static bool has_better_text(struct probing *probing, struct span lines, const st
     return is_better;
 }
 
-/* Goes over the attributes of the tag, and takes the first that can be left out, or that can have another value; then the tag is good. */
+/* Finds the first attribute of the tag such that the tag is good without it, or, with `tries_values`, with another value of it. */
 static bool find_attribute(struct probing *probing, const struct tag *tag, bool tries_values, struct bytes *name) {
     const char *end = tag->attributes.data + tag->attributes.length;
     for (const char *at = tag->attributes.data; at < end && probing->left > 0;) {
@@ -203,7 +203,7 @@ static void set(struct answer *answer, enum stands stands, struct place place, c
     }
 }
 
-/* The text as it stands in the XML, not in the PYX. */
+/* Answers with the text as it is in the XML, not in the PYX. */
 static void set_text(const struct told *told, struct answer *answer) {
     struct bytes text = NO_BYTES;
     for (size_t at = 0; at < told->text.length; at++) {
@@ -232,7 +232,7 @@ static bool is_blank(const struct bytes *text) {
     return true;
 }
 
-/* Whether the tag is good once the text before it is gone. */
+/* Whether the tag is good without the text before it. */
 static bool is_text_before(struct probing *probing, const struct tag *tag, const struct told *told) {
     struct parts parts = {.count = 0};
     if (!told->has_text || is_blank(&told->text)) {
@@ -264,14 +264,14 @@ void probe(struct judge *judge, const struct told *told, uint64_t line, struct a
     }
     struct probing probing = {judge, BYTES_OF_EACH + TIMES_ITS_LENGTH * lines.length};
     if (told->has_tag) {
-        /* an end tag tells of the start before it, and of the end: an instruction in its place tells of the start alone */
+        /* an end tag reports a fault of the start before it, or of the end; an instruction in its place reports one of the start alone */
         bool is_end = told->kind == ')' && is_kept && with_line(&probing, lines, "?x\n") == OUTCOME_GOES_ON;
         if (!is_end) {
             set_tag(&probing, told, lines, answer);
             return;
         }
     } else if (told->has_text) {
-        /* an end tag tells of the text before it, and of the end */
+        /* an end tag reports a fault of the text before it, or of the end */
         bool is_text = told->kind != ')' || (!is_blank(&told->text) && (!is_kept || has_better_text(&probing, lines, &told->name)));
         if (is_text) {
             set_text(told, answer);
@@ -279,7 +279,7 @@ void probe(struct judge *judge, const struct told *told, uint64_t line, struct a
         }
     }
     if (told->kind == ')') {
-        /* what is wrong in an element without content is told where its tag begins */
+        /* a fault of an element without content is reported where its tag begins */
         set(answer, STANDS_END, told->has_tag ? told->tag_place : told->own, &told->name);
     } else {
         set(answer, STANDS_NOT_KNOWN, told->own, NULL);

@@ -14,12 +14,12 @@ static void interrupted(int number) {
     static const char line_without_bar[] = "\r\033[K";
     (void)number;
     if (bar_is_shown && write(2, line_without_bar, sizeof line_without_bar - 1) < 0) {
-        _exit(STATUS_INTERRUPTED); /* the terminal has gone */
+        _exit(STATUS_INTERRUPTED); /* the terminal is gone */
     }
     _exit(STATUS_INTERRUPTED);
 }
 
-/* Sets what a signal does, but where whoever began the program wants it to be ignored. */
+/* Sets what a signal does, unless the program was started with the signal ignored. */
 static void set_signal(int number, void (*handler)(int)) {
     struct sigaction action;
     memset(&action, 0, sizeof action);
@@ -35,7 +35,7 @@ struct streams program_begins(void) {
     struct streams streams = {fcntl(0, F_GETFD) < 0, fcntl(1, F_GETFD) < 0};
     for (int file = 0; file <= 2; file++) {
         if (fcntl(file, F_GETFD) < 0 && open("/dev/null", O_RDWR) < 0) {
-            break; /* without that device nothing is filled, and reads and writes fail by themselves */
+            break; /* without this device no place is filled, and reads and writes fail by themselves */
         }
     }
     set_signal(SIGINT, interrupted);

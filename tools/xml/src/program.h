@@ -9,7 +9,7 @@
 
 #define PROGRAM_VERSION "0.9.0"
 
-/* The exit statuses; the greatest of them is the program's. */
+/* The exit statuses. The greatest of them is the program's. */
 enum {
     STATUS_VALID = 0,
     STATUS_INVALID = 1,
@@ -21,7 +21,7 @@ enum {
     STATUS_CLOSED_PIPE = 141
 };
 
-/* Whether a bar stands on the terminal, which Ctrl-C takes away: the one thing that the handler of a signal has to know. */
+/* Whether a bar is on the terminal. Ctrl-C removes it, so the handler of the signal has to know this, and nothing else. */
 extern volatile sig_atomic_t bar_is_shown;
 
 /* Which of the standard streams were closed when the program began. */
@@ -30,32 +30,32 @@ struct streams {
     bool output_is_closed;
 };
 
-/* Fills the places of closed standard streams, so that no file takes them, and sets the signals: Ctrl-C ends the program with 130. */
+/* Fills the places of closed standard streams, so that no file takes them. Sets the signals: Ctrl-C ends the program with 130. */
 struct streams program_begins(void);
 
-/* Where lines go: they are gathered, and written by output_flush. */
+/* Where lines go. They are collected, and output_flush writes them. */
 struct output {
     const char *program;
     int file;
-    bool is_closed; /* from the program's begin on */
+    bool is_closed; /* since the program began */
     struct bytes waiting;
 };
 
-/* Writes what waits. The program ends here where that fails: with 141 where the output is a pipe that is closed, else with a line and 4. */
+/* Writes what was collected. If that fails, the program ends here: with 141 if the output is a closed pipe, else with a line and 4. */
 void output_flush(struct output *output);
 
-/* A line on standard error, if there is one. */
+/* Writes a line to standard error, if that is there. */
 void tell_line(const char *line);
 
-/* A document's bytes: a file, or standard input where the name is `-`. */
+/* Where a document's bytes come from: a file, or standard input if the name is `-`. */
 struct source {
     int file;
     bool is_open;
     bool is_input;
-    bool is_large; /* a file of more than a few pieces; what comes from elsewhere may keep a reader waiting, and is not */
+    bool is_large; /* it is a file of more than a few pieces; other sources may keep a reader waiting, and are not large */
 };
 
-/* False: the fault says what the system says. */
+/* False: the fault says why. */
 bool source_open(struct source *source, const char *name, struct streams streams, struct fault *fault);
 bool source_read(void *source, char *bytes, size_t size, size_t *length, struct fault *fault);
 void source_close(struct source *source);

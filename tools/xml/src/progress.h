@@ -1,4 +1,4 @@
-/* A bar on standard error, on a terminal, for work of over a second. */
+/* A bar on standard error, on a terminal, for work that takes over a second. */
 #ifndef PROGRESS_H
 #define PROGRESS_H
 
@@ -15,16 +15,16 @@ struct progress {
     atomic_ullong done;
     atomic_ullong *bytes;
     struct timespec begun;
-    atomic_llong next; /* milliseconds from the begin on at which it is drawn again */
+    atomic_llong next; /* when it is drawn again, in milliseconds from the start */
     pthread_mutex_t lock;
 };
 
 void progress_open(struct progress *progress, bool is_wanted, uint64_t known, atomic_ullong *bytes);
 
-/* Draws the bar if it is time to. */
+/* Draws the bar if it is time for that. */
 void progress_tick(void *progress);
 
-/* Takes the bar away, so that a line can be written. */
+/* Removes the bar, so that a line can be written. */
 void progress_hide(struct progress *progress);
 void progress_close(struct progress *progress);
 

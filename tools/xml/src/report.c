@@ -9,7 +9,7 @@
 
 static const char *const verdicts[] = {"valid", "invalid", "malformed", "outside", "failed"};
 
-/* Whether what is printed is coloured: on a terminal, unless NO_COLOR says no. */
+/* Whether the output is coloured: by default on a terminal, unless NO_COLOR says no. */
 static bool wants_color(const struct options *options) {
     const char *none = getenv("NO_COLOR");
     const char *terminal = getenv("TERM");
@@ -62,7 +62,7 @@ static void put(struct report *report, const struct result *result) {
     }
 }
 
-/* The notes of a document, each on a line with the document's name. */
+/* Prints the notes of a document, each on a line with the document's name. */
 static void put_notes(struct report *report, const char *file, struct answer *answer) {
     size_t begin = 0;
     for (size_t at = 0; at < answer->notes.length; at++) {

@@ -1,4 +1,4 @@
-/* What is printed of documents and of a schema: as text, JSON, SARIF, or commands of GitHub. */
+/* Prints what is found in documents and in a schema, as text, JSON, SARIF, or commands of GitHub. */
 #ifndef REPORT_H
 #define REPORT_H
 
@@ -16,7 +16,7 @@ struct report {
     int status; /* the greatest so far */
 };
 
-/* What is said of the schema, and where in it. */
+/* What is reported about the schema, and where in it. */
 struct schema_fault {
     const char *path;
     struct place place; /* line 0: none */
@@ -27,14 +27,14 @@ struct schema_fault {
 
 void report_open(struct report *report, const struct options *options, struct output *output, struct progress *progress);
 
-/* A document's answer. Whoever calls it for several threads lets one in at a time. */
+/* Reports a document's answer. With several threads, the caller must let in one at a time. */
 void report_answer(struct report *report, const char *name, struct answer *answer);
 void report_schema(struct report *report, const struct schema_fault *fault);
 
-/* A line for people, on standard error. */
+/* Writes a line for people to standard error. */
 void report_note(struct report *report, const char *line);
 
-/* Ends what was begun, and writes what waits. */
+/* Ends what was begun, and writes what was collected. */
 void report_close(struct report *report);
 
 #endif

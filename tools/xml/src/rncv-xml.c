@@ -7,7 +7,7 @@
 
 static const char page[] = "see docs/CLAUSES.md";
 
-/* Says what clause the schema breaks, where, and where that is explained. */
+/* Reports which clause the schema breaks, where, and where the clause is explained. */
 static void tell_refusal(struct report *report, struct schema_files *files, const rncv_fault *fault) {
     struct bytes message = NO_BYTES;
     const char *title = rncv_clause_title('S', fault->clause);
@@ -33,7 +33,7 @@ static void tell_refusal(struct report *report, struct schema_files *files, cons
     bytes_free(&message);
 }
 
-/* A line that belongs to no file. */
+/* Prints a line that belongs to no file. */
 static void tell_failure(struct report *report, const char *what, int status) {
     report->status = status > report->status ? status : report->status;
     struct bytes line = NO_BYTES;
@@ -44,7 +44,7 @@ static void tell_failure(struct report *report, const char *what, int status) {
     bytes_free(&line);
 }
 
-/* Where rncv-profile says what a copy of a schema accepts more: `main.profile.txt` for `main.rnc`. */
+/* The file in which rncv-profile says what more a copy of a schema accepts: `main.profile.txt` for `main.rnc`. */
 static void add_profile_name(struct bytes *name, struct schema_files *files) {
     const char *path = bytes_text(&files->list[0].path);
     size_t length = strlen(path);
@@ -53,7 +53,7 @@ static void add_profile_name(struct bytes *name, struct schema_files *files) {
     bytes_add_text(name, ".profile.txt");
 }
 
-/* A schema that was loosened is refused, if that is wanted. */
+/* Refuses a schema that was loosened, if that is wanted. */
 static bool is_strict_enough(struct report *report, struct schema_files *files) {
     if (!report->options->is_strict || files->loosened == 0) {
         return true;
@@ -70,7 +70,7 @@ static bool is_strict_enough(struct report *report, struct schema_files *files) 
     return false;
 }
 
-/* Reads the schema's files and compiles them. False: what is wrong is told. */
+/* Reads the schema's files and compiles them. False: what is wrong was reported. */
 static bool compile(struct report *report, struct schema_files *files, rncv_schema *schema) {
     const struct options *options = report->options;
     struct schema_request request = {options->schemas, options->schema_count, options->mappings, options->mapping_count};
@@ -101,7 +101,7 @@ static void tell_files(struct report *report, struct schema_files *files) {
     }
 }
 
-/* A closing line: how many documents are what, and that the schema was loosened. */
+/* Prints a closing line: how many documents have each verdict, and that the schema was loosened. */
 static void tell_closing(struct report *report, struct schema_files *files) {
     static const char *const words[] = {"valid", "invalid", "malformed", "outside the profile", "not read"};
     struct bytes line = NO_BYTES;

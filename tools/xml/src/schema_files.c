@@ -9,12 +9,12 @@
 
 enum {
     MOST_FILES = 64,         /* with one more the library says S2 */
-    MOST_BYTES = 1048576,    /* of a file; the same */
+    MOST_BYTES = 1048576,    /* of a file; with one more the same */
     MOST_VALUES = 100,       /* literals that are kept */
     MOST_VALUE_BYTES = 100
 };
 
-/* What the words of a mention were found to mean, and where they stand. */
+/* What the words of a mention were found to mean, and where the words are. */
 struct meaning {
     struct bytes words;
     struct bytes file; /* empty: no file */
@@ -50,7 +50,7 @@ static void problem(struct schema_files *files, int status, const struct bytes *
     }
 }
 
-/* Adds a file that is handed in by the name. */
+/* Adds a file that the library gets under this name. */
 static bool add_file(struct schema_files *files, const struct bytes *name, const char *path) {
     if (files->count == files->capacity) {
         size_t capacity = files->capacity == 0 ? 8 : 2 * files->capacity;
@@ -68,7 +68,7 @@ static bool add_file(struct schema_files *files, const struct bytes *name, const
     return file->name.failed || file->path.failed || *bytes_text(&file->path) != *path ? out_of_memory(files) : true;
 }
 
-/* Reads at most one byte more than a file may have. */
+/* Reads the file, but at most one byte more than a file may have. */
 static bool read_content(struct schema_files *files, struct schema_file *file) {
     struct fault fault = NO_FAULT;
     struct source source;
@@ -95,7 +95,7 @@ static bool read_content(struct schema_files *files, struct schema_file *file) {
     return is_good;
 }
 
-/* A literal of the schema, as a value to try. It is written as in the PYX. */
+/* Keeps a literal of the schema as a value to try. It is written as in the PYX. */
 static void keep_value(struct schema_files *files, const struct bytes *literal) {
     struct bytes value = NO_BYTES;
     if (files->value_count == MOST_VALUES || literal->length > MOST_VALUE_BYTES) {
@@ -117,10 +117,10 @@ static void keep_value(struct schema_files *files, const struct bytes *literal) 
         bytes_free(&value);
         return;
     }
-    files->values[files->value_count++] = value.data; /* the bytes are the list's from here on */
+    files->values[files->value_count++] = value.data; /* the list owns the bytes from here on */
 }
 
-/* How many datatypes the file allows more than an original did, as rncv-profile writes into it. */
+/* How many datatypes were loosened in the file, as rncv-profile writes into it. */
 static unsigned long long loosened_of(const struct bytes *content) {
     static const char mark[] = "# rncv-profile: ";
     unsigned long long sum = 0;
@@ -159,7 +159,7 @@ static bool is_given(const struct schema_request *request, const struct bytes *w
     return false;
 }
 
-/* Takes one more file that the words may mean. False: they may mean two, and the problem is told. */
+/* Takes one more file that the words may mean. False: they may mean two, and the problem is noted. */
 static bool add_candidate(struct collecting *collecting, struct meaning *meaning, const char *path) {
     if (meaning->file.length == 0) {
         bytes_add_text(&meaning->file, path);
@@ -176,7 +176,7 @@ static bool add_candidate(struct collecting *collecting, struct meaning *meaning
     return false;
 }
 
-/* Finds the file that the words mean; none may be there. False: there is a problem. */
+/* Finds the file that the words mean. There may be none. False: there is a problem. */
 static bool find_meaning(struct collecting *collecting, struct meaning *meaning) {
     const char *file = mapped(collecting->request, &meaning->words);
     struct ways ways;
@@ -201,7 +201,7 @@ static bool find_meaning(struct collecting *collecting, struct meaning *meaning)
     return is_good;
 }
 
-/* Keeps in mind where a file that is not there was looked for. */
+/* Notes where a missing file was looked for, if it is the first one. */
 static void keep_missing(struct collecting *collecting, const struct meaning *meaning, size_t at) {
     struct missing *missing = &collecting->files->missing;
     struct schema_file *by = &collecting->files->list[meaning->by];
@@ -226,14 +226,14 @@ static void keep_missing(struct collecting *collecting, const struct meaning *me
     }
 }
 
-/* What the words are, as a line says it. */
+/* Adds what the words mean, for a line. */
 static void add_meaning(struct bytes *line, struct collecting *collecting, struct meaning *meaning) {
     struct schema_file *by = &collecting->files->list[meaning->by];
     bytes_format(line, "'%s' in %s is %s", bytes_text(&meaning->words), bytes_text(&by->path),
                  meaning->file.length == 0 ? "no file" : bytes_text(&meaning->file));
 }
 
-/* Whether the words mean one file here and another elsewhere; the problem is then told. */
+/* Whether the words mean one file here and another elsewhere. If so, notes the problem. */
 static bool is_two_files(struct collecting *collecting, struct meaning *meaning, struct meaning *before) {
     bool is_one = (meaning->file.length == 0) == (before->file.length == 0) &&
                   (meaning->file.length == 0 || is_same(bytes_text(&meaning->file), bytes_text(&before->file)));
@@ -267,8 +267,8 @@ static bool keep_meaning(struct collecting *collecting, const struct meaning *me
     return kept->words.failed || kept->file.failed ? out_of_memory(collecting->files) : true;
 }
 
-/* Hands in the file that is mentioned, unless a file of that name is there. A main file whose name means another file here gets one that no file can
- * mention, since it has a character that XML does not have. */
+/* Adds the file that is mentioned, unless a file of that name is there. If the name of the main file means another file here, the main file gets a new
+ * name. No file can mention that one, since it has a character that XML does not have. */
 static bool hand_in(struct collecting *collecting, struct meaning *meaning) {
     struct schema_files *files = collecting->files;
     const char *path = bytes_text(&meaning->file);
@@ -281,7 +281,7 @@ static bool hand_in(struct collecting *collecting, struct meaning *meaning) {
     }
     for (size_t at = 0; at < files->count; at++) {
         if (is_equal(&files->list[at].name, &meaning->words)) {
-            /* a file that is given by these words and is not there stands beside the file that mentions it */
+            /* a file that is given by these words and does not exist is taken from beside the file that mentions it */
             if (at > 0 && !is_same(bytes_text(&files->list[at].path), path)) {
                 bytes_clear(&files->list[at].path);
                 bytes_add_text(&files->list[at].path, path);
@@ -292,7 +292,7 @@ static bool hand_in(struct collecting *collecting, struct meaning *meaning) {
     return add_file(files, &meaning->words, path);
 }
 
-/* Takes one mention, which stands at an offset of the file's. */
+/* Takes one mention, which is at this offset in the file. */
 static bool take_mention(struct collecting *collecting, struct meaning *meaning, size_t at) {
     if (!is_utf_8(meaning->words.data, meaning->words.length)) {
         return true; /* the library refuses the file */
@@ -315,7 +315,7 @@ static bool take_mention(struct collecting *collecting, struct meaning *meaning,
     return hand_in(collecting, meaning);
 }
 
-/* Reads the literal that begins with the token, with its joined segments. `token` is then the token behind it. */
+/* Reads the literal that begins with the token, with its joined segments. `token` is then the token after it. */
 static void read_literal(struct tokens *tokens, struct token *token, struct bytes *literal) {
     for (;;) {
         add_literal(literal, token);
@@ -330,7 +330,7 @@ static void read_literal(struct tokens *tokens, struct token *token, struct byte
     }
 }
 
-/* Takes what the file mentions; in annotations nothing is a mention. */
+/* Takes what the file mentions. In annotations nothing is a mention. */
 static bool take_mentions(struct collecting *collecting, size_t index, struct tokens *tokens) {
     long depth = 0;
     bool is_mention = false;
@@ -354,7 +354,7 @@ static bool take_mentions(struct collecting *collecting, size_t index, struct to
     return is_good;
 }
 
-/* Reads a file, and takes what it mentions. What is too large mentions nothing: the library refuses it. */
+/* Reads a file, and takes what it mentions. From a file that is too large it takes nothing: the library refuses it. */
 static bool take_file(struct collecting *collecting, size_t index) {
     struct tokens tokens;
     struct schema_file *file = &collecting->files->list[index];
@@ -371,7 +371,7 @@ static bool take_file(struct collecting *collecting, size_t index) {
     return is_good;
 }
 
-/* Adds the files that are given, by their own names; a name that is not UTF-8 is one that no file can mention. */
+/* Adds the files that are given, by their own names. A file whose name is not UTF-8 gets a name that no file can mention. */
 static bool add_given(struct schema_files *files, const struct schema_request *request) {
     bool is_good = true;
     for (size_t at = 0; at < request->given_count && is_good; at++) {

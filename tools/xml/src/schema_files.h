@@ -1,4 +1,4 @@
-/* The files of a schema. What a file mentions is found beside it, and is handed to the library under the words that mention it. */
+/* The files of a schema. What a file mentions is found beside it, and the library gets it under the words that mention it. */
 #ifndef SCHEMA_FILES_H
 #define SCHEMA_FILES_H
 
@@ -8,8 +8,8 @@
 #include <rncv.h>
 
 struct schema_file {
-    struct bytes name;    /* under which it is handed in */
-    struct bytes path;    /* where it stands, and how people know it */
+    struct bytes name;    /* under which the library gets it */
+    struct bytes path;    /* where it is, and the name that people see */
     struct bytes content;
 };
 
@@ -33,16 +33,16 @@ struct schema_files {
     struct schema_file *list; /* the main file first */
     size_t count;
     size_t capacity;
-    struct missing missing; /* the first one, in the order in which the library asks */
-    struct bytes problem;   /* why no schema can be made of the files: a line without the program's name */
+    struct missing missing; /* the first one, in the order in which the library needs files */
+    struct bytes problem;   /* why no schema can be made from the files: a line without the program's name */
     int problem_status;     /* the exit status for that */
     char **values;          /* literals of the files, as values of attributes in the PYX */
     size_t value_count;
-    unsigned long long loosened; /* how many datatypes the files allow more than, as rncv-profile says in them */
-    bool failed;            /* there was no memory */
+    unsigned long long loosened; /* how many datatypes were loosened in the files, as rncv-profile says in them */
+    bool failed;            /* memory ran out */
 };
 
-/* What a caller says of the files. */
+/* What a caller says about the files. */
 struct schema_request {
     const char *const *given;
     size_t given_count;
@@ -50,13 +50,13 @@ struct schema_request {
     size_t mapping_count;
 };
 
-/* False: `problem` says why not. */
+/* False: `problem` says why. */
 bool schema_files_collect(struct schema_files *files, const struct schema_request *request);
 
-/* Compiles the files. The status of the library; RNCV_MEMORY too where there was none for the call. */
+/* Compiles the files. Returns the status of the library, or RNCV_MEMORY if there is no memory for the call. */
 int32_t schema_files_compile(const struct schema_files *files, rncv_schema *schema, rncv_fault *fault);
 
-/* Lets go of the contents, which are wanted no more once the schema is compiled. */
+/* Frees the contents, which are not needed once the schema is compiled. */
 void schema_files_forget(struct schema_files *files);
 void schema_files_free(struct schema_files *files);
 

@@ -3,15 +3,15 @@
 #include <stdlib.h>
 #include <string.h>
 
-/* What an escaped line feed and an escaped carriage return are while tokens are cut: they end no line and no literal. No character of XML is one of
- * these two. */
+/* What an escaped line feed and an escaped carriage return are while tokens are read: they end no line and no literal. XML has neither of these two
+ * characters. */
 enum { HIDDEN_FEED = 1, HIDDEN_RETURN = 2 };
 
 static int digit_of(char byte) {
     return byte >= '0' && byte <= '9' ? byte - '0' : byte >= 'a' && byte <= 'f' ? byte - 'a' + 10 : byte >= 'A' && byte <= 'F' ? byte - 'A' + 10 : -1;
 }
 
-/* The length of the escape that begins here, with the code point that it stands for; 0 if none does. */
+/* The length of the escape that begins here, and its code point; 0 if none does. */
 static size_t escape_at(const char *bytes, size_t left, unsigned *code) {
     size_t at = 1;
     while (at < left && bytes[at] == 'x') {
@@ -43,7 +43,7 @@ static size_t utf_8_of(unsigned code, char *bytes) {
     return length;
 }
 
-/* Replaces the escapes; of each byte it is kept where it comes from. */
+/* Replaces the escapes, and notes where each byte comes from. */
 static bool replace_escapes(struct tokens *tokens, const char *bytes, size_t length) {
     tokens->origins = malloc((length + 1) * sizeof *tokens->origins);
     if (tokens->origins == NULL) {
@@ -90,7 +90,7 @@ static bool continues_name(char byte) {
     return begins_name(byte) || (byte >= '0' && byte <= '9') || byte == '-' || byte == '.';
 }
 
-/* Goes over blanks and comments. */
+/* Skips blanks and comments. */
 static size_t after_blanks(const char *text, size_t at, size_t length) {
     while (at < length) {
         char byte = text[at];
@@ -129,7 +129,7 @@ static struct token literal_at(const char *text, size_t at, size_t length, size_
             break;
         }
     }
-    /* three quotes that do not end are an empty literal and what follows it */
+    /* three quotes without an end are an empty literal and what follows it */
     *end = at + 2;
     return (struct token){is_long ? TOKEN_LITERAL : TOKEN_NONE, {text + at + 1, 0}, at};
 }

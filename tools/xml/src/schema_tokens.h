@@ -1,4 +1,4 @@
-/* The tokens of a schema's file in the compact syntax, as far as they are wanted to find the files that it mentions. */
+/* The tokens of a schema's file in the compact syntax, as far as they are needed to find the files that it mentions. */
 #ifndef SCHEMA_TOKENS_H
 #define SCHEMA_TOKENS_H
 
@@ -9,29 +9,29 @@
 enum token_kind {
     TOKEN_NONE, /* the end, or something that is no token: the library says which */
     TOKEN_WORD, /* a keyword or an identifier */
-    TOKEN_NAME, /* what is no keyword: a quoted identifier, or a name with a prefix */
+    TOKEN_NAME, /* never a keyword: a quoted identifier, or a name with a prefix */
     TOKEN_LITERAL,
     TOKEN_SIGN
 };
 
 struct token {
     enum token_kind kind;
-    struct span text; /* of a literal what stands between its quotes */
+    struct span text; /* for a literal, what is between its quotes */
     size_t at;        /* where it begins, in the file's bytes */
 };
 
 struct tokens {
     struct bytes text; /* the file's text with its escapes replaced */
-    size_t *origins;   /* where in the file each of its bytes, and the end, comes from; NULL: there is no escape */
+    size_t *origins;   /* where in the file each byte of the text, and its end, comes from; NULL: there is no escape */
     size_t next;
 };
 
-/* False: there was no memory. */
+/* False: out of memory. */
 bool tokens_open(struct tokens *tokens, const char *bytes, size_t length);
 struct token tokens_next(struct tokens *tokens);
 void tokens_close(struct tokens *tokens);
 
-/* Adds what a literal says to `text`. */
+/* Adds the value of a literal to `text`. */
 void add_literal(struct bytes *text, const struct token *token);
 bool is_word(const struct token *token, const char *word);
 bool is_sign(const struct token *token, char sign);

@@ -14,7 +14,7 @@ static void copy(struct bytes *to, const struct bytes *from) {
     set(to, from->data, from->length);
 }
 
-/* Goes over one line: what it begins, and what it ends. */
+/* Passes one line: notes what it begins, and what it ends. */
 static void step(struct trail *trail, const char *line, size_t length, struct place place) {
     switch (line[0]) {
     case '(':
@@ -54,7 +54,7 @@ static size_t line_length(const char *line, const char *end) {
     return (size_t)((feed == NULL ? end : feed) - line);
 }
 
-/* What the line tells of, where the trail has come to it. */
+/* What the line reports. The trail has reached it. */
 static void tell(const struct trail *trail, const char *line, size_t length, struct told *told) {
     told->kind = line[0];
     bytes_add(&told->name, line + 1, length - 1);
@@ -96,7 +96,7 @@ void trail_find(const struct trail *trail, const struct piece *piece, uint64_t l
     trail_free(&here);
 }
 
-/* Where the lines begin that matter for what goes on behind the piece: at the last start or end tag, or the text before the start. */
+/* Where the lines begin that matter for what follows the piece: at the last start or end tag, or at the text before the start. */
 static size_t last_that_matters(const struct piece *piece, size_t *index) {
     size_t at = piece->length;
     bool has_start = false;

@@ -1,43 +1,43 @@
-/* What stands at a line of the PYX, and where in the XML that is.
+/* What is at a line of the PYX, and where in the XML that is.
  *
- * The library names a line. An element's start is told at the first line behind its tag, a text at the next start or end tag, an end at its own
- * line. So what a line tells of may have begun some lines before it. */
+ * The library names a line. It reports the start of an element at the first line after its tag. It reports a text at the next start or end tag, and an
+ * end at its own line. So what a line reports may have begun some lines before it. */
 #ifndef TRAIL_H
 #define TRAIL_H
 
 #include "conversion.h"
 
-/* What was begun before the piece at hand, and goes on in it. */
+/* What began before the current piece, and may continue in it. */
 struct trail {
-    bool has_tag; /* the tag's lines may go on */
+    bool has_tag; /* the tag may have more lines */
     struct place tag_place;
     struct bytes tag;
     bool has_text;
     struct place text_place;
     struct bytes text; /* its first characters, as in the PYX */
-    bool has_before;   /* a text stands right before the last tag */
+    bool has_before;   /* a text is directly before the last tag */
     struct place before_place;
     struct bytes before;
     struct place last; /* the place of the last line */
 };
 
-/* What a line tells of. */
+/* What a line reports. */
 struct told {
-    char kind; /* of the line: its first byte; 0 if the line is not there any more */
+    char kind; /* of the line: its first byte; 0 if the line is no longer there */
     struct place own;
     bool has_tag;
     struct place tag_place;
     struct bytes tag; /* the element's name */
-    bool has_text;    /* before the tag, if it tells of one */
+    bool has_text;    /* before the tag, if it reports one */
     struct place text_place;
     struct bytes text;
     struct bytes name; /* of the line itself */
 };
 
-/* Finds what the line of this number tells of. `trail` is that of the piece's begin. */
+/* Finds what the line with this number reports. `trail` is that of the start of the piece. */
 void trail_find(const struct trail *trail, const struct piece *piece, uint64_t line, struct told *told);
 
-/* Goes on to the end of the piece. False: there was no memory. */
+/* Moves on to the end of the piece. False: out of memory. */
 bool trail_advance(struct trail *trail, const struct piece *piece);
 void trail_clear(struct trail *trail);
 void trail_free(struct trail *trail);

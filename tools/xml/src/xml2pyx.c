@@ -55,7 +55,7 @@ static bool options_of(int count, char **words, struct options *options) {
 struct writing {
     const char *document;
     struct output pyx;
-    struct output lines; /* without a file where no places are wanted */
+    struct output lines; /* without a file if no places are wanted */
 };
 
 static bool put(void *context, const struct piece *piece) {
@@ -79,7 +79,7 @@ static void note(void *context, struct place place, const char *what) {
     bytes_free(&line);
 }
 
-/* Tells a fault, and answers the exit status. */
+/* Reports a fault, and returns the exit status. */
 static int told(const char *document, struct fault *fault) {
     struct bytes line = NO_BYTES;
     bool is_document = fault->kind == FAULT_MALFORMED || fault->kind == FAULT_OUTSIDE;

@@ -1,4 +1,4 @@
-"""Tests of the conversion in C, on `xml2pyx`: what stands in the PYX, what is outside the profile, and that the converter in Python does the same."""
+"""Tests of the conversion in C, on `xml2pyx`: what is in the PYX, what is outside the profile, and that the converter in Python does the same."""
 import io
 import os
 import subprocess
@@ -14,7 +14,7 @@ DOCUMENTS = int(os.environ.get("RNCV_XML_DOCUMENTS", "300"))
 
 
 def second_opinion(data):
-    """The PYX of the converter in Python, the places of its lines, and the lines that it tells of the document `d.xml`."""
+    """The PYX of the converter in Python, the places of its lines, and the lines that it reports about the document `d.xml`."""
     lines, places, told = [], [], []
     try:
         pyx_writer.convert(io.BytesIO(data), lines.append, lambda own, of: places.append(own),
@@ -30,7 +30,7 @@ class Converted(InFolder):
     """A document `d.xml` in a fresh folder."""
 
     def converted(self, data):
-        """The PYX, the places of its lines, what is told, and the status."""
+        """The PYX, the places of its lines, what is reported, and the status."""
         self.write("d.xml", data)
         run = subprocess.run([XML2PYX, "--lines", "places", "d.xml"], cwd=self.folder, capture_output=True, timeout=60, check=False)
         places = [tuple(map(int, line.split())) for line in (self.folder / "places").read_text().splitlines()]
@@ -42,7 +42,7 @@ class Converted(InFolder):
         return out
 
     def fault(self, data):
-        """What is told of a document that is malformed or outside: line, column, words."""
+        """What is reported about a document that is malformed or outside: line, column, words."""
         _, _, told, status = self.converted(data)
         self.assertEqual(status, 2, told)
         name, row, column, what = told[-1].split(":", 3)
@@ -51,7 +51,7 @@ class Converted(InFolder):
 
 
 class Conversion(Converted):
-    """What stands in the PYX of a document."""
+    """What is in the PYX of a document."""
 
     def test_elements_attributes_texts(self):
         out, places, _, _ = self.converted('<?xml version="1.0"?>\n<a x="1\t2"><!-- gone -->\n  <p:b xmlns:p="u"/>t\\</a>')

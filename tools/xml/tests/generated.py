@@ -1,4 +1,4 @@
-"""XML documents by chance, to compare two converters on: names, prefixes, attributes, texts, CDATA, entities, defaults, comments, encodings, and
+"""Random XML documents, on which two converters are compared: names, prefixes, attributes, texts, CDATA, entities, defaults, comments, encodings, and
 mutants of these. The same seed gives the same documents."""
 import random
 
@@ -11,7 +11,7 @@ REFERENCES = ("&lt;", "&amp;", "&gt;", "&quot;", "&apos;", "&#9;", "&#10;", "&#x
 
 
 class Generator:
-    """Makes one document from a source of chance."""
+    """Makes one document from a source of random numbers."""
 
     def __init__(self, seed):
         self.chance = random.Random(seed)

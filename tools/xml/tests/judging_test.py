@@ -12,7 +12,7 @@ from testing import RNCV_XML, SCHEMA, TOP, InFolder, peak_of
 
 
 class Lines(InFolder):
-    """What is printed of a document."""
+    """What is printed about a document."""
 
     def line(self, schema, xml, **more):
         self.write("t.rnc", schema)
@@ -21,7 +21,7 @@ class Lines(InFolder):
         return out, status
 
     def invalid(self, schema, xml, told):
-        """Wants one line, of a file and of standard input."""
+        """Checks that one line is printed, for a file and for standard input."""
         self.assertEqual(self.line(schema, xml), (f"d.xml:{told}\n", 1))
         self.assertEqual(self.judge("t.rnc", "-", given=xml.encode()), (f"-:{told}\n", 1))
 

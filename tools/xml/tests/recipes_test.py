@@ -1,4 +1,4 @@
-"""Tests of the recipes of docs/XML.md, as they stand there, in a folder that git keeps."""
+"""Tests of the recipes of docs/XML.md, as they are written there, in a folder that git keeps."""
 import json
 import os
 import re
@@ -22,7 +22,7 @@ class Recipes(InFolder):
         return re.findall(r"^```recipe\n(.*?)^```$", part, re.M | re.S)[number]
 
     def run_shell(self, script):
-        """A run with git kept from what is set elsewhere."""
+        """Runs a script, in which git does not see what is set elsewhere."""
         who = {f"GIT_{role}_{what}": "a@b" for role in ("AUTHOR", "COMMITTER") for what in ("NAME", "EMAIL")}
         path = os.pathsep.join((str(PROGRAMS), str(RNCV.parent), os.environ["PATH"]))
         kept = {name: value for name, value in os.environ.items() if not name.startswith("GIT_")}

@@ -1,4 +1,4 @@
-"""Tests of how `rncv-xml` finds the files of a schema, and of what it says of a schema."""
+"""Tests of how `rncv-xml` finds the files of a schema, and of what it says about a schema."""
 import os
 import unittest
 
@@ -24,7 +24,7 @@ class SchemaFiles(InFolder):
         return self.judge("--all", *schemas, "--", "good.xml")
 
     def failure(self, *schemas):
-        """What keeps the program from its work, on standard error, and the status."""
+        """What standard error says when something stops the program, and the status."""
         out, errors, status = self.run_in(RNCV_XML, *schemas, "--", "good.xml")
         self.assertEqual(out, "")
         return errors, status

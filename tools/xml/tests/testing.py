@@ -54,7 +54,7 @@ class InFolder(unittest.TestCase):
         return out, status
 
     def shell(self, script, **environment):
-        """A shell's run with the programs at hand: what it prints on both streams, and its status."""
+        """What a shell script prints on both streams, with the programs on its PATH, and its status."""
         self.wanted("bash")
         path = os.pathsep.join(map(str, (PROGRAMS, RNCV.parent, os.environ["PATH"])))
         run = subprocess.run(["bash", "-c", script], cwd=self.folder, stdin=subprocess.DEVNULL, stdout=subprocess.PIPE, stderr=subprocess.STDOUT,
@@ -62,7 +62,7 @@ class InFolder(unittest.TestCase):
         return run.stdout.decode(), run.returncode
 
     def assert_same(self, found, wanted, what=None):
-        """As assertEqual, for values of which the difference would take long to print."""
+        """As assertEqual, for values whose difference would take long to print."""
         if found != wanted:
             self.fail(f"{what}: {str(found)[:500]} and not {str(wanted)[:500]}")
 
@@ -73,7 +73,7 @@ class InFolder(unittest.TestCase):
 
 
 def peak_of(words):
-    """The memory that a program had at most, in KiB, and its status. `time` measures it, which is small; without it Python does, which is not."""
+    """The most memory that a program had, in KiB, and its status. `time` measures it, and is small. Without `time` Python measures it, and is not small."""
     if os.access("/usr/bin/time", os.X_OK):
         with tempfile.NamedTemporaryFile() as measured:
             run = subprocess.run(["/usr/bin/time", "-q", "-f", "%M", "-o", measured.name, *map(str, words)], stdout=subprocess.DEVNULL,
