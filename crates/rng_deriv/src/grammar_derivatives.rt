@@ -109,6 +109,13 @@ impl Derivatives for GrammarDerivatives<'_> {
         self.learned.table.is_not_allowed(pattern)
     }
 
+    fn tests_strings(&self, pattern: PatternNumber) -> bool {
+        if self.learned.lost {
+            return false;
+        }
+        self.learned.table.facts(pattern).tests_strings
+    }
+
     fn choice(
         &mut self,
         alloc: Global,

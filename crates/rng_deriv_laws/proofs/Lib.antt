@@ -7,6 +7,7 @@ pub mod ItemWays
 pub mod AttributeWays
 pub mod KeptRestrictions
 pub mod Texts
+pub mod AnyTexts
 pub mod Attributes
 pub mod Starts
 pub mod DropBlanks

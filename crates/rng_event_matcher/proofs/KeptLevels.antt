@@ -2,7 +2,7 @@
 use Rattle.std.proofs.Common.{◌≡◌, ◌⊎◌, inl, inr, ◌∙◌, ℕ, ◌<◌, zero, suc, List, [], ◌∷◌, ◌++◌, length, map, refl, sym, ap, subst, All, arith}
 use Rattle.std.proofs.Common.{Bool, Some, slice_get, append_assoc}
 use Rattle.std.specs.Option.{IfSome}
-use Rattle.std.specs.List.{AllZip, list_all}
+use Rattle.std.specs.List.{AllZip, list_all, list_any}
 use Rattle.std.proofs.lemmas.Option.{none-some, same_Some, slice_get_within}
 use Rattle.std.proofs.lemmas.List.{append-nil, length-append}
 use Rattle.std.proofs.lemmas.List.Elements.{All-head, All-nil, All-push, All-tail, All-weaker}
@@ -10,12 +10,12 @@ use Rattle.rng_names.specs.plain.Keys.{Keys, key_of}
 use Rattle.rng_model.specs.names.Names.{Name}
 use Rattle.rng_model.specs.simple.Tree.{Simple}
 use Rattle.rng_model.specs.matching.Reading.{Reading}
-use Rattle.rng_deriv_laws.specs.plain.Derivatives.{is_not_allowed, is_nullable}
+use Rattle.rng_deriv_laws.specs.plain.Derivatives.{has_data, is_not_allowed, is_nullable}
 use Rattle.rng_deriv_laws.specs.plain.LevelStates.{AreEnded, AreOpened, IsAfterTag, IsAfterText}
 use Rattle.rng_deriv_laws.proofs.LevelSteps.{at_end, in_front}
 use Rattle.rng_pattern_table.specs.declared.pattern.PatternNumber.{PatternNumber}
 use Rattle.rng_levels.specs.plain.Bits.{bits_of}
-use Rattle.rng_levels.specs.views.LevelTable.{IsEndAt, IsKnownAt, bare_in, closed_in, ends_in, levels_in, numbers_in, numbers_or_none, steps_in}
+use Rattle.rng_levels.specs.views.LevelTable.{IsEndAt, IsKnownAt, closed_in, ends_in, levels_in, numbers_in, numbers_or_none, sample_in, sample_of, sampled_in, steps_in}
 use Rattle.rng_levels.specs.declared.level.Level.{Level}
 use Rattle.rng_levels.specs.declared.level.LevelNumber.{LevelNumber}
 use Rattle.rng_levels.specs.declared.level_table.LevelTable.{LevelTable}
@@ -66,6 +66,9 @@ all_there P (y ∷ xs) (suc i) x all e = all_there P xs i x (All-tail P y xs all
 pub numbers_grow : (old new : List Level) (n : ℕ) → Grows old new → n < length old → numbers_in new n ≡ numbers_in old n
 numbers_grow old new n g lt = ap numbers_or_none (get_grows old new n g lt)
 
+pub sample_grows : (old new : List Level) (n : ℕ) → Grows old new → n < length old → sample_in new n ≡ sample_in old n
+sample_grows old new n g lt = ap sample_of (get_grows old new n g lt)
+
 pub numbers_inside : (trees : List (Simple ℕ)) (levels : List Level) (n : ℕ) → All (IsLevelKept trees) levels → n < length levels
     → All (IsInside trees) (numbers_in levels n)
 numbers_inside trees levels n all lt =
@@ -83,6 +86,7 @@ module _ (old new : List (Simple ℕ)) (longer : Longer old new) where
         inside = all_inside_stay old new longer ps k.inside;
         good = subst (λ ts. IfSome l.good (λ bits. bits ≡ bits_of (map is_nullable ts))) (sym same) k.good;
         dead = k.dead ∙ ap (list_all is_not_allowed) (sym same);
+        tests = k.tests ∙ ap (list_any has_data) (sym same);
       }
 
   pub each_stays : (Is : Simple ℕ → Simple ℕ → Type 0) (ps qs : List PatternNumber) → All (IsInside old) ps → AddsEach Is old old ps qs
@@ -197,15 +201,17 @@ last_step old new s n is pushed = ap (slice_get new) is ∙ ap (λ ls. slice_get
 -- what is kept stays right, in a table that has grown by levels and steps that are right
 pub kept_grown : (g : Reading) (keys : Keys) (old new : List (Simple ℕ)) (t u : LevelTable) → Longer old new → AreKept g keys old t
     → Grows (levels_in t) (levels_in u) → Grows (steps_in t) (steps_in u) → All (IsLevelKept new) (levels_in u)
-    → All (IsStepKept g keys new (levels_in u)) (steps_in u) → closed_in u ≡ closed_in t → bare_in u ≡ bare_in t → ends_in u ≡ ends_in t
+    → All (IsStepKept g keys new (levels_in u)) (steps_in u) → closed_in u ≡ closed_in t → sampled_in u ≡ sampled_in t → ends_in u ≡ ends_in t
     → AreKept g keys new u
-kept_grown g keys old new t u longer k levels steps all every closed bare ends = record {
+kept_grown g keys old new t u longer k levels steps all every closed sampled ends = record {
   levels = all;
   steps = every;
   closed = λ n m h. after_stays old new longer (levels_in t) (levels_in u) levels k.levels (IsAfterTag g []) n m
       (k.closed n m (subst (λ ks. IsKnownAt ks n m) closed h));
-  bare = λ n m h. after_stays old new longer (levels_in t) (levels_in u) levels k.levels (IsAfterText g []) n m
-      (k.bare n m (subst (λ ks. IsKnownAt ks n m) bare h));
+  sampled = λ n m h.
+      let was = k.sampled n m (subst (λ ks. IsKnownAt ks n m) sampled h) in
+      subst (λ s. IsAfterLevel (IsAfterText g s) new (levels_in u) n m) (sym (sample_grows (levels_in t) (levels_in u) n levels was.from))
+      (after_stays old new longer (levels_in t) (levels_in u) levels k.levels (IsAfterText g (sample_in (levels_in t) n)) n m was);
   ends = λ n e h. end_stays old new longer (levels_in t) (levels_in u) levels k.levels g keys (steps_in t) (steps_in u) n e steps k.steps
       (k.ends n e (subst (λ es. IsEndAt es n e) ends h));
 }
@@ -239,12 +245,12 @@ adds_through g h keys others mid new a b c first second = record {
 
 module _ (g : Reading) (keys : Keys) (trees : List (Simple ℕ)) where
   -- nothing is kept
-  pub kept_nothing : (t : LevelTable) → levels_in t ≡ [] → steps_in t ≡ [] → closed_in t ≡ [] → bare_in t ≡ [] → ends_in t ≡ [] → AreKept g keys trees t
-  kept_nothing t levels steps closed bare ends = record {
+  pub kept_nothing : (t : LevelTable) → levels_in t ≡ [] → steps_in t ≡ [] → closed_in t ≡ [] → sampled_in t ≡ [] → ends_in t ≡ [] → AreKept g keys trees t
+  kept_nothing t levels steps closed sampled ends = record {
     levels = subst (All (IsLevelKept trees)) (sym levels) (All-nil (IsLevelKept trees));
     steps = subst (All (IsStepKept g keys trees (levels_in t))) (sym steps) (All-nil (IsStepKept g keys trees (levels_in t)));
     closed = λ n m h. absurd (none_known n m (subst (λ ks. IsKnownAt ks n m) closed h));
-    bare = λ n m h. absurd (none_known n m (subst (λ ks. IsKnownAt ks n m) bare h));
+    sampled = λ n m h. absurd (none_known n m (subst (λ ks. IsKnownAt ks n m) sampled h));
     ends = λ n e h. absurd (none_ends n e (subst (λ es. IsEndAt es n e) ends h));
   } where
     none_known : (n : ℕ) (m : LevelNumber) → IsKnownAt [] n m → ⊥
@@ -256,8 +262,8 @@ module _ (g : Reading) (keys : Keys) (trees : List (Simple ℕ)) where
   module _ (t u : LevelTable) (k : AreKept g keys trees t) where
     -- one more level
     pub adds_level : (l : Level) → IsLevelKept trees l → levels_in u ≡ levels_in t ++ l ∷ [] → steps_in u ≡ steps_in t → closed_in u ≡ closed_in t
-        → bare_in u ≡ bare_in t → ends_in u ≡ ends_in t → AddsLevels g keys trees t u
-    adds_level l kept levels steps closed bare ends =
+        → sampled_in u ≡ sampled_in t → ends_in u ≡ ends_in t → AddsLevels g keys trees t u
+    adds_level l kept levels steps closed sampled ends =
         let grown : Grows (levels_in t) (levels_in u) = (l ∷ [], levels) in
         let same = grows_as (steps_in t) (steps_in u) steps in
         record {
@@ -266,15 +272,15 @@ module _ (g : Reading) (keys : Keys) (trees : List (Simple ℕ)) where
               (subst (All (IsStepKept g keys trees (levels_in u))) (sym steps)
               (All-weaker (IsStepKept g keys trees (levels_in t)) (IsStepKept g keys trees (levels_in u))
               (step_stays trees trees (longer_same trees) (levels_in t) (levels_in u) grown k.levels g keys) (steps_in t) k.steps))
-              closed bare ends;
+              closed sampled ends;
           levels = grown;
           steps = same;
         }
 
     -- one more step
     pub adds_step : (s : Step) → IsStepKept g keys trees (levels_in t) s → levels_in u ≡ levels_in t → steps_in u ≡ steps_in t ++ s ∷ []
-        → closed_in u ≡ closed_in t → bare_in u ≡ bare_in t → ends_in u ≡ ends_in t → AddsLevels g keys trees t u
-    adds_step s kept levels steps closed bare ends =
+        → closed_in u ≡ closed_in t → sampled_in u ≡ sampled_in t → ends_in u ≡ ends_in t → AddsLevels g keys trees t u
+    adds_step s kept levels steps closed sampled ends =
         let grown : Grows (steps_in t) (steps_in u) = (s ∷ [], steps) in
         let same = grows_as (levels_in t) (levels_in u) levels in
         record {
@@ -282,7 +288,7 @@ module _ (g : Reading) (keys : Keys) (trees : List (Simple ℕ)) where
               (subst (λ ls. All (IsStepKept g keys trees ls) (steps_in u)) (sym levels)
               (subst (All (IsStepKept g keys trees (levels_in t))) (sym steps)
               (All-push (IsStepKept g keys trees (levels_in t)) (steps_in t) s k.steps kept)))
-              closed bare ends;
+              closed sampled ends;
           levels = same;
           steps = grown;
         }
@@ -299,6 +305,10 @@ module _ (g : Reading) (keys : Keys) (trees : List (Simple ℕ)) where
           → IsAfterLevel Is trees (levels_in u) n m
       same_after Is n m a = subst (λ ls. IsAfterLevel Is trees ls n m) (sym levels) a
 
+      same_sampled : (n : ℕ) (m : LevelNumber) → IsAfterLevel (IsAfterText g (sample_in (levels_in t) n)) trees (levels_in t) n m
+          → IsAfterLevel (IsAfterText g (sample_in (levels_in u) n)) trees (levels_in u) n m
+      same_sampled n m a = subst (λ ls. IsAfterLevel (IsAfterText g (sample_in ls n)) trees ls n m) (sym levels) a
+
       same_end : (n : ℕ) (e : End) → IsEndKept g trees (levels_in t) (steps_in t) n e → IsEndKept g trees (levels_in u) (steps_in u) n e
       same_end n e a =
           subst (λ ls. IsEndKept g trees ls (steps_in u) n e) (sym levels) (subst (λ ss. IsEndKept g trees (levels_in t) ss n e) (sym steps) a)
@@ -306,13 +316,13 @@ module _ (g : Reading) (keys : Keys) (trees : List (Simple ℕ)) where
       -- one more level behind a tag without attributes
       pub adds_closed : (from : ℕ) (to : LevelNumber) → IsAfterLevel (IsAfterTag g []) trees (levels_in t) from to
           → ((n : ℕ) (m : LevelNumber) → IsKnownAt (closed_in u) n m → IsKnownAt (closed_in t) n m ⊎ ((n ≡ from) × (m ≡ to)))
-          → bare_in u ≡ bare_in t → ends_in u ≡ ends_in t → AddsLevels g keys trees t u
-      adds_closed from to a closed bare ends = record {
+          → sampled_in u ≡ sampled_in t → ends_in u ≡ ends_in t → AddsLevels g keys trees t u
+      adds_closed from to a closed sampled ends = record {
         kept = record {
           levels = same_levels;
           steps = same_steps;
           closed = λ n m h. same_after (IsAfterTag g []) n m (by n m (closed n m h));
-          bare = λ n m h. same_after (IsAfterText g []) n m (k.bare n m (subst (λ ks. IsKnownAt ks n m) bare h));
+          sampled = λ n m h. same_sampled n m (k.sampled n m (subst (λ ks. IsKnownAt ks n m) sampled h));
           ends = λ n e h. same_end n e (k.ends n e (subst (λ es. IsEndAt es n e) ends h));
         };
         levels = grows_as (levels_in t) (levels_in u) levels;
@@ -323,35 +333,37 @@ module _ (g : Reading) (keys : Keys) (trees : List (Simple ℕ)) where
         by n m (inr h) = subst (λ n. IsAfterLevel (IsAfterTag g []) trees (levels_in t) n m) (sym h.0)
             (subst (IsAfterLevel (IsAfterTag g []) trees (levels_in t) from) (sym h.1) a)
 
-      -- one more level after an empty string
-      pub adds_bare : (from : ℕ) (to : LevelNumber) → IsAfterLevel (IsAfterText g []) trees (levels_in t) from to → closed_in u ≡ closed_in t
-          → ((n : ℕ) (m : LevelNumber) → IsKnownAt (bare_in u) n m → IsKnownAt (bare_in t) n m ⊎ ((n ≡ from) × (m ≡ to)))
+      -- one more level after a sample string
+      pub adds_sampled : (from : ℕ) (to : LevelNumber) → IsAfterLevel (IsAfterText g (sample_in (levels_in t) from)) trees (levels_in t) from to
+          → closed_in u ≡ closed_in t
+          → ((n : ℕ) (m : LevelNumber) → IsKnownAt (sampled_in u) n m → IsKnownAt (sampled_in t) n m ⊎ ((n ≡ from) × (m ≡ to)))
           → ends_in u ≡ ends_in t → AddsLevels g keys trees t u
-      adds_bare from to a closed bare ends = record {
+      adds_sampled from to a closed sampled ends = record {
         kept = record {
           levels = same_levels;
           steps = same_steps;
           closed = λ n m h. same_after (IsAfterTag g []) n m (k.closed n m (subst (λ ks. IsKnownAt ks n m) closed h));
-          bare = λ n m h. same_after (IsAfterText g []) n m (by n m (bare n m h));
+          sampled = λ n m h. same_sampled n m (by n m (sampled n m h));
           ends = λ n e h. same_end n e (k.ends n e (subst (λ es. IsEndAt es n e) ends h));
         };
         levels = grows_as (levels_in t) (levels_in u) levels;
         steps = grows_as (steps_in t) (steps_in u) steps;
       } where
-        by : (n : ℕ) (m : LevelNumber) → IsKnownAt (bare_in t) n m ⊎ ((n ≡ from) × (m ≡ to)) → IsAfterLevel (IsAfterText g []) trees (levels_in t) n m
-        by n m (inl h) = k.bare n m h
-        by n m (inr h) = subst (λ n. IsAfterLevel (IsAfterText g []) trees (levels_in t) n m) (sym h.0)
-            (subst (IsAfterLevel (IsAfterText g []) trees (levels_in t) from) (sym h.1) a)
+        by : (n : ℕ) (m : LevelNumber) → IsKnownAt (sampled_in t) n m ⊎ ((n ≡ from) × (m ≡ to))
+            → IsAfterLevel (IsAfterText g (sample_in (levels_in t) n)) trees (levels_in t) n m
+        by n m (inl h) = k.sampled n m h
+        by n m (inr h) = subst (λ n. IsAfterLevel (IsAfterText g (sample_in (levels_in t) n)) trees (levels_in t) n m) (sym h.0)
+            (subst (IsAfterLevel (IsAfterText g (sample_in (levels_in t) from)) trees (levels_in t) from) (sym h.1) a)
 
       -- one more end
-      pub adds_end : (step : ℕ) (end : End) → IsEndKept g trees (levels_in t) (steps_in t) step end → closed_in u ≡ closed_in t → bare_in u ≡ bare_in t
+      pub adds_end : (step : ℕ) (end : End) → IsEndKept g trees (levels_in t) (steps_in t) step end → closed_in u ≡ closed_in t → sampled_in u ≡ sampled_in t
           → ((n : ℕ) (e : End) → IsEndAt (ends_in u) n e → IsEndAt (ends_in t) n e ⊎ ((n ≡ step) × (e ≡ end))) → AddsLevels g keys trees t u
-      adds_end step end a closed bare ends = record {
+      adds_end step end a closed sampled ends = record {
         kept = record {
           levels = same_levels;
           steps = same_steps;
           closed = λ n m h. same_after (IsAfterTag g []) n m (k.closed n m (subst (λ ks. IsKnownAt ks n m) closed h));
-          bare = λ n m h. same_after (IsAfterText g []) n m (k.bare n m (subst (λ ks. IsKnownAt ks n m) bare h));
+          sampled = λ n m h. same_sampled n m (k.sampled n m (subst (λ ks. IsKnownAt ks n m) sampled h));
           ends = λ n e h. same_end n e (by n e (ends n e h));
         };
         levels = grows_as (levels_in t) (levels_in u) levels;

@@ -1,6 +1,6 @@
 -- Which alternatives may end, as bits.
 use Rattle.std.proofs.Common.{◌≡◌, ◌↔◌, ◌∙◌, ◌&&◌, ◌||◌, ℕ, ◌+◌, ◌<◌, zero, suc, List, [], ◌∷◌, ◌++◌, length, map, slice_index_or, take, refl, sym, ap, ap₂, subst, arith, Bool, true, false, Some, slice_get}
-use Rattle.std.specs.List.{AllZip, list_all}
+use Rattle.std.specs.List.{AllZip, list_all, list_any}
 use Rattle.std.proofs.lemmas.List.{take_more}
 use Rattle.std.proofs.lemmas.Option.{none-some, same_Some}
 use Rattle.rng_model.specs.simple.Tree.{Simple}
@@ -40,6 +40,10 @@ which_by g trees (n ∷ now) (a ∷ after) blank t e h = (
 pub all_mapped : (test : Simple ℕ → Bool) (f : PatternNumber → Simple ℕ) (ns : List PatternNumber) → list_all test (map f ns) ≡ list_all (λ n. test (f n)) ns
 all_mapped test f [] = refl
 all_mapped test f (n ∷ ns) = ap (λ b. test (f n) && b) (all_mapped test f ns)
+
+pub any_mapped : (test : Simple ℕ → Bool) (f : PatternNumber → Simple ℕ) (ns : List PatternNumber) → list_any test (map f ns) ≡ list_any (λ n. test (f n)) ns
+any_mapped test f [] = refl
+any_mapped test f (n ∷ ns) = ap (λ b. test (f n) || b) (any_mapped test f ns)
 
 pub nullable_more : (trees : List (Simple ℕ)) (ps : List PatternNumber) (i : ℕ) (d : PatternNumber) (bs items : List Bool) (b : Bool)
     → bs ≡ nullable_in trees (take i ps) → i < length ps → b ≡ is_nullable (tree_of trees (slice_index_or ps i d)) → items ≡ bs ++ b ∷ []

@@ -5,6 +5,7 @@ pub mod EndedElements
 pub mod StateSteps
 pub mod Positions
 pub mod KeptLevels
+pub mod SampledLevels
 pub mod OpenStates
 pub mod LevelTests
 pub mod LevelRenewal

@@ -66,6 +66,12 @@ pub trait Derivatives {
         requires { IsInside (trees self.now) pattern }
         ensures { result ≡ tree.is_not_allowed (tree_of (trees self.now) pattern) };
 
+    /// Returns whether the pattern contains a data, a value or a list, outside its attributes. If it has none, each string
+    /// leaves the same of it.
+    fn tests_strings(&self, pattern: PatternNumber) -> bool
+        requires { IsInside (trees self.now) pattern }
+        ensures { result ≡ tree.has_data (tree_of (trees self.now) pattern) };
+
     /// Returns a choice of the members. A choice of none takes nothing. Fails only when out of memory.
     fn choice(
         &mut self,

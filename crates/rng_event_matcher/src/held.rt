@@ -7,7 +7,7 @@ ghost use Rattle.rng_event_matcher.specs.views.OpenPositions.{IsHeldKept, held_s
 ghost use Rattle.rng_event_matcher.specs.views.Strings.{AddsHeld, IsHeld};
 
 use crate::derivatives::Derivatives;
-use crate::numbering::{level_after_string, level_when_bare};
+use crate::numbering::level_after_text;
 use rng_levels::{LevelNumber, LevelTable};
 use rng_model::OutOfMemory;
 use std::alloc::Global;
@@ -52,31 +52,11 @@ pub fn hold<D: Derivatives>(
     ensures held { IfOk result (λ h. AddsHeld (λ s. s ≡ text.now) (D.reading derivatives.old) (D.trees derivatives.old)
         (D.trees derivatives.new) (numbers_in (levels_in table.old) now.0) (held_string table.new h)) }
 {
-    let after = level_after_string(derivatives, alloc, table, now, text)?;
+    let after = level_after_text(derivatives, alloc, table, now, text)?;
     Ok(Held {
         blank: is_blank(text),
         after,
     })
-}
-
-/// Holds an empty string.
-fn hold_nothing<D: Derivatives>(
-    derivatives: &mut D,
-    alloc: Global,
-    table: &mut LevelTable,
-    now: LevelNumber,
-) -> Result<Held, OutOfMemory>
-    requires kept { AreKept (D.reading derivatives.old) (D.basis derivatives.old).keys (D.trees derivatives.old) table.old }
-    requires now { now.0 < length (levels_in table.old) }
-    ensures reading { OnOk result (D.reading derivatives.new ≡ D.reading derivatives.old) }
-    ensures basis { OnOk result (D.basis derivatives.new ≡ D.basis derivatives.old) }
-    ensures adds { OnOk result (AddsLevels (D.reading derivatives.new) (D.basis derivatives.new).keys (D.trees derivatives.new) table.old table.new) }
-    ensures inside { IfOk result (λ h. IsHeldKept table.new now (Some h)) }
-    ensures held { IfOk result (λ h. AddsHeld (λ s. s ≡ []) (D.reading derivatives.old) (D.trees derivatives.old)
-        (D.trees derivatives.new) (numbers_in (levels_in table.old) now.0) (held_string table.new h)) }
-{
-    let after = level_when_bare(derivatives, alloc, table, now)?;
-    Ok(Held { blank: true, after })
 }
 
 /// Returns the held string, or the empty one if no string is held.
@@ -100,6 +80,6 @@ pub fn held_or_empty<D: Derivatives>(
 {
     match string {
         Some(string) => Ok(string),
-        None => hold_nothing(derivatives, alloc, table, now),
+        None => hold(derivatives, alloc, table, now, ""),
     }
 }

@@ -18,4 +18,7 @@ pub struct Level {
     pub good: Option<u64>,
     /// Whether no alternative takes anything.
     pub dead: bool,
+    /// Whether some alternative contains a data, a value or a list, so that what is left after a string depends on what
+    /// the string says.
+    pub tests_strings: bool,
 }

@@ -3,7 +3,7 @@ ghost use Rattle.std.specs.Prelude.{◌≡◌, ◌<◌, ◌⊎◌, ◌++◌, ◌
 ghost use Rattle.std.specs.Option.{option_copied};
 ghost use Rattle.rng_levels.specs.declared.level.LevelNumber.{LevelNumber};
 ghost use Rattle.rng_levels.specs.declared.step.End.{End};
-ghost use Rattle.rng_levels.specs.views.LevelTable.{IsEndAt, IsKnownAt, IsStepOf, bare_in, closed_in, ends_in, levels_in, numbers_in, steps_in};
+ghost use Rattle.rng_levels.specs.views.LevelTable.{IsEndAt, IsKnownAt, IsStepOf, sampled_in, closed_in, ends_in, levels_in, numbers_in, steps_in};
 
 use crate::level::{Level, LevelNumber};
 use crate::level_index::{LevelIndex, put_known};
@@ -33,8 +33,8 @@ pub struct LevelTable {
     steps: Vec<Step>,
     /// For each level, that behind a tag without attributes, once it is known.
     closed: Vec<Option<LevelNumber>>,
-    /// For each level, that after an empty string, once it is known.
-    bare: Vec<Option<LevelNumber>>,
+    /// For each level, that after its sample string, once it is known.
+    sampled: Vec<Option<LevelNumber>>,
     /// For each step, the ends that are known.
     ends: Vec<Ends>,
     index: LevelIndex,
@@ -125,14 +125,14 @@ impl LevelTable {
         ensures levels { levels_in result ≡ [] }
         ensures steps { steps_in result ≡ [] }
         ensures closed { closed_in result ≡ [] }
-        ensures bare { bare_in result ≡ [] }
+        ensures sampled { sampled_in result ≡ [] }
         ensures ends { ends_in result ≡ [] }
     {
         LevelTable {
             levels: Vec::new(alloc),
             steps: Vec::new(alloc),
             closed: Vec::new(alloc),
-            bare: Vec::new(alloc),
+            sampled: Vec::new(alloc),
             ends: Vec::new(alloc),
             index: LevelIndex::new(alloc),
             kept: 0,
@@ -184,7 +184,7 @@ impl LevelTable {
         ensures levels { OnOk result (levels_in self.new ≡ levels_in self.old ++ level ∷ []) }
         ensures steps { OnOk result (steps_in self.new ≡ steps_in self.old) }
         ensures closed { OnOk result (closed_in self.new ≡ closed_in self.old) }
-        ensures bare { OnOk result (bare_in self.new ≡ bare_in self.old) }
+        ensures sampled { OnOk result (sampled_in self.new ≡ sampled_in self.old) }
         ensures ends { OnOk result (ends_in self.new ≡ ends_in self.old) }
     {
         let number = LevelNumber(self.levels.as_slice().len());
@@ -215,32 +215,36 @@ impl LevelTable {
         ensures steps { OnOk result (steps_in self.new ≡ steps_in self.old) }
         ensures closed { OnOk result ((n : ℕ) (m : LevelNumber) → IsKnownAt (closed_in self.new) n m
             → IsKnownAt (closed_in self.old) n m ⊎ ((n ≡ level.0) × (m ≡ closed))) }
-        ensures bare { OnOk result (bare_in self.new ≡ bare_in self.old) }
+        ensures sampled { OnOk result (sampled_in self.new ≡ sampled_in self.old) }
         ensures ends { OnOk result (ends_in self.new ≡ ends_in self.old) }
     {
         self.kept = self.kept.saturating_add(1);
         put_known(&mut self.closed, level.0, closed)
     }
 
-    /// Returns the level after an empty string in this level, if it is known.
+    /// Returns the level after the sample string of this level, if it is known.
     #[inline(always)]
-    pub fn bare(&self, level: LevelNumber) -> Option<LevelNumber>
-        ensures { IfSome result (IsKnownAt (bare_in self.now) level.0) }
+    pub fn sampled(&self, level: LevelNumber) -> Option<LevelNumber>
+        ensures { IfSome result (IsKnownAt (sampled_in self.now) level.0) }
     {
-        *found_at(self.bare.as_slice(), level.0)?
+        *found_at(self.sampled.as_slice(), level.0)?
     }
 
-    /// Says which level is after an empty string in this level. Fails only when out of memory.
-    pub fn keep_bare(&mut self, level: LevelNumber, after: LevelNumber) -> Result<(), OutOfMemory>
+    /// Says which level is after the sample string of this level. Fails only when out of memory.
+    pub fn keep_sampled(
+        &mut self,
+        level: LevelNumber,
+        after: LevelNumber,
+    ) -> Result<(), OutOfMemory>
         ensures levels { OnOk result (levels_in self.new ≡ levels_in self.old) }
         ensures steps { OnOk result (steps_in self.new ≡ steps_in self.old) }
         ensures closed { OnOk result (closed_in self.new ≡ closed_in self.old) }
-        ensures bare { OnOk result ((n : ℕ) (m : LevelNumber) → IsKnownAt (bare_in self.new) n m
-            → IsKnownAt (bare_in self.old) n m ⊎ ((n ≡ level.0) × (m ≡ after))) }
+        ensures sampled { OnOk result ((n : ℕ) (m : LevelNumber) → IsKnownAt (sampled_in self.new) n m
+            → IsKnownAt (sampled_in self.old) n m ⊎ ((n ≡ level.0) × (m ≡ after))) }
         ensures ends { OnOk result (ends_in self.new ≡ ends_in self.old) }
     {
         self.kept = self.kept.saturating_add(1);
-        put_known(&mut self.bare, level.0, after)
+        put_known(&mut self.sampled, level.0, after)
     }
 
     // ---- steps
@@ -290,7 +294,7 @@ impl LevelTable {
         ensures levels { OnOk result (levels_in self.new ≡ levels_in self.old) }
         ensures steps { OnOk result (steps_in self.new ≡ steps_in self.old ++ step ∷ []) }
         ensures closed { OnOk result (closed_in self.new ≡ closed_in self.old) }
-        ensures bare { OnOk result (bare_in self.new ≡ bare_in self.old) }
+        ensures sampled { OnOk result (sampled_in self.new ≡ sampled_in self.old) }
         ensures ends { OnOk result (ends_in self.new ≡ ends_in self.old) }
     {
         let number = StepNumber(self.steps.as_slice().len());
@@ -315,7 +319,7 @@ impl LevelTable {
         ensures levels { OnOk result (levels_in self.new ≡ levels_in self.old) }
         ensures steps { OnOk result (steps_in self.new ≡ steps_in self.old) }
         ensures closed { OnOk result (closed_in self.new ≡ closed_in self.old) }
-        ensures bare { OnOk result (bare_in self.new ≡ bare_in self.old) }
+        ensures sampled { OnOk result (sampled_in self.new ≡ sampled_in self.old) }
         ensures ends { OnOk result ((n : ℕ) (e : End) → IsEndAt (ends_in self.new) n e
             → IsEndAt (ends_in self.old) n e ⊎ ((n ≡ step.0) × (e ≡ end))) }
     {

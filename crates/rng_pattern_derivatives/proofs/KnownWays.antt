@@ -1,5 +1,5 @@
 -- Known ways of patterns stay right as a table grows.
-use Rattle.std.proofs.Common.{◌≡◌, ◌∙◌, ◌⊎◌, ◌<◌, ℕ, Bool, List, length, Some, None}
+use Rattle.std.proofs.Common.{◌≡◌, ◌∙◌, ◌⊎◌, ◌<◌, ℕ, Bool, Box, List, [], length, Option, Some, None, slice_get}
 use Rattle.std.proofs.Common.{true, ⊎_elim, sym, ap, subst, arith}
 use Rattle.std.proofs.lemmas.Bool.{cases_Bool}
 use Rattle.std.proofs.lemmas.Bool.Decides.{Decides-eqb}
@@ -21,10 +21,11 @@ use Rattle.rng_pattern_table.specs.contracts.pattern.PatternNumberPartialEq.TheI
 use Rattle.rng_pattern_table.proofs.Trees.{Longer-length, tree_stays}
 use Rattle.rng_pattern_derivatives.specs.plain.Kinds.{IsElementNamed, IsNamed, Obeys}
 use Rattle.rng_model.specs.matching.GrammarReading.{reading_of}
-use Rattle.rng_pattern_derivatives.specs.views.KnownWays.{AreAllKnown, AreKnown, AreKnownByKey, AreKnownFor, AreThoseOf, HasForKey, HasKnown, IsAttributeKind, IsElementKind}
+use Rattle.rng_pattern_derivatives.specs.views.KnownWays.{AreAllKnown, AreKnown, AreKnownByKey, AreKnownFor, AreLast, AreThoseOf, HasForKey, HasKnown, HasLast, IsAttributeKind, IsElementKind}
 use Rattle.rng_pattern_derivatives.specs.views.KnownWays.{KeepsOtherKeys}
 use Rattle.rng_pattern_derivatives.specs.plain.Ways.{AreWaysOf, ways_by}
 use Rattle.rng_pattern_derivatives.specs.declared.known.Known.{Known}
+use Rattle.rng_pattern_derivatives.specs.declared.known.LastWays.{LastWays}
 use Rattle.rng_pattern_derivatives.specs.declared.way.Kind.{Kind}
 use Rattle.rng_pattern_derivatives.specs.declared.way.Kind.TheVariants as kinds
 use Rattle.rng_pattern_derivatives.specs.declared.way.Place.{Place}
@@ -141,6 +142,28 @@ module _ {Y Z : Type 0} (Are : Name → Kind → Type 0) (t : Table) (keys : Key
       (h m (subst (λ j. HasForKey more j m) (sym is) at) n ws found))
       (λ apart. known_longer t old new other longer m (all k other told m (sym (others k apart) ∙ at))) (cases_Bool (same_key.ghosts.eq key k))
 
+-- ---- the last ways
+
+pub last_longer : {Z : Type 0} (t : Table) (keys : Keys) (old new : List Node) → Longer old new → (last : List (Option (Box LastWays Z)))
+    → AreLast t keys old last → AreLast t keys new last
+last_longer t keys old new longer last all = λ n ws h kind named. those_stay t old new kind longer n ws.ways.items (all n ws h kind named)
+
+none_there : {A : Type 0} {x : A} → None ≡ Some x → ⊥
+none_there e = cc
+
+pub no_last : {Z : Type 0} (t : Table) (keys : Keys) (ns : List Node) (last : List (Option (Box LastWays Z))) → last ≡ [] → AreLast t keys ns last
+no_last t keys ns last none = λ n ws h kind named. absurd (none_there (sym (ap (λ l. slice_get l n.0) none) ∙ h.1))
+
+-- the ways of one pattern become the last ones
+pub last_more : {Z : Type 0} (t : Table) (keys : Keys) (ns : List Node) (last more : List (Option (Box LastWays Z))) (number : PatternNumber) (key : NameKey)
+    (ways : List LeafWay) → AreLast t keys ns last
+    → ((kind : Kind) → IsAttributeKind (name_at keys key.0) kind → AreThoseOf t ns kind number ways)
+    → ((n : PatternNumber) (ws : LastWays) → HasLast more n ws → HasLast last n ws ⊎ ((n ≡ number) × (ws.key ≡ key) × (ws.ways.items ≡ ways)))
+    → AreLast t keys ns more
+last_more t keys ns last more number key ways all those within = λ n ws h kind named. ⊎_elim (λ a. all n ws a kind named)
+    (λ b. subst (λ n. AreThoseOf t ns kind n ws.ways.items) (sym b.0) (subst (AreThoseOf t ns kind number) (sym b.2)
+    (those kind (subst (λ (k : NameKey). IsAttributeKind (name_at keys k.0) kind) b.1 named)))) (within n ws h)
+
 pub all_longer : (t : Table) (keys : Keys) (old new : List Node) → Longer old new → (known : Known) → AreAllKnown t keys old known
     → AreAllKnown t keys new known
 all_longer t keys old new longer known all = record {
@@ -154,6 +177,7 @@ all_longer t keys old new longer known all = record {
   attribute_takers = all.attribute_takers;
   spans = spans_longer t old new longer known.spans.items all.spans;
   datatypes = all.datatypes;
+  last = last_longer t keys old new longer known.last.items all.last;
 }
 
 -- ---- elements

@@ -1,11 +1,12 @@
 // Known ways of patterns.
-ghost use Rattle.std.specs.Prelude.{◌≡◌, ◌⊎◌, IfOk, IfSome, List, OnOk};
+ghost use Rattle.std.specs.Prelude.{◌≡◌, ◌⊎◌, ◌<◌, IfOk, IfSome, List, OnOk, length};
 ghost use Rattle.rng_names.specs.plain.Keys.{Keys, KeysServe};
 ghost use Rattle.rng_model.specs.simple.Table.{Table};
 ghost use Rattle.rng_pattern_table.specs.views.Node.{Node};
 ghost use Rattle.rng_pattern_table.specs.declared.pattern.PatternNumber.{PatternNumber};
-ghost use Rattle.rng_pattern_derivatives.specs.views.KnownWays.{AreAllKnown, HasKnown};
+ghost use Rattle.rng_pattern_derivatives.specs.views.KnownWays.{AreAllKnown, HasKnown, HasLast};
 ghost use Rattle.rng_pattern_derivatives.specs.declared.way.LeafWay.{LeafWay};
+ghost use Rattle.rng_pattern_derivatives.specs.declared.known.LastWays.{LastWays};
 
 use crate::alike::alike_elements;
 use crate::datatypes::Datatypes;
@@ -25,8 +26,15 @@ pub type KnownWays = HashMap<PatternNumber, Ways>;
 /// The known ways for the keys of names that have occurred.
 pub type KnownByKey = HashMap<NameKey, KnownWays>;
 
-/// A key of names for each of some patterns.
-pub type LastKeys = HashMap<PatternNumber, NameKey>;
+/// The ways of a pattern to take an attribute with the representative name of a key.
+#[derive(Drop)]
+pub struct LastWays {
+    pub key: NameKey,
+    pub ways: Ways,
+}
+
+/// For the first patterns, by number, the ways to take an attribute that were computed last, if there are some.
+pub type LastByPattern = Vec<Option<Box<LastWays>>>;
 
 /// The known ways of patterns, for each kind of what comes first.
 #[derive(Drop)]
@@ -48,9 +56,9 @@ pub struct Known {
     pub spans: Vec<Span>,
     /// The datatypes that the grammar names, by positions.
     pub datatypes: Datatypes,
-    /// For patterns with known ways to take an attribute, the key for which they were computed last. It is tried first
-    /// for the next attribute.
-    pub last_keys: LastKeys,
+    /// For patterns with known ways to take an attribute, those that were computed last. They are tried first for the
+    /// next attribute.
+    pub last: LastByPattern,
 }
 
 impl Known {
@@ -75,7 +83,7 @@ impl Known {
             attribute_takers,
             spans: Vec::new(alloc),
             datatypes,
-            last_keys: HashMap::new(alloc),
+            last: Vec::new(alloc),
         })
     }
 
@@ -89,7 +97,7 @@ impl Known {
         self.attributes = HashMap::new(alloc);
         self.rests = HashMap::new(alloc);
         self.spans = Vec::new(alloc);
-        self.last_keys = HashMap::new(alloc);
+        self.last = Vec::new(alloc);
     }
 }
 
@@ -105,6 +113,46 @@ pub fn known_ways(known: &KnownWays, number: PatternNumber) -> Option<&[LeafWay]
     ensures { IfSome result (λ ways. HasKnown known.now number ways.now) }
 {
     Some(known.get(&number)?.as_slice())
+}
+
+/// Returns the ways of a pattern to take an attribute that were computed last. Allocates nothing.
+#[inline(always)]
+pub fn last_ways(last: &[Option<Box<LastWays>>], number: PatternNumber) -> Option<&LastWays>
+    ensures { IfSome result (λ ways. HasLast last.now number ways.now) }
+{
+    match last.get(number.0) {
+        Some(Some(ways)) => Some(ways),
+        _ => None,
+    }
+}
+
+/// Makes sure that there is a place for the last ways of the pattern with this number.
+fn make_place(last: &mut LastByPattern, number: PatternNumber) -> Result<(), OutOfMemory>
+    ensures place { OnOk result (number.0 < length last.new.items) }
+    ensures last { OnOk result ((n : PatternNumber) (ways : LastWays) → HasLast last.new.items n ways → HasLast last.old.items n ways) }
+{
+    'places: while last.as_slice().len() <= number.0 {
+        last.push(None)?;
+    }
+    Ok(())
+}
+
+/// Keeps the ways of a pattern to take an attribute as those that were computed last. Fails only when out of memory.
+pub fn keep_last(
+    alloc: Global,
+    last: &mut LastByPattern,
+    number: PatternNumber,
+    key: NameKey,
+    ways: &[LeafWay],
+) -> Result<(), OutOfMemory>
+    ensures { OnOk result ((n : PatternNumber) (ws : LastWays) → HasLast last.new.items n ws
+        → HasLast last.old.items n ws ⊎ ((n ≡ number) × (ws.key ≡ key) × (ws.ways.items ≡ ways.now))) }
+{
+    make_place(last, number)?;
+    let ways = copied_ways(alloc, ways)?;
+    let kept = Box::new(alloc, LastWays { key, ways })?;
+    last[number.0] = Some(kept);
+    Ok(())
 }
 
 /// Keeps the ways of a pattern. Fails only when out of memory.

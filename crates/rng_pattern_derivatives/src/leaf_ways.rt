@@ -7,12 +7,12 @@ ghost use Rattle.rng_pattern_derivatives.specs.plain.Ways.{AreWaysOf};
 ghost use Rattle.rng_pattern_derivatives.specs.declared.way.Kind.TheVariants as kinds;
 
 use crate::by_key::ways_by_key;
-use crate::known::{Known, KnownWays, LastKeys};
+use crate::known::{Known, KnownWays, keep_last};
 use crate::spans::add_spans;
 use crate::way::{Candidates, Kind, Ways};
 use crate::ways::{is_kept, ways};
 use rng_model::{Name, OutOfMemory, SimpleGrammar};
-use rng_names::{NameKey, NameKeys};
+use rng_names::NameKeys;
 use rng_pattern_table::{PatternNumber, PatternTable};
 use std::alloc::Global;
 
@@ -41,23 +41,9 @@ pub fn text_ways(
     )
 }
 
-/// Keeps the key for which the ways of a pattern are computed, if these ways are kept. Fails only when out of memory.
-fn keep_last_key(
-    table: &PatternTable,
-    last_keys: &mut LastKeys,
-    number: PatternNumber,
-    key: NameKey,
-) -> Result<(), OutOfMemory>
-    requires { number.0 < length table.now }
-{
-    if is_kept(table, number) {
-        last_keys.insert(number, key)?;
-    }
-    Ok(())
-}
-
 /// Returns the ways of a pattern to take an attribute with this name first. They are those for the representative of
 /// its key, which no name class distinguishes from the name. Fails only when out of memory. Those of its parts are kept.
+/// Those of the pattern are kept as the last ones, if its ways are kept.
 pub fn attribute_ways(
     alloc: Global,
     grammar: &SimpleGrammar,
@@ -75,10 +61,9 @@ pub fn attribute_ways(
 {
     add_spans(table, &mut known.spans)?;
     let key = keys.key(name);
-    keep_last_key(table, &mut known.last_keys, number, key)?;
     let takers = known.attribute_takers.of(key);
     let candidates = Candidates::Attributes(takers, known.spans.as_slice());
-    ways_by_key(
+    let ways = ways_by_key(
         alloc,
         grammar,
         table,
@@ -87,5 +72,10 @@ pub fn attribute_ways(
         candidates,
         Kind::Attribute(keys.name(key)),
         number,
-    )
+    )?;
+    if !is_kept(table, number) {
+        return Ok(ways);
+    }
+    keep_last(alloc, &mut known.last, number, key, ways.as_slice())?;
+    Ok(ways)
 }

@@ -25,7 +25,7 @@ mod ways;
 pub use alike::is_same_name;
 pub use closing::close;
 pub use datatypes::Datatypes;
-pub use known::{Known, KnownByKey, KnownWays, LastKeys, known_ways};
+pub use known::{Known, KnownByKey, KnownWays, LastByPattern, LastWays, known_ways, last_ways};
 pub use leaf_ways::{attribute_ways, text_ways};
 pub use leaves::rest_of_leaf;
 pub use rests::KnownRests;

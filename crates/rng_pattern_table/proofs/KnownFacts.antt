@@ -8,7 +8,7 @@ use Rattle.rng_model.specs.simple.Tree as tree
 use Rattle.rng_model.specs.simple.Table.{Table}
 use Rattle.rng_model.specs.declared.simple.Simple.{Simple}
 use Rattle.rng_model.specs.declared.simple.Simple.TheVariants as simple
-use Rattle.rng_deriv_laws.specs.plain.Derivatives.{is_nullable}
+use Rattle.rng_deriv_laws.specs.plain.Derivatives.{has_data, is_nullable}
 use Rattle.rng_pattern_table.specs.plain.Facts.{HasElement, IsWithin, elements_of, has_subsequences, joined_spans, members_of, no_span, one_span}
 use Rattle.rng_pattern_table.specs.views.PatternTable.{facts_of}
 use Rattle.rng_pattern_table.specs.plain.Reduced.{has_attribute}
@@ -32,6 +32,12 @@ pub choice_attributes : (f : ℕ → tree.Simple ℕ) (ms : List PatternNumber)
 choice_attributes f [] = refl
 choice_attributes f (m ∷ []) = or_none (has_attribute (f m.0))
 choice_attributes f (m ∷ n ∷ ms) = ap (λ b. has_attribute (f m.0) || b) (choice_attributes f (n ∷ ms))
+
+pub choice_data : (f : ℕ → tree.Simple ℕ) (ms : List PatternNumber)
+    → list_any (λ m. has_data (f m.0)) ms ≡ has_data (choice_over f (map (λ m. m.0) ms))
+choice_data f [] = refl
+choice_data f (m ∷ []) = or_none (has_data (f m.0))
+choice_data f (m ∷ n ∷ ms) = ap (λ b. has_data (f m.0) || b) (choice_data f (n ∷ ms))
 
 and_all : (b : Bool) → (b && true) ≡ b
 and_all true = refl
@@ -106,21 +112,23 @@ choice_members f (m ∷ n ∷ ms) two = refl
 -- all members
 pub all_members : (f : ℕ → tree.Simple ℕ) (ms : List PatternNumber) (i : ℕ) (known : Facts) → 2 ≤ length ms → length ms ≤ i
     → known.nullable ≡ list_any (λ m. is_nullable (f m.0)) (take i ms) → known.attributes ≡ list_any (λ m. has_attribute (f m.0)) (take i ms)
+    → known.tests_strings ≡ list_any (λ m. has_data (f m.0)) (take i ms)
     → known.subsequences ≡ list_all (λ m. has_subsequences (f m.0)) (take i ms) → known.elements ≡ elements_among f (take i ms) → known.members ≡ 1
     → known ≡ facts_of (choice_over f (map (λ m. m.0) ms))
-all_members f ms i known two over n a s e o =
+all_members f ms i known two over n a d s e o =
     let all = take_all i ms over in
     same_facts known _ (n ∙ ap (list_any (λ m. is_nullable (f m.0))) all ∙ choice_nullable f ms)
     (a ∙ ap (list_any (λ m. has_attribute (f m.0))) all ∙ choice_attributes f ms)
+    (d ∙ ap (list_any (λ m. has_data (f m.0))) all ∙ choice_data f ms)
     (s ∙ ap (list_all (λ m. has_subsequences (f m.0))) all ∙ choice_subsequences f ms)
     (e ∙ ap (elements_among f) all ∙ choice_elements f ms) (o ∙ sym (choice_members f ms two))
   where
-    same_facts : (a b : Facts) → a.nullable ≡ b.nullable → a.attributes ≡ b.attributes → a.subsequences ≡ b.subsequences → a.elements ≡ b.elements
-        → a.members ≡ b.members → a ≡ b
-    same_facts a b n o s e m =
-        ap₂ (λ x y. record { nullable = x; attributes = y; subsequences = a.subsequences; elements = a.elements; members = a.members }) n o
-        ∙ ap (λ x. record { nullable = b.nullable; attributes = b.attributes; subsequences = x; elements = a.elements; members = a.members }) s
-        ∙ ap₂ (λ x y. record { nullable = b.nullable; attributes = b.attributes; subsequences = b.subsequences; elements = x; members = y }) e m
+    same_facts : (a b : Facts) → a.nullable ≡ b.nullable → a.attributes ≡ b.attributes → a.tests_strings ≡ b.tests_strings → a.subsequences ≡ b.subsequences
+        → a.elements ≡ b.elements → a.members ≡ b.members → a ≡ b
+    same_facts a b n o d s e m =
+        ap₂ (λ x y. record { nullable = x; attributes = y; tests_strings = a.tests_strings; subsequences = a.subsequences; elements = a.elements; members = a.members }) n o
+        ∙ ap₂ (λ x y. record { nullable = b.nullable; attributes = b.attributes; tests_strings = x; subsequences = y; elements = a.elements; members = a.members }) d s
+        ∙ ap₂ (λ x y. record { nullable = b.nullable; attributes = b.attributes; tests_strings = b.tests_strings; subsequences = b.subsequences; elements = x; members = y }) e m
 
 -- an element in the tree is within the known range
 pub one_within : (k : ℕ) → IsWithin (one_span k) k
@@ -155,6 +163,7 @@ of_members P ms all k d inside =
 pub attribute_known : (t : Table) (o : Option Simple) → facts_of (attribute_found t o) ≡ record {
   nullable = false;
   attributes = true;
+  tests_strings = false;
   subsequences = true;
   elements = no_span;
   members = 1;
@@ -177,6 +186,7 @@ attribute_known t (Some (simple.Choice a b)) = refl
 pub data_known : (t : Table) (o : Option Simple) → facts_of (data_found t o) ≡ record {
   nullable = false;
   attributes = false;
+  tests_strings = true;
   subsequences = true;
   elements = no_span;
   members = 1;

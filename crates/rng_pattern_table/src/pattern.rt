@@ -36,6 +36,9 @@ pub struct Facts {
     pub nullable: bool,
     /// Whether it contains an attribute, outside its elements, lists and excepts.
     pub attributes: bool,
+    /// Whether it contains a data, a value or a list, outside its attributes and elements. Otherwise what a string says
+    /// does not matter to it.
+    pub tests_strings: bool,
     /// Whether it takes each subsequence of each sequence of items that it takes, except perhaps the empty one. Blank
     /// strings beside elements are ignored. False means that it is not known.
     pub subsequences: bool,

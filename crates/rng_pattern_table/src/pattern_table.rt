@@ -135,7 +135,11 @@ impl PatternTable {
                 members: 1,
                 ..self.facts(*pattern)
             },
-            Pattern::NotAllowed | Pattern::Data(_) => NOTHING_KNOWN,
+            Pattern::NotAllowed => NOTHING_KNOWN,
+            Pattern::Data(_) => Facts {
+                tests_strings: true,
+                ..NOTHING_KNOWN
+            },
             Pattern::Element(element) => Facts {
                 elements: Span::one(element.0),
                 ..NOTHING_KNOWN
@@ -158,6 +162,7 @@ impl PatternTable {
             let facts = self.facts(*member);
             known.nullable |= facts.nullable;
             known.attributes |= facts.attributes;
+            known.tests_strings |= facts.tests_strings;
             known.subsequences &= facts.subsequences;
             known.elements = known.elements.joined(facts.elements);
         }
@@ -241,6 +246,7 @@ fn keep_unit(units: &mut Vec<u32>, number: usize, unit: u32) -> Result<(), OutOf
 const NOTHING_KNOWN: Facts = Facts {
     nullable: false,
     attributes: false,
+    tests_strings: false,
     subsequences: true,
     members: 1,
     elements: Span::NONE,
@@ -254,6 +260,7 @@ fn both(first: Facts, second: Facts, members: u16) -> Facts
     Facts {
         nullable: first.nullable && second.nullable,
         attributes: first.attributes || second.attributes,
+        tests_strings: first.tests_strings || second.tests_strings,
         subsequences: first.nullable
             && first.subsequences
             && second.nullable

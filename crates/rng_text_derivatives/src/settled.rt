@@ -3,7 +3,7 @@ ghost use Rattle.std.specs.Prelude.{◌≡◌, ◌↔◌, ◌<◌, true, [], ◌
 ghost use Rattle.rng_model.specs.matching.Document.{a_text};
 ghost use Rattle.rng_model.specs.matching.GrammarReading.{reading_of};
 ghost use Rattle.rng_model.specs.names.NameViews.{name_of};
-ghost use Rattle.rng_names.specs.plain.Keys.{key_of};
+ghost use Rattle.rng_names.specs.plain.Keys.{name_at};
 ghost use Rattle.rng_model.specs.simple.Table.{tree_at};
 ghost use Rattle.rng_deriv_laws.specs.plain.Restricted.{IsRestricted};
 ghost use Rattle.rng_deriv_laws.specs.plain.Taking.{Takes, WeaklyTakes};
@@ -24,9 +24,9 @@ use crate::context::Context;
 use crate::first::First;
 use crate::leaf_tests::{is_blank, is_leaf_for};
 use rng_model::{Attr, Name, PatternId, Simple, SimpleGrammar};
-use rng_names::{NameKey, contains};
+use rng_names::contains;
 use rng_pattern_derivatives::{
-    Datatypes, Known, LeafWay, Place, is_same_name, known_ways, number_at,
+    Datatypes, Known, LastWays, LeafWay, Place, is_same_name, known_ways, last_ways, number_at,
 };
 use rng_pattern_table::{Pattern, PatternNumber, PatternTable};
 
@@ -87,25 +87,35 @@ fn text_leaf_takes(
     }
 }
 
-/// Returns the key of a name, if a pattern has known ways to take an attribute. The key for which they were computed
-/// last is tried first, by a comparison of two names. Allocates nothing.
-fn known_key(
-    context: &Context,
-    known: &Known,
-    name: &Name,
-    number: PatternNumber,
-) -> Option<NameKey>
-    ensures key { IfSome result (λ key. key.0 ≡ key_of context.now.keys.now (name_of name.now)) }
-    ensures inside { IfSome result (λ key. key.0 < length context.now.keys.now.names) }
+/// Returns whether these ways are those for the key of the name, as far as the name itself shows it. Allocates nothing.
+fn are_last_for(context: &Context, last: &LastWays, name: &Name) -> bool
+    ensures { result ≡ true → name_at context.now.keys.now last.now.key.0 ≡ name_of name.now }
 {
-    let last = *known.last_keys.get(&number)?;
-    if last.0 < context.keys.len() && is_same_name(context.keys.name(last), name) {
-        return Some(last);
+    if last.key.0 >= context.keys.len() {
+        return false;
     }
-    Some(context.keys.key(name))
+    is_same_name(context.keys.name(last.key), name)
 }
 
-/// Returns the known ways of a pattern to take an attribute with this name. Allocates nothing.
+/// Returns the known ways of a pattern to take an attribute with this name, by its key. Allocates nothing.
+fn ways_by_key<'a>(
+    context: &Context,
+    known: &'a Known,
+    name: &Name,
+    number: PatternNumber,
+) -> Option<&'a [LeafWay]>
+    ensures { (ns : List Node) → AreAllKnown context.now.grammar.now context.now.keys.now ns known.now
+        → IfSome result (λ ws. AreWaysOf context.now.grammar.now ns (kinds.Attribute name.entry) (tree_of context.now.grammar.now ns number.0) ws.now) }
+{
+    let key = context.keys.key(name);
+    // The ways of a key are those for its representative.
+    let _representative = context.keys.name(key);
+    let own = known.attributes.get(&key)?;
+    known_ways(own, number)
+}
+
+/// Returns the known ways of a pattern to take an attribute with this name. Those that were computed last are tried
+/// first, by a comparison of two names. Allocates nothing.
 fn attribute_ways_known<'a>(
     context: &Context,
     known: &'a Known,
@@ -115,11 +125,11 @@ fn attribute_ways_known<'a>(
     ensures { (ns : List Node) → AreAllKnown context.now.grammar.now context.now.keys.now ns known.now
         → IfSome result (λ ws. AreWaysOf context.now.grammar.now ns (kinds.Attribute name.entry) (tree_of context.now.grammar.now ns number.0) ws.now) }
 {
-    let key = known_key(context, known, name, number)?;
-    // The ways of a key are those for its representative.
-    let _representative = context.keys.name(key);
-    let own = known.attributes.get(&key)?;
-    known_ways(own, number)
+    let last = last_ways(known.last.as_slice(), number)?;
+    if are_last_for(context, last, name) {
+        return Some(last.ways.as_slice());
+    }
+    ways_by_key(context, known, name, number)
 }
 
 /// Returns the known ways of a pattern to take this first. Allocates nothing.
@@ -166,8 +176,8 @@ fn with_told(told: Option<bool>, rest: Rest, way: LeafWay) -> Rest
 }
 
 /// Returns what is left of a pattern after this, if its ways are known and tell no more than two rests. Allocates
-/// nothing. The cost is one look-up for a string, three for an attribute, and a test of each leaf at most. The name of an
-/// attribute is hashed only if its key is not the last one of the pattern.
+/// nothing. The cost is at most one look-up for a string, and a test of each leaf. For an attribute it is a comparison of names
+/// if its key is the last one of the pattern, and otherwise at most four look-ups.
 #[cycle(settled)]
 pub fn settled(
     context: &Context,

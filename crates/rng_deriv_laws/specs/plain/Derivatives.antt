@@ -42,6 +42,20 @@ is_not_allowed (s_value d v) = false
 is_not_allowed (s_one_or_more p) = false
 is_not_allowed (s_joined k p q) = false
 
+-- the pattern contains a data, a value or a list, outside attributes: a string is tested by what it says
+abbrev pub has_data : Simple ℕ → Bool
+has_data s_not_allowed = false
+has_data s_empty = false
+has_data s_text = false
+has_data (s_leaf k) = false
+has_data (s_attribute c p) = false
+has_data (s_list p) = true
+has_data (s_data d) = true
+has_data (s_data_except d p) = true
+has_data (s_value d v) = true
+has_data (s_one_or_more p) = has_data p
+has_data (s_joined k p q) = has_data p || has_data q
+
 abbrev pub is_empty : Simple ℕ → Bool
 is_empty s_not_allowed = false
 is_empty s_empty = true

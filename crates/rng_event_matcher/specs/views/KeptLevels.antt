@@ -1,15 +1,15 @@
 -- What is kept of levels, and when it is right: it is what the call that it replaces may return, for each name of a key.
-use Rattle.std.specs.Prelude.{◌≡◌, ◌↔◌, ℕ, ◌<◌, List, [], ◌∷◌, ◌++◌, ◌&&◌, ◌||◌, length, map, All, Bool, true, Some, IfSome, slice_get}
-use Rattle.std.specs.List.{AllZip, list_all}
+use Rattle.std.specs.Prelude.{◌≡◌, ◌↔◌, ◌⊎◌, ℕ, ◌<◌, List, [], ◌∷◌, ◌++◌, ◌&&◌, ◌||◌, length, map, All, Bool, true, false, Option, Some, None, IfSome, slice_get}
+use Rattle.std.specs.List.{AllZip, list_all, list_any}
 use Rattle.rng_names.specs.plain.Keys.{Keys, key_of}
 use Rattle.rng_model.specs.names.Names.{Name}
 use Rattle.rng_model.specs.simple.Tree.{Simple}
 use Rattle.rng_model.specs.matching.Reading.{Reading}
-use Rattle.rng_deriv_laws.specs.plain.Derivatives.{is_not_allowed, is_nullable}
+use Rattle.rng_deriv_laws.specs.plain.Derivatives.{has_data, is_not_allowed, is_nullable}
 use Rattle.rng_deriv_laws.specs.plain.LevelStates.{IsAfterTag, IsAfterText}
 use Rattle.rng_pattern_table.specs.declared.pattern.PatternNumber.{PatternNumber}
 use Rattle.rng_levels.specs.plain.Bits.{bits_of}
-use Rattle.rng_levels.specs.views.LevelTable.{IsEndAt, IsKnownAt, bare_in, closed_in, ends_in, levels_in, numbers_in, steps_in}
+use Rattle.rng_levels.specs.views.LevelTable.{IsEndAt, IsKnownAt, closed_in, ends_in, levels_in, numbers_in, sample_in, sampled_in, steps_in}
 use Rattle.rng_levels.specs.declared.level.Level.{Level}
 use Rattle.rng_levels.specs.declared.level.LevelNumber.{LevelNumber}
 use Rattle.rng_levels.specs.declared.level_table.LevelTable.{LevelTable}
@@ -29,6 +29,12 @@ pub record IsLevelKept (trees : List (Simple ℕ)) (l : Level) : Type 0 where
   pub inside : All (IsInside trees) l.numbers.items
   pub good : IfSome l.good (λ bits. bits ≡ bits_of (nullable_in trees l.numbers.items))
   pub dead : l.dead ≡ list_all is_not_allowed (map (tree_of trees) l.numbers.items)
+  pub tests : l.tests_strings ≡ list_any has_data (map (tree_of trees) l.numbers.items)
+
+-- what the level's sample string leaves, this string leaves as well
+abbrev pub IsLikeSample : Option Level → List ℕ → Type 0
+IsLikeSample None s = ⊥
+IsLikeSample (Some l) s = (s ≡ []) ⊎ (l.tests_strings ≡ false)
 
 -- the second level has what is left of each alternative of the first, by `Is`
 pub record IsAfterLevel (Is : Simple ℕ → Simple ℕ → Type 0) (trees : List (Simple ℕ)) (levels : List Level) (n : ℕ) (m : LevelNumber) : Type 0 where
@@ -59,7 +65,8 @@ pub record AreKept (g : Reading) (keys : Keys) (trees : List (Simple ℕ)) (t : 
   pub levels : All (IsLevelKept trees) (levels_in t)
   pub steps : All (IsStepKept g keys trees (levels_in t)) (steps_in t)
   pub closed : (n : ℕ) (m : LevelNumber) → IsKnownAt (closed_in t) n m → IsAfterLevel (IsAfterTag g []) trees (levels_in t) n m
-  pub bare : (n : ℕ) (m : LevelNumber) → IsKnownAt (bare_in t) n m → IsAfterLevel (IsAfterText g []) trees (levels_in t) n m
+  pub sampled : (n : ℕ) (m : LevelNumber) → IsKnownAt (sampled_in t) n m
+      → IsAfterLevel (IsAfterText g (sample_in (levels_in t) n)) trees (levels_in t) n m
   pub ends : (n : ℕ) (e : End) → IsEndAt (ends_in t) n e → IsEndKept g trees (levels_in t) (steps_in t) n e
 
 -- some items are added

@@ -1,5 +1,5 @@
 -- What contracts see of a table of levels.
-use Rattle.std.specs.Prelude.{◌≡◌, ℕ, List, [], Option, Some, None, slice_get, Contains}
+use Rattle.std.specs.Prelude.{◌≡◌, ℕ, List, [], Option, Some, None, slice_get, Contains, codes, if◌then◌else◌}
 use Rattle.smallvec.specs.SmallVec.{SmallVec}
 use Rattle.rng_pattern_table.specs.declared.pattern.PatternNumber.{PatternNumber}
 use Rattle.rng_levels.specs.declared.level.Level.{Level}
@@ -20,9 +20,18 @@ steps_in t = t.steps.items
 abbrev pub closed_in : LevelTable → List (Option LevelNumber)
 closed_in t = t.closed.items
 
--- for each level, that after an empty string, if it is known
-abbrev pub bare_in : LevelTable → List (Option LevelNumber)
-bare_in t = t.bare.items
+-- for each level, that after its sample string, if it is known
+abbrev pub sampled_in : LevelTable → List (Option LevelNumber)
+sampled_in t = t.sampled.items
+
+-- The sample string of a level. What is left after it is left after the empty string, and where no alternative tests
+-- what a string says, after every string.
+abbrev pub sample_of : Option Level → List ℕ
+sample_of None = []
+sample_of (Some l) = if l.tests_strings then [] else codes "x"
+
+abbrev pub sample_in : List Level → ℕ → List ℕ
+sample_in levels n = sample_of (slice_get levels n)
 
 -- for each step, the ends that are known
 abbrev pub ends_in : LevelTable → List (SmallVec End)

@@ -1,5 +1,5 @@
 -- Known ways of patterns.
-use Rattle.std.specs.Prelude.{◌≡◌, ◌<◌, List, Some, false, length}
+use Rattle.std.specs.Prelude.{◌≡◌, ◌<◌, Box, List, Option, Some, None, false, length, slice_get}
 use Rattle.std.specs.HashMap.{HashMap, get}
 use Rattle.smallvec.specs.SmallVec.{SmallVec}
 use Rattle.rng_names.specs.plain.Keys.{Keys, KeysServe, name_at}
@@ -18,6 +18,7 @@ use Rattle.rng_pattern_derivatives.specs.views.KnownRests.{AreRestsOf}
 use Rattle.rng_pattern_derivatives.specs.plain.Takers.{AreAllTold, AreAttributesTold, AreSpansOf}
 use Rattle.rng_pattern_derivatives.specs.plain.Ways.{AreWaysOf}
 use Rattle.rng_pattern_derivatives.specs.declared.known.Known.{Known}
+use Rattle.rng_pattern_derivatives.specs.declared.known.LastWays.{LastWays}
 use Rattle.rng_pattern_derivatives.specs.declared.way.Kind.{Kind}
 use Rattle.rng_pattern_derivatives.specs.declared.way.Kind.TheVariants as kinds
 use Rattle.rng_pattern_derivatives.specs.declared.way.LeafWay.{LeafWay}
@@ -65,6 +66,15 @@ abbrev pub AreKnownByKey : {Y Z : Type 0} → (Name → Kind → Type 0) → Tab
     → HashMap NameKey (HashMap PatternNumber (SmallVec LeafWay) Z) Y → Type 0
 AreKnownByKey Are t keys ns known = (k : NameKey) (kind : Kind) → Are (name_at keys k.0) kind → AreKnownFor t ns kind k known
 
+-- these ways are the last ones for the pattern of this number
+abbrev pub HasLast : {Z : Type 0} → List (Option (Box LastWays Z)) → PatternNumber → LastWays → Type 0
+HasLast {Z} last n ways = (b : Box LastWays Z) × (slice_get last n.0 ≡ Some (Some b)) × (b.value ≡ ways)
+
+-- all last ways are right, for the representative names of their keys
+abbrev pub AreLast : {Z : Type 0} → Table → Keys → List Node → List (Option (Box LastWays Z)) → Type 0
+AreLast t keys ns last = (n : PatternNumber) (ways : LastWays) → HasLast last n ways → (kind : Kind) → IsAttributeKind (name_at keys ways.key.0) kind
+    → AreThoseOf t ns kind n ways.ways.items
+
 -- The keys serve, and everything known is right: the ways to take strings, elements and attributes, and what is left
 -- after a tag is closed. So are the elements and the attributes that may have a name, the alike elements, the ranges of
 -- attributes, and the datatypes.
@@ -79,3 +89,4 @@ pub record AreAllKnown (t : Table) (keys : Keys) (ns : List Node) (known : Known
   pub attribute_takers : AreAttributesTold t keys known.attribute_takers
   pub spans : AreSpansOf t ns known.spans.items
   pub datatypes : AreDatatypesOf t known.datatypes
+  pub last : AreLast t keys ns known.last.items

@@ -5,7 +5,7 @@ use Rattle.rng_model.specs.simple.Table.{Table}
 use Rattle.rng_model.specs.simple.Tree.{Simple}
 use Rattle.rng_pattern_table.specs.views.Node.{Node, node_of}
 use Rattle.rng_pattern_table.specs.views.Node as node
-use Rattle.rng_deriv_laws.specs.plain.Derivatives.{is_nullable}
+use Rattle.rng_deriv_laws.specs.plain.Derivatives.{has_data, is_nullable}
 use Rattle.rng_pattern_table.specs.plain.Facts.{elements_of, has_subsequences, joined_spans, members_of}
 use Rattle.rng_pattern_table.specs.plain.Reduced.{AreReduced, has_attribute}
 use Rattle.rng_pattern_table.specs.views.Trees.{trees, tree_of}
@@ -47,6 +47,7 @@ abbrev pub facts_of : Simple ℕ → Facts
 facts_of s = record {
   nullable = is_nullable s;
   attributes = has_attribute s;
+  tests_strings = has_data s;
   subsequences = has_subsequences s;
   elements = elements_of s;
   members = members_of s;
@@ -57,6 +58,7 @@ abbrev pub both_facts : Facts → Facts → ℕ → Facts
 both_facts a b members = record {
   nullable = a.nullable && b.nullable;
   attributes = a.attributes || b.attributes;
+  tests_strings = a.tests_strings || b.tests_strings;
   subsequences = (a.nullable && a.subsequences) && (b.nullable && b.subsequences);
   elements = joined_spans a.elements b.elements;
   members = members;

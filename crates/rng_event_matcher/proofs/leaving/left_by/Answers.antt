@@ -28,7 +28,7 @@ returns-clause-adds g c =
     let law = end_kept (reading before) (reading d) (g.D.Derivatives.basis before).keys (trees before) (trees d) c.args.table.now t c.args.step.0 end
     c.args.good.now first.reading c.requires.kept c.requires.step first.adds.steps c.in-Some.ensures first.ended in
     adds_through (reading d) (reading d) keys keys (trees d) (trees d) c.args.table.now t c.keep_end.new.self first.adds
-    (adds_end (reading d) keys (trees d) t c.keep_end.new.self first.adds.kept told.levels told.steps c.args.step.0 end law told.closed told.bare told.ends)
+    (adds_end (reading d) keys (trees d) t c.keep_end.new.self first.adds.kept told.levels told.steps c.args.step.0 end law told.closed told.sampled told.ends)
 
 pub returns-clause-ended : goal.returns-clause-ended
 returns-clause-ended g c = λ s at.

@@ -28,7 +28,7 @@ pub level_of-requires-clause-kept : goal.level_of-requires-clause-kept
 level_of-requires-clause-kept g c =
     let d = c.renew.new.self in
     let told = c.new.ensures in
-    kept_nothing (g.D.Derivatives.reading d) (g.D.Derivatives.basis d).keys (g.D.Derivatives.trees d) c.new.result told.levels told.steps told.closed told.bare
+    kept_nothing (g.D.Derivatives.reading d) (g.D.Derivatives.basis d).keys (g.D.Derivatives.trees d) c.new.result told.levels told.steps told.closed told.sampled
     told.ends
 
 pub returns-clause-kept : goal.returns-clause-kept

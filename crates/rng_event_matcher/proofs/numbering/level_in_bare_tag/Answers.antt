@@ -31,7 +31,7 @@ returns-clause-adds g c =
     first.adds.levels first.after) in
     adds_through (reading d) (reading d) keys keys new new c.args.table.now t c.keep_closed.new.self first.adds
     (adds_closed (reading d) keys new t c.keep_closed.new.self first.adds.kept told.levels told.steps c.args.level.0 c.in_ok-closed.closed law told.closed
-    told.bare told.ends)
+    told.sampled told.ends)
 
 pub returns-clause-after : goal.returns-clause-after
 returns-clause-after g c =

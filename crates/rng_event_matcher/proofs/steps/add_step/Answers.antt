@@ -48,7 +48,7 @@ returns-clause-adds g c =
     (λ r e. subst (λ ps. AddsOpened (reading before) r (trees before) (trees d) ps bodies opened.items) c.numbers-numbers.ensures
     (c.in_ok-bodies.ensures.opened r e)) first.level in
     adds_through (reading d) (reading d) (basis d).keys (basis d).keys (trees d) (trees d) c.args.table.now t c.add_step.new.self first.adds
-    (adds_step (reading d) (basis d).keys (trees d) t c.add_step.new.self first.adds.kept step law told.levels told.steps told.closed told.bare told.ends)
+    (adds_step (reading d) (basis d).keys (trees d) t c.add_step.new.self first.adds.kept step law told.levels told.steps told.closed told.sampled told.ends)
 
 pub returns-clause-step : goal.returns-clause-step
 returns-clause-step g c =

@@ -44,4 +44,5 @@ returns-clause-known c =
       attribute_takers = more.attribute_takers;
       spans = more.spans;
       datatypes = more.datatypes;
+      last = more.last;
     }) (both_ok c.close.result _ _ c.close.ensures.longer c.close.ensures.known)

@@ -6,7 +6,7 @@ use Rattle.rng_pattern_derivatives.specs.views.KnownWays.{IsAttributeKind, IsEle
 use Rattle.rng_pattern_derivatives.proofs.ClosedTags.{both_ok}
 use Rattle.rng_pattern_derivatives.proofs.AttributeTakers.{spans_longer}
 use Rattle.rng_pattern_derivatives.proofs.KnownRests.{rests_longer}
-use Rattle.rng_pattern_derivatives.proofs.KnownWays.{by_key_longer}
+use Rattle.rng_pattern_derivatives.proofs.KnownWays.{by_key_longer, last_longer}
 use Rattle.rng_text_derivatives.proofs.RestsOfWays.{ways_for_attribute, ways_for_text}
 use Rattle.rng_text_derivatives.proofs.after.ways_for.Goals as goal
 
@@ -39,4 +39,6 @@ returns-in-Text-clause-known c =
       attribute_takers = c.requires.known.attribute_takers;
       spans = spans_longer c.args.context.now.grammar.now c.args.table.now c.text_ways.new.table h.0 c.args.known.now.spans.items c.requires.known.spans;
       datatypes = c.requires.known.datatypes;
+      last = last_longer c.args.context.now.grammar.now c.args.context.now.keys.now c.args.table.now c.text_ways.new.table h.0 c.args.known.now.last.items
+          c.requires.known.last;
     }) (both_ok c.text_ways.result _ _ c.text_ways.ensures.longer c.text_ways.ensures.known)

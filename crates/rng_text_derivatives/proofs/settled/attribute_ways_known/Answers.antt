@@ -1,19 +1,15 @@
-use Rattle.std.proofs.Common.{◌∙◌, refl, rules}
-use Rattle.rng_model.specs.names.NameViews.{name_of}
-use Rattle.rng_pattern_derivatives.specs.views.KnownWays.{HasForKey}
+use Rattle.std.proofs.Common.{List, subst, sym}
+use Rattle.rng_pattern_table.specs.views.Trees.{tree_of}
+use Rattle.rng_pattern_derivatives.specs.plain.Ways.{AreWaysOf}
 use Rattle.rng_pattern_derivatives.specs.declared.way.Kind.TheVariants as kinds
-use Rattle.rng_pattern_derivatives.proofs.LikeAttributes.{ways_alike}
-use Rattle.rng_text_derivatives.proofs.SettledRests.{if_some}
+use Rattle.rng_pattern_derivatives.specs.declared.way.LeafWay.{LeafWay}
+use Rattle.rng_pattern_derivatives.specs.views.KnownWays.{HasLast}
 use Rattle.rng_text_derivatives.proofs.settled.attribute_ways_known.Goals as goal
 
-pub returns : goal.returns
-returns c = λ ns all.
-    let t0 = c.args.context.now.grammar.now in
-    let keys = c.args.context.now.keys.now in
-    let own = c.in_ok-own.own.now in
-    let at : HasForKey c.args.known.now.attributes c.in_ok-key.key own = search rules in
-    if_some c.known_ways.result _ _ (λ ws h.
-    ways_alike t0 keys all.serve (name_of c.name-representative.result.now) (name_of c.args.name.now) (c.name-representative.ensures.own
-    ∙ c.in_ok-key.ensures.key) ns c.args.number.0 ws.now c.name-representative.result c.args.name refl refl
-    (all.attributes c.in_ok-key.key (kinds.Attribute c.name-representative.result) c.name-representative.ensures.name own at c.args.number ws.now h).ways)
-    c.known_ways.ensures
+pub returns-then-are_last_for : goal.returns-then-are_last_for
+returns-then-are_last_for c = λ ns all.
+    let t = c.args.context.now.grammar.now in
+    let ws = c.in_ok-last.last.now in
+    let own = subst (λ last. HasLast last c.args.number ws) c.as_slice.ensures.value c.in_ok-last.ensures in
+    subst (λ (ways : List LeafWay). AreWaysOf t ns (kinds.Attribute c.args.name) (tree_of t ns c.args.number.0) ways) (sym c.as_slice-then-are_last_for.ensures)
+    (all.last c.args.number ws own (kinds.Attribute c.args.name) (sym (c.are_last_for.ensures c.if-are_last_for.true))).ways

@@ -6,4 +6,4 @@ with_table-requires g c =
     let d = c.args.derivatives in
     let told = c.new-nothing.ensures in
     kept_nothing (g.D.Derivatives.reading d) (g.D.Derivatives.basis d).keys (g.D.Derivatives.trees d) c.new-nothing.result told.levels told.steps told.closed
-    told.bare told.ends
+    told.sampled told.ends

@@ -2,7 +2,7 @@ use Rattle.rng_pattern_derivatives.specs.views.KnownWays.{IsAttributeKind, IsEle
 use Rattle.rng_pattern_derivatives.specs.declared.way.Kind.TheVariants as kinds
 use Rattle.rng_pattern_derivatives.proofs.AttributeTakers.{no_spans}
 use Rattle.rng_pattern_derivatives.proofs.KnownRests.{no_rests}
-use Rattle.rng_pattern_derivatives.proofs.KnownWays.{none_by_key, none_known}
+use Rattle.rng_pattern_derivatives.proofs.KnownWays.{no_last, none_by_key, none_known}
 use Rattle.rng_pattern_derivatives.proofs.known.Known.forget.Goals as goal
 
 pub returns : goal.returns
@@ -17,4 +17,5 @@ returns c = λ t keys old new all. record {
   attribute_takers = all.attribute_takers;
   spans = no_spans t new c.new-5.result.items c.new-5.ensures.items;
   datatypes = all.datatypes;
+  last = no_last t keys new c.new-6.result.items c.new-6.ensures.items;
 }

@@ -2,7 +2,7 @@ use Rattle.rng_pattern_derivatives.specs.views.KnownWays.{IsAttributeKind, IsEle
 use Rattle.rng_pattern_derivatives.specs.declared.way.Kind.TheVariants as kinds
 use Rattle.rng_pattern_derivatives.proofs.AttributeTakers.{no_spans}
 use Rattle.rng_pattern_derivatives.proofs.KnownRests.{no_rests}
-use Rattle.rng_pattern_derivatives.proofs.KnownWays.{none_by_key, none_known}
+use Rattle.rng_pattern_derivatives.proofs.KnownWays.{no_last, none_by_key, none_known}
 use Rattle.rng_pattern_derivatives.proofs.known.Known.new.Goals as goal
 
 pub returns : goal.returns
@@ -18,4 +18,5 @@ returns c =
       attribute_takers = c.in_ok-attribute_takers.ensures;
       spans = no_spans t ns c.new-6.result.items c.new-6.ensures.items;
       datatypes = c.in_ok-datatypes.ensures;
+      last = no_last t c.args.keys.now ns c.new-7.result.items c.new-7.ensures.items;
     }

@@ -1,5 +1,5 @@
 use Rattle.std.proofs.Common.{ap, ◌∙◌}
-use Rattle.rng_deriv_laws.specs.plain.Derivatives.{is_nullable}
+use Rattle.rng_deriv_laws.specs.plain.Derivatives.{has_data, is_nullable}
 use Rattle.rng_pattern_table.specs.plain.Facts.{has_subsequences}
 use Rattle.rng_pattern_table.specs.plain.Reduced.{has_attribute}
 use Rattle.rng_pattern_table.specs.views.Trees.{tree_of}
@@ -17,6 +17,8 @@ loop-member-preserved c = λ t.
           (ap (λ (x : _). x.nullable) (c.facts-facts.ensures.exact t));
       attributes = member_more (λ m. has_attribute (f m.0)) ms i _ c.loop-member.known.attributes c.facts-facts.result.attributes c.loop-member-test.true
           kept.attributes (ap (λ (x : _). x.attributes) (c.facts-facts.ensures.exact t));
+      tests_strings = member_more (λ m. has_data (f m.0)) ms i _ c.loop-member.known.tests_strings c.facts-facts.result.tests_strings c.loop-member-test.true kept.tests_strings
+          (ap (λ (x : _). x.tests_strings) (c.facts-facts.ensures.exact t));
       subsequences = all_more (λ m. has_subsequences (f m.0)) ms i _ c.loop-member.known.subsequences c.facts-facts.result.subsequences
           c.loop-member-test.true kept.subsequences (ap (λ (x : _). x.subsequences) (c.facts-facts.ensures.exact t));
       elements = c.joined-known.ensures ∙ elements_more f ms i _ c.loop-member.known.elements c.facts-facts.result.elements c.loop-member-test.true
@@ -28,4 +30,4 @@ pub returns : goal.returns
 returns c = λ t.
     let kept = c.loop-member.invariant t in
     all_members (tree_of t c.args.self.now) c.args.members.now c.loop-member.member-index c.loop-member.known c.requires.two c.loop-member-test.false
-    kept.nullable kept.attributes kept.subsequences kept.elements kept.members
+    kept.nullable kept.attributes kept.tests_strings kept.subsequences kept.elements kept.members
