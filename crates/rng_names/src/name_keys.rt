@@ -15,8 +15,9 @@ pub struct NameKey(pub usize);
 
 /// The keys of names for a grammar, and a representative name for each key.
 ///
-/// RELAX NG Specification, section 6.1. No name of a document is kept. Contracts see the names in the order of their
-/// keys, and for each namespace that is written the key of its other names.
+/// RELAX NG Specification, section 6.1. No name of a document is kept. Contracts see the representatives in the order of
+/// their keys, the names that have places, for each namespace that is written the place of its other names, and the key of
+/// each place.
 #[derive(Drop)]
 pub struct NameKeys {
     tables: Tables,
