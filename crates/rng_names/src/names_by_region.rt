@@ -41,7 +41,7 @@ impl NamesByRegion {
         })
     }
 
-    /// Begins the region of a class. Returns its number, or 0 if the class is one name.
+    /// Begins the region of a class. Returns its number, or 0 if the class is one name. Fails only if no number is left.
     pub(crate) fn begin(&mut self, class: &NameClass) -> Result<usize, OutOfMemory>
         ensures { IfOk result (Begins (sorted_in self.old) (sorted_in self.new)) }
     {

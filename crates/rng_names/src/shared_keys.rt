@@ -20,7 +20,7 @@ pub(crate) struct SharedKeys {
 impl SharedKeys {
     /// Makes the keys of these names. `regions` has the only region of each of the first ones, or 0.
     ///
-    /// The cost is at most two look-ups by hashing a name.
+    /// Linear, apart from hashing: at most two look-ups for each name.
     pub(crate) fn of(
         alloc: Global,
         names: &IndexSet<Name>,
@@ -45,7 +45,7 @@ impl SharedKeys {
 
 /// Keys while they are made, place by place.
 #[derive(Drop)]
-pub(crate) struct Sharing<'a> {
+struct Sharing<'a> {
     /// The only region of each of the first names, or 0. The others have none.
     regions: &'a [usize],
     /// For each namespace the place of the last of its names that has a region and represents a key.
