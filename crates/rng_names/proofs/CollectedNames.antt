@@ -41,6 +41,11 @@ still_known old new c grows known = record {
 
 -- ---- what is written in a class, in terms of its parts
 
+-- a test that fails
+pub off : (b : Bool) → (b ≡ true → ⊥) → b ≡ false
+off true none = absurd (none refl)
+off false none = refl
+
 either : (x y : Bool) → (x || y) ≡ true → (x ≡ true) ⊎ (y ≡ true)
 either true y e = inl refl
 either false y e = inr e

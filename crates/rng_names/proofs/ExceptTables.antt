@@ -1,7 +1,7 @@
 -- The tables of excepts, by number.
-use Rattle.std.proofs.Common.{◌≡◌, refl, sym, subst, ap, ap₂, ◌∙◌, ℕ, zero, suc, ◌+◌, ◌≤◌, ◌⊎◌, inl, inr, List, [], ◌∷◌, ◌++◌, length, length-append, slice_get}
+use Rattle.std.proofs.Common.{◌≡◌, refl, sym, subst, ap, ap₂, ◌∙◌, ℕ, ◌+◌, ◌≤◌, ◌⊎◌, inl, inr, List, [], ◌∷◌, ◌++◌, length, length-append, slice_get}
 use Rattle.std.proofs.Common.{Some, Bool, true, false, not, ◌&&◌, ◌||◌, arith, rules}
-use Rattle.std.proofs.lemmas.Option.{none-some, same_Some}
+use Rattle.std.proofs.lemmas.Option.{none-some}
 use Rattle.rng_model.specs.names.Names.{Name, NameClass}
 use Rattle.rng_model.specs.names.NameViews.{class_of}
 use Rattle.rng_names.specs.plain.Holding.{holds}
@@ -9,23 +9,7 @@ use Rattle.rng_names.specs.views.Alternatives.{AddsExcept, AreTables, Grows, Has
 use Rattle.rng_names.specs.declared.alternatives.Alternatives.{Alternatives}
 use Rattle.rng_names.specs.declared.alternatives.Excepted.{Excepted}
 use Rattle.rng_names.proofs.HeldByAlternatives.{stands}
-use Rattle.rng_names.proofs.KeyLookups.{stays_in_front}
-
--- ---- one more at the end of a list
-
-module _ {A : Type 0} where
-  at_end : (xs : List A) (x : A) (k : ℕ) (y : A) → slice_get (xs ++ x ∷ []) k ≡ Some y → (slice_get xs k ≡ Some y) ⊎ ((k ≡ length xs) × (x ≡ y))
-  at_end [] x zero y e = inr (refl, same_Some x y e)
-  at_end [] x (suc k) y e = absurd (none-some y e)
-  at_end (z ∷ xs) x zero y e = inl e
-  at_end (z ∷ xs) x (suc k) y e = by (at_end xs x k y e) where
-    by : (slice_get xs k ≡ Some y) ⊎ ((k ≡ length xs) × (x ≡ y)) → (slice_get (z ∷ xs) (suc k) ≡ Some y) ⊎ ((suc k ≡ length (z ∷ xs)) × (x ≡ y))
-    by (inl a) = inl a
-    by (inr b) = inr (omega (arith, b.0), b.1)
-
-  last_at : (xs : List A) (x : A) → slice_get (xs ++ x ∷ []) (length xs) ≡ Some x
-  last_at [] x = refl
-  last_at (z ∷ xs) x = last_at xs x
+use Rattle.rng_names.proofs.KeyLookups.{at_end, last_at, stays_in_front}
 
 -- ---- tables stay where they are
 

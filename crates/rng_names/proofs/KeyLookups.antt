@@ -1,11 +1,11 @@
 -- Positions of names, and numbers of texts.
 use Rattle.std.proofs.Common.{◌≡◌, refl, sym, ap, ◌∙◌, ℕ, zero, suc, ◌+◌, Bool, true, false, not, cond, nat_lt}
-use Rattle.std.proofs.Common.{List, [], ◌∷◌, ◌++◌, Some, None, option_map, map, length, position, slice_get, string_bytes, String, bytes_eq}
+use Rattle.std.proofs.Common.{List, [], ◌∷◌, ◌++◌, Some, None, ◌⊎◌, inl, inr, option_map, map, length, position, slice_get, string_bytes, String, bytes_eq, arith}
 use Rattle.std.specs.List.{list_any, prefix_len, position_or_len}
 use Rattle.std.specs.Map.{lookup}
 use Rattle.std.proofs.Math.Bool.{and_comm}
 use Rattle.std.proofs.lemmas.List.{length-map, map-append}
-use Rattle.std.proofs.lemmas.Option.{slice_get-map}
+use Rattle.std.proofs.lemmas.Option.{none-some, same_Some, slice_get-map}
 use Rattle.indexmap.specs.IndexSet.{insert_key}
 use Rattle.rng_model.specs.names.Names as names
 use Rattle.rng_model.specs.names.NameViews.{name_of}
@@ -31,6 +31,22 @@ position-map f p xs =
 
 pub place_found : (n : Name) (ks : List Name) → position (same.ghosts.eq n) ks ≡ position (same_name (name_of n)) (map name_of ks)
 place_found n ks = ap (λ test. position test ks) (λ i m. same_names n m i) ∙ position-map name_of (same_name (name_of n)) ks
+
+-- ---- one more at the end of a list
+
+module _ {A : Type 0} where
+  pub at_end : (xs : List A) (x : A) (k : ℕ) (y : A) → slice_get (xs ++ x ∷ []) k ≡ Some y → (slice_get xs k ≡ Some y) ⊎ ((k ≡ length xs) × (x ≡ y))
+  at_end [] x zero y e = inr (refl, same_Some x y e)
+  at_end [] x (suc k) y e = absurd (none-some y e)
+  at_end (z ∷ xs) x zero y e = inl e
+  at_end (z ∷ xs) x (suc k) y e = by (at_end xs x k y e) where
+    by : (slice_get xs k ≡ Some y) ⊎ ((k ≡ length xs) × (x ≡ y)) → (slice_get (z ∷ xs) (suc k) ≡ Some y) ⊎ ((suc k ≡ length (z ∷ xs)) × (x ≡ y))
+    by (inl a) = inl a
+    by (inr b) = inr (omega (arith, b.0), b.1)
+
+  pub last_at : (xs : List A) (x : A) → slice_get (xs ++ x ∷ []) (length xs) ≡ Some x
+  last_at [] x = refl
+  last_at (z ∷ xs) x = last_at xs x
 
 -- ---- one more name
 

@@ -11,4 +11,6 @@ mod CoveredNames
 mod OwnKeys
 mod CollectedNames
 mod NamespaceKeys
+mod Regions
+mod SharedKeys
 pub mod ServingKeys

@@ -3,4 +3,6 @@ pub mod Holding
 pub mod Written
 pub mod Keys
 pub mod WrittenNames
+pub mod Regions
+pub mod SharedKeys
 pub mod EitherWay

@@ -1,28 +1,25 @@
 // The tables in which keys of names are looked up.
-ghost use Rattle.std.specs.Prelude.{◌≡◌, ◌<◌, ℕ, IfOk, List, OnOk, Option, Some, map, slice_get};
-ghost use Rattle.std.specs.Map.{lookup};
-ghost use Rattle.std.specs.Str.{bytes_eq};
+ghost use Rattle.std.specs.Prelude.{◌≡◌, ◌<◌, IfOk, Some, length, map, slice_get};
+ghost use Rattle.rng_model.specs.names.NameViews.{name_of};
 ghost use Rattle.rng_names.specs.views.GrammarClasses.{seen_class};
-ghost use Rattle.rng_names.specs.plain.Keys.{AreKeys};
-ghost use Rattle.rng_names.specs.views.KeyTables.{AddsOthers, IsTold, ServesAll, keys_in};
-ghost use Rattle.rng_names.specs.plain.WrittenNames.{written_in};
+ghost use Rattle.rng_names.specs.plain.Keys.{key_of, name_at};
+ghost use Rattle.rng_names.specs.views.KeyTables.{AreMade, AreTables, ServesAll, keys_in};
 
 use crate::grammar_classes::longest_among;
-use crate::texts::{copied, note, number_of, put};
+use crate::names_by_region::NamesByRegion;
+use crate::places::Places;
+use crate::shared_keys::SharedKeys;
+use crate::texts::copied;
 use crate::written::fresh_text;
 use crate::written_names::WrittenNames;
-use indexmap::{IndexMap, IndexSet};
 use rng_model::{Name, NameClass, OutOfMemory};
 use std::alloc::Global;
 
-/// Names, each with a key, and the key of the other names of each namespace.
+/// A place for each name, and a key for each place.
 #[derive(Drop)]
 pub(crate) struct Tables {
-    /// The representative of each key. The first one represents all names that are not written, in namespaces that are
-    /// not written.
-    pub(crate) names: IndexSet<Name>,
-    /// For each namespace that is written, the key of its names that are not written.
-    pub(crate) namespaces: IndexMap<String, usize>,
+    pub(crate) places: Places,
+    pub(crate) shared: SharedKeys,
 }
 
 impl Tables {
@@ -32,7 +29,7 @@ impl Tables {
         elements: &[Option<&NameClass>],
         attributes: &[Option<&NameClass>],
     ) -> Result<Self, OutOfMemory>
-        ensures keys { IfOk result (λ all. AreKeys (keys_in all)) }
+        ensures keys { IfOk result AreTables }
         ensures elements { IfOk result (λ all. ServesAll (keys_in all) (map seen_class elements.now)) }
         ensures attributes { IfOk result (λ all. ServesAll (keys_in all) (map seen_class attributes.now)) }
     {
@@ -45,29 +42,43 @@ impl Tables {
         Tables::of_written(alloc, written)
     }
 
-    /// Makes the tables of what is written: its names, and for each namespace one with a longer local name.
+    /// Makes the tables of what is written.
     fn of_written(alloc: Global, written: WrittenNames) -> Result<Self, OutOfMemory>
-        ensures { IfOk result (λ all. IsTold (written_in written) (keys_in all)) }
+        ensures { IfOk result (AreMade written) }
     {
         let WrittenNames { names, longest } = written;
-        let mut all = Tables {
-            names,
-            namespaces: IndexMap::new(alloc),
-        };
-        'namespaces: for ns in longest.keys().as_slice() {
-            let bytes = number_of(&longest, ns.as_str()).unwrap_or(0);
-            all.add_others(alloc, ns.as_str(), bytes)?;
-        }
-        Ok(all)
+        let NamesByRegion { names, regions, .. } = names;
+        let places = Places::of_written(alloc, names, &longest)?;
+        let shared = SharedKeys::of(alloc, &places.names, regions.as_slice())?;
+        Ok(Tables { places, shared })
     }
 
-    /// Adds a name in this namespace with more bytes than these. It represents the names in it that are not written.
-    fn add_others(&mut self, alloc: Global, ns: &str, bytes: usize) -> Result<(), OutOfMemory>
-        ensures { OnOk result (AddsOthers (keys_in self.old) (keys_in self.new) ns.now bytes) }
+    /// Returns the key of a name. Allocates nothing. The cost is at most two look-ups by hashing.
+    pub(crate) fn key(&self, name: &Name) -> usize
+        requires { AreTables self.now }
+        ensures key { result ≡ key_of (keys_in self.now) (name_of name.now) }
+        ensures inside { result < length self.now.shared.leaders.items }
     {
-        let local = fresh_text(alloc, bytes)?;
-        let name = copied(alloc, ns, local.as_str())?;
-        let key = put(&mut self.names, name)?;
-        note(&mut self.namespaces, String::from_str(alloc, ns)?, key)
+        self.shared.keys[self.places.place(name)]
+    }
+
+    /// Returns the name that represents a key. Allocates nothing.
+    pub(crate) fn name(&self, key: usize) -> &Name
+        requires tables { AreTables self.now }
+        requires key { key < length self.now.shared.leaders.items }
+        ensures name { name_of result.now ≡ name_at (keys_in self.now) key }
+        ensures own { key_of (keys_in self.now) (name_of result.now) ≡ key }
+    {
+        &self.places.names.as_slice()[self.leader(key)]
+    }
+
+    /// Returns the place of the name that represents a key. Allocates nothing.
+    fn leader(&self, key: usize) -> usize
+        requires tables { AreTables self.now }
+        requires key { key < length self.now.shared.leaders.items }
+        ensures at { slice_get self.now.shared.leaders.items key ≡ Some result }
+        ensures inside { result < length self.now.places.names.keys }
+    {
+        self.shared.leaders[key]
     }
 }

@@ -6,9 +6,12 @@
 //! only when out of memory, and never if one class is a plain name. With `longest` and `fresh_text` callers get a text
 //! that is written in no class.
 //!
-//! `NameKeys` has keys of names for a grammar. A name that is written in a class of the grammar has a key of its own.
-//! The other names of a namespace that is written share one key, and all other names share one. A class holds a name
-//! exactly if it holds the representative of its key, so what is kept by key holds for each name with the key.
+//! `NameKeys` has keys of names for a grammar. A region is a name class without its excepts, and the class of each except
+//! is a region of its own. Names of one namespace that are written once, and in the same region, share a key: a class of
+//! many names has one key for each namespace in it. A name that is written more than once has a key of its own, and so has
+//! the name of a class that is one name. The other names of a namespace that is written share one key, and all other names
+//! share one. A class holds a name exactly if it holds the representative of its key, so what is kept by key holds for each
+//! name with the key.
 #![tactic(auto)]
 
 mod alternatives;
@@ -19,8 +22,11 @@ mod key_tables;
 mod membership;
 mod name_keys;
 mod name_set;
+mod names_by_region;
 mod namespaces;
+mod places;
 mod prepared_class;
+mod shared_keys;
 mod texts;
 mod written;
 mod written_names;

@@ -5,7 +5,6 @@ ghost use Rattle.rng_names.specs.plain.Keys.{KeysServe, key_of, name_at};
 
 use crate::grammar_classes::{attribute_classes, element_classes};
 use crate::key_tables::Tables;
-use crate::texts::{number_of, place_of};
 use rng_model::{Name, OutOfMemory, SimpleGrammar};
 use std::alloc::Global;
 use std::marker::Model;
@@ -16,22 +15,23 @@ pub struct NameKey(pub usize);
 
 /// The keys of names for a grammar, and a representative name for each key.
 ///
-/// RELAX NG Specification, section 6.1. No name of a document is kept. Contracts see the names in the order of their
-/// keys, and for each namespace that is written the key of its other names.
+/// RELAX NG Specification, section 6.1. No name of a document is kept. Contracts see the representatives in the order of
+/// their keys, the names that have places, for each namespace that is written the place of its other names, and the key of
+/// each place.
 #[derive(Drop)]
 pub struct NameKeys {
     tables: Tables,
 }
 
 impl Model for NameKeys {
-    ghost use Rattle.rng_names.specs.plain.Keys.{AreKeys, Keys};
-    ghost use Rattle.rng_names.specs.views.KeyTables.{keys_in};
+    ghost use Rattle.rng_names.specs.plain.Keys.{Keys};
+    ghost use Rattle.rng_names.specs.views.KeyTables.{AreTables, keys_in};
 
     ghost Value = { Keys };
 
     ghost view = { λ k. keys_in k.tables };
 
-    ghost invariant = { λ k. AreKeys (keys_in k.tables) };
+    ghost invariant = { λ k. AreTables k.tables };
 }
 
 impl NameKeys {
@@ -53,13 +53,7 @@ impl NameKeys {
         ensures key { result.0 ≡ key_of self.now (name_of name.now) }
         ensures inside { result.0 < length self.now.names }
     {
-        if let Some(key) = place_of(&self.tables.names, name) {
-            return NameKey(key);
-        }
-        match number_of(&self.tables.namespaces, name.ns.as_str()) {
-            Some(key) => NameKey(key),
-            None => NameKey(0),
-        }
+        NameKey(self.tables.key(name))
     }
 
     /// Returns the representative of all names with a key, which has this key itself. Allocates nothing.
@@ -68,13 +62,13 @@ impl NameKeys {
         ensures name { name_of result.now ≡ name_at self.now key.0 }
         ensures own { key_of self.now (name_of result.now) ≡ key.0 }
     {
-        &self.tables.names.as_slice()[key.0]
+        self.tables.name(key.0)
     }
 
     /// Returns the number of keys. Allocates nothing.
     pub fn len(&self) -> usize
         ensures { result ≡ length self.now.names }
     {
-        self.tables.names.len()
+        self.tables.shared.leaders.len()
     }
 }

@@ -1,10 +1,11 @@
 // Numbered names, and numbers of texts.
-ghost use Rattle.std.specs.Prelude.{◌≡◌, ℕ, IfOk, List, OnOk, Option, Some, map, position, slice_get, string_bytes};
+ghost use Rattle.std.specs.Prelude.{◌≡◌, ℕ, IfOk, List, OnOk, Option, Some, map, position, string_bytes};
 ghost use Rattle.std.specs.Map.{lookup, update};
 ghost use Rattle.std.specs.Str.{bytes_eq};
 ghost use Rattle.rng_model.specs.names.Names as names;
 ghost use Rattle.rng_model.specs.names.NameViews.{name_of};
 ghost use Rattle.rng_names.specs.plain.Holding.{pair, same_name};
+ghost use Rattle.rng_names.specs.plain.Regions.{Puts};
 ghost use Rattle.rng_names.specs.plain.WrittenNames.{seen_numbers};
 
 use indexmap::{IndexMap, IndexSet};
@@ -30,8 +31,7 @@ pub(crate) fn place_of(names: &IndexSet<Name>, name: &Name) -> Option<usize>
 
 /// Appends a name, unless it is there. Returns its position.
 pub(crate) fn put(all: &mut IndexSet<Name>, name: Name) -> Result<usize, OutOfMemory>
-    ensures stays { OnOk result ((k : ℕ) (q : names.Name) → slice_get (map name_of all.old.keys) k ≡ Some q → slice_get (map name_of all.new.keys) k ≡ Some q) }
-    ensures there { IfOk result (λ k. slice_get (map name_of all.new.keys) k ≡ Some (name_of name)) }
+    ensures { IfOk result (Puts (map name_of all.old.keys) (map name_of all.new.keys) (name_of name)) }
 {
     let (place, _) = all.insert_full(name)?;
     Ok(place)

@@ -5,10 +5,12 @@ ghost use Rattle.std.specs.Str.{bytes_eq};
 ghost use Rattle.rng_model.specs.names.Names as names;
 ghost use Rattle.rng_model.specs.names.NameViews.{class_of, name_of};
 ghost use Rattle.rng_names.specs.views.GrammarClasses.{seen_class};
+ghost use Rattle.rng_names.specs.plain.Regions.{AddsPart, AreSorted, HasBegun, sorted_in};
 ghost use Rattle.rng_names.specs.plain.WrittenNames.{Grows, Knows, written_in};
 
-use crate::texts::{copied, note, number_of, put};
-use indexmap::{IndexMap, IndexSet};
+use crate::names_by_region::NamesByRegion;
+use crate::texts::{copied, note, number_of};
+use indexmap::IndexMap;
 use rng_model::{Name, NameClass, OutOfMemory};
 use std::alloc::Global;
 
@@ -16,7 +18,7 @@ use std::alloc::Global;
 #[derive(Drop)]
 pub(crate) struct WrittenNames {
     /// The names, after a first one that is given.
-    pub(crate) names: IndexSet<Name>,
+    pub(crate) names: NamesByRegion,
     /// For each namespace the number of bytes in its longest local name, 0 if none is written.
     pub(crate) longest: IndexMap<String, usize>,
 }
@@ -24,12 +26,11 @@ pub(crate) struct WrittenNames {
 impl WrittenNames {
     /// Creates a value with the first name and without any class.
     pub(crate) fn new(alloc: Global, first: Name) -> Result<Self, OutOfMemory>
-        ensures { IfOk result (λ all. slice_get (written_in all).names 0 ≡ Some (name_of first)) }
+        ensures first { IfOk result (λ all. slice_get (written_in all).names 0 ≡ Some (name_of first)) }
+        ensures begun { IfOk result (λ all. HasBegun (sorted_in all.names) 0) }
     {
-        let mut names = IndexSet::new(alloc);
-        names.insert(first)?;
         Ok(WrittenNames {
-            names,
+            names: NamesByRegion::new(alloc, first)?,
             longest: IndexMap::new(alloc),
         })
     }
@@ -42,53 +43,68 @@ impl WrittenNames {
     ) -> Result<(), OutOfMemory>
         ensures grows { OnOk result (Grows (written_in self.old) (written_in self.new)) }
         ensures knows { OnOk result ((k : ℕ) (c : names.NameClass) → slice_get (map seen_class classes.now) k ≡ Some (Some c) → Knows (written_in self.new) c) }
+        ensures sorts { OnOk result (HasBegun (sorted_in self.old.names) 0 → AreSorted (sorted_in self.old.names) (sorted_in self.new.names) (map seen_class classes.now)) }
     {
         'classes: for class in classes {
             let Some(class) = class else {
                 continue;
             };
-            self.add_class(alloc, class)?;
+            let region = self.names.begin(class)?;
+            self.add_class(alloc, class, region)?;
         }
         Ok(())
     }
 
-    /// Adds what is written in a class.
-    fn add_class(&mut self, alloc: Global, class: &NameClass) -> Result<(), OutOfMemory>
+    /// Adds what is written in a class, which is a part of this region.
+    fn add_class(
+        &mut self,
+        alloc: Global,
+        class: &NameClass,
+        region: usize,
+    ) -> Result<(), OutOfMemory>
         ensures grows { OnOk result (Grows (written_in self.old) (written_in self.new)) }
         ensures knows { OnOk result (Knows (written_in self.new) (class_of class.now)) }
+        ensures adds { OnOk result (HasBegun (sorted_in self.old.names) region
+            → AddsPart region (class_of class.now) (sorted_in self.old.names) (sorted_in self.new.names)) }
     {
         match class {
             NameClass::Any => Ok(()),
-            NameClass::AnyExcept(except) => self.add_class(alloc, except),
+            NameClass::AnyExcept(except) => {
+                let region = self.names.begin(except)?;
+                self.add_class(alloc, except, region)
+            }
             NameClass::Ns(ns) => self.add_namespace(alloc, ns.as_str(), 0),
             NameClass::NsExcept(ns, except) => {
                 self.add_namespace(alloc, ns.as_str(), 0)?;
-                self.add_class(alloc, except)
+                let region = self.names.begin(except)?;
+                self.add_class(alloc, except, region)
             }
-            NameClass::Name(name) => self.add_name(alloc, name),
+            NameClass::Name(name) => self.add_name(alloc, name, region),
             NameClass::Choice(members) => {
                 'members: for member in members {
-                    self.add_class(alloc, member)?;
+                    self.add_class(alloc, member, region)?;
                 }
                 Ok(())
             }
         }
     }
 
-    /// Adds a name, and its namespace.
-    fn add_name(&mut self, alloc: Global, name: &Name) -> Result<(), OutOfMemory>
+    /// Adds a name that is written in this region, and its namespace.
+    fn add_name(&mut self, alloc: Global, name: &Name, region: usize) -> Result<(), OutOfMemory>
         ensures grows { OnOk result (Grows (written_in self.old) (written_in self.new)) }
         ensures knows { OnOk result (Knows (written_in self.new) (names.name_is (name_of name.now))) }
+        ensures adds { OnOk result (HasBegun (sorted_in self.old.names) region
+            → AddsPart region (names.name_is (name_of name.now)) (sorted_in self.old.names) (sorted_in self.new.names)) }
     {
         self.add_namespace(alloc, name.ns.as_str(), name.local.len())?;
         let name = copied(alloc, name.ns.as_str(), name.local.as_str())?;
-        put(&mut self.names, name)?;
-        Ok(())
+        self.names.add(name, region)
     }
 
     /// Adds a namespace in which a local name of this many bytes is written.
     fn add_namespace(&mut self, alloc: Global, ns: &str, bytes: usize) -> Result<(), OutOfMemory>
         ensures grows { OnOk result (Grows (written_in self.old) (written_in self.new)) }
+        ensures names { OnOk result (self.new.names ≡ self.old.names) }
         ensures has { OnOk result ((m : ℕ) × (lookup (bytes_eq ns.now) (written_in self.new).longest ≡ Some m) × (bytes ≤ m)) }
     {
         if let Some(most) = number_of(&self.longest, ns) {

@@ -1,5 +1,5 @@
 -- Keys of names, and when they serve a grammar.
-use Rattle.std.specs.Prelude.{◌≡◌, ◌↔◌, ◌<◌, ℕ, Box, List, [], length, position, slice_get, slice_index_or, Some}
+use Rattle.std.specs.Prelude.{◌≡◌, ◌↔◌, ℕ, Box, List, [], position, slice_get, slice_index_or, Some}
 use Rattle.std.specs.Global.{Global}
 use Rattle.std.specs.Map.{lookup}
 use Rattle.std.specs.Option.{unwrap_or}
@@ -12,23 +12,32 @@ use Rattle.rng_model.specs.declared.simple.PatternId.{PatternId}
 use Rattle.rng_model.specs.declared.simple.Simple.TheVariants as simple
 use Rattle.rng_names.specs.plain.Holding.{pair, same_name}
 
--- the representative of each key, and for each namespace that is written the key of its other names
-pub record Keys : Type 0 where
+-- names with places, and for each namespace that is written the place that its other names have
+pub record Places : Type 0 where
   pub names : List Name
   pub others : List (List ℕ × ℕ)
 
--- the key of a name: its own, or that of the other names of its namespace, or 0, the key of all others
+-- the place of a name: its own, or that of the other names of its namespace, or 0, the place of all others
+abbrev pub place_of : Places → Name → ℕ
+place_of places q = unwrap_or (position (same_name q) places.names) (unwrap_or (lookup (bytes_eq q.ns) places.others) 0)
+
+-- the name at a place
+abbrev pub name_there : Places → ℕ → Name
+name_there places k = slice_index_or places.names k (pair [] [])
+
+-- the representative of each key, the places of names, and the key of each place
+pub record Keys : Type 0 where
+  pub names : List Name
+  pub places : Places
+  pub keys : List ℕ
+
+-- the key of a name: that of its place
 abbrev pub key_of : Keys → Name → ℕ
-key_of keys q = unwrap_or (position (same_name q) keys.names) (unwrap_or (lookup (bytes_eq q.ns) keys.others) 0)
+key_of keys q = slice_index_or keys.keys (place_of keys.places q) 0
 
 -- the representative of a key
 abbrev pub name_at : Keys → ℕ → Name
 name_at keys k = slice_index_or keys.names k (pair [] [])
-
--- each key has a representative
-pub record AreKeys (keys : Keys) : Type 0 where
-  pub first : 0 < length keys.names
-  pub others : (u : List ℕ) (k : ℕ) → lookup (bytes_eq u) keys.others ≡ Some k → k < length keys.names
 
 -- the class holds a name exactly if it holds the representative of its key (RELAX NG Specification, section 6.1)
 abbrev pub Serves : Keys → NameClass → Type 0

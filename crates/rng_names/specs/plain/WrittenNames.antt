@@ -1,9 +1,11 @@
 -- What is written in name classes, as it is collected.
 use Rattle.std.specs.Prelude.{◌≡◌, ◌≤◌, ℕ, List, true, length, map, slice_get, Some, String, string_bytes}
+use Rattle.std.specs.Global.{Global}
 use Rattle.std.specs.Map.{lookup}
 use Rattle.std.specs.Str.{bytes_eq}
 use Rattle.rng_model.specs.names.Names.{Name, NameClass}
 use Rattle.rng_model.specs.names.NameViews.{name_of}
+use Rattle.rng_model.specs.declared.name.Name as declared
 use Rattle.rng_names.specs.plain.Written.{writes_name, writes_ns}
 use Rattle.rng_names.specs.declared.written_names.WrittenNames.{WrittenNames}
 
@@ -16,8 +18,11 @@ pub record Written : Type 0 where
   pub names : List Name
   pub longest : List (List ℕ × ℕ)
 
+abbrev pub written_as : List declared.Name → List (String Global × ℕ) → Written
+written_as names longest = record { names = map name_of names; longest = seen_numbers longest }
+
 abbrev pub written_in : WrittenNames → Written
-written_in w = record { names = map name_of w.names.keys; longest = seen_numbers w.longest.entries }
+written_in w = written_as w.names.names.keys w.longest.entries
 
 -- a local name of this many bytes is not longer than the longest one of the namespace
 abbrev pub IsMeasured : Written → List ℕ → ℕ → Type 0
