@@ -1,3 +1,4 @@
+pub mod ByteMasks
 pub mod PlainTexts
 pub mod LineTexts
 pub mod ReplacedEscapes
