@@ -1,3 +1,4 @@
+pub mod BareTags
 pub mod ByteMasks
 pub mod PlainTexts
 pub mod LineTexts

@@ -1,5 +1,5 @@
 // Documents line by line.
-ghost use Rattle.std.specs.Prelude.{◌≡◌, ◌+◌, ◌<◌, ◌^◌, ℕ, List, length, map, is_some, IfOk, OnOk, None, string_bytes, true};
+ghost use Rattle.std.specs.Prelude.{◌≡◌, ◌+◌, ◌<◌, ◌^◌, [], ℕ, List, length, map, is_some, IfOk, OnOk, None, string_bytes, true};
 ghost use Rattle.rng_model.specs.plain.Answers.{Gives};
 ghost use Rattle.rng_model.specs.documents.PyxLines as lines;
 ghost use Rattle.pyx.specs.plain.DocumentReader as reader;
@@ -69,6 +69,14 @@ pub struct State {
 }
 
 impl Tag {
+    /// Returns whether it has no `A` line.
+    #[inline(always)]
+    fn is_bare(&self) -> bool
+        ensures { result ≡ true → (self.now.declarations.items ≡ []) × (self.now.others.items ≡ []) }
+    {
+        self.declarations.is_empty() && self.others.is_empty()
+    }
+
     /// Adds an `A` line of this many bytes, which is a declaration or not.
     fn add(
         &mut self,
@@ -136,9 +144,30 @@ impl State {
     ///
     /// P11 is broken if a declaration is not allowed or a prefix is not declared. Otherwise P12 is broken if two of the
     /// `A` lines have the same name or two attributes the same expanded name. Namespaces in XML 1.0, sections 3 to 6.
-    #[tactic(auto, unfolding(crate::specs::plain::TagReader::tag_read))]
+    ///
+    /// Only a tag with `A` lines is looked at as a whole.
+    #[tactic(auto, unfolding(crate::specs::plain::TagReader::tag_read, crate::specs::plain::TagReader::expanded, crate::specs::plain::TagReader::is_named_twice))]
     #[inline(always)]
     fn open_tag(&mut self) -> Result<usize, LineFault>
+        ensures element { Gives clause_of (element_at self.new.elements.names self.new.attrs.items) result
+            (tag_read (declared_in self.old.elements.opened) (written_of self.old.elements.begun) (map written_attribute self.old.tag.declarations.items)
+            (map written_attribute self.old.tag.others.items)) }
+        ensures inside { IfOk result (λ at. at < length self.new.elements.names) }
+        ensures opened { OnOk result (state_of self.new ≡ reader.opened_by (tag_of self.old.elements.begun self.old.tag) (state_of self.old)) }
+        ensures lines { self.new.lines ≡ self.old.lines }
+    {
+        if !self.tag.is_bare() {
+            return self.open_whole_tag();
+        }
+        self.attrs.clear();
+        self.in_tag = false;
+        self.elements.open(self.alloc, &mut self.tag.declarations)
+    }
+
+    /// The same for a tag with `A` lines or without them.
+    #[tactic(auto, unfolding(crate::specs::plain::TagReader::tag_read))]
+    #[inline(never)]
+    fn open_whole_tag(&mut self) -> Result<usize, LineFault>
         ensures element { Gives clause_of (element_at self.new.elements.names self.new.attrs.items) result
             (tag_read (declared_in self.old.elements.opened) (written_of self.old.elements.begun) (map written_attribute self.old.tag.declarations.items)
             (map written_attribute self.old.tag.others.items)) }
