@@ -216,7 +216,8 @@ impl OpenElements {
             return Ok(false);
         }
         self.place = None;
-        self.begun = spares.copy(alloc, name)?;
+        self.begun = spares.take(alloc);
+        self.begun.push_str(name)?;
         self.place = place;
         Ok(true)
     }

@@ -1,4 +1,4 @@
-use Rattle.std.proofs.Common.{◌≡◌, ◌∷◌, [], ◌∙◌, ap, subst, sym, string_bytes}
+use Rattle.std.proofs.Common.{◌≡◌, ◌∷◌, [], ◌∙◌, ap, refl, subst, sym, string_bytes}
 use Rattle.std.specs.Prelude.{IfSome}
 use Rattle.pyx.specs.plain.LineReader.{is_name}
 use Rattle.pyx.specs.views.ElementView.{AreKnown, IsPlace}
@@ -9,7 +9,7 @@ invariant_of-self-2 c =
     let scope = c.self.inside.declarations ∷ [] in
     let place = c.judge-good.result.1 in
     let name = c.args.name.now in
-    let same : string_bytes c.in_ok-self-inside.field-0 ≡ name = c.in_ok-self-inside.ensures in
+    let same : string_bytes c.push_str.new.self ≡ name = rw (c.in_ok-push_str.ensures.bytes, c.take.ensures) refl in
     let there = c.judge-good.ensures scope (subst (AreKnown scope c.self.inside.round) (sym c.as_slice.ensures.value) c.self.invariant.known) in
     record {
       known = c.self.invariant.known;
