@@ -1,5 +1,6 @@
 -- Masks of the bytes that are one byte.
-use Rattle.std.proofs.Common.{◌≡◌, ◌↔◌, ℕ, ◌+◌, ◌-◌, ◌<◌, ◌≤◌, ◌%◌, ◌^◌, List, Bool, true, false, None, cond, eqb, length, get_or, map, replicate, take, refl, sym, ap, ◌∙◌, ⊎_elim, arith, rules, w8}
+use Rattle.std.proofs.Common.{◌≡◌, ◌↔◌, ◌+◌, ◌-◌, ◌<◌, ◌≤◌, ◌%◌, ◌^◌, ◌∙◌, ap, arith, refl, rules, sym, ⊎_elim, w8}
+use Rattle.std.proofs.Common.{ℕ, List, Bool, true, false, None, cond, eqb, length, get_or, map, replicate, take}
 use Rattle.std.specs.Int.{bit_at}
 use Rattle.std.specs.Simd.Lanes.{zip2, mask_l, top}
 use Rattle.std.proofs.lemmas.Simd.{length-zip2, get_or-zip2, get_or-replicate, bit_mask_l, tops_compared, mask_l-mod}
@@ -51,6 +52,7 @@ first_there b bytes from mask at small is set = same_byte (get_or bytes (from + 
 -- none of the bytes is in front of a place
 pub none_in_front : (b : ℕ) (bytes text front : List ℕ) (at : ℕ) → bytes ≡ text → Nowhere (Passes (is_byte b) bytes) 0 at → front ≡ take at text
     → at_byte b front ≡ None
-none_in_front b bytes text front at same none e = ap (at_byte b) (e ∙ ap (take at) (sym same)) ∙ sym (cut_nowhere b (take at bytes) (take at bytes) refl (λ k low high here.
+none_in_front b bytes text front at same none e = ap (at_byte b) (e ∙ ap (take at) (sym same))
+    ∙ sym (cut_nowhere b (take at bytes) (take at bytes) refl (λ k low high here.
     let inside : k < at = omega (arith, high, length-take at bytes) in
     none k low inside (sym (ap (λ x. eqb x b) (get_or-take at bytes k 0 inside)) ∙ here)))

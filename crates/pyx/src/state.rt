@@ -146,7 +146,6 @@ impl State {
     /// `A` lines have the same name or two attributes the same expanded name. Namespaces in XML 1.0, sections 3 to 6.
     ///
     /// Only a tag with `A` lines is looked at as a whole.
-    #[tactic(auto, unfolding(crate::specs::plain::TagReader::tag_read, crate::specs::plain::TagReader::expanded, crate::specs::plain::TagReader::is_named_twice))]
     #[inline(always)]
     fn open_tag(&mut self) -> Result<usize, LineFault>
         ensures element { Gives clause_of (element_at self.new.elements.names self.new.attrs.items) result

@@ -86,7 +86,8 @@ IsNamed e = IsJudged (string_bytes e.name)
 
 -- what is kept: the open elements, their declarations, the name of the tag that has begun, its place if it was known then,
 -- and the names that are known
-pub record AreKept (opened : List OpenElement) (ds : List WrittenAttribute) (begun : List ℕ) (place : Option ℕ) (round : ℕ) (names : List KnownName) : Type 0 where
+pub record AreKept (opened : List OpenElement) (ds : List WrittenAttribute) (begun : List ℕ) (place : Option ℕ) (round : ℕ)
+    (names : List KnownName) : Type 0 where
   pub known : AreKnown (ds ∷ []) round names
   -- no declaration is of no element
   pub whole : all_declared (stack_of opened ds) ≡ ds

@@ -16,7 +16,8 @@ returns-in_ok-push-in-Some-clause-name c =
     let ds = c.self.inside.declarations in
     let begun = string_bytes c.self.inside.begun in
     let own : List WrittenAttribute = map written_attribute c.args.tag.now.items in
-    let none : own ≡ [] = ap (map written_attribute) (nil_from_length c.args.tag.now.items (sym c.args.tag.now.ok.0 ∙ eqb-true _ 0 (sym c.is_empty.ensures ∙ c.if-is_empty.true))) in
+    let none : own ≡ [] = ap (map written_attribute) (nil_from_length c.args.tag.now.items
+    (sym c.args.tag.now.ok.0 ∙ eqb-true _ 0 (sym c.is_empty.ensures ∙ c.if-is_empty.true))) in
     let there : IsPlace (ds ∷ []) begun c.self.inside.known.items c.in-Some.at =
     subst (λ place. IfSome place (IsPlace (ds ∷ []) begun c.self.inside.known.items)) c.in-Some.is c.self.invariant.placed in
     ap resolved (ap (λ (os : List WrittenAttribute). element_name (os ∷ declared_in c.args.self.now.opened) (written_of c.args.self.now.begun)) none

@@ -43,7 +43,8 @@ returns g c = ends (Unit {0}) g.E.Events.stands _ c.lines.events _ _ (rest_taken
     ∙ ap (λ r. rest_taken r (progress_of c.lines.self)) (sym c.as_bytes.ensures.value)) c.lines.invariant.goes c.keep.ensures
 
 pub text_line-requires-clause-plain : goal.text_line-requires-clause-plain
-text_line-requires-clause-plain g c = (halves c.lines.rest.now c.in-Some.front.now c.in-Some.after.now c.in-Some.ensures.parts c.lines.invariant.plain).front_plain
+text_line-requires-clause-plain g c =
+    (halves c.lines.rest.now c.in-Some.front.now c.in-Some.after.now c.in-Some.ensures.parts c.lines.invariant.plain).front_plain
 
 pub lines-smaller : goal.lines-smaller
 lines-smaller g c = omega (arith, (halves c.lines.rest.now c.in-Some.front.now c.in-Some.after.now c.in-Some.ensures.parts c.lines.invariant.plain).shorter)
