@@ -3,7 +3,7 @@ use Rattle.std.proofs.Common.{◌≡◌, ◌∙◌, ℕ, Bool, true, false, cond
 use Rattle.rng_model.specs.documents.PyxLines.{WrittenName}
 use Rattle.rng_model.specs.documents.PyxNamespaces.{WrittenAttribute}
 use Rattle.pyx.specs.plain.DocumentReader.{Open, declared_in}
-use Rattle.pyx_namespaces.specs.plain.Declarations.{beforehand, declared_by, declares, found_in, namespace_of, or_else}
+use Rattle.pyx_namespaces.specs.plain.Declarations.{Declared, beforehand, declared_by, declares, found_in, namespace_of, or_else}
 use Rattle.pyx.specs.plain.TagReader.{element_name, in_namespace}
 use Rattle.pyx.specs.views.ElementView.{all_declared}
 
@@ -36,3 +36,8 @@ pub name_within : (stack : List Open) (ds : List WrittenAttribute) (name : Writt
     → element_name (ds ∷ []) name ≡ element_name (declared_in stack) name
 unfolding element_name
 name_within stack ds name whole = ap (in_namespace name.local) (namespace_within stack ds name.prefix whole)
+
+-- a tag without declarations changes nothing
+pub name_within_none : (scope : Declared) (name : WrittenName) → element_name ([] ∷ scope) name ≡ element_name scope name
+unfolding element_name namespace_of found_in
+name_within_none scope name = refl

@@ -10,17 +10,19 @@ use Rattle.pyx.specs.declared.known.KnownName.{KnownName}
 use Rattle.pyx_namespaces.specs.plain.WrittenNames.{written_of}
 use Rattle.pyx_namespaces.specs.plain.Declarations.{Declared}
 use Rattle.pyx.specs.plain.TagReader.{element_name}
-use Rattle.pyx.specs.views.ElementView.{AreKnown, IsKnown, name_at, names_of}
+use Rattle.pyx.specs.views.ElementView.{AreKnown, IsJudged, IsKnown, IsPlace, name_at, names_of}
 
 -- a place with a name of this round
 pub known_there : (scope : Declared) (round : ℕ) (known : List KnownName) (at : ℕ) (k : KnownName) (written : List ℕ) → at < length known
     → k ≡ get_or known at k → k.round ≡ round → string_bytes k.written ≡ written → AreKnown scope round known
-    → element_name scope (written_of written) ≡ Some (name_at (names_of known) at)
+    → IsJudged written × IsPlace scope written known at
 known_there scope round known at k written inside there same alike all =
     let says : IsKnown scope round k = subst (IsKnown scope round) (sym there) (all.1 at k inside) in
     let read : name_at (names_of known) at ≡ name_of k.name =
-    get_or-map (λ k. name_of k.name) known at k _ inside ∙ ap (λ (q : KnownName). name_of q.name) (sym there) in
-    ap (λ w. element_name scope (written_of w)) (sym alike) ∙ says.1 same ∙ ap Some (sym read)
+    get_or-map (λ k. name_of k.name) known at k _ inside ∙ ap (λ (q : KnownName). name_of q.name) (sym there) in (
+      subst IsJudged alike (says.1 same).0,
+      (inside, ap (λ w. element_name scope (written_of w)) (sym alike) ∙ (says.1 same).1 ∙ ap Some (sym read)),
+    )
 
 -- one more place, in which nothing is known
 pub known_more : (scope : Declared) (round : ℕ) (known more : List KnownName) (k : KnownName) → more ≡ known ++ k ∷ [] → k.round ≡ 0

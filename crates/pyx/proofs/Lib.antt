@@ -1,3 +1,5 @@
+pub mod BareTags
+pub mod ByteMasks
 pub mod PlainTexts
 pub mod LineTexts
 pub mod ReplacedEscapes

@@ -1,5 +1,5 @@
 -- The name of an element that is open is a name.
-use Rattle.std.proofs.Common.{◌≡◌, ◌<◌, ◌∙◌, ◌&&◌, ℕ, Bool, true, false, List, [], ◌∷◌, ◌++◌, length, Some, ap, arith, refl, subst, sym, string_bytes}
+use Rattle.std.proofs.Common.{◌≡◌, ◌<◌, ◌∙◌, ◌&&◌, ◌==◌, ℕ, Bool, true, false, List, [], ◌∷◌, ◌++◌, length, Some, ap, arith, refl, subst, sym, string_bytes}
 use Rattle.std.specs.List.{All}
 use Rattle.std.proofs.lemmas.List.Elements.{All-pop}
 use Rattle.std.proofs.lemmas.Str.{chars-nil}
@@ -46,3 +46,7 @@ not_innermost (c ∷ cs) stack e = absurd (omega (arith, e))
 
 pub none_innermost : (name : List ℕ) (stack : List Open) → stack ≡ [] → false ≡ (is_name name && is_innermost (written_of name) stack)
 none_innermost name stack e = rw e (sym (and_false (is_name name)))
+
+pub some : (xs : List ℕ) → (length xs == 0) ≡ false → 0 < length xs
+some [] e = absurd cc
+some (x ∷ xs) e = omega arith

@@ -1,7 +1,7 @@
 -- Replacing escapes from one backslash to the next.
 use Rattle.std.proofs.Common.{◌≡◌, ℕ, ◌<◌, suc, List, [], ◌∷◌, ◌++◌, length, Option, Some, None, refl, cond, eqb, ap, sym, arith, Bool, true, false}
 use Rattle.std.proofs.Common.{append_assoc, ◌⊎◌, inl, inr, lit<}
-use Rattle.pyx_namespaces.specs.plain.Cuts.{at_byte, at_front}
+use Rattle.pyx_namespaces.specs.plain.Cuts.{at_byte, at_front, behind}
 use Rattle.pyx.specs.plain.Escapes.{escape_of, unescaped, escaped, in_front}
 
 pub chosen : {A : Type 0} (b : Bool) (x y z : A) → cond b x y ≡ z → ((b ≡ true) × (x ≡ z)) ⊎ ((b ≡ false) × (y ≡ z))
@@ -94,3 +94,33 @@ unescape_shortens rest front after next c e f =
 
 pub unescape_ends : (value rest : List ℕ) → None ≡ at_byte 92 rest → in_front value (unescaped rest) ≡ Some (value ++ rest)
 unescape_ends value rest e = rw (unescaped_plain rest (sym e)) refl
+
+some_is : {A : Type 0} {x y : A} → Some x ≡ Some y → y ≡ x
+some_is e = cc
+
+-- ---- parts of a text without a backslash
+
+pub literal_behind : (k : ℕ) (line rest : List ℕ) → Some rest ≡ behind k line → at_byte 92 line ≡ None → at_byte 92 rest ≡ None
+unfolding at_byte
+literal_behind k [] rest e h = absurd cc
+literal_behind k (c ∷ cs) rest e h = go (eqb c k) (eqb c 92) (at_byte 92 cs) refl e h where
+  go : (x y : Bool) (o : Option (List ℕ × List ℕ)) → at_byte 92 cs ≡ o → Some rest ≡ cond x (Some cs) None → cond y (Some ([], cs)) (at_front c o) ≡ None
+      → at_byte 92 rest ≡ None
+  go false y o q e h = absurd cc
+  go true true o q e h = absurd cc
+  go true false (Some p) q e h = absurd cc
+  go true false None q e h = let same : cs ≡ rest = some_is e in rw (← same) q
+
+pub literal_after : (k : ℕ) (bytes front after : List ℕ) → Some (front, after) ≡ at_byte k bytes → at_byte 92 bytes ≡ None → at_byte 92 after ≡ None
+unfolding at_byte
+literal_after k [] front after e h = absurd cc
+literal_after k (c ∷ cs) front after e h = go (eqb c k) (eqb c 92) (at_byte k cs) (at_byte 92 cs) refl e h (literal_after k cs) where
+  go : (x y : Bool) (o p : Option (List ℕ × List ℕ)) → at_byte 92 cs ≡ p → Some (front, after) ≡ cond x (Some ([], cs)) (at_front c o)
+      → cond y (Some ([], cs)) (at_front c p) ≡ None
+      → ((front after : List ℕ) → Some (front, after) ≡ o → at_byte 92 cs ≡ None → at_byte 92 after ≡ None) → at_byte 92 after ≡ None
+  go x true o p q e h more = absurd cc
+  go x false o (Some r) q e h more = absurd cc
+  go true false o None q e h more = let same = (some_pair [] cs front after (sym e)).1 in rw (← same) q
+  go false false None None q e h more = absurd cc
+  go false false (Some r) None q e h more =
+      let same = (some_pair (c ∷ r.0) r.1 front after (sym e)).1 in rw (← same) (more r.0 r.1 refl q)

@@ -2,6 +2,7 @@
 pub mod DocumentReader
 pub mod Escapes
 pub mod LineReader
+pub mod Marks
 pub mod Pieces
 pub mod PlainBytes
 pub mod Slots

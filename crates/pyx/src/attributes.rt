@@ -15,7 +15,6 @@ use crate::spares::Spares;
 use pyx_namespaces::{WrittenAttribute, cut_at};
 use rng_model::{Attr, Name};
 use std::alloc::Global;
-use std::mem;
 
 /// Returns the expanded name of an attribute inside the open elements. A prefix that is not declared breaks P11.
 #[tactic(auto, unfolding(crate::specs::plain::TagReader::attribute_name, pyx_namespaces::specs::plain::WrittenNames::written_of))]
@@ -52,14 +51,14 @@ fn fill(
     alloc: Global,
     elements: &OpenElements,
     spares: &mut Spares,
-    others: Vec<WrittenAttribute>,
+    others: &mut Vec<WrittenAttribute>,
     attrs: &mut Vec<Attr>,
 ) -> Result<(), LineFault>
     requires { attrs.old.items ≡ [] }
     ensures { Gives clause_of (λ _. map attribute_of attrs.new.items) result
-        (resolved (expanded (declared_in elements.now.opened) (map written_attribute others.items))) }
+        (resolved (expanded (declared_in elements.now.opened) (map written_attribute others.old.items))) }
 {
-    'others: for attribute in others {
+    'others: for attribute in others.drain(..) {
         let name = attribute_name(alloc, elements, spares, attribute.name)?;
         attrs.push(Attr {
             name,
@@ -85,11 +84,5 @@ pub fn expand_attributes(
     if others.as_slice().is_empty() {
         return Ok(());
     }
-    fill(
-        alloc,
-        elements,
-        spares,
-        mem::replace(others, Vec::new(alloc)),
-        attrs,
-    )
+    fill(alloc, elements, spares, others, attrs)
 }

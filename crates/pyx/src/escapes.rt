@@ -1,6 +1,7 @@
 // Texts with escapes.
-ghost use Rattle.std.specs.Prelude.{◌≡◌, IfOk, Some, None, if◌then◌else◌, string_bytes};
+ghost use Rattle.std.specs.Prelude.{◌≡◌, IfOk, Some, None, if◌then◌else◌, string_bytes, true};
 ghost use Rattle.std.specs.Option.{option_map};
+ghost use Rattle.pyx_namespaces.specs.plain.Cuts.{at_byte};
 ghost use Rattle.pyx.specs.plain.Escapes.{escape_of, in_front, unescaped};
 
 use pyx_namespaces::{behind, cut_at};
@@ -24,11 +25,17 @@ fn escape(text: &str) -> Option<(char, &str)>
 }
 
 /// Appends a text of a line with its escapes replaced: `\n`, `\t` and `\\` represent a line feed, a tab and a
-/// backslash. Returns false on another escape or a backslash at the end, which break P5.
+/// backslash. Returns false on another escape or a backslash at the end, which break P5. A literal text has no backslash:
+/// it is copied as it is.
 #[inline(always)]
-pub fn append(value: &mut String, text: &str) -> Result<bool, OutOfMemory>
+pub fn append(value: &mut String, text: &str, literal: bool) -> Result<bool, OutOfMemory>
+    requires { literal ≡ true → at_byte 92 text.now ≡ None }
     ensures { IfOk result (λ good. in_front (string_bytes value.old) (unescaped text.now) ≡ (if good then Some (string_bytes value.new) else None)) }
 {
+    if literal {
+        value.push_str(text)?;
+        return Ok(true);
+    }
     let mut rest = text;
     'escapes: while let Some((front, after)) = cut_at(b'\\', rest) {
         let Some((character, after)) = escape(after) else {

@@ -4,7 +4,7 @@ ghost use Rattle.rng_model.specs.names.NameViews.{name_of};
 ghost use Rattle.pyx_namespaces.specs.plain.WrittenNames.{written_of};
 ghost use Rattle.pyx_namespaces.specs.plain.Declarations.{Declared};
 ghost use Rattle.pyx.specs.plain.TagReader.{element_name};
-ghost use Rattle.pyx.specs.views.ElementView.{AreKnown, IsKnown, name_at, names_of};
+ghost use Rattle.pyx.specs.views.ElementView.{AreKnown, IsJudged, IsKnown, IsPlace, name_at, names_of};
 
 use pyx_namespaces::hash_of;
 use rng_model::{Name, OutOfMemory};
@@ -16,7 +16,7 @@ const COUNT: usize = 256;
 /// The most bytes that a name, and its namespace, may have to be kept in a place of its own.
 const SIZE_LIMIT: usize = 1_024;
 
-/// A name as it is written, and the expanded name that the lookup found.
+/// A name as it is written, which was judged, and the expanded name that the lookup found.
 #[derive(Drop)]
 pub struct KnownName {
     /// The round of the lookup. Rounds start at 1; 0 means that nothing was looked up.
@@ -34,7 +34,8 @@ impl KnownName {
         uri: &str,
         local: &str,
     ) -> Result<(), OutOfMemory>
-        requires { 0 < round }
+        requires round { 0 < round }
+        requires judged { IsJudged written.now }
         ensures known { (scope : Declared) → element_name scope (written_of written.now) ≡ Some (record { ns = uri.now; local = local.now })
             → IsKnown scope round self.new }
         ensures name { OnOk result (name_of self.new.name ≡ record { ns = uri.now; local = local.now }) }
@@ -84,8 +85,7 @@ fn make_places(alloc: Global, known: &mut Vec<KnownName>) -> Result<(), OutOfMem
 /// Returns the place of a name that was looked up in this round, if it is kept there.
 #[inline(always)]
 pub fn find(known: &[KnownName], round: u64, written: &str) -> Option<usize>
-    ensures { IfSome result (λ at. (at < length known.now) × ((scope : Declared) → AreKnown scope round known.now
-        → element_name scope (written_of written.now) ≡ Some (name_at (names_of known.now) at))) }
+    ensures { IfSome result (λ at. (scope : Declared) → AreKnown scope round known.now → IsJudged written.now × IsPlace scope written.now known.now at) }
 {
     let at = hash_of(written) % COUNT;
     match known.get(at) {
@@ -104,7 +104,8 @@ pub fn learn(
     uri: &str,
     local: &str,
 ) -> Result<usize, OutOfMemory>
-    requires { 0 < round }
+    requires round { 0 < round }
+    requires judged { IsJudged written.now }
     ensures known { (scope : Declared) → element_name scope (written_of written.now) ≡ Some (record { ns = uri.now; local = local.now })
         → AreKnown scope round known.old.items → AreKnown scope round known.new.items }
     ensures name { IfOk result (λ at. (at < length known.new.items) × (name_at (names_of known.new.items) at ≡ record { ns = uri.now; local = local.now })) }

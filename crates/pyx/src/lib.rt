@@ -7,6 +7,7 @@ mod escapes;
 mod fault;
 mod known;
 mod line;
+mod marks;
 mod opened;
 mod pieces;
 mod plain;

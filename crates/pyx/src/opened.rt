@@ -1,16 +1,16 @@
 // Open elements.
-ghost use Rattle.std.specs.Prelude.{◌≡◌, ◌<◌, ◌∷◌, ◌++◌, ◌==◌, ◌&&◌, [], IfOk, OnOk, MatchResult, length, map, drop, true};
+ghost use Rattle.std.specs.Prelude.{◌≡◌, ◌<◌, ◌∷◌, ◌++◌, ◌==◌, ◌&&◌, [], IfOk, IfSome, OnOk, MatchResult, length, map, drop, true};
 ghost use Rattle.std.specs.Option.{option_map};
 ghost use Rattle.rng_model.specs.plain.Answers.{Gives};
 ghost use Rattle.rng_model.specs.names.NameViews.{name_of};
 ghost use Rattle.pyx.specs.plain.DocumentReader.{around, declared_in};
-ghost use Rattle.pyx.specs.views.ElementView.{AreKnown, clause_of, is_innermost, name_at, names_of, open_as, resolved};
+ghost use Rattle.pyx.specs.views.ElementView.{AreKnown, IsJudged, IsPlace, clause_of, is_innermost, name_at, names_of, open_as, resolved};
 ghost use Rattle.pyx_namespaces.specs.views.WrittenAttributes.{written_attribute};
 ghost use Rattle.pyx.specs.views.Held.{opened_held};
 ghost use Rattle.pyx.specs.plain.LineReader.{is_name};
 ghost use Rattle.pyx_namespaces.specs.plain.WrittenNames.{written_of};
 ghost use Rattle.pyx.specs.plain.TagReader.{element_name};
-ghost use Rattle.pyx_namespaces.specs.plain.Declarations.{namespace_of};
+ghost use Rattle.pyx_namespaces.specs.plain.Declarations.{Declared, namespace_of};
 
 use crate::elements::{OpenElement, innermost, opened_len};
 use crate::fault::LineFault;
@@ -35,6 +35,8 @@ pub struct OpenElements {
     declarations: Declarations,
     /// The name of the tag that is being read. It is a name or empty, as those of the open elements.
     begun: String,
+    /// Its place among the names, if it was known when the tag began.
+    place: Option<usize>,
     /// A round ends where an element with a declaration is opened or closed.
     round: u64,
     /// Names of earlier rounds are unknown.
@@ -49,7 +51,7 @@ impl Model for OpenElements {
 
     ghost view = { λ e. record { opened = stack_of e.opened.items e.declarations; begun = string_bytes e.begun; names = names_of e.known.items } };
 
-    ghost invariant = { λ e. AreKept e.opened.items e.declarations (string_bytes e.begun) e.round e.known.items };
+    ghost invariant = { λ e. AreKept e.opened.items e.declarations (string_bytes e.begun) e.place e.round e.known.items };
 }
 
 /// Returns the place of the expanded name that a name has where these declarations hold. Looks it up if it is not known.
@@ -63,7 +65,8 @@ fn place_of_name(
     known: &mut Vec<KnownName>,
     written: &str,
 ) -> Result<usize, LineFault>
-    requires { AreKnown (declarations.now ∷ []) round known.old.items }
+    requires known { AreKnown (declarations.now ∷ []) round known.old.items }
+    requires judged { IsJudged written.now }
     ensures known { AreKnown (declarations.now ∷ []) round known.new.items }
     ensures inside { IfOk result (λ at. at < length known.new.items) }
     ensures name { Gives clause_of (λ at. name_at (names_of known.new.items) at) result
@@ -80,6 +83,19 @@ fn place_of_name(
         Some(uri) => Ok(learn(alloc, known, round, written, uri, local)?),
         None => Err(LineFault::Clause(11)),
     }
+}
+
+/// Returns whether this is a name, and its place if it is known. A name that is known is not judged again.
+#[inline(always)]
+fn judge(known: &[KnownName], round: u64, name: &str) -> (bool, Option<usize>)
+    ensures { (scope : Declared) → AreKnown scope round known.now → (result.0 ≡ is_name name.now) × IfSome result.1 (IsPlace scope name.now known.now) }
+{
+    if !name.is_empty() {
+        if let Some(at) = find(known, round, name) {
+            return (true, Some(at));
+        }
+    }
+    (is_name(name), None)
 }
 
 /// Adds the declarations of a tag, inside the others. The names that are known are then unknown. Removes all declarations
@@ -146,6 +162,7 @@ impl OpenElements {
             opened: Vec::new(alloc),
             declarations: Declarations::new(alloc),
             begun: String::new(alloc),
+            place: None,
             round: 1,
             known: Vec::new(alloc),
         }
@@ -182,7 +199,7 @@ impl OpenElements {
         self.declarations.namespace(prefix)
     }
 
-    /// Begins a tag if this is a name, and returns whether it is one.
+    /// Begins a tag if this is a name, and returns whether it is one. A name that is known is not judged again.
     #[inline(always)]
     pub fn begin(
         &mut self,
@@ -194,15 +211,22 @@ impl OpenElements {
         ensures begun { IfOk result (λ good. good ≡ true → self.new.begun ≡ name.now) }
         ensures opened { self.new.opened ≡ self.old.opened }
     {
-        if !is_name(name) {
+        let (good, place) = judge(self.known.as_slice(), self.round, name);
+        if !good {
             return Ok(false);
         }
-        self.begun = spares.copy(alloc, name)?;
+        self.place = None;
+        self.begun = spares.take(alloc);
+        self.begun.push_str(name)?;
+        self.place = place;
         Ok(true)
     }
 
     /// Opens the element of the tag that has begun, inside the innermost one, with these declarations, and leaves the tag
-    /// without them. Looks up its name and returns the place of the expanded name. A prefix that is not declared breaks P11.
+    /// without them. Returns the place of the expanded name. A prefix that is not declared breaks P11.
+    ///
+    /// A name that was known when the tag began is not looked up again, unless the tag declares something.
+    #[inline(always)]
     pub fn open(
         &mut self,
         alloc: Global,
@@ -213,7 +237,31 @@ impl OpenElements {
         ensures name { Gives clause_of (λ at. name_at self.new.names at) result
             (resolved (element_name (map written_attribute tag.old.items ∷ declared_in self.old.opened) (written_of self.old.begun))) }
     {
+        match self.place {
+            Some(at) if tag.is_empty() => {
+                self.place = None;
+                let name = mem::replace(&mut self.begun, String::new(alloc));
+                self.opened.push(OpenElement { name, count: 0 })?;
+                Ok(at)
+            }
+            _ => self.open_by_lookup(alloc, tag),
+        }
+    }
+
+    /// The same by a lookup of the name.
+    #[inline(never)]
+    fn open_by_lookup(
+        &mut self,
+        alloc: Global,
+        tag: &mut Vec<WrittenAttribute>,
+    ) -> Result<usize, LineFault>
+        ensures opened { OnOk result (self.new.opened ≡ open_as self.old.begun tag.old.items ∷ self.old.opened) }
+        ensures inside { IfOk result (λ at. at < length self.new.names) }
+        ensures name { Gives clause_of (λ at. name_at self.new.names at) result
+            (resolved (element_name (map written_attribute tag.old.items ∷ declared_in self.old.opened) (written_of self.old.begun))) }
+    {
         let count = tag.len();
+        self.place = None;
         let name = mem::replace(&mut self.begun, String::new(alloc));
         self.opened.push(OpenElement { name, count })?;
         declare(
@@ -255,6 +303,7 @@ impl OpenElements {
         ensures opened { self.new.opened ≡ around self.old.opened }
         ensures begun { self.new.begun ≡ self.old.begun }
     {
+        self.place = None;
         let closed = self.opened.pop();
         if let Some(element) = closed {
             undeclare(

@@ -1,5 +1,5 @@
 // Documents in pieces.
-ghost use Rattle.std.specs.Prelude.{◌≡◌, ◌+◌, ◌<◌, ◌≤◌, ◌^◌, ◌++◌, true, length, take, [], ◌∷◌, IfSome, MatchOption};
+ghost use Rattle.std.specs.Prelude.{◌≡◌, ◌+◌, ◌<◌, ◌≤◌, ◌^◌, ◌++◌, true, length, take, [], ◌∷◌, IfSome, None, MatchOption};
 ghost use Rattle.std.specs.Option.{option_map};
 ghost use Rattle.std.specs.List.{list_all, prefix_len};
 ghost use Rattle.std.specs.Str.{chars};
@@ -13,10 +13,10 @@ ghost use Rattle.pyx.specs.views.View.{Concludes, Takes, progress_of};
 ghost use Rattle.rng_model.specs.documents.Handing.{Hands};
 
 use crate::line::{LINE_LIMIT, Line};
+use crate::marks::first_text_line;
 use crate::plain::plain_text;
 use crate::state::State;
 use memchr::{memchr, memrchr};
-use pyx_namespaces::cut_at;
 use rng_model::{Events, PyxFault};
 use std::alloc::Global;
 
@@ -129,17 +129,23 @@ impl Pieces {
         Ok(())
     }
 
-    /// Reads the line that ends after this text of plain bytes.
+    /// Reads the line that ends after this text of plain bytes. A literal text has no backslash.
     #[tactic(auto, unfolding(crate::specs::plain::Pieces::line_taken))]
     #[inline(always)]
-    fn text_line<E: Events>(&mut self, text: &str, events: &mut E) -> Result<(), PyxFault>
+    fn text_line<E: Events>(
+        &mut self,
+        text: &str,
+        literal: bool,
+        events: &mut E,
+    ) -> Result<(), PyxFault>
         requires plain { list_all is_plain text.now ≡ true }
+        requires literal { literal ≡ true → at_byte 92 text.now ≡ None }
         requires begun { length self.old.begun.items ≤ 65536 }
         requires weight { weight (progress_of self.old) + 65537 < 2 ^ 64 }
         ensures { Takes result (progress_of self.new) (Hands E.stands events.old events.new) (pieces.line_taken text.now (progress_of self.old)) }
     {
         if self.begun.is_empty() && text.len() <= LINE_LIMIT {
-            return self.state.text_line(text, events);
+            return self.state.text_line(text, literal, events);
         }
         self.line(text.as_bytes(), events)
     }
@@ -180,8 +186,8 @@ impl Pieces {
         ensures { Takes result (progress_of self.new) (Hands E.stands events.old events.new) (pieces.read text.now (progress_of self.old)) }
     {
         let mut rest = text;
-        'lines: while let Some((front, after)) = cut_at(b'\n', rest) {
-            self.text_line(front, events)?;
+        'lines: while let Some((front, literal, after)) = first_text_line(rest) {
+            self.text_line(front, literal, events)?;
             rest = after;
         }
         self.keep(rest.as_bytes(), events)

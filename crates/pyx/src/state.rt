@@ -1,5 +1,5 @@
 // Documents line by line.
-ghost use Rattle.std.specs.Prelude.{◌≡◌, ◌+◌, ◌<◌, ◌^◌, ℕ, List, length, map, is_some, IfOk, OnOk, string_bytes, true};
+ghost use Rattle.std.specs.Prelude.{◌≡◌, ◌+◌, ◌<◌, ◌^◌, [], ℕ, List, length, map, is_some, IfOk, OnOk, None, string_bytes, true};
 ghost use Rattle.rng_model.specs.plain.Answers.{Gives};
 ghost use Rattle.rng_model.specs.documents.PyxLines as lines;
 ghost use Rattle.pyx.specs.plain.DocumentReader as reader;
@@ -8,6 +8,7 @@ ghost use Rattle.pyx.specs.views.ElementView.{clause_of, element_at};
 ghost use Rattle.pyx_namespaces.specs.views.WrittenAttributes.{written_attribute};
 ghost use Rattle.pyx.specs.views.Held.{state_held};
 ghost use Rattle.pyx.specs.plain.LineReader.{attribute_of, kind_of, named, said_of, text_of};
+ghost use Rattle.pyx_namespaces.specs.plain.Cuts.{at_byte};
 ghost use Rattle.pyx_namespaces.specs.plain.WrittenNames.{written_of};
 ghost use Rattle.pyx.specs.plain.Pieces.{ended_line};
 ghost use Rattle.pyx_namespaces.specs.plain.Declarations.{declared_by};
@@ -68,6 +69,14 @@ pub struct State {
 }
 
 impl Tag {
+    /// Returns whether it has no `A` line.
+    #[inline(always)]
+    fn is_bare(&self) -> bool
+        ensures { result ≡ true → (self.now.declarations.items ≡ []) × (self.now.others.items ≡ []) }
+    {
+        self.declarations.is_empty() && self.others.is_empty()
+    }
+
     /// Adds an `A` line of this many bytes, which is a declaration or not.
     fn add(
         &mut self,
@@ -135,9 +144,29 @@ impl State {
     ///
     /// P11 is broken if a declaration is not allowed or a prefix is not declared. Otherwise P12 is broken if two of the
     /// `A` lines have the same name or two attributes the same expanded name. Namespaces in XML 1.0, sections 3 to 6.
-    #[tactic(auto, unfolding(crate::specs::plain::TagReader::tag_read))]
+    ///
+    /// Only a tag with `A` lines is looked at as a whole.
     #[inline(always)]
     fn open_tag(&mut self) -> Result<usize, LineFault>
+        ensures element { Gives clause_of (element_at self.new.elements.names self.new.attrs.items) result
+            (tag_read (declared_in self.old.elements.opened) (written_of self.old.elements.begun) (map written_attribute self.old.tag.declarations.items)
+            (map written_attribute self.old.tag.others.items)) }
+        ensures inside { IfOk result (λ at. at < length self.new.elements.names) }
+        ensures opened { OnOk result (state_of self.new ≡ reader.opened_by (tag_of self.old.elements.begun self.old.tag) (state_of self.old)) }
+        ensures lines { self.new.lines ≡ self.old.lines }
+    {
+        if !self.tag.is_bare() {
+            return self.open_whole_tag();
+        }
+        self.attrs.clear();
+        self.in_tag = false;
+        self.elements.open(self.alloc, &mut self.tag.declarations)
+    }
+
+    /// The same for a tag with `A` lines or without them.
+    #[tactic(auto, unfolding(crate::specs::plain::TagReader::tag_read))]
+    #[inline(never)]
+    fn open_whole_tag(&mut self) -> Result<usize, LineFault>
         ensures element { Gives clause_of (element_at self.new.elements.names self.new.attrs.items) result
             (tag_read (declared_in self.old.elements.opened) (written_of self.old.elements.begun) (map written_attribute self.old.tag.declarations.items)
             (map written_attribute self.old.tag.others.items)) }
@@ -268,18 +297,19 @@ impl State {
         Ok(())
     }
 
-    /// Reads an `A` line of this many bytes, given without its first byte.
+    /// Reads an `A` line of this many bytes, given without its first byte. A literal line has no backslash.
     #[tactic(auto, unfolding(crate::specs::plain::LineReader::attribute_of, crate::specs::plain::DocumentReader::said_read))]
     #[inline(always)]
-    fn attribute(&mut self, bytes: u64, line: &str) -> Result<(), PyxFault>
-        requires { reader.tag_bytes (state_of self.old).tag + bytes < 2 ^ 64 }
+    fn attribute(&mut self, bytes: u64, line: &str, literal: bool) -> Result<(), PyxFault>
+        requires room { reader.tag_bytes (state_of self.old).tag + bytes < 2 ^ 64 }
+        requires literal { literal ≡ true → at_byte 92 line.now ≡ None }
         ensures { Adds result (state_of self.new) (reader.judged bytes (attribute_of line.now) (state_of self.old)) }
     {
         let Some((name, value)) = cut_at(b' ', line) else {
             return Err(self.fault(6));
         };
         let mut content = self.spares.take(self.alloc);
-        if !append(&mut content, value)? {
+        if !append(&mut content, value, literal)? {
             return Err(self.fault(5));
         }
         if !is_name(name) {
@@ -288,13 +318,14 @@ impl State {
         self.add(bytes, name, content)
     }
 
-    /// Joins a text, in a line of this many bytes, to the text before it.
+    /// Joins a text, in a line of this many bytes, to the text before it. A literal text has no backslash.
     #[tactic(auto, unfolding(crate::specs::plain::LineReader::text_of, crate::specs::plain::DocumentReader::said_read, crate::specs::plain::DocumentReader::joined_by))]
     #[inline(always)]
-    fn text(&mut self, bytes: u64, text: &str) -> Result<(), PyxFault>
+    fn text(&mut self, bytes: u64, text: &str, literal: bool) -> Result<(), PyxFault>
+        requires { literal ≡ true → at_byte 92 text.now ≡ None }
         ensures { Adds result (state_of self.new) (reader.judged bytes (text_of text.now) (state_of self.old)) }
     {
-        if !append(&mut self.joined, text)? {
+        if !append(&mut self.joined, text, literal)? {
             return Err(self.fault(5));
         }
         if self.elements.is_empty() {
@@ -327,11 +358,12 @@ impl State {
         Ok(())
     }
 
-    /// Reads a line whose content is this text.
+    /// Reads a line whose content is this text. A literal line has no backslash.
     #[tactic(auto, unfolding(crate::specs::plain::LineReader::kind_of, crate::specs::plain::DocumentReader::said_read))]
     #[inline(always)]
-    fn said<E: Events>(&mut self, text: &str, events: &mut E) -> Result<(), PyxFault>
-        requires { reader.tag_bytes (state_of self.old).tag + length text.now < 2 ^ 64 }
+    fn said<E: Events>(&mut self, text: &str, literal: bool, events: &mut E) -> Result<(), PyxFault>
+        requires room { reader.tag_bytes (state_of self.old).tag + length text.now < 2 ^ 64 }
+        requires literal { literal ≡ true → at_byte 92 text.now ≡ None }
         ensures { Takes result (state_of self.new) (Hands E.stands events.old events.new)
             (reader.judged (length text.now) (kind_of text.now) (state_of self.old)) }
     {
@@ -340,10 +372,10 @@ impl State {
             return self.start(bytes, name, events);
         }
         if let Some(line) = behind(b'A', text) {
-            return self.attribute(bytes, line);
+            return self.attribute(bytes, line, literal);
         }
         if let Some(value) = behind(b'-', text) {
-            return self.text(bytes, value);
+            return self.text(bytes, value, literal);
         }
         if let Some(name) = behind(b')', text) {
             return self.end(bytes, name, events);
@@ -354,18 +386,25 @@ impl State {
         Err(self.fault(4))
     }
 
-    /// Reads the next line. It can break only clauses that follow from the content of this text.
+    /// Reads the next line. It can break only clauses that follow from the content of this text. A literal line has no
+    /// backslash.
     #[tactic(auto, unfolding(crate::specs::plain::DocumentReader::line_read))]
     #[inline(always)]
-    pub fn text_line<E: Events>(&mut self, text: &str, events: &mut E) -> Result<(), PyxFault>
+    pub fn text_line<E: Events>(
+        &mut self,
+        text: &str,
+        literal: bool,
+        events: &mut E,
+    ) -> Result<(), PyxFault>
         requires lines { self.old.lines + 1 < 2 ^ 64 }
         requires bytes { reader.tag_bytes (state_of self.old).tag + length text.now < 2 ^ 64 }
         requires good { said_of (ended_line text.now) ≡ kind_of text.now }
+        requires literal { literal ≡ true → at_byte 92 text.now ≡ None }
         ensures { Takes result (state_of self.new) (Hands E.stands events.old events.new) (reader.line_read (ended_line text.now) (state_of self.old)) }
     {
         self.end_tag(text.as_bytes(), events)?;
         self.lines += 1;
-        self.said(text, events)
+        self.said(text, literal, events)
     }
 
     /// Reads the next line.
@@ -376,7 +415,7 @@ impl State {
         ensures { Takes result (state_of self.new) (Hands E.stands events.old events.new) (reader.line_read (line_of line.entry) (state_of self.old)) }
     {
         match line_text(line) {
-            Ok(text) => self.text_line(text, events),
+            Ok(text) => self.text_line(text, false, events),
             Err(clause) => {
                 self.end_tag(line.bytes, events)?;
                 self.lines += 1;

@@ -1,5 +1,5 @@
 -- The view of the open elements, and the names that are known among them.
-use Rattle.std.specs.Prelude.{◌≡◌, ◌<◌, ◌≤◌, ℕ, List, [], map, reverse, slice_index_or, Result, Ok, Err, Option, Some, None, string_bytes}
+use Rattle.std.specs.Prelude.{◌≡◌, ◌<◌, ◌≤◌, ℕ, List, [], map, reverse, slice_index_or, Result, Ok, Err, Option, Some, None, IfSome, string_bytes}
 use Rattle.std.specs.Prelude.{Bool, false, true, ◌∷◌, ◌++◌, length, take, drop}
 use Rattle.std.specs.List.{All}
 use Rattle.rng_model.specs.names.Names.{Name}
@@ -64,26 +64,35 @@ name_at names at = slice_index_or names at (record { ns = []; local = [] })
 abbrev pub element_at : List Name → List Attr → ℕ → Element
 element_at names attrs at = record { name = name_at names at; attrs = map attribute_of attrs }
 
--- no name is of a later round than this, and a name of this round has in this scope the expanded name of its lookup
-abbrev pub IsKnown : Declared → ℕ → KnownName → Type 0
-IsKnown scope round k = (k.round ≤ round) × (k.round ≡ round → element_name scope (written_of (string_bytes k.written)) ≡ Some (name_of k.name))
-
-abbrev pub AreKnown : Declared → ℕ → List KnownName → Type 0
-AreKnown scope round known = (0 < round) × All (IsKnown scope round) known
-
 -- a name, or nothing
 abbrev pub IsJudged : List ℕ → Type 0
 IsJudged bytes = 0 < length bytes → is_name bytes ≡ true
 
+-- no name is of a later round than this, and a name of this round was judged and has in this scope the expanded name of
+-- its lookup
+abbrev pub IsKnown : Declared → ℕ → KnownName → Type 0
+IsKnown scope round k = (k.round ≤ round) × (k.round ≡ round
+    → IsJudged (string_bytes k.written) × (element_name scope (written_of (string_bytes k.written)) ≡ Some (name_of k.name)))
+
+abbrev pub AreKnown : Declared → ℕ → List KnownName → Type 0
+AreKnown scope round known = (0 < round) × All (IsKnown scope round) known
+
+-- in this place is the expanded name of this name
+abbrev pub IsPlace : Declared → List ℕ → List KnownName → ℕ → Type 0
+IsPlace scope written known at = (at < length known) × (element_name scope (written_of written) ≡ Some (name_at (names_of known) at))
+
 abbrev pub IsNamed : OpenElement → Type 0
 IsNamed e = IsJudged (string_bytes e.name)
 
--- what is kept: the open elements, their declarations, the name of the tag that has begun, and the names that are known
-pub record AreKept (opened : List OpenElement) (ds : List WrittenAttribute) (begun : List ℕ) (round : ℕ) (names : List KnownName) : Type 0 where
+-- what is kept: the open elements, their declarations, the name of the tag that has begun, its place if it was known then,
+-- and the names that are known
+pub record AreKept (opened : List OpenElement) (ds : List WrittenAttribute) (begun : List ℕ) (place : Option ℕ) (round : ℕ)
+    (names : List KnownName) : Type 0 where
   pub known : AreKnown (ds ∷ []) round names
   -- no declaration is of no element
   pub whole : all_declared (stack_of opened ds) ≡ ds
   pub judged : IsJudged begun
+  pub placed : IfSome place (IsPlace (ds ∷ []) begun names)
   pub all_judged : All IsNamed opened
 
 -- the open elements, the innermost first, the name of the tag that has begun, and the names that were looked up, in their places

@@ -1,5 +1,5 @@
 use Rattle.std.proofs.Common.{◌≡◌, ◌++◌, Some, map}
-use Rattle.std.specs.Vec.Iter.{into_iter_items}
+use Rattle.std.specs.Vec.Iter.{drain_items}
 use Rattle.rng_model.specs.documents.DocumentViews.{attribute_of}
 use Rattle.pyx.specs.plain.DocumentReader.{declared_in}
 use Rattle.pyx.specs.plain.TagReader.{expanded}
@@ -9,5 +9,5 @@ use Rattle.pyx.proofs.attributes.fill.Given as goal
 abbrev pub invariant-others : goal.invariant-others
 invariant-others l = record {
   so_far : expanded (declared_in l.elements.opened) (map written_attribute l.yielded) ≡ Some (map attribute_of l.attrs.items);
-  all : l.yielded ++ into_iter_items l.attribute-iterator ≡ l.fn.others.items;
+  all : l.yielded ++ drain_items l.attribute-iterator ≡ l.fn.others.items;
 }

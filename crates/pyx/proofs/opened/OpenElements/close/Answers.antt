@@ -15,6 +15,7 @@ invariant_of-self c =
       whole = rw (c.undeclare.ensures.removed)
           (whole_close old new c.in-Some.element c.self.inside.declarations c.in-Some.ensures.items c.self.invariant.whole);
       judged = c.self.invariant.judged;
+      placed = tt;
       all_judged = (All-pop IsNamed old new _ c.pop-closed.ensures.items c.self.invariant.all_judged).0;
     }
 

@@ -1,15 +1,11 @@
-use Rattle.std.proofs.Common.{◌≡◌, ◌<◌, ◌∙◌, ◌==◌, ◌&&◌, ℕ, List, [], ◌∷◌, arith, ap, sym, false, length}
+use Rattle.std.proofs.Common.{◌∙◌, ◌&&◌, ap, sym}
 use Rattle.std.proofs.lemmas.Bool.{eqb-true}
 use Rattle.pyx_namespaces.specs.plain.WrittenNames.{written_of}
 use Rattle.pyx_namespaces.specs.plain.Declarations.{same_written}
 use Rattle.pyx.specs.plain.LineReader.{is_name}
 use Rattle.pyx.specs.views.ElementView.{Elements, is_innermost}
-use Rattle.pyx.proofs.OpenNames.{named_last, not_innermost, same_as_innermost}
+use Rattle.pyx.proofs.OpenNames.{named_last, not_innermost, same_as_innermost, some}
 use Rattle.pyx.proofs.opened.OpenElements.is_innermost.Goals as goal
-
-some : (xs : List ℕ) → (length xs == 0) ≡ false → 0 < length xs
-some [] e = absurd cc
-some (x ∷ xs) e = omega arith
 
 pub returns-then-not-is_empty : goal.returns-then-not-is_empty
 returns-then-not-is_empty c =

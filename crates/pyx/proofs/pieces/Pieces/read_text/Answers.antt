@@ -14,7 +14,7 @@ returns-in_err-text_line g c =
     rw (p.1, p.2) (fails (Unit {0}) g.E.Events.stands _ c.lines.events _ _ (line_taken c.in-Some.front.now (progress_of c.lines.self)) c.lines.rest.now
     c.in-Some.after.now
     (progress_of c.lines.self) _ c.in_err-text_line.field-0.0 (read_line c.lines.rest.now c.in-Some.front.now c.in-Some.after.now (progress_of c.lines.self)
-    c.in-Some.ensures c.lines.invariant.begun)
+    c.in-Some.ensures.parts c.lines.invariant.begun)
     c.lines.invariant.goes c.in_err-text_line.ensures)
 
 pub lines-preserved : goal.lines-preserved
@@ -23,15 +23,15 @@ lines-preserved g c =
     record {
       goes = goes_on g.E.Events.stands _ c.lines.events _ _ (line_taken c.in-Some.front.now (progress_of c.lines.self)) c.lines.rest.now c.in-Some.after.now
           (progress_of c.lines.self) _
-          (read_line c.lines.rest.now c.in-Some.front.now c.in-Some.after.now (progress_of c.lines.self) c.in-Some.ensures c.lines.invariant.begun)
+          (read_line c.lines.rest.now c.in-Some.front.now c.in-Some.after.now (progress_of c.lines.self) c.in-Some.ensures.parts c.lines.invariant.begun)
           c.lines.invariant.goes c.in_ok-text_line.ensures;
       utf8 = search rules;
-      plain = (halves c.lines.rest.now c.in-Some.front.now c.in-Some.after.now c.in-Some.ensures c.lines.invariant.plain).after_plain;
+      plain = (halves c.lines.rest.now c.in-Some.front.now c.in-Some.after.now c.in-Some.ensures.parts c.lines.invariant.plain).after_plain;
       begun = omega (arith, n.0);
       room = omega (
         arith,
         n.1,
-        (halves c.lines.rest.now c.in-Some.front.now c.in-Some.after.now c.in-Some.ensures c.lines.invariant.plain).shorter,
+        (halves c.lines.rest.now c.in-Some.front.now c.in-Some.after.now c.in-Some.ensures.parts c.lines.invariant.plain).shorter,
         c.lines.invariant.room,
       );
     }
@@ -39,11 +39,12 @@ lines-preserved g c =
 pub returns : goal.returns
 returns g c = ends (Unit {0}) g.E.Events.stands _ c.lines.events _ _ (rest_taken c.as_bytes.result.now (progress_of c.lines.self)) c.lines.rest.now
     (progress_of c.lines.self) _ c.keep.result
-    (read_rest c.lines.rest.now (progress_of c.lines.self) c.in_default.ensures c.lines.invariant.begun
+    (read_rest c.lines.rest.now (progress_of c.lines.self) c.in_default.ensures.parts c.lines.invariant.begun
     ∙ ap (λ r. rest_taken r (progress_of c.lines.self)) (sym c.as_bytes.ensures.value)) c.lines.invariant.goes c.keep.ensures
 
 pub text_line-requires-clause-plain : goal.text_line-requires-clause-plain
-text_line-requires-clause-plain g c = (halves c.lines.rest.now c.in-Some.front.now c.in-Some.after.now c.in-Some.ensures c.lines.invariant.plain).front_plain
+text_line-requires-clause-plain g c =
+    (halves c.lines.rest.now c.in-Some.front.now c.in-Some.after.now c.in-Some.ensures.parts c.lines.invariant.plain).front_plain
 
 pub lines-smaller : goal.lines-smaller
-lines-smaller g c = omega (arith, (halves c.lines.rest.now c.in-Some.front.now c.in-Some.after.now c.in-Some.ensures c.lines.invariant.plain).shorter)
+lines-smaller g c = omega (arith, (halves c.lines.rest.now c.in-Some.front.now c.in-Some.after.now c.in-Some.ensures.parts c.lines.invariant.plain).shorter)

@@ -8,7 +8,7 @@ overflow_add-self g c =
     let k = tag_ended_keeps c.as_bytes.result.now (state_of c.args.self.now) (state_of c.end_tag.new.self) c.in_ok-end_tag.ensures.0 in
     let e : c.end_tag.new.self.lines ≡ c.args.self.now.lines = k.0 in omega (arith, e, c.requires.lines)
 
-pub said-requires : goal.said-requires
-said-requires g c =
+pub said-requires-clause-room : goal.said-requires-clause-room
+said-requires-clause-room g c =
     let k = tag_ended_keeps c.as_bytes.result.now (state_of c.args.self.now) (state_of c.end_tag.new.self) c.in_ok-end_tag.ensures.0 in
     omega (arith, k.1, c.requires.bytes)
