@@ -1,17 +1,5 @@
 // Reading the parts of patterns and components that contain no other pattern.
-ghost use Rattle.std.specs.Prelude.{
-  ◌≡◌,
-  [],
-  ◌∷◌,
-  ◌<◌,
-  ◌≤◌,
-  Ok,
-  map,
-  option_map,
-  length,
-  IfOk,
-  IfSome,
-};
+ghost use Rattle.std.specs.Prelude.{◌≡◌, [], ◌∷◌, Ok, map, option_map};
 ghost use Rattle.rnc_model.specs.tokens.Lexeme.{local_in, prefix_in};
 ghost use Rattle.rnc_syntax.specs.plain.Reading.{lexemes_in};
 ghost use Rattle.rng_model.specs.plain.Answers.{Gives};
@@ -112,8 +100,7 @@ impl Reader {
 
     /// The keyword or the parenthesis of a primary that contains other patterns, and the tokens after it.
     pub fn find_opening<'t, 'a>(self, tokens: &'t [Token<'a>]) -> Option<(Opening, &'t [Token<'a>])>
-        ensures reads { option_map (λ x. (x.0, lexemes_in self.count x.1.now)) result ≡ opening_front (lexemes_in self.count tokens.now) }
-        ensures shorter { IfSome result (λ x. length x.1.now < length tokens.now) }
+        ensures { option_map (λ x. (x.0, lexemes_in self.count x.1.now)) result ≡ opening_front (lexemes_in self.count tokens.now) }
     {
         match tokens {
             [first, rest @ ..] => match first.kind {
@@ -135,8 +122,7 @@ impl Reader {
         self,
         tokens: &'t [Token<'a>],
     ) -> Result<(Option<&'a str>, Method, &'t [Token<'a>]), ReadFault>
-        ensures reads { Gives stop_of (λ x. ((option_map (λ n. n.now) x.0, x.1), lexemes_in self.count x.2.now)) result (assigned_at (lexemes_in self.count tokens.now)) }
-        ensures shorter { IfOk result (λ x. length x.2.now < length tokens.now) }
+        ensures { Gives stop_of (λ x. ((option_map (λ n. n.now) x.0, x.1), lexemes_in self.count x.2.now)) result (assigned_at (lexemes_in self.count tokens.now)) }
     {
         match tokens {
             [first, rest @ ..] => match first.kind {
@@ -160,8 +146,7 @@ impl Reader {
         setting: Setting,
         tokens: &'t [Token<'a>],
     ) -> Option<(usize, &'t [Token<'a>])>
-        ensures reads { option_map (λ x. (x.0, lexemes_in self.count x.1.now)) result ≡ include_front (setting_of setting) (lexemes_in self.count tokens.now) }
-        ensures shorter { IfSome result (λ x. length x.1.now < length tokens.now) }
+        ensures { option_map (λ x. (x.0, lexemes_in self.count x.1.now)) result ≡ include_front (setting_of setting) (lexemes_in self.count tokens.now) }
     {
         match tokens {
             [first, rest @ ..] => match first.kind {
@@ -204,8 +189,7 @@ impl Reader {
         self,
         tokens: &'t [Token<'a>],
     ) -> Option<(DatatypeName<'a>, &'t [Token<'a>])>
-        ensures reads { option_map (λ x. (type_of x.0, lexemes_in self.count x.1.now)) result ≡ type_front (lexemes_in self.count tokens.now) }
-        ensures shorter { IfSome result (λ x. length x.1.now < length tokens.now) }
+        ensures { option_map (λ x. (type_of x.0, lexemes_in self.count x.1.now)) result ≡ type_front (lexemes_in self.count tokens.now) }
     {
         match tokens {
             [first, rest @ ..] => match first.kind {
@@ -223,8 +207,7 @@ impl Reader {
         self,
         tokens: &'t [Token<'a>],
     ) -> Option<(DatatypeName<'a>, &'t [Token<'a>])>
-        ensures reads { option_map (λ x. (type_of x.0, lexemes_in self.count x.1.now)) result ≡ data_front (lexemes_in self.count tokens.now) }
-        ensures shorter { IfSome result (λ x. length x.1.now < length tokens.now) }
+        ensures { option_map (λ x. (type_of x.0, lexemes_in self.count x.1.now)) result ≡ data_front (lexemes_in self.count tokens.now) }
     {
         let (type_name, rest) = self.find_type(tokens)?;
         if self.begins_with_segment(rest) {
@@ -240,8 +223,7 @@ impl Reader {
         type_name: DatatypeName<'a>,
         tokens: &'t [Token<'a>],
     ) -> Result<(Pattern<'a>, &'t [Token<'a>]), ReadFault>
-        ensures reads { Gives stop_of (λ x. (pattern_of x.0, lexemes_in self.count x.1.now)) result (typed_at (type_of type_name.entry) (lexemes_in self.count tokens.now)) }
-        ensures shorter { IfOk result (λ x. length x.1.now ≤ length tokens.now) }
+        ensures { Gives stop_of (λ x. (pattern_of x.0, lexemes_in self.count x.1.now)) result (typed_at (type_of type_name.entry) (lexemes_in self.count tokens.now)) }
     {
         if self.begins_with_segment(tokens) {
             let (text, rest) = self.literal(tokens)?;
@@ -253,8 +235,7 @@ impl Reader {
 
     /// A pattern that is a single token, and the tokens after it.
     fn find_lone<'t, 'a>(self, tokens: &'t [Token<'a>]) -> Option<(Pattern<'a>, &'t [Token<'a>])>
-        ensures reads { option_map (λ x. (pattern_of x.0, lexemes_in self.count x.1.now)) result ≡ lone_front (lexemes_in self.count tokens.now) }
-        ensures shorter { IfSome result (λ x. length x.1.now < length tokens.now) }
+        ensures { option_map (λ x. (pattern_of x.0, lexemes_in self.count x.1.now)) result ≡ lone_front (lexemes_in self.count tokens.now) }
     {
         match tokens {
             [first, rest @ ..] => match first.kind {
@@ -276,8 +257,7 @@ impl Reader {
         self,
         tokens: &'t [Token<'a>],
     ) -> Result<(Pattern<'a>, &'t [Token<'a>]), ReadFault>
-        ensures reads { Gives stop_of (λ x. (pattern_of x.0, lexemes_in self.count x.1.now)) result (other_at (lexemes_in self.count tokens.now)) }
-        ensures shorter { IfOk result (λ x. length x.1.now < length tokens.now) }
+        ensures { Gives stop_of (λ x. (pattern_of x.0, lexemes_in self.count x.1.now)) result (other_at (lexemes_in self.count tokens.now)) }
     {
         match tokens {
             [first, rest @ ..] => match first.kind {
@@ -306,8 +286,7 @@ impl Reader {
         self,
         tokens: &'t [Token<'a>],
     ) -> Result<(Pattern<'a>, &'t [Token<'a>]), ReadFault>
-        ensures reads { Gives stop_of (λ x. (pattern_of x.0, lexemes_in self.count x.1.now)) result (atom_at (lexemes_in self.count tokens.now)) }
-        ensures shorter { IfOk result (λ x. length x.1.now < length tokens.now) }
+        ensures { Gives stop_of (λ x. (pattern_of x.0, lexemes_in self.count x.1.now)) result (atom_at (lexemes_in self.count tokens.now)) }
     {
         match self.find_type(tokens) {
             Some((type_name, rest)) => self.typed(type_name, rest),
@@ -324,8 +303,7 @@ impl Reader {
         self,
         tokens: &'t [Token<'a>],
     ) -> Result<(Method, &'t [Token<'a>]), ReadFault>
-        ensures reads { Gives stop_of (λ x. (x.0, lexemes_in self.count x.1.now)) result (method_at (lexemes_in self.count tokens.now)) }
-        ensures shorter { IfOk result (λ x. length x.1.now < length tokens.now) }
+        ensures { Gives stop_of (λ x. (x.0, lexemes_in self.count x.1.now)) result (method_at (lexemes_in self.count tokens.now)) }
     {
         match tokens {
             [first, rest @ ..] => match first.kind {
@@ -344,8 +322,7 @@ impl Reader {
         pattern: Pattern<'a>,
         tokens: &'t [Token<'a>],
     ) -> Result<(Pattern<'a>, &'t [Token<'a>]), ReadFault>
-        ensures reads { Gives stop_of (λ x. (pattern_of x.0, lexemes_in self.count x.1.now)) result (Ok (repeated_of (pattern_of pattern.entry) (lexemes_in self.count tokens.now))) }
-        ensures shorter { IfOk result (λ x. length x.1.now ≤ length tokens.now) }
+        ensures { Gives stop_of (λ x. (pattern_of x.0, lexemes_in self.count x.1.now)) result (Ok (repeated_of (pattern_of pattern.entry) (lexemes_in self.count tokens.now))) }
     {
         match tokens {
             [first, rest @ ..] => match first.kind {

@@ -1,5 +1,5 @@
 // Reading files: declarations, and the body after them.
-ghost use Rattle.std.specs.Prelude.{◌≡◌, ◌<◌, ◌≤◌, map, length, IfOk};
+ghost use Rattle.std.specs.Prelude.{◌≡◌, map};
 ghost use Rattle.rnc_syntax.specs.plain.Reading.{lexemes_in};
 ghost use Rattle.rng_model.specs.plain.Answers.{Gives};
 ghost use Rattle.rnc_syntax.specs.views.Fault.{stop_of};
@@ -65,8 +65,7 @@ impl Reader {
     /// Reads `literal | "inherit"`.
     #[tactic(auto, unfolding(crate::specs::plain::Productions::uri_at))]
     fn uri<'t, 'a>(self, tokens: &'t [Token<'a>]) -> Result<(Uri<'a>, &'t [Token<'a>]), ReadFault>
-        ensures reads { Gives stop_of (λ x. (uri_of x.0, lexemes_in self.count x.1.now)) result (uri_at (lexemes_in self.count tokens.now)) }
-        ensures shorter { IfOk result (λ x. length x.1.now < length tokens.now) }
+        ensures { Gives stop_of (λ x. (uri_of x.0, lexemes_in self.count x.1.now)) result (uri_at (lexemes_in self.count tokens.now)) }
     {
         match self.find_after_keyword(Keyword::Inherit, tokens) {
             Some(rest) => Ok((Uri::Inherit, rest)),
@@ -83,8 +82,7 @@ impl Reader {
         self,
         tokens: &'t [Token<'a>],
     ) -> Result<(&'a str, Uri<'a>, &'t [Token<'a>]), ReadFault>
-        ensures reads { Gives stop_of (λ x. ((x.0.now, uri_of x.1), lexemes_in self.count x.2.now)) result (prefix_at (lexemes_in self.count tokens.now)) }
-        ensures shorter { IfOk result (λ x. length x.2.now < length tokens.now) }
+        ensures { Gives stop_of (λ x. ((x.0.now, uri_of x.1), lexemes_in self.count x.2.now)) result (prefix_at (lexemes_in self.count tokens.now)) }
     {
         let (prefix, rest) = self.word(tokens)?;
         let rest = self.skip(Sign::Equal, rest)?;
@@ -98,8 +96,7 @@ impl Reader {
         self,
         tokens: &'t [Token<'a>],
     ) -> Result<(Declaration<'a>, &'t [Token<'a>]), ReadFault>
-        ensures reads { Gives stop_of (λ x. (declaration_of x.0, lexemes_in self.count x.1.now)) result (default_at (lexemes_in self.count tokens.now)) }
-        ensures shorter { IfOk result (λ x. length x.1.now < length tokens.now) }
+        ensures { Gives stop_of (λ x. (declaration_of x.0, lexemes_in self.count x.1.now)) result (default_at (lexemes_in self.count tokens.now)) }
     {
         match self.find_after(Sign::Equal, tokens) {
             Some(rest) => {
@@ -125,8 +122,7 @@ impl Reader {
         self,
         tokens: &'t [Token<'a>],
     ) -> Result<(Declaration<'a>, &'t [Token<'a>]), ReadFault>
-        ensures reads { Gives stop_of (λ x. (declaration_of x.0, lexemes_in self.count x.1.now)) result (declaration_at (lexemes_in self.count tokens.now)) }
-        ensures shorter { IfOk result (λ x. length x.1.now < length tokens.now) }
+        ensures { Gives stop_of (λ x. (declaration_of x.0, lexemes_in self.count x.1.now)) result (declaration_at (lexemes_in self.count tokens.now)) }
     {
         match tokens {
             [first, rest @ ..] => match first.kind {
@@ -154,8 +150,7 @@ impl Reader {
         self,
         tokens: &'t [Token<'a>],
     ) -> Result<(Vec<Declaration<'a>>, &'t [Token<'a>]), ReadFault>
-        ensures reads { Gives stop_of (λ x. (map declaration_of x.0.items, lexemes_in self.count x.1.now)) result (declarations_at (lexemes_in self.count tokens.now)) }
-        ensures shorter { IfOk result (λ x. length x.1.now ≤ length tokens.now) }
+        ensures { Gives stop_of (λ x. (map declaration_of x.0.items, lexemes_in self.count x.1.now)) result (declarations_at (lexemes_in self.count tokens.now)) }
     {
         let mut all = Vec::new(self.alloc);
         let mut rest = tokens;
@@ -174,8 +169,7 @@ impl Reader {
         levels: u8,
         tokens: &'t [Token<'a>],
     ) -> Result<(Body<'a>, &'t [Token<'a>]), ReadFault>
-        ensures reads { Gives stop_of (λ x. (body_of x.0, lexemes_in self.count x.1.now)) result (body_with (inside_at levels) (lexemes_in self.count tokens.now)) }
-        ensures shorter { IfOk result (λ x. length x.1.now ≤ length tokens.now) }
+        ensures { Gives stop_of (λ x. (body_of x.0, lexemes_in self.count x.1.now)) result (body_with (inside_at levels) (lexemes_in self.count tokens.now)) }
     {
         if let Some(rest) = self.find_after(Sign::OpenBracket, tokens) {
             let rest = self.annotation_end(rest)?;
@@ -197,8 +191,7 @@ impl Reader {
         levels: u8,
         tokens: &'t [Token<'a>],
     ) -> Result<(Body<'a>, &'t [Token<'a>]), ReadFault>
-        ensures reads { Gives stop_of (λ x. (body_of x.0, lexemes_in self.count x.1.now)) result (annotated_body_with (inside_at levels) (lexemes_in self.count tokens.now)) }
-        ensures shorter { IfOk result (λ x. length x.1.now ≤ length tokens.now) }
+        ensures { Gives stop_of (λ x. (body_of x.0, lexemes_in self.count x.1.now)) result (annotated_body_with (inside_at levels) (lexemes_in self.count tokens.now)) }
     {
         if self.begins_grammar(false, tokens) {
             let (first, rest) = self.bare_component(levels, Setting::Content, tokens)?;

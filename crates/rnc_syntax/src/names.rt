@@ -1,5 +1,5 @@
 // Reading name classes.
-ghost use Rattle.std.specs.Prelude.{◌≡◌, ◌<◌, ◌≤◌, map, option_map, length, IfOk, IfSome};
+ghost use Rattle.std.specs.Prelude.{◌≡◌, map, option_map};
 ghost use Rattle.rnc_model.specs.tokens.Lexeme.{prefix_in, local_in};
 ghost use Rattle.rnc_syntax.specs.plain.Reading.{lexemes_in};
 ghost use Rattle.rnc_syntax.specs.plain.Combinators.{follow, many, with_front};
@@ -52,8 +52,7 @@ impl Reader {
         self,
         tokens: &'t [Token<'a>],
     ) -> Option<(Option<&'a str>, &'t [Token<'a>])>
-        ensures reads { option_map (λ x. (option_map (λ p. p.now) x.0, lexemes_in self.count x.1.now)) result ≡ wide_front (lexemes_in self.count tokens.now) }
-        ensures shorter { IfSome result (λ x. length x.1.now < length tokens.now) }
+        ensures { option_map (λ x. (option_map (λ p. p.now) x.0, lexemes_in self.count x.1.now)) result ≡ wide_front (lexemes_in self.count tokens.now) }
     {
         match tokens {
             [first, rest @ ..] => match first.kind {
@@ -70,8 +69,7 @@ impl Reader {
         self,
         tokens: &'t [Token<'a>],
     ) -> Option<(Option<&'a str>, &'t [Token<'a>])>
-        ensures reads { option_map (λ x. (option_map (λ p. p.now) x.0, lexemes_in self.count x.1.now)) result ≡ except_front (lexemes_in self.count tokens.now) }
-        ensures shorter { IfSome result (λ x. length x.1.now < length tokens.now) }
+        ensures { option_map (λ x. (option_map (λ p. p.now) x.0, lexemes_in self.count x.1.now)) result ≡ except_front (lexemes_in self.count tokens.now) }
     {
         let (prefix, rest) = self.find_wide(tokens)?;
         let rest = self.find_after(Sign::Minus, rest)?;
@@ -87,8 +85,7 @@ impl Reader {
         levels: u8,
         tokens: &'t [Token<'a>],
     ) -> Result<(NameClass<'a>, &'t [Token<'a>]), ReadFault>
-        ensures reads { Gives stop_of (λ x. (class_of x.0, lexemes_in self.count x.1.now)) result (class_with (inside_at levels).class (lexemes_in self.count tokens.now)) }
-        ensures shorter { IfOk result (λ x. length x.1.now < length tokens.now) }
+        ensures { Gives stop_of (λ x. (class_of x.0, lexemes_in self.count x.1.now)) result (class_with (inside_at levels).class (lexemes_in self.count tokens.now)) }
     {
         let rest = self.annotation(tokens)?;
         self.bare_class(levels, rest)
@@ -102,8 +99,7 @@ impl Reader {
         levels: u8,
         tokens: &'t [Token<'a>],
     ) -> Result<(NameClass<'a>, &'t [Token<'a>]), ReadFault>
-        ensures reads { Gives stop_of (λ x. (class_of x.0, lexemes_in self.count x.1.now)) result (bare_class_with (inside_at levels).class (lexemes_in self.count tokens.now)) }
-        ensures shorter { IfOk result (λ x. length x.1.now < length tokens.now) }
+        ensures { Gives stop_of (λ x. (class_of x.0, lexemes_in self.count x.1.now)) result (bare_class_with (inside_at levels).class (lexemes_in self.count tokens.now)) }
     {
         match self.find_except(tokens) {
             Some((prefix, rest)) => {
@@ -127,8 +123,7 @@ impl Reader {
         first: NameClass<'a>,
         tokens: &'t [Token<'a>],
     ) -> Result<(NameClass<'a>, &'t [Token<'a>]), ReadFault>
-        ensures reads { Gives stop_of (λ x. (class_of x.0, lexemes_in self.count x.1.now)) result (choice_with (basic_with (inside_at levels).class) (class_of first.entry) (lexemes_in self.count tokens.now)) }
-        ensures shorter { IfOk result (λ x. length x.1.now ≤ length tokens.now) }
+        ensures { Gives stop_of (λ x. (class_of x.0, lexemes_in self.count x.1.now)) result (choice_with (basic_with (inside_at levels).class) (class_of first.entry) (lexemes_in self.count tokens.now)) }
     {
         match self.find_after(Sign::Bar, tokens) {
             None => Ok((first, tokens)),
@@ -149,8 +144,7 @@ impl Reader {
         mut all: Vec<NameClass<'a>>,
         tokens: &'t [Token<'a>],
     ) -> Result<(Vec<NameClass<'a>>, &'t [Token<'a>]), ReadFault>
-        ensures reads { Gives stop_of (λ x. (map class_of x.0.items, lexemes_in self.count x.1.now)) result (with_front (map class_of all.entry.items) (many (follow Bar) (basic_with (inside_at levels).class) (lexemes_in self.count tokens.now))) }
-        ensures shorter { IfOk result (λ x. length x.1.now ≤ length tokens.now) }
+        ensures { Gives stop_of (λ x. (map class_of x.0.items, lexemes_in self.count x.1.now)) result (with_front (map class_of all.entry.items) (many (follow Bar) (basic_with (inside_at levels).class) (lexemes_in self.count tokens.now))) }
     {
         let mut rest = tokens;
         while let Some(after) = self.find_after(Sign::Bar, rest) {
@@ -169,8 +163,7 @@ impl Reader {
         levels: u8,
         tokens: &'t [Token<'a>],
     ) -> Result<(NameClass<'a>, &'t [Token<'a>]), ReadFault>
-        ensures reads { Gives stop_of (λ x. (class_of x.0, lexemes_in self.count x.1.now)) result (basic_with (inside_at levels).class (lexemes_in self.count tokens.now)) }
-        ensures shorter { IfOk result (λ x. length x.1.now < length tokens.now) }
+        ensures { Gives stop_of (λ x. (class_of x.0, lexemes_in self.count x.1.now)) result (basic_with (inside_at levels).class (lexemes_in self.count tokens.now)) }
     {
         let rest = self.annotation(tokens)?;
         self.bare_basic(levels, rest)
@@ -184,8 +177,7 @@ impl Reader {
         levels: u8,
         tokens: &'t [Token<'a>],
     ) -> Result<(NameClass<'a>, &'t [Token<'a>]), ReadFault>
-        ensures reads { Gives stop_of (λ x. (class_of x.0, lexemes_in self.count x.1.now)) result (bare_basic_with (inside_at levels).class (lexemes_in self.count tokens.now)) }
-        ensures shorter { IfOk result (λ x. length x.1.now < length tokens.now) }
+        ensures { Gives stop_of (λ x. (class_of x.0, lexemes_in self.count x.1.now)) result (bare_basic_with (inside_at levels).class (lexemes_in self.count tokens.now)) }
     {
         match tokens {
             [first, rest @ ..] => match first.kind {
@@ -214,8 +206,7 @@ impl Reader {
         levels: u8,
         tokens: &'t [Token<'a>],
     ) -> Result<(NameClass<'a>, &'t [Token<'a>]), ReadFault>
-        ensures reads { Gives stop_of (λ x. (class_of x.0, lexemes_in self.count x.1.now)) result ((inside_at levels).class (lexemes_in self.count tokens.now)) }
-        ensures shorter { IfOk result (λ x. length x.1.now < length tokens.now) }
+        ensures { Gives stop_of (λ x. (class_of x.0, lexemes_in self.count x.1.now)) result ((inside_at levels).class (lexemes_in self.count tokens.now)) }
     {
         if levels == 0 {
             return Err(ReadFault::Stop(Stop::TooDeep));

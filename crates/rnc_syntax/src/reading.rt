@@ -1,5 +1,5 @@
 // Reading tokens from left to right.
-ghost use Rattle.std.specs.Prelude.{◌≡◌, ◌<◌, option_map, length, IfOk, IfSome};
+ghost use Rattle.std.specs.Prelude.{◌≡◌, option_map, length};
 ghost use Rattle.rnc_model.specs.tokens.Lexeme.{local_in, prefix_in};
 ghost use Rattle.rnc_syntax.specs.plain.Reading.{lexemes_in};
 ghost use Rattle.rnc_syntax.specs.plain.Combinators.{after, after_keyword, follow, follow_keyword, word_at, identifier_at, segment_at};
@@ -49,8 +49,7 @@ impl Reader {
 
     /// The tokens after this sign, if it is first.
     pub fn find_after<'t, 'a>(self, sign: Sign, tokens: &'t [Token<'a>]) -> Option<&'t [Token<'a>]>
-        ensures reads { option_map (λ x. lexemes_in self.count x.now) result ≡ follow sign (lexemes_in self.count tokens.now) }
-        ensures shorter { IfSome result (λ x. length x.now < length tokens.now) }
+        ensures { option_map (λ x. lexemes_in self.count x.now) result ≡ follow sign (lexemes_in self.count tokens.now) }
     {
         match tokens {
             [first, rest @ ..] if first.kind == TokenKind::Sign(sign) => Some(rest),
@@ -65,8 +64,7 @@ impl Reader {
         sign: Sign,
         tokens: &'t [Token<'a>],
     ) -> Result<&'t [Token<'a>], ReadFault>
-        ensures reads { Gives stop_of (λ x. (tt, lexemes_in self.count x.now)) result (after sign (lexemes_in self.count tokens.now)) }
-        ensures shorter { IfOk result (λ x. length x.now < length tokens.now) }
+        ensures { Gives stop_of (λ x. (tt, lexemes_in self.count x.now)) result (after sign (lexemes_in self.count tokens.now)) }
     {
         match self.find_after(sign, tokens) {
             Some(rest) => Ok(rest),
@@ -80,8 +78,7 @@ impl Reader {
         keyword: Keyword,
         tokens: &'t [Token<'a>],
     ) -> Option<&'t [Token<'a>]>
-        ensures reads { option_map (λ x. lexemes_in self.count x.now) result ≡ follow_keyword keyword (lexemes_in self.count tokens.now) }
-        ensures shorter { IfSome result (λ x. length x.now < length tokens.now) }
+        ensures { option_map (λ x. lexemes_in self.count x.now) result ≡ follow_keyword keyword (lexemes_in self.count tokens.now) }
     {
         match tokens {
             [first, rest @ ..] if first.kind == TokenKind::Keyword(keyword) => Some(rest),
@@ -96,8 +93,7 @@ impl Reader {
         keyword: Keyword,
         tokens: &'t [Token<'a>],
     ) -> Result<&'t [Token<'a>], ReadFault>
-        ensures reads { Gives stop_of (λ x. (tt, lexemes_in self.count x.now)) result (after_keyword keyword (lexemes_in self.count tokens.now)) }
-        ensures shorter { IfOk result (λ x. length x.now < length tokens.now) }
+        ensures { Gives stop_of (λ x. (tt, lexemes_in self.count x.now)) result (after_keyword keyword (lexemes_in self.count tokens.now)) }
     {
         match self.find_after_keyword(keyword, tokens) {
             Some(rest) => Ok(rest),
@@ -111,8 +107,7 @@ impl Reader {
         self,
         tokens: &'t [Token<'a>],
     ) -> Result<(&'a str, &'t [Token<'a>]), ReadFault>
-        ensures reads { Gives stop_of (λ x. (x.0.now, lexemes_in self.count x.1.now)) result (word_at (lexemes_in self.count tokens.now)) }
-        ensures shorter { IfOk result (λ x. length x.1.now < length tokens.now) }
+        ensures { Gives stop_of (λ x. (x.0.now, lexemes_in self.count x.1.now)) result (word_at (lexemes_in self.count tokens.now)) }
     {
         match tokens {
             [first, rest @ ..] => match first.kind {
@@ -131,8 +126,7 @@ impl Reader {
         self,
         tokens: &'t [Token<'a>],
     ) -> Result<(&'a str, &'t [Token<'a>]), ReadFault>
-        ensures reads { Gives stop_of (λ x. (x.0.now, lexemes_in self.count x.1.now)) result (identifier_at (lexemes_in self.count tokens.now)) }
-        ensures shorter { IfOk result (λ x. length x.1.now < length tokens.now) }
+        ensures { Gives stop_of (λ x. (x.0.now, lexemes_in self.count x.1.now)) result (identifier_at (lexemes_in self.count tokens.now)) }
     {
         match tokens {
             [first, rest @ ..] => match first.kind {
@@ -149,8 +143,7 @@ impl Reader {
         self,
         tokens: &'t [Token<'a>],
     ) -> Result<(&'a str, &'t [Token<'a>]), ReadFault>
-        ensures reads { Gives stop_of (λ x. (x.0.now, lexemes_in self.count x.1.now)) result (segment_at (lexemes_in self.count tokens.now)) }
-        ensures shorter { IfOk result (λ x. length x.1.now < length tokens.now) }
+        ensures { Gives stop_of (λ x. (x.0.now, lexemes_in self.count x.1.now)) result (segment_at (lexemes_in self.count tokens.now)) }
     {
         match tokens {
             [first, rest @ ..] => match first.kind {
