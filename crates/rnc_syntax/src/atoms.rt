@@ -1,5 +1,5 @@
 // Reading the parts of patterns and components that contain no other pattern.
-ghost use Rattle.std.specs.Prelude.{◌≡◌, [], ◌∷◌, Ok, map, option_map};
+ghost use Rattle.std.specs.Prelude.{◌≡◌, Ok, map, option_map};
 ghost use Rattle.rnc_model.specs.tokens.Lexeme.{local_in, prefix_in};
 ghost use Rattle.rnc_syntax.specs.plain.Reading.{lexemes_in};
 ghost use Rattle.rng_model.specs.plain.Answers.{Gives};
@@ -158,15 +158,6 @@ impl Reader {
             },
             [] => None,
         }
-    }
-
-    /// A list of one pattern.
-    pub fn alone<'a>(self, pattern: Pattern<'a>) -> Result<Vec<Pattern<'a>>, ReadFault>
-        ensures { Gives stop_of (λ all. map pattern_of all.items) result (Ok (pattern_of pattern.entry ∷ [])) }
-    {
-        let mut all = Vec::new(self.alloc);
-        all.push(pattern)?;
-        Ok(all)
     }
 
     /// The connector that is first, if there is one.

@@ -195,8 +195,8 @@ impl Reader {
     {
         if self.begins_grammar(false, tokens) {
             let (first, rest) = self.bare_component(levels, Setting::Content, tokens)?;
-            let (mut components, rest) = self.components(levels, Setting::Content, rest)?;
-            components.insert(0, first)?;
+            let first = self.alone(first)?;
+            let (components, rest) = self.more_components(levels, Setting::Content, first, rest)?;
             Ok((Body::Grammar(components), rest))
         } else {
             let (pattern, rest) = self.bare_pattern(levels, tokens)?;

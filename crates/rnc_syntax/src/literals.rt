@@ -84,8 +84,7 @@ impl Reader {
             None => Ok((Vec::new(self.alloc), tokens)),
             Some(rest) => {
                 let (parameters, rest) = self.parameter_list(rest)?;
-                let rest = self.skip(Sign::CloseBrace, rest)?;
-                Ok((parameters, rest))
+                self.closed(Sign::CloseBrace, parameters, rest)
             }
         }
     }

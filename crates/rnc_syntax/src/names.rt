@@ -128,8 +128,7 @@ impl Reader {
         match self.find_after(Sign::Bar, tokens) {
             None => Ok((first, tokens)),
             Some(_) => {
-                let mut all = Vec::new(self.alloc);
-                all.push(first)?;
+                let all = self.alone(first)?;
                 let (all, rest) = self.more_classes(levels, all, tokens)?;
                 Ok((NameClass::Choice(all), rest))
             }
@@ -189,8 +188,7 @@ impl Reader {
                 TokenKind::Sign(Sign::Star) => Ok((NameClass::Any, rest)),
                 TokenKind::Sign(Sign::OpenParenthesis) => {
                     let (class, rest) = self.inner_class(levels, rest)?;
-                    let rest = self.skip(Sign::CloseParenthesis, rest)?;
-                    Ok((class, rest))
+                    self.closed(Sign::CloseParenthesis, class, rest)
                 }
                 _ => Err(self.unexpected(tokens)),
             },

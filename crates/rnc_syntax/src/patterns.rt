@@ -59,7 +59,7 @@ impl Reader {
     {
         let rest = self.skip(Sign::OpenBrace, tokens)?;
         let (body, rest) = self.inner_pattern(levels, rest)?;
-        let rest = self.skip(Sign::CloseBrace, rest)?;
+        let (body, rest) = self.closed(Sign::CloseBrace, body, rest)?;
         Ok((Box::new(self.alloc, body)?, rest))
     }
 
@@ -76,8 +76,7 @@ impl Reader {
     {
         let rest = self.skip(Sign::OpenBrace, tokens)?;
         let (components, rest) = self.inner_components(levels, setting, rest)?;
-        let rest = self.skip(Sign::CloseBrace, rest)?;
-        Ok((components, rest))
+        self.closed(Sign::CloseBrace, components, rest)
     }
 
     /// Reads a primary that contains other patterns, after its keyword or its parenthesis.
@@ -116,8 +115,7 @@ impl Reader {
             }
             Opening::Parenthesis => {
                 let (body, rest) = self.inner_pattern(levels, tokens)?;
-                let rest = self.skip(Sign::CloseParenthesis, rest)?;
-                Ok((body, rest))
+                self.closed(Sign::CloseParenthesis, body, rest)
             }
         }
     }
@@ -337,7 +335,6 @@ impl Reader {
 
     /// Reads a list of components inside which at most `levels` brackets may be open.
     #[cycle(patterns)]
-    #[tactic(auto, unfolding(crate::specs::plain::Productions::components_with))]
     pub fn components<'t, 'a>(
         self,
         levels: u8,
@@ -346,7 +343,21 @@ impl Reader {
     ) -> Result<(Vec<Component<'a>>, &'t [Token<'a>]), ReadFault>
         ensures { Gives stop_of (λ x. (map component_of x.0.items, lexemes_in self.count x.1.now)) result (components_with (inside_at levels) (setting_of setting) (lexemes_in self.count tokens.now)) }
     {
-        let mut all = Vec::new(self.alloc);
+        self.more_components(levels, setting, Vec::new(self.alloc), tokens)
+    }
+
+    /// Reads the components that follow, and appends them.
+    #[cycle(patterns)]
+    #[tactic(auto, unfolding(crate::specs::plain::Productions::components_with))]
+    pub fn more_components<'t, 'a>(
+        self,
+        levels: u8,
+        setting: Setting,
+        mut all: Vec<Component<'a>>,
+        tokens: &'t [Token<'a>],
+    ) -> Result<(Vec<Component<'a>>, &'t [Token<'a>]), ReadFault>
+        ensures { Gives stop_of (λ x. (map component_of x.0.items, lexemes_in self.count x.1.now)) result (with_front (map component_of all.entry.items) (components_with (inside_at levels) (setting_of setting) (lexemes_in self.count tokens.now))) }
+    {
         let mut rest = tokens;
         while self.begins_component(setting, rest) {
             let (next, after) = self.component(levels, setting, rest)?;

@@ -1,5 +1,5 @@
 // Reading tokens from left to right.
-ghost use Rattle.std.specs.Prelude.{◌≡◌, option_map, length};
+ghost use Rattle.std.specs.Prelude.{◌≡◌, [], ◌∷◌, IfOk, Ok, option_map, length};
 ghost use Rattle.rnc_model.specs.tokens.Lexeme.{local_in, prefix_in};
 ghost use Rattle.rnc_syntax.specs.plain.Reading.{lexemes_in};
 ghost use Rattle.rnc_syntax.specs.plain.Combinators.{after, after_keyword, follow, follow_keyword, word_at, identifier_at, segment_at};
@@ -39,6 +39,15 @@ pub struct Reader {
 }
 
 impl Reader {
+    /// A list of one item.
+    pub fn alone<T: Drop>(self, item: T) -> Result<Vec<T>, ReadFault>
+        ensures { Gives stop_of (λ all. all.items) result (Ok (item ∷ [])) }
+    {
+        let mut all = Vec::new(self.alloc);
+        all.push(item)?;
+        Ok(all)
+    }
+
     /// The fault if no production allows the first of these tokens, or their end.
     #[tactic(auto, using(crate::proofs::Lexemes::length_of_lexemes))]
     pub fn unexpected(self, tokens: &[Token<'_>]) -> ReadFault
@@ -70,6 +79,20 @@ impl Reader {
             Some(rest) => Ok(rest),
             None => Err(self.unexpected(tokens)),
         }
+    }
+
+    /// Skips this sign after a value. Returns the value and the tokens after the sign, or fails if the sign is not first.
+    pub fn closed<'t, 'a, T: Drop>(
+        self,
+        sign: Sign,
+        value: T,
+        tokens: &'t [Token<'a>],
+    ) -> Result<(T, &'t [Token<'a>]), ReadFault>
+        ensures value { IfOk result (λ x. x.0 ≡ value) }
+        ensures reads { Gives stop_of (λ x. (tt, lexemes_in self.count x.1.now)) result (after sign (lexemes_in self.count tokens.now)) }
+    {
+        let rest = self.skip(sign, tokens)?;
+        Ok((value, rest))
     }
 
     /// The tokens after this keyword, if it is first.
