@@ -5,7 +5,7 @@ ghost use Rattle.rnc_syntax.specs.plain.Reading.{lexemes_in};
 ghost use Rattle.rng_model.specs.plain.Answers.{Gives};
 ghost use Rattle.rnc_syntax.specs.views.Fault.{stop_of};
 ghost use Rattle.rnc_syntax.specs.plain.Productions.{atom_at, begins_component as is_component_front, begins_segment, data_front, joined, lone_front, method_at, other_at, repeated as repeated_of, separator_of, type_front, typed_at};
-ghost use Rattle.rnc_syntax.specs.plain.Productions.{include_front, opening_front};
+ghost use Rattle.rnc_syntax.specs.plain.Productions.{include_front, opening_front, repetition_front};
 ghost use Rattle.rnc_syntax.specs.plain.Productions.{assigned_at};
 ghost use Rattle.rnc_syntax.specs.plain.Productions.{assigned as assigned_of};
 ghost use Rattle.rnc_model.specs.grammar.Syntax as syntax;
@@ -33,6 +33,17 @@ pub enum Opening {
     Mixed,
     Grammar,
     Parenthesis,
+}
+
+/// How often a pattern may occur, if a sign says so.
+#[derive(Clone, Copy)]
+pub enum Repetition {
+    /// `?`
+    Optional,
+    /// `*`
+    ZeroOrMore,
+    /// `+`
+    OneOrMore,
 }
 
 /// The name of a datatype that is written with a prefix.
@@ -307,7 +318,26 @@ impl Reader {
         }
     }
 
+    /// The sign of repetition at the front, and the tokens after it.
+    fn find_repetition<'t, 'a>(
+        self,
+        tokens: &'t [Token<'a>],
+    ) -> Option<(Repetition, &'t [Token<'a>])>
+        ensures { option_map (λ x. (x.0, lexemes_in self.count x.1.now)) result ≡ repetition_front (lexemes_in self.count tokens.now) }
+    {
+        match tokens {
+            [first, rest @ ..] => match first.kind {
+                TokenKind::Sign(Sign::Question) => Some((Repetition::Optional, rest)),
+                TokenKind::Sign(Sign::Star) => Some((Repetition::ZeroOrMore, rest)),
+                TokenKind::Sign(Sign::Plus) => Some((Repetition::OneOrMore, rest)),
+                _ => None,
+            },
+            [] => None,
+        }
+    }
+
     /// Reads `?`, `*` or `+` after a pattern, if there is one, and returns the repeated pattern.
+    #[tactic(auto, using(crate::proofs::FirstTokens::repeated_is))]
     pub fn repeated<'t, 'a>(
         self,
         pattern: Pattern<'a>,
@@ -315,20 +345,14 @@ impl Reader {
     ) -> Result<(Pattern<'a>, &'t [Token<'a>]), ReadFault>
         ensures { Gives stop_of (λ x. (pattern_of x.0, lexemes_in self.count x.1.now)) result (Ok (repeated_of (pattern_of pattern.entry) (lexemes_in self.count tokens.now))) }
     {
-        match tokens {
-            [first, rest @ ..] => match first.kind {
-                TokenKind::Sign(Sign::Question) => {
-                    Ok((Pattern::Optional(Box::new(self.alloc, pattern)?), rest))
-                }
-                TokenKind::Sign(Sign::Star) => {
-                    Ok((Pattern::ZeroOrMore(Box::new(self.alloc, pattern)?), rest))
-                }
-                TokenKind::Sign(Sign::Plus) => {
-                    Ok((Pattern::OneOrMore(Box::new(self.alloc, pattern)?), rest))
-                }
-                _ => Ok((pattern, tokens)),
-            },
-            [] => Ok((pattern, tokens)),
+        let Some((repetition, rest)) = self.find_repetition(tokens) else {
+            return Ok((pattern, tokens));
+        };
+        let body = Box::new(self.alloc, pattern)?;
+        match repetition {
+            Repetition::Optional => Ok((Pattern::Optional(body), rest)),
+            Repetition::ZeroOrMore => Ok((Pattern::ZeroOrMore(body), rest)),
+            Repetition::OneOrMore => Ok((Pattern::OneOrMore(body), rest)),
         }
     }
 }

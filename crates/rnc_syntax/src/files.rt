@@ -3,7 +3,7 @@ ghost use Rattle.std.specs.Prelude.{◌≡◌, map};
 ghost use Rattle.rnc_syntax.specs.plain.Reading.{lexemes_in};
 ghost use Rattle.rng_model.specs.plain.Answers.{Gives};
 ghost use Rattle.rnc_syntax.specs.views.Fault.{stop_of};
-ghost use Rattle.rnc_syntax.specs.plain.Productions.{annotated_body_with, begins_declaration as is_declaration_front, begins_method as is_method_front, body_with, declaration_at, declarations_at, default_at, file_with, inside_at, is_grammar_body, prefix_at, uri_at};
+ghost use Rattle.rnc_syntax.specs.plain.Productions.{annotated_body_with, begins_declaration as is_declaration_front, begins_method as is_method_front, body_with, declaration_at, declarations_at, default_at, file_with, if_ended, inside_at, is_grammar_body, prefix_at, uri_at};
 ghost use Rattle.rnc_syntax.specs.views.SyntaxView.{body_of, declaration_of, file_of, uri_of};
 
 use crate::atoms::Setting;
@@ -117,31 +117,24 @@ impl Reader {
     }
 
     /// Reads one declaration.
-    #[tactic(auto, unfolding(crate::specs::plain::Productions::declaration_at))]
+    #[tactic(auto, using(crate::proofs::FirstTokens::declaration_is))]
     fn declaration<'t, 'a>(
         self,
         tokens: &'t [Token<'a>],
     ) -> Result<(Declaration<'a>, &'t [Token<'a>]), ReadFault>
         ensures { Gives stop_of (λ x. (declaration_of x.0, lexemes_in self.count x.1.now)) result (declaration_at (lexemes_in self.count tokens.now)) }
     {
-        match tokens {
-            [first, rest @ ..] => match first.kind {
-                TokenKind::Keyword(Keyword::Namespace) => {
-                    let (prefix, uri, rest) = self.prefix(rest)?;
-                    Ok((Declaration::Namespace { prefix, uri }, rest))
-                }
-                TokenKind::Keyword(Keyword::Default) => {
-                    let rest = self.skip_keyword(Keyword::Namespace, rest)?;
-                    self.default_namespace(rest)
-                }
-                TokenKind::Keyword(Keyword::Datatypes) => {
-                    let (declared, rest) = self.parameter(rest)?;
-                    Ok((Declaration::Datatypes(declared), rest))
-                }
-                _ => Err(self.unexpected(tokens)),
-            },
-            [] => Err(self.unexpected(tokens)),
+        if let Some(rest) = self.find_after_keyword(Keyword::Namespace, tokens) {
+            let (prefix, uri, rest) = self.prefix(rest)?;
+            return Ok((Declaration::Namespace { prefix, uri }, rest));
         }
+        if let Some(rest) = self.find_after_keyword(Keyword::Default, tokens) {
+            let rest = self.skip_keyword(Keyword::Namespace, rest)?;
+            return self.default_namespace(rest);
+        }
+        let rest = self.skip_keyword(Keyword::Datatypes, tokens)?;
+        let (declared, rest) = self.parameter(rest)?;
+        Ok((Declaration::Datatypes(declared), rest))
     }
 
     /// Reads the declarations at the start of a file.
@@ -204,6 +197,16 @@ impl Reader {
         }
     }
 
+    /// Returns the value if no token is left, and fails otherwise.
+    fn ended<T: Drop>(self, value: T, tokens: &[Token<'_>]) -> Result<T, ReadFault>
+        ensures { Gives stop_of (λ v. v) result (if_ended value (lexemes_in self.count tokens.now)) }
+    {
+        match tokens {
+            [] => Ok(value),
+            _ => Err(self.unexpected(tokens)),
+        }
+    }
+
     /// Reads a whole file in which at most `levels` brackets may be open.
     #[tactic(auto, unfolding(crate::specs::plain::Productions::file_with))]
     pub fn file<'a>(self, levels: u8, tokens: &[Token<'a>]) -> Result<File<'a>, ReadFault>
@@ -211,9 +214,6 @@ impl Reader {
     {
         let (declarations, rest) = self.declarations(tokens)?;
         let (body, rest) = self.body(levels, rest)?;
-        if !rest.is_empty() {
-            return Err(self.unexpected(rest));
-        }
-        Ok(File { declarations, body })
+        self.ended(File { declarations, body }, rest)
     }
 }

@@ -15,16 +15,6 @@ use crate::reading::{Reader, onward, split_name};
 use crate::syntax_tree::{NameClass, QualifiedName};
 use rnc_text::{Sign, Token, TokenKind};
 
-/// A name without a prefix, as a class.
-fn unprefixed(local: &str) -> NameClass<'_>
-    ensures { class_of result ≡ syntax.name_is (syntax.unprefixed local.now) }
-{
-    NameClass::Name(QualifiedName {
-        prefix: None,
-        local,
-    })
-}
-
 /// A name with a prefix, as a class.
 fn prefixed(text: &str) -> NameClass<'_>
     ensures { class_of result ≡ syntax.name_is (syntax.prefixed (prefix_in text.now) (local_in text.now)) }
@@ -181,7 +171,11 @@ impl Reader {
         match tokens {
             [first, rest @ ..] => match first.kind {
                 TokenKind::Identifier | TokenKind::QuotedIdentifier | TokenKind::Keyword(_) => {
-                    Ok((unprefixed(first.text), rest))
+                    let name = QualifiedName {
+                        prefix: None,
+                        local: first.text,
+                    };
+                    Ok((NameClass::Name(name), rest))
                 }
                 TokenKind::CName => Ok((prefixed(first.text), rest)),
                 TokenKind::NsName => Ok((NameClass::Ns(split_name(first.text).0), rest)),
