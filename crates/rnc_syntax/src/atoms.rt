@@ -1,6 +1,5 @@
 // Reading the parts of patterns and components that contain no other pattern.
 ghost use Rattle.std.specs.Prelude.{◌≡◌, Ok, map, option_map};
-ghost use Rattle.rnc_model.specs.tokens.Lexeme.{local_in, prefix_in};
 ghost use Rattle.rnc_syntax.specs.plain.Reading.{lexemes_in};
 ghost use Rattle.rng_model.specs.plain.Answers.{Gives};
 ghost use Rattle.rnc_syntax.specs.views.Fault.{stop_of};
@@ -8,7 +7,6 @@ ghost use Rattle.rnc_syntax.specs.plain.Productions.{atom_at, begins_component a
 ghost use Rattle.rnc_syntax.specs.plain.Productions.{include_front, opening_front, repetition_front};
 ghost use Rattle.rnc_syntax.specs.plain.Productions.{assigned_at};
 ghost use Rattle.rnc_syntax.specs.plain.Productions.{assigned as assigned_of};
-ghost use Rattle.rnc_model.specs.grammar.Syntax as syntax;
 ghost use Rattle.rnc_syntax.specs.views.SyntaxView.{component_of, pattern_of, setting_of, type_of};
 
 use crate::fault::ReadFault;
@@ -44,14 +42,6 @@ pub enum Repetition {
     ZeroOrMore,
     /// `+`
     OneOrMore,
-}
-
-/// The name of a datatype that is written with a prefix.
-fn prefixed_type(text: &str) -> DatatypeName<'_>
-    ensures { type_of result ≡ syntax.prefixed_type (prefix_in text.now) (local_in text.now) }
-{
-    let (prefix, local) = split_name(text);
-    DatatypeName::Prefixed { prefix, local }
 }
 
 /// Two patterns or more with this connector between them.
@@ -195,7 +185,10 @@ impl Reader {
     {
         match tokens {
             [first, rest @ ..] => match first.kind {
-                TokenKind::CName => Some((prefixed_type(first.text), rest)),
+                TokenKind::CName => {
+                    let (prefix, local) = split_name(first.text);
+                    Some((DatatypeName::Prefixed { prefix, local }, rest))
+                }
                 TokenKind::Keyword(Keyword::String) => Some((DatatypeName::String, rest)),
                 TokenKind::Keyword(Keyword::Token) => Some((DatatypeName::Token, rest)),
                 _ => None,

@@ -117,7 +117,7 @@ impl Reader {
     }
 
     /// Reads one declaration.
-    #[tactic(auto, using(crate::proofs::FirstTokens::declaration_is))]
+    #[tactic(auto, using(crate::proofs::FirstTokens::declaration_is), unfolding(crate::specs::plain::Combinators::after_keyword))]
     fn declaration<'t, 'a>(
         self,
         tokens: &'t [Token<'a>],
@@ -129,12 +129,16 @@ impl Reader {
             return Ok((Declaration::Namespace { prefix, uri }, rest));
         }
         if let Some(rest) = self.find_after_keyword(Keyword::Default, tokens) {
-            let rest = self.skip_keyword(Keyword::Namespace, rest)?;
+            let Some(rest) = self.find_after_keyword(Keyword::Namespace, rest) else {
+                return Err(self.unexpected(rest));
+            };
             return self.default_namespace(rest);
         }
-        let rest = self.skip_keyword(Keyword::Datatypes, tokens)?;
-        let (declared, rest) = self.parameter(rest)?;
-        Ok((Declaration::Datatypes(declared), rest))
+        if let Some(rest) = self.find_after_keyword(Keyword::Datatypes, tokens) {
+            let (declared, rest) = self.parameter(rest)?;
+            return Ok((Declaration::Datatypes(declared), rest));
+        }
+        Err(self.unexpected(tokens))
     }
 
     /// Reads the declarations at the start of a file.

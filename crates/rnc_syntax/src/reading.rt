@@ -2,7 +2,7 @@
 ghost use Rattle.std.specs.Prelude.{◌≡◌, [], ◌∷◌, IfOk, Ok, option_map, length};
 ghost use Rattle.rnc_model.specs.tokens.Lexeme.{local_in, prefix_in};
 ghost use Rattle.rnc_syntax.specs.plain.Reading.{lexemes_in};
-ghost use Rattle.rnc_syntax.specs.plain.Combinators.{after, after_keyword, follow, follow_keyword, word_at, identifier_at, segment_at};
+ghost use Rattle.rnc_syntax.specs.plain.Combinators.{after, follow, follow_keyword, word_at, identifier_at, segment_at};
 ghost use Rattle.rng_model.specs.plain.Answers.{Gives};
 ghost use Rattle.rnc_syntax.specs.views.Fault.{stop_of};
 ghost use Rattle.rnc_syntax.specs.declared.fault.Stop.TheVariants.{Unexpected};
@@ -106,21 +106,6 @@ impl Reader {
         match tokens {
             [first, rest @ ..] if first.kind == TokenKind::Keyword(keyword) => Some(rest),
             _ => None,
-        }
-    }
-
-    /// Skips this keyword. Fails if it is not first.
-    #[tactic(auto, unfolding(crate::specs::plain::Combinators::after_keyword))]
-    pub fn skip_keyword<'t, 'a>(
-        self,
-        keyword: Keyword,
-        tokens: &'t [Token<'a>],
-    ) -> Result<&'t [Token<'a>], ReadFault>
-        ensures { Gives stop_of (λ x. (tt, lexemes_in self.count x.now)) result (after_keyword keyword (lexemes_in self.count tokens.now)) }
-    {
-        match self.find_after_keyword(keyword, tokens) {
-            Some(rest) => Ok(rest),
-            None => Err(self.unexpected(tokens)),
         }
     }
 
