@@ -1,12 +1,10 @@
 // Reading name classes.
 ghost use Rattle.std.specs.Prelude.{◌≡◌, map, option_map};
-ghost use Rattle.rnc_model.specs.tokens.Lexeme.{prefix_in, local_in};
 ghost use Rattle.rnc_syntax.specs.plain.Reading.{lexemes_in};
 ghost use Rattle.rnc_syntax.specs.plain.Combinators.{follow, many, with_front};
 ghost use Rattle.rng_model.specs.plain.Answers.{Gives};
 ghost use Rattle.rnc_syntax.specs.views.Fault.{stop_of};
 ghost use Rattle.rnc_syntax.specs.plain.Productions.{bare_basic_with, bare_class_with, basic_with, choice_with, class_with, except_front, excepted, inside_at, wide_front};
-ghost use Rattle.rnc_model.specs.grammar.Syntax as syntax;
 ghost use Rattle.rnc_syntax.specs.views.SyntaxView.{class_of};
 ghost use Rattle.rnc_model.specs.declared.token.Sign.TheVariants.{Bar};
 
@@ -14,17 +12,6 @@ use crate::fault::{ReadFault, Stop};
 use crate::reading::{Reader, onward, split_name};
 use crate::syntax_tree::{NameClass, QualifiedName};
 use rnc_text::{Sign, Token, TokenKind};
-
-/// A name with a prefix, as a class.
-fn prefixed(text: &str) -> NameClass<'_>
-    ensures { class_of result ≡ syntax.name_is (syntax.prefixed (prefix_in text.now) (local_in text.now)) }
-{
-    let (prefix, local) = split_name(text);
-    NameClass::Name(QualifiedName {
-        prefix: Some(prefix),
-        local,
-    })
-}
 
 /// All names, or those of a prefix, except those of a class.
 fn except<'a>(prefix: Option<&'a str>, class: Box<NameClass<'a>>) -> NameClass<'a>
@@ -177,7 +164,14 @@ impl Reader {
                     };
                     Ok((NameClass::Name(name), rest))
                 }
-                TokenKind::CName => Ok((prefixed(first.text), rest)),
+                TokenKind::CName => {
+                    let (prefix, local) = split_name(first.text);
+                    let name = QualifiedName {
+                        prefix: Some(prefix),
+                        local,
+                    };
+                    Ok((NameClass::Name(name), rest))
+                }
                 TokenKind::NsName => Ok((NameClass::Ns(split_name(first.text).0), rest)),
                 TokenKind::Sign(Sign::Star) => Ok((NameClass::Any, rest)),
                 TokenKind::Sign(Sign::OpenParenthesis) => {
