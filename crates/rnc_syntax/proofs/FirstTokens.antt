@@ -4,9 +4,9 @@ use Rattle.rnc_model.specs.declared.token.Keyword.TheVariants as keywords
 use Rattle.rnc_model.specs.declared.token.Sign.TheVariants.{Question, Star, Plus}
 use Rattle.rnc_model.specs.grammar.Grammar.{Setting}
 use Rattle.rnc_model.specs.grammar.Syntax as syntax
-use Rattle.rnc_model.specs.grammar.Syntax.{Pattern}
+use Rattle.rnc_model.specs.grammar.Syntax.{Declaration, Pattern}
 use Rattle.rnc_model.specs.tokens.Lexeme.{Lexeme, keyword, sign}
-use Rattle.rnc_syntax.specs.plain.Combinators.{◌>>=◌, after_keyword, either_way, follow_keyword, unexpected}
+use Rattle.rnc_syntax.specs.plain.Combinators.{Outcome, ◌>>=◌, after_keyword, either_way, follow_keyword, unexpected}
 use Rattle.rnc_syntax.specs.plain.Productions.{begins_component, component_front, begins_declaration, declaration_at, declaration_front}
 use Rattle.rnc_syntax.specs.plain.Productions.{default_at, parameter_at, prefix_at, repeated, repeated_by, repetition_front}
 
@@ -22,10 +22,17 @@ declaration_starts ts b is e = rw (sym is ∙ e) refl
 pub declaration_stops : (ts : List Lexeme) (b : Bool) → b ≡ begins_declaration ts → b ≡ false → declaration_front ts ≡ None
 declaration_stops ts b is e = rw (sym is ∙ e) refl
 
+-- what is read after `default`, and after `datatypes`
+abbrev default_read : List Lexeme → Outcome Declaration
+default_read us = after_keyword keywords.Namespace us >>= λ x. default_at x.1
+
+abbrev datatypes_read : List Lexeme → Outcome Declaration
+datatypes_read us = parameter_at us >>= λ p. Ok (syntax.datatypes p.0.0 p.0.1, p.1)
+
 -- what is read by the keyword at the front
 pub declaration_is : (ts : List Lexeme) → declaration_at ts
-    ≡ either_way (follow_keyword keywords.Namespace ts) (either_way (follow_keyword keywords.Default ts) (either_way (follow_keyword keywords.Datatypes ts) (unexpected ts)
-    (λ us. parameter_at us >>= λ p. Ok (syntax.datatypes p.0.0 p.0.1, p.1))) (λ us. after_keyword keywords.Namespace us >>= λ x. default_at x.1))
+    ≡ either_way (follow_keyword keywords.Namespace ts) (either_way (follow_keyword keywords.Default ts)
+    (either_way (follow_keyword keywords.Datatypes ts) (unexpected ts) datatypes_read) default_read)
     (λ us. prefix_at us >>= λ x. Ok (syntax.namespace x.0.0 x.0.1, x.1))
 unfolding declaration_at
 declaration_is [] = refl
