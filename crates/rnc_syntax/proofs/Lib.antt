@@ -27,6 +27,7 @@ pub mod LocalityPrimaries
 pub mod LocalityPatterns
 pub mod LocalityComponents
 pub mod LocalityFiles
+pub mod TakenItems
 pub mod Viability
 pub mod ViabilityAnnotations
 pub mod ViabilityLiterals

@@ -46,7 +46,7 @@ bare_basic_local class deeper l (ns_name p ∷ ts) = cons_local (bare_basic_with
     (λ us. Ok (syntax.ns_name p, us)) (ns_name p) ts (λ us. refl) (λ us. refl) (ok_local (syntax.ns_name p) ts)
 bare_basic_local class deeper l (t ∷ ts) = stuck_front (bare_basic_with class) (bare_basic_with deeper) t ts (λ us. refl) (λ us. refl)
 
-basic_local : (class deeper : List Lexeme → Outcome NameClass) → IsLocal class deeper → IsLocal (basic_with class) (basic_with deeper)
+pub basic_local : (class deeper : List Lexeme → Outcome NameClass) → IsLocal class deeper → IsLocal (basic_with class) (basic_with deeper)
 unfolding basic_with
 basic_local class deeper l = annotated_local (bare_basic_with class) (bare_basic_with deeper) (bare_basic_local class deeper l)
 

@@ -84,7 +84,7 @@ module _ (inside deeper : Inside) (l : Locals inside deeper) (self : Locals deep
   unfolding bare_component_with assigned_at
   bare_component_named w n = name_local (Some n)
 
-  component_part : (w : Setting) (t : Lexeme) → FrontAt (component_front w) (component_with inside w) (component_with deeper w) t
+  pub component_part : (w : Setting) (t : Lexeme) → FrontAt (component_front w) (component_with inside w) (component_with deeper w) t
   unfolding component_with annotation_at bare_component_with assigned_at
   component_part w (identifier n) = opens (λ us. identifier n ∷ us) (λ us. refl) (name_local (Some n))
   component_part w (keyword keywords.Start s) = opens (λ us. keyword keywords.Start s ∷ us) (λ us. refl) (name_local None)

@@ -69,7 +69,7 @@ datatypes_local : IsLocal (λ us. parameter_at us >>= λ x. Ok (syntax.datatypes
     >>= λ x. Ok (syntax.datatypes x.0.0 x.0.1, x.1))
 datatypes_local = made_local parameter_at parameter_at (λ x. syntax.datatypes x.0 x.1) parameter_local
 
-declaration_part : (t : Lexeme) → FrontAt declaration_front declaration_at declaration_at t
+pub declaration_part : (t : Lexeme) → FrontAt declaration_front declaration_at declaration_at t
 unfolding declaration_at
 declaration_part (keyword keywords.Namespace s) = opens (λ us. keyword keywords.Namespace s ∷ us) (λ us. refl) prefixed_local
 declaration_part (keyword keywords.Default s) = opens (λ us. keyword keywords.Default s ∷ us) (λ us. refl) defaults_local

@@ -60,7 +60,7 @@ parameter_local ts =
     let f = λ (name : List ℕ) (us : List Lexeme). after Equal us >>= λ equal. literal_at equal.1 >>= λ value. Ok ((name, value.0), value.1) in
     bind_local word_at word_at f f ts (word_local ts) (λ name rest e. value_local name rest)
 
-parameter_part : (t : Lexeme) → FrontAt parameter_front annotated_parameter_at annotated_parameter_at t
+pub parameter_part : (t : Lexeme) → FrontAt parameter_front annotated_parameter_at annotated_parameter_at t
 unfolding annotated_parameter_at annotation_at parameter_at word_at
 parameter_part (identifier w) = opens (λ us. identifier w ∷ us) (λ us. refl) (value_local w)
 parameter_part (keyword k s) = opens (λ us. keyword k s ∷ us) (λ us. refl) (value_local s.text)

@@ -32,7 +32,7 @@ repeated_local t (sign Plus ∷ ts) = cons_local (repeated_read t) (repeated_rea
 repeated_local t (x ∷ ts) = token_local (repeated_read t) (repeated_read t) (λ us. Ok (t, us)) (λ us. Ok (t, us)) x ts (λ us. refl) (λ us. refl)
     (ok_local t (x ∷ ts))
 
-particle_local : (inside deeper : Inside) → Locals inside deeper → Locals deeper deeper → IsLocal (particle_with inside) (particle_with deeper)
+pub particle_local : (inside deeper : Inside) → Locals inside deeper → Locals deeper deeper → IsLocal (particle_with inside) (particle_with deeper)
 unfolding particle_with
 particle_local inside deeper l self ts = bind_local (primary_with inside) (primary_with deeper) repeated_read repeated_read ts
     (primary_local inside deeper l self ts) (λ t rest e. repeated_local t rest)

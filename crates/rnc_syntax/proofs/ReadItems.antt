@@ -14,6 +14,11 @@ pub bind_bind : {A B C : Type 0} (r : Result A Stop) (f : A → Result B Stop) (
 bind_bind (Ok x) f g = refl
 bind_bind (Err e) f g = refl
 
+-- nothing before
+pub with_front-nil : {A : Type 0} (r : Outcome (List A)) → with_front [] r ≡ r
+with_front-nil (Ok x) = refl
+with_front-nil (Err e) = refl
+
 module _ {A : Type 0} (next : List Lexeme → Option (List Lexeme)) (item : List Lexeme → Outcome A) where
   pub opened : (k : ℕ) (ts us : List Lexeme) → next ts ≡ Some us → many_with next item (suc k) ts ≡ (item us >>= λ x. many_with next item k x.1
       >>= λ rest. Ok (x.0 ∷ rest.0, rest.1))
@@ -33,10 +38,6 @@ pub record Goes {A : Type 0} (next : List Lexeme → Option (List Lexeme)) (item
   pub whole : with_front front (many_with next item most ts) ≡ total
 
 module _ {A : Type 0} (next : List Lexeme → Option (List Lexeme)) (item : List Lexeme → Outcome A) where
-  with_front-nil : (r : Outcome (List A)) → with_front [] r ≡ r
-  with_front-nil (Ok x) = refl
-  with_front-nil (Err e) = refl
-
   pub begins : (ts : List Lexeme) → Goes next item [] ts (many next item ts)
   begins ts = record { most = length ts; enough = omega arith; whole = with_front-nil (many_with next item (length ts) ts) }
 

@@ -1,5 +1,5 @@
 // Reading annotations, which are not in the tree.
-ghost use Rattle.std.specs.Prelude.{◌≡◌, ◌<◌, ◌≤◌, option_map, length, IfOk, IfSome};
+ghost use Rattle.std.specs.Prelude.{◌≡◌, ◌<◌, option_map, length, IfSome};
 ghost use Rattle.rnc_syntax.specs.plain.Reading.{lexemes_in};
 ghost use Rattle.rng_model.specs.plain.Answers.{Gives};
 ghost use Rattle.rnc_syntax.specs.views.Fault.{stop_of};
@@ -48,8 +48,7 @@ impl Reader {
         self,
         tokens: &'t [Token<'a>],
     ) -> Result<&'t [Token<'a>], ReadFault>
-        ensures reads { Gives stop_of (λ x. (tt, lexemes_in self.count x.now)) result (annotation_end 0 (lexemes_in self.count tokens.now)) }
-        ensures shorter { IfOk result (λ x. length x.now ≤ length tokens.now) }
+        ensures { Gives stop_of (λ x. (tt, lexemes_in self.count x.now)) result (annotation_end 0 (lexemes_in self.count tokens.now)) }
     {
         let mut open = 0usize;
         let mut rest = tokens;
@@ -69,8 +68,7 @@ impl Reader {
     /// Reads an annotation, if there is one. Returns the tokens after it.
     #[tactic(auto, unfolding(crate::specs::plain::Productions::annotation_at))]
     pub fn annotation<'t, 'a>(self, tokens: &'t [Token<'a>]) -> Result<&'t [Token<'a>], ReadFault>
-        ensures reads { Gives stop_of (λ x. (tt, lexemes_in self.count x.now)) result (annotation_at (lexemes_in self.count tokens.now)) }
-        ensures shorter { IfOk result (λ x. length x.now ≤ length tokens.now) }
+        ensures { Gives stop_of (λ x. (tt, lexemes_in self.count x.now)) result (annotation_at (lexemes_in self.count tokens.now)) }
     {
         match self.find_after(Sign::OpenBracket, tokens) {
             None => Ok(tokens),

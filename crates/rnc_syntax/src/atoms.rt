@@ -1,26 +1,12 @@
 // Reading the parts of patterns and components that contain no other pattern.
-ghost use Rattle.std.specs.Prelude.{
-  ◌≡◌,
-  [],
-  ◌∷◌,
-  ◌<◌,
-  ◌≤◌,
-  Ok,
-  map,
-  option_map,
-  length,
-  IfOk,
-  IfSome,
-};
-ghost use Rattle.rnc_model.specs.tokens.Lexeme.{local_in, prefix_in};
+ghost use Rattle.std.specs.Prelude.{◌≡◌, Ok, map, option_map};
 ghost use Rattle.rnc_syntax.specs.plain.Reading.{lexemes_in};
 ghost use Rattle.rng_model.specs.plain.Answers.{Gives};
 ghost use Rattle.rnc_syntax.specs.views.Fault.{stop_of};
 ghost use Rattle.rnc_syntax.specs.plain.Productions.{atom_at, begins_component as is_component_front, begins_segment, data_front, joined, lone_front, method_at, other_at, repeated as repeated_of, separator_of, type_front, typed_at};
-ghost use Rattle.rnc_syntax.specs.plain.Productions.{include_front, opening_front};
+ghost use Rattle.rnc_syntax.specs.plain.Productions.{include_front, opening_front, repetition_front};
 ghost use Rattle.rnc_syntax.specs.plain.Productions.{assigned_at};
 ghost use Rattle.rnc_syntax.specs.plain.Productions.{assigned as assigned_of};
-ghost use Rattle.rnc_model.specs.grammar.Syntax as syntax;
 ghost use Rattle.rnc_syntax.specs.views.SyntaxView.{component_of, pattern_of, setting_of, type_of};
 
 use crate::fault::ReadFault;
@@ -47,12 +33,15 @@ pub enum Opening {
     Parenthesis,
 }
 
-/// The name of a datatype that is written with a prefix.
-fn prefixed_type(text: &str) -> DatatypeName<'_>
-    ensures { type_of result ≡ syntax.prefixed_type (prefix_in text.now) (local_in text.now) }
-{
-    let (prefix, local) = split_name(text);
-    DatatypeName::Prefixed { prefix, local }
+/// How often a pattern may occur, if a sign says so.
+#[derive(Clone, Copy)]
+pub enum Repetition {
+    /// `?`
+    Optional,
+    /// `*`
+    ZeroOrMore,
+    /// `+`
+    OneOrMore,
 }
 
 /// Two patterns or more with this connector between them.
@@ -112,8 +101,7 @@ impl Reader {
 
     /// The keyword or the parenthesis of a primary that contains other patterns, and the tokens after it.
     pub fn find_opening<'t, 'a>(self, tokens: &'t [Token<'a>]) -> Option<(Opening, &'t [Token<'a>])>
-        ensures reads { option_map (λ x. (x.0, lexemes_in self.count x.1.now)) result ≡ opening_front (lexemes_in self.count tokens.now) }
-        ensures shorter { IfSome result (λ x. length x.1.now < length tokens.now) }
+        ensures { option_map (λ x. (x.0, lexemes_in self.count x.1.now)) result ≡ opening_front (lexemes_in self.count tokens.now) }
     {
         match tokens {
             [first, rest @ ..] => match first.kind {
@@ -135,8 +123,7 @@ impl Reader {
         self,
         tokens: &'t [Token<'a>],
     ) -> Result<(Option<&'a str>, Method, &'t [Token<'a>]), ReadFault>
-        ensures reads { Gives stop_of (λ x. ((option_map (λ n. n.now) x.0, x.1), lexemes_in self.count x.2.now)) result (assigned_at (lexemes_in self.count tokens.now)) }
-        ensures shorter { IfOk result (λ x. length x.2.now < length tokens.now) }
+        ensures { Gives stop_of (λ x. ((option_map (λ n. n.now) x.0, x.1), lexemes_in self.count x.2.now)) result (assigned_at (lexemes_in self.count tokens.now)) }
     {
         match tokens {
             [first, rest @ ..] => match first.kind {
@@ -160,8 +147,7 @@ impl Reader {
         setting: Setting,
         tokens: &'t [Token<'a>],
     ) -> Option<(usize, &'t [Token<'a>])>
-        ensures reads { option_map (λ x. (x.0, lexemes_in self.count x.1.now)) result ≡ include_front (setting_of setting) (lexemes_in self.count tokens.now) }
-        ensures shorter { IfSome result (λ x. length x.1.now < length tokens.now) }
+        ensures { option_map (λ x. (x.0, lexemes_in self.count x.1.now)) result ≡ include_front (setting_of setting) (lexemes_in self.count tokens.now) }
     {
         match tokens {
             [first, rest @ ..] => match first.kind {
@@ -173,15 +159,6 @@ impl Reader {
             },
             [] => None,
         }
-    }
-
-    /// A list of one pattern.
-    pub fn alone<'a>(self, pattern: Pattern<'a>) -> Result<Vec<Pattern<'a>>, ReadFault>
-        ensures { Gives stop_of (λ all. map pattern_of all.items) result (Ok (pattern_of pattern.entry ∷ [])) }
-    {
-        let mut all = Vec::new(self.alloc);
-        all.push(pattern)?;
-        Ok(all)
     }
 
     /// The connector that is first, if there is one.
@@ -204,12 +181,14 @@ impl Reader {
         self,
         tokens: &'t [Token<'a>],
     ) -> Option<(DatatypeName<'a>, &'t [Token<'a>])>
-        ensures reads { option_map (λ x. (type_of x.0, lexemes_in self.count x.1.now)) result ≡ type_front (lexemes_in self.count tokens.now) }
-        ensures shorter { IfSome result (λ x. length x.1.now < length tokens.now) }
+        ensures { option_map (λ x. (type_of x.0, lexemes_in self.count x.1.now)) result ≡ type_front (lexemes_in self.count tokens.now) }
     {
         match tokens {
             [first, rest @ ..] => match first.kind {
-                TokenKind::CName => Some((prefixed_type(first.text), rest)),
+                TokenKind::CName => {
+                    let (prefix, local) = split_name(first.text);
+                    Some((DatatypeName::Prefixed { prefix, local }, rest))
+                }
                 TokenKind::Keyword(Keyword::String) => Some((DatatypeName::String, rest)),
                 TokenKind::Keyword(Keyword::Token) => Some((DatatypeName::Token, rest)),
                 _ => None,
@@ -223,8 +202,7 @@ impl Reader {
         self,
         tokens: &'t [Token<'a>],
     ) -> Option<(DatatypeName<'a>, &'t [Token<'a>])>
-        ensures reads { option_map (λ x. (type_of x.0, lexemes_in self.count x.1.now)) result ≡ data_front (lexemes_in self.count tokens.now) }
-        ensures shorter { IfSome result (λ x. length x.1.now < length tokens.now) }
+        ensures { option_map (λ x. (type_of x.0, lexemes_in self.count x.1.now)) result ≡ data_front (lexemes_in self.count tokens.now) }
     {
         let (type_name, rest) = self.find_type(tokens)?;
         if self.begins_with_segment(rest) {
@@ -240,8 +218,7 @@ impl Reader {
         type_name: DatatypeName<'a>,
         tokens: &'t [Token<'a>],
     ) -> Result<(Pattern<'a>, &'t [Token<'a>]), ReadFault>
-        ensures reads { Gives stop_of (λ x. (pattern_of x.0, lexemes_in self.count x.1.now)) result (typed_at (type_of type_name.entry) (lexemes_in self.count tokens.now)) }
-        ensures shorter { IfOk result (λ x. length x.1.now ≤ length tokens.now) }
+        ensures { Gives stop_of (λ x. (pattern_of x.0, lexemes_in self.count x.1.now)) result (typed_at (type_of type_name.entry) (lexemes_in self.count tokens.now)) }
     {
         if self.begins_with_segment(tokens) {
             let (text, rest) = self.literal(tokens)?;
@@ -253,8 +230,7 @@ impl Reader {
 
     /// A pattern that is a single token, and the tokens after it.
     fn find_lone<'t, 'a>(self, tokens: &'t [Token<'a>]) -> Option<(Pattern<'a>, &'t [Token<'a>])>
-        ensures reads { option_map (λ x. (pattern_of x.0, lexemes_in self.count x.1.now)) result ≡ lone_front (lexemes_in self.count tokens.now) }
-        ensures shorter { IfSome result (λ x. length x.1.now < length tokens.now) }
+        ensures { option_map (λ x. (pattern_of x.0, lexemes_in self.count x.1.now)) result ≡ lone_front (lexemes_in self.count tokens.now) }
     {
         match tokens {
             [first, rest @ ..] => match first.kind {
@@ -276,8 +252,7 @@ impl Reader {
         self,
         tokens: &'t [Token<'a>],
     ) -> Result<(Pattern<'a>, &'t [Token<'a>]), ReadFault>
-        ensures reads { Gives stop_of (λ x. (pattern_of x.0, lexemes_in self.count x.1.now)) result (other_at (lexemes_in self.count tokens.now)) }
-        ensures shorter { IfOk result (λ x. length x.1.now < length tokens.now) }
+        ensures { Gives stop_of (λ x. (pattern_of x.0, lexemes_in self.count x.1.now)) result (other_at (lexemes_in self.count tokens.now)) }
     {
         match tokens {
             [first, rest @ ..] => match first.kind {
@@ -306,8 +281,7 @@ impl Reader {
         self,
         tokens: &'t [Token<'a>],
     ) -> Result<(Pattern<'a>, &'t [Token<'a>]), ReadFault>
-        ensures reads { Gives stop_of (λ x. (pattern_of x.0, lexemes_in self.count x.1.now)) result (atom_at (lexemes_in self.count tokens.now)) }
-        ensures shorter { IfOk result (λ x. length x.1.now < length tokens.now) }
+        ensures { Gives stop_of (λ x. (pattern_of x.0, lexemes_in self.count x.1.now)) result (atom_at (lexemes_in self.count tokens.now)) }
     {
         match self.find_type(tokens) {
             Some((type_name, rest)) => self.typed(type_name, rest),
@@ -324,8 +298,7 @@ impl Reader {
         self,
         tokens: &'t [Token<'a>],
     ) -> Result<(Method, &'t [Token<'a>]), ReadFault>
-        ensures reads { Gives stop_of (λ x. (x.0, lexemes_in self.count x.1.now)) result (method_at (lexemes_in self.count tokens.now)) }
-        ensures shorter { IfOk result (λ x. length x.1.now < length tokens.now) }
+        ensures { Gives stop_of (λ x. (x.0, lexemes_in self.count x.1.now)) result (method_at (lexemes_in self.count tokens.now)) }
     {
         match tokens {
             [first, rest @ ..] => match first.kind {
@@ -338,29 +311,41 @@ impl Reader {
         }
     }
 
+    /// The sign of repetition at the front, and the tokens after it.
+    fn find_repetition<'t, 'a>(
+        self,
+        tokens: &'t [Token<'a>],
+    ) -> Option<(Repetition, &'t [Token<'a>])>
+        ensures { option_map (λ x. (x.0, lexemes_in self.count x.1.now)) result ≡ repetition_front (lexemes_in self.count tokens.now) }
+    {
+        match tokens {
+            [first, rest @ ..] => match first.kind {
+                TokenKind::Sign(Sign::Question) => Some((Repetition::Optional, rest)),
+                TokenKind::Sign(Sign::Star) => Some((Repetition::ZeroOrMore, rest)),
+                TokenKind::Sign(Sign::Plus) => Some((Repetition::OneOrMore, rest)),
+                _ => None,
+            },
+            [] => None,
+        }
+    }
+
     /// Reads `?`, `*` or `+` after a pattern, if there is one, and returns the repeated pattern.
+    #[tactic(auto, using(crate::proofs::FirstTokens::repeated_is))]
     pub fn repeated<'t, 'a>(
         self,
         pattern: Pattern<'a>,
         tokens: &'t [Token<'a>],
     ) -> Result<(Pattern<'a>, &'t [Token<'a>]), ReadFault>
-        ensures reads { Gives stop_of (λ x. (pattern_of x.0, lexemes_in self.count x.1.now)) result (Ok (repeated_of (pattern_of pattern.entry) (lexemes_in self.count tokens.now))) }
-        ensures shorter { IfOk result (λ x. length x.1.now ≤ length tokens.now) }
+        ensures { Gives stop_of (λ x. (pattern_of x.0, lexemes_in self.count x.1.now)) result (Ok (repeated_of (pattern_of pattern.entry) (lexemes_in self.count tokens.now))) }
     {
-        match tokens {
-            [first, rest @ ..] => match first.kind {
-                TokenKind::Sign(Sign::Question) => {
-                    Ok((Pattern::Optional(Box::new(self.alloc, pattern)?), rest))
-                }
-                TokenKind::Sign(Sign::Star) => {
-                    Ok((Pattern::ZeroOrMore(Box::new(self.alloc, pattern)?), rest))
-                }
-                TokenKind::Sign(Sign::Plus) => {
-                    Ok((Pattern::OneOrMore(Box::new(self.alloc, pattern)?), rest))
-                }
-                _ => Ok((pattern, tokens)),
-            },
-            [] => Ok((pattern, tokens)),
+        let Some((repetition, rest)) = self.find_repetition(tokens) else {
+            return Ok((pattern, tokens));
+        };
+        let body = Box::new(self.alloc, pattern)?;
+        match repetition {
+            Repetition::Optional => Ok((Pattern::Optional(body), rest)),
+            Repetition::ZeroOrMore => Ok((Pattern::ZeroOrMore(body), rest)),
+            Repetition::OneOrMore => Ok((Pattern::OneOrMore(body), rest)),
         }
     }
 }

@@ -1,9 +1,9 @@
 // Reading files: declarations, and the body after them.
-ghost use Rattle.std.specs.Prelude.{◌≡◌, ◌<◌, ◌≤◌, map, length, IfOk};
+ghost use Rattle.std.specs.Prelude.{◌≡◌, map};
 ghost use Rattle.rnc_syntax.specs.plain.Reading.{lexemes_in};
 ghost use Rattle.rng_model.specs.plain.Answers.{Gives};
 ghost use Rattle.rnc_syntax.specs.views.Fault.{stop_of};
-ghost use Rattle.rnc_syntax.specs.plain.Productions.{annotated_body_with, begins_declaration as is_declaration_front, begins_method as is_method_front, body_with, declaration_at, declarations_at, default_at, file_with, inside_at, is_grammar_body, prefix_at, uri_at};
+ghost use Rattle.rnc_syntax.specs.plain.Productions.{annotated_body_with, begins_declaration as is_declaration_front, begins_method as is_method_front, body_with, declaration_at, declarations_at, default_at, file_with, if_ended, inside_at, is_grammar_body, prefix_at, uri_at};
 ghost use Rattle.rnc_syntax.specs.views.SyntaxView.{body_of, declaration_of, file_of, uri_of};
 
 use crate::atoms::Setting;
@@ -65,8 +65,7 @@ impl Reader {
     /// Reads `literal | "inherit"`.
     #[tactic(auto, unfolding(crate::specs::plain::Productions::uri_at))]
     fn uri<'t, 'a>(self, tokens: &'t [Token<'a>]) -> Result<(Uri<'a>, &'t [Token<'a>]), ReadFault>
-        ensures reads { Gives stop_of (λ x. (uri_of x.0, lexemes_in self.count x.1.now)) result (uri_at (lexemes_in self.count tokens.now)) }
-        ensures shorter { IfOk result (λ x. length x.1.now < length tokens.now) }
+        ensures { Gives stop_of (λ x. (uri_of x.0, lexemes_in self.count x.1.now)) result (uri_at (lexemes_in self.count tokens.now)) }
     {
         match self.find_after_keyword(Keyword::Inherit, tokens) {
             Some(rest) => Ok((Uri::Inherit, rest)),
@@ -83,8 +82,7 @@ impl Reader {
         self,
         tokens: &'t [Token<'a>],
     ) -> Result<(&'a str, Uri<'a>, &'t [Token<'a>]), ReadFault>
-        ensures reads { Gives stop_of (λ x. ((x.0.now, uri_of x.1), lexemes_in self.count x.2.now)) result (prefix_at (lexemes_in self.count tokens.now)) }
-        ensures shorter { IfOk result (λ x. length x.2.now < length tokens.now) }
+        ensures { Gives stop_of (λ x. ((x.0.now, uri_of x.1), lexemes_in self.count x.2.now)) result (prefix_at (lexemes_in self.count tokens.now)) }
     {
         let (prefix, rest) = self.word(tokens)?;
         let rest = self.skip(Sign::Equal, rest)?;
@@ -98,8 +96,7 @@ impl Reader {
         self,
         tokens: &'t [Token<'a>],
     ) -> Result<(Declaration<'a>, &'t [Token<'a>]), ReadFault>
-        ensures reads { Gives stop_of (λ x. (declaration_of x.0, lexemes_in self.count x.1.now)) result (default_at (lexemes_in self.count tokens.now)) }
-        ensures shorter { IfOk result (λ x. length x.1.now < length tokens.now) }
+        ensures { Gives stop_of (λ x. (declaration_of x.0, lexemes_in self.count x.1.now)) result (default_at (lexemes_in self.count tokens.now)) }
     {
         match self.find_after(Sign::Equal, tokens) {
             Some(rest) => {
@@ -120,32 +117,28 @@ impl Reader {
     }
 
     /// Reads one declaration.
-    #[tactic(auto, unfolding(crate::specs::plain::Productions::declaration_at))]
+    #[tactic(auto, using(crate::proofs::FirstTokens::declaration_is), unfolding(crate::specs::plain::Combinators::after_keyword))]
     fn declaration<'t, 'a>(
         self,
         tokens: &'t [Token<'a>],
     ) -> Result<(Declaration<'a>, &'t [Token<'a>]), ReadFault>
-        ensures reads { Gives stop_of (λ x. (declaration_of x.0, lexemes_in self.count x.1.now)) result (declaration_at (lexemes_in self.count tokens.now)) }
-        ensures shorter { IfOk result (λ x. length x.1.now < length tokens.now) }
+        ensures { Gives stop_of (λ x. (declaration_of x.0, lexemes_in self.count x.1.now)) result (declaration_at (lexemes_in self.count tokens.now)) }
     {
-        match tokens {
-            [first, rest @ ..] => match first.kind {
-                TokenKind::Keyword(Keyword::Namespace) => {
-                    let (prefix, uri, rest) = self.prefix(rest)?;
-                    Ok((Declaration::Namespace { prefix, uri }, rest))
-                }
-                TokenKind::Keyword(Keyword::Default) => {
-                    let rest = self.skip_keyword(Keyword::Namespace, rest)?;
-                    self.default_namespace(rest)
-                }
-                TokenKind::Keyword(Keyword::Datatypes) => {
-                    let (declared, rest) = self.parameter(rest)?;
-                    Ok((Declaration::Datatypes(declared), rest))
-                }
-                _ => Err(self.unexpected(tokens)),
-            },
-            [] => Err(self.unexpected(tokens)),
+        if let Some(rest) = self.find_after_keyword(Keyword::Namespace, tokens) {
+            let (prefix, uri, rest) = self.prefix(rest)?;
+            return Ok((Declaration::Namespace { prefix, uri }, rest));
         }
+        if let Some(rest) = self.find_after_keyword(Keyword::Default, tokens) {
+            let Some(rest) = self.find_after_keyword(Keyword::Namespace, rest) else {
+                return Err(self.unexpected(rest));
+            };
+            return self.default_namespace(rest);
+        }
+        if let Some(rest) = self.find_after_keyword(Keyword::Datatypes, tokens) {
+            let (declared, rest) = self.parameter(rest)?;
+            return Ok((Declaration::Datatypes(declared), rest));
+        }
+        Err(self.unexpected(tokens))
     }
 
     /// Reads the declarations at the start of a file.
@@ -154,8 +147,7 @@ impl Reader {
         self,
         tokens: &'t [Token<'a>],
     ) -> Result<(Vec<Declaration<'a>>, &'t [Token<'a>]), ReadFault>
-        ensures reads { Gives stop_of (λ x. (map declaration_of x.0.items, lexemes_in self.count x.1.now)) result (declarations_at (lexemes_in self.count tokens.now)) }
-        ensures shorter { IfOk result (λ x. length x.1.now ≤ length tokens.now) }
+        ensures { Gives stop_of (λ x. (map declaration_of x.0.items, lexemes_in self.count x.1.now)) result (declarations_at (lexemes_in self.count tokens.now)) }
     {
         let mut all = Vec::new(self.alloc);
         let mut rest = tokens;
@@ -174,8 +166,7 @@ impl Reader {
         levels: u8,
         tokens: &'t [Token<'a>],
     ) -> Result<(Body<'a>, &'t [Token<'a>]), ReadFault>
-        ensures reads { Gives stop_of (λ x. (body_of x.0, lexemes_in self.count x.1.now)) result (body_with (inside_at levels) (lexemes_in self.count tokens.now)) }
-        ensures shorter { IfOk result (λ x. length x.1.now ≤ length tokens.now) }
+        ensures { Gives stop_of (λ x. (body_of x.0, lexemes_in self.count x.1.now)) result (body_with (inside_at levels) (lexemes_in self.count tokens.now)) }
     {
         if let Some(rest) = self.find_after(Sign::OpenBracket, tokens) {
             let rest = self.annotation_end(rest)?;
@@ -197,17 +188,26 @@ impl Reader {
         levels: u8,
         tokens: &'t [Token<'a>],
     ) -> Result<(Body<'a>, &'t [Token<'a>]), ReadFault>
-        ensures reads { Gives stop_of (λ x. (body_of x.0, lexemes_in self.count x.1.now)) result (annotated_body_with (inside_at levels) (lexemes_in self.count tokens.now)) }
-        ensures shorter { IfOk result (λ x. length x.1.now ≤ length tokens.now) }
+        ensures { Gives stop_of (λ x. (body_of x.0, lexemes_in self.count x.1.now)) result (annotated_body_with (inside_at levels) (lexemes_in self.count tokens.now)) }
     {
         if self.begins_grammar(false, tokens) {
             let (first, rest) = self.bare_component(levels, Setting::Content, tokens)?;
-            let (mut components, rest) = self.components(levels, Setting::Content, rest)?;
-            components.insert(0, first)?;
+            let first = self.alone(first)?;
+            let (components, rest) = self.more_components(levels, Setting::Content, first, rest)?;
             Ok((Body::Grammar(components), rest))
         } else {
             let (pattern, rest) = self.bare_pattern(levels, tokens)?;
             Ok((Body::Pattern(pattern), rest))
+        }
+    }
+
+    /// Returns the value if no token is left, and fails otherwise.
+    fn ended<T: Drop>(self, value: T, tokens: &[Token<'_>]) -> Result<T, ReadFault>
+        ensures { Gives stop_of (λ v. v) result (if_ended value (lexemes_in self.count tokens.now)) }
+    {
+        match tokens {
+            [] => Ok(value),
+            _ => Err(self.unexpected(tokens)),
         }
     }
 
@@ -218,9 +218,6 @@ impl Reader {
     {
         let (declarations, rest) = self.declarations(tokens)?;
         let (body, rest) = self.body(levels, rest)?;
-        if !rest.is_empty() {
-            return Err(self.unexpected(rest));
-        }
-        Ok(File { declarations, body })
+        self.ended(File { declarations, body }, rest)
     }
 }

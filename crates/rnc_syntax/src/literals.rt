@@ -1,5 +1,5 @@
 // Reading literals, parameters of datatypes, and mentions.
-ghost use Rattle.std.specs.Prelude.{◌≡◌, ◌<◌, ◌≤◌, ℕ, ◌-◌, Some, None, if◌then◌else◌, map, option_map, length, IfOk};
+ghost use Rattle.std.specs.Prelude.{◌≡◌, ℕ, ◌-◌, Some, None, if◌then◌else◌, map, option_map};
 ghost use Rattle.rnc_syntax.specs.plain.Reading.{lexemes_in};
 ghost use Rattle.rnc_syntax.specs.plain.Combinators.{follow, many, segment_at, with_front};
 ghost use Rattle.rng_model.specs.plain.Answers.{Gives};
@@ -20,8 +20,7 @@ impl Reader {
         self,
         tokens: &'t [Token<'a>],
     ) -> Result<(Literal<'a>, &'t [Token<'a>]), ReadFault>
-        ensures reads { Gives stop_of (λ x. (text_of x.0, lexemes_in self.count x.1.now)) result (literal_at (lexemes_in self.count tokens.now)) }
-        ensures shorter { IfOk result (λ x. length x.1.now < length tokens.now) }
+        ensures { Gives stop_of (λ x. (text_of x.0, lexemes_in self.count x.1.now)) result (literal_at (lexemes_in self.count tokens.now)) }
     {
         let (first, rest) = self.segment(tokens)?;
         let mut segments = Vec::new(self.alloc);
@@ -36,8 +35,7 @@ impl Reader {
         mut segments: Vec<&'a str>,
         tokens: &'t [Token<'a>],
     ) -> Result<(Vec<&'a str>, &'t [Token<'a>]), ReadFault>
-        ensures reads { Gives stop_of (λ x. (map (λ s. s.now) x.0.items, lexemes_in self.count x.1.now)) result (with_front (map (λ s. s.now) segments.entry.items) (many (follow Tilde) segment_at (lexemes_in self.count tokens.now))) }
-        ensures shorter { IfOk result (λ x. length x.1.now ≤ length tokens.now) }
+        ensures { Gives stop_of (λ x. (map (λ s. s.now) x.0.items, lexemes_in self.count x.1.now)) result (with_front (map (λ s. s.now) segments.entry.items) (many (follow Tilde) segment_at (lexemes_in self.count tokens.now))) }
     {
         let mut rest = tokens;
         while let Some(after) = self.find_after(Sign::Tilde, rest) {
@@ -54,8 +52,7 @@ impl Reader {
         self,
         tokens: &'t [Token<'a>],
     ) -> Result<(Parameter<'a>, &'t [Token<'a>]), ReadFault>
-        ensures reads { Gives stop_of (λ x. (parameter_of x.0, lexemes_in self.count x.1.now)) result (parameter_at (lexemes_in self.count tokens.now)) }
-        ensures shorter { IfOk result (λ x. length x.1.now < length tokens.now) }
+        ensures { Gives stop_of (λ x. (parameter_of x.0, lexemes_in self.count x.1.now)) result (parameter_at (lexemes_in self.count tokens.now)) }
     {
         let (name, rest) = self.word(tokens)?;
         let rest = self.skip(Sign::Equal, rest)?;
@@ -69,8 +66,7 @@ impl Reader {
         self,
         tokens: &'t [Token<'a>],
     ) -> Result<(Parameter<'a>, &'t [Token<'a>]), ReadFault>
-        ensures reads { Gives stop_of (λ x. (parameter_of x.0, lexemes_in self.count x.1.now)) result (annotated_parameter_at (lexemes_in self.count tokens.now)) }
-        ensures shorter { IfOk result (λ x. length x.1.now < length tokens.now) }
+        ensures { Gives stop_of (λ x. (parameter_of x.0, lexemes_in self.count x.1.now)) result (annotated_parameter_at (lexemes_in self.count tokens.now)) }
     {
         let rest = self.annotation(tokens)?;
         self.parameter(rest)
@@ -82,15 +78,13 @@ impl Reader {
         self,
         tokens: &'t [Token<'a>],
     ) -> Result<(Vec<Parameter<'a>>, &'t [Token<'a>]), ReadFault>
-        ensures reads { Gives stop_of (λ x. (map parameter_of x.0.items, lexemes_in self.count x.1.now)) result (parameters_at (lexemes_in self.count tokens.now)) }
-        ensures shorter { IfOk result (λ x. length x.1.now ≤ length tokens.now) }
+        ensures { Gives stop_of (λ x. (map parameter_of x.0.items, lexemes_in self.count x.1.now)) result (parameters_at (lexemes_in self.count tokens.now)) }
     {
         match self.find_after(Sign::OpenBrace, tokens) {
             None => Ok((Vec::new(self.alloc), tokens)),
             Some(rest) => {
                 let (parameters, rest) = self.parameter_list(rest)?;
-                let rest = self.skip(Sign::CloseBrace, rest)?;
-                Ok((parameters, rest))
+                self.closed(Sign::CloseBrace, parameters, rest)
             }
         }
     }
@@ -100,8 +94,7 @@ impl Reader {
         self,
         tokens: &'t [Token<'a>],
     ) -> Result<(Vec<Parameter<'a>>, &'t [Token<'a>]), ReadFault>
-        ensures reads { Gives stop_of (λ x. (map parameter_of x.0.items, lexemes_in self.count x.1.now)) result (many parameter_front annotated_parameter_at (lexemes_in self.count tokens.now)) }
-        ensures shorter { IfOk result (λ x. length x.1.now ≤ length tokens.now) }
+        ensures { Gives stop_of (λ x. (map parameter_of x.0.items, lexemes_in self.count x.1.now)) result (many parameter_front annotated_parameter_at (lexemes_in self.count tokens.now)) }
     {
         let mut parameters = Vec::new(self.alloc);
         let mut rest = tokens;
@@ -119,8 +112,7 @@ impl Reader {
         self,
         tokens: &'t [Token<'a>],
     ) -> Result<(Option<&'a str>, &'t [Token<'a>]), ReadFault>
-        ensures reads { Gives stop_of (λ x. (option_map (λ p. p.now) x.0, lexemes_in self.count x.1.now)) result (inherit_at (lexemes_in self.count tokens.now)) }
-        ensures shorter { IfOk result (λ x. length x.1.now ≤ length tokens.now) }
+        ensures { Gives stop_of (λ x. (option_map (λ p. p.now) x.0, lexemes_in self.count x.1.now)) result (inherit_at (lexemes_in self.count tokens.now)) }
     {
         match self.find_after_keyword(Keyword::Inherit, tokens) {
             None => Ok((None, tokens)),
@@ -139,8 +131,7 @@ impl Reader {
         token: usize,
         tokens: &'t [Token<'a>],
     ) -> Result<(Mention<'a>, &'t [Token<'a>]), ReadFault>
-        ensures reads { Gives stop_of (λ x. (mention_of x.0, lexemes_in self.count x.1.now)) result (mention_at token (lexemes_in self.count tokens.now)) }
-        ensures shorter { IfOk result (λ x. length x.1.now < length tokens.now) }
+        ensures { Gives stop_of (λ x. (mention_of x.0, lexemes_in self.count x.1.now)) result (mention_at token (lexemes_in self.count tokens.now)) }
     {
         let (href, rest) = self.literal(tokens)?;
         let (inherit, rest) = self.inherit(rest)?;

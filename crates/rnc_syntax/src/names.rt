@@ -1,12 +1,10 @@
 // Reading name classes.
-ghost use Rattle.std.specs.Prelude.{◌≡◌, ◌<◌, ◌≤◌, map, option_map, length, IfOk, IfSome};
-ghost use Rattle.rnc_model.specs.tokens.Lexeme.{prefix_in, local_in};
+ghost use Rattle.std.specs.Prelude.{◌≡◌, map, option_map};
 ghost use Rattle.rnc_syntax.specs.plain.Reading.{lexemes_in};
 ghost use Rattle.rnc_syntax.specs.plain.Combinators.{follow, many, with_front};
 ghost use Rattle.rng_model.specs.plain.Answers.{Gives};
 ghost use Rattle.rnc_syntax.specs.views.Fault.{stop_of};
 ghost use Rattle.rnc_syntax.specs.plain.Productions.{bare_basic_with, bare_class_with, basic_with, choice_with, class_with, except_front, excepted, inside_at, wide_front};
-ghost use Rattle.rnc_model.specs.grammar.Syntax as syntax;
 ghost use Rattle.rnc_syntax.specs.views.SyntaxView.{class_of};
 ghost use Rattle.rnc_model.specs.declared.token.Sign.TheVariants.{Bar};
 
@@ -14,27 +12,6 @@ use crate::fault::{ReadFault, Stop};
 use crate::reading::{Reader, onward, split_name};
 use crate::syntax_tree::{NameClass, QualifiedName};
 use rnc_text::{Sign, Token, TokenKind};
-
-/// A name without a prefix, as a class.
-fn unprefixed(local: &str) -> NameClass<'_>
-    ensures { class_of result ≡ syntax.name_is (syntax.unprefixed local.now) }
-{
-    NameClass::Name(QualifiedName {
-        prefix: None,
-        local,
-    })
-}
-
-/// A name with a prefix, as a class.
-fn prefixed(text: &str) -> NameClass<'_>
-    ensures { class_of result ≡ syntax.name_is (syntax.prefixed (prefix_in text.now) (local_in text.now)) }
-{
-    let (prefix, local) = split_name(text);
-    NameClass::Name(QualifiedName {
-        prefix: Some(prefix),
-        local,
-    })
-}
 
 /// All names, or those of a prefix, except those of a class.
 fn except<'a>(prefix: Option<&'a str>, class: Box<NameClass<'a>>) -> NameClass<'a>
@@ -52,8 +29,7 @@ impl Reader {
         self,
         tokens: &'t [Token<'a>],
     ) -> Option<(Option<&'a str>, &'t [Token<'a>])>
-        ensures reads { option_map (λ x. (option_map (λ p. p.now) x.0, lexemes_in self.count x.1.now)) result ≡ wide_front (lexemes_in self.count tokens.now) }
-        ensures shorter { IfSome result (λ x. length x.1.now < length tokens.now) }
+        ensures { option_map (λ x. (option_map (λ p. p.now) x.0, lexemes_in self.count x.1.now)) result ≡ wide_front (lexemes_in self.count tokens.now) }
     {
         match tokens {
             [first, rest @ ..] => match first.kind {
@@ -70,8 +46,7 @@ impl Reader {
         self,
         tokens: &'t [Token<'a>],
     ) -> Option<(Option<&'a str>, &'t [Token<'a>])>
-        ensures reads { option_map (λ x. (option_map (λ p. p.now) x.0, lexemes_in self.count x.1.now)) result ≡ except_front (lexemes_in self.count tokens.now) }
-        ensures shorter { IfSome result (λ x. length x.1.now < length tokens.now) }
+        ensures { option_map (λ x. (option_map (λ p. p.now) x.0, lexemes_in self.count x.1.now)) result ≡ except_front (lexemes_in self.count tokens.now) }
     {
         let (prefix, rest) = self.find_wide(tokens)?;
         let rest = self.find_after(Sign::Minus, rest)?;
@@ -87,8 +62,7 @@ impl Reader {
         levels: u8,
         tokens: &'t [Token<'a>],
     ) -> Result<(NameClass<'a>, &'t [Token<'a>]), ReadFault>
-        ensures reads { Gives stop_of (λ x. (class_of x.0, lexemes_in self.count x.1.now)) result (class_with (inside_at levels).class (lexemes_in self.count tokens.now)) }
-        ensures shorter { IfOk result (λ x. length x.1.now < length tokens.now) }
+        ensures { Gives stop_of (λ x. (class_of x.0, lexemes_in self.count x.1.now)) result (class_with (inside_at levels).class (lexemes_in self.count tokens.now)) }
     {
         let rest = self.annotation(tokens)?;
         self.bare_class(levels, rest)
@@ -102,8 +76,7 @@ impl Reader {
         levels: u8,
         tokens: &'t [Token<'a>],
     ) -> Result<(NameClass<'a>, &'t [Token<'a>]), ReadFault>
-        ensures reads { Gives stop_of (λ x. (class_of x.0, lexemes_in self.count x.1.now)) result (bare_class_with (inside_at levels).class (lexemes_in self.count tokens.now)) }
-        ensures shorter { IfOk result (λ x. length x.1.now < length tokens.now) }
+        ensures { Gives stop_of (λ x. (class_of x.0, lexemes_in self.count x.1.now)) result (bare_class_with (inside_at levels).class (lexemes_in self.count tokens.now)) }
     {
         match self.find_except(tokens) {
             Some((prefix, rest)) => {
@@ -127,14 +100,12 @@ impl Reader {
         first: NameClass<'a>,
         tokens: &'t [Token<'a>],
     ) -> Result<(NameClass<'a>, &'t [Token<'a>]), ReadFault>
-        ensures reads { Gives stop_of (λ x. (class_of x.0, lexemes_in self.count x.1.now)) result (choice_with (basic_with (inside_at levels).class) (class_of first.entry) (lexemes_in self.count tokens.now)) }
-        ensures shorter { IfOk result (λ x. length x.1.now ≤ length tokens.now) }
+        ensures { Gives stop_of (λ x. (class_of x.0, lexemes_in self.count x.1.now)) result (choice_with (basic_with (inside_at levels).class) (class_of first.entry) (lexemes_in self.count tokens.now)) }
     {
         match self.find_after(Sign::Bar, tokens) {
             None => Ok((first, tokens)),
             Some(_) => {
-                let mut all = Vec::new(self.alloc);
-                all.push(first)?;
+                let all = self.alone(first)?;
                 let (all, rest) = self.more_classes(levels, all, tokens)?;
                 Ok((NameClass::Choice(all), rest))
             }
@@ -149,8 +120,7 @@ impl Reader {
         mut all: Vec<NameClass<'a>>,
         tokens: &'t [Token<'a>],
     ) -> Result<(Vec<NameClass<'a>>, &'t [Token<'a>]), ReadFault>
-        ensures reads { Gives stop_of (λ x. (map class_of x.0.items, lexemes_in self.count x.1.now)) result (with_front (map class_of all.entry.items) (many (follow Bar) (basic_with (inside_at levels).class) (lexemes_in self.count tokens.now))) }
-        ensures shorter { IfOk result (λ x. length x.1.now ≤ length tokens.now) }
+        ensures { Gives stop_of (λ x. (map class_of x.0.items, lexemes_in self.count x.1.now)) result (with_front (map class_of all.entry.items) (many (follow Bar) (basic_with (inside_at levels).class) (lexemes_in self.count tokens.now))) }
     {
         let mut rest = tokens;
         while let Some(after) = self.find_after(Sign::Bar, rest) {
@@ -169,8 +139,7 @@ impl Reader {
         levels: u8,
         tokens: &'t [Token<'a>],
     ) -> Result<(NameClass<'a>, &'t [Token<'a>]), ReadFault>
-        ensures reads { Gives stop_of (λ x. (class_of x.0, lexemes_in self.count x.1.now)) result (basic_with (inside_at levels).class (lexemes_in self.count tokens.now)) }
-        ensures shorter { IfOk result (λ x. length x.1.now < length tokens.now) }
+        ensures { Gives stop_of (λ x. (class_of x.0, lexemes_in self.count x.1.now)) result (basic_with (inside_at levels).class (lexemes_in self.count tokens.now)) }
     {
         let rest = self.annotation(tokens)?;
         self.bare_basic(levels, rest)
@@ -184,21 +153,30 @@ impl Reader {
         levels: u8,
         tokens: &'t [Token<'a>],
     ) -> Result<(NameClass<'a>, &'t [Token<'a>]), ReadFault>
-        ensures reads { Gives stop_of (λ x. (class_of x.0, lexemes_in self.count x.1.now)) result (bare_basic_with (inside_at levels).class (lexemes_in self.count tokens.now)) }
-        ensures shorter { IfOk result (λ x. length x.1.now < length tokens.now) }
+        ensures { Gives stop_of (λ x. (class_of x.0, lexemes_in self.count x.1.now)) result (bare_basic_with (inside_at levels).class (lexemes_in self.count tokens.now)) }
     {
         match tokens {
             [first, rest @ ..] => match first.kind {
                 TokenKind::Identifier | TokenKind::QuotedIdentifier | TokenKind::Keyword(_) => {
-                    Ok((unprefixed(first.text), rest))
+                    let name = QualifiedName {
+                        prefix: None,
+                        local: first.text,
+                    };
+                    Ok((NameClass::Name(name), rest))
                 }
-                TokenKind::CName => Ok((prefixed(first.text), rest)),
+                TokenKind::CName => {
+                    let (prefix, local) = split_name(first.text);
+                    let name = QualifiedName {
+                        prefix: Some(prefix),
+                        local,
+                    };
+                    Ok((NameClass::Name(name), rest))
+                }
                 TokenKind::NsName => Ok((NameClass::Ns(split_name(first.text).0), rest)),
                 TokenKind::Sign(Sign::Star) => Ok((NameClass::Any, rest)),
                 TokenKind::Sign(Sign::OpenParenthesis) => {
                     let (class, rest) = self.inner_class(levels, rest)?;
-                    let rest = self.skip(Sign::CloseParenthesis, rest)?;
-                    Ok((class, rest))
+                    self.closed(Sign::CloseParenthesis, class, rest)
                 }
                 _ => Err(self.unexpected(tokens)),
             },
@@ -214,8 +192,7 @@ impl Reader {
         levels: u8,
         tokens: &'t [Token<'a>],
     ) -> Result<(NameClass<'a>, &'t [Token<'a>]), ReadFault>
-        ensures reads { Gives stop_of (λ x. (class_of x.0, lexemes_in self.count x.1.now)) result ((inside_at levels).class (lexemes_in self.count tokens.now)) }
-        ensures shorter { IfOk result (λ x. length x.1.now < length tokens.now) }
+        ensures { Gives stop_of (λ x. (class_of x.0, lexemes_in self.count x.1.now)) result ((inside_at levels).class (lexemes_in self.count tokens.now)) }
     {
         if levels == 0 {
             return Err(ReadFault::Stop(Stop::TooDeep));

@@ -1,5 +1,5 @@
 // Reading patterns and the components of grammars.
-ghost use Rattle.std.specs.Prelude.{◌≡◌, ◌<◌, ◌≤◌, map, length, IfOk};
+ghost use Rattle.std.specs.Prelude.{map};
 ghost use Rattle.rnc_syntax.specs.plain.Reading.{lexemes_in};
 ghost use Rattle.rnc_syntax.specs.plain.Combinators.{follow, many, with_front};
 ghost use Rattle.rng_model.specs.plain.Answers.{Gives};
@@ -22,8 +22,7 @@ impl Reader {
         levels: u8,
         tokens: &'t [Token<'a>],
     ) -> Result<(Pattern<'a>, &'t [Token<'a>]), ReadFault>
-        ensures reads { Gives stop_of (λ x. (pattern_of x.0, lexemes_in self.count x.1.now)) result ((inside_at levels).pattern (lexemes_in self.count tokens.now)) }
-        ensures shorter { IfOk result (λ x. length x.1.now < length tokens.now) }
+        ensures { Gives stop_of (λ x. (pattern_of x.0, lexemes_in self.count x.1.now)) result ((inside_at levels).pattern (lexemes_in self.count tokens.now)) }
     {
         if levels == 0 {
             return Err(ReadFault::Stop(Stop::TooDeep));
@@ -40,8 +39,7 @@ impl Reader {
         setting: Setting,
         tokens: &'t [Token<'a>],
     ) -> Result<(Vec<Component<'a>>, &'t [Token<'a>]), ReadFault>
-        ensures reads { Gives stop_of (λ x. (map component_of x.0.items, lexemes_in self.count x.1.now)) result ((inside_at levels).components (setting_of setting) (lexemes_in self.count tokens.now)) }
-        ensures shorter { IfOk result (λ x. length x.1.now ≤ length tokens.now) }
+        ensures { Gives stop_of (λ x. (map component_of x.0.items, lexemes_in self.count x.1.now)) result ((inside_at levels).components (setting_of setting) (lexemes_in self.count tokens.now)) }
     {
         if levels == 0 {
             return Err(ReadFault::Stop(Stop::TooDeep));
@@ -57,12 +55,11 @@ impl Reader {
         levels: u8,
         tokens: &'t [Token<'a>],
     ) -> Result<(Box<Pattern<'a>>, &'t [Token<'a>]), ReadFault>
-        ensures reads { Gives stop_of (λ x. (pattern_of x.0.value, lexemes_in self.count x.1.now)) result (braced_with (inside_at levels) (lexemes_in self.count tokens.now)) }
-        ensures shorter { IfOk result (λ x. length x.1.now < length tokens.now) }
+        ensures { Gives stop_of (λ x. (pattern_of x.0.value, lexemes_in self.count x.1.now)) result (braced_with (inside_at levels) (lexemes_in self.count tokens.now)) }
     {
         let rest = self.skip(Sign::OpenBrace, tokens)?;
         let (body, rest) = self.inner_pattern(levels, rest)?;
-        let rest = self.skip(Sign::CloseBrace, rest)?;
+        let (body, rest) = self.closed(Sign::CloseBrace, body, rest)?;
         Ok((Box::new(self.alloc, body)?, rest))
     }
 
@@ -75,13 +72,11 @@ impl Reader {
         setting: Setting,
         tokens: &'t [Token<'a>],
     ) -> Result<(Vec<Component<'a>>, &'t [Token<'a>]), ReadFault>
-        ensures reads { Gives stop_of (λ x. (map component_of x.0.items, lexemes_in self.count x.1.now)) result (contents_with (inside_at levels) (setting_of setting) (lexemes_in self.count tokens.now)) }
-        ensures shorter { IfOk result (λ x. length x.1.now < length tokens.now) }
+        ensures { Gives stop_of (λ x. (map component_of x.0.items, lexemes_in self.count x.1.now)) result (contents_with (inside_at levels) (setting_of setting) (lexemes_in self.count tokens.now)) }
     {
         let rest = self.skip(Sign::OpenBrace, tokens)?;
         let (components, rest) = self.inner_components(levels, setting, rest)?;
-        let rest = self.skip(Sign::CloseBrace, rest)?;
-        Ok((components, rest))
+        self.closed(Sign::CloseBrace, components, rest)
     }
 
     /// Reads a primary that contains other patterns, after its keyword or its parenthesis.
@@ -93,8 +88,7 @@ impl Reader {
         opening: Opening,
         tokens: &'t [Token<'a>],
     ) -> Result<(Pattern<'a>, &'t [Token<'a>]), ReadFault>
-        ensures reads { Gives stop_of (λ x. (pattern_of x.0, lexemes_in self.count x.1.now)) result (opened_with (inside_at levels) opening (lexemes_in self.count tokens.now)) }
-        ensures shorter { IfOk result (λ x. length x.1.now < length tokens.now) }
+        ensures { Gives stop_of (λ x. (pattern_of x.0, lexemes_in self.count x.1.now)) result (opened_with (inside_at levels) opening (lexemes_in self.count tokens.now)) }
     {
         match opening {
             Opening::Element => {
@@ -121,8 +115,7 @@ impl Reader {
             }
             Opening::Parenthesis => {
                 let (body, rest) = self.inner_pattern(levels, tokens)?;
-                let rest = self.skip(Sign::CloseParenthesis, rest)?;
-                Ok((body, rest))
+                self.closed(Sign::CloseParenthesis, body, rest)
             }
         }
     }
@@ -135,8 +128,7 @@ impl Reader {
         levels: u8,
         tokens: &'t [Token<'a>],
     ) -> Result<(Pattern<'a>, &'t [Token<'a>]), ReadFault>
-        ensures reads { Gives stop_of (λ x. (pattern_of x.0, lexemes_in self.count x.1.now)) result (primary_with (inside_at levels) (lexemes_in self.count tokens.now)) }
-        ensures shorter { IfOk result (λ x. length x.1.now < length tokens.now) }
+        ensures { Gives stop_of (λ x. (pattern_of x.0, lexemes_in self.count x.1.now)) result (primary_with (inside_at levels) (lexemes_in self.count tokens.now)) }
     {
         let rest = self.annotation(tokens)?;
         self.bare_primary(levels, rest)
@@ -150,8 +142,7 @@ impl Reader {
         levels: u8,
         tokens: &'t [Token<'a>],
     ) -> Result<(Pattern<'a>, &'t [Token<'a>]), ReadFault>
-        ensures reads { Gives stop_of (λ x. (pattern_of x.0, lexemes_in self.count x.1.now)) result (bare_primary_with (inside_at levels) (lexemes_in self.count tokens.now)) }
-        ensures shorter { IfOk result (λ x. length x.1.now < length tokens.now) }
+        ensures { Gives stop_of (λ x. (pattern_of x.0, lexemes_in self.count x.1.now)) result (bare_primary_with (inside_at levels) (lexemes_in self.count tokens.now)) }
     {
         match self.find_opening(tokens) {
             Some((opening, rest)) => self.opened(levels, opening, rest),
@@ -167,8 +158,7 @@ impl Reader {
         levels: u8,
         tokens: &'t [Token<'a>],
     ) -> Result<(Pattern<'a>, &'t [Token<'a>]), ReadFault>
-        ensures reads { Gives stop_of (λ x. (pattern_of x.0, lexemes_in self.count x.1.now)) result (particle_with (inside_at levels) (lexemes_in self.count tokens.now)) }
-        ensures shorter { IfOk result (λ x. length x.1.now < length tokens.now) }
+        ensures { Gives stop_of (λ x. (pattern_of x.0, lexemes_in self.count x.1.now)) result (particle_with (inside_at levels) (lexemes_in self.count tokens.now)) }
     {
         let (primary, rest) = self.primary(levels, tokens)?;
         self.repeated(primary, rest)
@@ -183,8 +173,7 @@ impl Reader {
         mut all: Vec<Pattern<'a>>,
         tokens: &'t [Token<'a>],
     ) -> Result<(Vec<Pattern<'a>>, &'t [Token<'a>]), ReadFault>
-        ensures reads { Gives stop_of (λ x. (map pattern_of x.0.items, lexemes_in self.count x.1.now)) result (with_front (map pattern_of all.entry.items) (many (follow sign) (particle_with (inside_at levels)) (lexemes_in self.count tokens.now))) }
-        ensures shorter { IfOk result (λ x. length x.1.now ≤ length tokens.now) }
+        ensures { Gives stop_of (λ x. (map pattern_of x.0.items, lexemes_in self.count x.1.now)) result (with_front (map pattern_of all.entry.items) (many (follow sign) (particle_with (inside_at levels)) (lexemes_in self.count tokens.now))) }
     {
         let mut rest = tokens;
         while let Some(after) = self.find_after(sign, rest) {
@@ -203,8 +192,7 @@ impl Reader {
         primary: Pattern<'a>,
         tokens: &'t [Token<'a>],
     ) -> Result<(Pattern<'a>, &'t [Token<'a>]), ReadFault>
-        ensures reads { Gives stop_of (λ x. (pattern_of x.0, lexemes_in self.count x.1.now)) result (pattern_read_from (inside_at levels) (pattern_of primary.entry) (lexemes_in self.count tokens.now)) }
-        ensures shorter { IfOk result (λ x. length x.1.now ≤ length tokens.now) }
+        ensures { Gives stop_of (λ x. (pattern_of x.0, lexemes_in self.count x.1.now)) result (pattern_read_from (inside_at levels) (pattern_of primary.entry) (lexemes_in self.count tokens.now)) }
     {
         let (first, rest) = self.repeated(primary, tokens)?;
         self.members(levels, first, rest)
@@ -219,8 +207,7 @@ impl Reader {
         first: Pattern<'a>,
         tokens: &'t [Token<'a>],
     ) -> Result<(Pattern<'a>, &'t [Token<'a>]), ReadFault>
-        ensures reads { Gives stop_of (λ x. (pattern_of x.0, lexemes_in self.count x.1.now)) result (rest_with (inside_at levels) (pattern_of first.entry) (separator_of (lexemes_in self.count tokens.now)) (lexemes_in self.count tokens.now)) }
-        ensures shorter { IfOk result (λ x. length x.1.now ≤ length tokens.now) }
+        ensures { Gives stop_of (λ x. (pattern_of x.0, lexemes_in self.count x.1.now)) result (rest_with (inside_at levels) (pattern_of first.entry) (separator_of (lexemes_in self.count tokens.now)) (lexemes_in self.count tokens.now)) }
     {
         match self.separator(tokens) {
             None => Ok((first, tokens)),
@@ -242,8 +229,7 @@ impl Reader {
         parameters: Vec<Parameter<'a>>,
         tokens: &'t [Token<'a>],
     ) -> Result<(Pattern<'a>, &'t [Token<'a>]), ReadFault>
-        ensures reads { Gives stop_of (λ x. (pattern_of x.0, lexemes_in self.count x.1.now)) result (data_with (inside_at levels) (type_of type_name.entry) (map parameter_of parameters.entry.items) (lexemes_in self.count tokens.now)) }
-        ensures shorter { IfOk result (λ x. length x.1.now ≤ length tokens.now) }
+        ensures { Gives stop_of (λ x. (pattern_of x.0, lexemes_in self.count x.1.now)) result (data_with (inside_at levels) (type_of type_name.entry) (map parameter_of parameters.entry.items) (lexemes_in self.count tokens.now)) }
     {
         match self.find_after(Sign::Minus, tokens) {
             None => self.pattern_from(levels, Pattern::Data(type_name, parameters), tokens),
@@ -263,8 +249,7 @@ impl Reader {
         levels: u8,
         tokens: &'t [Token<'a>],
     ) -> Result<(Pattern<'a>, &'t [Token<'a>]), ReadFault>
-        ensures reads { Gives stop_of (λ x. (pattern_of x.0, lexemes_in self.count x.1.now)) result (pattern_with (inside_at levels) (lexemes_in self.count tokens.now)) }
-        ensures shorter { IfOk result (λ x. length x.1.now < length tokens.now) }
+        ensures { Gives stop_of (λ x. (pattern_of x.0, lexemes_in self.count x.1.now)) result (pattern_with (inside_at levels) (lexemes_in self.count tokens.now)) }
     {
         let rest = self.annotation(tokens)?;
         self.bare_pattern(levels, rest)
@@ -278,8 +263,7 @@ impl Reader {
         levels: u8,
         tokens: &'t [Token<'a>],
     ) -> Result<(Pattern<'a>, &'t [Token<'a>]), ReadFault>
-        ensures reads { Gives stop_of (λ x. (pattern_of x.0, lexemes_in self.count x.1.now)) result (bare_pattern_with (inside_at levels) (lexemes_in self.count tokens.now)) }
-        ensures shorter { IfOk result (λ x. length x.1.now < length tokens.now) }
+        ensures { Gives stop_of (λ x. (pattern_of x.0, lexemes_in self.count x.1.now)) result (bare_pattern_with (inside_at levels) (lexemes_in self.count tokens.now)) }
     {
         match self.find_data(tokens) {
             None => {
@@ -301,8 +285,7 @@ impl Reader {
         levels: u8,
         tokens: &'t [Token<'a>],
     ) -> Result<(Vec<Component<'a>>, &'t [Token<'a>]), ReadFault>
-        ensures reads { Gives stop_of (λ x. (map component_of x.0.items, lexemes_in self.count x.1.now)) result (overrides_with (inside_at levels) (lexemes_in self.count tokens.now)) }
-        ensures shorter { IfOk result (λ x. length x.1.now ≤ length tokens.now) }
+        ensures { Gives stop_of (λ x. (map component_of x.0.items, lexemes_in self.count x.1.now)) result (overrides_with (inside_at levels) (lexemes_in self.count tokens.now)) }
     {
         match self.find_after(Sign::OpenBrace, tokens) {
             None => Ok((Vec::new(self.alloc), tokens)),
@@ -319,8 +302,7 @@ impl Reader {
         setting: Setting,
         tokens: &'t [Token<'a>],
     ) -> Result<(Component<'a>, &'t [Token<'a>]), ReadFault>
-        ensures reads { Gives stop_of (λ x. (component_of x.0, lexemes_in self.count x.1.now)) result (component_with (inside_at levels) (setting_of setting) (lexemes_in self.count tokens.now)) }
-        ensures shorter { IfOk result (λ x. length x.1.now < length tokens.now) }
+        ensures { Gives stop_of (λ x. (component_of x.0, lexemes_in self.count x.1.now)) result (component_with (inside_at levels) (setting_of setting) (lexemes_in self.count tokens.now)) }
     {
         let rest = self.annotation(tokens)?;
         self.bare_component(levels, setting, rest)
@@ -335,8 +317,7 @@ impl Reader {
         setting: Setting,
         tokens: &'t [Token<'a>],
     ) -> Result<(Component<'a>, &'t [Token<'a>]), ReadFault>
-        ensures reads { Gives stop_of (λ x. (component_of x.0, lexemes_in self.count x.1.now)) result (bare_component_with (inside_at levels) (setting_of setting) (lexemes_in self.count tokens.now)) }
-        ensures shorter { IfOk result (λ x. length x.1.now < length tokens.now) }
+        ensures { Gives stop_of (λ x. (component_of x.0, lexemes_in self.count x.1.now)) result (bare_component_with (inside_at levels) (setting_of setting) (lexemes_in self.count tokens.now)) }
     {
         if let Some(rest) = self.find_after_keyword(Keyword::Div, tokens) {
             let (components, rest) = self.contents(levels, setting, rest)?;
@@ -354,17 +335,29 @@ impl Reader {
 
     /// Reads a list of components inside which at most `levels` brackets may be open.
     #[cycle(patterns)]
-    #[tactic(auto, unfolding(crate::specs::plain::Productions::components_with))]
     pub fn components<'t, 'a>(
         self,
         levels: u8,
         setting: Setting,
         tokens: &'t [Token<'a>],
     ) -> Result<(Vec<Component<'a>>, &'t [Token<'a>]), ReadFault>
-        ensures reads { Gives stop_of (λ x. (map component_of x.0.items, lexemes_in self.count x.1.now)) result (components_with (inside_at levels) (setting_of setting) (lexemes_in self.count tokens.now)) }
-        ensures shorter { IfOk result (λ x. length x.1.now ≤ length tokens.now) }
+        ensures { Gives stop_of (λ x. (map component_of x.0.items, lexemes_in self.count x.1.now)) result (components_with (inside_at levels) (setting_of setting) (lexemes_in self.count tokens.now)) }
     {
-        let mut all = Vec::new(self.alloc);
+        self.more_components(levels, setting, Vec::new(self.alloc), tokens)
+    }
+
+    /// Reads the components that follow, and appends them.
+    #[cycle(patterns)]
+    #[tactic(auto, unfolding(crate::specs::plain::Productions::components_with))]
+    pub fn more_components<'t, 'a>(
+        self,
+        levels: u8,
+        setting: Setting,
+        mut all: Vec<Component<'a>>,
+        tokens: &'t [Token<'a>],
+    ) -> Result<(Vec<Component<'a>>, &'t [Token<'a>]), ReadFault>
+        ensures { Gives stop_of (λ x. (map component_of x.0.items, lexemes_in self.count x.1.now)) result (with_front (map component_of all.entry.items) (components_with (inside_at levels) (setting_of setting) (lexemes_in self.count tokens.now))) }
+    {
         let mut rest = tokens;
         while self.begins_component(setting, rest) {
             let (next, after) = self.component(levels, setting, rest)?;

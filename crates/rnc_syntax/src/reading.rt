@@ -1,8 +1,8 @@
 // Reading tokens from left to right.
-ghost use Rattle.std.specs.Prelude.{◌≡◌, ◌<◌, option_map, length, IfOk, IfSome};
+ghost use Rattle.std.specs.Prelude.{◌≡◌, [], ◌∷◌, IfOk, Ok, option_map, length};
 ghost use Rattle.rnc_model.specs.tokens.Lexeme.{local_in, prefix_in};
 ghost use Rattle.rnc_syntax.specs.plain.Reading.{lexemes_in};
-ghost use Rattle.rnc_syntax.specs.plain.Combinators.{after, after_keyword, follow, follow_keyword, word_at, identifier_at, segment_at};
+ghost use Rattle.rnc_syntax.specs.plain.Combinators.{after, follow, follow_keyword, word_at, identifier_at, segment_at};
 ghost use Rattle.rng_model.specs.plain.Answers.{Gives};
 ghost use Rattle.rnc_syntax.specs.views.Fault.{stop_of};
 ghost use Rattle.rnc_syntax.specs.declared.fault.Stop.TheVariants.{Unexpected};
@@ -39,6 +39,15 @@ pub struct Reader {
 }
 
 impl Reader {
+    /// A list of one item.
+    pub fn alone<T: Drop>(self, item: T) -> Result<Vec<T>, ReadFault>
+        ensures { Gives stop_of (λ all. all.items) result (Ok (item ∷ [])) }
+    {
+        let mut all = Vec::new(self.alloc);
+        all.push(item)?;
+        Ok(all)
+    }
+
     /// The fault if no production allows the first of these tokens, or their end.
     #[tactic(auto, using(crate::proofs::Lexemes::length_of_lexemes))]
     pub fn unexpected(self, tokens: &[Token<'_>]) -> ReadFault
@@ -49,8 +58,7 @@ impl Reader {
 
     /// The tokens after this sign, if it is first.
     pub fn find_after<'t, 'a>(self, sign: Sign, tokens: &'t [Token<'a>]) -> Option<&'t [Token<'a>]>
-        ensures reads { option_map (λ x. lexemes_in self.count x.now) result ≡ follow sign (lexemes_in self.count tokens.now) }
-        ensures shorter { IfSome result (λ x. length x.now < length tokens.now) }
+        ensures { option_map (λ x. lexemes_in self.count x.now) result ≡ follow sign (lexemes_in self.count tokens.now) }
     {
         match tokens {
             [first, rest @ ..] if first.kind == TokenKind::Sign(sign) => Some(rest),
@@ -65,13 +73,26 @@ impl Reader {
         sign: Sign,
         tokens: &'t [Token<'a>],
     ) -> Result<&'t [Token<'a>], ReadFault>
-        ensures reads { Gives stop_of (λ x. (tt, lexemes_in self.count x.now)) result (after sign (lexemes_in self.count tokens.now)) }
-        ensures shorter { IfOk result (λ x. length x.now < length tokens.now) }
+        ensures { Gives stop_of (λ x. (tt, lexemes_in self.count x.now)) result (after sign (lexemes_in self.count tokens.now)) }
     {
         match self.find_after(sign, tokens) {
             Some(rest) => Ok(rest),
             None => Err(self.unexpected(tokens)),
         }
+    }
+
+    /// Skips this sign after a value. Returns the value and the tokens after the sign, or fails if the sign is not first.
+    pub fn closed<'t, 'a, T: Drop>(
+        self,
+        sign: Sign,
+        value: T,
+        tokens: &'t [Token<'a>],
+    ) -> Result<(T, &'t [Token<'a>]), ReadFault>
+        ensures value { IfOk result (λ x. x.0 ≡ value) }
+        ensures reads { Gives stop_of (λ x. (tt, lexemes_in self.count x.1.now)) result (after sign (lexemes_in self.count tokens.now)) }
+    {
+        let rest = self.skip(sign, tokens)?;
+        Ok((value, rest))
     }
 
     /// The tokens after this keyword, if it is first.
@@ -80,28 +101,11 @@ impl Reader {
         keyword: Keyword,
         tokens: &'t [Token<'a>],
     ) -> Option<&'t [Token<'a>]>
-        ensures reads { option_map (λ x. lexemes_in self.count x.now) result ≡ follow_keyword keyword (lexemes_in self.count tokens.now) }
-        ensures shorter { IfSome result (λ x. length x.now < length tokens.now) }
+        ensures { option_map (λ x. lexemes_in self.count x.now) result ≡ follow_keyword keyword (lexemes_in self.count tokens.now) }
     {
         match tokens {
             [first, rest @ ..] if first.kind == TokenKind::Keyword(keyword) => Some(rest),
             _ => None,
-        }
-    }
-
-    /// Skips this keyword. Fails if it is not first.
-    #[tactic(auto, unfolding(crate::specs::plain::Combinators::after_keyword))]
-    pub fn skip_keyword<'t, 'a>(
-        self,
-        keyword: Keyword,
-        tokens: &'t [Token<'a>],
-    ) -> Result<&'t [Token<'a>], ReadFault>
-        ensures reads { Gives stop_of (λ x. (tt, lexemes_in self.count x.now)) result (after_keyword keyword (lexemes_in self.count tokens.now)) }
-        ensures shorter { IfOk result (λ x. length x.now < length tokens.now) }
-    {
-        match self.find_after_keyword(keyword, tokens) {
-            Some(rest) => Ok(rest),
-            None => Err(self.unexpected(tokens)),
         }
     }
 
@@ -111,8 +115,7 @@ impl Reader {
         self,
         tokens: &'t [Token<'a>],
     ) -> Result<(&'a str, &'t [Token<'a>]), ReadFault>
-        ensures reads { Gives stop_of (λ x. (x.0.now, lexemes_in self.count x.1.now)) result (word_at (lexemes_in self.count tokens.now)) }
-        ensures shorter { IfOk result (λ x. length x.1.now < length tokens.now) }
+        ensures { Gives stop_of (λ x. (x.0.now, lexemes_in self.count x.1.now)) result (word_at (lexemes_in self.count tokens.now)) }
     {
         match tokens {
             [first, rest @ ..] => match first.kind {
@@ -131,8 +134,7 @@ impl Reader {
         self,
         tokens: &'t [Token<'a>],
     ) -> Result<(&'a str, &'t [Token<'a>]), ReadFault>
-        ensures reads { Gives stop_of (λ x. (x.0.now, lexemes_in self.count x.1.now)) result (identifier_at (lexemes_in self.count tokens.now)) }
-        ensures shorter { IfOk result (λ x. length x.1.now < length tokens.now) }
+        ensures { Gives stop_of (λ x. (x.0.now, lexemes_in self.count x.1.now)) result (identifier_at (lexemes_in self.count tokens.now)) }
     {
         match tokens {
             [first, rest @ ..] => match first.kind {
@@ -149,8 +151,7 @@ impl Reader {
         self,
         tokens: &'t [Token<'a>],
     ) -> Result<(&'a str, &'t [Token<'a>]), ReadFault>
-        ensures reads { Gives stop_of (λ x. (x.0.now, lexemes_in self.count x.1.now)) result (segment_at (lexemes_in self.count tokens.now)) }
-        ensures shorter { IfOk result (λ x. length x.1.now < length tokens.now) }
+        ensures { Gives stop_of (λ x. (x.0.now, lexemes_in self.count x.1.now)) result (segment_at (lexemes_in self.count tokens.now)) }
     {
         match tokens {
             [first, rest @ ..] => match first.kind {

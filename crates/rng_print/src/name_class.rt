@@ -1,9 +1,9 @@
 // Name classes.
-ghost use Rattle.std.specs.Prelude.{◌≡◌, ◌++◌, ◌||◌, [], OnOk, if◌then◌else◌};
+ghost use Rattle.std.specs.Prelude.{◌≡◌, ◌++◌, ◌||◌, OnOk};
 ghost use Rattle.rng_model.specs.names.Names as names;
 ghost use Rattle.rng_model.specs.simple.Table.{IsPaired};
 ghost use Rattle.rng_model.specs.names.NameViews.{class_of, name_of};
-ghost use Rattle.rncv_model.specs.printed.PrintedText.{class_text, is_choice, is_except};
+ghost use Rattle.rncv_model.specs.printed.PrintedText.{class_text, in_parentheses_if, is_choice, is_except};
 ghost use Rattle.rng_print.specs.views.Prefixes.{namespaces_seen};
 
 use crate::prefixes::Prefixes;
@@ -13,6 +13,7 @@ use std::alloc::Global;
 /// Writes a name class whose choices all have two members.
 ///
 /// The recursion is as deep as the class.
+#[cycle(classes)]
 pub(crate) fn write_class(
     alloc: Global,
     prefixes: &Prefixes<'_>,
@@ -26,10 +27,7 @@ pub(crate) fn write_class(
         NameClass::Any => Ok(text.extend_from_slice(b"*")?),
         NameClass::AnyExcept(except) => {
             text.extend_from_slice(b"* - ")?;
-            let parted = is_joined(except);
-            write_if(parted, b"(", text)?;
-            write_class(alloc, prefixes, except, text)?;
-            write_if(parted, b")", text)
+            write_part(alloc, prefixes, except, is_joined(except), text)
         }
         NameClass::Ns(ns) => {
             prefixes.write_prefix(alloc, ns.as_str(), text)?;
@@ -38,27 +36,38 @@ pub(crate) fn write_class(
         NameClass::NsExcept(ns, except) => {
             prefixes.write_prefix(alloc, ns.as_str(), text)?;
             text.extend_from_slice(b":* - ")?;
-            let parted = is_joined(except);
-            write_if(parted, b"(", text)?;
-            write_class(alloc, prefixes, except, text)?;
-            write_if(parted, b")", text)
+            write_part(alloc, prefixes, except, is_joined(except), text)
         }
         NameClass::Name(name) => write_name(alloc, prefixes, name, text),
         NameClass::Choice(members) => {
             let [left, right] = members.as_slice() else {
                 return Ok(());
             };
-            let first = is_except(left);
-            write_if(first, b"(", text)?;
-            write_class(alloc, prefixes, left, text)?;
-            write_if(first, b")", text)?;
+            write_part(alloc, prefixes, left, is_except(left), text)?;
             text.extend_from_slice(b" | ")?;
-            let second = is_joined(right);
-            write_if(second, b"(", text)?;
-            write_class(alloc, prefixes, right, text)?;
-            write_if(second, b")", text)
+            write_part(alloc, prefixes, right, is_joined(right), text)
         }
     }
+}
+
+/// Writes a part of a name class, in parentheses if `parted` is true.
+#[cycle(classes)]
+fn write_part(
+    alloc: Global,
+    prefixes: &Prefixes<'_>,
+    part: &NameClass,
+    parted: bool,
+    text: &mut Vec<u8>,
+) -> Result<(), OutOfMemory>
+    requires { IsPaired part.now }
+    ensures { OnOk result (text.new.items ≡ text.old.items ++ in_parentheses_if parted (class_text (namespaces_seen prefixes.now) (class_of part.now))) }
+{
+    if !parted {
+        return write_class(alloc, prefixes, part, text);
+    }
+    text.extend_from_slice(b"(")?;
+    write_class(alloc, prefixes, part, text)?;
+    Ok(text.extend_from_slice(b")")?)
 }
 
 /// Writes a name, after the prefix of its namespace if it has one.
@@ -94,14 +103,4 @@ fn is_except(class: &NameClass) -> bool
     ensures { result ≡ is_except (class_of class.now) }
 {
     matches!(class, NameClass::AnyExcept(_) | NameClass::NsExcept(_, _))
-}
-
-/// Writes these bytes if `asked` is true.
-fn write_if(asked: bool, bytes: &[u8], text: &mut Vec<u8>) -> Result<(), OutOfMemory>
-    ensures { OnOk result (text.new.items ≡ text.old.items ++ (if asked then bytes.now else [])) }
-{
-    if asked {
-        text.extend_from_slice(bytes)?;
-    }
-    Ok(())
 }

@@ -11,6 +11,8 @@ use Rattle.rnc_syntax.specs.declared.annotations.Role.{Role}
 use Rattle.rnc_syntax.specs.declared.annotations.Role.TheVariants as roles
 use Rattle.rnc_syntax.specs.declared.atoms.Opening.{Opening}
 use Rattle.rnc_syntax.specs.declared.atoms.Opening.TheVariants as openings
+use Rattle.rnc_syntax.specs.declared.atoms.Repetition.{Repetition}
+use Rattle.rnc_syntax.specs.declared.atoms.Repetition.TheVariants as repetitions
 use Rattle.rng_model.specs.declared.method.Method.{Method}
 use Rattle.rng_model.specs.declared.method.Method.TheVariants as methods
 use Rattle.rnc_model.specs.tokens.Lexeme.{Lexeme, keyword, identifier, cname, ns_name, segment, sign}
@@ -251,6 +253,19 @@ bare_primary_with inside ts = either_way (opening_front ts) (atom_at ts) (λ x. 
 
 unfoldable pub primary_with : Inside → List Lexeme → Outcome Pattern
 primary_with inside ts = annotated (bare_primary_with inside) ts
+
+-- the sign of repetition at the front, and the tokens after it
+abbrev pub repetition_front : List Lexeme → Option (Repetition × List Lexeme)
+repetition_front (sign Question ∷ ts) = Some (repetitions.Optional, ts)
+repetition_front (sign Star ∷ ts) = Some (repetitions.ZeroOrMore, ts)
+repetition_front (sign Plus ∷ ts) = Some (repetitions.OneOrMore, ts)
+repetition_front _ = None
+
+-- a pattern that may occur so often
+abbrev pub repeated_by : Repetition → Pattern → Pattern
+repeated_by repetitions.Optional t = syntax.optional t
+repeated_by repetitions.ZeroOrMore t = syntax.zero_or_more t
+repeated_by repetitions.OneOrMore t = syntax.one_or_more t
 
 -- a primary with the sign of repetition after it, if there is one
 abbrev pub repeated : Pattern → List Lexeme → Pattern × List Lexeme

@@ -1,6 +1,5 @@
 -- Faults, and which fault is reported where reading stops.
 use Rattle.std.specs.Prelude.{ℕ, ◌+◌, ◌-◌, Option, Some, None, Result, Ok, Err}
-use Rattle.rng_model.specs.plain.Answers.{Gives, Refuses}
 use Rattle.rnc_syntax.specs.declared.fault.ReadFault.{ReadFault}
 use Rattle.rnc_syntax.specs.declared.fault.ReadFault.TheVariants as read_faults
 use Rattle.rnc_syntax.specs.declared.fault.Stop.{Stop}

@@ -1,4 +1,4 @@
-use Rattle.std.proofs.Common.{map, length, ◌≤◌, ◌+◌, ◌*◌}
+use Rattle.std.proofs.Common.{map, length, ◌+◌, ◌*◌}
 use Rattle.rnc_model.specs.declared.token.Sign.TheVariants.{Bar}
 use Rattle.rnc_syntax.specs.plain.Reading.{lexemes_in}
 use Rattle.rnc_syntax.specs.plain.Combinators.{follow, many, with_front}
@@ -29,11 +29,8 @@ abbrev pub decreases-bare_class : goal.decreases-bare_class
 decreases-bare_class l = 8 * l.levels + 5
 
 abbrev pub invariant-more_classes-loop-after : goal.invariant-more_classes-loop-after
-invariant-more_classes-loop-after l = record {
-  goes : Goes (follow Bar) (basic_with (inside_at l.levels).class) (map class_of l.all.items) (lexemes_in l.self.count l.rest)
-      (with_front (map class_of l.fn.all.items) (many (follow Bar) (basic_with (inside_at l.levels).class) (lexemes_in l.self.count l.tokens)));
-  within : length l.rest ≤ length l.tokens;
-}
+invariant-more_classes-loop-after l = Goes (follow Bar) (basic_with (inside_at l.levels).class) (map class_of l.all.items) (lexemes_in l.self.count l.rest)
+    (with_front (map class_of l.fn.all.items) (many (follow Bar) (basic_with (inside_at l.levels).class) (lexemes_in l.self.count l.tokens)))
 
 abbrev pub decreases-more_classes-loop-after : goal.decreases-more_classes-loop-after
 decreases-more_classes-loop-after l = length l.rest

@@ -1,4 +1,4 @@
-use Rattle.std.proofs.Common.{map, length, ◌≤◌, ◌+◌, ◌*◌}
+use Rattle.std.proofs.Common.{map, length, ◌+◌, ◌*◌}
 use Rattle.rnc_syntax.specs.plain.Reading.{lexemes_in}
 use Rattle.rnc_syntax.specs.plain.Combinators.{follow, many, with_front}
 use Rattle.rnc_syntax.specs.plain.Productions.{particle_with, component_front, component_with, components_with, inside_at}
@@ -57,25 +57,23 @@ decreases-component l = 16 * l.levels + 13
 abbrev pub decreases-bare_component : goal.decreases-bare_component
 decreases-bare_component l = 16 * l.levels + 12
 
+abbrev pub decreases-more_components : goal.decreases-more_components
+decreases-more_components l = 16 * l.levels + 14
+
 abbrev pub decreases-components : goal.decreases-components
-decreases-components l = 16 * l.levels + 14
+decreases-components l = 16 * l.levels + 15
 
 abbrev pub invariant-more-loop-after : goal.invariant-more-loop-after
-invariant-more-loop-after l = record {
-  goes : Goes (follow l.sign) (particle_with (inside_at l.levels)) (map pattern_of l.all.items) (lexemes_in l.self.count l.rest)
-      (with_front (map pattern_of l.fn.all.items) (many (follow l.sign) (particle_with (inside_at l.levels)) (lexemes_in l.self.count l.tokens)));
-  within : length l.rest ≤ length l.tokens;
-}
+invariant-more-loop-after l = Goes (follow l.sign) (particle_with (inside_at l.levels)) (map pattern_of l.all.items) (lexemes_in l.self.count l.rest)
+    (with_front (map pattern_of l.fn.all.items) (many (follow l.sign) (particle_with (inside_at l.levels)) (lexemes_in l.self.count l.tokens)))
 
 abbrev pub decreases-more-loop-after : goal.decreases-more-loop-after
 decreases-more-loop-after l = length l.rest
 
-abbrev pub invariant-components-loop-self : goal.invariant-components-loop-self
-invariant-components-loop-self l = record {
-  goes : Goes (component_front (setting_of l.setting)) (component_with (inside_at l.levels) (setting_of l.setting)) (map component_of l.all.items)
-      (lexemes_in l.self.count l.rest) (components_with (inside_at l.levels) (setting_of l.setting) (lexemes_in l.self.count l.tokens));
-  within : length l.rest ≤ length l.tokens;
-}
+abbrev pub invariant-more_components-loop-self : goal.invariant-more_components-loop-self
+invariant-more_components-loop-self l = Goes (component_front (setting_of l.setting)) (component_with (inside_at l.levels) (setting_of l.setting))
+    (map component_of l.all.items) (lexemes_in l.self.count l.rest)
+    (with_front (map component_of l.fn.all.items) (components_with (inside_at l.levels) (setting_of l.setting) (lexemes_in l.self.count l.tokens)))
 
-abbrev pub decreases-components-loop-self : goal.decreases-components-loop-self
-decreases-components-loop-self l = length l.rest
+abbrev pub decreases-more_components-loop-self : goal.decreases-more_components-loop-self
+decreases-more_components-loop-self l = length l.rest

@@ -3,11 +3,11 @@ use Rattle.rnc_syntax.proofs.AnnotationSteps.{opens, stays, closes_last, closes_
 use Rattle.rnc_syntax.proofs.reading.Reader.annotation_end.Goals as goal
 use Rattle.rnc_syntax.proofs.reading.Reader.annotation_end.Goals.{in-Opens, in-Closes-2, in-Content}
 
-pub returns-in-Closes-clause-reads : goal.returns-in-Closes-clause-reads
-returns-in-Closes-clause-reads c = sym c.loop-role.invariant.whole ∙ closes_last _ _ _ _ c.in-Some.ensures.reads c.in-Closes.is c.if-open-eq0.true
+pub returns-in-Closes : goal.returns-in-Closes
+returns-in-Closes c = sym c.loop-role.invariant.whole ∙ closes_last _ _ _ _ c.in-Some.ensures.reads c.in-Closes.is c.if-open-eq0.true
 
-pub returns-in-Foreign-clause-reads : goal.returns-in-Foreign-clause-reads
-returns-in-Foreign-clause-reads c = stuck _ _ _ c.unexpected.ensures
+pub returns-in-Foreign : goal.returns-in-Foreign
+returns-in-Foreign c = stuck _ _ _ c.unexpected.ensures
     (sym c.loop-role.invariant.whole ∙ is_foreign _ _ _ _ c.in-Some.ensures.reads c.in-Foreign.is)
 
 pub loop-role-preserved : goal.loop-role-preserved
@@ -32,5 +32,5 @@ loop-role-preserved c =
           }
     ]
 
-pub returns-clause-reads : goal.returns-clause-reads
-returns-clause-reads c = stuck _ _ _ c.unexpected-2.ensures (sym c.loop-role.invariant.whole ∙ ends _ _ c.in_default.ensures.reads)
+pub returns : goal.returns
+returns c = stuck _ _ _ c.unexpected-2.ensures (sym c.loop-role.invariant.whole ∙ ends _ _ c.in_default.ensures.reads)

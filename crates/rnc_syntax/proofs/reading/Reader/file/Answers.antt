@@ -1,11 +1,7 @@
-use Rattle.std.proofs.Common.{sym, ◌∙◌}
-use Rattle.rnc_syntax.proofs.FileEnds.{file_ends, file_goes_on}
+use Rattle.std.proofs.Common.{refl}
+use Rattle.rnc_syntax.specs.views.SyntaxView.{file_of}
+use Rattle.rnc_syntax.proofs.FileEnds.{file_ends}
 use Rattle.rnc_syntax.proofs.reading.Reader.file.Goals as goal
 
-pub returns-then-not-is_empty : goal.returns-then-not-is_empty
-returns-then-not-is_empty c = file_goes_on _ _ _ _ _ _ c.in_ok-body.rest.now _ c.in_ok-declarations.ensures.reads c.in_ok-body.ensures.reads
-    (sym c.is_empty.ensures ∙ c.if-not-is_empty.true) c.unexpected.ensures
-
 pub returns : goal.returns
-returns c = file_ends _ _ _ _ _ _ c.in_ok-body.rest.now c.in_ok-declarations.ensures.reads c.in_ok-body.ensures.reads (sym c.is_empty.ensures
-    ∙ c.if-not-is_empty.false)
+returns c = file_ends file_of c.ended.result _ _ _ _ _ _ _ c.in_ok-declarations.ensures c.in_ok-body.ensures refl c.ended.ensures
