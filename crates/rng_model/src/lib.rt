@@ -15,6 +15,7 @@ mod document;
 mod event;
 mod fault;
 mod grammar;
+mod hashed_text;
 mod method;
 mod name;
 mod namespace;

@@ -6,21 +6,24 @@ ghost use Rattle.std.specs.Cmp.Lexicographic.{nat_list_eq_equiv, pointwise};
 ghost use Rattle.std.specs.Cmp.Rules.{hashing};
 ghost use Rattle.std.specs.Hash as fed;
 ghost use Rattle.rng_model.specs.names.NamespaceViews.{namespace_bytes};
+ghost use Rattle.rng_model.specs.plain.TextHashes.{text_hash};
 
+use crate::hashed_text::HashedText;
 use std::alloc::{AllocError, Global};
 use std::fmt;
 use std::fmt::{Debug, Formatter, Write};
 use std::hash::{Hash, Hasher};
-use std::sync::ArcStr;
+use std::sync::Arc;
 
 /// The namespace of names: a uri, or none.
 ///
-/// Names share its text, also across threads. Namespaces compare and hash as their texts.
+/// Names share its text, also across threads. Namespaces compare as their texts. To hash one does not read its text.
 ///
 /// Namespaces in XML 1.0, section 2.1.
 #[derive(Drop)]
 pub struct Namespace {
-    text: Option<ArcStr>,
+    /// No text if it is empty.
+    text: Option<Arc<HashedText>>,
 }
 
 impl Namespace {
@@ -38,19 +41,17 @@ impl Namespace {
         if text.is_empty() {
             return Ok(Namespace::none());
         }
-        let text = ArcStr::from_str(alloc, text)?;
-        Ok(Namespace { text: Some(text) })
+        Namespace::from_string(alloc, String::from_str(alloc, text)?)
     }
 
     /// Creates a namespace of this text without copying it. Fails only when out of memory.
-    pub fn from_string(text: String) -> Result<Self, AllocError>
+    pub fn from_string(alloc: Global, text: String) -> Result<Self, AllocError>
         ensures { IfOk result (λ n. namespace_bytes n ≡ string_bytes text) }
     {
-        if text.is_empty() {
-            return Ok(Namespace::none());
+        match Arc::new(alloc, HashedText::of(text)) {
+            Ok(text) => Ok(Namespace { text: Some(text) }),
+            Err(_) => Err(AllocError),
         }
-        let text = ArcStr::from_string(text)?;
-        Ok(Namespace { text: Some(text) })
     }
 
     /// Returns the text.
@@ -58,7 +59,7 @@ impl Namespace {
         ensures value { result.now ≡ namespace_bytes self.now }
     {
         match &self.text {
-            Some(text) => text.as_str(),
+            Some(text) => text.text.as_str(),
             None => "",
         }
     }
@@ -70,10 +71,21 @@ impl Namespace {
     {
         match &self.text {
             Some(text) => {
-                let text = text.clone()?;
+                let text = Arc::try_clone(text)?;
                 Ok(Namespace { text: Some(text) })
             }
             None => Ok(Namespace::none()),
+        }
+    }
+
+    /// Returns the hash of the text, which was worked out when the namespace was created.
+    #[tactic(auto, unfolding(crate::specs::plain::TextHashes::text_hash))]
+    fn text_hash(&self) -> u64
+        ensures { result ≡ text_hash (namespace_bytes self.now) }
+    {
+        match &self.text {
+            Some(text) => text.hash,
+            None => 0,
         }
     }
 }
@@ -84,7 +96,7 @@ impl PartialEq for Namespace {
     ghost laws = { on_per namespace_bytes (partial_equiv_from_equiv nat_list_eq_equiv) };
 
     fn eq(&self, other: &Self) -> bool {
-        self.as_str() == other.as_str()
+        self.text_hash() == other.text_hash() && self.as_str() == other.as_str()
     }
 }
 
@@ -93,12 +105,12 @@ impl Eq for Namespace {
 }
 
 impl Hash for Namespace {
-    ghost hash_input = { λ n. fed.str (namespace_bytes n) };
+    ghost hash_input = { λ n. fed.u64 (text_hash (namespace_bytes n)) };
 
     ghost respects_eq = { Prim.search (hashing, rules) };
 
     fn hash<H: Hasher>(&self, state: &mut H) {
-        self.as_str().hash(state);
+        state.write_u64(self.text_hash());
     }
 }
 
