@@ -9,6 +9,7 @@ use Rattle.std.proofs.lemmas.Option.{none-some, same_Some, slice_get-map}
 use Rattle.indexmap.specs.IndexSet.{insert_key}
 use Rattle.rng_model.specs.names.Names as names
 use Rattle.rng_model.specs.names.NameViews.{name_of}
+use Rattle.rng_model.specs.names.NamespaceViews.{namespace_bytes}
 use Rattle.rng_model.specs.declared.name.Name.{Name}
 use Rattle.rng_model.specs.contracts.name.NamePartialEq.TheImpl as same
 use Rattle.rng_names.specs.plain.Holding.{same_name}
@@ -18,7 +19,7 @@ use Rattle.rng_names.specs.plain.WrittenNames.{seen_numbers}
 -- ---- names are compared by their bytes
 
 pub same_names : (n m : Name) → same.ghosts.eq n m ≡ same_name (name_of n) (name_of m)
-same_names n m = and_comm (bytes_eq (string_bytes n.ns) (string_bytes m.ns)) (bytes_eq (string_bytes n.local) (string_bytes m.local))
+same_names n m = and_comm (bytes_eq (namespace_bytes n.ns) (namespace_bytes m.ns)) (bytes_eq (string_bytes n.local) (string_bytes m.local))
 
 prefix_len-map : {A B : Type 0} (f : A → B) (p : B → Bool) (xs : List A) → prefix_len (λ x. p (f x)) xs ≡ prefix_len p (map f xs)
 prefix_len-map f p [] = refl

@@ -9,16 +9,26 @@ ghost use Rattle.rng_names.specs.plain.Regions.{Puts};
 ghost use Rattle.rng_names.specs.plain.WrittenNames.{seen_numbers};
 
 use indexmap::{IndexMap, IndexSet};
-use rng_model::{Name, OutOfMemory};
+use rng_model::{Name, Namespace, OutOfMemory};
 use std::alloc::Global;
 
-/// Returns a copy of the name with this namespace and this local name.
+/// Returns the name with copies of this namespace and this local name.
 pub(crate) fn copied(alloc: Global, ns: &str, local: &str) -> Result<Name, OutOfMemory>
     ensures { IfOk result (λ name. name_of name ≡ pair ns.now local.now) }
 {
     Ok(Name {
-        ns: String::from_str(alloc, ns)?,
+        ns: Namespace::new(alloc, ns)?,
         local: String::from_str(alloc, local)?,
+    })
+}
+
+/// Returns a copy of a name, which shares its namespace.
+pub(crate) fn copy_of(alloc: Global, name: &Name) -> Result<Name, OutOfMemory>
+    ensures { IfOk result (λ copy. name_of copy ≡ name_of name.now) }
+{
+    Ok(Name {
+        ns: name.ns.share()?,
+        local: String::from_str(alloc, name.local.as_str())?,
     })
 }
 

@@ -9,7 +9,7 @@ ghost use Rattle.rng_names.specs.plain.Regions.{AddsPart, AreSorted, HasBegun, s
 ghost use Rattle.rng_names.specs.plain.WrittenNames.{Grows, Knows, written_in};
 
 use crate::names_by_region::NamesByRegion;
-use crate::texts::{copied, note, number_of};
+use crate::texts::{copy_of, note, number_of};
 use indexmap::IndexMap;
 use rng_model::{Name, NameClass, OutOfMemory};
 use std::alloc::Global;
@@ -97,7 +97,7 @@ impl WrittenNames {
             → AddsPart region (names.name_is (name_of name.now)) (sorted_in self.old.names) (sorted_in self.new.names)) }
     {
         self.add_namespace(alloc, name.ns.as_str(), name.local.len())?;
-        let name = copied(alloc, name.ns.as_str(), name.local.as_str())?;
+        let name = copy_of(alloc, name)?;
         self.names.add(name, region)
     }
 
