@@ -5,6 +5,7 @@ mod Held
 mod Escapes
 mod FrontCharacter
 mod OneDecoding
+mod PlainRuns
 mod FilePlaces
 mod CharacterClasses
 mod QuoteRuns
