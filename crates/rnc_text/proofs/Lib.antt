@@ -17,3 +17,4 @@ mod OneCut
 mod MarksCut
 mod MarksDecoded
 mod MarkScalars
+mod AsciiRuns
