@@ -23,7 +23,8 @@ pub rest-smaller : goal.rest-smaller
 rest-smaller c =
     let u : IsUtf8 c.in-Some.after.now = search rules in
     omega (
-      arith, c.in_ok-rest-2.ensures.within,
+      arith,
+      c.in_ok-rest-2.ensures.within,
       front_shorter c.rest.rest.now c.in-Some.after.now c.in-Some.character c.rest.invariant.text u (front_begins _ _ _ (sym c.in-Some.ensures)),
     )
 
@@ -35,7 +36,9 @@ rest-preserved c =
     record {
       text = v;
       within = omega (
-        arith, c.rest.invariant.within, c.in_ok-rest-2.ensures.within,
+        arith,
+        c.rest.invariant.within,
+        c.in_ok-rest-2.ensures.within,
         front_shorter c.rest.rest.now c.in-Some.after.now c.in-Some.character c.rest.invariant.text u b,
       );
       decoded = c.in_ok-rest-2.ensures.decoded _ (decodes_then c.rest.invariant.decoded _ _ _ b c.in_ok-push.ensures);
