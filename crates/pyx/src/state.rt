@@ -1,5 +1,5 @@
 // Documents line by line.
-ghost use Rattle.std.specs.Prelude.{◌≡◌, ◌+◌, ◌<◌, ◌^◌, [], ℕ, List, length, map, is_some, IfOk, OnOk, None, string_bytes, true};
+ghost use Rattle.std.specs.Prelude.{◌≡◌, ◌+◌, ◌<◌, ◌^◌, [], ℕ, List, length, map, is_some, IfOk, OnOk, None, string_bytes, false, true};
 ghost use Rattle.rng_model.specs.plain.Answers.{Gives};
 ghost use Rattle.rng_model.specs.documents.PyxLines as lines;
 ghost use Rattle.pyx.specs.plain.DocumentReader as reader;
@@ -8,7 +8,7 @@ ghost use Rattle.pyx.specs.views.ElementView.{clause_of, element_at};
 ghost use Rattle.pyx_namespaces.specs.views.WrittenAttributes.{written_attribute};
 ghost use Rattle.pyx.specs.views.Held.{state_held};
 ghost use Rattle.pyx.specs.plain.LineReader.{attribute_of, kind_of, named, said_of, text_of};
-ghost use Rattle.pyx_namespaces.specs.plain.Cuts.{at_byte};
+ghost use Rattle.pyx_namespaces.specs.plain.Cuts.{at_byte, behind};
 ghost use Rattle.pyx_namespaces.specs.plain.WrittenNames.{written_of};
 ghost use Rattle.pyx.specs.plain.Pieces.{ended_line};
 ghost use Rattle.pyx_namespaces.specs.plain.Declarations.{declared_by};
@@ -222,7 +222,8 @@ impl State {
     #[inline(always)]
     fn end_tag<E: Events>(&mut self, bytes: &[u8], events: &mut E) -> Result<(), PyxFault>
         requires { self.old.lines + 1 < 2 ^ 64 }
-        ensures { Takes result (state_of self.new) (Hands E.stands events.old events.new) (reader.tag_ended bytes.now (state_of self.old)) }
+        ensures turn { Takes result (state_of self.new) (Hands E.stands events.old events.new) (reader.tag_ended bytes.now (state_of self.old)) }
+        ensures ended { OnOk result (behind 65 bytes.now ≡ None → self.new.in_tag ≡ false) }
     {
         if let [b'A', ..] = bytes {
             return Ok(());
@@ -239,6 +240,7 @@ impl State {
     fn end_text<E: Events>(&mut self, events: &mut E) -> Result<(), PyxFault>
         ensures text { Takes result (state_of self.new) (Hands E.stands events.old events.new) (reader.text_ended (state_of self.old)) }
         ensures begun { self.new.elements.begun ≡ self.old.elements.begun }
+        ensures tag { self.new.in_tag ≡ self.old.in_tag }
     {
         if !self.joined.is_empty() {
             let kind = EventKind::Text(self.joined.as_str());
@@ -258,7 +260,7 @@ impl State {
         ensures { Takes result (state_of self.new) (Hands E.stands events.old events.new)
             (reader.judged bytes (named lines.start name.now) (state_of self.old)) }
     {
-        if !self.elements.begin(self.alloc, &mut self.spares, name)? {
+        if !self.elements.begin(name)? {
             return Err(self.fault(6));
         }
         if self.root && self.elements.is_empty() {
@@ -341,6 +343,7 @@ impl State {
     #[tactic(auto, unfolding(crate::specs::plain::LineReader::named, crate::specs::plain::DocumentReader::said_read, crate::specs::plain::DocumentReader::ended))]
     #[inline(always)]
     fn end<E: Events>(&mut self, bytes: u64, name: &str, events: &mut E) -> Result<(), PyxFault>
+        requires { self.old.in_tag ≡ false }
         ensures { Takes result (state_of self.new) (Hands E.stands events.old events.new)
             (reader.judged bytes (named lines.end name.now) (state_of self.old)) }
     {
@@ -364,6 +367,7 @@ impl State {
     fn said<E: Events>(&mut self, text: &str, literal: bool, events: &mut E) -> Result<(), PyxFault>
         requires room { reader.tag_bytes (state_of self.old).tag + length text.now < 2 ^ 64 }
         requires literal { literal ≡ true → at_byte 92 text.now ≡ None }
+        requires tag { behind 65 text.now ≡ None → self.old.in_tag ≡ false }
         ensures { Takes result (state_of self.new) (Hands E.stands events.old events.new)
             (reader.judged (length text.now) (kind_of text.now) (state_of self.old)) }
     {

@@ -9,8 +9,8 @@ pub returns : goal.returns
 returns g c = rw (
   end_judged c.args.bytes c.args.name.now (state_of c.args.self.now) (sym c.is_innermost.ensures ∙ c.if-not-is_innermost.false),
   closes (text_ended (state_of c.args.self.now)) (state_of c.end_text.new.self) c.in_ok-end_text.ensures.text.0,
-  c.close.ensures.opened,
-  c.close.ensures.begun,
+  c.close.ensures,
+  c.end_text.ensures.tag ∙ c.requires,
 ) (
   search rules,
   λ first sent h.
