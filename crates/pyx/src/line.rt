@@ -15,7 +15,7 @@ use rng_model::{is_ncname, is_xml_char};
 pub const LINE_LIMIT: usize = 65_536;
 
 /// The bytes of a line without its line feed.
-#[derive(Drop)]
+#[derive(Clone, Copy)]
 pub struct Line<'a> {
     pub bytes: &'a [u8],
     /// Whether a line feed ends it.

@@ -456,11 +456,10 @@ impl State {
         requires bytes { reader.tag_bytes (state_of self.old).tag + length line.bytes.now < 2 ^ 64 }
         ensures { Takes result (state_of self.new) (Hands E.stands events.old events.new) (reader.line_read (line_of line.entry) (state_of self.old)) }
     {
-        let bytes = line.bytes;
         match line_text(line) {
             Ok(text) => self.text_line(text, false, events),
             Err(clause) => {
-                self.end_tag(bytes, events)?;
+                self.end_tag(line.bytes, events)?;
                 self.lines += 1;
                 Err(self.fault(clause))
             }
