@@ -30,6 +30,7 @@ pub mod TagUnique
 pub mod TagExact
 pub mod SaidLines
 pub mod StateSteps
+mod TextInPlace
 pub mod DocumentComplete
 pub mod LineCases
 pub mod DocumentSound

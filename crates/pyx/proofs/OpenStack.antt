@@ -1,7 +1,7 @@
 -- The open elements as a stack, each with its part of the declarations.
 use Rattle.std.proofs.Common.{◌≡◌, ◌∙◌, ◌≤◌, ◌<◌, ◌-◌, ℕ, Bool, true, false, List, [], ◌∷◌, ◌++◌, map, reverse, ap, sym, length, take, drop, refl, arith, rules}
-use Rattle.std.proofs.Common.{◌⊎◌, inl, inr, get_or, nat_le, string_bytes}
-use Rattle.std.proofs.lemmas.List.{append_cancel_left, append-nil, drop_all, drop_at, get_or_push, length_push, length-append, length-map, length-reverse, map-append, nil_from_length}
+use Rattle.std.proofs.Common.{◌⊎◌, inl, inr, nat_le}
+use Rattle.std.proofs.lemmas.List.{append_cancel_left, append-nil, drop_all, drop_at, length-append, length-map, length-reverse, map-append, nil_from_length}
 use Rattle.std.proofs.lemmas.List.{reverse-append, take-append-drop, take_all, take_at}
 use Rattle.rng_model.specs.documents.PyxHeld.{name_length}
 use Rattle.rng_model.specs.documents.PyxNamespaces.{WrittenAttribute}
@@ -16,69 +16,67 @@ use Rattle.pyx.specs.views.ElementView.{all_declared, open_as, open_with, stack_
 use Rattle.pyx_namespaces.specs.plain.Held.{declarations_held, plus}
 use Rattle.pyx.specs.views.Held.{opened_held}
 
-pub stack_push : (xs : List OpenElement) (e : OpenElement) (ds : List WrittenAttribute)
-    → stack_of (xs ++ e ∷ []) ds ≡ open_with e (take e.count ds) ∷ stack_of xs (drop e.count ds)
-stack_push xs e ds = ap (λ (r : List OpenElement). stack_in r ds) (reverse-append xs (e ∷ []))
+pub stack_push : (xs : List OpenElement) (e : OpenElement) (names : List ℕ) (ds : List WrittenAttribute)
+    → stack_of (xs ++ e ∷ []) names ds ≡ open_with (drop e.start names) (take e.count ds) ∷ stack_of xs (take e.start names) (drop e.count ds)
+stack_push xs e names ds = ap (λ (r : List OpenElement). stack_in r names ds) (reverse-append xs (e ∷ []))
 
-in_length : (xs : List OpenElement) (ds : List WrittenAttribute) → length (stack_in xs ds) ≡ length xs
-in_length [] ds = refl
-in_length (e ∷ xs) ds = omega (arith, in_length xs (drop e.count ds))
+in_length : (xs : List OpenElement) (names : List ℕ) (ds : List WrittenAttribute) → length (stack_in xs names ds) ≡ length xs
+in_length [] names ds = refl
+in_length (e ∷ xs) names ds = omega (arith, in_length xs (take e.start names) (drop e.count ds))
 
-pub stack_length : (xs : List OpenElement) (ds : List WrittenAttribute) → length (stack_of xs ds) ≡ length xs
-stack_length xs ds = in_length (reverse xs) ds ∙ length-reverse xs
+pub stack_length : (xs : List OpenElement) (names : List ℕ) (ds : List WrittenAttribute) → length (stack_of xs names ds) ≡ length xs
+stack_length xs names ds = in_length (reverse xs) names ds ∙ length-reverse xs
 
 -- ---- an element is opened
 
 -- with declarations of its own
-pub stack_open : (xs : List OpenElement) (e : OpenElement) (es ds : List WrittenAttribute) → length es ≡ e.count
-    → stack_of (xs ++ e ∷ []) (es ++ ds) ≡ open_with e es ∷ stack_of xs ds
-stack_open xs e es ds n = stack_push xs e (es ++ ds)
-    ∙ ap (λ (t : List WrittenAttribute). open_with e t ∷ stack_of xs (drop e.count (es ++ ds))) (take_at es ds e.count n)
-    ∙ ap (λ (t : List WrittenAttribute). open_with e es ∷ stack_of xs t) (drop_at es ds e.count n)
+pub stack_open : (xs : List OpenElement) (e : OpenElement) (names : List ℕ) (es ds : List WrittenAttribute) → length es ≡ e.count
+    → stack_of (xs ++ e ∷ []) names (es ++ ds) ≡ open_with (drop e.start names) es ∷ stack_of xs (take e.start names) ds
+stack_open xs e names es ds n = stack_push xs e names (es ++ ds)
+    ∙ ap (λ (t : List WrittenAttribute). open_with (drop e.start names) t ∷ stack_of xs (take e.start names) (drop e.count (es ++ ds)))
+    (take_at es ds e.count n)
+    ∙ ap (λ (t : List WrittenAttribute). open_with (drop e.start names) es ∷ stack_of xs (take e.start names) t) (drop_at es ds e.count n)
 
-pub whole_open : (xs : List OpenElement) (e : OpenElement) (es ds : List WrittenAttribute) → length es ≡ e.count → all_declared (stack_of xs ds) ≡ ds
-    → all_declared (stack_of (xs ++ e ∷ []) (es ++ ds)) ≡ es ++ ds
-whole_open xs e es ds n whole = ap all_declared (stack_open xs e es ds n) ∙ ap (λ (t : List WrittenAttribute). es ++ t) whole
+-- the place behind all names
+pub take_end : (n : ℕ) (names : List ℕ) → n ≡ length names → take n names ≡ names
+take_end n names e = take_all n names (omega (arith, e))
 
-pub last_is : (all xs : List OpenElement) (e d : OpenElement) → all ≡ xs ++ e ∷ [] → d ≡ get_or all (length all - 1) d → d ≡ e
-last_is all xs e d parts is = is ∙ ap (λ (x : List OpenElement). get_or x (length x - 1) d) parts
-    ∙ get_or_push xs e d (length (xs ++ e ∷ []) - 1) (omega (arith, length_push xs e))
+-- in the form of the code: the names end with that of its tag, and it has the declarations of its tag
+module _ (xs : List OpenElement) (e : OpenElement) (tag : List written.WrittenAttribute) (names : List ℕ) (n : ℕ) (ds new : List WrittenAttribute)
+    (own : length tag ≡ e.count) (end : n ≡ length names) (is : new ≡ map written_attribute tag ++ ds) where
+  pub opened_is : stack_of (xs ++ e ∷ []) (take n names) new ≡ open_as (drop e.start names) tag ∷ stack_of xs (take e.start names) ds
+  opened_is = ap (λ (t : List ℕ). stack_of (xs ++ e ∷ []) t new) (take_end n names end) ∙ ap (stack_of (xs ++ e ∷ []) names) is
+      ∙ stack_open xs e names (map written_attribute tag) ds (length-map tag written_attribute ∙ own)
 
--- in the form of the code: the declarations of its tag
-module _ (xs : List OpenElement) (e : OpenElement) (tag : List written.WrittenAttribute) (ds new : List WrittenAttribute) (n : length tag ≡ e.count)
-    (is : new ≡ map written_attribute tag ++ ds) where
-  pub opened_is : stack_of (xs ++ e ∷ []) new ≡ open_as (string_bytes e.name) tag ∷ stack_of xs ds
-  opened_is = ap (stack_of (xs ++ e ∷ [])) is ∙ stack_open xs e (map written_attribute tag) ds (length-map tag written_attribute ∙ n)
-
-  pub opened_whole : all_declared (stack_of xs ds) ≡ ds → all_declared (stack_of (xs ++ e ∷ []) new) ≡ new
-  opened_whole whole = ap (λ (t : List WrittenAttribute). all_declared (stack_of (xs ++ e ∷ []) t)) is
-      ∙ whole_open xs e (map written_attribute tag) ds (length-map tag written_attribute ∙ n) whole ∙ sym is
+  pub opened_whole : all_declared (stack_of xs (take e.start names) ds) ≡ ds → all_declared (stack_of (xs ++ e ∷ []) (take n names) new) ≡ new
+  opened_whole whole = ap all_declared opened_is ∙ ap (λ (t : List WrittenAttribute). map written_attribute tag ++ t) whole ∙ sym is
 
 -- all declarations were removed
-none_in : (xs : List OpenElement) → all_declared (stack_in xs []) ≡ []
-none_in [] = refl
-none_in (e ∷ xs) =
+none_in : (xs : List OpenElement) (names : List ℕ) → all_declared (stack_in xs names []) ≡ []
+none_in [] names = refl
+none_in (e ∷ xs) names =
     let no : List WrittenAttribute = [] in
     let own : take e.count no ≡ no = take_all e.count no (omega arith) in
     let outer : drop e.count no ≡ no = drop_all e.count no (omega arith) in
-    ap (λ (t : List WrittenAttribute). t ++ all_declared (stack_in xs (drop e.count no))) own
-    ∙ ap (λ (t : List WrittenAttribute). all_declared (stack_in xs t)) outer ∙ none_in xs
+    ap (λ (t : List WrittenAttribute). t ++ all_declared (stack_in xs (take e.start names) (drop e.count no))) own
+    ∙ ap (λ (t : List WrittenAttribute). all_declared (stack_in xs (take e.start names) t)) outer ∙ none_in xs (take e.start names)
 
-pub whole_none : (xs : List OpenElement) (ds : List WrittenAttribute) → ds ≡ [] → all_declared (stack_of xs ds) ≡ ds
-whole_none xs ds e = rw e (none_in (reverse xs))
+pub whole_none : (xs : List OpenElement) (names : List ℕ) (ds : List WrittenAttribute) → ds ≡ [] → all_declared (stack_of xs names ds) ≡ ds
+whole_none xs names ds e = rw e (none_in (reverse xs) names)
 
 -- ---- an element is closed
 
-pub stack_close : (xs ys : List OpenElement) (e : OpenElement) (ds : List WrittenAttribute) → xs ≡ ys ++ e ∷ []
-    → stack_of ys (drop e.count ds) ≡ around (stack_of xs ds)
-stack_close xs ys e ds parts = sym (ap (λ (x : List OpenElement). around (stack_of x ds)) parts ∙ ap around (stack_push ys e ds))
+pub stack_close : (xs ys : List OpenElement) (e : OpenElement) (names : List ℕ) (ds : List WrittenAttribute) → xs ≡ ys ++ e ∷ []
+    → stack_of ys (take e.start names) (drop e.count ds) ≡ around (stack_of xs names ds)
+stack_close xs ys e names ds parts =
+    sym (ap (λ (x : List OpenElement). around (stack_of x names ds)) parts ∙ ap around (stack_push ys e names ds))
 
-pub whole_close : (xs ys : List OpenElement) (e : OpenElement) (ds : List WrittenAttribute) → xs ≡ ys ++ e ∷ [] → all_declared (stack_of xs ds) ≡ ds
-    → all_declared (stack_of ys (drop e.count ds)) ≡ drop e.count ds
-whole_close xs ys e ds parts whole =
+pub whole_close : (xs ys : List OpenElement) (e : OpenElement) (names : List ℕ) (ds : List WrittenAttribute) → xs ≡ ys ++ e ∷ []
+    → all_declared (stack_of xs names ds) ≡ ds → all_declared (stack_of ys (take e.start names) (drop e.count ds)) ≡ drop e.count ds
+whole_close xs ys e names ds parts whole =
     let own : List WrittenAttribute = take e.count ds in
-    append_cancel_left own (all_declared (stack_of ys (drop e.count ds))) (drop e.count ds)
-    (sym (ap (λ (x : List OpenElement). all_declared (stack_of x ds)) parts ∙ ap all_declared (stack_push ys e ds)) ∙ whole
+    append_cancel_left own (all_declared (stack_of ys (take e.start names) (drop e.count ds))) (drop e.count ds)
+    (sym (ap (λ (x : List OpenElement). all_declared (stack_of x names ds)) parts ∙ ap all_declared (stack_push ys e names ds)) ∙ whole
     ∙ sym (take-append-drop e.count ds))
 
 -- ---- the declarations in a list of which the innermost is last
@@ -120,17 +118,17 @@ last_of all outer own n parts size =
     ))
 
 -- the bytes of the innermost element, and of those around it
-pub held_open : (opened outer : List OpenElement) (e : OpenElement) (all around own : List Declaration) → opened ≡ outer ++ e ∷ []
+pub held_open : (opened outer : List OpenElement) (e : OpenElement) (names : List ℕ) (all around own : List Declaration) → opened ≡ outer ++ e ∷ []
     → all ≡ around ++ own → length around ≡ length all - e.count
-    → opened_held (stack_of opened (map declaration_of (reverse all)))
-    ≡ plus (plus (name_length (written_of (string_bytes e.name))) (declarations_held (map declaration_of (reverse own))))
-    (opened_held (stack_of outer (map declaration_of (reverse around))))
+    → opened_held (stack_of opened names (map declaration_of (reverse all)))
+    ≡ plus (plus (name_length (written_of (drop e.start names))) (declarations_held (map declaration_of (reverse own))))
+    (opened_held (stack_of outer (take e.start names) (map declaration_of (reverse around))))
 unfolding opened_held
-held_open opened outer e all around own parts cut size =
+held_open opened outer e names all around own parts cut size =
     let p = last_of all around own e.count cut size in
     let ds : List WrittenAttribute = map declaration_of (reverse all) in
-    ap (λ (x : List OpenElement). opened_held (stack_of x ds)) parts ∙ ap opened_held (stack_push outer e ds)
-    ∙ ap (λ (t : List WrittenAttribute). plus (plus (name_length (written_of (string_bytes e.name))) (declarations_held t))
-    (opened_held (stack_of outer (drop e.count ds)))) p.0
-    ∙ ap (λ (t : List WrittenAttribute). plus (plus (name_length (written_of (string_bytes e.name))) (declarations_held (map declaration_of (reverse own))))
-    (opened_held (stack_of outer t))) p.1
+    let name : ℕ = name_length (written_of (drop e.start names)) in
+    let before : List ℕ = take e.start names in
+    ap (λ (x : List OpenElement). opened_held (stack_of x names ds)) parts ∙ ap opened_held (stack_push outer e names ds)
+    ∙ ap (λ (t : List WrittenAttribute). plus (plus name (declarations_held t)) (opened_held (stack_of outer before (drop e.count ds)))) p.0
+    ∙ ap (λ (t : List WrittenAttribute). plus (plus name (declarations_held (map declaration_of (reverse own)))) (opened_held (stack_of outer before t))) p.1

@@ -5,7 +5,7 @@ ghost use Rattle.pyx.specs.declared.fault.LineFault.TheVariants as lines;
 use rng_model::OutOfMemory;
 
 /// A fault of one line or of one tag.
-#[derive(Clone, Copy)]
+#[derive(Drop)]
 pub enum LineFault {
     /// Out of memory.
     Memory,

@@ -21,7 +21,6 @@ use pyx_namespaces::{Declarations, WrittenAttribute, cut_at, is_same};
 use rng_model::{Name, OutOfMemory};
 use std::alloc::Global;
 use std::marker::Model;
-use std::mem;
 
 /// The open elements, their declarations, and the names that have been looked up inside them.
 ///
@@ -33,9 +32,12 @@ pub struct OpenElements {
     /// The innermost last.
     opened: Vec<OpenElement>,
     declarations: Declarations,
-    /// The name of the tag that is being read. It is a name or empty, as those of the open elements.
-    begun: String,
-    /// Its place among the names, if it was known when the tag began.
+    /// The names of the open elements as they are written, the innermost last. Behind them is the name of the tag that is
+    /// being read. Each is a name or empty.
+    written: String,
+    /// Where the name of that tag begins.
+    begun: usize,
+    /// Its place among the names that are known, if it was known when the tag began.
     place: Option<usize>,
     /// A round ends where an element with a declaration is opened or closed.
     round: u64,
@@ -44,14 +46,18 @@ pub struct OpenElements {
 }
 
 impl Model for OpenElements {
-    ghost use Rattle.std.specs.Prelude.{string_bytes};
+    ghost use Rattle.std.specs.Prelude.{drop, string_bytes, take};
     ghost use Rattle.pyx.specs.views.ElementView.{AreKept, Elements, names_of, stack_of};
 
     ghost Value = { Elements };
 
-    ghost view = { λ e. record { opened = stack_of e.opened.items e.declarations; begun = string_bytes e.begun; names = names_of e.known.items } };
+    ghost view = { λ e. record {
+      opened = stack_of e.opened.items (take e.begun (string_bytes e.written)) e.declarations;
+      begun = drop e.begun (string_bytes e.written);
+      names = names_of e.known.items;
+    } };
 
-    ghost invariant = { λ e. AreKept e.opened.items e.declarations (string_bytes e.begun) e.place e.round e.known.items };
+    ghost invariant = { λ e. AreKept e.opened.items e.declarations (string_bytes e.written) e.begun e.place e.round e.known.items };
 }
 
 /// Returns the place of the expanded name that a name has where these declarations hold. Looks it up if it is not known.
@@ -161,7 +167,8 @@ impl OpenElements {
         OpenElements {
             opened: Vec::new(alloc),
             declarations: Declarations::new(alloc),
-            begun: String::new(alloc),
+            written: String::new(alloc),
+            begun: 0,
             place: None,
             round: 1,
             known: Vec::new(alloc),
@@ -188,7 +195,8 @@ impl OpenElements {
     pub fn held(&self) -> u64
         ensures { result ≡ opened_held self.now.opened }
     {
-        opened_len(self.opened.as_slice(), self.declarations.as_slice())
+        let names = &self.written.as_str()[..self.begun];
+        opened_len(self.opened.as_slice(), names, self.declarations.as_slice())
     }
 
     /// Returns the namespace of a prefix, or the default one, inside the open elements.
@@ -201,12 +209,7 @@ impl OpenElements {
 
     /// Begins a tag if this is a name, and returns whether it is one. A name that is known is not judged again.
     #[inline(always)]
-    pub fn begin(
-        &mut self,
-        alloc: Global,
-        spares: &mut Spares,
-        name: &str,
-    ) -> Result<bool, OutOfMemory>
+    pub fn begin(&mut self, name: &str) -> Result<bool, OutOfMemory>
         ensures judged { IfOk result (λ good. good ≡ is_name name.now) }
         ensures begun { IfOk result (λ good. good ≡ true → self.new.begun ≡ name.now) }
         ensures opened { self.new.opened ≡ self.old.opened }
@@ -216,8 +219,8 @@ impl OpenElements {
             return Ok(false);
         }
         self.place = None;
-        self.begun = spares.take(alloc);
-        self.begun.push_str(name)?;
+        self.written.truncate(self.begun);
+        self.written.push_str(name)?;
         self.place = place;
         Ok(true)
     }
@@ -240,8 +243,9 @@ impl OpenElements {
         match self.place {
             Some(at) if tag.is_empty() => {
                 self.place = None;
-                let name = mem::replace(&mut self.begun, String::new(alloc));
-                self.opened.push(OpenElement { name, count: 0 })?;
+                let start = self.begun;
+                self.opened.push(OpenElement { start, count: 0 })?;
+                self.begun = self.written.len();
                 Ok(at)
             }
             _ => self.open_by_lookup(alloc, tag),
@@ -262,8 +266,9 @@ impl OpenElements {
     {
         let count = tag.len();
         self.place = None;
-        let name = mem::replace(&mut self.begun, String::new(alloc));
-        self.opened.push(OpenElement { name, count })?;
+        let start = self.begun;
+        self.opened.push(OpenElement { start, count })?;
+        self.begun = self.written.len();
         declare(
             alloc,
             &mut self.declarations,
@@ -271,8 +276,7 @@ impl OpenElements {
             &mut self.known,
             tag,
         )?;
-        let opened = self.opened.as_slice();
-        let name = opened[opened.len() - 1].name.as_str();
+        let name = &self.written.as_str()[start..];
         place_of_name(alloc, &self.declarations, self.round, &mut self.known, name)
     }
 
@@ -283,7 +287,10 @@ impl OpenElements {
         ensures { result ≡ is_name name.now && is_innermost (written_of name.now) self.now.opened }
     {
         match innermost(self.opened.as_slice()) {
-            Some((element, _)) => !name.is_empty() && is_same(element.name.as_str(), name),
+            Some((element, _)) => {
+                let names = &self.written.as_str()[..self.begun];
+                !name.is_empty() && is_same(&names[element.start..], name)
+            }
             None => false,
         }
     }
@@ -297,15 +304,16 @@ impl OpenElements {
         &self.known[at].name
     }
 
-    /// Closes the innermost element.
+    /// Closes the innermost element. The name of a tag that has begun is lost.
     #[inline(always)]
     pub fn close(&mut self, spares: &mut Spares)
-        ensures opened { self.new.opened ≡ around self.old.opened }
-        ensures begun { self.new.begun ≡ self.old.begun }
+        ensures { self.new.opened ≡ around self.old.opened }
     {
         self.place = None;
         let closed = self.opened.pop();
         if let Some(element) = closed {
+            self.written.truncate(element.start);
+            self.begun = element.start;
             undeclare(
                 &mut self.declarations,
                 &mut self.round,
@@ -313,7 +321,6 @@ impl OpenElements {
                 element.count,
                 spares,
             );
-            spares.keep(element.name);
         }
     }
 }

@@ -1,5 +1,5 @@
 // Documents in pieces.
-ghost use Rattle.std.specs.Prelude.{◌≡◌, ◌+◌, ◌<◌, ◌≤◌, ◌^◌, ◌++◌, true, length, take, [], ◌∷◌, IfSome, None, MatchOption};
+ghost use Rattle.std.specs.Prelude.{◌≡◌, ◌+◌, ◌<◌, ◌≤◌, ◌^◌, ◌++◌, true, length, take, [], ◌∷◌, IfSome, None, OnSome, Some, string_bytes, MatchOption};
 ghost use Rattle.std.specs.Option.{option_map};
 ghost use Rattle.std.specs.List.{list_all, prefix_len};
 ghost use Rattle.std.specs.Str.{chars};
@@ -17,6 +17,7 @@ use crate::marks::first_text_line;
 use crate::plain::plain_text;
 use crate::state::State;
 use memchr::{memchr, memrchr};
+use pyx_namespaces::behind;
 use rng_model::{Events, PyxFault};
 use std::alloc::Global;
 
@@ -57,17 +58,6 @@ fn parts(piece: &[u8]) -> (&[u8], &[u8], &[u8])
     (head, body, tail)
 }
 
-/// Returns the first `limit` bytes, or all if there are fewer.
-fn at_most(limit: usize, bytes: &[u8]) -> &[u8]
-    ensures { result.now ≡ take limit bytes.now }
-{
-    if bytes.len() > limit {
-        &bytes[..limit]
-    } else {
-        bytes
-    }
-}
-
 impl Pieces {
     /// Creates the state of a document that has had no bytes. Allocates nothing.
     pub fn new(alloc: Global) -> Self
@@ -93,8 +83,8 @@ impl Pieces {
         requires weight { weight (progress_of self.old) + 65537 < 2 ^ 64 }
         ensures { Takes result (progress_of self.new) (Hands E.stands events.old events.new) (pieces.overlong more.now (progress_of self.old)) }
     {
-        let more = at_most(LINE_LIMIT + 1 - self.begun.len(), more);
-        self.begun.extend_from_slice(more)?;
+        let end = more.len().min(LINE_LIMIT + 1 - self.begun.len());
+        self.begun.extend_from_slice(&more[..end])?;
         let line = Line {
             bytes: self.begun.as_slice(),
             ended: false,
@@ -150,6 +140,34 @@ impl Pieces {
         self.line(text.as_bytes(), events)
     }
 
+    /// If this line is a text that is handed out where it is, returns the text, the name of the end tag in the line behind
+    /// it, and what follows. The text has no backslash, no text is joined before it, and both lines are whole in this piece.
+    #[inline(always)]
+    fn text_in_place<'a>(
+        &self,
+        line: &'a str,
+        literal: bool,
+        after: &'a str,
+    ) -> Option<(&'a str, &'a str, &'a str)>
+        requires { literal ≡ true → at_byte 92 line.now ≡ None }
+        ensures text { IfSome result (λ x. (line.now ≡ 45 ∷ x.0.now) × (at_byte 92 x.0.now ≡ None)) }
+        ensures end { IfSome result (λ x. at_byte 10 after.now ≡ Some (41 ∷ x.1.now, x.2.now)) }
+        ensures short { IfSome result (λ x. (length x.0.now < 65536) × (length x.1.now < 65536)) }
+        ensures alone { OnSome result ((length self.now.begun.items ≡ 0) × (length (string_bytes self.now.state.joined) ≡ 0)) }
+    {
+        let text = behind(b'-', line)?;
+        let rest = behind(b')', after)?;
+        if !literal || !self.begun.is_empty() || !self.state.has_no_text() {
+            return None;
+        }
+        let (name, _, rest) = first_text_line(rest)?;
+        if text.len() < LINE_LIMIT && name.len() < LINE_LIMIT {
+            Some((text, name, rest))
+        } else {
+            None
+        }
+    }
+
     /// Keeps bytes in which the line does not end.
     #[tactic(auto, unfolding(crate::specs::plain::Pieces::rest_taken))]
     fn keep<E: Events>(&mut self, rest: &[u8], events: &mut E) -> Result<(), PyxFault>
@@ -187,6 +205,11 @@ impl Pieces {
     {
         let mut rest = text;
         'lines: while let Some((front, literal, after)) = first_text_line(rest) {
+            if let Some((text, name, behind)) = self.text_in_place(front, literal, after) {
+                self.state.text_and_end(text, name, events)?;
+                rest = behind;
+                continue;
+            }
             self.text_line(front, literal, events)?;
             rest = after;
         }

@@ -1,19 +1,22 @@
 // Documents line by line.
-ghost use Rattle.std.specs.Prelude.{◌≡◌, ◌+◌, ◌<◌, ◌^◌, [], ℕ, List, length, map, is_some, IfOk, OnOk, None, string_bytes, true};
+ghost use Rattle.std.specs.Prelude.{◌≡◌, ◌+◌, ◌<◌, ◌^◌, ◌==◌, [], ◌∷◌, ℕ, List, length, map, is_some, IfOk, OnOk, None, string_bytes, false, true};
+ghost use Rattle.std.specs.List.{list_all};
+ghost use Rattle.std.specs.Option.{option_map};
 ghost use Rattle.rng_model.specs.plain.Answers.{Gives};
 ghost use Rattle.rng_model.specs.documents.PyxLines as lines;
 ghost use Rattle.pyx.specs.plain.DocumentReader as reader;
-ghost use Rattle.pyx.specs.plain.DocumentReader.{declared_in};
+ghost use Rattle.pyx.specs.plain.DocumentReader.{declared_in, followed};
 ghost use Rattle.pyx.specs.views.ElementView.{clause_of, element_at};
 ghost use Rattle.pyx_namespaces.specs.views.WrittenAttributes.{written_attribute};
 ghost use Rattle.pyx.specs.views.Held.{state_held};
 ghost use Rattle.pyx.specs.plain.LineReader.{attribute_of, kind_of, named, said_of, text_of};
-ghost use Rattle.pyx_namespaces.specs.plain.Cuts.{at_byte};
+ghost use Rattle.pyx_namespaces.specs.plain.Cuts.{at_byte, behind};
 ghost use Rattle.pyx_namespaces.specs.plain.WrittenNames.{written_of};
 ghost use Rattle.pyx.specs.plain.Pieces.{ended_line};
+ghost use Rattle.pyx.specs.plain.PlainBytes.{is_plain};
 ghost use Rattle.pyx_namespaces.specs.plain.Declarations.{declared_by};
 ghost use Rattle.pyx.specs.plain.TagReader.{tag_read};
-ghost use Rattle.pyx.specs.views.View.{Adds, EndsBy, Takes, line_of, state_of, tag_of};
+ghost use Rattle.pyx.specs.views.View.{Adds, EndsBy, Takes, line_of, state_of, state_with, tag_of};
 ghost use Rattle.rng_model.specs.documents.Handing.{Hands};
 
 use crate::attributes::expand_attributes;
@@ -69,14 +72,6 @@ pub struct State {
 }
 
 impl Tag {
-    /// Returns whether it has no `A` line.
-    #[inline(always)]
-    fn is_bare(&self) -> bool
-        ensures { result ≡ true → (self.now.declarations.items ≡ []) × (self.now.others.items ≡ []) }
-    {
-        self.declarations.is_empty() && self.others.is_empty()
-    }
-
     /// Adds an `A` line of this many bytes, which is a declaration or not.
     fn add(
         &mut self,
@@ -155,12 +150,12 @@ impl State {
         ensures opened { OnOk result (state_of self.new ≡ reader.opened_by (tag_of self.old.elements.begun self.old.tag) (state_of self.old)) }
         ensures lines { self.new.lines ≡ self.old.lines }
     {
-        if !self.tag.is_bare() {
-            return self.open_whole_tag();
+        if let ([], []) = (self.tag.declarations.as_slice(), self.tag.others.as_slice()) {
+            self.attrs.clear();
+            self.in_tag = false;
+            return self.elements.open(self.alloc, &mut self.tag.declarations);
         }
-        self.attrs.clear();
-        self.in_tag = false;
-        self.elements.open(self.alloc, &mut self.tag.declarations)
+        self.open_whole_tag()
     }
 
     /// The same for a tag with `A` lines or without them.
@@ -222,7 +217,8 @@ impl State {
     #[inline(always)]
     fn end_tag<E: Events>(&mut self, bytes: &[u8], events: &mut E) -> Result<(), PyxFault>
         requires { self.old.lines + 1 < 2 ^ 64 }
-        ensures { Takes result (state_of self.new) (Hands E.stands events.old events.new) (reader.tag_ended bytes.now (state_of self.old)) }
+        ensures turn { Takes result (state_of self.new) (Hands E.stands events.old events.new) (reader.tag_ended bytes.now (state_of self.old)) }
+        ensures ended { OnOk result (behind 65 bytes.now ≡ None → self.new.in_tag ≡ false) }
     {
         if let [b'A', ..] = bytes {
             return Ok(());
@@ -233,21 +229,24 @@ impl State {
         self.close_tag(events)
     }
 
-    /// Hands out the joined text, if there is one.
+    /// Hands out this text, or the joined one, unless it is empty. No text is joined after it.
     #[tactic(auto, unfolding(crate::specs::plain::DocumentReader::text_ended))]
     #[inline(always)]
-    fn end_text<E: Events>(&mut self, events: &mut E) -> Result<(), PyxFault>
-        ensures text { Takes result (state_of self.new) (Hands E.stands events.old events.new) (reader.text_ended (state_of self.old)) }
+    fn end_text<E: Events>(&mut self, text: Option<&str>, events: &mut E) -> Result<(), PyxFault>
+        ensures text { Takes result (state_of self.new) (Hands E.stands events.old events.new)
+            (reader.text_ended (state_with (option_map (λ x. x.now) text.entry) self.old)) }
         ensures begun { self.new.elements.begun ≡ self.old.elements.begun }
+        ensures tag { self.new.in_tag ≡ self.old.in_tag }
     {
-        if !self.joined.is_empty() {
-            let kind = EventKind::Text(self.joined.as_str());
+        let text = text.unwrap_or(self.joined.as_str());
+        if !text.is_empty() {
+            let kind = EventKind::Text(text);
             events.event(Event {
                 line: self.lines,
                 kind,
             })?;
-            self.joined.clear();
         }
+        self.joined.clear();
         Ok(())
     }
 
@@ -258,7 +257,7 @@ impl State {
         ensures { Takes result (state_of self.new) (Hands E.stands events.old events.new)
             (reader.judged bytes (named lines.start name.now) (state_of self.old)) }
     {
-        if !self.elements.begin(self.alloc, &mut self.spares, name)? {
+        if !self.elements.begin(name)? {
             return Err(self.fault(6));
         }
         if self.root && self.elements.is_empty() {
@@ -267,7 +266,7 @@ impl State {
         if self.elements.len() >= OPEN_LIMIT {
             return Err(self.fault(10));
         }
-        self.end_text(events)?;
+        self.end_text(None, events)?;
         self.tag.declarations.clear();
         self.tag.others.clear();
         self.tag.bytes = bytes;
@@ -337,18 +336,25 @@ impl State {
         Ok(())
     }
 
-    /// Reads an end tag, in a line of this many bytes.
+    /// Reads an end tag, in a line of this many bytes, behind this text or the joined one.
     #[tactic(auto, unfolding(crate::specs::plain::LineReader::named, crate::specs::plain::DocumentReader::said_read, crate::specs::plain::DocumentReader::ended))]
     #[inline(always)]
-    fn end<E: Events>(&mut self, bytes: u64, name: &str, events: &mut E) -> Result<(), PyxFault>
+    fn end<E: Events>(
+        &mut self,
+        bytes: u64,
+        name: &str,
+        text: Option<&str>,
+        events: &mut E,
+    ) -> Result<(), PyxFault>
+        requires { self.old.in_tag ≡ false }
         ensures { Takes result (state_of self.new) (Hands E.stands events.old events.new)
-            (reader.judged bytes (named lines.end name.now) (state_of self.old)) }
+            (reader.judged bytes (named lines.end name.now) (state_with (option_map (λ x. x.now) text.entry) self.old)) }
     {
         if !self.elements.is_innermost(name) {
             let clause = if is_name(name) { 8 } else { 6 };
             return Err(self.fault(clause));
         }
-        self.end_text(events)?;
+        self.end_text(text, events)?;
         let kind = EventKind::End;
         events.event(Event {
             line: self.lines,
@@ -364,6 +370,7 @@ impl State {
     fn said<E: Events>(&mut self, text: &str, literal: bool, events: &mut E) -> Result<(), PyxFault>
         requires room { reader.tag_bytes (state_of self.old).tag + length text.now < 2 ^ 64 }
         requires literal { literal ≡ true → at_byte 92 text.now ≡ None }
+        requires tag { behind 65 text.now ≡ None → self.old.in_tag ≡ false }
         ensures { Takes result (state_of self.new) (Hands E.stands events.old events.new)
             (reader.judged (length text.now) (kind_of text.now) (state_of self.old)) }
     {
@@ -378,7 +385,7 @@ impl State {
             return self.text(bytes, value, literal);
         }
         if let Some(name) = behind(b')', text) {
-            return self.end(bytes, name, events);
+            return self.end(bytes, name, None, events);
         }
         if behind(b'?', text).is_some() {
             return Ok(());
@@ -405,6 +412,41 @@ impl State {
         self.end_tag(text.as_bytes(), events)?;
         self.lines += 1;
         self.said(text, literal, events)
+    }
+
+    /// Returns whether no text is joined.
+    #[inline(always)]
+    pub fn has_no_text(&self) -> bool
+        ensures { result ≡ (length (string_bytes self.now.joined) == 0) }
+    {
+        self.joined.is_empty()
+    }
+
+    /// Reads a line with this text, which has no backslash, and the next line, which ends a tag of this name. It hands out
+    /// the text where it is, since no text is joined.
+    #[inline(always)]
+    pub fn text_and_end<E: Events>(
+        &mut self,
+        text: &str,
+        name: &str,
+        events: &mut E,
+    ) -> Result<(), PyxFault>
+        requires lines { self.old.lines + 2 < 2 ^ 64 }
+        requires alone { length (string_bytes self.old.joined) ≡ 0 }
+        requires short { (length text.now < 65536) × (length name.now < 65536) }
+        requires literal { at_byte 92 text.now ≡ None }
+        requires plain_text { list_all is_plain (45 ∷ text.now) ≡ true }
+        requires plain_end { list_all is_plain (41 ∷ name.now) ≡ true }
+        ensures { Takes result (state_of self.new) (Hands E.stands events.old events.new)
+            (followed (reader.line_read (ended_line (45 ∷ text.now)) (state_of self.old)) (reader.line_read (ended_line (41 ∷ name.now)))) }
+    {
+        self.end_tag(b"-", events)?;
+        self.lines += 1;
+        if self.elements.is_empty() {
+            return Err(self.fault(9));
+        }
+        self.lines += 1;
+        self.end(name.len() as u64 + 1, name, Some(text), events)
     }
 
     /// Reads the next line.

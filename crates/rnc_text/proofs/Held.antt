@@ -1,12 +1,12 @@
 -- What a text keeps when one character is appended.
-use Rattle.std.proofs.Common.{◌≡◌, ℕ, ◌+◌, ◌-◌, ◌≤◌, Bool, true, false, cond, eqb, Result, Ok, Err, List, [], ◌∷◌, ◌++◌, length, refl, sym, ap, subst, ◌∙◌}
+use Rattle.std.proofs.Common.{◌≡◌, ℕ, ◌+◌, ◌-◌, ◌≤◌, Bool, true, false, cond, eqb, Result, Ok, Err, List, [], ◌∷◌, ◌++◌, length, map, append_assoc, refl, sym, ap, ap₂, subst, ◌∙◌}
 use Rattle.std.proofs.Common.{arith}
 use Rattle.std.specs.Prelude.{IfOk, is_ok}
 use Rattle.std.specs.Str.{chars, IsUtf8, encode_utf8_all}
 use Rattle.std.specs.Char.{encode_utf8}
 use Rattle.std.proofs.lemmas.Bool.{eqb-true, eq-eqb, ne_eqb}
 use Rattle.std.proofs.lemmas.List.{length-append, append-nil}
-use Rattle.std.proofs.lemmas.Str.{encodes-append, encodes_same, encodes-chars, length-le-encodes}
+use Rattle.std.proofs.lemmas.Str.{chars-append, encodes-append, encodes_same, encodes-chars, length-le-encodes}
 use Rattle.rnc_model.specs.characters.Characters.{number_of, numbers_of, bytes_of}
 use Rattle.rnc_text.specs.views.Held.{unmarked, marked, unused, with_marks, AreMarks}
 use Rattle.rnc_model.specs.declared.character.Character.{Character}
@@ -127,6 +127,31 @@ with_mark whole d (m ∷ ms) (c ∷ cs) le u =
     marked_next whole m c d ms cs (eqb m (whole - length (encode_utf8_all (c ∷ cs)))) refl u (λ e. with_mark whole d ms cs (fewer whole c cs le) e)
     (λ e. with_mark whole d (m ∷ ms) cs (fewer whole c cs le) e)
 
+-- ---- more characters with no mark
+
+record PlainAll (whole : ℕ) (ds ms cs : List ℕ) : Type 0 where
+  pub is : marked (whole + length (encode_utf8_all ds)) ms (cs ++ ds) ≡ marked whole ms cs ++ map unmarked ds
+  pub used : unused (whole + length (encode_utf8_all ds)) ms (cs ++ ds) ≡ []
+
+plain_all : (whole : ℕ) (ds ms cs : List ℕ) → unused whole ms cs ≡ [] → PlainAll whole ds ms cs
+plain_all whole [] ms cs u =
+    let none : whole + length (encode_utf8_all []) ≡ whole = omega arith in
+    record {
+      is = ap₂ (λ (w : ℕ) (x : List ℕ). marked w ms x) none (append-nil cs) ∙ sym (append-nil (marked whole ms cs));
+      used = ap₂ (λ (w : ℕ) (x : List ℕ). unused w ms x) none (append-nil cs) ∙ u;
+    }
+plain_all whole (d ∷ ds) ms cs u =
+    let p = plain whole d ms cs u in
+    let r = plain_all (whole + length (encode_utf8 d)) ds ms (cs ++ d ∷ []) p.used in
+    let len : whole + length (encode_utf8_all (d ∷ ds)) ≡ (whole + length (encode_utf8 d)) + length (encode_utf8_all ds) =
+    omega (arith, length-append (encode_utf8 d) (encode_utf8_all ds)) in
+    let joined : cs ++ d ∷ ds ≡ (cs ++ d ∷ []) ++ ds = sym (append_assoc cs (d ∷ []) ds) in
+    record {
+      is = ap₂ (λ (w : ℕ) (x : List ℕ). marked w ms x) len joined ∙ r.is ∙ ap (λ (x : List Character). x ++ map unmarked ds) p.is
+          ∙ append_assoc (marked whole ms cs) (unmarked d ∷ []) (map unmarked ds);
+      used = ap₂ (λ (w : ℕ) (x : List ℕ). unused w ms x) len joined ∙ r.used;
+    }
+
 -- ---- at the bytes of a text
 
 chars_push : (old new : List ℕ) (c : ℕ) → IsUtf8 old → IsUtf8 new → new ≡ old ++ encode_utf8 c → chars new ≡ chars old ++ c ∷ []
@@ -178,3 +203,27 @@ pub still_marks : {X E : Type 0} (r : Result X E) (old new ms : List ℕ) (c : �
     → AreMarks old ms → AreMarks new ms
 still_marks (Ok x) old new ms c e u v are = (grows_plain old new ms c u v e are).are
 still_marks (Err x) old new ms c e u v are = subst (λ (bs : List ℕ). AreMarks bs ms) (sym e) are
+
+-- an appended text without marks, unless the call runs out of memory
+record GrowsBy (old new ms more : List ℕ) : Type 0 where
+  pub is : with_marks new ms ≡ with_marks old ms ++ map unmarked (chars more)
+  pub are : AreMarks new ms
+
+grows_by : (old new ms more : List ℕ) → IsUtf8 old → IsUtf8 more → new ≡ old ++ more → AreMarks old ms → GrowsBy old new ms more
+grows_by old new ms more u v e used =
+    let len : length new ≡ length old + length (encode_utf8_all (chars more)) = ap length e ∙ length-append old more
+    ∙ ap (λ (x : List ℕ). length old + length x) (sym (encodes-chars more v)) in
+    let all : chars new ≡ chars old ++ chars more = ap chars e ∙ chars-append old more u in
+    let p = plain_all (length old) (chars more) ms (chars old) used in
+    record { is = rw (all, len) p.is; are = rw (all, len) p.used }
+
+pub appended : {X E : Type 0} (r : Result X E) (old new ms more : List ℕ) (cs : List Character) → new ≡ cond (is_ok r) (old ++ more) old → IsUtf8 old
+    → IsUtf8 more → AreMarks old ms → with_marks old ms ≡ cs → IfOk r (λ _. with_marks new ms ≡ cs ++ map unmarked (chars more))
+appended (Ok x) old new ms more cs e u v are before =
+    (grows_by old new ms more u v e are).is ∙ ap (λ (x : List Character). x ++ map unmarked (chars more)) before
+appended (Err x) old new ms more cs e u v are before = tt
+
+pub still_marks_after : {X E : Type 0} (r : Result X E) (old new ms more : List ℕ) → new ≡ cond (is_ok r) (old ++ more) old → IsUtf8 old → IsUtf8 more
+    → AreMarks old ms → AreMarks new ms
+still_marks_after (Ok x) old new ms more e u v are = (grows_by old new ms more u v e are).are
+still_marks_after (Err x) old new ms more e u v are = subst (λ (bs : List ℕ). AreMarks bs ms) (sym e) are

@@ -5,6 +5,7 @@ mod Held
 mod Escapes
 mod FrontCharacter
 mod OneDecoding
+mod PlainRuns
 mod FilePlaces
 mod CharacterClasses
 mod QuoteRuns
@@ -16,3 +17,4 @@ mod OneCut
 mod MarksCut
 mod MarksDecoded
 mod MarkScalars
+mod AsciiRuns

@@ -68,7 +68,7 @@ covered (x ∷ wide) r c e h = elim (or_cases (nat_le x.0 r.0 && nat_le r.1 x.1)
   | inr e ↦ or_right (nat_le x.0 c && nat_le c x.1) (is_in_ranges wide c) (covered wide r c e h)
 ]
 
-all_covered : (wide rs : List (ℕ × ℕ)) (c : ℕ) → list_all (covers wide) rs ≡ true → is_in_ranges rs c ≡ true → is_in_ranges wide c ≡ true
+pub all_covered : (wide rs : List (ℕ × ℕ)) (c : ℕ) → list_all (covers wide) rs ≡ true → is_in_ranges rs c ≡ true → is_in_ranges wide c ≡ true
 all_covered wide [] c e h = absurd (false≢true h)
 all_covered wide (r ∷ rs) c e h =
     let p = and_parts (covers wide r) (list_all (covers wide) rs) e in

@@ -15,19 +15,12 @@ use Rattle.rnc_model.specs.characters.Characters.{number_of, bytes_of}
 use Rattle.rnc_model.specs.tokens.Tokens.{sign_of, Piece, gap, token, three, word_kind}
 use Rattle.rnc_text.specs.plain.CutSteps.{Found, is_in, front, after, first_of, behind, behind_three, here_or, with_first, until_three, begins_ncname, star_at}
 use Rattle.rnc_text.specs.plain.CutSteps.{colon_at, name_at, quoted_at, segment_at, triple_at, signed, long_sign, sign_at, starts_ncname, piece_by, piece_of, or_else}
-use Rattle.rnc_text.specs.plain.Cursors.{remaining, IsPast, told, FindsPart, Finds, FindsThree}
+use Rattle.rnc_text.specs.plain.Cursors.{remaining, IsPast, Walks, told, FindsPart, Finds, FindsThree}
 use Rattle.rnc_text.proofs.Cursors.{past_none, past_then}
 use Rattle.rnc_text.proofs.CharacterClasses.{front_in, front_out, after_in, after_out}
 use Rattle.rnc_text.proofs.QuoteRuns.{until_at, until_none}
 
 -- ---- the loop over a class
-
--- the loop is at `to`, where the remaining part of the front begins
-pub record Walks (class : Class) (from to : Cursor) : Type 0 where
-  pub taken : List Character
-  pub past : IsPast from taken to
-  pub front : front class (remaining from) ≡ taken ++ front class (remaining to)
-  pub after : after class (remaining from) ≡ after class (remaining to)
 
 pub walks_none : (class : Class) (from : Cursor) → Walks class from from
 walks_none class from = record { taken = []; past = past_none from; front = refl; after = refl }

@@ -2,10 +2,11 @@
 ghost use Rattle.std.specs.Prelude.{◌≡◌, ◌-◌, ◌==◌, ◌∷◌, [], List, MatchOption, option_map, length};
 ghost use Rattle.rnc_model.specs.characters.Characters.{bytes_of};
 ghost use Rattle.rnc_text.specs.views.Held.{unmarked, next_marks};
-ghost use Rattle.rnc_text.specs.plain.Cursors.{remaining, IsPast, IsBefore};
+ghost use Rattle.rnc_text.specs.plain.Cursors.{remaining, IsPast, IsBefore, Walks};
 ghost use Rattle.rnc_model.specs.declared.character.Character.{Character};
 
 use crate::character::split_first;
+use crate::scanning::{Class, ascii_len};
 use crate::text::Text;
 use rnc_model::Character;
 
@@ -92,6 +93,17 @@ impl<'a> Cursor<'a> {
                 Some((unmarked(first), after))
             }
         }
+    }
+
+    /// Moves past the ASCII characters of the class at the cursor, unless an escape writes an LF from there on.
+    pub fn past_ascii(self, class: Class) -> Cursor<'a>
+        ensures { Walks class self.entry result }
+    {
+        if !self.escaped.is_empty() {
+            return self;
+        }
+        let (_, rest) = self.rest.split_at(ascii_len(class, self.rest));
+        Cursor { rest, ..self }
     }
 
     /// Returns the text between this cursor and a later one.

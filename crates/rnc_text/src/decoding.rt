@@ -1,10 +1,11 @@
 // From the bytes of a file to characters.
-ghost use Rattle.std.specs.Prelude.{◌≡◌, List, option_map, IfOk, IfErr, ℕ, Bool, true, false};
+ghost use Rattle.std.specs.Prelude.{◌≡◌, ◌++◌, ◌≤◌, List, length, option_map, IfOk, IfErr, ℕ, Bool, true, false};
+ghost use Rattle.std.specs.List.{list_all, prefix_len};
 ghost use Rattle.std.specs.Str.{chars};
 ghost use Rattle.rng_model.specs.names.Characters.{is_xml_char};
-ghost use Rattle.rnc_model.specs.characters.Decoding.{IsDecoded, BreaksCharactersAt, BreaksTextAt};
+ghost use Rattle.rnc_model.specs.characters.Decoding.{Decodes, IsDecoded, BreaksCharactersAt, BreaksTextAt};
 ghost use Rattle.rnc_text.specs.views.Answers.{IfBroken, GivesOk, GivesFault};
-ghost use Rattle.rnc_text.specs.plain.DecodingSteps.{without_line_feed, opens_from, escape_front, front_of};
+ghost use Rattle.rnc_text.specs.plain.DecodingSteps.{without_line_feed, opens_from, escape_front, front_of, is_plain_byte};
 ghost use Rattle.rnc_model.specs.declared.character.Character.{Character};
 
 use crate::character::split_first;
@@ -13,7 +14,7 @@ use crate::hexadecimal::hexadecimal;
 use crate::text::Text;
 use rnc_model::Character;
 use rng_model::is_xml_char;
-use std::alloc::Global;
+use std::alloc::{AllocError, Global};
 
 /// The text after a CR, without the LF that belongs to the same line end.
 #[tactic(auto, unfolding(crate::specs::plain::DecodingSteps::without_line_feed))]
@@ -78,13 +79,46 @@ pub fn front(text: &str) -> Option<(Character, &str)>
     }
 }
 
+/// Whether a decoded text has this byte of a file as it is. Such a byte is a whole ASCII character, and no escape begins
+/// with it.
+fn is_plain(byte: u8) -> bool
+    ensures { result ≡ is_plain_byte byte }
+{
+    matches!(byte, b'\t'..=b'\n' | b' '..=b'[' | b']'..=b'~')
+}
+
+/// Returns how many bytes at the beginning a decoded text has as they are.
+fn plain_len(text: &str) -> usize
+    ensures { result ≡ prefix_len is_plain_byte text.now }
+{
+    text.bytes().take_while(|b| is_plain(*b)).count()
+}
+
+/// Splits off the longest beginning that a decoded text has as it is.
+fn split_plain(text: &str) -> (&str, &str)
+    ensures whole { text.now ≡ result.0.now ++ result.1.now }
+    ensures plain { list_all is_plain_byte result.0.now ≡ true }
+{
+    text.split_at(plain_len(text))
+}
+
+/// Appends the longest beginning that a decoded text has as it is, in one copy. Returns the text after it.
+fn past_plain<'a>(decoded: &mut Text, text: &'a str) -> Result<&'a str, AllocError>
+    ensures decoded { IfOk result (λ rest. (all : List ℕ) → Decodes all decoded.old (chars text.now) → Decodes all decoded.new (chars rest.now)) }
+    ensures within { IfOk result (λ rest. length rest.now ≤ length text.now) }
+{
+    let (plain, rest) = split_plain(text);
+    decoded.append(plain)?;
+    Ok(rest)
+}
+
 /// Decodes a text whose escapes are not replaced yet.
 fn decode(alloc: Global, text: &str) -> Result<Text, TextFault>
     ensures found { IfOk result (λ t. IsDecoded text.now t) }
     ensures fault { IfErr result (IfBroken (λ clause offset. (clause ≡ 4) × BreaksCharactersAt text.now offset)) }
 {
     let mut decoded = Text::new(alloc);
-    let mut rest = text;
+    let mut rest = past_plain(&mut decoded, text)?;
     'rest: while !rest.is_empty() {
         let Some((character, after)) = front(rest) else {
             return Err(TextFault::At {
@@ -93,7 +127,7 @@ fn decode(alloc: Global, text: &str) -> Result<Text, TextFault>
             });
         };
         decoded.push(character)?;
-        rest = after;
+        rest = past_plain(&mut decoded, after)?;
     }
     Ok(decoded)
 }

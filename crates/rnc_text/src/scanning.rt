@@ -3,7 +3,8 @@ ghost use Rattle.std.specs.Prelude.{◌≡◌, ◌∷◌, [], List, Some};
 ghost use Rattle.rng_model.specs.names.Characters.{is_name_start, is_name_char, is_colon};
 ghost use Rattle.rnc_model.specs.characters.Characters.{number_of, bytes_of};
 ghost use Rattle.rnc_model.specs.tokens.Tokens.{three, word_kind};
-ghost use Rattle.rnc_text.specs.plain.CutSteps.{starts_ncname, is_in, begins_ncname, front, after, behind, behind_three, until_three, star_at, first_of, long_sign, name_at, quoted_at, segment_at, triple_at, sign_at, piece_of};
+ghost use Rattle.std.specs.List.{prefix_len};
+ghost use Rattle.rnc_text.specs.plain.CutSteps.{starts_ncname, is_in, is_ascii_in, begins_ncname, front, after, behind, behind_three, until_three, star_at, first_of, long_sign, name_at, quoted_at, segment_at, triple_at, sign_at, piece_of};
 ghost use Rattle.rnc_text.specs.plain.Cursors.{remaining, IsPast, IsBefore, told, FindsPart, Finds, FindsBehind, FindsContent};
 ghost use Rattle.rnc_text.specs.declared.cursor.Cursor.{Cursor};
 ghost use Rattle.rnc_model.specs.declared.character.Character.{Character};
@@ -63,6 +64,27 @@ fn is_in(class: Class, character: Character) -> bool
     }
 }
 
+/// Whether the byte is an ASCII character of the class, other than a control character.
+fn is_ascii_in(class: Class, byte: u8) -> bool
+    ensures { result ≡ is_ascii_in class byte }
+{
+    match class {
+        Class::Ncname => {
+            matches!(byte, b'A'..=b'Z' | b'_' | b'a'..=b'z')
+                || matches!(byte, b'-'..=b'.' | b'0'..=b'9')
+        }
+        Class::Line => matches!(byte, b' '..=b'~'),
+        Class::Segment(quote) => matches!(byte, b' '..=b'~') && char::from(byte) != quote,
+    }
+}
+
+/// Returns how many bytes at the beginning of the text are ASCII characters of the class.
+pub fn ascii_len(class: Class, text: &str) -> usize
+    ensures { result ≡ prefix_len (is_ascii_in class) text.now }
+{
+    text.bytes().take_while(|b| is_ascii_in(class, *b)).count()
+}
+
 /// Whether an NCName begins at the cursor.
 fn begins_ncname(from: Cursor<'_>) -> bool
     ensures { result ≡ begins_ncname (remaining from.entry) }
@@ -78,7 +100,7 @@ fn past(from: Cursor<'_>, class: Class) -> Cursor<'_>
     ensures past { IsPast from.entry (front class (remaining from.entry)) result }
     ensures rest { remaining result ≡ after class (remaining from.entry) }
 {
-    let mut to = from;
+    let mut to = from.past_ascii(class);
     'characters: while let Some((character, next)) = to.step() {
         if !is_in(class, character) {
             return to;

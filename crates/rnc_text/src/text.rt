@@ -1,8 +1,9 @@
 // A decoded text.
-ghost use Rattle.std.specs.Prelude.{◌≡◌, ◌++◌, ◌∷◌, [], List, IfOk};
+ghost use Rattle.std.specs.Prelude.{◌≡◌, ◌++◌, ◌∷◌, [], List, IfOk, map};
+ghost use Rattle.std.specs.Str.{chars};
 ghost use Rattle.std.specs.String.{string_bytes};
 ghost use Rattle.rnc_model.specs.characters.Characters.{bytes_of};
-ghost use Rattle.rnc_text.specs.views.Held.{with_marks, AreMarks};
+ghost use Rattle.rnc_text.specs.views.Held.{unmarked, with_marks, AreMarks};
 ghost use Rattle.rnc_model.specs.declared.character.Character.{Character};
 
 use rnc_model::Character;
@@ -52,6 +53,13 @@ impl Text {
             }
             Character::Ordinary(character) => self.text.push(character),
         }
+    }
+
+    /// Appends the characters of a text. Each LF is a line end. Fails only when out of memory.
+    pub(crate) fn append(&mut self, characters: &str) -> Result<(), AllocError>
+        ensures { IfOk result (λ _. self.new ≡ self.old ++ map unmarked (chars characters.now)) }
+    {
+        self.text.push_str(characters)
     }
 
     /// Returns the decoded text, in UTF-8. Allocates nothing, and costs no pass over the text.

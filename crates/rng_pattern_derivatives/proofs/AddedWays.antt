@@ -68,7 +68,7 @@ nowhere_stands ns all way inside none = stands_as ns all (λ t. ways_by (tree_of
       kept = λ t kind place h. each_first _ _ (ways_by (tree_of t ns) all) (way_by (tree_of t ns) way ∷ []) h;
     })
 
-front_inside : (ns : List Node) (xs ys : List numbered.LeafWay) → AreInside ns (xs ++ ys) → AreInside ns xs
+pub front_inside : (ns : List Node) (xs ys : List numbered.LeafWay) → AreInside ns (xs ++ ys) → AreInside ns xs
 front_inside ns xs ys h = λ i d l. subst (IsInside ns) (get_or_append_left xs ys d i l) (h i d (omega (arith, l, length-append xs ys)))
 
 pub back_inside : (ns : List Node) (xs ys : List numbered.LeafWay) → AreInside ns (xs ++ ys) → AreInside ns ys

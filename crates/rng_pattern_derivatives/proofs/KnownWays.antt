@@ -33,6 +33,7 @@ use Rattle.rng_pattern_derivatives.specs.declared.way.LeafWay.{LeafWay}
 use Rattle.rng_pattern_derivatives.proofs.AttributeTakers.{spans_longer}
 use Rattle.rng_pattern_derivatives.proofs.WaysOfSides.{side_law}
 use Rattle.rng_pattern_derivatives.proofs.KnownRests.{rests_longer}
+use Rattle.rng_pattern_derivatives.proofs.KnownPlans.{plans_longer}
 
 module _ (t : Table) (old new : List Node) (kind : Kind) (longer : Longer old new) where
   those_stay : (n : PatternNumber) (ways : List LeafWay) → AreThoseOf t old kind n ways → AreThoseOf t new kind n ways
@@ -178,6 +179,7 @@ all_longer t keys old new longer known all = record {
   spans = spans_longer t old new longer known.spans.items all.spans;
   datatypes = all.datatypes;
   last = last_longer t keys old new longer known.last.items all.last;
+  plans = plans_longer t old new longer keys known.plans all.plans;
 }
 
 -- ---- elements

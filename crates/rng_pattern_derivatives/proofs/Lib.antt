@@ -11,6 +11,7 @@ mod SideWeights
 pub mod KnownRests
 pub mod AttributeTakers
 pub mod LikeAttributes
+pub mod KnownPlans
 pub mod KnownWays
 mod ElementTakers
 mod PatternsWithoutAttributes

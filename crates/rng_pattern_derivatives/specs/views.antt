@@ -2,3 +2,4 @@
 pub mod Datatypes
 pub mod KnownRests
 pub mod KnownWays
+pub mod Plans

@@ -5,11 +5,13 @@ ghost use Rattle.rng_model.specs.simple.Table.{Table};
 ghost use Rattle.rng_pattern_table.specs.views.Node.{Node};
 ghost use Rattle.rng_pattern_table.specs.declared.pattern.PatternNumber.{PatternNumber};
 ghost use Rattle.rng_pattern_derivatives.specs.views.KnownWays.{AreAllKnown, HasKnown, HasLast};
+ghost use Rattle.rng_pattern_derivatives.specs.views.Plans.{IsPlanFor};
 ghost use Rattle.rng_pattern_derivatives.specs.declared.way.LeafWay.{LeafWay};
 ghost use Rattle.rng_pattern_derivatives.specs.declared.known.LastWays.{LastWays};
 
 use crate::alike::alike_elements;
 use crate::datatypes::Datatypes;
+use crate::plans::{Asked, Plan, Plans};
 use crate::rests::KnownRests;
 use crate::takers::Takers;
 use crate::way::{LeafWay, Ways};
@@ -19,6 +21,9 @@ use rng_pattern_table::{PatternNumber, Span};
 use smallvec::SmallVec;
 use std::alloc::Global;
 use std::collections::HashMap;
+
+/// The number of ways up to which the rests of a pattern are chosen anew for what comes first.
+const FEW_WAYS: usize = 2;
 
 /// The known ways of patterns to take one kind of what comes first.
 pub type KnownWays = HashMap<PatternNumber, Ways>;
@@ -59,6 +64,8 @@ pub struct Known {
     /// For patterns with known ways to take an attribute, those that were computed last. They are tried first for the
     /// next attribute.
     pub last: LastByPattern,
+    /// What the tests of leaves leave, for patterns of more than two ways.
+    pub plans: Plans,
 }
 
 impl Known {
@@ -84,6 +91,7 @@ impl Known {
             spans: Vec::new(alloc),
             datatypes,
             last: Vec::new(alloc),
+            plans: HashMap::new(alloc),
         })
     }
 
@@ -98,6 +106,27 @@ impl Known {
         self.rests = HashMap::new(alloc);
         self.spans = Vec::new(alloc);
         self.last = Vec::new(alloc);
+        self.plans = HashMap::new(alloc);
+    }
+
+    /// Takes the plan of a pattern out, if there is one. Allocates nothing. The cost is one look-up.
+    pub fn take_plan(&mut self, asked: Asked) -> Option<Plan>
+        ensures known { (t : Table) (keys : Keys) (ns : List Node) → AreAllKnown t keys ns self.old → AreAllKnown t keys ns self.new }
+        ensures plan { (t : Table) (keys : Keys) (ns : List Node) → AreAllKnown t keys ns self.old → IfSome result (IsPlanFor t keys ns asked) }
+    {
+        self.plans.remove(&asked)
+    }
+
+    /// Keeps the plan of a pattern, unless it has so few ways that nothing is gained. Fails only when out of memory.
+    pub fn keep_plan(&mut self, asked: Asked, plan: Plan) -> Result<(), OutOfMemory>
+        ensures { OnOk result ((t : Table) (keys : Keys) (ns : List Node) → AreAllKnown t keys ns self.old → IsPlanFor t keys ns asked plan
+            → AreAllKnown t keys ns self.new) }
+    {
+        if plan.ways.len() <= FEW_WAYS {
+            return Ok(());
+        }
+        self.plans.insert(asked, plan)?;
+        Ok(())
     }
 }
 

@@ -3,3 +3,4 @@ mod LeafKinds
 mod ListPieces
 mod TagAttributes
 mod SettledRests
+mod PlannedRests

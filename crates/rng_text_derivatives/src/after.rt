@@ -1,5 +1,6 @@
 // What is left of a pattern after a string, and after attributes.
-ghost use Rattle.std.specs.Prelude.{◌≡◌, ◌↔◌, ◌<◌, true, [], ◌∷◌, IfOk, OnOk, length, map, slice_get};
+ghost use Rattle.std.specs.Prelude.{◌≡◌, ◌↔◌, ◌<◌, true, [], ◌∷◌, All, IfOk, OnOk, length, map, slice_get};
+ghost use Rattle.std.specs.List.{Contains};
 ghost use Rattle.rng_model.specs.datatypes.Blanks.{pieces};
 ghost use Rattle.rng_model.specs.documents.DocumentViews.{attribute_of};
 ghost use Rattle.rng_model.specs.matching.Document.{a_text};
@@ -9,27 +10,34 @@ ghost use Rattle.rng_deriv_laws.specs.plain.LevelStates.{IsAfterText};
 ghost use Rattle.rng_deriv_laws.specs.plain.Restricted.{IsRestricted, MayBeListed};
 ghost use Rattle.rng_deriv_laws.specs.plain.Taking.{Takes, WeaklyTakes};
 ghost use Rattle.rng_pattern_table.specs.plain.AskedFor.{IsAskedFor};
+ghost use Rattle.rng_pattern_table.specs.declared.pattern.PatternNumber.{PatternNumber};
 ghost use Rattle.rng_pattern_table.specs.views.PatternTable.{Longer};
 ghost use Rattle.rng_pattern_table.specs.views.Trees.{attribute_found, tree_of};
 ghost use Rattle.rng_pattern_derivatives.specs.plain.Starting.{IsReady};
-ghost use Rattle.rng_pattern_derivatives.specs.plain.Ways.{AreInside};
+ghost use Rattle.rng_pattern_derivatives.specs.plain.Ways.{AreInside, AreWaysOf};
+ghost use Rattle.rng_pattern_derivatives.specs.views.Plans.{IsKindAsked, IsPlan, IsPlanFor};
+ghost use Rattle.rng_pattern_derivatives.specs.declared.plans.Asked.{Asked};
+ghost use Rattle.rng_pattern_derivatives.specs.declared.way.Kind.{Kind};
 ghost use Rattle.rng_pattern_derivatives.specs.views.KnownWays.{AreAllKnown};
 ghost use Rattle.rng_text_derivatives.specs.plain.After.{AreRests, AreWaysFor, IsLeafFor, IsLeft, IsLeftOfTag, TellsTaken};
+ghost use Rattle.rng_text_derivatives.specs.plain.Asking.{AreTests, IsAskedBy};
 ghost use Rattle.rng_text_derivatives.specs.declared.first.First.TheVariants as firsts;
 
 use crate::context::Context;
 use crate::first::First;
 use crate::leaf_tests::{data_takes, is_blank, is_leaf_for, list_body};
-use crate::settled::{Rest, settled};
+use crate::plans::{asked, keep_piece, kept_piece, plan_of, rest_by};
+use crate::settled::{Rest, settled_by_few};
 use rng_model::{Attr, OutOfMemory, PatternId, Pieces, Simple};
 use rng_names::contains;
 use rng_pattern_derivatives::{
-    Known, LeafWay, Place, Rests, Ways, attribute_ways, close, number_at, rest_of_leaf, text_ways,
+    Known, LeafWay, Place, Plan, Rests, Tests, Ways, attribute_ways, close, number_at,
+    rest_of_leaf, text_ways,
 };
 use rng_pattern_table::{Pattern, PatternNumber, PatternTable};
 use smallvec::SmallVec;
 
-/// Returns the ways of a pattern to take this first.
+/// Returns the ways of a pattern to take this first, and whatever else is asked in the same way.
 fn ways_for(
     context: &Context,
     table: &mut PatternTable,
@@ -41,7 +49,8 @@ fn ways_for(
     requires known { AreAllKnown context.now.grammar.now context.now.keys.now table.old known.old }
     ensures longer { OnOk result (Longer table.old table.new) }
     ensures known { OnOk result (AreAllKnown context.now.grammar.now context.now.keys.now table.new known.new) }
-    ensures ways { IfOk result (λ ws. AreWaysFor context.now.grammar.now table.new first.entry (tree_of context.now.grammar.now table.old number.0) ws.items) }
+    ensures ways { IfOk result (λ ws. (a : Asked) → IsAskedBy context.now.keys.now first.entry number a → (kind : Kind) → IsKindAsked context.now.keys.now a kind
+        → AreWaysOf context.now.grammar.now table.new kind (tree_of context.now.grammar.now table.old number.0) ws.items) }
 {
     match first {
         First::Text(_, _) => text_ways(
@@ -61,6 +70,28 @@ fn ways_for(
             number,
         ),
     }
+}
+
+/// Returns the plan of a pattern for what comes first: the known one, which is taken out, or a new one.
+fn plan_for(
+    context: &Context,
+    table: &mut PatternTable,
+    known: &mut Known,
+    first: First,
+    number: PatternNumber,
+) -> Result<Plan, OutOfMemory>
+    requires inside { number.0 < length table.old }
+    requires known { AreAllKnown context.now.grammar.now context.now.keys.now table.old known.old }
+    ensures longer { OnOk result (Longer table.old table.new) }
+    ensures known { OnOk result (AreAllKnown context.now.grammar.now context.now.keys.now table.new known.new) }
+    ensures plan { IfOk result (λ plan. (a : Asked) → IsAskedBy context.now.keys.now first.entry number a
+        → IsPlanFor context.now.grammar.now context.now.keys.now table.new a plan) }
+{
+    if let Some(plan) = known.take_plan(asked(context, first, number)) {
+        return Ok(plan);
+    }
+    let ways = ways_for(context, table, known, first, number)?;
+    plan_of(context.alloc, ways)
 }
 
 /// Returns what is left of a pattern after a string among the children of an element: a pattern that takes what may
@@ -182,7 +213,7 @@ fn after_ways(
     ensures known { OnOk result (AreAllKnown context.now.grammar.now context.now.keys.now table.new known.new) }
     ensures left { IfOk result (IsLeft context.now.grammar.now table.old table.new first.entry number) }
 {
-    match settled(context, table, known, first, number) {
+    match settled_by_few(context, table, known, first, number) {
         Rest::Only(rest) => Ok(rest),
         Rest::Two(first, second) => table.choice(context.alloc, &[first, second]),
         Rest::Nothing => table.not_allowed(),
@@ -190,7 +221,7 @@ fn after_ways(
     }
 }
 
-/// The same by all ways of the pattern: the choice of what they leave.
+/// The same by the plan of the pattern, which is kept with what is left.
 #[cycle(after)]
 fn after_all_ways(
     context: &Context,
@@ -206,12 +237,82 @@ fn after_all_ways(
     ensures known { OnOk result (AreAllKnown context.now.grammar.now context.now.keys.now table.new known.new) }
     ensures left { IfOk result (IsLeft context.now.grammar.now table.old table.new first.entry number) }
 {
-    let ways = ways_for(context, table, known, first, number)?;
-    let rests = rests(context, table, known, first, ways.as_slice())?;
+    let mut plan = plan_for(context, table, known, first, number)?;
+    if let Some(rest) = kept_piece(&plan, first) {
+        known.keep_plan(asked(context, first, number), plan)?;
+        return Ok(rest);
+    }
+    let rest = after_plan(context, table, known, first, &mut plan)?;
+    keep_piece(context.alloc, &mut plan, first, rest)?;
+    known.keep_plan(asked(context, first, number), plan)?;
+    Ok(rest)
+}
+
+/// Returns what is left by all ways of a plan: the choice of the rests of those whose leaves take this. Each leaf is
+/// tested once, unless there are many. What the tests leave is kept.
+#[cycle(after)]
+fn after_plan(
+    context: &Context,
+    table: &mut PatternTable,
+    known: &mut Known,
+    first: First,
+    plan: &mut Plan,
+) -> Result<PatternNumber, OutOfMemory>
+    requires inside { AreInside table.old plan.old.ways.items }
+    requires plan { IsPlan context.now.grammar.now table.old plan.old }
+    requires ready { IsReady context.now.grammar.now table.old context.now.numbers.now }
+    requires known { AreAllKnown context.now.grammar.now context.now.keys.now table.old known.old }
+    ensures longer { OnOk result (Longer table.old table.new) }
+    ensures known { OnOk result (AreAllKnown context.now.grammar.now context.now.keys.now table.new known.new) }
+    ensures ways { OnOk result (plan.new.ways ≡ plan.old.ways) }
+    ensures pieces { OnOk result (plan.new.pieces ≡ plan.old.pieces) }
+    ensures plan { OnOk result (IsPlan context.now.grammar.now table.new plan.new) }
+    ensures left { IfOk result (λ rest. (n : PatternNumber) → n.0 < length table.old
+        → AreWaysFor context.now.grammar.now table.old first.entry (tree_of context.now.grammar.now table.old n.0) plan.old.ways.items
+        → IsLeft context.now.grammar.now table.old table.new first.entry n rest) }
+{
+    let taken = tests(context, table, known, first, plan.leaves.as_slice())?;
+    if let Some(rest) = rest_by(context.alloc, table, plan, taken)? {
+        return Ok(rest);
+    }
+    let rests = rests(context, table, known, first, plan.ways.as_slice())?;
     table.choice(context.alloc, rests.as_slice())
 }
 
-/// Returns the rests of the ways whose leaves take this.
+/// Returns for each of these leaves whether it takes this.
+#[cycle(after)]
+fn tests(
+    context: &Context,
+    table: &mut PatternTable,
+    known: &mut Known,
+    first: First,
+    leaves: &[PatternNumber],
+) -> Result<Tests, OutOfMemory>
+    requires inside { All (λ m. m.0 < length table.old) leaves.now }
+    requires ready { IsReady context.now.grammar.now table.old context.now.numbers.now }
+    requires known { AreAllKnown context.now.grammar.now context.now.keys.now table.old known.old }
+    ensures longer { OnOk result (Longer table.old table.new) }
+    ensures known { OnOk result (AreAllKnown context.now.grammar.now context.now.keys.now table.new known.new) }
+    ensures tests { IfOk result (λ taken. AreTests context.now.grammar.now table.old first.entry leaves.now taken.items) }
+{
+    let mut taken = SmallVec::new(context.alloc);
+    'leaves: for leaf in leaves {
+        taken.push(takes(context, table, known, first, *leaf)?)?;
+    }
+    Ok(taken)
+}
+
+/// Returns true only if a rest is the last one of some. Allocates nothing.
+fn is_last(rests: &[PatternNumber], rest: PatternNumber) -> bool
+    ensures { result ≡ true → Contains rests.now rest }
+{
+    match rests.last() {
+        Some(last) => *last == rest,
+        None => false,
+    }
+}
+
+/// Returns the rests of the ways whose leaves take this. A leaf is not tested if its way leaves the last rest again.
 #[cycle(after)]
 fn rests(
     context: &Context,
@@ -227,8 +328,11 @@ fn rests(
     ensures known { OnOk result (AreAllKnown context.now.grammar.now context.now.keys.now table.new known.new) }
     ensures rests { IfOk result (λ rests. AreRests context.now.grammar.now table.old table.new first.entry ways.now rests.items) }
 {
-    let mut rests = SmallVec::new(context.alloc);
+    let mut rests: Rests = SmallVec::new(context.alloc);
     'ways: for way in ways {
+        if is_last(rests.as_slice(), way.rest) {
+            continue;
+        }
         if takes(context, table, known, first, way.leaf)? {
             rests.push(way.rest)?;
         }

@@ -9,6 +9,7 @@ mod after;
 mod context;
 mod first;
 mod leaf_tests;
+mod plans;
 mod settled;
 mod texts;
 

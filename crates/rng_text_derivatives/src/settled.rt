@@ -30,6 +30,9 @@ use rng_pattern_derivatives::{
 };
 use rng_pattern_table::{Pattern, PatternNumber, PatternTable};
 
+/// The number of ways up to which the leaves of all are tested without a look at what is kept of earlier tests.
+pub const FEW_WAYS: usize = 64;
+
 /// What is left of a pattern after a string or an attribute, as far as its known ways tell.
 #[derive(Clone, Copy)]
 pub enum Rest {
@@ -197,6 +200,25 @@ pub fn settled(
     }
 }
 
+/// The same, but tells nothing of a pattern with many ways, whose tests cost much.
+pub fn settled_by_few(
+    context: &Context,
+    table: &PatternTable,
+    known: &Known,
+    first: First,
+    number: PatternNumber,
+) -> Rest
+    requires inside { number.0 < length table.now }
+    requires ready { IsReady context.now.grammar.now table.now context.now.numbers.now }
+    requires known { AreAllKnown context.now.grammar.now context.now.keys.now table.now known.now }
+    ensures { IsSettled context.now.grammar.now table.now first.entry (tree_of context.now.grammar.now table.now number.0) result }
+{
+    match ways_known(context, known, first, number) {
+        Some(ways) if ways.len() <= FEW_WAYS => only_rest(context, table, known, first, ways),
+        _ => Rest::Unknown,
+    }
+}
+
 /// Returns the rest of the ways whose leaves take this.
 #[cycle(settled)]
 fn only_rest(
@@ -213,6 +235,9 @@ fn only_rest(
 {
     let mut rest = Rest::Nothing;
     'ways: for way in ways {
+        if let Rest::Unknown = rest {
+            return Rest::Unknown;
+        }
         if is_covered(rest, *way) {
             continue;
         }

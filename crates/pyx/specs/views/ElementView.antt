@@ -2,6 +2,7 @@
 use Rattle.std.specs.Prelude.{◌≡◌, ◌<◌, ◌≤◌, ℕ, List, [], map, reverse, slice_index_or, Result, Ok, Err, Option, Some, None, IfSome, string_bytes}
 use Rattle.std.specs.Prelude.{Bool, false, true, ◌∷◌, ◌++◌, length, take, drop}
 use Rattle.std.specs.List.{All}
+use Rattle.std.specs.Str.{IsCharBoundary}
 use Rattle.rng_model.specs.names.Names.{Name}
 use Rattle.rng_model.specs.documents.PyxNamespaces.{WrittenAttribute}
 use Rattle.rng_model.specs.documents.DocumentViews.{attribute_of}
@@ -33,18 +34,18 @@ resolved (Some a) = Ok a
 abbrev pub open_as : List ℕ → List written.WrittenAttribute → Open
 open_as name declarations = record { name = written_of name; declared = map written_attribute declarations }
 
-abbrev pub open_with : OpenElement → List WrittenAttribute → Open
-open_with e ds = record { name = written_of (string_bytes e.name); declared = ds }
+abbrev pub open_with : List ℕ → List WrittenAttribute → Open
+open_with name ds = record { name = written_of name; declared = ds }
 
--- The open elements, the innermost first. The declarations are in one list, the innermost first. Each element has its
--- number of them.
-abbrev pub stack_in : List OpenElement → List WrittenAttribute → List Open
-stack_in [] ds = []
-stack_in (e ∷ outer) ds = open_with e (take e.count ds) ∷ stack_in outer (drop e.count ds)
+-- The open elements, the innermost first. The names are in one text, the innermost last: each element has the place where
+-- its own begins. The declarations are in one list, the innermost first: each element has its number of them.
+abbrev pub stack_in : List OpenElement → List ℕ → List WrittenAttribute → List Open
+stack_in [] names ds = []
+stack_in (e ∷ outer) names ds = open_with (drop e.start names) (take e.count ds) ∷ stack_in outer (take e.start names) (drop e.count ds)
 
 -- the same for elements of which the innermost is last
-abbrev pub stack_of : List OpenElement → List WrittenAttribute → List Open
-stack_of opened ds = stack_in (reverse opened) ds
+abbrev pub stack_of : List OpenElement → List ℕ → List WrittenAttribute → List Open
+stack_of opened names ds = stack_in (reverse opened) names ds
 
 -- the declarations of all elements
 abbrev pub all_declared : List Open → List WrittenAttribute
@@ -81,19 +82,22 @@ AreKnown scope round known = (0 < round) × All (IsKnown scope round) known
 abbrev pub IsPlace : Declared → List ℕ → List KnownName → ℕ → Type 0
 IsPlace scope written known at = (at < length known) × (element_name scope (written_of written) ≡ Some (name_at (names_of known) at))
 
-abbrev pub IsNamed : OpenElement → Type 0
-IsNamed e = IsJudged (string_bytes e.name)
+-- The text of the names of these elements, the innermost first, may be cut where each name begins, and each was judged.
+abbrev pub AreNamed : List OpenElement → List ℕ → Type 0
+AreNamed [] names = Unit {0}
+AreNamed (e ∷ outer) names = IsCharBoundary names e.start × (IsJudged (drop e.start names) × AreNamed outer (take e.start names))
 
--- what is kept: the open elements, their declarations, the name of the tag that has begun, its place if it was known then,
--- and the names that are known
-pub record AreKept (opened : List OpenElement) (ds : List WrittenAttribute) (begun : List ℕ) (place : Option ℕ) (round : ℕ)
+-- what is kept: the open elements, their declarations, their names and behind them, from a place on, the name of the tag
+-- that has begun, its place if it was known then, and the names that are known
+pub record AreKept (opened : List OpenElement) (ds : List WrittenAttribute) (written : List ℕ) (begun : ℕ) (place : Option ℕ) (round : ℕ)
     (names : List KnownName) : Type 0 where
   pub known : AreKnown (ds ∷ []) round names
   -- no declaration is of no element
-  pub whole : all_declared (stack_of opened ds) ≡ ds
-  pub judged : IsJudged begun
-  pub placed : IfSome place (IsPlace (ds ∷ []) begun names)
-  pub all_judged : All IsNamed opened
+  pub whole : all_declared (stack_of opened (take begun written) ds) ≡ ds
+  pub cut : IsCharBoundary written begun
+  pub judged : IsJudged (drop begun written)
+  pub placed : IfSome place (IsPlace (ds ∷ []) (drop begun written) names)
+  pub named : AreNamed (reverse opened) (take begun written)
 
 -- the open elements, the innermost first, the name of the tag that has begun, and the names that were looked up, in their places
 pub record Elements : Type 0 where

@@ -36,6 +36,15 @@ state_of s = record {
   count = s.lines;
 }
 
+-- this text, or the joined one
+abbrev pub text_or : Option (List ℕ) → List ℕ → List ℕ
+text_or None joined = joined
+text_or (Some text) joined = text
+
+-- the state with this text in place of the joined one
+abbrev pub state_with : Option (List ℕ) → State → reader.State
+state_with text s = record (state_of s) { joined = text_or text (string_bytes s.joined) }
+
 -- The call returned what this turn gives, unless memory ran out.
 abbrev pub Takes : {A S : Type 0} → Result A PyxFault → S → (List Event → Type 0) → Turn S → Type 0
 Takes (Ok x) new handed turn = (turn.0 ≡ Ok new) × handed turn.1

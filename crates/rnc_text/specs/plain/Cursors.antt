@@ -9,7 +9,8 @@ use Rattle.rnc_model.specs.declared.token.TokenKind.{TokenKind}
 use Rattle.rnc_model.specs.characters.Characters.{bytes_of}
 use Rattle.rnc_text.specs.views.Held.{marked}
 use Rattle.rnc_model.specs.tokens.Tokens.{Piece, gap, token, characters_in, three}
-use Rattle.rnc_text.specs.plain.CutSteps.{Found}
+use Rattle.rnc_text.specs.plain.CutSteps.{Found, front, after}
+use Rattle.rnc_text.specs.declared.scanning.Class.{Class}
 
 -- the characters from a cursor on
 abbrev pub remaining : Cursor → List Character
@@ -25,6 +26,13 @@ pub record IsPast (from : Cursor) (taken : List Character) (to : Cursor) : Type 
 pub record IsBefore (from to : Cursor) : Type 0 where
   pub taken : List Character
   pub past : IsPast from taken to
+
+-- the walk past the characters of a class is at `to`, where the remaining part of the front begins
+pub record Walks (class : Class) (from to : Cursor) : Type 0 where
+  pub taken : List Character
+  pub past : IsPast from taken to
+  pub front : front class (remaining from) ≡ taken ++ front class (remaining to)
+  pub after : after class (remaining from) ≡ after class (remaining to)
 
 -- the kind and the text of a token
 abbrev pub said : Piece → Option (TokenKind × List ℕ)

@@ -1,6 +1,6 @@
 -- The cut step by step: what each function of `src/scanning.rt` returns.
-use Rattle.std.specs.Prelude.{ℕ, Bool, false, not, ◌&&◌, ◌==◌, if◌then◌else◌, List, [], ◌∷◌, ◌++◌, Option, Some, None}
-use Rattle.rng_model.specs.names.Characters.{is_name_start, is_name_char, is_colon}
+use Rattle.std.specs.Prelude.{ℕ, Bool, false, not, ◌&&◌, ◌||◌, ◌==◌, if◌then◌else◌, List, [], ◌∷◌, ◌++◌, Option, Some, None}
+use Rattle.rng_model.specs.names.Characters.{is_in_ranges, is_name_start, is_name_char, is_colon}
 use Rattle.rnc_model.specs.declared.character.Character.{Character}
 use Rattle.rnc_model.specs.declared.character.Character.TheVariants.{LineEnd, Ordinary}
 use Rattle.rnc_model.specs.declared.token.Sign.{Sign}
@@ -26,6 +26,18 @@ abbrev pub is_in : Class → Character → Bool
 is_in classes.Ncname c = is_in_ncname c
 is_in classes.Line c = is_in_line c
 is_in (classes.Segment quote) c = is_in_segment quote c
+
+abbrev pub ascii_name_start_ranges : List (ℕ × ℕ)
+ascii_name_start_ranges = (0x41, 0x5A) ∷ (0x5F, 0x5F) ∷ (0x61, 0x7A) ∷ []
+
+abbrev pub more_ascii_name_ranges : List (ℕ × ℕ)
+more_ascii_name_ranges = (0x2D, 0x2E) ∷ (0x30, 0x39) ∷ []
+
+-- an ASCII character of the class, other than a control character
+abbrev pub is_ascii_in : Class → ℕ → Bool
+is_ascii_in classes.Ncname b = is_in_ranges ascii_name_start_ranges b || is_in_ranges more_ascii_name_ranges b
+is_ascii_in classes.Line b = is_in_ranges ((0x20, 0x7E) ∷ []) b
+is_ascii_in (classes.Segment quote) b = is_in_ranges ((0x20, 0x7E) ∷ []) b && not (b == quote)
 
 -- the longest front of a class, and what follows it
 unfoldable pub front : Class → List Character → List Character

@@ -1,9 +1,13 @@
 -- Decoding step by step: what each function of `src/decoding.rt` and `src/hexadecimal.rt` returns.
 use Rattle.std.specs.Prelude.{ℕ, zero, suc, ◌+◌, ◌*◌, Bool, true, false, ◌&&◌, nat_lt, ◌==◌, if◌then◌else◌, List, [], ◌∷◌, Option, Some, None}
 use Rattle.std.specs.Char.{is_digit, digit_value}
-use Rattle.rng_model.specs.names.Characters.{is_xml_char}
+use Rattle.rng_model.specs.names.Characters.{is_in_ranges, is_xml_char}
 use Rattle.rnc_model.specs.declared.character.Character.{Character}
 use Rattle.rnc_model.specs.declared.character.Character.TheVariants.{LineEnd, Ordinary}
+
+-- an LF, a tab, or another ASCII character from the space to `~` that is no backslash
+abbrev pub is_plain_byte : ℕ → Bool
+is_plain_byte b = is_in_ranges ((0x9, 0xA) ∷ (0x20, 0x5B) ∷ (0x5D, 0x7E) ∷ []) b
 
 abbrev pub first_and_rest : List ℕ → Option (ℕ × List ℕ)
 first_and_rest [] = None

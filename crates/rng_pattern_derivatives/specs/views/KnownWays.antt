@@ -1,5 +1,5 @@
 -- Known ways of patterns.
-use Rattle.std.specs.Prelude.{◌≡◌, ◌<◌, Box, List, Option, Some, None, false, length, slice_get}
+use Rattle.std.specs.Prelude.{◌≡◌, ◌<◌, Box, List, Option, Some, false, length, slice_get}
 use Rattle.std.specs.HashMap.{HashMap, get}
 use Rattle.smallvec.specs.SmallVec.{SmallVec}
 use Rattle.rng_names.specs.plain.Keys.{Keys, KeysServe, name_at}
@@ -15,6 +15,7 @@ use Rattle.rng_pattern_table.specs.contracts.pattern.PatternNumberPartialEq.TheI
 use Rattle.rng_pattern_derivatives.specs.plain.Alike.{AreAlike}
 use Rattle.rng_pattern_derivatives.specs.views.Datatypes.{AreDatatypesOf}
 use Rattle.rng_pattern_derivatives.specs.views.KnownRests.{AreRestsOf}
+use Rattle.rng_pattern_derivatives.specs.views.Plans.{ArePlans}
 use Rattle.rng_pattern_derivatives.specs.plain.Takers.{AreAllTold, AreAttributesTold, AreSpansOf}
 use Rattle.rng_pattern_derivatives.specs.plain.Ways.{AreWaysOf}
 use Rattle.rng_pattern_derivatives.specs.declared.known.Known.{Known}
@@ -77,7 +78,7 @@ AreLast t keys ns last = (n : PatternNumber) (ways : LastWays) → HasLast last 
 
 -- The keys serve, and everything known is right: the ways to take strings, elements and attributes, and what is left
 -- after a tag is closed. So are the elements and the attributes that may have a name, the alike elements, the ranges of
--- attributes, and the datatypes.
+-- attributes, the datatypes, and the plans.
 pub record AreAllKnown (t : Table) (keys : Keys) (ns : List Node) (known : Known) : Type 0 where
   pub serve : KeysServe t keys
   pub texts : AreKnown t ns kinds.Text known.texts
@@ -90,3 +91,4 @@ pub record AreAllKnown (t : Table) (keys : Keys) (ns : List Node) (known : Known
   pub spans : AreSpansOf t ns known.spans.items
   pub datatypes : AreDatatypesOf t known.datatypes
   pub last : AreLast t keys ns known.last.items
+  pub plans : ArePlans t keys ns known.plans

@@ -7,7 +7,9 @@ use Rattle.rnc_text.proofs.OneDecoding.{decodes_then, text_decoded, text_broken,
 use Rattle.rnc_text.proofs.decoding.decode.Goals as goal
 
 pub rest-init : goal.rest-init
-rest-init c = record { text = c.utf8.text; within = omega arith; decoded = rw c.new-decoded.ensures (here refl) }
+rest-init c =
+    let u : IsUtf8 c.in_ok-rest.rest.now = search rules in
+    record { text = u; within = c.in_ok-rest.ensures.within; decoded = c.in_ok-rest.ensures.decoded _ (rw c.new-decoded.ensures (here refl)) }
 
 pub returns-in_default-clause-fault : goal.returns-in_default-clause-fault
 returns-in_default-clause-fault c =
@@ -20,16 +22,26 @@ returns-in_default-clause-fault c =
 pub rest-smaller : goal.rest-smaller
 rest-smaller c =
     let u : IsUtf8 c.in-Some.after.now = search rules in
-    front_shorter c.rest.rest.now c.in-Some.after.now c.in-Some.character c.rest.invariant.text u (front_begins _ _ _ (sym c.in-Some.ensures))
+    omega (
+      arith,
+      c.in_ok-rest-2.ensures.within,
+      front_shorter c.rest.rest.now c.in-Some.after.now c.in-Some.character c.rest.invariant.text u (front_begins _ _ _ (sym c.in-Some.ensures)),
+    )
 
 pub rest-preserved : goal.rest-preserved
 rest-preserved c =
     let u : IsUtf8 c.in-Some.after.now = search rules in
+    let v : IsUtf8 c.in_ok-rest-2.rest.now = search rules in
     let b : Begins (chars c.rest.rest.now) c.in-Some.character (chars c.in-Some.after.now) = front_begins _ _ _ (sym c.in-Some.ensures) in
     record {
-      text = u;
-      within = omega (arith, c.rest.invariant.within, front_shorter c.rest.rest.now c.in-Some.after.now c.in-Some.character c.rest.invariant.text u b);
-      decoded = decodes_then c.rest.invariant.decoded _ _ _ b c.in_ok-push.ensures;
+      text = v;
+      within = omega (
+        arith,
+        c.rest.invariant.within,
+        c.in_ok-rest-2.ensures.within,
+        front_shorter c.rest.rest.now c.in-Some.after.now c.in-Some.character c.rest.invariant.text u b,
+      );
+      decoded = c.in_ok-rest-2.ensures.decoded _ (decodes_then c.rest.invariant.decoded _ _ _ b c.in_ok-push.ensures);
     }
 
 pub returns-clause-found : goal.returns-clause-found

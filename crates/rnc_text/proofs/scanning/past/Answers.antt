@@ -1,10 +1,10 @@
 use Rattle.std.proofs.Common.{sym, ◌∙◌}
 use Rattle.rnc_text.proofs.Cursors.{past_shorter}
-use Rattle.rnc_text.proofs.ScanResults.{walks_none, walks_on, walks_out, walks_end}
+use Rattle.rnc_text.proofs.ScanResults.{walks_on, walks_out, walks_end}
 use Rattle.rnc_text.proofs.scanning.past.Goals as goal
 
 pub characters-init : goal.characters-init
-characters-init c = walks_none _ _
+characters-init c = c.past_ascii-to.ensures
 
 pub returns-then-not-is_in-clause-past : goal.returns-then-not-is_in-clause-past
 returns-then-not-is_in-clause-past c =

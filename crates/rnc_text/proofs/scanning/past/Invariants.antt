@@ -1,5 +1,5 @@
 use Rattle.std.proofs.Common.{length}
-use Rattle.rnc_text.proofs.ScanResults.{Walks}
+use Rattle.rnc_text.specs.plain.Cursors.{Walks}
 use Rattle.rnc_text.proofs.scanning.past.Given as goal
 
 abbrev pub invariant-characters : goal.invariant-characters

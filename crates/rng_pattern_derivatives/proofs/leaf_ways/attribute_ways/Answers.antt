@@ -49,6 +49,7 @@ returns-then-not-is_kept-clause-known c =
       spans = spans_longer t old new told.longer c.add_spans.new.spans.items (c.in_ok-add_spans.ensures t c.requires.known.spans);
       datatypes = more.datatypes;
       last = more.last;
+      plans = more.plans;
     }
 
 pub returns-clause-known : goal.returns-clause-known
@@ -77,6 +78,7 @@ returns-clause-known c =
           c.args.number ws own)
           (λ n ls h. let f = c.in_ok-keep_last.ensures n ls h in
           ⊎_elim (λ a. inl a) (λ b. inr (b.0, b.1, b.2 ∙ c.as_slice-2.ensures)) f);
+      plans = more.plans;
     }
 
 pub returns-then-not-is_kept-clause-ways : goal.returns-then-not-is_kept-clause-ways

@@ -12,6 +12,7 @@ use Rattle.rng_pattern_derivatives.specs.declared.way.LeafWay as numbered
 use Rattle.rng_pattern_derivatives.proofs.AttributeTakers.{spans_longer}
 use Rattle.rng_pattern_derivatives.proofs.KnownRests.{rests_longer}
 use Rattle.rng_pattern_derivatives.proofs.KnownWays.{by_key_longer, element_kept, element_law, known_longer, last_longer}
+use Rattle.rng_pattern_derivatives.proofs.KnownPlans.{plans_longer}
 use Rattle.rng_pattern_derivatives.proofs.StartBodies.{ready_longer, starts_made}
 use Rattle.rng_pattern_derivatives.proofs.starting.start.Goals as goal
 
@@ -61,4 +62,5 @@ returns-clause-known c =
       spans = spans_longer t old new c.in_ok-ways.ensures.longer c.args.known.now.spans.items c.requires.known.spans;
       datatypes = c.requires.known.datatypes;
       last = last_longer t c.args.keys.now old new c.in_ok-ways.ensures.longer c.args.known.now.last.items c.requires.known.last;
+      plans = plans_longer t old new c.in_ok-ways.ensures.longer c.args.keys.now c.args.known.now.plans c.requires.known.plans;
     }

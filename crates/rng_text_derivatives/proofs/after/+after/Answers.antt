@@ -1,8 +1,9 @@
-use Rattle.std.proofs.Common.{◌≡◌, ◌∙◌, ◌↔◌, ◌<◌, ◌+◌, ◌++◌, [], ◌∷◌, suc, List, Some, true, false, true≢false, take}
-use Rattle.std.proofs.Common.{get_or, length, refl, sym, ap, subst, arith, rules}
-use Rattle.std.proofs.lemmas.Option.{slice_get_within}
+use Rattle.std.proofs.Common.{◌≡◌, ◌∙◌, ◌↔◌, ◌<◌, ◌+◌, ◌++◌, [], ◌∷◌, suc, All, Contains, List, Option, Some, string_bytes, true, false, true≢false, take}
+use Rattle.std.proofs.Common.{get_or, length, length-append, refl, sym, ap, subst, arith, rules}
+use Rattle.std.specs.Prelude.{IfSome}
+use Rattle.std.proofs.lemmas.Option.{slice_get-get_or, slice_get_within}
 use Rattle.std.proofs.Math.Seq.{take-suc}
-use Rattle.rng_model.specs.simple.Table.{tree_at}
+use Rattle.rng_model.specs.simple.Table.{Table, tree_at}
 use Rattle.rng_model.specs.datatypes.Blanks.{pieces}
 use Rattle.rng_model.specs.datatypes.Texts.{is_blank}
 use Rattle.rng_model.specs.names.NameViews.{class_of, name_of}
@@ -24,7 +25,7 @@ use Rattle.rng_pattern_derivatives.specs.plain.Ways.{AreInside}
 use Rattle.rng_text_derivatives.specs.declared.first.First.TheVariants as firsts
 use Rattle.rng_pattern_derivatives.specs.declared.way.Place.TheVariants as places
 use Rattle.rng_pattern_derivatives.specs.declared.way.LeafWay as numbered
-use Rattle.rng_text_derivatives.proofs.RestsOfWays.{leaf_leaves, leaf_leaves_none, leaf_not_taken, leaf_taken, left_behind, rank}
+use Rattle.rng_text_derivatives.proofs.RestsOfWays.{leaf_covered, leaf_leaves, leaf_leaves_none, leaf_not_taken, leaf_taken, left_behind, rank}
 use Rattle.rng_pattern_derivatives.proofs.ClosedTags.{both_ok}
 use Rattle.rng_pattern_derivatives.proofs.KnownWays.{all_longer}
 use Rattle.rng_pattern_derivatives.proofs.PatternNodes.{is_over, parts_there}
@@ -34,6 +35,11 @@ use Rattle.rng_pattern_derivatives.proofs.StartBodies.{ready_longer}
 use Rattle.rng_text_derivatives.proofs.SettledRests.{nothing_left, only_left, two_inside, two_left}
 use Rattle.rng_text_derivatives.proofs.LeafKinds.{no_attribute_found, tells_of_attribute, tells_of_list, tells_of_no_attribute}
 use Rattle.rng_text_derivatives.proofs.LeafKinds.{tells_of_no_leaf, tells_of_no_string, tells_of_other_name, tells_of_text}
+use Rattle.rng_pattern_derivatives.specs.views.Plans.{IsAfterPiece, IsOutcome, IsPlan}
+use Rattle.rng_pattern_derivatives.proofs.KnownPlans.{plan_longer}
+use Rattle.rng_pattern_derivatives.proofs.WayLists.{inside_longer}
+use Rattle.rng_text_derivatives.specs.plain.Asking.{AreTests}
+use Rattle.rng_text_derivatives.proofs.PlannedRests.{kept_left, left_earlier, no_tests, number_asked, one_more_test, outcome_left, plan_again, planned_ways, some_question, tests_later, ways_for_later}
 use Rattle.rng_text_derivatives.proofs.after.+after.Goals as goal
 use Rattle.rng_text_derivatives.proofs.after.+after.Goals.{rests-then-branch+in_ok-push, rests-else-branch}
 
@@ -101,32 +107,6 @@ after_ways-returns-in-Nothing-clause-left t c =
     let t0 = c.args.context.now.grammar.now in
     if_ok c.not_allowed.result _ _ (λ n h. nothing_left t0 c.args.table.now c.args.first c.args.number c.not_allowed.new.self n c.in-Nothing.ensures
     h.inside (h.is t0)) c.not_allowed.ensures.tree
-
-pub after_all_ways-rests-requires : goal.after_all_ways-rests-requires
-after_all_ways-rests-requires t c =
-    let d = c.decreases in (
-      omega (arith, d),
-      (
-        subst (AreInside c.ways_for.new.table) (sym c.as_slice.ensures) c.in_ok-ways.ensures.ways.inside,
-        (
-          ready_longer c.args.context.now.grammar.now c.args.table.now c.ways_for.new.table c.args.context.now.numbers.now c.in_ok-ways.ensures.longer c.requires.ready,
-          c.in_ok-ways.ensures.known,
-        ),
-      ),
-    )
-
-pub after_all_ways-returns-clause-left : goal.after_all_ways-returns-clause-left
-after_all_ways-returns-clause-left t c =
-    let t0 = c.args.context.now.grammar.now in
-    let old = c.args.table.now in
-    let n1 = c.ways_for.new.table in
-    let n2 = c.rests.new.table in
-    let slice : List PatternNumber = c.as_slice-2.result.now in
-    let some = subst (λ (rs : List PatternNumber). AreRests t0 n1 n2 c.args.first c.in_ok-ways.ways.items rs) (sym c.as_slice-2.ensures)
-    (subst (λ (ws : List numbered.LeafWay). AreRests t0 n1 n2 c.args.first ws c.in_ok-rests.rests.items) c.as_slice.ensures c.in_ok-rests.ensures.rests) in
-    if_ok c.choice.result _ _ (λ n h. left_behind t0 old n1 n2 c.choice.new.self c.args.first c.args.number n c.in_ok-ways.ways.items slice
-    c.in_ok-ways.ensures.ways some h.0 (h.1.0 t0) (h.1.1 t0 (reading_of t0)))
-    (both_ok c.choice.result _ _ c.choice.ensures.inside (both_ok c.choice.result _ _ c.choice.ensures.alternatives c.choice.ensures.matches))
 
 pub attribute_takes-returns-in_default-row : goal.attribute_takes-returns-in_default-row
 attribute_takes-returns-in_default-row t c =
@@ -236,6 +216,25 @@ rests-takes-requires t c =
       ),
     )
 
+pub rests-ways-preserved-then-is_last : goal.rests-ways-preserved-then-is_last
+rests-ways-preserved-then-is_last t c =
+    let t0 = c.args.context.now.grammar.now in
+    let old = c.args.table.now in
+    let ws : List numbered.LeafWay = c.args.ways.now in
+    let i = c.ways.way-index in
+    let d : numbered.LeafWay = record { leaf = record { 0 = 0 }; rest = record { 0 = 0 } } in
+    let inv = c.ways.invariant in
+    let next : i + 1 ≡ suc i = omega arith in
+    let cut : take (i + 1) ws ≡ take i ws ++ get_or ws i d ∷ [] = ap (λ k. take k ws) next ∙ take-suc ws i d c.ways-test.true in
+    let has = subst (λ (rs : List PatternNumber). Contains rs (get_or ws i d).rest) c.as_slice.ensures (c.is_last.ensures c.if-is_last.true) in
+    record {
+      longer = inv.longer;
+      known = inv.known;
+      rests = subst (λ (vs : List numbered.LeafWay). AreRests t0 old c.ways.table c.args.first vs c.ways.rests.items) (sym cut)
+          (leaf_covered t0 old c.ways.table c.ways.table c.args.first (take i ws) (get_or ws i d) c.ways.rests.items inv.longer
+          (Longer-refl c.ways.table) (c.requires.inside i d c.ways-test.true) inv.rests (get_or ws i d).rest has refl);
+    }
+
 pub rests-ways-preserved : goal.rests-ways-preserved
 rests-ways-preserved t c =
     let t0 = c.args.context.now.grammar.now in
@@ -272,7 +271,7 @@ takes-returns-in-Text-Text-clause-taken t c =
 pub takes-list_takes-requires : goal.takes-list_takes-requires
 takes-list_takes-requires t c =
     let d = c.decreases in
-    let is : rank c.args.first ≡ 6 = ap rank c.in-Text-Data.is-0 ∙ ap (λ p. rank (firsts.Text p c.in-Text-Data.text)) c.in-Some.ensures.content in
+    let is : rank c.args.first ≡ 7 = ap rank c.in-Text-Data.is-0 ∙ ap (λ p. rank (firsts.Text p c.in-Text-Data.text)) c.in-Some.ensures.content in
     let inside = c.in-Some.ensures.inside in
     let long = c.requires.ready.long in
     (omega (arith, d, is), (omega (arith, inside, long), (c.requires.ready, c.requires.known)))
@@ -362,7 +361,204 @@ list_takes-returns-clause-known t c = c.pieces.invariant.known
 pub rests-returns-clause-known : goal.rests-returns-clause-known
 rests-returns-clause-known t c = c.ways.invariant.known
 
-pub after_all_ways-returns-clause-known : goal.after_all_ways-returns-clause-known
-after_all_ways-returns-clause-known t c =
-    if_ok c.choice.result _ _ (λ n h. all_longer c.args.context.now.grammar.now c.args.context.now.keys.now c.rests.new.table c.choice.new.self c.choice.ensures.longer
-    c.rests.new.known c.in_ok-rests.ensures.known) c.choice.ensures.inside
+-- ---- by plans
+
+pub after_all_ways-after_plan-requires : goal.after_all_ways-after_plan-requires
+after_all_ways-after_plan-requires t c =
+    let t0 = c.args.context.now.grammar.now in
+    let keys = c.args.context.now.keys.now in
+    let new = c.plan_for.new.table in
+    let d = c.decreases in
+    let q = some_question keys c.args.first c.args.number in
+    let own = c.in_ok-plan.ensures.plan q.0 q.1 in (
+      omega (arith, d),
+      (
+        (planned_ways t0 keys new c.args.number c.args.first q.0 c.in_ok-plan.plan q.1 own).inside,
+        (
+          own.right,
+          (
+            ready_longer t0 c.args.table.now new c.args.context.now.numbers.now c.in_ok-plan.ensures.longer c.requires.ready,
+            c.in_ok-plan.ensures.known,
+          ),
+        ),
+      ),
+    )
+
+pub after_all_ways-returns-in-Some : goal.after_all_ways-returns-in-Some
+after_all_ways-returns-in-Some t c =
+    let t0 = c.args.context.now.grammar.now in
+    let keys = c.args.context.now.keys.now in
+    let old = c.args.table.now in
+    let new = c.plan_for.new.table in
+    let q = c.asked.ensures in
+    let own = c.in_ok-plan.ensures.plan c.asked.result q in
+    let is = number_asked t0 keys new c.args.number c.args.first c.asked.result q in
+    let piece = c.in-Some.ensures in
+    let text = string_bytes piece.0.text in
+    record {
+      longer = c.in_ok-plan.ensures.longer;
+      known = c.in_ok-keep_plan.ensures t0 keys new c.in_ok-plan.ensures.known own;
+      left = left_earlier t0 old new new c.args.first c.args.number c.in-Some.rest c.in_ok-plan.ensures.longer c.requires.inside
+          (kept_left t0 new c.args.first text c.args.number c.in-Some.rest piece.2
+          (subst (IsAfterPiece t0 new text c.args.number.0) piece.3 (subst (λ n. IsAfterPiece t0 new text n piece.0.rest) is (own.pieces piece.0 piece.1))));
+    }
+
+pub after_all_ways-returns : goal.after_all_ways-returns
+after_all_ways-returns t c =
+    let t0 = c.args.context.now.grammar.now in
+    let keys = c.args.context.now.keys.now in
+    let old = c.args.table.now in
+    let n1 = c.plan_for.new.table in
+    let n2 = c.after_plan.new.table in
+    let q = c.asked-2.ensures in
+    let own = c.in_ok-plan.ensures.plan c.asked-2.result q in
+    let long = Longer-length old n1 c.in_ok-plan.ensures.longer in
+    let inside = c.requires.inside in
+    let there : c.args.number.0 < length n1 = omega (arith, inside, long) in
+    let told = c.in_ok-rest.ensures in
+    let left = told.left c.args.number there (planned_ways t0 keys n1 c.args.number c.args.first c.asked-2.result c.in_ok-plan.plan q own) in
+    record {
+      longer = Longer-trans old n1 n2 c.in_ok-plan.ensures.longer told.longer;
+      known = c.in_ok-keep_plan-2.ensures t0 keys n2 told.known (plan_again t0 keys n1 n2 told.longer c.args.first c.args.number c.in_ok-rest.rest
+          c.asked-2.result q c.in_ok-plan.plan c.after_plan.new.plan c.keep_piece.new.plan own told.ways told.pieces told.plan
+          c.in_ok-keep_piece.ensures.ways (c.in_ok-keep_piece.ensures.plan t0 n2) c.in_ok-keep_piece.ensures.pieces left);
+      left = left_earlier t0 old n1 n2 c.args.first c.args.number c.in_ok-rest.rest c.in_ok-plan.ensures.longer c.requires.inside left;
+    }
+
+pub after_plan-tests-requires : goal.after_plan-tests-requires
+after_plan-tests-requires t c =
+    let d = c.decreases in (
+      omega (arith, d),
+      (
+        subst (All (λ (m : PatternNumber). m.0 < length c.args.table.now)) (sym c.as_slice.ensures) c.requires.plan.leaves,
+        (c.requires.ready, c.requires.known),
+      ),
+    )
+
+pub after_plan-rest_by-requires : goal.after_plan-rest_by-requires
+after_plan-rest_by-requires t c =
+    inside_longer c.args.table.now c.tests.new.table c.args.plan.now.ways.items c.in_ok-taken.ensures.longer c.requires.inside
+
+pub after_plan-returns-in-Some : goal.after_plan-returns-in-Some
+after_plan-returns-in-Some t c =
+    let t0 = c.args.context.now.grammar.now in
+    let keys = c.args.context.now.keys.now in
+    let old = c.args.table.now in
+    let n1 = c.tests.new.table in
+    let n2 = c.rest_by.new.table in
+    let plan = c.args.plan.now in
+    let tested = c.in_ok-taken.ensures in
+    let told = c.in_ok-rest.ensures in
+    let longer = Longer-trans old n1 n2 tested.longer told.longer in
+    let right = plan_longer t0 old n1 tested.longer plan c.requires.plan in
+    let outcome = subst (λ (o : Option PatternNumber). IfSome o (λ rest. (t : Table) → IsPlan t n1 plan
+    → IsOutcome t n2 plan.ways.items plan.leaves.items c.in_ok-taken.taken.items rest)) c.in-Some.is told.rest in
+    let tests = tests_later t0 old n2 c.args.first plan.leaves.items longer c.requires.plan.leaves c.in_ok-taken.taken.items
+    (subst (λ (ls : List PatternNumber). AreTests t0 old c.args.first ls c.in_ok-taken.taken.items) c.as_slice.ensures tested.tests) in
+    record {
+      longer = longer;
+      known = all_longer t0 keys n1 n2 told.longer c.tests.new.known tested.known;
+      ways = told.ways;
+      pieces = told.pieces;
+      plan = told.plan t0 right;
+      left = λ n inside all. outcome_left t0 old n2 c.args.first plan.leaves.items c.in_ok-taken.taken.items n c.in-Some.rest plan.ways.items tests
+          (ways_for_later t0 old n2 c.args.first (tree_of t0 old n.0) plan.ways.items longer all) (outcome t0 right);
+    }
+
+pub after_plan-rests-requires : goal.after_plan-rests-requires
+after_plan-rests-requires t c =
+    let t0 = c.args.context.now.grammar.now in
+    let keys = c.args.context.now.keys.now in
+    let old = c.args.table.now in
+    let n1 = c.tests.new.table in
+    let n2 = c.rest_by.new.table in
+    let tested = c.in_ok-taken.ensures in
+    let told = c.in_ok-rest.ensures in
+    let longer = Longer-trans old n1 n2 tested.longer told.longer in
+    let d = c.decreases in (
+      omega (arith, d),
+      (
+        subst (AreInside n2) (sym (c.as_slice-2.ensures ∙ ap (λ v. v.items) told.ways))
+            (inside_longer old n2 c.args.plan.now.ways.items longer c.requires.inside),
+        (
+          ready_longer t0 old n2 c.args.context.now.numbers.now longer c.requires.ready,
+          all_longer t0 keys n1 n2 told.longer c.tests.new.known tested.known,
+        ),
+      ),
+    )
+
+pub after_plan-returns-clause-known : goal.after_plan-returns-clause-known
+after_plan-returns-clause-known t c =
+    if_ok c.choice.result _ _ (λ n h. all_longer c.args.context.now.grammar.now c.args.context.now.keys.now c.rests.new.table c.choice.new.self
+    c.choice.ensures.longer c.rests.new.known c.in_ok-rests.ensures.known) c.choice.ensures.inside
+
+pub after_plan-returns-clause-plan : goal.after_plan-returns-clause-plan
+after_plan-returns-clause-plan t c =
+    let t0 = c.args.context.now.grammar.now in
+    let old = c.args.table.now in
+    let n1 = c.tests.new.table in
+    let n2 = c.rest_by.new.table in
+    let longer = Longer-trans n2 c.rests.new.table c.choice.new.self c.in_ok-rests.ensures.longer c.choice.ensures.longer in
+    let right = c.in_ok-rest.ensures.plan t0 (plan_longer t0 old n1 c.in_ok-taken.ensures.longer c.args.plan.now c.requires.plan) in
+    if_ok c.choice.result _ _ (λ n h. plan_longer t0 n2 c.choice.new.self longer c.rest_by.new.plan right) c.choice.ensures.inside
+
+pub after_plan-returns-clause-left : goal.after_plan-returns-clause-left
+after_plan-returns-clause-left t c =
+    let t0 = c.args.context.now.grammar.now in
+    let old = c.args.table.now in
+    let n2 = c.rest_by.new.table in
+    let n3 = c.rests.new.table in
+    let told = c.in_ok-rest.ensures in
+    let longer = Longer-trans old c.tests.new.table n2 c.in_ok-taken.ensures.longer told.longer in
+    let slice : List PatternNumber = c.as_slice-3.result.now in
+    let ws : List numbered.LeafWay = c.args.plan.now.ways.items in
+    let some = subst (λ (rs : List PatternNumber). AreRests t0 n2 n3 c.args.first ws rs) (sym c.as_slice-3.ensures)
+    (subst (λ (ws : List numbered.LeafWay). AreRests t0 n2 n3 c.args.first ws c.in_ok-rests.rests.items)
+    (c.as_slice-2.ensures ∙ ap (λ v. v.items) told.ways) c.in_ok-rests.ensures.rests) in
+    if_ok c.choice.result _ _ (λ n h. λ number inside all. left_behind t0 old n2 n3 c.choice.new.self c.args.first number n ws slice
+    (ways_for_later t0 old n2 c.args.first (tree_of t0 old number.0) ws longer all) some h.0 (h.1.0 t0) (h.1.1 t0 (reading_of t0)))
+    (both_ok c.choice.result _ _ c.choice.ensures.inside (both_ok c.choice.result _ _ c.choice.ensures.alternatives c.choice.ensures.matches))
+
+pub tests-leaves-init : goal.tests-leaves-init
+tests-leaves-init t c = record {
+  longer = Longer-refl c.args.table.now;
+  known = c.requires.known;
+  count = ap length c.new-taken.ensures.items;
+  tests = no_tests c.args.context.now.grammar.now c.args.table.now c.args.first c.args.leaves.now c.new-taken.result.items c.new-taken.ensures.items;
+}
+
+pub tests-takes-requires : goal.tests-takes-requires
+tests-takes-requires t c =
+    let d = c.decreases in
+    let d0 : PatternNumber = record { 0 = 0 } in
+    let there = c.requires.inside c.leaves.leaf-index d0 c.leaves-test.true in
+    let long = Longer-length c.args.table.now c.leaves.table c.leaves.invariant.longer in (
+      omega (arith, d),
+      (
+        omega (arith, there, long),
+        (
+          ready_longer c.args.context.now.grammar.now c.args.table.now c.leaves.table c.args.context.now.numbers.now c.leaves.invariant.longer c.requires.ready,
+          c.leaves.invariant.known,
+        ),
+      ),
+    )
+
+pub tests-leaves-preserved : goal.tests-leaves-preserved
+tests-leaves-preserved t c =
+    let t0 = c.args.context.now.grammar.now in
+    let old = c.args.table.now in
+    let inv = c.leaves.invariant in
+    let d : PatternNumber = record { 0 = 0 } in
+    let i = c.leaves.leaf-index in
+    let ls : List PatternNumber = c.args.leaves.now in
+    let b = c.in_ok-takes.field-0 in
+    let cut : c.push.new.self.items ≡ c.leaves.taken.items ++ b ∷ [] = search rules in
+    let long = ap length cut ∙ length-append c.leaves.taken.items (b ∷ []) in
+    let count = inv.count in
+    record {
+      longer = Longer-trans old c.leaves.table c.takes.new.table inv.longer c.in_ok-takes.ensures.longer;
+      known = c.in_ok-takes.ensures.known;
+      count = omega (arith, long, count);
+      tests = subst (AreTests t0 old c.args.first ls) (sym cut) (one_more_test t0 old c.leaves.table c.args.first ls inv.longer c.requires.inside
+          c.leaves.taken.items (get_or ls i d) i b count (slice_get-get_or ls i d c.leaves-test.true) inv.tests c.in_ok-takes.ensures.taken);
+    }

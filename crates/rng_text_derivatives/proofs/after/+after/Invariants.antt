@@ -1,4 +1,4 @@
-use Rattle.std.proofs.Common.{◌+◌, ◌↔◌, ◌<◌, [], length, map, take}
+use Rattle.std.proofs.Common.{◌≡◌, ◌+◌, ◌↔◌, ◌<◌, [], length, map, take}
 use Rattle.rng_model.specs.datatypes.Blanks.{pieces}
 use Rattle.rng_model.specs.matching.Document.{a_text}
 use Rattle.rng_model.specs.views.PiecesView.{pieces_left}
@@ -7,6 +7,7 @@ use Rattle.rng_pattern_table.specs.views.PatternTable.{Longer}
 use Rattle.rng_pattern_table.specs.views.Taking.{tree_by}
 use Rattle.rng_pattern_table.specs.views.Trees.{tree_of}
 use Rattle.rng_text_derivatives.specs.plain.After.{AreRests}
+use Rattle.rng_text_derivatives.specs.plain.Asking.{AreTests}
 use Rattle.rng_pattern_derivatives.specs.views.KnownWays.{AreAllKnown}
 use Rattle.rng_pattern_derivatives.specs.plain.Kinds.{Obeys}
 use Rattle.rng_model.specs.matching.GrammarReading.{reading_of}
@@ -15,16 +16,22 @@ use Rattle.rng_text_derivatives.proofs.RestsOfWays.{rank}
 use Rattle.rng_text_derivatives.proofs.after.+after.Given as goal
 
 abbrev pub decreases-after : goal.decreases-after
-decreases-after l = rank l.first + 6
+decreases-after l = rank l.first + 7
 
 abbrev pub decreases-after_leaf : goal.decreases-after_leaf
 decreases-after_leaf l = rank l.first + 3
 
 abbrev pub decreases-after_ways : goal.decreases-after_ways
-decreases-after_ways l = rank l.first + 5
+decreases-after_ways l = rank l.first + 6
 
 abbrev pub decreases-after_all_ways : goal.decreases-after_all_ways
-decreases-after_all_ways l = rank l.first + 4
+decreases-after_all_ways l = rank l.first + 5
+
+abbrev pub decreases-after_plan : goal.decreases-after_plan
+decreases-after_plan l = rank l.first + 4
+
+abbrev pub decreases-tests : goal.decreases-tests
+decreases-tests l = rank l.first + 3
 
 abbrev pub decreases-rests : goal.decreases-rests
 decreases-rests l = rank l.first + 3
@@ -33,19 +40,27 @@ abbrev pub decreases-takes : goal.decreases-takes
 decreases-takes l = rank l.first + 2
 
 abbrev pub decreases-list_takes : goal.decreases-list_takes
-decreases-list_takes l = 7
+decreases-list_takes l = 8
 
 abbrev pub decreases-attribute_takes : goal.decreases-attribute_takes
-decreases-attribute_takes l = 14
+decreases-attribute_takes l = 16
 
 abbrev pub decreases-value_takes : goal.decreases-value_takes
-decreases-value_takes l = 13
+decreases-value_takes l = 15
 
 abbrev pub invariant-rests-ways : goal.invariant-rests-ways
 invariant-rests-ways l = record {
   longer : Longer l.fn.table l.table;
   known : AreAllKnown l.context.grammar.now l.context.keys.now l.table l.known;
   rests : AreRests l.context.grammar.now l.fn.table l.table l.first (take l.way-index l.ways) l.rests.items;
+}
+
+abbrev pub invariant-tests-leaves : goal.invariant-tests-leaves
+invariant-tests-leaves l = record {
+  longer : Longer l.fn.table l.table;
+  known : AreAllKnown l.context.grammar.now l.context.keys.now l.table l.known;
+  count : length l.taken.items ≡ l.leaf-index;
+  tests : AreTests l.context.grammar.now l.fn.table l.first l.leaves l.taken.items;
 }
 
 abbrev pub invariant-list_takes-pieces : goal.invariant-list_takes-pieces

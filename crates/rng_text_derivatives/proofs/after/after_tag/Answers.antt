@@ -45,4 +45,5 @@ returns-clause-known c =
       spans = more.spans;
       datatypes = more.datatypes;
       last = more.last;
+      plans = more.plans;
     }) (both_ok c.close.result _ _ c.close.ensures.longer c.close.ensures.known)

@@ -1,28 +1,15 @@
-use Rattle.std.proofs.Common.{sym, subst, rules}
+use Rattle.std.proofs.Common.{subst, rules}
 use Rattle.rng_pattern_table.proofs.Choices.{if_ok}
 use Rattle.rng_pattern_table.specs.views.Trees.{tree_of}
-use Rattle.rng_text_derivatives.specs.plain.After.{AreWaysFor}
+use Rattle.rng_text_derivatives.specs.plain.Asking.{IsAskedBy}
 use Rattle.rng_pattern_derivatives.specs.views.KnownWays.{IsAttributeKind, IsElementKind}
 use Rattle.rng_pattern_derivatives.proofs.ClosedTags.{both_ok}
 use Rattle.rng_pattern_derivatives.proofs.AttributeTakers.{spans_longer}
 use Rattle.rng_pattern_derivatives.proofs.KnownRests.{rests_longer}
 use Rattle.rng_pattern_derivatives.proofs.KnownWays.{by_key_longer, last_longer}
-use Rattle.rng_text_derivatives.proofs.RestsOfWays.{ways_for_attribute, ways_for_text}
+use Rattle.rng_pattern_derivatives.proofs.KnownPlans.{plans_longer}
+use Rattle.rng_text_derivatives.proofs.PlannedRests.{attribute_ways_asked, text_ways_asked}
 use Rattle.rng_text_derivatives.proofs.after.ways_for.Goals as goal
-
-pub returns-in-Text-clause-ways : goal.returns-in-Text-clause-ways
-returns-in-Text-clause-ways c =
-    let t = c.args.context.now.grammar.now in
-    let p = tree_of t c.args.table.now c.args.number.0 in
-    if_ok c.text_ways.result _ _ (λ ws h. subst (λ first. AreWaysFor t c.text_ways.new.table first p ws.items) (sym c.in-Text.is)
-    (ways_for_text t c.text_ways.new.table c.in-Text.field-0 c.in-Text.field-1 p ws.items h)) c.text_ways.ensures.ways
-
-pub returns-in-Attribute-clause-ways : goal.returns-in-Attribute-clause-ways
-returns-in-Attribute-clause-ways c =
-    let t = c.args.context.now.grammar.now in
-    let p = tree_of t c.args.table.now c.args.number.0 in
-    if_ok c.attribute_ways.result _ _ (λ ws h. subst (λ first. AreWaysFor t c.attribute_ways.new.table first p ws.items) (sym c.in-Attribute.is)
-    (ways_for_attribute t c.attribute_ways.new.table c.in-Attribute.attr _ p ws.items (search rules) h)) c.attribute_ways.ensures.ways
 
 pub returns-in-Text-clause-known : goal.returns-in-Text-clause-known
 returns-in-Text-clause-known c =
@@ -41,4 +28,24 @@ returns-in-Text-clause-known c =
       datatypes = c.requires.known.datatypes;
       last = last_longer c.args.context.now.grammar.now c.args.context.now.keys.now c.args.table.now c.text_ways.new.table h.0 c.args.known.now.last.items
           c.requires.known.last;
+      plans = plans_longer c.args.context.now.grammar.now c.args.table.now c.text_ways.new.table h.0 c.args.context.now.keys.now c.args.known.now.plans
+          c.requires.known.plans;
     }) (both_ok c.text_ways.result _ _ c.text_ways.ensures.longer c.text_ways.ensures.known)
+
+pub returns-in-Text-clause-ways : goal.returns-in-Text-clause-ways
+returns-in-Text-clause-ways c =
+    let t = c.args.context.now.grammar.now in
+    let keys = c.args.context.now.keys.now in
+    let p = tree_of t c.args.table.now c.args.number.0 in
+    if_ok c.text_ways.result _ _ (λ ws h. λ a asks kind k. text_ways_asked t keys c.text_ways.new.table c.args.number p ws.items a
+    (subst (λ first. IsAskedBy keys first c.args.number a) c.in-Text.is asks) h kind k) c.text_ways.ensures.ways
+
+pub returns-in-Attribute-clause-ways : goal.returns-in-Attribute-clause-ways
+returns-in-Attribute-clause-ways c =
+    let t = c.args.context.now.grammar.now in
+    let keys = c.args.context.now.keys.now in
+    if_ok c.attribute_ways.result _ _ (λ ws h. λ a asks kind k.
+    let own = subst (λ first. IsAskedBy keys first c.args.number a) c.in-Attribute.is asks in
+    attribute_ways_asked t keys c.requires.known.serve c.args.table.now c.attribute_ways.new.table h.0 c.args.number c.requires.inside own.0 _
+    c.in-Attribute.attr.now ws.items (search rules) own.2 h.1 a own.1 kind k)
+    (both_ok c.attribute_ways.result _ _ c.attribute_ways.ensures.longer c.attribute_ways.ensures.ways)

@@ -1,5 +1,4 @@
-use Rattle.std.proofs.Common.{◌≡◌, ◌∙◌, ◌++◌, ◌∷◌, [], ℕ, List, Option, ap, map, sym, subst, length, string_bytes, rules, arith}
-use Rattle.std.proofs.lemmas.List.Elements.{All-push}
+use Rattle.std.proofs.Common.{◌≡◌, ◌∙◌, ◌++◌, ◌∷◌, [], ℕ, List, Option, ap, drop, map, reverse, sym, subst, length, string_bytes, take, rules}
 use Rattle.pyx.specs.declared.elements.OpenElement.{OpenElement}
 use Rattle.rng_model.specs.documents.PyxNamespaces.{WrittenAttribute}
 use Rattle.rng_model.specs.names.Names.{Name}
@@ -8,69 +7,48 @@ use Rattle.pyx_namespaces.specs.plain.WrittenNames.{written_of}
 use Rattle.pyx_namespaces.specs.views.WrittenAttributes.{written_attribute}
 use Rattle.pyx.specs.plain.DocumentReader.{Open, declared_in}
 use Rattle.pyx.specs.plain.TagReader.{element_name}
-use Rattle.pyx.specs.views.ElementView.{Elements, IsJudged, IsNamed, clause_of, name_at, names_of, resolved, stack_of}
+use Rattle.pyx.specs.views.ElementView.{AreNamed, Elements, clause_of, name_at, names_of, resolved, stack_of}
 use Rattle.pyx.proofs.DeclaredNamespaces.{name_within}
-use Rattle.pyx.proofs.OpenStack.{last_is, opened_is, opened_whole, whole_none}
+use Rattle.pyx.proofs.OpenNames.{cut_at_end, named_push, none_behind}
+use Rattle.pyx.proofs.OpenStack.{opened_is, opened_whole, take_end, whole_none}
 use Rattle.pyx.proofs.opened.OpenElements.open_by_lookup.Goals as goal
-
-pub invariant_of-self : goal.invariant_of-self
-invariant_of-self c =
-    let none : string_bytes c.replace-name.new.dest ≡ [] = search rules in
-    record {
-      known = c.self.invariant.known;
-      whole = rw (c.in_err-push.ensures.items) c.self.invariant.whole;
-      judged = λ h. absurd (omega (arith, h, ap length none));
-      placed = tt;
-      all_judged = rw (c.in_err-push.ensures.items) c.self.invariant.all_judged;
-    }
 
 pub invariant_of-self-in_err-declare : goal.invariant_of-self-in_err-declare
 invariant_of-self-in_err-declare c =
-    let none : string_bytes c.replace-name.new.dest ≡ [] = search rules in
-    let e : OpenElement = record { name = c.replace-name.result; count = c.len-count.result } in
-    let named : IsNamed e = subst (λ x. IsJudged (string_bytes x)) (sym c.replace-name.ensures.value) c.self.invariant.judged in
+    let e : OpenElement = record { start = c.self.inside.begun; count = c.len-count.result } in
+    let xs = c.self.inside.opened.items in
+    let names = string_bytes c.self.inside.written in
+    let n = c.len-self-inside.result in
+    let end : n ≡ length names = search rules in
     record {
       known = c.declare.ensures.known;
-      whole = whole_none c.push.new.self.items c.declare.new.declarations c.in_err-declare.ensures.declared;
-      judged = λ h. absurd (omega (arith, h, ap length none));
+      whole = whole_none c.push.new.self.items (take n names) c.declare.new.declarations c.in_err-declare.ensures.declared;
+      cut = cut_at_end n names end;
+      judged = none_behind n names end;
       placed = tt;
-      all_judged = rw (c.in_ok-push.ensures.items) (All-push IsNamed c.self.inside.opened.items e c.self.invariant.all_judged named);
-    }
-
-pub invariant_of-self-2 : goal.invariant_of-self-2
-invariant_of-self-2 c =
-    let none : string_bytes c.replace-name.new.dest ≡ [] = search rules in
-    let e : OpenElement = record { name = c.replace-name.result; count = c.len-count.result } in
-    let named : IsNamed e = subst (λ x. IsJudged (string_bytes x)) (sym c.replace-name.ensures.value) c.self.invariant.judged in
-    record {
-      known = c.place_of_name.ensures.known;
-      whole = rw (c.in_ok-push.ensures.items)
-          (opened_whole c.self.inside.opened.items e c.args.tag.now.items c.self.inside.declarations c.declare.new.declarations
-          (sym c.args.tag.now.ok.0 ∙ sym c.len-count.ensures) c.in_ok-declare.ensures.declared c.self.invariant.whole);
-      judged = λ h. absurd (omega (arith, h, ap length none));
-      placed = tt;
-      all_judged = rw (c.in_ok-push.ensures.items) (All-push IsNamed c.self.inside.opened.items e c.self.invariant.all_judged named);
+      named = rw (c.in_ok-push.ensures.items) (subst (λ (t : List ℕ). AreNamed (reverse (xs ++ e ∷ [])) t) (sym (take_end n names end))
+          (named_push xs e names c.self.invariant.cut c.self.invariant.judged c.self.invariant.named));
     }
 
 pub returns-clause-name : goal.returns-clause-name
 returns-clause-name c =
-    let e : OpenElement = record { name = c.replace-name.result; count = c.len-count.result } in
+    let e : OpenElement = record { start = c.self.inside.begun; count = c.len-count.result } in
     let xs = c.self.inside.opened.items in
+    let names = string_bytes c.self.inside.written in
+    let n = c.len-self-inside.result in
+    let end : n ≡ length names = search rules in
     let ds = c.self.inside.declarations in
     let new = c.declare.new.declarations in
     let tag = c.args.tag.now.items in
     let own : List WrittenAttribute = map written_attribute tag in
-    let name = c.as_str-name.result.now in
-    let n = sym c.args.tag.now.ok.0 ∙ sym c.len-count.ensures in
-    let whole = opened_whole xs e tag ds new n c.in_ok-declare.ensures.declared c.self.invariant.whole in
-    let is = opened_is xs e tag ds new n c.in_ok-declare.ensures.declared in
-    let last = last_is c.as_slice-opened.result.now xs e c.index-opened-opened.result (c.as_slice-opened.ensures.value ∙ c.in_ok-push.ensures.items)
-    c.index-opened-opened.is in
-    let begun : name ≡ c.args.self.now.begun = c.as_str-name.ensures.value
-    ∙ ap (λ (x : OpenElement). string_bytes x.name) (sym c.index-opened-opened.is ∙ last)
-    ∙ ap (λ x. string_bytes x) c.replace-name.ensures.value ∙ ap (λ (x : Elements). x.begun) c.self.view_is in
+    let name = c.range_from-name.result.now in
+    let count = sym c.args.tag.now.ok.0 ∙ sym c.len-count.ensures in
+    let whole = opened_whole xs e tag names n ds new count end c.in_ok-declare.ensures.declared c.self.invariant.whole in
+    let is = opened_is xs e tag names n ds new count end c.in_ok-declare.ensures.declared in
+    let begun : name ≡ c.args.self.now.begun = c.range_from-name.ensures.value ∙ ap (λ (t : List ℕ). drop c.self.inside.begun t) c.as_str.ensures.value
+    ∙ ap (λ (x : Elements). x.begun) c.self.view_is in
     let same : element_name (new ∷ []) (written_of name) ≡ element_name (own ∷ declared_in c.args.self.now.opened) (written_of c.args.self.now.begun) =
-    name_within (stack_of (xs ++ e ∷ []) new) new (written_of name) whole
+    name_within (stack_of (xs ++ e ∷ []) (take n names) new) new (written_of name) whole
     ∙ ap (λ (o : List Open). element_name (declared_in o) (written_of name)) is
     ∙ ap (λ (x : Elements). element_name (own ∷ declared_in x.opened) (written_of name)) c.self.view_is
     ∙ ap (λ (x : List ℕ). element_name (own ∷ declared_in c.args.self.now.opened) (written_of x)) begun in

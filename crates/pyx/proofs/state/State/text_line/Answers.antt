@@ -5,10 +5,10 @@ use Rattle.pyx.proofs.state.State.text_line.Goals as goal
 
 pub overflow_add-self : goal.overflow_add-self
 overflow_add-self g c =
-    let k = tag_ended_keeps c.as_bytes.result.now (state_of c.args.self.now) (state_of c.end_tag.new.self) c.in_ok-end_tag.ensures.0 in
+    let k = tag_ended_keeps c.as_bytes.result.now (state_of c.args.self.now) (state_of c.end_tag.new.self) c.in_ok-end_tag.ensures.turn.0 in
     let e : c.end_tag.new.self.lines ≡ c.args.self.now.lines = k.0 in omega (arith, e, c.requires.lines)
 
 pub said-requires-clause-room : goal.said-requires-clause-room
 said-requires-clause-room g c =
-    let k = tag_ended_keeps c.as_bytes.result.now (state_of c.args.self.now) (state_of c.end_tag.new.self) c.in_ok-end_tag.ensures.0 in
+    let k = tag_ended_keeps c.as_bytes.result.now (state_of c.args.self.now) (state_of c.end_tag.new.self) c.in_ok-end_tag.ensures.turn.0 in
     omega (arith, k.1, c.requires.bytes)

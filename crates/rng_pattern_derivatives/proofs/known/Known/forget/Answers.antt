@@ -3,6 +3,7 @@ use Rattle.rng_pattern_derivatives.specs.declared.way.Kind.TheVariants as kinds
 use Rattle.rng_pattern_derivatives.proofs.AttributeTakers.{no_spans}
 use Rattle.rng_pattern_derivatives.proofs.KnownRests.{no_rests}
 use Rattle.rng_pattern_derivatives.proofs.KnownWays.{no_last, none_by_key, none_known}
+use Rattle.rng_pattern_derivatives.proofs.KnownPlans.{no_plans}
 use Rattle.rng_pattern_derivatives.proofs.known.Known.forget.Goals as goal
 
 pub returns : goal.returns
@@ -18,4 +19,5 @@ returns c = λ t keys old new all. record {
   spans = no_spans t new c.new-5.result.items c.new-5.ensures.items;
   datatypes = all.datatypes;
   last = no_last t keys new c.new-6.result.items c.new-6.ensures.items;
+  plans = no_plans t keys new c.new-7.result c.new-7.ensures.empty;
 }

@@ -3,6 +3,7 @@ use Rattle.rng_pattern_derivatives.specs.declared.way.Kind.TheVariants as kinds
 use Rattle.rng_pattern_derivatives.proofs.AttributeTakers.{no_spans}
 use Rattle.rng_pattern_derivatives.proofs.KnownRests.{no_rests}
 use Rattle.rng_pattern_derivatives.proofs.KnownWays.{no_last, none_by_key, none_known}
+use Rattle.rng_pattern_derivatives.proofs.KnownPlans.{no_plans}
 use Rattle.rng_pattern_derivatives.proofs.known.Known.new.Goals as goal
 
 pub returns : goal.returns
@@ -19,4 +20,5 @@ returns c =
       spans = no_spans t ns c.new-6.result.items c.new-6.ensures.items;
       datatypes = c.in_ok-datatypes.ensures;
       last = no_last t c.args.keys.now ns c.new-7.result.items c.new-7.ensures.items;
+      plans = no_plans t c.args.keys.now ns c.new-8.result c.new-8.ensures.empty;
     }

@@ -1,0 +1,102 @@
+-- Plans of patterns: what is left of them, by the outcome of the tests of leaves and by the pieces of a list.
+use Rattle.std.specs.Prelude.{◌≡◌, ℕ, ◌<◌, ◌↔◌, List, [], ◌∷◌, ◌++◌, All, Bool, true, false, Some, length, slice_get, string_bytes}
+use Rattle.std.specs.HashMap.{HashMap, get}
+use Rattle.std.specs.List.{Contains}
+use Rattle.rng_names.specs.plain.Keys.{Keys, key_of}
+use Rattle.rng_model.specs.matching.Document.{Attribute, Item, a_text}
+use Rattle.rng_model.specs.matching.GrammarReading.{reading_of}
+use Rattle.rng_model.specs.matching.Reading.{Reading}
+use Rattle.rng_model.specs.names.NameViews.{name_of}
+use Rattle.rng_model.specs.simple.Table.{Table}
+use Rattle.rng_model.specs.simple.Tree.{Simple}
+use Rattle.rng_deriv_laws.specs.plain.Blanks.{IsBare}
+use Rattle.rng_deriv_laws.specs.plain.Taking.{Takes}
+use Rattle.rng_pattern_table.specs.plain.Reduced.{HasAlternative}
+use Rattle.rng_pattern_table.specs.views.Choices.{IsAlternativeOf, SomeTakes}
+use Rattle.rng_pattern_table.specs.views.Node.{Node}
+use Rattle.rng_pattern_table.specs.views.Trees.{tree_of}
+use Rattle.rng_pattern_table.specs.declared.pattern.PatternNumber.{PatternNumber}
+use Rattle.rng_pattern_derivatives.specs.contracts.plans.AskedPartialEq.TheImpl as same
+use Rattle.rng_pattern_derivatives.specs.plain.Kinds.{Obeys}
+use Rattle.rng_pattern_derivatives.specs.plain.Ways.{AreWaysOf}
+use Rattle.rng_pattern_derivatives.specs.declared.plans.Asked.{Asked}
+use Rattle.rng_pattern_derivatives.specs.declared.plans.Asked.TheVariants as asked
+use Rattle.rng_pattern_derivatives.specs.declared.plans.Outcome.{Outcome}
+use Rattle.rng_pattern_derivatives.specs.declared.plans.Piece.{Piece}
+use Rattle.rng_pattern_derivatives.specs.declared.plans.Plan.{Plan}
+use Rattle.rng_pattern_derivatives.specs.declared.way.Kind.{Kind}
+use Rattle.rng_pattern_derivatives.specs.declared.way.Kind.TheVariants as kinds
+use Rattle.rng_pattern_derivatives.specs.declared.way.LeafWay.{LeafWay}
+use Rattle.rng_pattern_derivatives.specs.declared.way.Place.TheVariants as places
+
+-- ---- what the tests of leaves say
+
+-- the tests of these leaves say whether a leaf took what came first
+abbrev pub IsTold : List PatternNumber → List Bool → PatternNumber → Bool → Type 0
+IsTold leaves taken leaf b = (i : ℕ) × (slice_get leaves i ≡ Some leaf) × (slice_get taken i ≡ Some b)
+
+-- these are the rests of the ways whose leaves took what came first, in order, where the tests say it of all ways
+pub data AreRestsBy : List PatternNumber → List Bool → List LeafWay → List PatternNumber → Type 0 where
+  no_ways : {leaves : List PatternNumber} {taken : List Bool} {ws : List LeafWay} {rests : List PatternNumber} → ws ≡ [] → rests ≡ []
+      → AreRestsBy leaves taken ws rests
+  one_taken : {leaves : List PatternNumber} {taken : List Bool} {ws : List LeafWay} {rests : List PatternNumber} {vs : List LeafWay}
+      {more : List PatternNumber} (w : LeafWay) → AreRestsBy leaves taken ws rests → IsTold leaves taken w.leaf true → vs ≡ ws ++ w ∷ []
+      → more ≡ rests ++ w.rest ∷ [] → AreRestsBy leaves taken vs more
+  one_left_out : {leaves : List PatternNumber} {taken : List Bool} {ws : List LeafWay} {rests : List PatternNumber} {vs : List LeafWay}
+      (w : LeafWay) → AreRestsBy leaves taken ws rests → IsTold leaves taken w.leaf false → vs ≡ ws ++ w ∷ [] → AreRestsBy leaves taken vs rests
+
+-- the pattern of this number in the later table is a choice of those of the earlier one
+pub record IsChoiceOf (t : Table) (before after : List Node) (members : List PatternNumber) (n : PatternNumber) : Type 0 where
+  pub inside : n.0 < length after
+  pub alternatives : (s : Simple ℕ) → HasAlternative (tree_of t after n.0) s → IsAlternativeOf (tree_of t before) members s
+  pub takes : (g : Reading) (xs : List Attribute) (ns : List Item) → Takes g (tree_of t after n.0) xs ns ↔ SomeTakes g (tree_of t before) members xs ns
+
+-- what is left by these ways, whatever came first, if the tests of these leaves say this
+pub record IsOutcome (t : Table) (ns : List Node) (ws : List LeafWay) (leaves : List PatternNumber) (taken : List Bool) (rest : PatternNumber) : Type 0 where
+  pub rests : List PatternNumber
+  pub are : AreRestsBy leaves taken ws rests
+  pub inside : All (λ (m : PatternNumber). m.0 < length ns) rests
+  pub choice : IsChoiceOf t ns ns rests rest
+
+-- this is left of the pattern of this number after a string in a list (RELAX NG Specification, section 6.2.10)
+pub record IsAfterPiece (t : Table) (ns : List Node) (s : List ℕ) (n : ℕ) (rest : PatternNumber) : Type 0 where
+  pub inside : rest.0 < length ns
+  pub law : Obeys places.List (tree_of t ns n) → (ks : List Item) → IsBare (a_text s ∷ ks)
+      → Takes (reading_of t) (tree_of t ns rest.0) [] ks ↔ Takes (reading_of t) (tree_of t ns n) [] (a_text s ∷ ks)
+  pub kept : Obeys places.List (tree_of t ns n) → Obeys places.List (tree_of t ns rest.0)
+
+-- ---- plans
+
+-- all outcomes of a plan are right
+pub record IsPlan (t : Table) (ns : List Node) (plan : Plan) : Type 0 where
+  pub leaves : All (λ (m : PatternNumber). m.0 < length ns) plan.leaves.items
+  pub outcomes : (o : Outcome) → Contains plan.outcomes.items o → IsOutcome t ns plan.ways.items plan.leaves.items o.taken.items o.rest
+
+-- this plan is known for the pattern
+abbrev pub HasPlan : {Z : Type 0} → HashMap Asked Plan Z → Asked → Plan → Type 0
+HasPlan plans a plan = get same.ghosts.eq plans a ≡ Some plan
+
+-- the number of the pattern that is asked
+abbrev pub number_of : Asked → ℕ
+number_of (asked.Text n) = n.0
+number_of (asked.Attribute n k) = n.0
+
+-- something of this kind comes first: a string, or an attribute whose name has the key
+abbrev pub IsKindAsked : Keys → Asked → Kind → Type 0
+IsKindAsked keys (asked.Text n) (kinds.Element q) = ⊥
+IsKindAsked keys (asked.Text n) (kinds.Attribute q) = ⊥
+IsKindAsked keys (asked.Text n) kinds.Text = Unit {0}
+IsKindAsked keys (asked.Attribute n k) (kinds.Element q) = ⊥
+IsKindAsked keys (asked.Attribute n k) (kinds.Attribute q) = key_of keys (name_of q.now) ≡ k.0
+IsKindAsked keys (asked.Attribute n k) kinds.Text = ⊥
+
+-- the plan is right for the pattern
+pub record IsPlanFor (t : Table) (keys : Keys) (ns : List Node) (a : Asked) (plan : Plan) : Type 0 where
+  pub inside : number_of a < length ns
+  pub ways : (kind : Kind) → IsKindAsked keys a kind → AreWaysOf t ns kind (tree_of t ns (number_of a)) plan.ways.items
+  pub right : IsPlan t ns plan
+  pub pieces : (p : Piece) → Contains plan.pieces.items p → IsAfterPiece t ns (string_bytes p.text) (number_of a) p.rest
+
+-- all plans are right
+abbrev pub ArePlans : {Z : Type 0} → Table → Keys → List Node → HashMap Asked Plan Z → Type 0
+ArePlans t keys ns plans = (a : Asked) (plan : Plan) → HasPlan plans a plan → IsPlanFor t keys ns a plan

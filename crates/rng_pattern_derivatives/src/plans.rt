@@ -1,0 +1,47 @@
+// What is kept of patterns that leave more than two rests: by the outcome of tests, and by the pieces of a list.
+use crate::way::Ways;
+use rng_names::NameKey;
+use rng_pattern_table::PatternNumber;
+use smallvec::SmallVec;
+use std::collections::HashMap;
+
+/// A pattern that is asked what is left of it after a string, or after an attribute whose name has this key.
+#[derive(Clone, Copy, PartialEq, Eq, Hash)]
+pub enum Asked {
+    Text(PatternNumber),
+    Attribute(PatternNumber, NameKey),
+}
+
+/// Different leaves of the ways of a pattern.
+pub type Leaves = SmallVec<PatternNumber, 2>;
+
+/// For each of some leaves, whether it took what came first.
+pub type Tests = SmallVec<bool, 8>;
+
+/// What the tests of leaves say, and the choice of what the ways leave whose leaves took what came first.
+#[derive(Drop)]
+pub struct Outcome {
+    pub taken: Tests,
+    pub rest: PatternNumber,
+}
+
+/// A string that was tried in a list, and what is left of the pattern after it.
+#[derive(Drop)]
+pub struct Piece {
+    pub text: String,
+    pub rest: PatternNumber,
+}
+
+/// The ways of a pattern, their leaves, and the outcomes of the tests of these leaves that have occurred. A plan
+/// without leaves keeps no outcome.
+#[derive(Drop)]
+pub struct Plan {
+    pub ways: Ways,
+    pub leaves: Leaves,
+    pub outcomes: Vec<Outcome>,
+    /// Strings that were tried in a list.
+    pub pieces: Vec<Piece>,
+}
+
+/// The plans of patterns that were asked.
+pub type Plans = HashMap<Asked, Plan>;

@@ -1,0 +1,241 @@
+// Plans: what is left of patterns, by the outcome of tests, and by the pieces of a list.
+ghost use Rattle.std.specs.Prelude.{◌≡◌, ◌⊎◌, ◌<◌, [], All, IfOk, IfSome, List, OnOk, Some, length, slice_get, string_bytes};
+ghost use Rattle.std.specs.List.{Contains};
+ghost use Rattle.rng_model.specs.simple.Table.{Table};
+ghost use Rattle.rng_pattern_table.specs.views.Node.{Node};
+ghost use Rattle.rng_pattern_table.specs.views.PatternTable.{Longer};
+ghost use Rattle.rng_pattern_table.specs.declared.pattern.PatternNumber.{PatternNumber};
+ghost use Rattle.rng_pattern_derivatives.specs.plain.Ways.{AreInside};
+ghost use Rattle.rng_pattern_derivatives.specs.views.Plans.{AreRestsBy, IsOutcome, IsPlan, IsTold};
+ghost use Rattle.rng_pattern_derivatives.specs.declared.plans.Outcome.{Outcome};
+ghost use Rattle.rng_pattern_derivatives.specs.declared.plans.Piece.{Piece};
+ghost use Rattle.rng_text_derivatives.specs.plain.Asking.{IsAskedBy, IsPieceOf};
+
+use crate::context::Context;
+use crate::first::First;
+use crate::settled::FEW_WAYS;
+use rng_model::OutOfMemory;
+use rng_pattern_derivatives::{
+    Asked, LeafWay, Leaves, Outcome, Piece, Place, Plan, Rests, Tests, Ways,
+};
+use rng_pattern_table::{PatternNumber, PatternTable};
+use smallvec::SmallVec;
+use std::alloc::Global;
+
+/// The number of different leaves up to which outcomes of their tests are kept.
+const MOST_LEAVES: usize = 64;
+
+/// The number of outcomes that are kept for a pattern.
+const MOST_OUTCOMES: usize = 16;
+
+/// The number of pieces of a list that are kept for a pattern, until it begins anew.
+const MOST_PIECES: usize = 64;
+
+/// The length up to which a piece is kept.
+const LONGEST_PIECE: usize = 64;
+
+/// Returns what a pattern is asked.
+pub fn asked(context: &Context, first: First, number: PatternNumber) -> Asked
+    ensures { IsAskedBy context.now.keys.now first.entry number result }
+{
+    match first {
+        First::Text(_, _) => Asked::Text(number),
+        First::Attribute(attr) => Asked::Attribute(number, context.keys.key(&attr.name)),
+    }
+}
+
+/// Returns the different leaves of some ways, or none if there are too many for their outcomes to be kept.
+fn different_leaves(alloc: Global, ways: &[LeafWay]) -> Result<Leaves, OutOfMemory>
+    ensures { IfOk result (λ leaves. (ns : List Node) → AreInside ns ways.now → All (λ m. m.0 < length ns) leaves.items) }
+{
+    let mut leaves: Leaves = SmallVec::new(alloc);
+    'ways: for way in ways {
+        if leaves.as_slice().contains(&way.leaf) {
+            continue;
+        }
+        if leaves.len() >= MOST_LEAVES {
+            return Ok(SmallVec::new(alloc));
+        }
+        leaves.push(way.leaf)?;
+    }
+    Ok(leaves)
+}
+
+/// Returns a plan without outcomes. Fails only when out of memory. The cost is at most 64 comparisons for each way.
+pub fn plan_of(alloc: Global, ways: Ways) -> Result<Plan, OutOfMemory>
+    ensures ways { IfOk result (λ plan. plan.ways.items ≡ ways.items) }
+    ensures pieces { IfOk result (λ plan. plan.pieces.items ≡ []) }
+    ensures plan { IfOk result (λ plan. (t : Table) (ns : List Node) → AreInside ns ways.items → IsPlan t ns plan) }
+{
+    let leaves = different_leaves(alloc, ways.as_slice())?;
+    Ok(Plan {
+        ways,
+        leaves,
+        outcomes: Vec::new(alloc),
+        pieces: Vec::new(alloc),
+    })
+}
+
+/// Returns the place of a leaf among those that were tested. Allocates nothing.
+fn place_of(leaves: &[PatternNumber], leaf: PatternNumber) -> Option<usize>
+    ensures { IfSome result (λ i. slice_get leaves.now i ≡ Some leaf) }
+{
+    for (place, tested) in leaves.iter().enumerate() {
+        if *tested == leaf {
+            return Some(place);
+        }
+    }
+    None
+}
+
+/// Returns whether a leaf took what came first, if it is one of those that were tested. Allocates nothing.
+fn told(leaves: &[PatternNumber], taken: &[bool], leaf: PatternNumber) -> Option<bool>
+    ensures { IfSome result (IsTold leaves.now taken.now leaf) }
+{
+    let place = place_of(leaves, leaf)?;
+    let took = taken.get(place)?;
+    Some(*took)
+}
+
+/// Returns the rests of the ways whose leaves took what came first, if all leaves were tested. Fails only when out of
+/// memory.
+fn rests_by(
+    alloc: Global,
+    leaves: &[PatternNumber],
+    taken: &[bool],
+    ways: &[LeafWay],
+) -> Result<Option<Rests>, OutOfMemory>
+    ensures { IfOk result (λ o. IfSome o (λ rests. AreRestsBy leaves.now taken.now ways.now rests.items)) }
+{
+    let mut rests: Rests = SmallVec::new(alloc);
+    'ways: for way in ways {
+        let Some(took) = told(leaves, taken, way.leaf) else {
+            return Ok(None);
+        };
+        if !took {
+            continue;
+        }
+        rests.push(way.rest)?;
+    }
+    Ok(Some(rests))
+}
+
+/// Returns the rest that is kept for these tests. Allocates nothing.
+fn kept_rest(outcomes: &[Outcome], taken: &[bool]) -> Option<PatternNumber>
+    ensures { IfSome result (λ rest. (o : Outcome) × Contains outcomes.now o × (o.taken.items ≡ taken.now) × (o.rest ≡ rest)) }
+{
+    'outcomes: for outcome in outcomes {
+        if outcome.taken.as_slice() == taken {
+            return Some(outcome.rest);
+        }
+    }
+    None
+}
+
+/// Keeps the rest for these tests, unless there are many outcomes already. Fails only when out of memory.
+fn keep_outcome(plan: &mut Plan, taken: Tests, rest: PatternNumber) -> Result<(), OutOfMemory>
+    ensures ways { OnOk result (plan.new.ways ≡ plan.old.ways) }
+    ensures leaves { OnOk result (plan.new.leaves ≡ plan.old.leaves) }
+    ensures pieces { OnOk result (plan.new.pieces ≡ plan.old.pieces) }
+    ensures outcomes { OnOk result ((o : Outcome) → Contains plan.new.outcomes.items o
+        → Contains plan.old.outcomes.items o ⊎ ((o.taken.items ≡ taken.items) × (o.rest ≡ rest))) }
+{
+    if plan.outcomes.len() >= MOST_OUTCOMES {
+        return Ok(());
+    }
+    plan.outcomes.push(Outcome { taken, rest })?;
+    Ok(())
+}
+
+/// Returns what is left by the ways of a plan if its leaves were tested with this outcome. `None` means that the plan
+/// keeps no outcomes. Fails only when out of memory. The cost is that of a comparison with the outcomes that have
+/// occurred. For a new one the rests of the ways are gathered, and their choice is made.
+pub fn rest_by(
+    alloc: Global,
+    table: &mut PatternTable,
+    plan: &mut Plan,
+    taken: Tests,
+) -> Result<Option<PatternNumber>, OutOfMemory>
+    requires { AreInside table.old plan.old.ways.items }
+    ensures longer { OnOk result (Longer table.old table.new) }
+    ensures ways { OnOk result (plan.new.ways ≡ plan.old.ways) }
+    ensures pieces { OnOk result (plan.new.pieces ≡ plan.old.pieces) }
+    ensures plan { OnOk result ((t : Table) → IsPlan t table.old plan.old → IsPlan t table.new plan.new) }
+    ensures rest { IfOk result (λ o. IfSome o (λ rest. (t : Table) → IsPlan t table.old plan.old
+        → IsOutcome t table.new plan.old.ways.items plan.old.leaves.items taken.items rest)) }
+{
+    if let Some(rest) = kept_rest(plan.outcomes.as_slice(), taken.as_slice()) {
+        return Ok(Some(rest));
+    }
+    let Some(rests) = rests_by(
+        alloc,
+        plan.leaves.as_slice(),
+        taken.as_slice(),
+        plan.ways.as_slice(),
+    )?
+    else {
+        return Ok(None);
+    };
+    let rest = table.choice(alloc, rests.as_slice())?;
+    keep_outcome(plan, taken, rest)?;
+    Ok(Some(rest))
+}
+
+/// Returns the rest that is kept for a text among these pieces. Allocates nothing.
+fn rest_of_piece(pieces: &[Piece], text: &str) -> Option<PatternNumber>
+    ensures { IfSome result (λ rest. (p : Piece) × Contains pieces.now p × (string_bytes p.text ≡ text.now) × (p.rest ≡ rest)) }
+{
+    'pieces: for piece in pieces {
+        if piece.text.as_str() == text {
+            return Some(piece.rest);
+        }
+    }
+    None
+}
+
+/// Returns the string, if this is a piece of a list. Allocates nothing.
+fn piece_of<'a>(first: First<'a>) -> Option<&'a str>
+    ensures { IfSome result (λ text. IsPieceOf first.entry text.now) }
+{
+    match first {
+        First::Text(Place::List, text) => Some(text),
+        _ => None,
+    }
+}
+
+/// Returns what is known to be left by a plan after this, if it is a piece of a list. Allocates nothing.
+pub fn kept_piece(plan: &Plan, first: First) -> Option<PatternNumber>
+    ensures { IfSome result (λ rest. (p : Piece) × Contains plan.now.pieces.items p × IsPieceOf first.entry (string_bytes p.text) × (p.rest ≡ rest)) }
+{
+    rest_of_piece(plan.pieces.as_slice(), piece_of(first)?)
+}
+
+/// Keeps what is left after this, if it is a short piece of a list, and the plan has many ways. Where many pieces are
+/// kept, the others are forgotten. Fails only when out of memory.
+pub fn keep_piece(
+    alloc: Global,
+    plan: &mut Plan,
+    first: First,
+    rest: PatternNumber,
+) -> Result<(), OutOfMemory>
+    ensures ways { OnOk result (plan.new.ways ≡ plan.old.ways) }
+    ensures plan { OnOk result ((t : Table) (ns : List Node) → IsPlan t ns plan.old → IsPlan t ns plan.new) }
+    ensures pieces { OnOk result ((p : Piece) → Contains plan.new.pieces.items p
+        → Contains plan.old.pieces.items p ⊎ (IsPieceOf first.entry (string_bytes p.text) × (p.rest ≡ rest))) }
+{
+    let Some(text) = piece_of(first) else {
+        return Ok(());
+    };
+    if plan.ways.len() <= FEW_WAYS || text.len() > LONGEST_PIECE {
+        return Ok(());
+    }
+    let text = String::from_str(alloc, text)?;
+    let piece = Piece { text, rest };
+    if plan.pieces.len() < MOST_PIECES {
+        plan.pieces.push(piece)?;
+        return Ok(());
+    }
+    plan.pieces.clear();
+    plan.pieces.push(piece)?;
+    Ok(())
+}
