@@ -79,8 +79,7 @@ returns-in_ok-region-in-NsExcept-clause-knows t c =
     let mid = written_in c.add_namespace-in-NsExcept.new.self in
     let new = written_in c.add_class-in-NsExcept.new.self in
     let whole = ns_except_is _ ns except c.in-NsExcept.is in
-    let has : IsMeasured mid (namespace_bytes ns) 0 =
-    subst (λ u. IsMeasured mid u 0) c.as_str-in-NsExcept.ensures.value c.in_ok-add_namespace-in-NsExcept.ensures.has in
+    let has : IsMeasured mid (namespace_bytes ns) 0 = c.in_ok-add_namespace-in-NsExcept.ensures.has in
     let inside : class_of c.deref-in-NsExcept-2.result.now ≡ class_of except.value = search rules in
     both_ok c.add_class-in-NsExcept.result
     (λ grows known. subst (Knows new) (sym whole)
