@@ -1,5 +1,5 @@
 // Documents from rows.
-use rng_model::{Attr, Item, Name};
+use rng_model::{Attr, Item, Name, Namespace};
 use std::alloc::{AllocError, Global};
 
 /// An element that has begun and has not ended.
@@ -88,7 +88,7 @@ fn close(open: &mut Vec<Open>, ended: Open) -> Result<Option<Item>, AllocError> 
 /// Returns a name without a namespace.
 fn named(alloc: Global, local: &str) -> Result<Name, AllocError> {
     Ok(Name {
-        ns: String::new(alloc),
+        ns: Namespace::none(),
         local: String::from_str(alloc, local)?,
     })
 }

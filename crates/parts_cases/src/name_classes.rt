@@ -7,7 +7,7 @@
 //     p:a    the name a of the namespace p
 //     |      the names of the two classes before it
 //     none   the choice of no classes
-use rng_model::{Name, NameClass};
+use rng_model::{Name, NameClass, Namespace};
 use std::alloc::Global;
 use std::io;
 
@@ -17,7 +17,7 @@ pub fn name_in(alloc: Global, word: &str) -> io::Result<Name> {
         return Err(io::Error::from(io::ErrorKind::InvalidData));
     };
     Ok(Name {
-        ns: String::from_str(alloc, ns)?,
+        ns: Namespace::new(alloc, ns)?,
         local: String::from_str(alloc, local)?,
     })
 }

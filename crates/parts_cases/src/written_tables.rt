@@ -3,7 +3,7 @@ ghost use Rattle.std.specs.Prelude.{All, IfSome};
 ghost use Rattle.rng_tree_matcher.specs.plain.FirstKind.{IsOfFirstKind};
 
 use crate::grammar_builder::GrammarBuilder;
-use rng_model::{ElementId, Name, NameClass, PatternId, Simple, SimpleGrammar};
+use rng_model::{ElementId, Name, NameClass, Namespace, PatternId, Simple, SimpleGrammar};
 use std::alloc::{AllocError, Global};
 
 /// Reads the grammar with this many elements and these tables.
@@ -88,7 +88,7 @@ fn class_of(alloc: Global, written: &str) -> Result<NameClass, AllocError> {
         return Ok(NameClass::AnyExcept(Box::new(alloc, NameClass::Choice(members))?));
     }
     match written.strip_suffix(":*") {
-        Some(ns) => Ok(NameClass::Ns(String::from_str(alloc, ns)?)),
+        Some(ns) => Ok(NameClass::Ns(Namespace::new(alloc, ns)?)),
         None if written == "*" => Ok(NameClass::Any),
         None => named(alloc, written),
     }
@@ -97,7 +97,7 @@ fn class_of(alloc: Global, written: &str) -> Result<NameClass, AllocError> {
 /// Returns the class of a name without a namespace.
 fn named(alloc: Global, local: &str) -> Result<NameClass, AllocError> {
     Ok(NameClass::Name(Name {
-        ns: String::new(alloc),
+        ns: Namespace::none(),
         local: String::from_str(alloc, local)?,
     }))
 }

@@ -23,7 +23,7 @@ struct Log {
 
 impl Log {
     fn name(&mut self, name: &Name) -> Result<(), AllocError> {
-        if !name.ns.is_empty() {
+        if !name.ns.as_str().is_empty() {
             self.text.push('{')?;
             self.text.push_str(name.ns.as_str())?;
             self.text.push('}')?;

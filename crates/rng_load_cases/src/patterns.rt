@@ -104,12 +104,12 @@ fn print_class(rt: &impl Print, class: &NameClass) -> io::Result<()> {
             print!(rt; "* - ")?;
             print_class(rt, except)
         }
-        NameClass::Ns(ns) => print!(rt; "{{{ns}}}*"),
+        NameClass::Ns(ns) => print!(rt; "{{{}}}*", ns.as_str()),
         NameClass::NsExcept(ns, except) => {
-            print!(rt; "{{{ns}}}* - ")?;
+            print!(rt; "{{{}}}* - ", ns.as_str())?;
             print_class(rt, except)
         }
-        NameClass::Name(name) => print!(rt; "{{{}}}{}", name.ns, name.local),
+        NameClass::Name(name) => print!(rt; "{{{}}}{}", name.ns.as_str(), name.local),
         NameClass::Choice(members) => print_classes(rt, members),
     }
 }

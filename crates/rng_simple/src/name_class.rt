@@ -22,13 +22,13 @@ pub fn nested(alloc: Global, class: &NameClass) -> Result<NameClass, AllocError>
             let except = Box::new(alloc, nested(alloc, except)?)?;
             Ok(NameClass::AnyExcept(except))
         }
-        NameClass::Ns(ns) => Ok(NameClass::Ns(String::from_str(alloc, ns.as_str())?)),
+        NameClass::Ns(ns) => Ok(NameClass::Ns(ns.share()?)),
         NameClass::NsExcept(ns, except) => {
             let except = Box::new(alloc, nested(alloc, except)?)?;
-            Ok(NameClass::NsExcept(String::from_str(alloc, ns.as_str())?, except))
+            Ok(NameClass::NsExcept(ns.share()?, except))
         }
         NameClass::Name(name) => Ok(NameClass::Name(Name {
-            ns: String::from_str(alloc, name.ns.as_str())?,
+            ns: name.ns.share()?,
             local: String::from_str(alloc, name.local.as_str())?,
         })),
         NameClass::Choice(members) => nested_members(alloc, members),

@@ -11,9 +11,9 @@ pub fn print_class(rt: &impl Print, class: &NameClass) -> io::Result<()> {
             print!(rt; "* - ")?;
             print_class(rt, except)
         }
-        NameClass::Ns(ns) => print!(rt; "{{{ns}}}*"),
+        NameClass::Ns(ns) => print!(rt; "{{{}}}*", ns.as_str()),
         NameClass::NsExcept(ns, except) => {
-            print!(rt; "{{{ns}}}* - ")?;
+            print!(rt; "{{{}}}* - ", ns.as_str())?;
             print_class(rt, except)
         }
         NameClass::Name(name) => print_name(rt, name),
@@ -23,7 +23,7 @@ pub fn print_class(rt: &impl Print, class: &NameClass) -> io::Result<()> {
 
 fn print_name(rt: &impl Print, name: &Name) -> io::Result<()> {
     if !name.ns.as_str().is_empty() {
-        print!(rt; "{{{}}}", name.ns)?;
+        print!(rt; "{{{}}}", name.ns.as_str())?;
     }
     print!(rt; "{}", name.local)
 }

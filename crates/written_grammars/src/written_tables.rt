@@ -1,7 +1,8 @@
 // Grammars from rows.
 use crate::grammar_builder::GrammarBuilder;
 use rng_model::{
-    Datatype, DatatypeValue, ElementId, Name, NameClass, PatternId, Simple, SimpleGrammar,
+    Datatype, DatatypeValue, ElementId, Name, NameClass, Namespace, PatternId, Simple,
+    SimpleGrammar,
 };
 use std::alloc::{AllocError, Global};
 
@@ -124,7 +125,7 @@ fn one_class(alloc: Global, written: &str) -> Result<NameClass, AllocError> {
         return Ok(NameClass::AnyExcept(Box::new(alloc, named(alloc, name)?)?));
     }
     match written.strip_suffix(":*") {
-        Some(ns) => Ok(NameClass::Ns(String::from_str(alloc, ns)?)),
+        Some(ns) => Ok(NameClass::Ns(Namespace::new(alloc, ns)?)),
         None if written == "*" => Ok(NameClass::Any),
         None => named(alloc, written),
     }
@@ -133,7 +134,7 @@ fn one_class(alloc: Global, written: &str) -> Result<NameClass, AllocError> {
 /// Returns the class of a name without a namespace.
 fn named(alloc: Global, local: &str) -> Result<NameClass, AllocError> {
     Ok(NameClass::Name(Name {
-        ns: String::new(alloc),
+        ns: Namespace::none(),
         local: String::from_str(alloc, local)?,
     }))
 }
