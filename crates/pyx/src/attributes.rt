@@ -13,7 +13,7 @@ use crate::fault::LineFault;
 use crate::opened::OpenElements;
 use crate::spares::Spares;
 use pyx_namespaces::{WrittenAttribute, cut_at};
-use rng_model::{Attr, Name};
+use rng_model::{Attr, Name, Namespace};
 use std::alloc::Global;
 
 /// Returns the expanded name of an attribute inside the open elements. A prefix that is not declared breaks P11.
@@ -30,7 +30,7 @@ fn attribute_name(
         Some((prefix, local)) => match elements.namespace(Some(prefix)) {
             Some(uri) => {
                 let expanded = Name {
-                    ns: spares.copy(alloc, uri)?,
+                    ns: spares.namespace(alloc, uri)?,
                     local: spares.copy(alloc, local)?,
                 };
                 spares.keep(name);
@@ -39,7 +39,7 @@ fn attribute_name(
             None => Err(LineFault::Clause(11)),
         },
         None => Ok(Name {
-            ns: String::new(alloc),
+            ns: Namespace::none(),
             local: name,
         }),
     }

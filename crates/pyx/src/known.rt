@@ -6,8 +6,9 @@ ghost use Rattle.pyx_namespaces.specs.plain.Declarations.{Declared};
 ghost use Rattle.pyx.specs.plain.TagReader.{element_name};
 ghost use Rattle.pyx.specs.views.ElementView.{AreKnown, IsJudged, IsKnown, IsPlace, name_at, names_of};
 
+use crate::spares::set_namespace;
 use pyx_namespaces::hash_of;
-use rng_model::{Name, OutOfMemory};
+use rng_model::{Name, Namespace, OutOfMemory};
 use std::alloc::Global;
 
 /// The number of names that are kept, a power of two.
@@ -29,6 +30,7 @@ impl KnownName {
     /// Replaces the name by this one, looked up in this round. Uses the buffers that are there.
     fn learn(
         &mut self,
+        alloc: Global,
         round: u64,
         written: &str,
         uri: &str,
@@ -43,10 +45,7 @@ impl KnownName {
         self.round = 0;
         self.written.clear();
         self.written.push_str(written)?;
-        self.name.ns.clear();
-        if !uri.is_empty() {
-            self.name.ns.push_str(uri)?;
-        }
+        set_namespace(alloc, &mut self.name.ns, uri)?;
         self.name.local.clear();
         self.name.local.push_str(local)?;
         self.round = round;
@@ -74,7 +73,7 @@ fn make_places(alloc: Global, known: &mut Vec<KnownName>) -> Result<(), OutOfMem
             round: 0,
             written: String::new(alloc),
             name: Name {
-                ns: String::new(alloc),
+                ns: Namespace::none(),
                 local: String::new(alloc),
             },
         })?;
@@ -117,6 +116,6 @@ pub fn learn(
         0
     };
     let name = &mut known[at];
-    name.learn(round, written, uri, local)?;
+    name.learn(alloc, round, written, uri, local)?;
     Ok(at)
 }

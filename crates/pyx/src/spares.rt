@@ -1,7 +1,8 @@
 // Buffers that are used again.
-ghost use Rattle.std.specs.Prelude.{◌≡◌, [], IfOk, string_bytes};
+ghost use Rattle.std.specs.Prelude.{◌≡◌, [], IfOk, OnOk, string_bytes};
+ghost use Rattle.rng_model.specs.names.NamespaceViews.{namespace_bytes};
 
-use rng_model::{Attr, OutOfMemory};
+use rng_model::{Attr, Namespace, OutOfMemory};
 use std::alloc::Global;
 
 /// The most buffers that are kept, and the most bytes that each may hold.
@@ -9,10 +10,22 @@ const COUNT_LIMIT: usize = 256;
 
 const SIZE_LIMIT: usize = 1_024;
 
-/// Buffers of names and values for reuse. Their contents mean nothing.
+/// Buffers of names and values for reuse, and the last namespace of an attribute. Their contents mean nothing.
 #[derive(Drop)]
 pub struct Spares {
     texts: Vec<String>,
+    last: Namespace,
+}
+
+/// Makes this the namespace with this uri. Allocates nothing if it is.
+pub fn set_namespace(alloc: Global, namespace: &mut Namespace, uri: &str) -> Result<(), OutOfMemory>
+    ensures { OnOk result (namespace_bytes namespace.new ≡ uri.now) }
+{
+    if namespace.as_str() == uri {
+        return Ok(());
+    }
+    *namespace = Namespace::new(alloc, uri)?;
+    Ok(())
 }
 
 impl Spares {
@@ -20,6 +33,7 @@ impl Spares {
     pub fn new(alloc: Global) -> Self {
         Spares {
             texts: Vec::new(alloc),
+            last: Namespace::none(),
         }
     }
 
@@ -47,6 +61,14 @@ impl Spares {
         Ok(copy)
     }
 
+    /// Returns the namespace with this uri. Its text is shared with the last one if that has this uri.
+    pub fn namespace(&mut self, alloc: Global, uri: &str) -> Result<Namespace, OutOfMemory>
+        ensures { IfOk result (λ n. namespace_bytes n ≡ uri.now) }
+    {
+        set_namespace(alloc, &mut self.last, uri)?;
+        Ok(self.last.share()?)
+    }
+
     /// Keeps a buffer for reuse, unless it has no capacity, is too large or there are enough.
     pub fn keep(&mut self, text: String) {
         let size = text.capacity();
@@ -60,9 +82,9 @@ impl Spares {
         ensures { attrs.new.items ≡ [] }
     {
         'attributes: while let Some(attr) = attrs.pop() {
-            self.keep(attr.name.ns);
-            self.keep(attr.name.local);
-            self.keep(attr.value);
+            let Attr { name, value } = attr;
+            self.keep(name.local);
+            self.keep(value);
         }
     }
 }

@@ -14,7 +14,7 @@ use rng_model::Method;
 #[derive(Debug, Drop)]
 pub enum Namespace {
     Inherited,
-    Given(String),
+    Given(rng_model::Namespace),
 }
 
 /// A name with its namespace.

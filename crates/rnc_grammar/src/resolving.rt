@@ -34,8 +34,8 @@ impl<'s, 'a> Resolver<'s, 'a> {
         ensures { Resolves tree.namespace_of result (Some (namespace_at (scope_view self.entry.scope.now) place)) }
     {
         match place {
-            Unprefixed::Default => self.scope.default_namespace(self.alloc),
-            Unprefixed::None => Ok(Namespace::Given(String::new(self.alloc))),
+            Unprefixed::Default => self.scope.default_namespace(),
+            Unprefixed::None => Ok(Namespace::Given(rng_model::Namespace::none())),
         }
     }
 
@@ -180,7 +180,7 @@ impl<'s, 'a> Resolver<'s, 'a> {
         ensures { Resolves (λ m. tree.mention_of m.value) result (rules.mention_in (scope_view self.entry.scope.now) (syntax.mention_of mention.now)) }
     {
         let namespace = match mention.inherit {
-            None => self.scope.default_namespace(self.alloc)?,
+            None => self.scope.default_namespace()?,
             Some(prefix) => self.scope.namespace(self.alloc, prefix)?,
         };
         let href = literal_text(self.alloc, &mention.href)?;

@@ -62,7 +62,10 @@ fn uri_of(alloc: Global, uri: &Uri<'_>) -> Result<Namespace, ScopeFault>
 {
     match uri {
         Uri::Inherit => Ok(Namespace::Inherited),
-        Uri::Literal(literal) => Ok(Namespace::Given(literal_text(alloc, literal)?)),
+        Uri::Literal(literal) => {
+            let uri = literal_text(alloc, literal)?;
+            Ok(Namespace::Given(rng_model::Namespace::from_string(alloc, uri)?))
+        }
     }
 }
 
@@ -90,13 +93,13 @@ fn may_stand_for_types(prefix: &str, uri: &str) -> bool
     }
 }
 
-/// A copy of a namespace.
-fn copied(alloc: Global, namespace: &Namespace) -> Result<Namespace, ScopeFault>
+/// The same namespace, with its uri shared.
+fn shared(namespace: &Namespace) -> Result<Namespace, ScopeFault>
     ensures { Resolves namespace_of result (Some (namespace_of namespace.now)) }
 {
     match namespace {
         Namespace::Inherited => Ok(Namespace::Inherited),
-        Namespace::Given(uri) => Ok(Namespace::Given(String::from_str(alloc, uri.as_str())?)),
+        Namespace::Given(uri) => Ok(Namespace::Given(uri.share()?)),
     }
 }
 
@@ -176,11 +179,11 @@ impl<'a> Scope<'a> {
     }
 
     /// The namespace of names without a prefix in elements, and of mentions that name no prefix.
-    pub fn default_namespace(&self, alloc: Global) -> Result<Namespace, ScopeFault>
+    pub fn default_namespace(&self) -> Result<Namespace, ScopeFault>
         ensures { Resolves namespace_of result (Some (declarations.default_of (scope_view self.now))) }
     {
         match &self.default {
-            Some(namespace) => copied(alloc, namespace),
+            Some(namespace) => shared(namespace),
             None => Ok(Namespace::Inherited),
         }
     }
@@ -190,10 +193,10 @@ impl<'a> Scope<'a> {
         ensures { Resolves namespace_of result (declarations.namespace_in (scope_view self.now) prefix.now) }
     {
         if prefix == "xml" {
-            return Ok(Namespace::Given(String::from_str(alloc, XML_URI)?));
+            return Ok(Namespace::Given(rng_model::Namespace::new(alloc, XML_URI)?));
         }
         match self.namespaces.get(prefix) {
-            Some(namespace) => copied(alloc, namespace),
+            Some(namespace) => shared(namespace),
             None => Err(ScopeFault::Broken),
         }
     }

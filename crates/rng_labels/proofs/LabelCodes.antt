@@ -1,6 +1,6 @@
 -- Labels with the same code are equal.
 use Rattle.std.proofs.Common.{◌≡◌, refl, ap, ap₂, sym, ◌∙◌, ℕ, zero, suc, Bool, true, false, true≢false, not, if◌then◌else◌}
-use Rattle.std.proofs.Common.{List, [], ◌∷◌, ◌++◌, map, append_assoc, slice_get, length, ◌<◌, arith, Some, Vec, Box, String, Global, string_bytes, rules}
+use Rattle.std.proofs.Common.{List, [], ◌∷◌, ◌++◌, map, append_assoc, slice_get, length, ◌<◌, arith, Some, Vec, Box, Global, rules}
 use Rattle.std.proofs.lemmas.Bool.{and_parts, and_from}
 use Rattle.std.proofs.lemmas.Bool.Decides.{Decides-eqb}
 use Rattle.std.proofs.lemmas.List.{append-nil, map-append}
@@ -14,6 +14,8 @@ use Rattle.rng_model.specs.names.Names.{classes_of, some_of}
 use Rattle.rng_model.specs.schema.Patterns.{without_parameters}
 use Rattle.rng_model.specs.simple.Tree.{Datatype}
 use Rattle.rng_model.specs.names.NameViews.{class_of}
+use Rattle.rng_model.specs.names.NamespaceViews.{namespace_bytes}
+use Rattle.rng_model.specs.declared.namespace.Namespace.{Namespace}
 use Rattle.rng_model.specs.declared.name.NameClass as declared
 use Rattle.rng_model.specs.declared.name.NameClass.{the_lemmas}
 use Rattle.rng_model.specs.declared.name.NameClass.TheVariants as classes
@@ -30,11 +32,11 @@ same_part (parts.Number m) (parts.Number n) e = ap number ((Decides-eqb m n).0 e
 same_part (parts.Text s) (parts.Text t) e = ap text ((bytes_eq-Decides s.now t.now).0 e)
 same_part parts.Any parts.Any e = refl
 same_part parts.AnyBut parts.AnyBut e = refl
-same_part (parts.Ns s) (parts.Ns t) e = ap ns ((bytes_eq-Decides s.now t.now).0 e)
-same_part (parts.NsBut s) (parts.NsBut t) e = ap ns_but ((bytes_eq-Decides s.now t.now).0 e)
+same_part (parts.Ns s) (parts.Ns t) e = ap ns ((bytes_eq-Decides (namespace_bytes s.now) (namespace_bytes t.now)).0 e)
+same_part (parts.NsBut s) (parts.NsBut t) e = ap ns_but ((bytes_eq-Decides (namespace_bytes s.now) (namespace_bytes t.now)).0 e)
 same_part (parts.Name u s) (parts.Name v t) e =
-    let both = and_parts (bytes_eq u.now v.now) (bytes_eq s.now t.now) e in
-    ap₂ name ((bytes_eq-Decides u.now v.now).0 both.0) ((bytes_eq-Decides s.now t.now).0 both.1)
+    let both = and_parts (bytes_eq (namespace_bytes u.now) (namespace_bytes v.now)) (bytes_eq s.now t.now) e in
+    ap₂ name ((bytes_eq-Decides (namespace_bytes u.now) (namespace_bytes v.now)).0 both.0) ((bytes_eq-Decides s.now t.now).0 both.1)
 same_part parts.Either parts.Either e = refl
 same_part _ _ e = absurd (true≢false (sym e))
 
@@ -43,12 +45,17 @@ equal_parts (parts.Number m) (parts.Number n) e = let h : m ≡ n = cc in (Decid
 equal_parts (parts.Text s) (parts.Text t) e = let h : s.now ≡ t.now = cc in (bytes_eq-Decides s.now t.now).1 h
 equal_parts parts.Any parts.Any e = refl
 equal_parts parts.AnyBut parts.AnyBut e = refl
-equal_parts (parts.Ns s) (parts.Ns t) e = let h : s.now ≡ t.now = cc in (bytes_eq-Decides s.now t.now).1 h
-equal_parts (parts.NsBut s) (parts.NsBut t) e = let h : s.now ≡ t.now = cc in (bytes_eq-Decides s.now t.now).1 h
+equal_parts (parts.Ns s) (parts.Ns t) e =
+    let h : namespace_bytes s.now ≡ namespace_bytes t.now = cc in
+    (bytes_eq-Decides (namespace_bytes s.now) (namespace_bytes t.now)).1 h
+equal_parts (parts.NsBut s) (parts.NsBut t) e =
+    let h : namespace_bytes s.now ≡ namespace_bytes t.now = cc in
+    (bytes_eq-Decides (namespace_bytes s.now) (namespace_bytes t.now)).1 h
 equal_parts (parts.Name u s) (parts.Name v t) e =
-    let g : u.now ≡ v.now = cc in
+    let g : namespace_bytes u.now ≡ namespace_bytes v.now = cc in
     let h : s.now ≡ t.now = cc in
-    and_from (bytes_eq u.now v.now) (bytes_eq s.now t.now) ((bytes_eq-Decides u.now v.now).1 g) ((bytes_eq-Decides s.now t.now).1 h)
+    and_from (bytes_eq (namespace_bytes u.now) (namespace_bytes v.now)) (bytes_eq s.now t.now)
+    ((bytes_eq-Decides (namespace_bytes u.now) (namespace_bytes v.now)).1 g) ((bytes_eq-Decides s.now t.now).1 h)
 equal_parts parts.Either parts.Either e = refl
 equal_parts p q e = cc
 
@@ -185,15 +192,15 @@ put_none old mid new (c ∷ cs) n e f = absurd (omega arith)
 any_except_of : (b : Box declared.NameClass Global) → class_of (classes.AnyExcept b) ≡ any_except (class_of b.value)
 any_except_of b = search (rules, the_lemmas)
 
-ns_except_of : (u : String Global) (b : Box declared.NameClass Global) → class_of (classes.NsExcept u b) ≡ ns_except (string_bytes u) (class_of b.value)
+ns_except_of : (u : Namespace) (b : Box declared.NameClass Global) → class_of (classes.NsExcept u b) ≡ ns_except (namespace_bytes u) (class_of b.value)
 ns_except_of u b = search (rules, the_lemmas)
 
 pub any_except_code : (b : Box declared.NameClass Global) → class_code (class_of b.value) (any_but ∷ []) ≡ class_code (class_of (classes.AnyExcept b)) []
 unfolding class_code
 any_except_code b = ap (λ c. class_code c []) (sym (any_except_of b))
 
-pub ns_except_code : (u : String Global) (b : Box declared.NameClass Global)
-    → class_code (class_of b.value) (ns_but (string_bytes u) ∷ []) ≡ class_code (class_of (classes.NsExcept u b)) []
+pub ns_except_code : (u : Namespace) (b : Box declared.NameClass Global)
+    → class_code (class_of b.value) (ns_but (namespace_bytes u) ∷ []) ≡ class_code (class_of (classes.NsExcept u b)) []
 unfolding class_code
 ns_except_code u b = ap (λ c. class_code c []) (sym (ns_except_of u b))
 

@@ -7,7 +7,7 @@ ghost use Rattle.rng_model.specs.names.NameViews.{class_of};
 ghost use Rattle.rng_labels.specs.plain.LabelCodes.{AreCodesApart, IsPlaced, class_code, codes_of, datatype_code, part_of, value_code};
 
 use indexmap::IndexSet;
-use rng_model::{Datatype, DatatypeValue, NameClass};
+use rng_model::{Datatype, DatatypeValue, NameClass, Namespace};
 use std::alloc::AllocError;
 
 /// A part by which a label is written.
@@ -22,11 +22,11 @@ pub enum LabelPart<'a> {
     /// Every name except those of the class before it.
     AnyBut,
     /// Every name of a namespace.
-    Ns(&'a str),
+    Ns(&'a Namespace),
     /// Every name of a namespace except those of the class before it.
-    NsBut(&'a str),
+    NsBut(&'a Namespace),
     /// A name: its namespace, and its local name.
-    Name(&'a str, &'a str),
+    Name(&'a Namespace, &'a str),
     /// The names of both classes before it.
     Either,
 }
@@ -69,15 +69,13 @@ pub fn put_class<'a>(code: &mut Vec<LabelPart<'a>>, class: &'a NameClass) -> Res
             put(code, LabelPart::AnyBut)?;
             Ok(())
         }
-        NameClass::Ns(ns) => put(code, LabelPart::Ns(ns.as_str())),
+        NameClass::Ns(ns) => put(code, LabelPart::Ns(ns)),
         NameClass::NsExcept(ns, except) => {
             put_class(code, except)?;
-            put(code, LabelPart::NsBut(ns.as_str()))?;
+            put(code, LabelPart::NsBut(ns))?;
             Ok(())
         }
-        NameClass::Name(name) => {
-            put(code, LabelPart::Name(name.ns.as_str(), name.local.as_str()))
-        }
+        NameClass::Name(name) => put(code, LabelPart::Name(&name.ns, name.local.as_str())),
         NameClass::Choice(members) => put_members(code, members),
     }
 }

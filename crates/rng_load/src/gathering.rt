@@ -1,6 +1,7 @@
 // From the components of files to those of the grammars of a schema.
 ghost use Rattle.std.specs.Prelude.{◌≡◌, [], ◌∷◌, ◌++◌, ◌||◌, ℕ, IfOk, List, OnOk, Option, filter, map, not, option_map, reverse, string_bytes};
 ghost use Rattle.rng_model.specs.schema.Schema.{same_name};
+ghost use Rattle.rng_model.specs.names.NamespaceViews.{namespace_bytes};
 ghost use Rattle.rnc_model.specs.declarations.FileTree.{components_of};
 ghost use Rattle.rnc_grammar.specs.views.View.{component_of, mention_of, pattern_of};
 ghost use Rattle.rng_load.specs.views.GatheredComponents.{gathered_of, has_name};
@@ -14,7 +15,7 @@ use crate::reading_names::namespace_uri;
 use crate::reading_patterns::{NestedGrammar, TreeReader};
 use indexmap::IndexSet;
 use rnc_grammar::{Mention, Method, Pattern};
-use rng_model::{Component, OutOfMemory};
+use rng_model::{Component, Namespace, OutOfMemory};
 use std::alloc::Global;
 
 /// A component of a grammar, with the grammars that are nested in it.
@@ -40,13 +41,13 @@ impl<'a> TreeReader<'a> {
     pub(crate) fn gather_all(
         self,
         levels: u32,
-        uri: &'a str,
+        uri: &'a Namespace,
         way: &mut Vec<usize>,
         components: &'a [rnc_grammar::Component],
         all: &mut Vec<GatheredComponent<'a>>,
     ) -> Result<(), OutOfMemory>
         ensures gathered { OnOk result (map gathered_of all.new.items ≡ map gathered_of all.old.items
-            ++ gather_at (files_in self.entry) levels uri.now (reverse way.old.items) 0 (components_of (map component_of components.now))) }
+            ++ gather_at (files_in self.entry) levels (namespace_bytes uri.now) (reverse way.old.items) 0 (components_of (map component_of components.now))) }
         ensures way { OnOk result (way.new.items ≡ way.old.items) }
     {
         for (number, component) in components.iter().enumerate() {
@@ -60,14 +61,14 @@ impl<'a> TreeReader<'a> {
     fn gather_child(
         self,
         levels: u32,
-        uri: &'a str,
+        uri: &'a Namespace,
         way: &mut Vec<usize>,
         number: usize,
         component: &'a rnc_grammar::Component,
         all: &mut Vec<GatheredComponent<'a>>,
     ) -> Result<(), OutOfMemory>
         ensures gathered { OnOk result (map gathered_of all.new.items ≡ map gathered_of all.old.items
-            ++ gather_one_at (files_in self.entry) levels uri.now (number ∷ reverse way.old.items) (component_of component.now)) }
+            ++ gather_one_at (files_in self.entry) levels (namespace_bytes uri.now) (number ∷ reverse way.old.items) (component_of component.now)) }
         ensures way { OnOk result (way.new.items ≡ way.old.items) }
     {
         way.push(number)?;
@@ -82,13 +83,13 @@ impl<'a> TreeReader<'a> {
     fn gather(
         self,
         levels: u32,
-        uri: &'a str,
+        uri: &'a Namespace,
         way: &mut Vec<usize>,
         component: &'a rnc_grammar::Component,
         all: &mut Vec<GatheredComponent<'a>>,
     ) -> Result<(), OutOfMemory>
         ensures gathered { OnOk result (map gathered_of all.new.items ≡ map gathered_of all.old.items
-            ++ gather_one_at (files_in self.entry) levels uri.now (reverse way.old.items) (component_of component.now)) }
+            ++ gather_one_at (files_in self.entry) levels (namespace_bytes uri.now) (reverse way.old.items) (component_of component.now)) }
         ensures way { OnOk result (way.new.items ≡ way.old.items) }
     {
         match component {
@@ -116,16 +117,16 @@ impl<'a> TreeReader<'a> {
     fn include(
         self,
         levels: u32,
-        uri: &'a str,
+        uri: &'a Namespace,
         way: &mut Vec<usize>,
         mention: &'a Mention,
         overriding: &'a [rnc_grammar::Component],
         all: &mut Vec<GatheredComponent<'a>>,
     ) -> Result<(), OutOfMemory>
         ensures gathered { OnOk result (map gathered_of all.new.items ≡ map gathered_of all.old.items
-            ++ replaced_by (included_with (gather_below (files_in self.entry) levels) (uri_in uri.now (mention_of mention.now).namespace)
+            ++ replaced_by (included_with (gather_below (files_in self.entry) levels) (uri_in (namespace_bytes uri.now) (mention_of mention.now).namespace)
             (reverse way.old.items) (grammar_if (files_in self.entry (mention_of mention.now).href)))
-            (gather_at (files_in self.entry) levels uri.now (1 ∷ reverse way.old.items) 0 (components_of (map component_of overriding.now)))) }
+            (gather_at (files_in self.entry) levels (namespace_bytes uri.now) (1 ∷ reverse way.old.items) 0 (components_of (map component_of overriding.now)))) }
         ensures way { OnOk result (way.new.items ≡ way.old.items) }
     {
         let included = self.included(levels, uri, way, mention)?;
@@ -141,12 +142,12 @@ impl<'a> TreeReader<'a> {
     fn included(
         self,
         levels: u32,
-        uri: &'a str,
+        uri: &'a Namespace,
         way: &mut Vec<usize>,
         mention: &'a Mention,
     ) -> Result<Vec<GatheredComponent<'a>>, OutOfMemory>
         ensures gathered { IfOk result (λ all. map gathered_of all.items
-            ≡ included_with (gather_below (files_in self.entry) levels) (uri_in uri.now (mention_of mention.now).namespace)
+            ≡ included_with (gather_below (files_in self.entry) levels) (uri_in (namespace_bytes uri.now) (mention_of mention.now).namespace)
             (reverse way.old.items) (grammar_if (files_in self.entry (mention_of mention.now).href))) }
         ensures way { OnOk result (way.new.items ≡ way.old.items) }
     {
@@ -167,14 +168,14 @@ impl<'a> TreeReader<'a> {
     fn gather_under(
         self,
         levels: u32,
-        uri: &'a str,
+        uri: &'a Namespace,
         way: &mut Vec<usize>,
         number: usize,
         components: &'a [rnc_grammar::Component],
         all: &mut Vec<GatheredComponent<'a>>,
     ) -> Result<(), OutOfMemory>
         ensures gathered { OnOk result (map gathered_of all.new.items ≡ map gathered_of all.old.items
-            ++ gather_at (files_in self.entry) levels uri.now (number ∷ reverse way.old.items) 0 (components_of (map component_of components.now))) }
+            ++ gather_at (files_in self.entry) levels (namespace_bytes uri.now) (number ∷ reverse way.old.items) 0 (components_of (map component_of components.now))) }
         ensures way { OnOk result (way.new.items ≡ way.old.items) }
     {
         way.push(number)?;
@@ -188,7 +189,7 @@ impl<'a> TreeReader<'a> {
     fn put_gathered(
         self,
         levels: u32,
-        uri: &'a str,
+        uri: &'a Namespace,
         way: &mut Vec<usize>,
         name: Option<String>,
         method: Method,
@@ -196,7 +197,7 @@ impl<'a> TreeReader<'a> {
         all: &mut Vec<GatheredComponent<'a>>,
     ) -> Result<(), OutOfMemory>
         ensures gathered { OnOk result (map gathered_of all.new.items ≡ map gathered_of all.old.items
-            ++ gathered_as (option_map (λ y. string_bytes y) name) method (read_at (files_in self.entry) levels uri.now (reverse way.old.items) (pattern_of pattern.now)) ∷ []) }
+            ++ gathered_as (option_map (λ y. string_bytes y) name) method (read_at (files_in self.entry) levels (namespace_bytes uri.now) (reverse way.old.items) (pattern_of pattern.now)) ∷ []) }
         ensures way { OnOk result (way.new.items ≡ way.old.items) }
     {
         let component = self.gathered(levels, uri, way, name, method, pattern)?;
@@ -207,14 +208,14 @@ impl<'a> TreeReader<'a> {
     pub(crate) fn gathered(
         self,
         levels: u32,
-        uri: &'a str,
+        uri: &'a Namespace,
         way: &mut Vec<usize>,
         name: Option<String>,
         method: Method,
         pattern: &'a Pattern,
     ) -> Result<GatheredComponent<'a>, OutOfMemory>
         ensures gathered { IfOk result (λ g. gathered_of g
-            ≡ gathered_as (option_map (λ y. string_bytes y) name) method (read_at (files_in self.entry) levels uri.now (reverse way.old.items) (pattern_of pattern.now))) }
+            ≡ gathered_as (option_map (λ y. string_bytes y) name) method (read_at (files_in self.entry) levels (namespace_bytes uri.now) (reverse way.old.items) (pattern_of pattern.now))) }
         ensures way { OnOk result (way.new.items ≡ way.old.items) }
     {
         let mut grammars = Vec::new(self.alloc);

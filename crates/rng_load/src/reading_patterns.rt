@@ -3,6 +3,7 @@ ghost use Rattle.std.specs.Prelude.{◌≡◌, ◌∷◌, ◌++◌, IfOk, OnOk, 
 ghost use Rattle.rng_model.specs.schema.Patterns as schema;
 ghost use Rattle.rng_model.specs.views.SchemaView.{schema_pattern_of};
 ghost use Rattle.rng_model.specs.datatypes.DatatypeViews.{datatype_of, parameter_of};
+ghost use Rattle.rng_model.specs.names.NamespaceViews.{namespace_bytes};
 ghost use Rattle.rnc_model.specs.declarations.FileTree.{components_of, patterns_of};
 ghost use Rattle.rnc_grammar.specs.views.View.{class_of, component_of, file_of, mention_of, parameters_of, pattern_of, type_of};
 ghost use Rattle.rnc_model.specs.loading.Places.{class_in, datatype_in, uri_in};
@@ -12,7 +13,7 @@ ghost use Rattle.rng_load.specs.views.ReadPatterns.{connector_of, files_in, nest
 use crate::reading_names::{name_class, namespace_uri};
 use indexmap::IndexMap;
 use rnc_grammar::{Component, FileTree, Mention, NameClass, Pattern};
-use rng_model::{Datatype, DatatypeValue, OutOfMemory, Place, SchemaPattern};
+use rng_model::{Datatype, DatatypeValue, Namespace, OutOfMemory, Place, SchemaPattern};
 use std::alloc::Global;
 
 /// A nested grammar: its place, the namespace that its file inherits, and its components.
@@ -21,7 +22,7 @@ use std::alloc::Global;
 #[derive(Drop)]
 pub(crate) struct NestedGrammar<'a> {
     pub place: Place,
-    pub uri: &'a str,
+    pub uri: &'a Namespace,
     pub components: &'a [Component],
 }
 
@@ -69,13 +70,13 @@ impl<'a> TreeReader<'a> {
     pub(crate) fn pattern(
         self,
         levels: u32,
-        uri: &'a str,
+        uri: &'a Namespace,
         way: &mut Vec<usize>,
         pattern: &'a Pattern,
         grammars: &mut Vec<NestedGrammar<'a>>,
     ) -> Result<SchemaPattern, OutOfMemory>
-        ensures pattern { IfOk result (λ p. schema_pattern_of p ≡ (read_at (files_in self.entry) levels uri.now (reverse way.old.items) (pattern_of pattern.now)).0) }
-        ensures nested { OnOk result (map nested_of grammars.new.items ≡ map nested_of grammars.old.items ++ (read_at (files_in self.entry) levels uri.now (reverse way.old.items) (pattern_of pattern.now)).1) }
+        ensures pattern { IfOk result (λ p. schema_pattern_of p ≡ (read_at (files_in self.entry) levels (namespace_bytes uri.now) (reverse way.old.items) (pattern_of pattern.now)).0) }
+        ensures nested { OnOk result (map nested_of grammars.new.items ≡ map nested_of grammars.old.items ++ (read_at (files_in self.entry) levels (namespace_bytes uri.now) (reverse way.old.items) (pattern_of pattern.now)).1) }
         ensures way { OnOk result (way.new.items ≡ way.old.items) }
     {
         match pattern {
@@ -137,14 +138,14 @@ impl<'a> TreeReader<'a> {
     fn child(
         self,
         levels: u32,
-        uri: &'a str,
+        uri: &'a Namespace,
         way: &mut Vec<usize>,
         number: usize,
         pattern: &'a Pattern,
         grammars: &mut Vec<NestedGrammar<'a>>,
     ) -> Result<SchemaPattern, OutOfMemory>
-        ensures pattern { IfOk result (λ p. schema_pattern_of p ≡ (read_at (files_in self.entry) levels uri.now (number ∷ reverse way.old.items) (pattern_of pattern.now)).0) }
-        ensures nested { OnOk result (map nested_of grammars.new.items ≡ map nested_of grammars.old.items ++ (read_at (files_in self.entry) levels uri.now (number ∷ reverse way.old.items) (pattern_of pattern.now)).1) }
+        ensures pattern { IfOk result (λ p. schema_pattern_of p ≡ (read_at (files_in self.entry) levels (namespace_bytes uri.now) (number ∷ reverse way.old.items) (pattern_of pattern.now)).0) }
+        ensures nested { OnOk result (map nested_of grammars.new.items ≡ map nested_of grammars.old.items ++ (read_at (files_in self.entry) levels (namespace_bytes uri.now) (number ∷ reverse way.old.items) (pattern_of pattern.now)).1) }
         ensures way { OnOk result (way.new.items ≡ way.old.items) }
     {
         way.push(number)?;
@@ -159,13 +160,13 @@ impl<'a> TreeReader<'a> {
     fn body(
         self,
         levels: u32,
-        uri: &'a str,
+        uri: &'a Namespace,
         way: &mut Vec<usize>,
         pattern: &'a Pattern,
         grammars: &mut Vec<NestedGrammar<'a>>,
     ) -> Result<Box<SchemaPattern>, OutOfMemory>
-        ensures pattern { IfOk result (λ p. schema_pattern_of p.value ≡ (read_at (files_in self.entry) levels uri.now (0 ∷ reverse way.old.items) (pattern_of pattern.now)).0) }
-        ensures nested { OnOk result (map nested_of grammars.new.items ≡ map nested_of grammars.old.items ++ (read_at (files_in self.entry) levels uri.now (0 ∷ reverse way.old.items) (pattern_of pattern.now)).1) }
+        ensures pattern { IfOk result (λ p. schema_pattern_of p.value ≡ (read_at (files_in self.entry) levels (namespace_bytes uri.now) (0 ∷ reverse way.old.items) (pattern_of pattern.now)).0) }
+        ensures nested { OnOk result (map nested_of grammars.new.items ≡ map nested_of grammars.old.items ++ (read_at (files_in self.entry) levels (namespace_bytes uri.now) (0 ∷ reverse way.old.items) (pattern_of pattern.now)).1) }
         ensures way { OnOk result (way.new.items ≡ way.old.items) }
     {
         let read = self.child(levels, uri, way, 0, pattern, grammars)?;
@@ -178,14 +179,14 @@ impl<'a> TreeReader<'a> {
     fn members(
         self,
         levels: u32,
-        uri: &'a str,
+        uri: &'a Namespace,
         way: &mut Vec<usize>,
         connector: Connector,
         patterns: &'a [Pattern],
         grammars: &mut Vec<NestedGrammar<'a>>,
     ) -> Result<SchemaPattern, OutOfMemory>
-        ensures pattern { IfOk result (λ p. schema_pattern_of p ≡ schema.members (connector_of connector) (read_all_at (files_in self.entry) levels uri.now (reverse way.old.items) 0 (patterns_of (map pattern_of patterns.now))).0) }
-        ensures nested { OnOk result (map nested_of grammars.new.items ≡ map nested_of grammars.old.items ++ (read_all_at (files_in self.entry) levels uri.now (reverse way.old.items) 0 (patterns_of (map pattern_of patterns.now))).1) }
+        ensures pattern { IfOk result (λ p. schema_pattern_of p ≡ schema.members (connector_of connector) (read_all_at (files_in self.entry) levels (namespace_bytes uri.now) (reverse way.old.items) 0 (patterns_of (map pattern_of patterns.now))).0) }
+        ensures nested { OnOk result (map nested_of grammars.new.items ≡ map nested_of grammars.old.items ++ (read_all_at (files_in self.entry) levels (namespace_bytes uri.now) (reverse way.old.items) 0 (patterns_of (map pattern_of patterns.now))).1) }
         ensures way { OnOk result (way.new.items ≡ way.old.items) }
     {
         let mut members = Vec::with_capacity(self.alloc, patterns.len())?;
@@ -204,13 +205,13 @@ impl<'a> TreeReader<'a> {
     fn external(
         self,
         levels: u32,
-        uri: &'a str,
+        uri: &'a Namespace,
         way: &mut Vec<usize>,
         mention: &'a Mention,
         grammars: &mut Vec<NestedGrammar<'a>>,
     ) -> Result<SchemaPattern, OutOfMemory>
-        ensures pattern { IfOk result (λ p. schema_pattern_of p ≡ (external_with (read_below (files_in self.entry) levels) (uri_in uri.now (mention_of mention.now).namespace) (reverse way.old.items) (files_in self.entry (mention_of mention.now).href)).0) }
-        ensures nested { OnOk result (map nested_of grammars.new.items ≡ map nested_of grammars.old.items ++ (external_with (read_below (files_in self.entry) levels) (uri_in uri.now (mention_of mention.now).namespace) (reverse way.old.items) (files_in self.entry (mention_of mention.now).href)).1) }
+        ensures pattern { IfOk result (λ p. schema_pattern_of p ≡ (external_with (read_below (files_in self.entry) levels) (uri_in (namespace_bytes uri.now) (mention_of mention.now).namespace) (reverse way.old.items) (files_in self.entry (mention_of mention.now).href)).0) }
+        ensures nested { OnOk result (map nested_of grammars.new.items ≡ map nested_of grammars.old.items ++ (external_with (read_below (files_in self.entry) levels) (uri_in (namespace_bytes uri.now) (mention_of mention.now).namespace) (reverse way.old.items) (files_in self.entry (mention_of mention.now).href)).1) }
         ensures way { OnOk result (way.new.items ≡ way.old.items) }
     {
         let uri = namespace_uri(&mention.namespace, uri);
@@ -247,13 +248,13 @@ impl<'a> TreeReader<'a> {
 #[inline(never)]
 fn grammar<'a>(
     alloc: Global,
-    uri: &'a str,
+    uri: &'a Namespace,
     way: &[usize],
     components: &'a [Component],
     grammars: &mut Vec<NestedGrammar<'a>>,
 ) -> Result<SchemaPattern, OutOfMemory>
     ensures pattern { IfOk result (λ p. schema_pattern_of p ≡ schema.grammar (reverse way.now)) }
-    ensures nested { OnOk result (map nested_of grammars.new.items ≡ map nested_of grammars.old.items ++ nested_here (reverse way.now) uri.now (components_of (map component_of components.now))) }
+    ensures nested { OnOk result (map nested_of grammars.new.items ≡ map nested_of grammars.old.items ++ nested_here (reverse way.now) (namespace_bytes uri.now) (components_of (map component_of components.now))) }
 {
     grammars.push(NestedGrammar {
         place: Place::from_outermost(alloc, way)?,
@@ -270,10 +271,10 @@ fn grammar<'a>(
 fn element(
     alloc: Global,
     class: &NameClass,
-    inherited: &str,
+    inherited: &Namespace,
     body: Box<SchemaPattern>,
 ) -> Result<SchemaPattern, OutOfMemory>
-    ensures { IfOk result (λ p. schema_pattern_of p ≡ schema.element (class_in inherited.now (class_of class.now)) (schema_pattern_of body.value)) }
+    ensures { IfOk result (λ p. schema_pattern_of p ≡ schema.element (class_in (namespace_bytes inherited.now) (class_of class.now)) (schema_pattern_of body.value)) }
 {
     let class = Box::new(alloc, name_class(alloc, class, inherited)?)?;
     Ok(SchemaPattern::Element(class, body))
@@ -286,10 +287,10 @@ fn element(
 fn attribute(
     alloc: Global,
     class: &NameClass,
-    inherited: &str,
+    inherited: &Namespace,
     body: Box<SchemaPattern>,
 ) -> Result<SchemaPattern, OutOfMemory>
-    ensures { IfOk result (λ p. schema_pattern_of p ≡ schema.attribute (class_in inherited.now (class_of class.now)) (schema_pattern_of body.value)) }
+    ensures { IfOk result (λ p. schema_pattern_of p ≡ schema.attribute (class_in (namespace_bytes inherited.now) (class_of class.now)) (schema_pattern_of body.value)) }
 {
     let class = Box::new(alloc, name_class(alloc, class, inherited)?)?;
     Ok(SchemaPattern::Attribute(class, body))

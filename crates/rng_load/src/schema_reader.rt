@@ -1,6 +1,7 @@
 // From the files of a schema to its grammars at their places.
 ghost use Rattle.std.specs.Prelude.{◌≡◌, [], map, option_map, reverse, IfOk, OnOk, None, Some};
 ghost use Rattle.rng_model.specs.views.SchemaView.{place_of, schema_component_of};
+ghost use Rattle.rng_model.specs.names.NamespaceViews.{namespace_bytes};
 ghost use Rattle.rnc_model.specs.declarations.FileTree.{components_of};
 ghost use Rattle.rnc_grammar.specs.views.View.{component_of, file_of, pattern_of};
 ghost use Rattle.rng_load.specs.views.FilesView.{taken_files_of};
@@ -17,7 +18,7 @@ use crate::reading_patterns::{NestedGrammar, TreeReader};
 use crate::schema::{Grammar, Schema};
 use indexmap::IndexMap;
 use rnc_grammar::{FileTree, Method, Pattern};
-use rng_model::{Component, OutOfMemory, Place};
+use rng_model::{Component, Namespace, OutOfMemory, Place};
 use std::alloc::Global;
 
 /// The largest number of mentions that follow one another.
@@ -48,7 +49,8 @@ pub(crate) fn schema_of_files(
         main,
     };
     let mut grammars = IndexMap::new(alloc);
-    let components = reader.main_components()?;
+    let none = Namespace::none();
+    let components = reader.main_components(&none)?;
     reader.add(Place::new(alloc), None, components, &mut grammars)?;
     Ok(Schema {
         main: Place::new(alloc),
@@ -57,16 +59,20 @@ pub(crate) fn schema_of_files(
 }
 
 impl<'a> SchemaReader<'a> {
-    /// The components of the main grammar.
-    fn main_components(self) -> Result<Vec<GatheredComponent<'a>>, OutOfMemory>
+    /// The components of the main grammar. Its file inherits no namespace.
+    fn main_components(
+        self,
+        none: &'a Namespace,
+    ) -> Result<Vec<GatheredComponent<'a>>, OutOfMemory>
+        requires { namespace_bytes none.now ≡ [] }
         ensures { IfOk result (λ all. map gathered_of all.items ≡ gathered_at (files_in self.entry.trees) [] [] (main_grammar (file_of self.entry.main.now))) }
     {
         let way = Vec::new(self.trees.alloc);
         match self.main {
-            FileTree::Grammar(components) => self.components("", way, components),
+            FileTree::Grammar(components) => self.components(none, way, components),
             FileTree::Pattern(pattern) => match self.main.grammar() {
-                Some(components) => self.components("", way, components),
-                None => self.start(pattern),
+                Some(components) => self.components(none, way, components),
+                None => self.start(none, pattern),
             },
         }
     }
@@ -74,11 +80,11 @@ impl<'a> SchemaReader<'a> {
     /// The components of a grammar to which this way leads, in a file that inherits this namespace.
     fn components(
         self,
-        uri: &'a str,
+        uri: &'a Namespace,
         mut way: Vec<usize>,
         components: &'a [rnc_grammar::Component],
     ) -> Result<Vec<GatheredComponent<'a>>, OutOfMemory>
-        ensures { IfOk result (λ all. map gathered_of all.items ≡ gathered_at (files_in self.entry.trees) uri.now (reverse way.items) (components_of (map component_of components.now))) }
+        ensures { IfOk result (λ all. map gathered_of all.items ≡ gathered_at (files_in self.entry.trees) (namespace_bytes uri.now) (reverse way.items) (components_of (map component_of components.now))) }
     {
         let mut all = Vec::with_capacity(self.trees.alloc, components.len())?;
         self.trees
@@ -87,13 +93,18 @@ impl<'a> SchemaReader<'a> {
     }
 
     /// The only component of a main file that is no grammar: a plain start.
-    fn start(self, pattern: &'a Pattern) -> Result<Vec<GatheredComponent<'a>>, OutOfMemory>
+    fn start(
+        self,
+        none: &'a Namespace,
+        pattern: &'a Pattern,
+    ) -> Result<Vec<GatheredComponent<'a>>, OutOfMemory>
+        requires { namespace_bytes none.now ≡ [] }
         ensures { IfOk result (λ all. map gathered_of all.items ≡ gathered_at (files_in self.entry.trees) [] [] (grammar_or_start (pattern_of pattern.now) None)) }
     {
         let mut way = Vec::from_slice(self.trees.alloc, &[0])?;
         let start = self
             .trees
-            .gathered(MENTION_LIMIT, "", &mut way, None, Method::Plain, pattern)?;
+            .gathered(MENTION_LIMIT, none, &mut way, None, Method::Plain, pattern)?;
         let mut all = Vec::new(self.trees.alloc);
         all.push(start)?;
         Ok(all)

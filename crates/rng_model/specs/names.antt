@@ -2,4 +2,5 @@
 pub mod Characters
 pub mod Lists
 pub mod NameViews
+pub mod NamespaceViews
 pub mod Names

@@ -1,11 +1,12 @@
 // Names and name classes.
+use crate::namespace::Namespace;
 
 /// An expanded name: a namespace, which is empty if there is none, and a local name.
 ///
 /// Namespaces in XML 1.0, section 2.1.
 #[derive(Debug, Drop, PartialEq, Eq, Hash)]
 pub struct Name {
-    pub ns: String,
+    pub ns: Namespace,
     pub local: String,
 }
 
@@ -20,9 +21,9 @@ pub enum NameClass {
     /// Every name except those of the class: `* - class`.
     AnyExcept(Box<NameClass>),
     /// Every name of the namespace, which is empty for names without one: `p:*`.
-    Ns(String),
+    Ns(Namespace),
     /// Every name of the namespace except those of the class: `p:* - class`.
-    NsExcept(String, Box<NameClass>),
+    NsExcept(Namespace, Box<NameClass>),
     /// Only this name.
     Name(Name),
     /// The names of each member: members joined by `|`.

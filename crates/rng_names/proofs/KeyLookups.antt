@@ -1,16 +1,22 @@
 -- Positions of names, and numbers of texts.
 use Rattle.std.proofs.Common.{◌≡◌, refl, sym, ap, ◌∙◌, ℕ, zero, suc, ◌+◌, Bool, true, false, not, cond, nat_lt}
-use Rattle.std.proofs.Common.{List, [], ◌∷◌, ◌++◌, Some, None, ◌⊎◌, inl, inr, option_map, map, length, position, slice_get, string_bytes, String, bytes_eq, arith}
+use Rattle.std.proofs.Common.{List, [], ◌∷◌, ◌++◌, Some, None, ◌⊎◌, inl, inr, option_map, map, length, position, slice_get, string_bytes, subst, Option, bytes_eq, arith}
 use Rattle.std.specs.List.{list_any, prefix_len, position_or_len}
-use Rattle.std.specs.Map.{lookup}
+use Rattle.std.specs.Map.{lookup, AreApart, IsKeyTest, KeepsOthers}
+use Rattle.std.specs.HashMap.{HashMap, UpdatesBy}
+use Rattle.std.specs.Cmp.Lexicographic.{nat_list_eq_equiv}
+use Rattle.std.proofs.lemmas.Slice.Eq.{bytes_eq-Decides}
 use Rattle.std.proofs.Math.Bool.{and_comm}
 use Rattle.std.proofs.lemmas.List.{length-map, map-append}
 use Rattle.std.proofs.lemmas.Option.{none-some, same_Some, slice_get-map}
 use Rattle.indexmap.specs.IndexSet.{insert_key}
 use Rattle.rng_model.specs.names.Names as names
 use Rattle.rng_model.specs.names.NameViews.{name_of}
+use Rattle.rng_model.specs.names.NamespaceViews.{namespace_bytes}
 use Rattle.rng_model.specs.declared.name.Name.{Name}
+use Rattle.rng_model.specs.declared.namespace.Namespace.{Namespace}
 use Rattle.rng_model.specs.contracts.name.NamePartialEq.TheImpl as same
+use Rattle.rng_model.specs.contracts.namespace.NamespacePartialEq.TheImpl as same_ns
 use Rattle.rng_names.specs.plain.Holding.{same_name}
 use Rattle.rng_names.proofs.Holding.{same_name-Decides}
 use Rattle.rng_names.specs.plain.WrittenNames.{seen_numbers}
@@ -18,7 +24,7 @@ use Rattle.rng_names.specs.plain.WrittenNames.{seen_numbers}
 -- ---- names are compared by their bytes
 
 pub same_names : (n m : Name) → same.ghosts.eq n m ≡ same_name (name_of n) (name_of m)
-same_names n m = and_comm (bytes_eq (string_bytes n.ns) (string_bytes m.ns)) (bytes_eq (string_bytes n.local) (string_bytes m.local))
+same_names n m = and_comm (bytes_eq (namespace_bytes n.ns) (namespace_bytes m.ns)) (bytes_eq (string_bytes n.local) (string_bytes m.local))
 
 prefix_len-map : {A B : Type 0} (f : A → B) (p : B → Bool) (xs : List A) → prefix_len (λ x. p (f x)) xs ≡ prefix_len p (map f xs)
 prefix_len-map f p [] = refl
@@ -75,8 +81,27 @@ is_there ks n m k at e =
     slice_get-map name_of ks k ∙ ap (option_map name_of) at
     ∙ ap Some ((same_name-Decides (name_of n) (name_of m)).0 (sym (same_names n m) ∙ e))
 
--- ---- texts and their numbers
+-- ---- namespaces and their numbers
 
-pub number_found : {Z : Type 0} (u : List ℕ) (es : List (String Z × ℕ)) → lookup (λ k. bytes_eq u (string_bytes k)) es ≡ lookup (bytes_eq u) (seen_numbers es)
+pub number_found : (u : List ℕ) (es : List (Namespace × ℕ)) → lookup (λ k. bytes_eq u (namespace_bytes k)) es ≡ lookup (bytes_eq u) (seen_numbers es)
 number_found u [] = refl
-number_found u (e ∷ es) = ap (cond (bytes_eq u (string_bytes e.0)) (Some e.1)) (number_found u es)
+number_found u (e ∷ es) = ap (cond (bytes_eq u (namespace_bytes e.0)) (Some e.1)) (number_found u es)
+
+-- a namespace that is apart from one with a number has none of its keys
+apart : (u v k : List ℕ) → bytes_eq u v ≡ false → bytes_eq u k ≡ true → bytes_eq v k ≡ false
+apart u v k n y = nat_list_eq_equiv.symm v k ∙ sym (nat_list_eq_equiv.congr u k v y) ∙ n
+
+others_stay : (eq : Namespace → Namespace → Bool) (test : Namespace → Bool) (old new : List (Namespace × ℕ)) → KeepsOthers eq test old new
+    → (other : Namespace → Bool) → IsKeyTest eq other → AreApart test other → lookup other new ≡ lookup other old
+unfolding KeepsOthers
+others_stay eq test old new h = h
+
+-- what a change at the namespace u leaves at any bytes
+pub updates_at : {S : Type 0} (u : List ℕ) (m n : HashMap Namespace ℕ S) (w : Option ℕ)
+    → UpdatesBy same_ns.ghosts.eq (λ k. bytes_eq u (namespace_bytes k)) m n w → (v : List ℕ)
+    → lookup (λ k. bytes_eq v (namespace_bytes k)) n.entries ≡ cond (bytes_eq u v) w (lookup (λ k. bytes_eq v (namespace_bytes k)) m.entries)
+updates_at u m n w h v = by (bytes_eq u v) refl where
+  by : (b : Bool) → bytes_eq u v ≡ b
+      → lookup (λ k. bytes_eq v (namespace_bytes k)) n.entries ≡ cond b w (lookup (λ k. bytes_eq v (namespace_bytes k)) m.entries)
+  by true e = subst (λ x. lookup (λ k. bytes_eq x (namespace_bytes k)) n.entries ≡ w) ((bytes_eq-Decides u v).0 e) h.1
+  by false e = others_stay _ _ _ _ h.3 _ (λ x y. nat_list_eq_equiv.congr v (namespace_bytes x) (namespace_bytes y)) (λ k. apart u v (namespace_bytes k) e)

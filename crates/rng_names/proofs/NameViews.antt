@@ -1,10 +1,13 @@
 -- Views of names and name classes of the code.
-use Rattle.std.proofs.Common.{◌≡◌, map, ap, ◌∙◌, rules, String, string_bytes, List, Vec, Box, Global}
+use Rattle.std.proofs.Common.{◌≡◌, map, ap, ◌∙◌, rules, List, Vec, Box, Global}
 use Rattle.std.proofs.lemmas.Str.{IsUtf8-string_bytes}
 use Rattle.rng_model.specs.names.Names.{some_of, name_is, any_except, ns_except, IsPairOfTexts}
 use Rattle.rng_model.specs.names.NameViews.{class_of, name_of}
 use Rattle.rng_model.specs.declared.name.NameClass.{NameClass, Choice, Name, AnyExcept, NsExcept, the_lemmas}
+use Rattle.rng_model.specs.names.NamespaceViews.{namespace_bytes}
+use Rattle.rng_model.specs.declared.namespace.Namespace.{Namespace}
 use Rattle.rng_model.specs.declared.name.Name as declared
+use Rattle.rng_model.proofs.NamespaceTexts.{IsUtf8-namespace_bytes}
 
 -- the view of a choice is the choice of the views of its members
 pub choice_is : (class : NameClass) (members : Vec NameClass Global) (xs : List NameClass) → class ≡ Choice members → xs ≡ members.items
@@ -19,10 +22,10 @@ name_class_is class n e = ap class_of e ∙ search (rules, the_lemmas)
 pub any_except_is : (class : NameClass) (except : Box NameClass Global) → class ≡ AnyExcept except → class_of class ≡ any_except (class_of except.value)
 any_except_is class except e = ap class_of e ∙ search (rules, the_lemmas)
 
-pub ns_except_is : (class : NameClass) (ns : String Global) (except : Box NameClass Global) → class ≡ NsExcept ns except
-    → class_of class ≡ ns_except (string_bytes ns) (class_of except.value)
+pub ns_except_is : (class : NameClass) (ns : Namespace) (except : Box NameClass Global) → class ≡ NsExcept ns except
+    → class_of class ≡ ns_except (namespace_bytes ns) (class_of except.value)
 ns_except_is class ns except e = ap class_of e ∙ search (rules, the_lemmas)
 
 -- the parts of a name of the code are texts
 pub are_texts : (n : declared.Name) → IsPairOfTexts (name_of n)
-are_texts n = (IsUtf8-string_bytes n.ns, IsUtf8-string_bytes n.local)
+are_texts n = (IsUtf8-namespace_bytes n.ns, IsUtf8-string_bytes n.local)

@@ -1,11 +1,13 @@
 -- Places made from what is written, namespace by namespace.
 use Rattle.std.proofs.Common.{◌≡◌, refl, sym, ap, ◌∙◌, subst, ℕ, suc, ◌≤◌, ◌+◌, Bool, true, false, cond, List, [], ◌∷◌, Option, Some}
-use Rattle.std.proofs.Common.{String, string_bytes, map, length, slice_get, bytes_eq, arith}
+use Rattle.std.proofs.Common.{map, length, slice_get, bytes_eq, arith}
 use Rattle.std.specs.Map.{keys_of, lookup}
 use Rattle.std.specs.Option.{unwrap_or}
 use Rattle.std.proofs.lemmas.List.{length-map}
 use Rattle.std.proofs.lemmas.Option.{none-some, same_Some}
 use Rattle.std.proofs.lemmas.Slice.Eq.{bytes_eq-Decides}
+use Rattle.rng_model.specs.names.NamespaceViews.{namespace_bytes}
+use Rattle.rng_model.specs.declared.namespace.Namespace.{Namespace}
 use Rattle.rng_names.specs.plain.Holding.{pair}
 use Rattle.rng_names.specs.plain.Keys.{Places}
 use Rattle.rng_names.specs.views.KeyTables.{AddsOthers, HasOthers, IsTold, KeepsNames, StandsBeyond}
@@ -59,25 +61,25 @@ measured_most w u o bytes found taken b is = let same : bytes ≡ is.0 = taken �
 
 -- ---- each namespace with a number is among those of the map
 
-module _ {Z : Type 0} (u : List ℕ) where
-  there_by : (e : String Z × ℕ) (es : List (String Z × ℕ)) (m : ℕ) (b : Bool) → bytes_eq u (string_bytes e.0) ≡ b
+module _ (u : List ℕ) where
+  there_by : (e : Namespace × ℕ) (es : List (Namespace × ℕ)) (m : ℕ) (b : Bool) → bytes_eq u (namespace_bytes e.0) ≡ b
       → cond b (Some e.1) (lookup (bytes_eq u) (seen_numbers es)) ≡ Some m
-      → (lookup (bytes_eq u) (seen_numbers es) ≡ Some m → (j : ℕ) × (slice_get (map string_bytes (keys_of es)) j ≡ Some u))
-      → (j : ℕ) × (slice_get (map string_bytes (keys_of (e ∷ es))) j ≡ Some u)
-  there_by e es m true same is later = (0, ap Some (sym ((bytes_eq-Decides u (string_bytes e.0)).0 same)))
+      → (lookup (bytes_eq u) (seen_numbers es) ≡ Some m → (j : ℕ) × (slice_get (map namespace_bytes (keys_of es)) j ≡ Some u))
+      → (j : ℕ) × (slice_get (map namespace_bytes (keys_of (e ∷ es))) j ≡ Some u)
+  there_by e es m true same is later = (0, ap Some (sym ((bytes_eq-Decides u (namespace_bytes e.0)).0 same)))
   there_by e es m false same is later = let found = later is in (suc found.0, found.1)
 
-  key_there : (es : List (String Z × ℕ)) (m : ℕ) → lookup (bytes_eq u) (seen_numbers es) ≡ Some m
-      → (j : ℕ) × (slice_get (map string_bytes (keys_of es)) j ≡ Some u)
+  key_there : (es : List (Namespace × ℕ)) (m : ℕ) → lookup (bytes_eq u) (seen_numbers es) ≡ Some m
+      → (j : ℕ) × (slice_get (map namespace_bytes (keys_of es)) j ≡ Some u)
   key_there [] m is = absurd (none-some m is)
-  key_there (e ∷ es) m is = there_by e es m (bytes_eq u (string_bytes e.0)) refl is (key_there es m)
+  key_there (e ∷ es) m is = there_by e es m (bytes_eq u (namespace_bytes e.0)) refl is (key_there es m)
 
-pub all_told : {Z : Type 0} (w : Written) (places : Places) (es : List (String Z × ℕ)) (n : ℕ) → w.longest ≡ seen_numbers es → length (keys_of es) ≤ n
-    → IsToldOf w places (map string_bytes (keys_of es)) n → IsTold w places
+pub all_told : (w : Written) (places : Places) (es : List (Namespace × ℕ)) (n : ℕ) → w.longest ≡ seen_numbers es → length (keys_of es) ≤ n
+    → IsToldOf w places (map namespace_bytes (keys_of es)) n → IsTold w places
 all_told w places es n same past told = record {
   names = told.names;
   others = told.others;
   all = λ u bytes is.
       let found = key_there u es is.0 (ap (lookup (bytes_eq u)) (sym same) ∙ is.1) in
-      holds_of_all (HasOthers places) (map string_bytes (keys_of es)) n (omega (arith, past, length-map (keys_of es) string_bytes)) told.done found.0 u found.1;
+      holds_of_all (HasOthers places) (map namespace_bytes (keys_of es)) n (omega (arith, past, length-map (keys_of es) namespace_bytes)) told.done found.0 u found.1;
 }

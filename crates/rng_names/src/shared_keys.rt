@@ -1,11 +1,12 @@
 // Keys that names share.
 ghost use Rattle.std.specs.Prelude.{◌≡◌, IfOk, IfSome, OnOk, map, slice_index_or};
 ghost use Rattle.rng_model.specs.names.NameViews.{name_of};
+ghost use Rattle.rng_model.specs.names.NamespaceViews.{namespace_bytes};
 ghost use Rattle.rng_names.specs.plain.SharedKeys.{AddsPlace, AreLed, AreShared, IsKeyIn, following, leading, sharing_in};
 
 use crate::texts::{note, number_of};
 use indexmap::{IndexMap, IndexSet};
-use rng_model::{Name, OutOfMemory};
+use rng_model::{Name, Namespace, OutOfMemory};
 use std::alloc::Global;
 
 /// The keys of names that have places. Names of one namespace that are written once, and in one region, share a key.
@@ -36,7 +37,7 @@ impl SharedKeys {
             leaders: Vec::new(alloc),
         };
         'names: for name in names.as_slice() {
-            all.add(alloc, name)?;
+            all.add(name)?;
         }
         let Sharing { keys, leaders, .. } = all;
         Ok(SharedKeys { keys, leaders })
@@ -49,14 +50,14 @@ struct Sharing<'a> {
     /// The only region of each of the first names, or 0. The others have none.
     regions: &'a [usize],
     /// For each namespace the place of the last of its names that has a region and represents a key.
-    newest: IndexMap<String, usize>,
+    newest: IndexMap<Namespace, usize>,
     keys: Vec<usize>,
     leaders: Vec<usize>,
 }
 
 impl<'a> Sharing<'a> {
     /// Adds the name at the next place.
-    fn add(&mut self, alloc: Global, name: &Name) -> Result<(), OutOfMemory>
+    fn add(&mut self, name: &Name) -> Result<(), OutOfMemory>
         ensures { OnOk result (AddsPlace (name_of name.now) (sharing_in self.old) (sharing_in self.new)) }
     {
         let place = self.keys.len();
@@ -64,20 +65,16 @@ impl<'a> Sharing<'a> {
         if region == 0 {
             return self.lead();
         }
-        if let Some(key) = self.key_in(name.ns.as_str(), region) {
+        if let Some(key) = self.key_in(&name.ns, region) {
             return self.follow(key);
         }
-        note(
-            &mut self.newest,
-            String::from_str(alloc, name.ns.as_str())?,
-            place,
-        )?;
+        note(&mut self.newest, name.ns.share()?, place)?;
         self.lead()
     }
 
     /// Returns the key of the last representative in this namespace, if it is in this region.
-    fn key_in(&self, ns: &str, region: usize) -> Option<usize>
-        ensures { IfSome result (IsKeyIn (sharing_in self.now) ns.now region) }
+    fn key_in(&self, ns: &Namespace, region: usize) -> Option<usize>
+        ensures { IfSome result (IsKeyIn (sharing_in self.now) (namespace_bytes ns.now) region) }
     {
         let place = number_of(&self.newest, ns)?;
         if region_at(self.regions, place) != region {

@@ -17,9 +17,9 @@ pub fn longest(class: &NameClass) -> usize
     match class {
         NameClass::Any => 0,
         NameClass::AnyExcept(except) => longest(except),
-        NameClass::Ns(ns) => ns.len(),
-        NameClass::NsExcept(ns, except) => ns.len().max(longest(except)),
-        NameClass::Name(name) => name.ns.len().max(name.local.len()),
+        NameClass::Ns(ns) => ns.as_str().len(),
+        NameClass::NsExcept(ns, except) => ns.as_str().len().max(longest(except)),
+        NameClass::Name(name) => name.ns.as_str().len().max(name.local.len()),
         NameClass::Choice(members) => {
             let mut most = 0;
             'members: for member in members {

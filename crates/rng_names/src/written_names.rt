@@ -4,14 +4,15 @@ ghost use Rattle.std.specs.Map.{lookup};
 ghost use Rattle.std.specs.Str.{bytes_eq};
 ghost use Rattle.rng_model.specs.names.Names as names;
 ghost use Rattle.rng_model.specs.names.NameViews.{class_of, name_of};
+ghost use Rattle.rng_model.specs.names.NamespaceViews.{namespace_bytes};
 ghost use Rattle.rng_names.specs.views.GrammarClasses.{seen_class};
 ghost use Rattle.rng_names.specs.plain.Regions.{AddsPart, AreSorted, HasBegun, sorted_in};
 ghost use Rattle.rng_names.specs.plain.WrittenNames.{Grows, Knows, written_in};
 
 use crate::names_by_region::NamesByRegion;
-use crate::texts::{copied, note, number_of};
+use crate::texts::{copy_of, note, number_of};
 use indexmap::IndexMap;
-use rng_model::{Name, NameClass, OutOfMemory};
+use rng_model::{Name, NameClass, Namespace, OutOfMemory};
 use std::alloc::Global;
 
 /// The names that are written in classes, and the namespaces.
@@ -20,7 +21,7 @@ pub(crate) struct WrittenNames {
     /// The names, after a first one that is given.
     pub(crate) names: NamesByRegion,
     /// For each namespace the number of bytes in its longest local name, 0 if none is written.
-    pub(crate) longest: IndexMap<String, usize>,
+    pub(crate) longest: IndexMap<Namespace, usize>,
 }
 
 impl WrittenNames {
@@ -73,9 +74,9 @@ impl WrittenNames {
                 let region = self.names.begin(except)?;
                 self.add_class(alloc, except, region)
             }
-            NameClass::Ns(ns) => self.add_namespace(alloc, ns.as_str(), 0),
+            NameClass::Ns(ns) => self.add_namespace(ns, 0),
             NameClass::NsExcept(ns, except) => {
-                self.add_namespace(alloc, ns.as_str(), 0)?;
+                self.add_namespace(ns, 0)?;
                 let region = self.names.begin(except)?;
                 self.add_class(alloc, except, region)
             }
@@ -96,22 +97,22 @@ impl WrittenNames {
         ensures adds { OnOk result (HasBegun (sorted_in self.old.names) region
             → AddsPart region (names.name_is (name_of name.now)) (sorted_in self.old.names) (sorted_in self.new.names)) }
     {
-        self.add_namespace(alloc, name.ns.as_str(), name.local.len())?;
-        let name = copied(alloc, name.ns.as_str(), name.local.as_str())?;
+        self.add_namespace(&name.ns, name.local.len())?;
+        let name = copy_of(alloc, name)?;
         self.names.add(name, region)
     }
 
     /// Adds a namespace in which a local name of this many bytes is written.
-    fn add_namespace(&mut self, alloc: Global, ns: &str, bytes: usize) -> Result<(), OutOfMemory>
+    fn add_namespace(&mut self, ns: &Namespace, bytes: usize) -> Result<(), OutOfMemory>
         ensures grows { OnOk result (Grows (written_in self.old) (written_in self.new)) }
         ensures names { OnOk result (self.new.names ≡ self.old.names) }
-        ensures has { OnOk result ((m : ℕ) × (lookup (bytes_eq ns.now) (written_in self.new).longest ≡ Some m) × (bytes ≤ m)) }
+        ensures has { OnOk result ((m : ℕ) × (lookup (bytes_eq (namespace_bytes ns.now)) (written_in self.new).longest ≡ Some m) × (bytes ≤ m)) }
     {
         if let Some(most) = number_of(&self.longest, ns) {
             if bytes <= most {
                 return Ok(());
             }
         }
-        note(&mut self.longest, String::from_str(alloc, ns)?, bytes)
+        note(&mut self.longest, ns.share()?, bytes)
     }
 }

@@ -1,5 +1,6 @@
 -- Views of the file trees of the code, without their place in memory.
 use Rattle.std.specs.Prelude.{ℕ, List, map, Option, Some, None, option_map, string_bytes}
+use Rattle.rng_model.specs.names.NamespaceViews.{namespace_bytes}
 use Rattle.rng_model.specs.simple.Tree.{choice, group, interleave}
 use Rattle.rnc_grammar.specs.declared.file_tree.Namespace.{Namespace}
 use Rattle.rnc_grammar.specs.declared.file_tree.Namespace.TheVariants as namespaces
@@ -22,7 +23,7 @@ use Rattle.rnc_model.specs.loading.Mentions as mentions
 
 abbrev pub namespace_of : Namespace → tree.Namespace
 namespace_of namespaces.Inherited = tree.inherited
-namespace_of (namespaces.Given uri) = tree.given (string_bytes uri)
+namespace_of (namespaces.Given uri) = tree.given (namespace_bytes uri)
 
 abbrev pub name_of : ExpandedName → tree.Name
 name_of n = record { namespace = namespace_of n.namespace; local = string_bytes n.local }

@@ -2,6 +2,7 @@
 use Rattle.std.specs.Prelude.{◌≡◌, ℕ, List, [], ◌∷◌, ◌++◌, map, slice_get, Option, Some, None, Vec}
 use Rattle.indexmap.specs.IndexSet.{IndexSet}
 use Rattle.rng_model.specs.names.Names.{NameClass, any_name, any_except, ns_name, ns_except, name_is, one_of, NameClasses, no_classes, class_and}
+use Rattle.rng_model.specs.names.NamespaceViews.{namespace_bytes}
 use Rattle.rng_model.specs.simple.Tree.{Datatype}
 use Rattle.rng_labels.specs.declared.label_codes.LabelPart.{LabelPart}
 use Rattle.rng_labels.specs.declared.label_codes.LabelPart.TheVariants as parts
@@ -21,9 +22,9 @@ part_of (parts.Number n) = number n
 part_of (parts.Text s) = text s.now
 part_of parts.Any = any
 part_of parts.AnyBut = any_but
-part_of (parts.Ns u) = ns u.now
-part_of (parts.NsBut u) = ns_but u.now
-part_of (parts.Name u s) = name u.now s.now
+part_of (parts.Ns u) = ns (namespace_bytes u.now)
+part_of (parts.NsBut u) = ns_but (namespace_bytes u.now)
+part_of (parts.Name u s) = name (namespace_bytes u.now) s.now
 part_of parts.Either = either
 
 -- the parts of a name class, followed by others: a class comes before the class that excepts it, and members come

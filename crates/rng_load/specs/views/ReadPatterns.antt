@@ -1,5 +1,6 @@
 -- Views of what the code reads from the patterns of files, without its place in memory.
 use Rattle.std.specs.Prelude.{ℕ, List, map, Option}
+use Rattle.rng_model.specs.names.NamespaceViews.{namespace_bytes}
 use Rattle.rng_model.specs.views.SchemaView.{place_of}
 use Rattle.rng_model.specs.simple.Tree as tree
 use Rattle.rnc_model.specs.declarations.FileTree.{FileTree, components_of}
@@ -13,7 +14,7 @@ use Rattle.rnc_model.specs.loading.Loading.{tree_in}
 use Rattle.rnc_model.specs.loading.Places.{Nested}
 
 abbrev pub nested_of : NestedGrammar → Nested
-nested_of g = record { place = place_of g.place; uri = g.uri.now; components = components_of (map component_of g.components.now) }
+nested_of g = record { place = place_of g.place; uri = namespace_bytes g.uri.now; components = components_of (map component_of g.components.now) }
 
 -- the trees by name
 abbrev pub files_in : TreeReader → List ℕ → Option FileTree

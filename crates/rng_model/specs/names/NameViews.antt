@@ -3,17 +3,18 @@ use Rattle.std.specs.Prelude.{string_bytes}
 use Rattle.rng_model.specs.declared.name.Name.{Name}
 use Rattle.rng_model.specs.declared.name.NameClass.{NameClass, fold-NameClass}
 use Rattle.rng_model.specs.declared.name.NameClass.TheOpen.{NameClass-F}
+use Rattle.rng_model.specs.names.NamespaceViews.{namespace_bytes}
 use Rattle.rng_model.specs.names.Names as names
 
 abbrev pub name_of : Name → names.Name
-name_of n = record { ns = string_bytes n.ns; local = string_bytes n.local }
+name_of n = record { ns = namespace_bytes n.ns; local = string_bytes n.local }
 
 -- one level of a name class, with each class inside already as its view
 abbrev pub class_step : NameClass-F names.NameClass → names.NameClass
 class_step NameClass-F.Any = names.any_name
 class_step (NameClass-F.AnyExcept except) = names.any_except except.value
-class_step (NameClass-F.Ns ns) = names.ns_name (string_bytes ns)
-class_step (NameClass-F.NsExcept ns except) = names.ns_except (string_bytes ns) except.value
+class_step (NameClass-F.Ns ns) = names.ns_name (namespace_bytes ns)
+class_step (NameClass-F.NsExcept ns except) = names.ns_except (namespace_bytes ns) except.value
 class_step (NameClass-F.Name n) = names.name_is (name_of n)
 class_step (NameClass-F.Choice all) = names.some_of all.items
 

@@ -1,24 +1,25 @@
 -- What is written in name classes, as it is collected.
-use Rattle.std.specs.Prelude.{◌≡◌, ◌≤◌, ℕ, List, true, length, map, slice_get, Some, String, string_bytes}
-use Rattle.std.specs.Global.{Global}
+use Rattle.std.specs.Prelude.{◌≡◌, ◌≤◌, ℕ, List, true, length, map, slice_get, Some}
 use Rattle.std.specs.Map.{lookup}
 use Rattle.std.specs.Str.{bytes_eq}
 use Rattle.rng_model.specs.names.Names.{Name, NameClass}
 use Rattle.rng_model.specs.names.NameViews.{name_of}
+use Rattle.rng_model.specs.names.NamespaceViews.{namespace_bytes}
+use Rattle.rng_model.specs.declared.namespace.Namespace.{Namespace}
 use Rattle.rng_model.specs.declared.name.Name as declared
 use Rattle.rng_names.specs.plain.Written.{writes_name, writes_ns}
 use Rattle.rng_names.specs.declared.written_names.WrittenNames.{WrittenNames}
 
--- the view of texts with their numbers
-abbrev pub seen_numbers : {Z : Type 0} → List (String Z × ℕ) → List (List ℕ × ℕ)
-seen_numbers es = map (λ e. (string_bytes e.0, e.1)) es
+-- the view of namespaces with their numbers
+abbrev pub seen_numbers : List (Namespace × ℕ) → List (List ℕ × ℕ)
+seen_numbers es = map (λ e. (namespace_bytes e.0, e.1)) es
 
 -- names, and for each namespace the number of bytes in its longest local name
 pub record Written : Type 0 where
   pub names : List Name
   pub longest : List (List ℕ × ℕ)
 
-abbrev pub written_as : List declared.Name → List (String Global × ℕ) → Written
+abbrev pub written_as : List declared.Name → List (Namespace × ℕ) → Written
 written_as names longest = record { names = map name_of names; longest = seen_numbers longest }
 
 abbrev pub written_in : WrittenNames → Written

@@ -3,6 +3,7 @@ use Rattle.std.proofs.lemmas.List.{drop_all, drop_more}
 use Rattle.std.proofs.lemmas.Slice.{first_rest}
 use Rattle.rng_model.specs.names.Names.{classes_of, some_of}
 use Rattle.rng_model.specs.names.NameViews.{class_of}
+use Rattle.rng_model.specs.names.NamespaceViews.{namespace_bytes}
 use Rattle.rng_labels.specs.plain.LabelCodes.{any_but, class_code, more_code, ns_but, part_of}
 use Rattle.rng_labels.proofs.LabelCodes.{any_except_code, ends, goes_on, ns_except_code, put_after, starts}
 use Rattle.rng_labels.proofs.label_codes.+codes.Goals as goal
@@ -43,9 +44,8 @@ put_class-returns-in_ok-put-in-AnyExcept t c =
 pub put_class-returns-in_ok-put-in-NsExcept : goal.put_class-returns-in_ok-put-in-NsExcept
 put_class-returns-in_ok-put-in-NsExcept t c =
     let old = map part_of c.args.code.now.items in
-    let text = c.as_str-in-NsExcept.result.now in
+    let text = namespace_bytes c.in-NsExcept.ns in
     put_after old (map part_of c.put_class-in-NsExcept.new.code.items) (map part_of c.put-in-NsExcept.new.code.items) (class_of c.deref-in-NsExcept.result.now)
     (ns_but text) c.in_ok-put_class-in-NsExcept.ensures c.in_ok-put-in-NsExcept.ensures
     ∙ ap (λ ps. old ++ ps) (ap (λ x. class_code (class_of x) (ns_but text ∷ [])) c.deref-in-NsExcept.ensures
-    ∙ ap (λ u. class_code (class_of c.in-NsExcept.except.value) (ns_but u ∷ [])) c.as_str-in-NsExcept.ensures.value
     ∙ ns_except_code c.in-NsExcept.ns c.in-NsExcept.except ∙ ap (λ x. class_code (class_of x) []) (sym c.in-NsExcept.is))

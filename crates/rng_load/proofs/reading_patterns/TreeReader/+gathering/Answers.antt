@@ -1,4 +1,5 @@
 use Rattle.std.proofs.Common.{◌≡◌, ◌∙◌, rules, arith, sym, ap, map, [], ◌-◌, ◌<◌, ◌≤◌, ◌∷◌, ◌++◌, length, reverse}
+use Rattle.rng_model.specs.names.NamespaceViews.{namespace_bytes}
 use Rattle.rnc_model.specs.declarations.FileTree.{components_of}
 use Rattle.rnc_grammar.specs.views.View.{component_of}
 use Rattle.rng_load.specs.views.GatheredComponents.{gathered_of}
@@ -21,11 +22,11 @@ gather_all-loop-number-preserved t c =
     let files = files_in c.args.self in
     let child = c.in_ok-gather_child.ensures in
     let way = c.loop-number.invariant.same_way in
-    let here = ap (λ numbers. map gathered_of c.loop-number.all.items ++ gather_one_at files c.args.levels c.args.uri.now
+    let here = ap (λ numbers. map gathered_of c.loop-number.all.items ++ gather_one_at files c.args.levels (namespace_bytes c.args.uri.now)
     (c.loop-number.number ∷ reverse numbers) (component_of c.index-components-number.result)) way in
     record {
       same_way = child.way ∙ way;
-      gathered = goes_on files c.args.levels c.args.uri.now (reverse c.args.way.now.items) component_of c.args.components.now
+      gathered = goes_on files c.args.levels (namespace_bytes c.args.uri.now) (reverse c.args.way.now.items) component_of c.args.components.now
           (map gathered_of c.args.all.now.items) c.loop-number.number c.index-components-number.result (map gathered_of c.loop-number.all.items)
           (map gathered_of c.gather_child.new.all.items) c.loop-number-test.true c.index-components-number.is c.loop-number.invariant.gathered
           (child.gathered ∙ here);
@@ -34,7 +35,7 @@ gather_all-loop-number-preserved t c =
 pub gather_all-returns-clause-gathered : goal.gather_all-returns-clause-gathered
 gather_all-returns-clause-gathered t c =
     let end : length c.args.components.now ≤ c.loop-number.number = search rules in
-    all_gathered (files_in c.args.self) c.args.levels c.args.uri.now (reverse c.args.way.now.items) component_of c.args.components.now
+    all_gathered (files_in c.args.self) c.args.levels (namespace_bytes c.args.uri.now) (reverse c.args.way.now.items) component_of c.args.components.now
     (map gathered_of c.args.all.now.items) c.loop-number.number (map gathered_of c.loop-number.all.items) end c.loop-number.invariant.gathered
 
 pub included-gather_under-requires : goal.included-gather_under-requires
@@ -49,8 +50,8 @@ included-returns-clause-gathered t c =
     let some : 0 < c.args.levels = search rules in
     let is = c.in-Some.ensures ∙ ap (λ f. grammar_if (files_in c.args.self f)) c.as_str.ensures.value in
     let none : map gathered_of c.in_ok-all.all.items ≡ [] = search rules in
-    let all = file_gathered (files_in c.args.self) c.args.levels c.namespace_uri-uri.result.now _ (reverse c.args.way.now.items) _
+    let all = file_gathered (files_in c.args.self) c.args.levels (namespace_bytes c.namespace_uri-uri.result.now) _ (reverse c.args.way.now.items) _
     (components_of (map component_of c.in-Some.components.now)) some is c.namespace_uri-uri.ensures in
-    let rest = gather_at (files_in c.args.self) (c.args.levels - 1) c.namespace_uri-uri.result.now (0 ∷ reverse c.args.way.now.items) 0
+    let rest = gather_at (files_in c.args.self) (c.args.levels - 1) (namespace_bytes c.namespace_uri-uri.result.now) (0 ∷ reverse c.args.way.now.items) 0
     (components_of (map component_of c.in-Some.components.now)) in
     c.in_ok-gather_under.ensures.gathered ∙ ap (λ front. front ++ rest) none ∙ sym all

@@ -1,4 +1,5 @@
 use Rattle.std.proofs.Common.{◌≡◌, ◌*◌, ◌+◌, map, reverse}
+use Rattle.rng_model.specs.names.NamespaceViews.{namespace_bytes}
 use Rattle.rnc_model.specs.declarations.FileTree.{components_of}
 use Rattle.rnc_grammar.specs.views.View.{component_of}
 use Rattle.rng_load.specs.views.GatheredComponents.{gathered_of}
@@ -29,6 +30,6 @@ decreases-included l = 4 * left_in l.self l.levels 0 + 2
 abbrev pub invariant-gather_all-loop-number : goal.invariant-gather_all-loop-number
 invariant-gather_all-loop-number l = record {
   same_way : l.way.items ≡ l.fn.way.items;
-  gathered : AreGathered (files_in l.self) l.levels l.uri (reverse l.fn.way.items) component_of l.components (map gathered_of l.fn.all.items) l.number
+  gathered : AreGathered (files_in l.self) l.levels (namespace_bytes l.uri) (reverse l.fn.way.items) component_of l.components (map gathered_of l.fn.all.items) l.number
       (map gathered_of l.all.items);
 }

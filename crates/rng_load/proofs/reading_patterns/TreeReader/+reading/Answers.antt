@@ -1,5 +1,6 @@
 use Rattle.std.proofs.Common.{◌≡◌, ◌∙◌, rules, arith, sym, ap, subst, IfOk, map, Some, None, ◌<◌, ◌≤◌, ◌∷◌, [], ◌++◌, length, reverse}
 use Rattle.std.proofs.lemmas.List.{map_push}
+use Rattle.rng_model.specs.names.NamespaceViews.{namespace_bytes}
 use Rattle.rng_model.specs.schema.Patterns as pattern
 use Rattle.rng_model.specs.views.SchemaView.{schema_pattern_of}
 use Rattle.rnc_grammar.specs.declared.file_tree.Pattern.TheVariants as trees
@@ -23,7 +24,7 @@ pub external-returns-in_ok-body-in-Pattern-clause-pattern : goal.external-return
 external-returns-in_ok-body-in-Pattern-clause-pattern t c =
     let is = ap (λ t. Some (file_of t)) (sym c.in-Pattern.is) ∙ c.in-Some.ensures ∙ ap (files_in c.args.self) c.as_str.ensures.value in
     let some : 0 < c.args.levels = search rules in
-    let read = file_read (files_in c.args.self) c.args.levels c.namespace_uri-uri.result.now _ (reverse c.args.way.now.items) _
+    let read = file_read (files_in c.args.self) c.args.levels (namespace_bytes c.namespace_uri-uri.result.now) _ (reverse c.args.way.now.items) _
     (pattern_of c.in-Pattern.pattern) some is c.namespace_uri-uri.ensures in
     external_schema c.in_ok-body-in-Pattern.body ∙ ap pattern.external c.in_ok-body-in-Pattern.ensures.pattern ∙ ap (λ r. r.0) (sym read)
 
@@ -31,7 +32,7 @@ pub external-returns-in_ok-body-in-Pattern-clause-nested : goal.external-returns
 external-returns-in_ok-body-in-Pattern-clause-nested t c =
     let is = ap (λ t. Some (file_of t)) (sym c.in-Pattern.is) ∙ c.in-Some.ensures ∙ ap (files_in c.args.self) c.as_str.ensures.value in
     let some : 0 < c.args.levels = search rules in
-    let read = file_read (files_in c.args.self) c.args.levels c.namespace_uri-uri.result.now _ (reverse c.args.way.now.items) _
+    let read = file_read (files_in c.args.self) c.args.levels (namespace_bytes c.namespace_uri-uri.result.now) _ (reverse c.args.way.now.items) _
     (pattern_of c.in-Pattern.pattern) some is c.namespace_uri-uri.ensures in
     c.in_ok-body-in-Pattern.ensures.nested ∙ ap (λ r. map nested_of c.args.grammars.now.items ++ r.1) (sym read)
 
@@ -50,7 +51,7 @@ members-loop-number-preserved t c =
     ≡ map schema_pattern_of c.loop-number.members.items ++ schema_pattern_of c.in_ok-child.field-0 ∷ [] =
     ap (map schema_pattern_of) c.in_ok-push.ensures.items ∙ map_push schema_pattern_of c.loop-number.members.items c.in_ok-child.field-0 in
     let here =
-    ap (λ numbers. read_at files c.args.levels c.args.uri.now (c.loop-number.number ∷ reverse numbers) (pattern_of c.index-patterns-number.result)) way in
+    ap (λ numbers. read_at files c.args.levels (namespace_bytes c.args.uri.now) (c.loop-number.number ∷ reverse numbers) (pattern_of c.index-patterns-number.result)) way in
     record {
       same_way = child.way ∙ way;
       read = goes_on pattern_of c.args.patterns.now c.loop-number.number c.index-patterns-number.result (map schema_pattern_of c.loop-number.members.items)
@@ -76,7 +77,7 @@ pub pattern-returns-in-None-clause-pattern : goal.pattern-returns-in-None-clause
 pattern-returns-in-None-clause-pattern t c =
     let arm = c.in-Data in
     let is : c.args.pattern.now ≡ trees.Data arm.datatype None = arm.is ∙ ap (trees.Data arm.datatype) c.in-None.is in
-    let read = plain_read (files_in c.args.self) c.args.levels c.args.uri.now (reverse c.args.way.now.items) c.args.pattern.now arm.datatype
+    let read = plain_read (files_in c.args.self) c.args.levels (namespace_bytes c.args.uri.now) (reverse c.args.way.now.items) c.args.pattern.now arm.datatype
     c.deref-in-None.result.now c.deref-in-None.ensures is in
     subst (λ r. IfOk c.data.result (λ p. schema_pattern_of p ≡ r)) read c.data.ensures
 
@@ -85,7 +86,7 @@ pattern-returns-in_ok-except-in-Some-clause-pattern t c =
     let arm = c.in-Data in
     let is : c.args.pattern.now ≡ trees.Data arm.datatype (Some c.in-Some.except) = arm.is ∙ ap (trees.Data arm.datatype) c.in-Some.is in
     let body : c.deref-in-Some.result.now ≡ c.in-Some.except.value = c.deref-in-Some.ensures in
-    let read = except_read (files_in c.args.self) c.args.levels c.args.uri.now (reverse c.args.way.now.items) c.args.pattern.now arm.datatype
+    let read = except_read (files_in c.args.self) c.args.levels (namespace_bytes c.args.uri.now) (reverse c.args.way.now.items) c.args.pattern.now arm.datatype
     c.deref-in-Some-2.result.now c.deref-in-Some-2.ensures c.in-Some.except c.deref-in-Some.result.now
     (schema_pattern_of c.in_ok-except-in-Some.except.value) is body c.in_ok-except-in-Some.ensures.pattern in
     subst (λ r. IfOk c.data_except.result (λ p. schema_pattern_of p ≡ r)) read c.data_except.ensures

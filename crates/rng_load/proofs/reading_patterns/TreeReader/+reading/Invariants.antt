@@ -1,4 +1,5 @@
 use Rattle.std.proofs.Common.{◌≡◌, ◌*◌, ◌+◌, map, drop, reverse}
+use Rattle.rng_model.specs.names.NamespaceViews.{namespace_bytes}
 use Rattle.rng_model.specs.views.SchemaView.{schema_pattern_of}
 use Rattle.rnc_model.specs.declarations.FileTree.{patterns_of}
 use Rattle.rnc_grammar.specs.views.View.{pattern_of}
@@ -26,6 +27,6 @@ decreases-external l = 4 * left_in l.self l.levels 0 + 3
 abbrev pub invariant-members-loop-number : goal.invariant-members-loop-number
 invariant-members-loop-number l = record {
   same_way : l.way.items ≡ l.fn.way.items;
-  read : AreRead (files_in l.self) l.levels l.uri (reverse l.fn.way.items) (map pattern_of l.patterns) (map nested_of l.fn.grammars.items) l.number
+  read : AreRead (files_in l.self) l.levels (namespace_bytes l.uri) (reverse l.fn.way.items) (map pattern_of l.patterns) (map nested_of l.fn.grammars.items) l.number
       (map pattern_of (drop l.number l.patterns)) (map schema_pattern_of l.members.items) (map nested_of l.grammars.items);
 }

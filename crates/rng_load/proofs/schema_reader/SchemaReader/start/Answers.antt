@@ -1,4 +1,5 @@
 use Rattle.std.proofs.Common.{◌≡◌, ◌∙◌, rules, ap, sym, map, reverse, [], ◌∷◌, ◌++◌, None}
+use Rattle.rng_model.specs.names.NamespaceViews.{namespace_bytes}
 use Rattle.rng_model.specs.declared.method.Method.TheVariants as methods
 use Rattle.rnc_grammar.specs.views.View.{pattern_of}
 use Rattle.rng_load.specs.views.GatheredComponents.{gathered_of}
@@ -14,5 +15,6 @@ returns c =
     let none : c.new-all.result.items ≡ [] = search rules in
     let way : c.in_ok-way.way.items ≡ 0 ∷ [] = search rules in
     ap (map gathered_of) (c.in_ok-push.ensures.items ∙ ap (λ es. es ++ c.in_ok-start.start ∷ []) none) ∙ ap (λ g. g ∷ []) (c.in_ok-start.ensures.gathered
-    ∙ ap (λ numbers. gathered_as None methods.Plain (read_at files path_limit [] (reverse numbers) (pattern_of c.args.pattern.now))) way)
+    ∙ ap (λ numbers. gathered_as None methods.Plain (read_at files path_limit (namespace_bytes c.args.none.now) (reverse numbers) (pattern_of c.args.pattern.now))) way
+    ∙ ap (λ u. gathered_as None methods.Plain (read_at files path_limit u (0 ∷ []) (pattern_of c.args.pattern.now))) c.requires)
     ∙ sym (only_start files (pattern_of c.args.pattern.now))

@@ -1,4 +1,5 @@
-use Rattle.std.proofs.Common.{map, string_bytes}
+use Rattle.std.proofs.Common.{map}
+use Rattle.rng_model.specs.names.NamespaceViews.{namespace_bytes}
 use Rattle.rng_names.specs.views.KeyTables.{places_in}
 use Rattle.rng_names.specs.plain.WrittenNames.{written_as}
 use Rattle.rng_names.proofs.NamespaceKeys.{IsToldOf}
@@ -6,4 +7,4 @@ use Rattle.rng_names.proofs.places.Places.of_written.Given as goal
 
 -- the namespaces so far have places for their other names
 abbrev pub invariant-namespaces : goal.invariant-namespaces
-invariant-namespaces l = IsToldOf (written_as l.fn.names.keys l.longest.entries) (places_in l.all) (map string_bytes l.ns-items) l.ns-index
+invariant-namespaces l = IsToldOf (written_as l.fn.names.keys l.longest.entries) (places_in l.all) (map namespace_bytes l.ns-items) l.ns-index

@@ -1,7 +1,8 @@
-use Rattle.std.proofs.Common.{◌≡◌, ◌<◌, refl, ap₂, subst, ◌∙◌, string_bytes, slice_index_or, length, Some, bytes_eq, arith, rules}
+use Rattle.std.proofs.Common.{◌≡◌, ◌<◌, refl, ap₂, subst, ◌∙◌, slice_index_or, length, Some, bytes_eq, arith, rules}
 use Rattle.std.specs.Map.{lookup, update}
 use Rattle.std.proofs.lemmas.Result.{on_ok_weaker}
 use Rattle.rng_model.specs.names.NameViews.{name_of}
+use Rattle.rng_model.specs.names.NamespaceViews.{namespace_bytes}
 use Rattle.rng_names.specs.plain.SharedKeys.{IsKeyIn, sharing_in}
 use Rattle.rng_names.proofs.SharedKeys.{adds_alone, adds_following, adds_noted}
 use Rattle.rng_names.proofs.shared_keys.Sharing.add.Goals as goal
@@ -17,7 +18,7 @@ returns-in-Some c =
     let region = c.region_at-region.result in
     let here : region ≡ slice_index_or old.regions (length old.keys) 0 = search rules in
     let counts : 0 < region = omega (arith, c.if-region-eq0.false) in
-    let is : IsKeyIn old q.ns region c.in-Some.key = subst (λ u. IsKeyIn old u region c.in-Some.key) c.as_str.ensures.value c.in-Some.ensures in
+    let is : IsKeyIn old q.ns region c.in-Some.key = c.in-Some.ensures in
     on_ok_weaker c.follow.result (adds_following q old (sharing_in c.follow.new.self) region c.in-Some.key here counts is) c.follow.ensures
 
 pub returns : goal.returns
@@ -25,7 +26,7 @@ returns c =
     let old = sharing_in c.args.self.now in
     let q = name_of c.args.name.now in
     let mid = sharing_in (record { regions = c.args.self.now.regions; newest = c.note.new.numbers; keys = c.args.self.now.keys; leaders = c.args.self.now.leaders }) in
-    let text : string_bytes c.in_ok-from_str.field-0 ≡ q.ns = search rules in
+    let text : namespace_bytes c.in_ok-share.field-0 ≡ q.ns = search rules in
     let place : c.len-place.result ≡ length old.keys = search rules in
     on_ok_weaker c.lead-2.result
     (adds_noted q old mid (sharing_in c.lead-2.new.self) refl refl refl

@@ -1,6 +1,7 @@
-use Rattle.std.proofs.Common.{◌≡◌, ◌∙◌, ap, refl, sym, subst, map, Some, string_bytes, arith, rules}
+use Rattle.std.proofs.Common.{◌≡◌, ◌∙◌, ap, refl, sym, subst, map, Some, arith, rules}
 use Rattle.std.proofs.lemmas.List.{length-map}
 use Rattle.std.proofs.lemmas.Result.{on_ok_weaker}
+use Rattle.rng_model.specs.names.NamespaceViews.{namespace_bytes}
 use Rattle.rng_model.specs.names.Names.{any_except, ns_except, some_of}
 use Rattle.rng_model.specs.names.NameViews.{class_of}
 use Rattle.rng_names.proofs.NameViews.{any_except_is, choice_is, ns_except_is}
@@ -78,12 +79,11 @@ returns-in_ok-region-in-NsExcept-clause-knows t c =
     let mid = written_in c.add_namespace-in-NsExcept.new.self in
     let new = written_in c.add_class-in-NsExcept.new.self in
     let whole = ns_except_is _ ns except c.in-NsExcept.is in
-    let has : IsMeasured mid (string_bytes ns) 0 =
-    subst (λ u. IsMeasured mid u 0) c.as_str-in-NsExcept.ensures.value c.in_ok-add_namespace-in-NsExcept.ensures.has in
+    let has : IsMeasured mid (namespace_bytes ns) 0 = c.in_ok-add_namespace-in-NsExcept.ensures.has in
     let inside : class_of c.deref-in-NsExcept-2.result.now ≡ class_of except.value = search rules in
     both_ok c.add_class-in-NsExcept.result
     (λ grows known. subst (Knows new) (sym whole)
-    (knows_ns_except new (string_bytes ns) (class_of except.value) (grows.longest (string_bytes ns) 0 has) (subst (Knows new) inside known)))
+    (knows_ns_except new (namespace_bytes ns) (class_of except.value) (grows.longest (namespace_bytes ns) 0 has) (subst (Knows new) inside known)))
     c.add_class-in-NsExcept.ensures.grows c.add_class-in-NsExcept.ensures.knows
 
 pub returns-in_ok-region-in-NsExcept-clause-adds : goal.returns-in_ok-region-in-NsExcept-clause-adds
@@ -99,7 +99,7 @@ returns-in_ok-region-in-NsExcept-clause-adds t c =
     let inside : class_of c.deref-in-NsExcept-2.result.now ≡ class_of except.value = search rules in
     on_ok_weaker c.add_class-in-NsExcept.result
     (λ adds begun. subst (λ o. AddsPart r (class_of c.args.class.now) (sorted_in o) new) same
-    (subst (λ k. AddsPart r k mid new) (ap (ns_except (string_bytes ns)) inside ∙ sym whole)
+    (subst (λ k. AddsPart r k mid new) (ap (ns_except (namespace_bytes ns)) inside ∙ sym whole)
     (ns_except_added r (class_of c.deref-in-NsExcept-2.result.now) mid begun' new c.in_ok-region-in-NsExcept.region c.in_ok-region-in-NsExcept.ensures adds
-    (subst (λ o. HasBegun (sorted_in o) r) (sym same) begun) (string_bytes ns))))
+    (subst (λ o. HasBegun (sorted_in o) r) (sym same) begun) (namespace_bytes ns))))
     c.add_class-in-NsExcept.ensures.adds

@@ -21,7 +21,7 @@ returns-clause-knows c =
     let new = written_in (record { names = c.add.new.self; longest = c.add_namespace.new.self.longest }) in
     let copy : name_of c.in_ok-name.name ≡ n = search rules in
     let bytes : c.len.result ≡ length n.local = search rules in
-    let has = subst (λ u. IsMeasured mid u c.len.result) c.as_str.ensures.value c.in_ok-add_namespace.ensures.has in
+    let has = c.in_ok-add_namespace.ensures.has in
     let measured = subst (λ b. IsMeasured mid n.ns b) bytes has in
     on_ok_weaker c.add.result
     (λ puts. knows_name new n (less_measured new n.ns (length n.local) measured)
