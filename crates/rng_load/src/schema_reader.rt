@@ -60,10 +60,7 @@ pub(crate) fn schema_of_files(
 
 impl<'a> SchemaReader<'a> {
     /// The components of the main grammar. Its file inherits no namespace.
-    fn main_components(
-        self,
-        none: &'a Namespace,
-    ) -> Result<Vec<GatheredComponent<'a>>, OutOfMemory>
+    fn main_components(self, none: &'a Namespace) -> Result<Vec<GatheredComponent<'a>>, OutOfMemory>
         requires { namespace_bytes none.now ≡ [] }
         ensures { IfOk result (λ all. map gathered_of all.items ≡ gathered_at (files_in self.entry.trees) [] [] (main_grammar (file_of self.entry.main.now))) }
     {
@@ -102,9 +99,14 @@ impl<'a> SchemaReader<'a> {
         ensures { IfOk result (λ all. map gathered_of all.items ≡ gathered_at (files_in self.entry.trees) [] [] (grammar_or_start (pattern_of pattern.now) None)) }
     {
         let mut way = Vec::from_slice(self.trees.alloc, &[0])?;
-        let start = self
-            .trees
-            .gathered(MENTION_LIMIT, none, &mut way, None, Method::Plain, pattern)?;
+        let start = self.trees.gathered(
+            MENTION_LIMIT,
+            none,
+            &mut way,
+            None,
+            Method::Plain,
+            pattern,
+        )?;
         let mut all = Vec::new(self.trees.alloc);
         all.push(start)?;
         Ok(all)

@@ -43,12 +43,7 @@ impl Places {
     }
 
     /// Adds a name in this namespace with more bytes than these. It represents the names in it that are not written.
-    fn add_others(
-        &mut self,
-        alloc: Global,
-        ns: &Namespace,
-        bytes: usize,
-    ) -> Result<(), OutOfMemory>
+    fn add_others(&mut self, alloc: Global, ns: &Namespace, bytes: usize) -> Result<(), OutOfMemory>
         ensures { OnOk result (AddsOthers (places_in self.old) (places_in self.new) (namespace_bytes ns.now) bytes) }
     {
         let local = fresh_text(alloc, bytes)?;
