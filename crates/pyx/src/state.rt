@@ -440,6 +440,7 @@ impl State {
         ensures { Takes result (state_of self.new) (Hands E.stands events.old events.new)
             (followed (reader.line_read (ended_line (45 ∷ text.now)) (state_of self.old)) (reader.line_read (ended_line (41 ∷ name.now)))) }
     {
+        // The line of a text completes the tag in front of it.
         self.end_tag(b"-", events)?;
         self.lines += 1;
         if self.elements.is_empty() {
