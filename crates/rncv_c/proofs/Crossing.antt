@@ -1,11 +1,9 @@
 -- What a handle holds may move to another thread and be shared there: the tables of a schema hold texts, numbers and
 -- name classes.
 use denote.Param.Send.{IsSend, IsSync, recorded_send, recorded_sync, sendable}
-use Rattle.std.proofs.Crossing.{Box-send, Box-sync, Vec-send, Vec-sync, crosses, frees, send, sync}
-use Rattle.std_heap.specs.contracts.Global as Heap
-use Rattle.std_heap.specs.contracts.GlobalAllocator.TheImpl.{ghosts}
-use Rattle.std_alloc.proofs.string.String.TheSendSync as string
+use Rattle.std.proofs.Crossing.{Box-send, Box-sync, Vec-send, Vec-sync, crosses}
 use Rattle.rng_model.proofs.name.Name.TheSendSync as name
+use Rattle.rng_model.proofs.namespace.Namespace.TheSendSync as namespace
 use Rattle.rng_model.proofs.name.NameClass.TheLaws.TheKnot as knot
 use Rattle.rng_model.proofs.datatype.Datatype.TheSendSync as datatype
 use Rattle.rng_model.proofs.datatype.DatatypeValue.TheSendSync as value
@@ -19,10 +17,10 @@ use Rattle.rng_model.specs.contracts.simple.Simple as Simple
 use Rattle.rng_model.specs.contracts.grammar.SimpleGrammar as SimpleGrammar
 
 class_field_send : IsSend (NameClass.the_field).row
-class_field_send = knot.send-NameClass Box-send (string.the_field_send Heap.the_row ghosts send frees) name.the_field_send Vec-send
+class_field_send = knot.send-NameClass Box-send namespace.the_field_send name.the_field_send Vec-send
 
 class_field_sync : IsSync (NameClass.the_field).row
-class_field_sync = knot.sync-NameClass Box-sync (string.the_field_sync Heap.the_row ghosts sync) name.the_field_sync Vec-sync
+class_field_sync = knot.sync-NameClass Box-sync namespace.the_field_sync name.the_field_sync Vec-sync
 
 class_send : IsSend NameClass.the_row
 class_send = recorded_send (NameClass.the_field).row _ _ (NameClass.the_type).to_one class_field_send
