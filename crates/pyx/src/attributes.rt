@@ -28,9 +28,9 @@ fn attribute_name(
 {
     match cut_at(b':', name.as_str()) {
         Some((prefix, local)) => match elements.namespace(Some(prefix)) {
-            Some(uri) => {
+            Some(found) => {
                 let expanded = Name {
-                    ns: spares.namespace(alloc, uri)?,
+                    ns: spares.namespace(alloc, found)?,
                     local: spares.copy(alloc, local)?,
                 };
                 spares.keep(name);

@@ -3,11 +3,12 @@ ghost use Rattle.std.specs.Prelude.{◌≡◌, ◌<◌, ◌≤◌, ℕ, length, 
 ghost use Rattle.rng_model.specs.names.NameViews.{name_of};
 ghost use Rattle.pyx_namespaces.specs.plain.WrittenNames.{written_of};
 ghost use Rattle.pyx_namespaces.specs.plain.Declarations.{Declared};
+ghost use Rattle.pyx_namespaces.specs.views.FoundNamespaces.{found_bytes};
 ghost use Rattle.pyx.specs.plain.TagReader.{element_name};
 ghost use Rattle.pyx.specs.views.ElementView.{AreKnown, IsJudged, IsKnown, IsPlace, name_at, names_of};
 
 use crate::spares::set_namespace;
-use pyx_namespaces::hash_of;
+use pyx_namespaces::{FoundNamespace, hash_of};
 use rng_model::{Name, Namespace, OutOfMemory};
 use std::alloc::Global;
 
@@ -33,19 +34,19 @@ impl KnownName {
         alloc: Global,
         round: u64,
         written: &str,
-        uri: &str,
+        found: FoundNamespace<'_>,
         local: &str,
     ) -> Result<(), OutOfMemory>
         requires round { 0 < round }
         requires judged { IsJudged written.now }
-        ensures known { (scope : Declared) → element_name scope (written_of written.now) ≡ Some (record { ns = uri.now; local = local.now })
+        ensures known { (scope : Declared) → element_name scope (written_of written.now) ≡ Some (record { ns = found_bytes found.entry; local = local.now })
             → IsKnown scope round self.new }
-        ensures name { OnOk result (name_of self.new.name ≡ record { ns = uri.now; local = local.now }) }
+        ensures name { OnOk result (name_of self.new.name ≡ record { ns = found_bytes found.entry; local = local.now }) }
     {
         self.round = 0;
         self.written.clear();
         self.written.push_str(written)?;
-        set_namespace(alloc, &mut self.name.ns, uri)?;
+        set_namespace(alloc, &mut self.name.ns, found)?;
         self.name.local.clear();
         self.name.local.push_str(local)?;
         self.round = round;
@@ -100,22 +101,22 @@ pub fn learn(
     known: &mut Vec<KnownName>,
     round: u64,
     written: &str,
-    uri: &str,
+    found: FoundNamespace<'_>,
     local: &str,
 ) -> Result<usize, OutOfMemory>
     requires round { 0 < round }
     requires judged { IsJudged written.now }
-    ensures known { (scope : Declared) → element_name scope (written_of written.now) ≡ Some (record { ns = uri.now; local = local.now })
+    ensures known { (scope : Declared) → element_name scope (written_of written.now) ≡ Some (record { ns = found_bytes found.entry; local = local.now })
         → AreKnown scope round known.old.items → AreKnown scope round known.new.items }
-    ensures name { IfOk result (λ at. (at < length known.new.items) × (name_at (names_of known.new.items) at ≡ record { ns = uri.now; local = local.now })) }
+    ensures name { IfOk result (λ at. (at < length known.new.items) × (name_at (names_of known.new.items) at ≡ record { ns = found_bytes found.entry; local = local.now })) }
 {
     make_places(alloc, known)?;
-    let at = if written.len() <= SIZE_LIMIT && uri.len() <= SIZE_LIMIT {
+    let at = if written.len() <= SIZE_LIMIT && found.as_str().len() <= SIZE_LIMIT {
         hash_of(written) % COUNT
     } else {
         0
     };
     let name = &mut known[at];
-    name.learn(alloc, round, written, uri, local)?;
+    name.learn(alloc, round, written, found, local)?;
     Ok(at)
 }

@@ -11,13 +11,14 @@ ghost use Rattle.pyx.specs.plain.LineReader.{is_name};
 ghost use Rattle.pyx_namespaces.specs.plain.WrittenNames.{written_of};
 ghost use Rattle.pyx.specs.plain.TagReader.{element_name};
 ghost use Rattle.pyx_namespaces.specs.plain.Declarations.{Declared, namespace_of};
+ghost use Rattle.pyx_namespaces.specs.views.FoundNamespaces.{found_bytes};
 
 use crate::elements::{OpenElement, innermost, opened_len};
 use crate::fault::LineFault;
 use crate::known::{KnownName, find, forget, learn};
 use crate::line::is_name;
 use crate::spares::Spares;
-use pyx_namespaces::{Declarations, WrittenAttribute, cut_at, is_same};
+use pyx_namespaces::{Declarations, FoundNamespace, WrittenAttribute, cut_at, is_same};
 use rng_model::{Name, OutOfMemory};
 use std::alloc::Global;
 use std::marker::Model;
@@ -86,7 +87,7 @@ fn place_of_name(
         None => (None, written),
     };
     match declarations.namespace(prefix) {
-        Some(uri) => Ok(learn(alloc, known, round, written, uri, local)?),
+        Some(found) => Ok(learn(alloc, known, round, written, found, local)?),
         None => Err(LineFault::Clause(11)),
     }
 }
@@ -125,15 +126,14 @@ fn declare(
     declarations.add_tag(alloc, tag)
 }
 
-/// Removes the innermost declarations, so many, and keeps their buffers.
+/// Removes the innermost declarations, so many, and keeps the buffers of their names.
 fn remove(declarations: &mut Declarations, count: usize, spares: &mut Spares)
     ensures { declarations.new ≡ drop count declarations.old }
 {
     let mut left = count;
     'innermost: while left > 0 {
-        if let Some(written) = declarations.pop() {
-            spares.keep(written.name);
-            spares.keep(written.value);
+        if let Some(removed) = declarations.pop() {
+            spares.keep(removed.name);
         }
         left -= 1;
     }
@@ -201,8 +201,8 @@ impl OpenElements {
 
     /// Returns the namespace of a prefix, or the default one, inside the open elements.
     #[inline(always)]
-    pub fn namespace(&self, prefix: Option<&str>) -> Option<&str>
-        ensures { option_map (λ x. x.now) result ≡ namespace_of (declared_in self.now.opened) (option_map (λ x. x.now) prefix.entry) }
+    pub fn namespace(&self, prefix: Option<&str>) -> Option<FoundNamespace<'_>>
+        ensures { option_map found_bytes result ≡ namespace_of (declared_in self.now.opened) (option_map (λ x. x.now) prefix.entry) }
     {
         self.declarations.namespace(prefix)
     }

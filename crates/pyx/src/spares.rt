@@ -1,7 +1,9 @@
 // Buffers that are used again.
 ghost use Rattle.std.specs.Prelude.{◌≡◌, [], IfOk, OnOk, string_bytes};
 ghost use Rattle.rng_model.specs.names.NamespaceViews.{namespace_bytes};
+ghost use Rattle.pyx_namespaces.specs.views.FoundNamespaces.{found_bytes};
 
+use pyx_namespaces::FoundNamespace;
 use rng_model::{Attr, Namespace, OutOfMemory};
 use std::alloc::Global;
 
@@ -10,21 +12,31 @@ const COUNT_LIMIT: usize = 256;
 
 const SIZE_LIMIT: usize = 1_024;
 
-/// Buffers of names and values for reuse, and the last namespace of an attribute. Their contents mean nothing.
+/// Buffers of names and values for reuse, and the namespace of the prefix `xml` once it was used. Their contents mean
+/// nothing.
 #[derive(Drop)]
 pub struct Spares {
     texts: Vec<String>,
-    last: Namespace,
+    xml: Namespace,
 }
 
-/// Makes this the namespace with this uri. Allocates nothing if it is.
-pub fn set_namespace(alloc: Global, namespace: &mut Namespace, uri: &str) -> Result<(), OutOfMemory>
-    ensures { OnOk result (namespace_bytes namespace.new ≡ uri.now) }
+/// Makes this the namespace that was found. The text of a declared one is shared. Another one is copied, unless it is
+/// there already.
+pub fn set_namespace(
+    alloc: Global,
+    namespace: &mut Namespace,
+    found: FoundNamespace<'_>,
+) -> Result<(), OutOfMemory>
+    ensures { OnOk result (namespace_bytes namespace.new ≡ found_bytes found.entry) }
 {
-    if namespace.as_str() == uri {
-        return Ok(());
+    match found {
+        FoundNamespace::Declared(declared) => *namespace = declared.share()?,
+        FoundNamespace::Beforehand(uri) => {
+            if namespace.as_str() != uri {
+                *namespace = Namespace::new(alloc, uri)?;
+            }
+        }
     }
-    *namespace = Namespace::new(alloc, uri)?;
     Ok(())
 }
 
@@ -33,7 +45,7 @@ impl Spares {
     pub fn new(alloc: Global) -> Self {
         Spares {
             texts: Vec::new(alloc),
-            last: Namespace::none(),
+            xml: Namespace::none(),
         }
     }
 
@@ -61,12 +73,19 @@ impl Spares {
         Ok(copy)
     }
 
-    /// Returns the namespace with this uri. Its text is shared with the last one if that has this uri.
-    pub fn namespace(&mut self, alloc: Global, uri: &str) -> Result<Namespace, OutOfMemory>
-        ensures { IfOk result (λ n. namespace_bytes n ≡ uri.now) }
+    /// Returns the namespace that was found for a prefix. Its text is shared.
+    pub fn namespace(
+        &mut self,
+        alloc: Global,
+        found: FoundNamespace<'_>,
+    ) -> Result<Namespace, OutOfMemory>
+        ensures { IfOk result (λ n. namespace_bytes n ≡ found_bytes found.entry) }
     {
-        set_namespace(alloc, &mut self.last, uri)?;
-        Ok(self.last.share()?)
+        if let FoundNamespace::Declared(declared) = found {
+            return Ok(declared.share()?);
+        }
+        set_namespace(alloc, &mut self.xml, found)?;
+        Ok(self.xml.share()?)
     }
 
     /// Keeps a buffer for reuse, unless it has no capacity, is too large or there are enough.

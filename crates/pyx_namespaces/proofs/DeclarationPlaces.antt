@@ -98,7 +98,7 @@ module _ (old new : Places) (own : Declaration) (outer : List Declaration) where
 pub covers : {E : Type 0} (r : Result (Option ℕ) E) (old new : Places) (name : List ℕ) (place : ℕ) (p : Option (List ℕ))
     → declared_by (written_of name) ≡ Some p → IfOk r (λ hidden. hidden ≡ place_in old p)
     → OnOk r ((q : Option (List ℕ)) → place_in new q ≡ cond (same_prefix p q) (Some place) (place_in old q))
-    → IfOk r (λ hidden. (outer : List Declaration) (own : Declaration) → string_bytes own.written.name ≡ name → own.hidden ≡ hidden → length outer ≡ place
+    → IfOk r (λ hidden. (outer : List Declaration) (own : Declaration) → string_bytes own.name ≡ name → own.hidden ≡ hidden → length outer ≡ place
     → AreFound old outer → AreFound new (own ∷ outer))
 covers (Err e) old new name place p is before sets = tt
 covers (Ok hidden) old new name place p is before sets = λ outer own n h l all.

@@ -1,3 +1,4 @@
 -- Views of types, and invariants.
 pub mod DeclarationView
+pub mod FoundNamespaces
 pub mod WrittenAttributes

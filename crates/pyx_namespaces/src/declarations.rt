@@ -4,18 +4,21 @@ ghost use Rattle.std.specs.Option.{option_map};
 ghost use Rattle.pyx_namespaces.specs.declared.places.Declaration.{Declaration};
 ghost use Rattle.pyx_namespaces.specs.plain.Declarations.{beforehand, namespace_of};
 ghost use Rattle.pyx_namespaces.specs.views.DeclarationView.{AreFound, declaration_of};
+ghost use Rattle.pyx_namespaces.specs.views.FoundNamespaces.{found_bytes};
 ghost use Rattle.pyx_namespaces.specs.views.WrittenAttributes.{written_attribute};
 
+use crate::found::FoundNamespace;
 use crate::places::{Declaration, Places};
 use crate::written::{WrittenAttribute, XML_URI, declared_by};
-use rng_model::OutOfMemory;
+use rng_model::{Namespace, OutOfMemory};
 use std::alloc::Global;
 use std::marker::Model;
 
 /// The declarations of the open elements, in one list, and for each prefix the place of its innermost one.
 ///
-/// A look-up costs a search in an ordered map, whatever is open. To add or remove a declaration costs a search too.
-/// Contracts see the list, the innermost first: of one tag the first one is innermost.
+/// A look-up costs a search in an ordered map, whatever is open. To add or remove a declaration costs a search too. What
+/// a declaration declares is kept as a `Namespace`, so that names share its text. Contracts see the list, the innermost
+/// first: of one tag the first one is innermost.
 #[derive(Drop)]
 pub struct Declarations {
     /// The innermost last.
@@ -36,12 +39,12 @@ impl Model for Declarations {
 }
 
 /// Returns the namespace of a prefix, or the default one, by the declarations that hold before any other.
-fn beforehand(prefix: Option<&str>) -> Option<&'static str>
-    ensures { option_map (λ x. x.now) result ≡ beforehand (option_map (λ x. x.now) prefix.entry) }
+fn beforehand(prefix: Option<&str>) -> Option<FoundNamespace<'static>>
+    ensures { option_map found_bytes result ≡ beforehand (option_map (λ x. x.now) prefix.entry) }
 {
     match prefix {
-        None => Some(""),
-        Some("xml") => Some(XML_URI),
+        None => Some(FoundNamespace::Beforehand("")),
+        Some("xml") => Some(FoundNamespace::Beforehand(XML_URI)),
         Some(_) => None,
     }
 }
@@ -53,7 +56,7 @@ fn cover(
     name: &str,
     place: usize,
 ) -> Result<Option<usize>, OutOfMemory>
-    ensures { IfOk result (λ hidden. (outer : List Declaration) (own : Declaration) → string_bytes own.written.name ≡ name.now → own.hidden ≡ hidden
+    ensures { IfOk result (λ hidden. (outer : List Declaration) (own : Declaration) → string_bytes own.name ≡ name.now → own.hidden ≡ hidden
         → length outer ≡ place → AreFound places.old outer → AreFound places.new (own ∷ outer)) }
 {
     match declared_by(name) {
@@ -66,13 +69,13 @@ fn cover(
 fn uncover(places: &mut Places, removed: &Declaration)
     ensures { (outer : List Declaration) → AreFound places.old (removed.now ∷ outer) → AreFound places.new outer }
 {
-    match declared_by(removed.written.name.as_str()) {
+    match declared_by(removed.name.as_str()) {
         Some(prefix) => places.restore(prefix, removed.hidden),
         None => {}
     }
 }
 
-/// Adds a declaration, which is then the innermost.
+/// Adds a declaration, which is then the innermost. Takes its texts without copying them.
 fn add(
     alloc: Global,
     list: &mut Vec<Declaration>,
@@ -83,8 +86,14 @@ fn add(
     ensures found { OnOk result (AreFound places.new (reverse list.new.items)) }
     ensures added { OnOk result (map declaration_of (reverse list.new.items) ≡ written_attribute written ∷ map declaration_of (reverse list.old.items)) }
 {
-    let hidden = cover(alloc, places, written.name.as_str(), list.len())?;
-    list.push(Declaration { written, hidden })?;
+    let WrittenAttribute { name, value } = written;
+    let namespace = Namespace::from_string(alloc, value)?;
+    let hidden = cover(alloc, places, name.as_str(), list.len())?;
+    list.push(Declaration {
+        name,
+        namespace,
+        hidden,
+    })?;
     Ok(())
 }
 
@@ -107,11 +116,11 @@ impl Declarations {
     }
 
     /// Returns the namespace of a prefix, or the default one, where these declarations hold.
-    pub fn namespace(&self, prefix: Option<&str>) -> Option<&str>
-        ensures { option_map (λ x. x.now) result ≡ namespace_of (self.now ∷ []) (option_map (λ x. x.now) prefix.entry) }
+    pub fn namespace(&self, prefix: Option<&str>) -> Option<FoundNamespace<'_>>
+        ensures { option_map found_bytes result ≡ namespace_of (self.now ∷ []) (option_map (λ x. x.now) prefix.entry) }
     {
         match self.places.get(prefix) {
-            Some(place) => Some(self.list[place].written.value.as_str()),
+            Some(place) => Some(FoundNamespace::Declared(&self.list[place].namespace)),
             None => beforehand(prefix),
         }
     }
@@ -131,14 +140,14 @@ impl Declarations {
     }
 
     /// Removes the innermost declaration and returns it.
-    pub fn pop(&mut self) -> Option<WrittenAttribute>
+    pub fn pop(&mut self) -> Option<Declaration>
         ensures removed { self.new ≡ drop 1 self.old }
-        ensures returned { MatchOption result (self.old ≡ []) (λ written. self.old ≡ written_attribute written ∷ self.new) }
+        ensures returned { MatchOption result (self.old ≡ []) (λ removed. self.old ≡ declaration_of removed ∷ self.new) }
     {
         match self.list.pop() {
             Some(removed) => {
                 uncover(&mut self.places, &removed);
-                Some(removed.written)
+                Some(removed)
             }
             None => None,
         }

@@ -6,12 +6,14 @@
 
 mod cuts;
 mod declarations;
+mod found;
 mod places;
 mod slots;
 mod written;
 
 pub use cuts::{behind, cut_at};
 pub use declarations::Declarations;
+pub use found::FoundNamespace;
 pub use places::{Declaration, declarations_len};
 pub use slots::{SLOT_COUNT, hash_of, mark};
 pub use written::{

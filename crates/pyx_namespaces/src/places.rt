@@ -7,8 +7,8 @@ ghost use Rattle.pyx_namespaces.specs.plain.Declarations.{same_prefix};
 ghost use Rattle.pyx_namespaces.specs.views.DeclarationView.{declaration_of, place_in};
 ghost use Rattle.pyx_namespaces.specs.plain.Held.{declarations_held};
 
-use crate::written::{WrittenAttribute, name_len};
-use rng_model::OutOfMemory;
+use crate::written::name_len;
+use rng_model::{Namespace, OutOfMemory};
 use std::alloc::Global;
 use std::collections::BTreeMap;
 use std::mem;
@@ -16,7 +16,10 @@ use std::mem;
 /// A declaration, and the place of the one that it hides.
 #[derive(Drop)]
 pub struct Declaration {
-    pub written: WrittenAttribute,
+    /// The name of its `A` line as it is written.
+    pub name: String,
+    /// What it declares.
+    pub namespace: Namespace,
     /// The place of the innermost declaration of the same prefix around it, if there is one.
     pub hidden: Option<usize>,
 }
@@ -37,8 +40,8 @@ pub fn declarations_len(declarations: &[Declaration]) -> u64
 {
     match declarations.split_last() {
         Some((last, rest)) => {
-            let written = &last.written;
-            let own = name_len(written.name.as_str()).saturating_add(written.value.len() as u64);
+            let uri = last.namespace.as_str();
+            let own = name_len(last.name.as_str()).saturating_add(uri.len() as u64);
             own.saturating_add(declarations_len(rest))
         }
         None => 0,

@@ -20,7 +20,7 @@ returns-in-Some c =
     let p : Option (List ℕ) = option_map (λ x. x.now) c.args.prefix in
     let found : found_in p c.args.self.now ≡ Some (declaration_of c.index.result.now).content = ap (found_in p) (sym c.self.view_is) ∙ found_at p c.self.inside.list.items c.in-Some.place
     c.index.result.now (sym (c.self.invariant.found p) ∙ sym c.get.ensures ∙ c.in-Some.is) c.index.ensures in
-    ap Some c.as_str.ensures.value ∙ sym (ap (λ (o : Option (List ℕ)). or_else o (beforehand p)) found)
+    sym (ap (λ (o : Option (List ℕ)). or_else o (beforehand p)) found)
 
 pub returns-in-None : goal.returns-in-None
 unfolding namespace_of
