@@ -1,6 +1,7 @@
 // The declarations of the open elements.
 ghost use Rattle.std.specs.Prelude.{◌≡◌, ◌++◌, [], ◌∷◌, IfOk, OnOk, MatchOption, MatchResult, List, length, map, reverse, drop, string_bytes};
 ghost use Rattle.std.specs.Option.{option_map};
+ghost use Rattle.rng_model.specs.names.NamespaceViews.{namespace_bytes};
 ghost use Rattle.pyx_namespaces.specs.declared.places.Declaration.{Declaration};
 ghost use Rattle.pyx_namespaces.specs.plain.Declarations.{beforehand, namespace_of};
 ghost use Rattle.pyx_namespaces.specs.views.DeclarationView.{AreFound, declaration_of};
@@ -16,14 +17,16 @@ use std::marker::Model;
 
 /// The declarations of the open elements, in one list, and for each prefix the place of its innermost one.
 ///
-/// A look-up costs a search in an ordered map, whatever is open. To add or remove a declaration costs a search too. What
-/// a declaration declares is kept as a `Namespace`, so that names share its text. Contracts see the list, the innermost
-/// first: of one tag the first one is innermost.
+/// A look-up costs a search in an ordered map, whatever is open. To add or remove a declaration costs a search too. Names
+/// share the text of the namespace that is declared, and so do declarations of one namespace that follow one another.
+/// Contracts see the list, the innermost first: of one tag the first one is innermost.
 #[derive(Drop)]
 pub struct Declarations {
     /// The innermost last.
     list: Vec<Declaration>,
     places: Places,
+    /// The namespace that was declared last.
+    last: Namespace,
 }
 
 impl Model for Declarations {
@@ -75,11 +78,26 @@ fn uncover(places: &mut Places, removed: &Declaration)
     }
 }
 
-/// Adds a declaration, which is then the innermost. Takes its texts without copying them.
+/// Returns the namespace with this uri. Its text is shared with the last one.
+fn namespace_of(
+    alloc: Global,
+    last: &mut Namespace,
+    uri: String,
+) -> Result<Namespace, OutOfMemory>
+    ensures { IfOk result (λ n. namespace_bytes n ≡ string_bytes uri) }
+{
+    if last.as_str() != uri.as_str() {
+        *last = Namespace::from_string(alloc, uri)?;
+    }
+    Ok(last.share()?)
+}
+
+/// Adds a declaration, which is then the innermost. Copies none of its texts.
 fn add(
     alloc: Global,
     list: &mut Vec<Declaration>,
     places: &mut Places,
+    last: &mut Namespace,
     written: WrittenAttribute,
 ) -> Result<(), OutOfMemory>
     requires { AreFound places.old (reverse list.old.items) }
@@ -87,7 +105,7 @@ fn add(
     ensures added { OnOk result (map declaration_of (reverse list.new.items) ≡ written_attribute written ∷ map declaration_of (reverse list.old.items)) }
 {
     let WrittenAttribute { name, value } = written;
-    let namespace = Namespace::from_string(alloc, value)?;
+    let namespace = namespace_of(alloc, last, value)?;
     let hidden = cover(alloc, places, name.as_str(), list.len())?;
     list.push(Declaration {
         name,
@@ -105,6 +123,7 @@ impl Declarations {
         Declarations {
             list: Vec::new(alloc),
             places: Places::new(alloc),
+            last: Namespace::none(),
         }
     }
 
@@ -129,7 +148,13 @@ impl Declarations {
     fn push(&mut self, alloc: Global, written: WrittenAttribute) -> Result<(), OutOfMemory>
         ensures { MatchResult result (λ x. self.new ≡ written_attribute written ∷ self.old) (λ e. self.new ≡ []) }
     {
-        match add(alloc, &mut self.list, &mut self.places, written) {
+        match add(
+            alloc,
+            &mut self.list,
+            &mut self.places,
+            &mut self.last,
+            written,
+        ) {
             Ok(()) => Ok(()),
             Err(fault) => {
                 self.list.clear();

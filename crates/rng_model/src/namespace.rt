@@ -38,9 +38,6 @@ impl Namespace {
     pub fn new(alloc: Global, text: &str) -> Result<Self, AllocError>
         ensures { IfOk result (λ n. namespace_bytes n ≡ text.now) }
     {
-        if text.is_empty() {
-            return Ok(Namespace::none());
-        }
         Namespace::from_string(alloc, String::from_str(alloc, text)?)
     }
 
@@ -48,6 +45,9 @@ impl Namespace {
     pub fn from_string(alloc: Global, text: String) -> Result<Self, AllocError>
         ensures { IfOk result (λ n. namespace_bytes n ≡ string_bytes text) }
     {
+        if text.is_empty() {
+            return Ok(Namespace::none());
+        }
         match Arc::new(alloc, HashedText::of(text)) {
             Ok(text) => Ok(Namespace { text: Some(text) }),
             Err(_) => Err(AllocError),
