@@ -1,15 +1,14 @@
 -- ASCII characters of a class, which a cursor passes at once.
-use Rattle.std.proofs.Common.{◌≡◌, inl, inr, ℕ, zero, suc, ◌+◌, ◌<◌, ◌≤◌, List, [], ◌∷◌, ◌++◌, Bool, true, false, cond, take, drop, length, map, refl, ap, sym, ◌∙◌, subst}
-use Rattle.std.proofs.Common.{rules, tests, arith, one-add, add-one, not, ◌==◌}
+use Rattle.std.proofs.Common.{◌≡◌, inl, inr, ℕ, ◌<◌, List, [], ◌∷◌, ◌++◌, true, take, drop, map, refl, ap, sym, ◌∙◌}
+use Rattle.std.proofs.Common.{rules, tests, arith, not, ◌==◌}
 use Rattle.std.specs.List.{list_all, prefix_len}
-use Rattle.std.specs.Str.{IsUtf8, IsAscii, IsCharBoundary, chars, encode_utf8_all}
+use Rattle.std.specs.Str.{IsUtf8, IsCharBoundary, chars, encode_utf8_all}
 use Rattle.std.proofs.lemmas.Bool.{and_parts, or_cases, or_left, or_right, ne_eqb}
 use Rattle.rng_model.specs.names.Characters.{is_in_ranges, is_name_char, is_name_start, name_start_ranges, more_name_ranges}
 use Rattle.rnc_text.proofs.MarksDecoded.{all_covered}
 use Rattle.std.proofs.lemmas.List.{take-append-drop}
-use Rattle.std.proofs.lemmas.List.Sums.{prefix_len-le-length, prefix_len_passes}
-use Rattle.std.proofs.lemmas.Str.{IsCharBoundary-start, IsCharBoundary-after_ascii, IsUtf8-from_ascii, chars-append, chars-IsAscii, encodes-IsAscii}
-use Rattle.std.proofs.lemmas.Str.Ascii.{IsAscii-nil, IsAscii-cons}
+use Rattle.std.proofs.lemmas.Str.{IsUtf8-from_ascii, chars-append, chars-IsAscii, encodes-IsAscii}
+use Rattle.rng_model.proofs.TestedRuns.{passing_ascii, run_boundary, run_passes}
 use Rattle.rnc_model.specs.declared.character.Character.{Character}
 use Rattle.rnc_model.specs.declared.character.Character.TheVariants.{Ordinary}
 use Rattle.rnc_model.specs.characters.Characters.{numbers_of}
@@ -56,28 +55,13 @@ quick (classes.Segment quote) b e = let both = and_parts (is_in_ranges ((0x20, 0
   inside = both.1;
 }
 
+ascii_in : (class : Class) (b : ℕ) → is_ascii_in class b ≡ true → b < 128
+ascii_in class b e = (quick class b e).ascii
+
 pub ascii_boundary : (class : Class) (s : List ℕ) (n : ℕ) → IsUtf8 s → n ≡ prefix_len (is_ascii_in class) s → IsCharBoundary s n
-ascii_boundary class s zero utf8 e = IsCharBoundary-start s utf8
-ascii_boundary class s (suc k) utf8 e =
-    let within : k + 1 ≤ length s = omega (arith, prefix_len-le-length (is_ascii_in class) s) in
-    let passes = prefix_len_passes (is_ascii_in class) s k 0 (omega arith) in
-    subst (IsCharBoundary s) (add-one k) (IsCharBoundary-after_ascii s k utf8 (omega arith) (quick class _ passes).ascii)
-
-first_all : (class : Class) (b : ℕ) (bs : List ℕ) (x : Bool) → is_ascii_in class b ≡ x
-    → list_all (is_ascii_in class) (take (prefix_len (is_ascii_in class) bs) bs) ≡ true
-    → list_all (is_ascii_in class) (take (cond x (1 + prefix_len (is_ascii_in class) bs) 0) (b ∷ bs)) ≡ true
-first_all class b bs true e all = rw (one-add (prefix_len (is_ascii_in class) bs), e) all
-first_all class b bs false e all = refl
-
-front_all : (class : Class) (bs : List ℕ) → list_all (is_ascii_in class) (take (prefix_len (is_ascii_in class) bs) bs) ≡ true
-front_all class [] = refl
-front_all class (b ∷ bs) = first_all class b bs (is_ascii_in class b) refl (front_all class bs)
+ascii_boundary class s n utf8 e = run_boundary (is_ascii_in class) s n (ascii_in class) utf8 e
 
 -- ---- its characters
-
-all_ascii : (class : Class) (bs : List ℕ) → list_all (is_ascii_in class) bs ≡ true → IsAscii bs
-all_ascii class [] e = IsAscii-nil
-all_ascii class (b ∷ bs) e = let both = and_parts _ _ e in IsAscii-cons b bs (quick class b both.0).ascii (all_ascii class bs both.1)
 
 numbers_ordinary : (bs : List ℕ) → numbers_of (map Ordinary bs) ≡ bs
 numbers_ordinary [] = refl
@@ -116,8 +100,8 @@ pub walks_ascii : (class : Class) (from to : Cursor) (run : List ℕ) (n : ℕ) 
     → Walks class from to
 walks_ascii class from to run n none back is len whole same =
     let bytes : from.rest.now ≡ run ++ to.rest.now = rw (is, back) (sym (take-append-drop n from.rest.now)) in
-    let all : list_all (is_ascii_in class) run ≡ true = rw (is, len) (front_all class from.rest.now) in
-    let ascii = all_ascii class run all in
+    let all : list_all (is_ascii_in class) run ≡ true = rw (is, len) (run_passes (is_ascii_in class) from.rest.now) in
+    let ascii = passing_ascii (is_ascii_in class) run (ascii_in class) all in
     let numbers : chars from.rest.now ≡ run ++ chars to.rest.now = ap chars bytes ∙ chars-append run to.rest.now (IsUtf8-from_ascii run ascii)
     ∙ ap (λ (x : List ℕ). x ++ chars to.rest.now) (chars-IsAscii run ascii) in
     let left : remaining to ≡ marked from.length [] (chars to.rest.now) = rw (whole, same, none) refl in

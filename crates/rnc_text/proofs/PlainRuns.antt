@@ -1,12 +1,11 @@
 -- The beginning of a text that a decoded text has as it is.
-use Rattle.std.proofs.Common.{◌≡◌, ℕ, zero, suc, ◌+◌, ◌<◌, ◌≤◌, List, [], ◌∷◌, ◌++◌, Bool, true, false, cond, eqb, take, length, refl, ap, sym, ◌∙◌, subst, one-add, add-one}
+use Rattle.std.proofs.Common.{◌≡◌, ℕ, ◌<◌, List, [], ◌∷◌, ◌++◌, Bool, true, false, eqb, take, refl, ap, sym, ◌∙◌, subst}
 use Rattle.std.proofs.Common.{rules, tests, arith, map}
 use Rattle.std.specs.List.{list_all, prefix_len}
-use Rattle.std.specs.Str.{IsUtf8, IsAscii, IsCharBoundary, chars}
+use Rattle.std.specs.Str.{IsUtf8, IsCharBoundary, chars}
 use Rattle.std.proofs.lemmas.Bool.{and_parts, eqb-true, eqb-false}
-use Rattle.std.proofs.lemmas.List.Sums.{prefix_len-le-length, prefix_len_passes}
-use Rattle.std.proofs.lemmas.Str.{IsCharBoundary-start, IsCharBoundary-after_ascii, IsUtf8-from_ascii, chars-append, chars-IsAscii}
-use Rattle.std.proofs.lemmas.Str.Ascii.{IsAscii-nil, IsAscii-cons}
+use Rattle.std.proofs.lemmas.Str.{IsUtf8-from_ascii, chars-append, chars-IsAscii}
+use Rattle.rng_model.proofs.TestedRuns.{passing_ascii, run_boundary, run_passes}
 use Rattle.rnc_model.specs.characters.Decoding.{Begins, line_feed, other, Decodes, here, next_is, OpensEscape}
 use Rattle.rnc_model.specs.declared.character.Character.{Character}
 use Rattle.rnc_text.specs.plain.DecodingSteps.{is_plain_byte}
@@ -18,29 +17,12 @@ is_plain_ascii : (b : ℕ) → is_plain_byte b ≡ true → b < 128
 is_plain_ascii b e = search (rules, tests, arith)
 
 pub plain_boundary : (s : List ℕ) (n : ℕ) → IsUtf8 s → n ≡ prefix_len is_plain_byte s → IsCharBoundary s n
-plain_boundary s zero utf8 e = IsCharBoundary-start s utf8
-plain_boundary s (suc k) utf8 e =
-    let within : k + 1 ≤ length s = omega (arith, prefix_len-le-length is_plain_byte s) in
-    let plain = prefix_len_passes is_plain_byte s k 0 (omega arith) in
-    subst (IsCharBoundary s) (add-one k) (IsCharBoundary-after_ascii s k utf8 (omega arith) (is_plain_ascii _ plain))
-
-first_plain : (b : ℕ) (bs : List ℕ) (x : Bool) → is_plain_byte b ≡ x → list_all is_plain_byte (take (prefix_len is_plain_byte bs) bs) ≡ true
-    → list_all is_plain_byte (take (cond x (1 + prefix_len is_plain_byte bs) 0) (b ∷ bs)) ≡ true
-first_plain b bs true e all = rw (one-add (prefix_len is_plain_byte bs), e) all
-first_plain b bs false e all = refl
-
-front_is_plain : (bs : List ℕ) → list_all is_plain_byte (take (prefix_len is_plain_byte bs) bs) ≡ true
-front_is_plain [] = refl
-front_is_plain (b ∷ bs) = first_plain b bs (is_plain_byte b) refl (front_is_plain bs)
+plain_boundary s n utf8 e = run_boundary is_plain_byte s n is_plain_ascii utf8 e
 
 pub front_plain : (bs front : List ℕ) (n : ℕ) → front ≡ take n bs → n ≡ prefix_len is_plain_byte bs → list_all is_plain_byte front ≡ true
-front_plain bs front n e f = rw (e, f) (front_is_plain bs)
+front_plain bs front n e f = rw (e, f) (run_passes is_plain_byte bs)
 
 -- ---- its characters
-
-plain_ascii : (bs : List ℕ) → list_all is_plain_byte bs ≡ true → IsAscii bs
-plain_ascii [] e = IsAscii-nil
-plain_ascii (b ∷ bs) e = let both = and_parts _ _ e in IsAscii-cons b bs (is_plain_ascii b both.0) (plain_ascii bs both.1)
 
 no_escape : (b : ℕ) (rest : List ℕ) → is_plain_byte b ≡ true → OpensEscape (b ∷ rest) → ⊥
 no_escape b rest e o = let first : b ≡ 0x5C = search rules in absurd (search (rules, tests, arith))
@@ -68,7 +50,7 @@ decodes_more (next_is {c = c} {cs = cs} p more e) ds rest q = next_is p (decodes
 pub decodes_past : (all text plain rest : List ℕ) (cs ds : List Character) → text ≡ plain ++ rest → list_all is_plain_byte plain ≡ true
     → ds ≡ cs ++ map unmarked (chars plain) → Decodes all cs (chars text) → Decodes all ds (chars rest)
 decodes_past all text plain rest cs ds whole e is d =
-    let ascii = plain_ascii plain e in
+    let ascii = passing_ascii is_plain_byte plain is_plain_ascii e in
     let same : chars plain ≡ plain = chars-IsAscii plain ascii in
     let parts : chars text ≡ plain ++ chars rest = ap chars whole ∙ chars-append plain rest (IsUtf8-from_ascii plain ascii)
     ∙ ap (λ (x : List ℕ). x ++ chars rest) same in

@@ -1,15 +1,15 @@
 -- How a text is split at its blanks, from its front on.
-use Rattle.std.proofs.Common.{◌≡◌, ℕ, suc, ◌+◌, List, [], ◌∷◌, ◌++◌, Bool, true, false, not, cond, take, drop, refl, ap, sym, ◌∙◌, one-add, rules, tests}
-use Rattle.std.proofs.Common.{arith, append-nil, append_assoc, add-one, subst, zero, ap₂, length, get_or, length-append, ◌==◌, ◌<◌, ◌≤◌}
+use Rattle.std.proofs.Common.{◌≡◌, ℕ, ◌+◌, List, [], ◌∷◌, ◌++◌, Bool, true, false, not, cond, take, drop, refl, ap, sym, ◌∙◌, one-add, rules, tests}
+use Rattle.std.proofs.Common.{arith, append-nil, append_assoc, subst, ap₂, length, get_or, length-append, ◌==◌, ◌<◌, ◌≤◌}
 use Rattle.std.specs.List.{slice_split, onto_first, list_all, filter, prefix_len, take_while, join_with_byte, AllByRecursion}
 use Rattle.std.proofs.lemmas.List.Splits.{slice_split-cons_yes, slice_split-cons_no}
-use Rattle.std.proofs.lemmas.List.Sums.{take_while-cons, prefix_len-le-length, prefix_len_passes}
+use Rattle.std.proofs.lemmas.List.Sums.{take_while-cons}
 use Rattle.std.specs.Str.{IsUtf8, IsCharBoundary}
 use Rattle.std.proofs.lemmas.Str.{IsUtf8-past_char, IsUtf8-take, IsUtf8-drop, encode_ascii, IsCharBoundary-end, IsCharBoundary-before_ascii}
-use Rattle.std.proofs.lemmas.Str.{IsCharBoundary-start, IsCharBoundary-after_ascii}
 use Rattle.std.proofs.lemmas.List.{take-append-drop}
 use Rattle.std.proofs.lemmas.Bool.{false≢true, and_parts, not-true}
 use Rattle.std.proofs.Math.Seq.{get_or-append_seam, take-append_seam, drop-append_seam}
+use Rattle.rng_model.proofs.TestedRuns.{run_passes, run_boundary}
 use Rattle.rng_model.specs.datatypes.Texts.{is_blank_byte, is_blank}
 use Rattle.rng_model.specs.datatypes.Blanks.{has_bytes, pieces, is_run_byte, is_run, ends_run, collapse, HasRuns, no_run, then_run}
 
@@ -74,14 +74,6 @@ has_runs (b ∷ s) = has_runs_by b s (is_blank_byte b) refl (has_runs s)
 pub HasRuns-pieces : (s : List ℕ) → HasRuns s (pieces s)
 HasRuns-pieces s = let r = has_runs s in subst (HasRuns s) (sym (pieces-from_HasRuns s r.0 r.1)) r.1
 
-front_all : (p : ℕ → Bool) (s : List ℕ) → list_all p (take_while p s) ≡ true
-front_all p [] = refl
-front_all p (x ∷ xs) = front_all_by p x xs (p x) refl (front_all p xs)
-  where
-    front_all_by : (p : ℕ → Bool) (x : ℕ) (xs : List ℕ) (b : Bool) → p x ≡ b → list_all p (take_while p xs) ≡ true → list_all p (take_while p (x ∷ xs)) ≡ true
-    front_all_by p x xs true e h = rw (take_while-cons p x xs, e) (rw e h)
-    front_all_by p x xs false e h = rw (take_while-cons p x xs, e) refl
-
 drop-prefix_len : (p : ℕ → Bool) (x : ℕ) (xs : List ℕ) (b : Bool) → p x ≡ b
     → drop (prefix_len p (x ∷ xs)) (x ∷ xs) ≡ cond b (drop (prefix_len p xs) xs) (x ∷ xs)
 drop-prefix_len p x xs true e = rw (e, one-add) refl
@@ -110,7 +102,7 @@ ends_where_fails (b ∷ s) e = not_false_twice (is_blank_byte b) e
     not_false_twice false e = e
 
 run_is : (s : List ℕ) → has_bytes (take_while is_run_byte s) ≡ true → is_run (take_while is_run_byte s) ≡ true
-run_is s e = rw e (front_all is_run_byte s)
+run_is s e = rw e (run_passes is_run_byte s)
 
 nothing_there : (s : List ℕ) → fails_first is_blank_byte s ≡ true → has_bytes (take_while is_run_byte s) ≡ false → s ≡ []
 nothing_there [] e none = refl
@@ -120,7 +112,7 @@ nothing_there (x ∷ xs) e none =
     let some : true ≡ false = ap has_bytes (sym first) ∙ none in search rules
 
 pieces-after_blanks : (s : List ℕ) → pieces s ≡ pieces (drop (prefix_len is_blank_byte s) s)
-pieces-after_blanks s = ap pieces (sym (take-append-drop (prefix_len is_blank_byte s) s)) ∙ pieces-blanks _ _ (front_all is_blank_byte s)
+pieces-after_blanks s = ap pieces (sym (take-append-drop (prefix_len is_blank_byte s) s)) ∙ pieces-blanks _ _ (run_passes is_blank_byte s)
 
 some_bytes : (s : List ℕ) → (length s == 0) ≡ false → has_bytes s ≡ true
 some_bytes [] e = sym e
@@ -165,11 +157,7 @@ is_ascii_blank b e = search (rules, tests, arith)
 
 -- a text may be split after its leading blanks
 pub blanks_boundary : (s : List ℕ) (n : ℕ) → IsUtf8 s → n ≡ prefix_len is_blank_byte s → IsCharBoundary s n
-blanks_boundary s zero utf8 e = IsCharBoundary-start s utf8
-blanks_boundary s (suc k) utf8 e =
-    let within : k + 1 ≤ length s = omega (arith, prefix_len-le-length is_blank_byte s) in
-    let blank = prefix_len_passes is_blank_byte s k 0 (omega arith) in
-    subst (IsCharBoundary s) (add-one k) (IsCharBoundary-after_ascii s k utf8 (omega arith) (is_ascii_blank _ blank))
+blanks_boundary s n utf8 e = run_boundary is_blank_byte s n is_ascii_blank utf8 e
 
 -- the texts, joined by single spaces onto what is before them
 abbrev pub join_onto : List ℕ → List (List ℕ) → List ℕ
@@ -218,17 +206,17 @@ IsUtf8-past_blanks [] s e utf8 = utf8
 IsUtf8-past_blanks (b ∷ before) s e utf8 = let both = and_parts _ _ e in IsUtf8-past_blanks before s both.1 (IsUtf8-past_blank b (before ++ s) both.0 utf8)
 
 -- a text may be split where a run ends
-run_boundary : (run rest : List ℕ) → ends_run rest ≡ true → IsUtf8 (run ++ rest) → IsCharBoundary (run ++ rest) (length run)
-run_boundary run [] ends utf8 = subst (IsCharBoundary (run ++ [])) (ap length (append-nil run)) (IsCharBoundary-end (run ++ []))
-run_boundary run (b ∷ s) ends utf8 =
+end_boundary : (run rest : List ℕ) → ends_run rest ≡ true → IsUtf8 (run ++ rest) → IsCharBoundary (run ++ rest) (length run)
+end_boundary run [] ends utf8 = subst (IsCharBoundary (run ++ [])) (ap length (append-nil run)) (IsCharBoundary-end (run ++ []))
+end_boundary run (b ∷ s) ends utf8 =
     let at : get_or (run ++ b ∷ s) (length run) 0 ≡ b = get_or-append_seam run b s 0 in
     IsCharBoundary-before_ascii (run ++ b ∷ s) (length run) (omega (arith, length-append run (b ∷ s))) (subst (λ c. c < 128) (sym at) (is_ascii_blank b ends))
 
 IsUtf8-run : (run rest : List ℕ) → ends_run rest ≡ true → IsUtf8 (run ++ rest) → IsUtf8 run
-IsUtf8-run run rest ends utf8 = subst IsUtf8 (take-append_seam run rest) (IsUtf8-take (run ++ rest) (length run) utf8 (run_boundary run rest ends utf8))
+IsUtf8-run run rest ends utf8 = subst IsUtf8 (take-append_seam run rest) (IsUtf8-take (run ++ rest) (length run) utf8 (end_boundary run rest ends utf8))
 
 IsUtf8-rest : (run rest : List ℕ) → ends_run rest ≡ true → IsUtf8 (run ++ rest) → IsUtf8 rest
-IsUtf8-rest run rest ends utf8 = subst IsUtf8 (drop-append_seam run rest) (IsUtf8-drop (run ++ rest) (length run) utf8 (run_boundary run rest ends utf8))
+IsUtf8-rest run rest ends utf8 = subst IsUtf8 (drop-append_seam run rest) (IsUtf8-drop (run ++ rest) (length run) utf8 (end_boundary run rest ends utf8))
 
 -- the pieces of a text are texts
 pub IsUtf8-runs : (s : List ℕ) (runs : List (List ℕ)) → HasRuns s runs → IsUtf8 s → AllByRecursion IsUtf8 runs
