@@ -98,9 +98,10 @@ fn are_alike(grammar: &SimpleGrammar, one: ElementId, other: ElementId) -> bool
     is_same_name(first, second)
 }
 
-/// Returns true only if two names are equal. Allocates nothing.
+/// Returns true only if two names are equal. Does not read their namespaces unless the local names are equal. Allocates
+/// nothing.
 pub fn is_same_name(one: &Name, other: &Name) -> bool
     ensures { result ≡ true → name_of one.now ≡ name_of other.now }
 {
-    one.ns == other.ns && one.local == other.local
+    one.local == other.local && one.ns == other.ns
 }
