@@ -52,8 +52,9 @@ impl Reader {
     /// Returns how many bytes are kept. They are the line that has begun, the lines of the tag that is being read, the
     /// name and the declarations of each open element, and the text that is joined so far.
     ///
-    /// It is at most 8,641,445,888. After a fault it is 0. Buffers for reuse and the at most 256 names that have been
-    /// looked up are not counted. Allocates nothing. The cost is linear in the open elements and their declarations.
+    /// It is at most 8,641,445,888. After a fault it is 0. Buffers for reuse, the at most 256 names that have been looked
+    /// up and the namespace that was declared last are not counted. Allocates nothing. The cost is linear in the open
+    /// elements and their declarations.
     pub fn held(&self) -> u64
         ensures held { IsHeld self.now result }
         ensures fault { IfSome self.now.fault (λ f. result ≡ 0) }
