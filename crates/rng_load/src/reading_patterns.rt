@@ -256,12 +256,13 @@ fn grammar<'a>(
     ensures pattern { IfOk result (λ p. schema_pattern_of p ≡ schema.grammar (reverse way.now)) }
     ensures nested { OnOk result (map nested_of grammars.new.items ≡ map nested_of grammars.old.items ++ nested_here (reverse way.now) (namespace_bytes uri.now) (components_of (map component_of components.now))) }
 {
+    let place = Place::from_outermost(alloc, way)?;
     grammars.push(NestedGrammar {
-        place: Place::from_outermost(alloc, way)?,
+        place: place.share()?,
         uri,
         components,
     })?;
-    Ok(SchemaPattern::Grammar(Place::from_outermost(alloc, way)?))
+    Ok(SchemaPattern::Grammar(place))
 }
 
 /// An element with names of this class, in a file that inherits this namespace.

@@ -51,9 +51,9 @@ pub(crate) fn schema_of_files(
     let mut grammars = IndexMap::new(alloc);
     let none = Namespace::none();
     let components = reader.main_components(&none)?;
-    reader.add(Place::new(alloc), None, components, &mut grammars)?;
+    reader.add(Place::main(), None, components, &mut grammars)?;
     Ok(Schema {
-        main: Place::new(alloc),
+        main: Place::main(),
         grammars,
     })
 }
@@ -126,9 +126,8 @@ impl<'a> SchemaReader<'a> {
         ensures more { OnOk result (AreMore (files_in self.entry.trees) (file_of self.entry.main.now) (grammars_of grammars.old) (grammars_of grammars.new)) }
         ensures found { OnOk result (IsFound (place_of place) (grammars_of grammars.new)) }
     {
-        let alloc = self.trees.alloc;
-        let (components, nested) = parted(alloc, all)?;
-        let key = Place::from_outermost(alloc, place.numbers())?;
+        let (components, nested) = parted(self.trees.alloc, all)?;
+        let key = place.share()?;
         put(grammars, key, Grammar { components, outer })?;
         for grammar in &nested {
             self.add_nested(&place, grammar, grammars)?;
@@ -151,12 +150,9 @@ impl<'a> SchemaReader<'a> {
         ensures more { OnOk result (AreMore (files_in self.entry.trees) (file_of self.entry.main.now) (grammars_of grammars.old) (grammars_of grammars.new)) }
         ensures found { OnOk result (IsFound (nested_of nested.now).place (grammars_of grammars.new)) }
     {
-        let alloc = self.trees.alloc;
-        let way = Vec::from_slice(alloc, nested.place.numbers())?;
+        let way = nested.place.to_numbers(self.trees.alloc)?;
         let all = self.components(nested.uri, way, nested.components)?;
-        let place = Place::from_outermost(alloc, nested.place.numbers())?;
-        let outer = Place::from_outermost(alloc, outer.numbers())?;
-        self.add(place, Some(outer), all, grammars)
+        self.add(nested.place.share()?, Some(outer.share()?), all, grammars)
     }
 }
 

@@ -40,7 +40,7 @@ fn nested_in<'a>(
 }
 
 /// Prints what is at a place.
-pub fn print_grammar(rt: &impl Print, schema: &Schema, place: &Place) -> io::Result<()> {
+pub fn print_grammar(rt: &(impl Print + AllocGlobal), schema: &Schema, place: &Place) -> io::Result<()> {
     print_place(rt, place)?;
     if let Some(outer) = schema.outer(place) {
         print!(rt; " in ")?;
@@ -56,7 +56,7 @@ pub fn print_grammar(rt: &impl Print, schema: &Schema, place: &Place) -> io::Res
 }
 
 /// Prints a line for each component.
-fn print_components(rt: &impl Print, components: &[Component]) -> io::Result<()> {
+fn print_components(rt: &(impl Print + AllocGlobal), components: &[Component]) -> io::Result<()> {
     for component in components {
         match &component.name {
             Some(name) => print!(rt; "  {name} {} ", sign_of(component.method))?,

@@ -3,11 +3,14 @@ use rng_model::{Datatype, NameClass, Place, SchemaPattern};
 use std::io;
 
 /// Prints a place, a `/` before each of its numbers, the outermost first; `/` for the main grammar.
-pub fn print_place(rt: &impl Print, place: &Place) -> io::Result<()> {
-    if place.numbers().is_empty() {
+pub fn print_place(rt: &(impl Print + AllocGlobal), place: &Place) -> io::Result<()> {
+    let Ok(numbers) = place.to_numbers(rt.alloc()) else {
+        return print!(rt; "out of memory");
+    };
+    if numbers.is_empty() {
         return print!(rt; "/");
     }
-    for number in place.numbers() {
+    for number in &numbers {
         print!(rt; "/{number}")?;
     }
     Ok(())
@@ -15,7 +18,7 @@ pub fn print_place(rt: &impl Print, place: &Place) -> io::Result<()> {
 
 /// Prints a pattern, members in parentheses.
 #[cycle(patterns)]
-pub fn print_pattern(rt: &impl Print, pattern: &SchemaPattern) -> io::Result<()> {
+pub fn print_pattern(rt: &(impl Print + AllocGlobal), pattern: &SchemaPattern) -> io::Result<()> {
     match pattern {
         SchemaPattern::NotAllowed => print!(rt; "notAllowed"),
         SchemaPattern::Empty => print!(rt; "empty"),
@@ -60,7 +63,7 @@ pub fn print_pattern(rt: &impl Print, pattern: &SchemaPattern) -> io::Result<()>
 
 /// Prints a word, and a pattern in braces.
 #[cycle(patterns)]
-fn print_in_braces(rt: &impl Print, word: &str, inner: &SchemaPattern) -> io::Result<()> {
+fn print_in_braces(rt: &(impl Print + AllocGlobal), word: &str, inner: &SchemaPattern) -> io::Result<()> {
     print!(rt; "{word} {{ ")?;
     print_pattern(rt, inner)?;
     print!(rt; " }}")
@@ -68,14 +71,14 @@ fn print_in_braces(rt: &impl Print, word: &str, inner: &SchemaPattern) -> io::Re
 
 /// Prints a pattern, and the sign after it.
 #[cycle(patterns)]
-fn print_repeated(rt: &impl Print, inner: &SchemaPattern, sign: &str) -> io::Result<()> {
+fn print_repeated(rt: &(impl Print + AllocGlobal), inner: &SchemaPattern, sign: &str) -> io::Result<()> {
     print_pattern(rt, inner)?;
     print!(rt; "{sign}")
 }
 
 /// Prints patterns in parentheses, with this between two of them.
 #[cycle(patterns)]
-fn print_members(rt: &impl Print, members: &[SchemaPattern], between: &str) -> io::Result<()> {
+fn print_members(rt: &(impl Print + AllocGlobal), members: &[SchemaPattern], between: &str) -> io::Result<()> {
     print!(rt; "(")?;
     for (number, member) in members.iter().enumerate() {
         if number > 0 {
@@ -87,7 +90,7 @@ fn print_members(rt: &impl Print, members: &[SchemaPattern], between: &str) -> i
 }
 
 /// Prints a datatype, its library in braces, and its parameters.
-fn print_datatype(rt: &impl Print, datatype: &Datatype) -> io::Result<()> {
+fn print_datatype(rt: &(impl Print + AllocGlobal), datatype: &Datatype) -> io::Result<()> {
     print!(rt; "{{{}}}{}", datatype.library, datatype.name)?;
     for (name, text) in &datatype.parameters {
         print!(rt; " {name}={text:?}")?;
@@ -97,7 +100,7 @@ fn print_datatype(rt: &impl Print, datatype: &Datatype) -> io::Result<()> {
 
 /// Prints a name class, each namespace in braces, members in parentheses.
 #[cycle(classes)]
-fn print_class(rt: &impl Print, class: &NameClass) -> io::Result<()> {
+fn print_class(rt: &(impl Print + AllocGlobal), class: &NameClass) -> io::Result<()> {
     match class {
         NameClass::Any => print!(rt; "*"),
         NameClass::AnyExcept(except) => {
@@ -116,7 +119,7 @@ fn print_class(rt: &impl Print, class: &NameClass) -> io::Result<()> {
 
 /// Prints the members of a choice of name classes.
 #[cycle(classes)]
-fn print_classes(rt: &impl Print, members: &[NameClass]) -> io::Result<()> {
+fn print_classes(rt: &(impl Print + AllocGlobal), members: &[NameClass]) -> io::Result<()> {
     print!(rt; "(")?;
     for (number, member) in members.iter().enumerate() {
         if number > 0 {

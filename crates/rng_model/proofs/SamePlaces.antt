@@ -5,6 +5,7 @@ use Rattle.std.specs.Str.{bytes_eq}
 use Rattle.std.specs.Cmp.Lexicographic.{bytes_decides}
 use Rattle.std.proofs.lemmas.List.{reverse-reverse}
 use Rattle.rng_model.specs.declared.place.Place.{Place}
+use Rattle.rng_model.specs.views.PlaceViews.{numbers_of}
 use Rattle.rng_model.specs.views.SchemaView.{place_of, place_eq, by_place}
 
 -- two tests that imply each other have the same result
@@ -20,7 +21,7 @@ same_reversed a b = same_answer _ _ (λ e. (bytes_decides (reverse a) (reverse b
 
 -- `==` compares the numbers
 pub compares_numbers : (p q : Place) → place_eq p q ≡ bytes_eq (place_of p) (place_of q)
-compares_numbers p q = same_reversed p.numbers.items q.numbers.items
+compares_numbers p q = same_reversed (numbers_of p) (numbers_of q)
 
 -- so it is true only of equal places
 pub same_place : (p q : Place) → (place_eq p q ≡ true) ↔ (place_of p ≡ place_of q)

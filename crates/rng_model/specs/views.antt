@@ -1,3 +1,5 @@
 -- Views of types, and invariants.
 pub mod PiecesView
+pub mod NumbersViews
+pub mod PlaceViews
 pub mod SchemaView

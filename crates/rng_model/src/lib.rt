@@ -21,6 +21,7 @@ mod name;
 mod namespace;
 mod outcome;
 mod place;
+mod place_numbers;
 mod pyx_fault;
 mod schema_pattern;
 mod simple;

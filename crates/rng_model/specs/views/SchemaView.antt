@@ -9,16 +9,17 @@ use Rattle.rng_model.specs.declared.component.Component.{Component}
 use Rattle.rng_model.specs.simple.Tree.{choice, group, interleave}
 use Rattle.rng_model.specs.datatypes.DatatypeViews.{datatype_of}
 use Rattle.rng_model.specs.names.NameViews.{class_of}
+use Rattle.rng_model.specs.views.PlaceViews.{numbers_of}
 use Rattle.rng_model.specs.schema.Patterns as pattern
 use Rattle.rng_model.specs.schema.Schema as schema
 
 -- the place as the numbers, the innermost first
 abbrev pub place_of : Place → pattern.Place
-place_of p = reverse p.numbers.items
+place_of p = reverse (numbers_of p)
 
 -- what `==` returns for two places; a map with places as its keys distinguishes them by it
 abbrev pub place_eq : Place → Place → Bool
-place_eq p q = bytes_eq p.numbers.items q.numbers.items
+place_eq p q = bytes_eq (numbers_of p) (numbers_of q)
 
 -- the entries of such a map, with the views of their places
 abbrev pub by_place : {V : Type 0} → List (Place × V) → List (pattern.Place × V)

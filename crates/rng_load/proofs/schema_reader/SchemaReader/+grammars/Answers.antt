@@ -14,7 +14,7 @@ use Rattle.rng_load.proofs.schema_reader.SchemaReader.+grammars.Goals as goal
 pub add-loop-grammar-init : goal.add-loop-grammar-init
 add-loop-grammar-init t c =
     put_first (files_in c.args.self.trees) (file_of c.args.self.main.now) c.args.grammars.now.entries c.put.new.map.entries c.in_ok-key.key
-    (record { components = c.in_ok-components.components; outer = c.args.outer }) (c.in_ok-key.ensures ∙ sym c.numbers.ensures) c.in_ok-put.ensures
+    (record { components = c.in_ok-components.components; outer = c.args.outer }) c.in_ok-key.ensures c.in_ok-put.ensures
     c.requires.there c.in_ok-components.ensures.components
 
 pub add-add_nested-requires : goal.add-add_nested-requires
