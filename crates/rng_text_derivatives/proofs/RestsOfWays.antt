@@ -44,8 +44,8 @@ use Rattle.rng_pattern_derivatives.proofs.WaysOfLeaves.{attribute_leaf, leaf_kep
 -- a string in a list is judged for one outside, and one outside for the value of an attribute
 abbrev pub rank : First → ℕ
 rank (firsts.Text places.List s) = 0
-rank (firsts.Text places.Content s) = 7
-rank (firsts.Attribute a) = 15
+rank (firsts.Text places.Content s) = 10
+rank (firsts.Attribute a) = 20
 
 -- ---- ways
 

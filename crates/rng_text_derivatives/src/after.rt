@@ -1,5 +1,5 @@
 // What is left of a pattern after a string, and after attributes.
-ghost use Rattle.std.specs.Prelude.{◌≡◌, ◌↔◌, ◌<◌, true, [], ◌∷◌, All, IfOk, OnOk, length, map, slice_get};
+ghost use Rattle.std.specs.Prelude.{◌≡◌, ◌↔◌, ◌<◌, true, [], ◌∷◌, All, IfOk, IfSome, OnOk, length, map, slice_get};
 ghost use Rattle.std.specs.List.{Contains};
 ghost use Rattle.rng_model.specs.datatypes.Blanks.{pieces};
 ghost use Rattle.rng_model.specs.documents.DocumentViews.{attribute_of};
@@ -26,7 +26,7 @@ ghost use Rattle.rng_text_derivatives.specs.declared.first.First.TheVariants as 
 use crate::context::Context;
 use crate::first::First;
 use crate::leaf_tests::{data_takes, is_blank, is_leaf_for, list_body};
-use crate::plans::{asked, keep_piece, kept_piece, plan_of, rest_by};
+use crate::plans::{TakenPlan, asked, keep_piece, kept_piece, plan_of, rest_by};
 use crate::settled::{Rest, settled_by_few};
 use rng_model::{Attr, OutOfMemory, PatternId, Pieces, Simple};
 use rng_names::contains;
@@ -72,26 +72,26 @@ fn ways_for(
     }
 }
 
-/// Returns the plan of a pattern for what comes first: the known one, which is taken out, or a new one.
-fn plan_for(
+/// Returns what is left of a pattern after this, if its known ways tell it. Fails only when out of memory.
+fn after_few(
     context: &Context,
     table: &mut PatternTable,
-    known: &mut Known,
+    known: &Known,
     first: First,
     number: PatternNumber,
-) -> Result<Plan, OutOfMemory>
+) -> Result<Option<PatternNumber>, OutOfMemory>
     requires inside { number.0 < length table.old }
-    requires known { AreAllKnown context.now.grammar.now context.now.keys.now table.old known.old }
+    requires ready { IsReady context.now.grammar.now table.old context.now.numbers.now }
+    requires known { AreAllKnown context.now.grammar.now context.now.keys.now table.old known.now }
     ensures longer { OnOk result (Longer table.old table.new) }
-    ensures known { OnOk result (AreAllKnown context.now.grammar.now context.now.keys.now table.new known.new) }
-    ensures plan { IfOk result (λ plan. (a : Asked) → IsAskedBy context.now.keys.now first.entry number a
-        → IsPlanFor context.now.grammar.now context.now.keys.now table.new a plan) }
+    ensures left { IfOk result (λ o. IfSome o (IsLeft context.now.grammar.now table.old table.new first.entry number)) }
 {
-    if let Some(plan) = known.take_plan(asked(context, first, number)) {
-        return Ok(plan);
+    match settled_by_few(context, table, known, first, number) {
+        Rest::Unknown => Ok(None),
+        Rest::Nothing => Ok(Some(table.not_allowed()?)),
+        Rest::Only(rest) => Ok(Some(rest)),
+        Rest::Two(first, second) => Ok(Some(table.choice(context.alloc, &[first, second])?)),
     }
-    let ways = ways_for(context, table, known, first, number)?;
-    plan_of(context.alloc, ways)
 }
 
 /// Returns what is left of a pattern after a string among the children of an element: a pattern that takes what may
@@ -213,17 +213,19 @@ fn after_ways(
     ensures known { OnOk result (AreAllKnown context.now.grammar.now context.now.keys.now table.new known.new) }
     ensures left { IfOk result (IsLeft context.now.grammar.now table.old table.new first.entry number) }
 {
-    match settled_by_few(context, table, known, first, number) {
-        Rest::Only(rest) => Ok(rest),
-        Rest::Two(first, second) => table.choice(context.alloc, &[first, second]),
-        Rest::Nothing => table.not_allowed(),
-        Rest::Unknown => after_all_ways(context, table, known, first, number),
+    if let Some(rest) = after_few(context, table, known, first, number)? {
+        return Ok(rest);
     }
+    let asked = asked(context, first, number);
+    if let Some(plan) = known.take_plan(asked) {
+        return after_taken_plan(context, table, known, first, TakenPlan { asked, plan });
+    }
+    after_new_ways(context, table, known, first, number)
 }
 
-/// The same by the plan of the pattern, which is kept with what is left.
+/// The same by ways that are worked out, and by a plan of these if they do not tell.
 #[cycle(after)]
-fn after_all_ways(
+fn after_new_ways(
     context: &Context,
     table: &mut PatternTable,
     known: &mut Known,
@@ -237,14 +239,41 @@ fn after_all_ways(
     ensures known { OnOk result (AreAllKnown context.now.grammar.now context.now.keys.now table.new known.new) }
     ensures left { IfOk result (IsLeft context.now.grammar.now table.old table.new first.entry number) }
 {
-    let mut plan = plan_for(context, table, known, first, number)?;
+    let ways = ways_for(context, table, known, first, number)?;
+    if let Some(rest) = after_few(context, table, known, first, number)? {
+        return Ok(rest);
+    }
+    let asked = asked(context, first, number);
+    let plan = plan_of(context.alloc, ways)?;
+    after_taken_plan(context, table, known, first, TakenPlan { asked, plan })
+}
+
+/// The same by the plan of the pattern, which is kept with what is left.
+#[cycle(after)]
+fn after_taken_plan(
+    context: &Context,
+    table: &mut PatternTable,
+    known: &mut Known,
+    first: First,
+    taken: TakenPlan,
+) -> Result<PatternNumber, OutOfMemory>
+    requires plan { IsPlanFor context.now.grammar.now context.now.keys.now table.old taken.asked taken.plan }
+    requires asked { (n : PatternNumber) × IsAskedBy context.now.keys.now first n taken.asked }
+    requires ready { IsReady context.now.grammar.now table.old context.now.numbers.now }
+    requires known { AreAllKnown context.now.grammar.now context.now.keys.now table.old known.old }
+    ensures longer { OnOk result (Longer table.old table.new) }
+    ensures known { OnOk result (AreAllKnown context.now.grammar.now context.now.keys.now table.new known.new) }
+    ensures left { IfOk result (λ rest. (n : PatternNumber) → IsAskedBy context.now.keys.now first.entry n taken.asked
+        → IsLeft context.now.grammar.now table.old table.new first.entry n rest) }
+{
+    let TakenPlan { asked, mut plan } = taken;
     if let Some(rest) = kept_piece(&plan, first) {
-        known.keep_plan(asked(context, first, number), plan)?;
+        known.keep_plan(asked, plan)?;
         return Ok(rest);
     }
     let rest = after_plan(context, table, known, first, &mut plan)?;
     keep_piece(context.alloc, &mut plan, first, rest)?;
-    known.keep_plan(asked(context, first, number), plan)?;
+    known.keep_plan(asked, plan)?;
     Ok(rest)
 }
 

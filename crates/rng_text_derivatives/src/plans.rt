@@ -34,6 +34,13 @@ const MOST_PIECES: usize = 64;
 /// The length up to which a piece is kept.
 const LONGEST_PIECE: usize = 64;
 
+/// A plan that is taken out of the known ones, or a new one, and what it is the plan of.
+#[derive(Drop)]
+pub struct TakenPlan {
+    pub asked: Asked,
+    pub plan: Plan,
+}
+
 /// Returns what a pattern is asked.
 pub fn asked(context: &Context, first: First, number: PatternNumber) -> Asked
     ensures { IsAskedBy context.now.keys.now first.entry number result }

@@ -18,7 +18,7 @@ use Rattle.rng_pattern_table.specs.views.Trees.{attribute_found, data_found, tre
 use Rattle.rng_pattern_table.specs.declared.pattern.PatternNumber.{PatternNumber}
 use Rattle.rng_pattern_table.proofs.Choices.{if_ok}
 use Rattle.rng_pattern_table.proofs.Trees.{Longer-length, Longer-refl, Longer-trans, tree_stays}
-use Rattle.rng_text_derivatives.specs.plain.After.{AreRests, TellsTaken}
+use Rattle.rng_text_derivatives.specs.plain.After.{AreRests, IsLeft, TellsTaken}
 use Rattle.rng_pattern_derivatives.specs.plain.Kinds.{Obeys, rest_of_leaf}
 use Rattle.rng_model.specs.matching.GrammarReading.{reading_of}
 use Rattle.rng_pattern_derivatives.specs.plain.Ways.{AreInside}
@@ -32,14 +32,13 @@ use Rattle.rng_pattern_derivatives.proofs.PatternNodes.{is_over, parts_there}
 use Rattle.rng_text_derivatives.proofs.ListPieces.{either_blank, either_none, either_true, list_told, one_piece_more, value_told}
 use Rattle.rng_pattern_derivatives.proofs.GrammarRows.{decides_holds}
 use Rattle.rng_pattern_derivatives.proofs.StartBodies.{ready_longer}
-use Rattle.rng_text_derivatives.proofs.SettledRests.{nothing_left, only_left, two_inside, two_left}
 use Rattle.rng_text_derivatives.proofs.LeafKinds.{no_attribute_found, tells_of_attribute, tells_of_list, tells_of_no_attribute}
 use Rattle.rng_text_derivatives.proofs.LeafKinds.{tells_of_no_leaf, tells_of_no_string, tells_of_other_name, tells_of_text}
 use Rattle.rng_pattern_derivatives.specs.views.Plans.{IsAfterPiece, IsOutcome, IsPlan}
-use Rattle.rng_pattern_derivatives.proofs.KnownPlans.{plan_longer}
+use Rattle.rng_pattern_derivatives.proofs.KnownPlans.{plan_for_longer, plan_longer}
 use Rattle.rng_pattern_derivatives.proofs.WayLists.{inside_longer}
-use Rattle.rng_text_derivatives.specs.plain.Asking.{AreTests}
-use Rattle.rng_text_derivatives.proofs.PlannedRests.{kept_left, left_earlier, no_tests, number_asked, one_more_test, outcome_left, plan_again, planned_ways, some_question, tests_later, ways_for_later}
+use Rattle.rng_text_derivatives.specs.plain.Asking.{AreTests, IsAskedBy}
+use Rattle.rng_text_derivatives.proofs.PlannedRests.{asked_inside, kept_left, new_plan_right, left_earlier, no_tests, number_asked, one_more_test, outcome_left, plan_again, planned_ways, some_question, tests_later, ways_for_later}
 use Rattle.rng_text_derivatives.proofs.after.+after.Goals as goal
 use Rattle.rng_text_derivatives.proofs.after.+after.Goals.{rests-then-branch+in_ok-push, rests-else-branch}
 
@@ -76,37 +75,6 @@ after_leaf-returns-clause-left t c =
     let stays = tree_stays t0 old c.takes.new.table c.args.leaf.0 c.in_ok-takes.ensures.longer c.requires.inside in
     if_ok c.rest_of_leaf.result _ _ (λ n h. leaf_taken t0 old c.rest_of_leaf.new.table c.args.leaf n h.inside c.args.first c.requires.leaf
     (h.is t0 ∙ ap rest_of_leaf stays) (λ o. (c.in_ok-takes.ensures.taken c.requires.leaf o).0 c.if-not-branch.false)) c.rest_of_leaf.ensures.tree
-
-pub after_ways-returns-in-Only-clause-left : goal.after_ways-returns-in-Only-clause-left
-after_ways-returns-in-Only-clause-left t c =
-    only_left c.args.context.now.grammar.now c.args.table.now c.args.first c.args.number c.in-Only.rest c.in-Only.ensures
-
-pub after_ways-choice-requires : goal.after_ways-choice-requires
-after_ways-choice-requires t c =
-    two_inside c.args.context.now.grammar.now c.args.table.now c.args.first c.args.number c.in-Two.first c.in-Two.second c.in-Two.ensures
-
-pub after_ways-returns-in-Two-clause-known : goal.after_ways-returns-in-Two-clause-known
-after_ways-returns-in-Two-clause-known t c =
-    if_ok c.choice.result _ _ (λ n h. all_longer c.args.context.now.grammar.now c.args.context.now.keys.now c.args.table.now c.choice.new.self
-    c.choice.ensures.longer c.args.known.now c.requires.known) c.choice.ensures.inside
-
-pub after_ways-returns-in-Two-clause-left : goal.after_ways-returns-in-Two-clause-left
-after_ways-returns-in-Two-clause-left t c =
-    let t0 = c.args.context.now.grammar.now in
-    if_ok c.choice.result _ _ (λ n h. two_left t0 c.args.table.now c.args.first c.args.number c.choice.new.self c.in-Two.first c.in-Two.second n
-    c.in-Two.ensures h.0 (h.1.0 t0) (h.1.1 t0 (reading_of t0)))
-    (both_ok c.choice.result _ _ c.choice.ensures.inside (both_ok c.choice.result _ _ c.choice.ensures.alternatives c.choice.ensures.matches))
-
-pub after_ways-returns-in-Nothing-clause-known : goal.after_ways-returns-in-Nothing-clause-known
-after_ways-returns-in-Nothing-clause-known t c =
-    if_ok c.not_allowed.result _ _ (λ n h. all_longer c.args.context.now.grammar.now c.args.context.now.keys.now c.args.table.now c.not_allowed.new.self
-    c.not_allowed.ensures.longer c.args.known.now c.requires.known) c.not_allowed.ensures.tree
-
-pub after_ways-returns-in-Nothing-clause-left : goal.after_ways-returns-in-Nothing-clause-left
-after_ways-returns-in-Nothing-clause-left t c =
-    let t0 = c.args.context.now.grammar.now in
-    if_ok c.not_allowed.result _ _ (λ n h. nothing_left t0 c.args.table.now c.args.first c.args.number c.not_allowed.new.self n c.in-Nothing.ensures
-    h.inside (h.is t0)) c.not_allowed.ensures.tree
 
 pub attribute_takes-returns-in_default-row : goal.attribute_takes-returns-in_default-row
 attribute_takes-returns-in_default-row t c =
@@ -271,7 +239,7 @@ takes-returns-in-Text-Text-clause-taken t c =
 pub takes-list_takes-requires : goal.takes-list_takes-requires
 takes-list_takes-requires t c =
     let d = c.decreases in
-    let is : rank c.args.first ≡ 7 = ap rank c.in-Text-Data.is-0 ∙ ap (λ p. rank (firsts.Text p c.in-Text-Data.text)) c.in-Some.ensures.content in
+    let is : rank c.args.first ≡ 10 = ap rank c.in-Text-Data.is-0 ∙ ap (λ p. rank (firsts.Text p c.in-Text-Data.text)) c.in-Some.ensures.content in
     let inside = c.in-Some.ensures.inside in
     let long = c.requires.ready.long in
     (omega (arith, d, is), (omega (arith, inside, long), (c.requires.ready, c.requires.known)))
@@ -363,67 +331,159 @@ rests-returns-clause-known t c = c.ways.invariant.known
 
 -- ---- by plans
 
-pub after_all_ways-after_plan-requires : goal.after_all_ways-after_plan-requires
-after_all_ways-after_plan-requires t c =
+pub after_taken_plan-after_plan-requires : goal.after_taken_plan-after_plan-requires
+after_taken_plan-after_plan-requires t c =
     let t0 = c.args.context.now.grammar.now in
     let keys = c.args.context.now.keys.now in
-    let new = c.plan_for.new.table in
     let d = c.decreases in
-    let q = some_question keys c.args.first c.args.number in
-    let own = c.in_ok-plan.ensures.plan q.0 q.1 in (
+    let asks = c.requires.asked in (
       omega (arith, d),
       (
-        (planned_ways t0 keys new c.args.number c.args.first q.0 c.in_ok-plan.plan q.1 own).inside,
-        (
-          own.right,
-          (
-            ready_longer t0 c.args.table.now new c.args.context.now.numbers.now c.in_ok-plan.ensures.longer c.requires.ready,
-            c.in_ok-plan.ensures.known,
-          ),
-        ),
+        (planned_ways t0 keys c.args.table.now asks.0 c.args.first c.args.taken.asked c.args.taken.plan asks.1 c.requires.plan).inside,
+        (c.requires.plan.right, (c.requires.ready, c.requires.known)),
       ),
     )
 
-pub after_all_ways-returns-in-Some : goal.after_all_ways-returns-in-Some
-after_all_ways-returns-in-Some t c =
+pub after_taken_plan-returns-in-Some : goal.after_taken_plan-returns-in-Some
+after_taken_plan-returns-in-Some t c =
     let t0 = c.args.context.now.grammar.now in
     let keys = c.args.context.now.keys.now in
-    let old = c.args.table.now in
-    let new = c.plan_for.new.table in
-    let q = c.asked.ensures in
-    let own = c.in_ok-plan.ensures.plan c.asked.result q in
-    let is = number_asked t0 keys new c.args.number c.args.first c.asked.result q in
+    let ns = c.args.table.now in
+    let a = c.args.taken.asked in
+    let own = c.requires.plan in
     let piece = c.in-Some.ensures in
     let text = string_bytes piece.0.text in
     record {
-      longer = c.in_ok-plan.ensures.longer;
-      known = c.in_ok-keep_plan.ensures t0 keys new c.in_ok-plan.ensures.known own;
-      left = left_earlier t0 old new new c.args.first c.args.number c.in-Some.rest c.in_ok-plan.ensures.longer c.requires.inside
-          (kept_left t0 new c.args.first text c.args.number c.in-Some.rest piece.2
-          (subst (IsAfterPiece t0 new text c.args.number.0) piece.3 (subst (λ n. IsAfterPiece t0 new text n piece.0.rest) is (own.pieces piece.0 piece.1))));
+      longer = Longer-refl ns;
+      known = c.in_ok-keep_plan.ensures t0 keys ns c.requires.known own;
+      left = λ n asks. kept_left t0 ns c.args.first text n c.in-Some.rest piece.2
+          (subst (IsAfterPiece t0 ns text n.0) piece.3
+          (subst (λ m. IsAfterPiece t0 ns text m piece.0.rest) (number_asked t0 keys ns n c.args.first a asks) (own.pieces piece.0 piece.1)));
     }
 
-pub after_all_ways-returns : goal.after_all_ways-returns
-after_all_ways-returns t c =
+pub after_taken_plan-returns : goal.after_taken_plan-returns
+after_taken_plan-returns t c =
+    let t0 = c.args.context.now.grammar.now in
+    let keys = c.args.context.now.keys.now in
+    let n1 = c.args.table.now in
+    let n2 = c.after_plan.new.table in
+    let a = c.args.taken.asked in
+    let own = c.requires.plan in
+    let told = c.in_ok-rest.ensures in
+    let there : (n : PatternNumber) → IsAskedBy keys c.args.first n a → n.0 < length n1 =
+    λ n asks. subst (λ m. m < length n1) (number_asked t0 keys n1 n c.args.first a asks) own.inside in
+    let left : (n : PatternNumber) → IsAskedBy keys c.args.first n a → IsLeft t0 n1 n2 c.args.first n c.in_ok-rest.rest =
+    λ n asks. told.left n (there n asks) (planned_ways t0 keys n1 n c.args.first a c.args.taken.plan asks own) in
+    let some = c.requires.asked in
+    record {
+      longer = told.longer;
+      known = c.in_ok-keep_plan-2.ensures t0 keys n2 told.known (plan_again t0 keys n1 n2 told.longer c.args.first some.0 c.in_ok-rest.rest
+          a some.1 c.args.taken.plan c.after_plan.new.plan c.keep_piece.new.plan own told.ways told.pieces told.plan
+          c.in_ok-keep_piece.ensures.ways (c.in_ok-keep_piece.ensures.plan t0 n2) c.in_ok-keep_piece.ensures.pieces (left some.0 some.1));
+      left = left;
+    }
+
+-- ---- by known ways, by a known plan, or by new ways
+
+pub after_ways-returns-in-Some-clause-known : goal.after_ways-returns-in-Some-clause-known
+after_ways-returns-in-Some-clause-known t c =
+    all_longer c.args.context.now.grammar.now c.args.context.now.keys.now c.args.table.now c.after_few.new.table c.in_ok-rest.ensures.longer
+    c.args.known.now c.requires.known
+
+pub after_ways-after_taken_plan-requires : goal.after_ways-after_taken_plan-requires
+after_ways-after_taken_plan-requires t c =
     let t0 = c.args.context.now.grammar.now in
     let keys = c.args.context.now.keys.now in
     let old = c.args.table.now in
-    let n1 = c.plan_for.new.table in
-    let n2 = c.after_plan.new.table in
-    let q = c.asked-2.ensures in
-    let own = c.in_ok-plan.ensures.plan c.asked-2.result q in
-    let long = Longer-length old n1 c.in_ok-plan.ensures.longer in
+    let new = c.after_few.new.table in
+    let longer = c.in_ok-rest.ensures.longer in
+    let known = all_longer t0 keys old new longer c.args.known.now c.requires.known in
+    let d = c.decreases in (
+      omega (arith, d),
+      (
+        c.in-Some-take_plan.ensures.plan t0 keys new known,
+        ((c.args.number, c.asked-asked.ensures), (ready_longer t0 old new c.args.context.now.numbers.now longer c.requires.ready, c.take_plan.ensures.known t0 keys new known)),
+      ),
+    )
+
+pub after_ways-returns-in-Some-take_plan-clause-left : goal.after_ways-returns-in-Some-take_plan-clause-left
+after_ways-returns-in-Some-take_plan-clause-left t c =
+    let t0 = c.args.context.now.grammar.now in
+    if_ok c.after_taken_plan.result _ _ (λ rest left. left_earlier t0 c.args.table.now c.after_few.new.table c.after_taken_plan.new.table c.args.first
+    c.args.number rest c.in_ok-rest.ensures.longer c.requires.inside (left c.args.number c.asked-asked.ensures)) c.after_taken_plan.ensures.left
+
+pub after_ways-after_new_ways-requires : goal.after_ways-after_new_ways-requires
+after_ways-after_new_ways-requires t c =
+    let t0 = c.args.context.now.grammar.now in
+    let keys = c.args.context.now.keys.now in
+    let old = c.args.table.now in
+    let new = c.after_few.new.table in
+    let longer = c.in_ok-rest.ensures.longer in
+    let known = all_longer t0 keys old new longer c.args.known.now c.requires.known in
     let inside = c.requires.inside in
-    let there : c.args.number.0 < length n1 = omega (arith, inside, long) in
-    let told = c.in_ok-rest.ensures in
-    let left = told.left c.args.number there (planned_ways t0 keys n1 c.args.number c.args.first c.asked-2.result c.in_ok-plan.plan q own) in
-    record {
-      longer = Longer-trans old n1 n2 c.in_ok-plan.ensures.longer told.longer;
-      known = c.in_ok-keep_plan-2.ensures t0 keys n2 told.known (plan_again t0 keys n1 n2 told.longer c.args.first c.args.number c.in_ok-rest.rest
-          c.asked-2.result q c.in_ok-plan.plan c.after_plan.new.plan c.keep_piece.new.plan own told.ways told.pieces told.plan
-          c.in_ok-keep_piece.ensures.ways (c.in_ok-keep_piece.ensures.plan t0 n2) c.in_ok-keep_piece.ensures.pieces left);
-      left = left_earlier t0 old n1 n2 c.args.first c.args.number c.in_ok-rest.rest c.in_ok-plan.ensures.longer c.requires.inside left;
-    }
+    let long = Longer-length old new longer in
+    let d = c.decreases in (
+      omega (arith, d),
+      (
+        omega (arith, inside, long),
+        (ready_longer t0 old new c.args.context.now.numbers.now longer c.requires.ready, c.take_plan.ensures.known t0 keys new known),
+      ),
+    )
+
+pub after_ways-returns-clause-left : goal.after_ways-returns-clause-left
+after_ways-returns-clause-left t c =
+    let t0 = c.args.context.now.grammar.now in
+    if_ok c.after_new_ways.result _ _ (λ rest left. left_earlier t0 c.args.table.now c.after_few.new.table c.after_new_ways.new.table c.args.first
+    c.args.number rest c.in_ok-rest.ensures.longer c.requires.inside left) c.after_new_ways.ensures.left
+
+pub after_new_ways-after_few-requires-clause-ready : goal.after_new_ways-after_few-requires-clause-ready
+after_new_ways-after_few-requires-clause-ready t c =
+    ready_longer c.args.context.now.grammar.now c.args.table.now c.ways_for.new.table c.args.context.now.numbers.now c.in_ok-ways.ensures.longer
+    c.requires.ready
+
+pub after_new_ways-returns-in-Some-clause-known : goal.after_new_ways-returns-in-Some-clause-known
+after_new_ways-returns-in-Some-clause-known t c =
+    all_longer c.args.context.now.grammar.now c.args.context.now.keys.now c.ways_for.new.table c.after_few.new.table c.in_ok-rest.ensures.longer
+    c.ways_for.new.known c.in_ok-ways.ensures.known
+
+pub after_new_ways-returns-in-Some-clause-left : goal.after_new_ways-returns-in-Some-clause-left
+after_new_ways-returns-in-Some-clause-left t c =
+    left_earlier c.args.context.now.grammar.now c.args.table.now c.ways_for.new.table c.after_few.new.table c.args.first c.args.number c.in-Some.rest
+    c.in_ok-ways.ensures.longer c.requires.inside
+    (subst (λ o. IfSome o (IsLeft c.args.context.now.grammar.now c.ways_for.new.table c.after_few.new.table c.args.first c.args.number)) c.in-Some.is
+    c.in_ok-rest.ensures.left)
+
+pub after_new_ways-after_taken_plan-requires : goal.after_new_ways-after_taken_plan-requires
+after_new_ways-after_taken_plan-requires t c =
+    let t0 = c.args.context.now.grammar.now in
+    let keys = c.args.context.now.keys.now in
+    let old = c.args.table.now in
+    let n1 = c.ways_for.new.table in
+    let n2 = c.after_few.new.table in
+    let longer = c.in_ok-ways.ensures.longer in
+    let longer' = c.in_ok-rest.ensures.longer in
+    let ready = ready_longer t0 old n2 c.args.context.now.numbers.now (Longer-trans old n1 n2 longer longer') c.requires.ready in
+    let known = all_longer t0 keys n1 n2 longer' c.ways_for.new.known c.in_ok-ways.ensures.known in
+    let ws = c.in_ok-ways.ways.items in
+    let d = c.decreases in (
+      omega (arith, d),
+      (
+        plan_for_longer t0 n1 n2 longer' keys c.asked-asked.result c.in_ok-plan.plan
+            (new_plan_right t0 keys old n1 longer c.args.first c.args.number c.requires.inside ws c.in_ok-ways.ensures.ways c.in_ok-plan.plan
+            c.in_ok-plan.ensures.ways c.in_ok-plan.ensures.pieces
+            (c.in_ok-plan.ensures.plan t0 n1 (asked_inside t0 keys old n1 longer c.args.first c.args.number c.requires.inside ws c.in_ok-ways.ensures.ways))
+            c.asked-asked.result c.asked-asked.ensures),
+        ((c.args.number, c.asked-asked.ensures), (ready, known)),
+      ),
+    )
+
+pub after_new_ways-returns-clause-left : goal.after_new_ways-returns-clause-left
+after_new_ways-returns-clause-left t c =
+    let t0 = c.args.context.now.grammar.now in
+    let old = c.args.table.now in
+    let longer = Longer-trans old c.ways_for.new.table c.after_few.new.table c.in_ok-ways.ensures.longer c.in_ok-rest.ensures.longer in
+    if_ok c.after_taken_plan.result _ _ (λ rest left. left_earlier t0 old c.after_few.new.table c.after_taken_plan.new.table c.args.first
+    c.args.number rest longer c.requires.inside (left c.args.number c.asked-asked.ensures)) c.after_taken_plan.ensures.left
 
 pub after_plan-tests-requires : goal.after_plan-tests-requires
 after_plan-tests-requires t c =

@@ -16,16 +16,19 @@ use Rattle.rng_text_derivatives.proofs.RestsOfWays.{rank}
 use Rattle.rng_text_derivatives.proofs.after.+after.Given as goal
 
 abbrev pub decreases-after : goal.decreases-after
-decreases-after l = rank l.first + 7
+decreases-after l = rank l.first + 9
 
 abbrev pub decreases-after_leaf : goal.decreases-after_leaf
 decreases-after_leaf l = rank l.first + 3
 
 abbrev pub decreases-after_ways : goal.decreases-after_ways
-decreases-after_ways l = rank l.first + 6
+decreases-after_ways l = rank l.first + 8
 
-abbrev pub decreases-after_all_ways : goal.decreases-after_all_ways
-decreases-after_all_ways l = rank l.first + 5
+abbrev pub decreases-after_new_ways : goal.decreases-after_new_ways
+decreases-after_new_ways l = rank l.first + 6
+
+abbrev pub decreases-after_taken_plan : goal.decreases-after_taken_plan
+decreases-after_taken_plan l = rank l.first + 5
 
 abbrev pub decreases-after_plan : goal.decreases-after_plan
 decreases-after_plan l = rank l.first + 4
@@ -40,13 +43,13 @@ abbrev pub decreases-takes : goal.decreases-takes
 decreases-takes l = rank l.first + 2
 
 abbrev pub decreases-list_takes : goal.decreases-list_takes
-decreases-list_takes l = 8
+decreases-list_takes l = 10
 
 abbrev pub decreases-attribute_takes : goal.decreases-attribute_takes
-decreases-attribute_takes l = 16
+decreases-attribute_takes l = 21
 
 abbrev pub decreases-value_takes : goal.decreases-value_takes
-decreases-value_takes l = 15
+decreases-value_takes l = 20
 
 abbrev pub invariant-rests-ways : goal.invariant-rests-ways
 invariant-rests-ways l = record {

@@ -13,13 +13,13 @@ abbrev pub decreases-takes : goal.decreases-takes
 decreases-takes l = rank l.first + 2
 
 abbrev pub decreases-attribute_takes : goal.decreases-attribute_takes
-decreases-attribute_takes l = 14
+decreases-attribute_takes l = 17
 
 abbrev pub decreases-value_takes : goal.decreases-value_takes
-decreases-value_takes l = 13
+decreases-value_takes l = 16
 
 abbrev pub decreases-string_taken : goal.decreases-string_taken
-decreases-string_taken l = 12
+decreases-string_taken l = 15
 
 abbrev pub invariant-only_rest-ways : goal.invariant-only_rest-ways
 invariant-only_rest-ways l = AreLeft l.context.grammar.now l.table l.first (take l.way-index l.ways) l.rest
