@@ -79,11 +79,7 @@ fn uncover(places: &mut Places, removed: &Declaration)
 }
 
 /// Returns the namespace with this uri. Its text is shared with the last one.
-fn namespace_of(
-    alloc: Global,
-    last: &mut Namespace,
-    uri: String,
-) -> Result<Namespace, OutOfMemory>
+fn namespace_of(alloc: Global, last: &mut Namespace, uri: String) -> Result<Namespace, OutOfMemory>
     ensures { IfOk result (λ n. namespace_bytes n ≡ string_bytes uri) }
 {
     if last.as_str() != uri.as_str() {

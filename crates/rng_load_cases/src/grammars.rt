@@ -40,7 +40,11 @@ fn nested_in<'a>(
 }
 
 /// Prints what is at a place.
-pub fn print_grammar(rt: &(impl Print + AllocGlobal), schema: &Schema, place: &Place) -> io::Result<()> {
+pub fn print_grammar(
+    rt: &(impl Print + AllocGlobal),
+    schema: &Schema,
+    place: &Place,
+) -> io::Result<()> {
     print_place(rt, place)?;
     if let Some(outer) = schema.outer(place) {
         print!(rt; " in ")?;

@@ -63,7 +63,11 @@ pub fn print_pattern(rt: &(impl Print + AllocGlobal), pattern: &SchemaPattern) -
 
 /// Prints a word, and a pattern in braces.
 #[cycle(patterns)]
-fn print_in_braces(rt: &(impl Print + AllocGlobal), word: &str, inner: &SchemaPattern) -> io::Result<()> {
+fn print_in_braces(
+    rt: &(impl Print + AllocGlobal),
+    word: &str,
+    inner: &SchemaPattern,
+) -> io::Result<()> {
     print!(rt; "{word} {{ ")?;
     print_pattern(rt, inner)?;
     print!(rt; " }}")
@@ -71,14 +75,22 @@ fn print_in_braces(rt: &(impl Print + AllocGlobal), word: &str, inner: &SchemaPa
 
 /// Prints a pattern, and the sign after it.
 #[cycle(patterns)]
-fn print_repeated(rt: &(impl Print + AllocGlobal), inner: &SchemaPattern, sign: &str) -> io::Result<()> {
+fn print_repeated(
+    rt: &(impl Print + AllocGlobal),
+    inner: &SchemaPattern,
+    sign: &str,
+) -> io::Result<()> {
     print_pattern(rt, inner)?;
     print!(rt; "{sign}")
 }
 
 /// Prints patterns in parentheses, with this between two of them.
 #[cycle(patterns)]
-fn print_members(rt: &(impl Print + AllocGlobal), members: &[SchemaPattern], between: &str) -> io::Result<()> {
+fn print_members(
+    rt: &(impl Print + AllocGlobal),
+    members: &[SchemaPattern],
+    between: &str,
+) -> io::Result<()> {
     print!(rt; "(")?;
     for (number, member) in members.iter().enumerate() {
         if number > 0 {

@@ -86,7 +86,8 @@ impl PartialEq for Place {
 
     fn eq(&self, other: &Self) -> bool {
         match (&self.way, &other.way) {
-            (Some(own), Some(others)) => own.hash == others.hash && own.numbers.is_same(&others.numbers),
+            (Some(own), Some(others)) => own.hash == others.hash
+                && own.numbers.is_same(&others.numbers),
             (None, None) => true,
             (Some(way), None) | (None, Some(way)) => way.numbers.is_empty(),
         }
