@@ -112,6 +112,13 @@ def many_prefixes():
     yield ")a\n"
 
 
+def long_namespaces():
+    """Two namespaces of 65,000 bytes, whose prefixes the attributes of 100 elements have in turn."""
+    yield "(a\n" + "".join(f"Axmlns:{prefix} urn:{prefix * 64_996}\n" for prefix in "pq")
+    yield ("(row\n" + "".join(f"A{'pq'[i % 2]}:x{i} {i}\n" for i in range(254)) + ")row\n") * 100
+    yield ")a\n"
+
+
 SHAPES = [
     ("records", 10, records),
     ("records", 100, records),
@@ -126,6 +133,7 @@ SHAPES = [
     ("256 attributes an element", 10, many_attributes),
     ("8 declarations every other element", 10, namespaces),
     ("250 declarations, each prefix in use", 10, many_prefixes),
+    ("attributes of two long namespaces in turn", 10, long_namespaces),
 ]
 
 

@@ -126,7 +126,7 @@ fn declare(
     declarations.add_tag(alloc, tag)
 }
 
-/// Removes the innermost declarations, so many, and keeps the buffers of their names.
+/// Removes the innermost declarations, so many, and keeps their buffers.
 fn remove(declarations: &mut Declarations, count: usize, spares: &mut Spares)
     ensures { declarations.new ≡ drop count declarations.old }
 {
@@ -134,6 +134,7 @@ fn remove(declarations: &mut Declarations, count: usize, spares: &mut Spares)
     'innermost: while left > 0 {
         if let Some(removed) = declarations.pop() {
             spares.keep(removed.name);
+            spares.keep(removed.buffer);
         }
         left -= 1;
     }

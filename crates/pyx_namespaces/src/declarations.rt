@@ -78,14 +78,20 @@ fn uncover(places: &mut Places, removed: &Declaration)
     }
 }
 
-/// Returns the namespace with this uri. Its text is shared with the last one.
-fn namespace_of(alloc: Global, last: &mut Namespace, uri: String) -> Result<Namespace, OutOfMemory>
-    ensures { IfOk result (λ n. namespace_bytes n ≡ string_bytes uri) }
+/// Returns the namespace with this uri, and a buffer. If the last namespace has this uri, its text is shared, and the
+/// buffer is that of the uri.
+fn namespace_of(
+    alloc: Global,
+    last: &mut Namespace,
+    uri: String,
+) -> Result<(Namespace, String), OutOfMemory>
+    ensures { IfOk result (λ x. namespace_bytes x.0 ≡ string_bytes uri) }
 {
-    if last.as_str() != uri.as_str() {
-        *last = Namespace::from_string(alloc, uri)?;
+    if last.as_str() == uri.as_str() {
+        return Ok((last.share()?, uri));
     }
-    Ok(last.share()?)
+    *last = Namespace::from_string(alloc, uri)?;
+    Ok((last.share()?, String::new(alloc)))
 }
 
 /// Adds a declaration, which is then the innermost. Copies none of its texts.
@@ -101,11 +107,12 @@ fn add(
     ensures added { OnOk result (map declaration_of (reverse list.new.items) ≡ written_attribute written ∷ map declaration_of (reverse list.old.items)) }
 {
     let WrittenAttribute { name, value } = written;
-    let namespace = namespace_of(alloc, last, value)?;
+    let (namespace, buffer) = namespace_of(alloc, last, value)?;
     let hidden = cover(alloc, places, name.as_str(), list.len())?;
     list.push(Declaration {
         name,
         namespace,
+        buffer,
         hidden,
     })?;
     Ok(())

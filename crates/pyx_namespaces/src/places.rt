@@ -20,6 +20,8 @@ pub struct Declaration {
     pub name: String,
     /// What it declares.
     pub namespace: Namespace,
+    /// A buffer for reuse. Its content means nothing.
+    pub buffer: String,
     /// The place of the innermost declaration of the same prefix around it, if there is one.
     pub hidden: Option<usize>,
 }
