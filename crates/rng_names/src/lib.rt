@@ -33,7 +33,7 @@ mod written;
 mod written_names;
 
 pub use common_name::overlap;
-pub use membership::contains;
+pub use membership::{contains, is_same_name};
 pub use name_keys::{NameKey, NameKeys};
 pub use prepared_class::PreparedClass;
 pub use written::{fresh_text, longest};

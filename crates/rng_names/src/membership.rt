@@ -38,3 +38,11 @@ pub fn holds(class: &NameClass, ns: &str, local: &str) -> bool
         }
     }
 }
+
+/// Returns whether two names are equal. Reads their namespaces only if their local names are equal, since a namespace
+/// may be long and many names share it. Allocates nothing.
+pub fn is_same_name(one: &Name, other: &Name) -> bool
+    ensures { Decides result (name_of one.now ≡ name_of other.now) }
+{
+    one.local == other.local && one.ns == other.ns
+}

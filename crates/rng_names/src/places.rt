@@ -6,6 +6,7 @@ ghost use Rattle.rng_names.specs.plain.Keys.{place_of};
 ghost use Rattle.rng_names.specs.views.KeyTables.{AddsOthers, IsTold, places_in};
 ghost use Rattle.rng_names.specs.plain.WrittenNames.{written_as};
 
+use crate::membership::is_same_name;
 use crate::slots::{places_by_slot, slot_of};
 use crate::texts::{name_in, note, number_of, place_of, put};
 use crate::written::fresh_text;
@@ -77,7 +78,7 @@ impl Places {
     {
         let place = *self.slots.get(slot_of(name.local.as_str()))?;
         let there = self.names.as_slice().get(place)?;
-        if there != name {
+        if !is_same_name(there, name) {
             return None;
         }
         Some(place)

@@ -1,4 +1,4 @@
-use Rattle.std.proofs.Common.{◌≡◌, ◌∙◌, ap, refl, subst, map, length, arith, rules}
+use Rattle.std.proofs.Common.{◌≡◌, ap, refl, subst, map, length, arith, rules}
 use Rattle.std.specs.Map.{keys_of, lookup}
 use Rattle.std.specs.Str.{bytes_eq}
 use Rattle.rng_model.specs.names.NamespaceViews.{namespace_bytes}

@@ -1,4 +1,4 @@
-use Rattle.std.proofs.Common.{◌≡◌, ◌<◌, refl, ap₂, subst, ◌∙◌, slice_index_or, length, Some, bytes_eq, arith, rules}
+use Rattle.std.proofs.Common.{◌≡◌, ◌<◌, refl, ap₂, ◌∙◌, slice_index_or, length, Some, bytes_eq, arith, rules}
 use Rattle.std.specs.Map.{lookup, update}
 use Rattle.std.proofs.lemmas.Result.{on_ok_weaker}
 use Rattle.rng_model.specs.names.NameViews.{name_of}
