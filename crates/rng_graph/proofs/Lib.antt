@@ -1,6 +1,6 @@
 pub mod DefinitionNumbers
 pub mod ResolvedMembers
-pub mod GraphPatternViews
+pub mod Forests
 pub mod PatternPoints
 pub mod OrderAndRest
 pub mod LoopsOrOrder
@@ -21,7 +21,6 @@ pub mod SearchSteps
 pub mod Adjacency
 pub mod MemberDepths
 pub mod ListParts
-pub mod GraphPatternKinds
 pub mod ResolvedPatterns
 pub mod ComponentTables
 pub mod ResolvedBodies

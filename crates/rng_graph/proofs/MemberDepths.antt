@@ -1,16 +1,18 @@
 -- Depths member by member equal those of the nested forms.
-use Rattle.std.proofs.Common.{◌≡◌, refl, ap, ap₂, sym, ◌∙◌, ℕ, suc, ◌+◌, ◌<◌, max, List, [], ◌∷◌, length, map, drop, get_or, arith}
-use Rattle.std.proofs.Math.Seq.{drop-cons}
+use Rattle.std.proofs.Common.{◌≡◌, refl, ap, sym, ◌∙◌, ℕ, ◌+◌, ◌-◌, ◌<◌, max, List, [], ◌∷◌, ◌++◌, length, map, take, drop, get_or, slice_index_or, arith}
 use Rattle.rng_model.specs.names.Names.{NameClass, NameClasses, no_classes, class_and, one_of, classes_of, some_of}
-use Rattle.rng_model.specs.simple.Tree.{Connector, choice, group, interleave, Tree, joined, no_trees}
+use Rattle.rng_model.specs.simple.Tree.{Connector, choice, group, interleave, Tree, joined, no_trees, not_allowed}
 use Rattle.rng_model.specs.schema.Schema.{nested_from}
 use Rattle.rng_model.specs.schema.Depth.{class_depth}
+use Rattle.rng_model.specs.names.NameViews.{class_of}
 use Rattle.rng_graph.specs.plain.InTwos.{nested, nested_after}
 use Rattle.rng_graph.specs.plain.DepthWith.{cut_off, one_more, nested_depth, depth_with, deeper_with}
 use Rattle.rng_graph.specs.plain.Graph.{Spot}
-use Rattle.rng_graph.specs.views.GraphView.{trees_of, members, combined, graph_pattern_of}
-use Rattle.rng_graph.specs.declared.graph.GraphPattern.{GraphPattern}
-use Rattle.rng_graph.specs.plain.MemberDepths.{nested_class_depth, members_depth}
+use Rattle.rng_graph.specs.views.GraphView.{arity, child, combined, forest, members, row_tree, trees_of}
+use Rattle.rng_graph.specs.declared.graph.GraphRow.{GraphRow}
+use Rattle.rng_graph.specs.declared.graph.GraphRow.TheVariants as row
+use Rattle.rng_graph.specs.plain.MemberDepths.{nested_class_depth, members_depth, row_depth}
+use Rattle.rng_graph.proofs.Forests.{first_seen, last_seen, next_row, replaced_seen}
 
 -- ---- name classes
 
@@ -52,18 +54,35 @@ module _ {P : Type 0} (g : P → ℕ) where
   depth_of_combined k [] = refl
   depth_of_combined k (a ∷ ts) = depth_of_nested k a ts
 
--- a pattern of the graph whose members have a connector
-pub depth_seen : (g : Spot → ℕ) (k : Connector) (p : GraphPattern) (xs all : List GraphPattern) → graph_pattern_of p ≡ members k (map graph_pattern_of all)
-    → xs ≡ all → members_depth (map (depth_with g) (map graph_pattern_of xs)) ≡ depth_with g (graph_pattern_of p)
-depth_seen g k p xs all e q =
-    ap (λ ps. members_depth (map (depth_with g) (map graph_pattern_of ps))) q
-    ∙ sym (ap (depth_with g) e ∙ depth_of_members g k (map graph_pattern_of all))
+  pub depth_of_child : (ts : List (Tree P)) → slice_index_or (map (depth_with g) ts) 0 1 ≡ depth_with g (child ts)
+  depth_of_child ts = first_seen (depth_with g) ts not_allowed
 
--- one more member
-pub next_member : {A B : Type 0} (f : A → B) (depth : B → ℕ) (xs : List A) (i : ℕ) (x : A) (n m total : ℕ) → i < length xs → x ≡ get_or xs i x
-    → m ≡ one_more (max n (depth (f x))) → nested_depth n (map depth (map f (drop i xs))) ≡ total
-    → nested_depth m (map depth (map f (drop (i + 1) xs))) ≡ total
-next_member f depth xs i x n m total h e p q =
-    let after : suc i ≡ i + 1 = omega arith in
-    let here : drop i xs ≡ x ∷ drop (i + 1) xs = drop-cons xs i x h ∙ ap₂ (λ y k. y ∷ drop k xs) (sym e) after in
-    ap (λ k. nested_depth k (map depth (map f (drop (i + 1) xs)))) p ∙ sym (ap (λ ys. nested_depth n (map depth (map f ys))) here) ∙ q
+-- the tree of a row
+pub depth_of_row : (g : Spot → ℕ) (r : GraphRow) (ts : List (Tree Spot)) → row_depth g r (map (depth_with g) ts) ≡ depth_with g (row_tree r ts)
+depth_of_row g row.NotAllowed ts = refl
+depth_of_row g row.Empty ts = refl
+depth_of_row g row.Text ts = refl
+depth_of_row g (row.Element k) ts = refl
+depth_of_row g (row.Definition j) ts = refl
+depth_of_row g (row.Data d) ts = refl
+depth_of_row g (row.Value v) ts = refl
+depth_of_row g (row.Attribute c) ts = ap (λ n. one_more (max (cut_off (class_depth (nested (class_of c.now)))) n)) (depth_of_child g ts)
+depth_of_row g row.List ts = ap one_more (depth_of_child g ts)
+depth_of_row g (row.DataExcept d) ts = ap one_more (depth_of_child g ts)
+depth_of_row g row.Mixed ts = ap (λ n. one_more (max n 1)) (depth_of_child g ts)
+depth_of_row g row.Optional ts = ap (λ n. one_more (max n 1)) (depth_of_child g ts)
+depth_of_row g row.ZeroOrMore ts = ap (λ n. one_more (one_more n)) (depth_of_child g ts)
+depth_of_row g row.OneOrMore ts = ap one_more (depth_of_child g ts)
+depth_of_row g (row.Group n) ts = sym (depth_of_members g group ts)
+depth_of_row g (row.Interleave n) ts = sym (depth_of_members g interleave ts)
+depth_of_row g (row.Choice n) ts = sym (depth_of_members g choice ts)
+
+-- one more row
+pub next_depths : (g : Spot → ℕ) (rows : List GraphRow) (i : ℕ) (r : GraphRow) (before after children : List ℕ) (n : ℕ) → i < length rows → r ≡ get_or rows i r
+    → before ≡ map (depth_with g) (forest (take i rows)) → children ≡ drop (length before - arity r) before → n ≡ row_depth g r children
+    → after ≡ take (length before - arity r) before ++ n ∷ [] → after ≡ map (depth_with g) (forest (take (i + 1) rows))
+next_depths g rows i r before after children n h e same inside is more =
+    let ts = forest (take i rows) in
+    let depth : n ≡ depth_with g (row_tree r (drop (length ts - arity r) ts)) =
+    is ∙ ap (row_depth g r) (inside ∙ last_seen (depth_with g) (arity r) ts before same) ∙ depth_of_row g r (drop (length ts - arity r) ts) in
+    more ∙ replaced_seen (depth_with g) (arity r) ts before same (row_tree r) n depth ∙ ap (map (depth_with g)) (sym (next_row rows i r h e))

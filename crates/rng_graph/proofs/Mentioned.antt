@@ -1,8 +1,7 @@
 -- The listed mentions of a pattern are exactly its mentions.
-use Rattle.std.proofs.Common.{◌≡◌, ◌↔◌, inl, inr, refl, ap, sym, ◌∙◌, subst, ℕ, zero, suc, ◌+◌, ◌<◌, List, [], ◌∷◌, ◌++◌, length, map, drop, get_or, slice_get}
+use Rattle.std.proofs.Common.{◌≡◌, ◌↔◌, inl, inr, refl, ap, sym, ◌∙◌, subst, ℕ, zero, suc, ◌+◌, ◌-◌, ◌<◌, ◌≤◌, List, [], ◌∷◌, ◌++◌, length, map, take, drop, get_or, slice_get}
 use Rattle.std.proofs.Common.{slice_index_or, Some, Contains, append_assoc, append-nil, arith}
-use Rattle.std.proofs.Math.Seq.{drop-cons}
-use Rattle.std.proofs.lemmas.List.{length-map, get_or-map}
+use Rattle.std.proofs.lemmas.List.{length-map, length-drop, get_or-map, take-append-drop}
 use Rattle.std.proofs.lemmas.List.Elements.{Contains-append_left, Contains-append_right, Contains-append_cases, Contains-push_cases}
 use Rattle.std.proofs.lemmas.Option.{slice_get-get_or, slice_get_within, get_or_from_slice_get}
 use Rattle.rng_model.specs.schema.Schema.{nested_from}
@@ -11,9 +10,11 @@ use Rattle.rng_model.specs.simple.Tree.{joined, Trees, no_trees, tree_and, Conne
 use Rattle.rng_model.specs.simple.Leaves.{LeafIn, LeafAmong}
 use Rattle.rng_model.specs.simple.Leaves as at
 use Rattle.rng_graph.specs.plain.Graph.{Spot, at_element, at_definition, Graph, Mentions}
-use Rattle.rng_graph.specs.views.GraphView.{trees_of, members, combined, graph_pattern_of}
-use Rattle.rng_graph.specs.declared.graph.GraphPattern.{GraphPattern}
-use Rattle.rng_graph.specs.plain.Mentioned.{definition_there, mentioned, mentioned_among, all_mentioned}
+use Rattle.rng_graph.specs.views.GraphView.{arity, child, combined, forest, members, row_tree, trees_of, with_row}
+use Rattle.rng_graph.specs.declared.graph.GraphRow.{GraphRow}
+use Rattle.rng_graph.specs.declared.graph.GraphRow.TheVariants as row
+use Rattle.rng_graph.specs.plain.Mentioned.{definition_of_row, definition_there, mentioned, mentioned_among, all_mentioned}
+use Rattle.rng_graph.proofs.Forests.{next_row}
 use Rattle.rng_graph.specs.plain.Search.{Lists}
 use Rattle.rng_graph.proofs.LoopsOrOrder.{no_more}
 
@@ -134,18 +135,60 @@ pub mentioned_combined : (k : Connector) (ts : List (Tree Spot)) → mentioned (
 mentioned_combined k [] = refl
 mentioned_combined k (a ∷ ts) = mentioned_nested k a ts
 
--- a pattern of the graph whose members have a connector
-pub mentioned_seen : (k : Connector) (p : GraphPattern) (xs all : List GraphPattern) → graph_pattern_of p ≡ members k (map graph_pattern_of all)
-    → xs ≡ all → all_mentioned (map graph_pattern_of xs) ≡ mentioned (graph_pattern_of p)
-mentioned_seen k p xs all e q =
-    ap (λ ps. all_mentioned (map graph_pattern_of ps)) q ∙ sym (ap mentioned e ∙ mentioned_members k (map graph_pattern_of all))
+-- ---- rows
 
--- one more member
-pub next_mentioned : {A : Type 0} (f : A → Tree Spot) (xs : List A) (i : ℕ) (x : A) (old new total : List ℕ) → i < length xs → x ≡ get_or xs i x
-    → new ≡ old ++ mentioned (f x) → old ++ all_mentioned (map f (drop i xs)) ≡ total → new ++ all_mentioned (map f (drop (i + 1) xs)) ≡ total
-next_mentioned f xs i x old new total h e p q =
-    let after : suc i ≡ i + 1 = omega arith in
-    let here : drop i xs ≡ get_or xs i x ∷ drop (i + 1) xs = drop-cons xs i x h ∙ ap (λ k. get_or xs i x ∷ drop k xs) after in
-    let rest = all_mentioned (map f (drop (i + 1) xs)) in
-    ap (λ ys. ys ++ rest) p ∙ append_assoc old (mentioned (f x)) rest ∙ ap (λ y. old ++ (mentioned (f y) ++ rest)) e
-    ∙ sym (ap (λ ys. old ++ all_mentioned (map f ys)) here) ∙ q
+all_of_two : (ts us : List (Tree Spot)) → all_mentioned (ts ++ us) ≡ all_mentioned ts ++ all_mentioned us
+all_of_two [] us = refl
+all_of_two (a ∷ ts) us = ap (λ xs. mentioned a ++ xs) (all_of_two ts us) ∙ sym (append_assoc (mentioned a) (all_mentioned ts) (all_mentioned us))
+
+-- no tree, or one
+mentioned_child : (ts : List (Tree Spot)) → length ts ≤ 1 → mentioned (child ts) ≡ all_mentioned ts
+mentioned_child [] h = refl
+mentioned_child (a ∷ []) h = sym (append-nil (mentioned a))
+mentioned_child (a ∷ (b ∷ ts)) h = absurd (omega (arith, h))
+
+-- a row mentions what its children mention, and the definition that it is
+mentioned_row : (r : GraphRow) (ts : List (Tree Spot)) → length ts ≤ arity r → mentioned (row_tree r ts) ≡ all_mentioned ts ++ definition_of_row r
+mentioned_row row.NotAllowed [] h = refl
+mentioned_row row.Empty [] h = refl
+mentioned_row row.Text [] h = refl
+mentioned_row (row.Element k) [] h = refl
+mentioned_row (row.Definition j) [] h = refl
+mentioned_row (row.Data d) [] h = refl
+mentioned_row (row.Value v) [] h = refl
+mentioned_row row.NotAllowed (a ∷ ts) h = absurd (omega (arith, h))
+mentioned_row row.Empty (a ∷ ts) h = absurd (omega (arith, h))
+mentioned_row row.Text (a ∷ ts) h = absurd (omega (arith, h))
+mentioned_row (row.Element k) (a ∷ ts) h = absurd (omega (arith, h))
+mentioned_row (row.Definition j) (a ∷ ts) h = absurd (omega (arith, h))
+mentioned_row (row.Data d) (a ∷ ts) h = absurd (omega (arith, h))
+mentioned_row (row.Value v) (a ∷ ts) h = absurd (omega (arith, h))
+mentioned_row (row.Attribute c) ts h = mentioned_child ts h ∙ sym (append-nil (all_mentioned ts))
+mentioned_row row.List ts h = mentioned_child ts h ∙ sym (append-nil (all_mentioned ts))
+mentioned_row (row.DataExcept d) ts h = mentioned_child ts h ∙ sym (append-nil (all_mentioned ts))
+mentioned_row row.Mixed ts h = mentioned_child ts h ∙ sym (append-nil (all_mentioned ts))
+mentioned_row row.Optional ts h = mentioned_child ts h ∙ sym (append-nil (all_mentioned ts))
+mentioned_row row.ZeroOrMore ts h = mentioned_child ts h ∙ sym (append-nil (all_mentioned ts))
+mentioned_row row.OneOrMore ts h = mentioned_child ts h ∙ sym (append-nil (all_mentioned ts))
+mentioned_row (row.Group n) ts h = mentioned_members group ts ∙ sym (append-nil (all_mentioned ts))
+mentioned_row (row.Interleave n) ts h = mentioned_members interleave ts ∙ sym (append-nil (all_mentioned ts))
+mentioned_row (row.Choice n) ts h = mentioned_members choice ts ∙ sym (append-nil (all_mentioned ts))
+
+mentioned_with : (ts : List (Tree Spot)) (r : GraphRow) → all_mentioned (with_row ts r) ≡ all_mentioned ts ++ definition_of_row r
+mentioned_with ts r =
+    let n = length ts - arity r in
+    let few : length (drop n ts) ≤ arity r = omega (arith, length-drop n ts) in
+    all_of_two (take n ts) (row_tree r (drop n ts) ∷ [])
+    ∙ ap (λ xs. all_mentioned (take n ts) ++ xs) (append-nil (mentioned (row_tree r (drop n ts))) ∙ mentioned_row r (drop n ts) few)
+    ∙ sym (append_assoc (all_mentioned (take n ts)) (all_mentioned (drop n ts)) (definition_of_row r))
+    ∙ ap (λ xs. xs ++ definition_of_row r) (sym (all_of_two (take n ts) (drop n ts)) ∙ ap all_mentioned (take-append-drop n ts))
+
+-- one more row
+pub next_mentioned : (rows : List GraphRow) (i : ℕ) (r : GraphRow) (old new : List ℕ) → i < length rows → r ≡ get_or rows i r
+    → old ≡ all_mentioned (forest (take i rows)) → new ≡ old ++ definition_of_row r → new ≡ all_mentioned (forest (take (i + 1) rows))
+next_mentioned rows i r old new h e same more =
+    more ∙ ap (λ xs. xs ++ definition_of_row r) same ∙ sym (ap all_mentioned (next_row rows i r h e) ∙ mentioned_with (forest (take i rows)) r)
+
+-- a row that is no definition adds nothing
+pub nothing_added : (xs : List ℕ) → xs ≡ xs ++ []
+nothing_added xs = sym (append-nil xs)

@@ -1,5 +1,5 @@
 -- The members of a pattern resolved one by one.
-use Rattle.std.proofs.Common.{◌≡◌, ◌∙◌, refl, sym, ap, ℕ, ◌+◌, ◌<◌, ◌≤◌, List, [], ◌∷◌, ◌++◌, map, length, drop, get_or, Option, append_assoc, Bool, ◌||◌}
+use Rattle.std.proofs.Common.{◌≡◌, ◌∙◌, refl, sym, ap, ℕ, ◌+◌, ◌<◌, ◌≤◌, List, [], ◌∷◌, ◌++◌, map, length, drop, get_or, Option, append_assoc, Bool, ◌||◌, arith}
 use Rattle.std.specs.List.{list_any}
 use Rattle.std.proofs.lemmas.List.{append-nil, drop_all, drop_more}
 use Rattle.rng_model.specs.simple.Tree.{Tree, Connector, choice, group, interleave, joined, tree_and}
@@ -39,18 +39,19 @@ module _ (x : Place) (outer : Option Place) where
   members_resolved group (p ∷ (q ∷ ps)) v = joined_as_each group p q ps v
   members_resolved interleave (p ∷ (q ∷ ps)) v = joined_as_each interleave p q ps v
 
--- the invariant of the loop over these patterns: resolving the rest after this numbering gives what all of them give
-pub record AreResolved (x : Place) (outer : Option Place) (all : List Pattern) (before : Numbering) (rest : List Pattern) (so_far : List (Tree Spot))
-    (now : Numbering) : Type 0 where
-  pub patterns : (resolve_each x outer all before).0 ≡ so_far ++ (resolve_each x outer rest now).0
+-- the invariant of the loop that puts the trees of these patterns behind others: resolving the rest after this numbering
+-- gives what all of them give
+pub record AreResolved (x : Place) (outer : Option Place) (front : List (Tree Spot)) (all : List Pattern) (before : Numbering) (rest : List Pattern)
+    (so_far : List (Tree Spot)) (now : Numbering) : Type 0 where
+  pub patterns : front ++ (resolve_each x outer all before).0 ≡ so_far ++ (resolve_each x outer rest now).0
   pub numbering : (resolve_each x outer all before).1 ≡ (resolve_each x outer rest now).1
 
-module _ {x : Place} {outer : Option Place} {all : List Pattern} {before : Numbering} where
-  pub none_resolved : {so_far : List (Tree Spot)} → so_far ≡ [] → AreResolved x outer all before all so_far before
-  none_resolved e = record { patterns = ap (λ ts. ts ++ (resolve_each x outer all before).0) (sym e); numbering = refl }
+module _ {x : Place} {outer : Option Place} {front : List (Tree Spot)} {all : List Pattern} {before : Numbering} where
+  pub none_resolved : AreResolved x outer front all before all front before
+  none_resolved = record { patterns = refl; numbering = refl }
 
-  one_more : (p : Pattern) (rest : List Pattern) (so_far : List (Tree Spot)) (now : Numbering) → AreResolved x outer all before (p ∷ rest) so_far now
-      → AreResolved x outer all before rest (so_far ++ (resolve x outer p now).0 ∷ []) (resolve x outer p now).1
+  one_more : (p : Pattern) (rest : List Pattern) (so_far : List (Tree Spot)) (now : Numbering) → AreResolved x outer front all before (p ∷ rest) so_far now
+      → AreResolved x outer front all before rest (so_far ++ (resolve x outer p now).0 ∷ []) (resolve x outer p now).1
   unfolding resolve_each
   one_more p rest so_far now r = record {
     patterns = r.patterns ∙ sym (append_assoc so_far ((resolve x outer p now).0 ∷ []) (resolve_each x outer rest (resolve x outer p now).1).0);
@@ -58,23 +59,29 @@ module _ {x : Place} {outer : Option Place} {all : List Pattern} {before : Numbe
   }
 
   pub goes_on : {E : Type 0} (view : E → Pattern) (es : List E) (i : ℕ) (e : E) (so_far more : List (Tree Spot)) (now later : Numbering)
-      → i < length es → e ≡ get_or es i e → AreResolved x outer all before (map view (drop i es)) so_far now
+      → i < length es → e ≡ get_or es i e → AreResolved x outer front all before (map view (drop i es)) so_far now
       → more ≡ so_far ++ (resolve x outer (view e) now).0 ∷ [] → later ≡ (resolve x outer (view e) now).1
-      → AreResolved x outer all before (map view (drop (i + 1) es)) more later
+      → AreResolved x outer front all before (map view (drop (i + 1) es)) more later
   goes_on view es i e so_far more now later inside is r grown put =
       let next : drop i es ≡ e ∷ drop (i + 1) es = drop_more es i e inside ∙ ap (λ y. y ∷ drop (i + 1) es) (sym is) in
       rw (grown, put) (one_more (view e) (map view (drop (i + 1) es)) so_far now (rw next at r))
 
   pub all_patterns : {E : Type 0} (view : E → Pattern) (es : List E) (i : ℕ) (so_far : List (Tree Spot)) (now : Numbering) → length es ≤ i
-      → AreResolved x outer all before (map view (drop i es)) so_far now → so_far ≡ (resolve_each x outer all before).0
+      → AreResolved x outer front all before (map view (drop i es)) so_far now → so_far ≡ front ++ (resolve_each x outer all before).0
   unfolding resolve_each
   all_patterns view es i so_far now end r =
       sym (r.patterns ∙ ap (λ es. so_far ++ (resolve_each x outer (map view es) now).0) (drop_all i es end) ∙ append-nil so_far)
 
   pub all_numbered : {E : Type 0} (view : E → Pattern) (es : List E) (i : ℕ) (so_far : List (Tree Spot)) (now : Numbering) → length es ≤ i
-      → AreResolved x outer all before (map view (drop i es)) so_far now → now ≡ (resolve_each x outer all before).1
+      → AreResolved x outer front all before (map view (drop i es)) so_far now → now ≡ (resolve_each x outer all before).1
   unfolding resolve_each
   all_numbered view es i so_far now end r = sym (r.numbering ∙ ap (λ es. (resolve_each x outer (map view es) now).1) (drop_all i es end))
+
+-- each pattern gives one tree
+pub each_once : (x : Place) (outer : Option Place) (ps : List Pattern) (v : Numbering) → length (resolve_each x outer ps v).0 ≡ length ps
+unfolding resolve_each
+each_once x outer [] v = refl
+each_once x outer (p ∷ ps) v = let rest = each_once x outer ps (resolve x outer p v).1 in omega (arith, rest)
 
 -- whether some member of a list has a property: the first one, or one of the others
 pub next_any : {A E : Type 0} (test : A → Bool) (view : E → A) (es : List E) (i : ℕ) (e : E) → i < length es → e ≡ get_or es i e

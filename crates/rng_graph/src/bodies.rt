@@ -5,11 +5,11 @@ ghost use Rattle.rng_model.specs.schema.Schema.{is_interleaved};
 ghost use Rattle.rng_model.specs.views.SchemaView.{place_of, schema_component_of};
 ghost use Rattle.rng_graph.specs.views.ComponentTable.{joining};
 ghost use Rattle.rng_graph.specs.views.Definitions.{numbering_of};
-ghost use Rattle.rng_graph.specs.views.GraphView.{combined, graph_body_of, graph_pattern_of};
+ghost use Rattle.rng_graph.specs.views.GraphView.{combined, forest, graph_body_of};
 ghost use Rattle.rng_graph.specs.plain.Resolving.{resolve_each};
 
 use crate::definitions::Numbering;
-use crate::graph::{GraphBody, GraphPattern};
+use crate::graph::{GraphBody, GraphRow};
 use crate::resolving::Scope;
 use rng_model::{Component, Method, OutOfMemory};
 
@@ -27,30 +27,30 @@ impl<'a> Scope<'a> {
         ensures numbering { OnOk result (numbering_of numbering.new
             ≡ (resolve_each (place_of self.entry.place.now) (option_map (λ z. place_of z.now) self.entry.outer) (map (λ c. (schema_component_of c.now).pattern) components.now) (numbering_of numbering.old)).1) }
     {
-        let patterns = self.component_patterns(components, numbering)?;
+        let rows = self.component_rows(components, numbering)?;
         if are_interleaved(components) {
-            Ok(GraphBody::Interleave(patterns))
+            Ok(GraphBody::Interleave(rows))
         } else {
-            Ok(GraphBody::Choice(patterns))
+            Ok(GraphBody::Choice(rows))
         }
     }
 
-    /// The patterns of components, in order.
-    fn component_patterns(
+    /// The rows of the patterns of components, in order.
+    fn component_rows(
         self,
         components: &[&'a Component],
         numbering: &mut Numbering<'a>,
-    ) -> Result<Vec<GraphPattern<'a>>, OutOfMemory>
-        ensures patterns { IfOk result (λ rs. map graph_pattern_of rs.items
+    ) -> Result<Vec<GraphRow<'a>>, OutOfMemory>
+        ensures patterns { IfOk result (λ rows. forest rows.items
             ≡ (resolve_each (place_of self.entry.place.now) (option_map (λ z. place_of z.now) self.entry.outer) (map (λ c. (schema_component_of c.now).pattern) components.now) (numbering_of numbering.old)).0) }
         ensures numbering { OnOk result (numbering_of numbering.new
             ≡ (resolve_each (place_of self.entry.place.now) (option_map (λ z. place_of z.now) self.entry.outer) (map (λ c. (schema_component_of c.now).pattern) components.now) (numbering_of numbering.old)).1) }
     {
-        let mut patterns = Vec::with_capacity(self.alloc, components.len())?;
+        let mut rows = Vec::with_capacity(self.alloc, components.len())?;
         for component in components {
-            patterns.push(self.pattern(&component.pattern, numbering)?)?;
+            self.pattern(&component.pattern, &mut rows, numbering)?;
         }
-        Ok(patterns)
+        Ok(rows)
     }
 }
 

@@ -18,34 +18,47 @@ pub fn depths(alloc: Global, graph: &Graph<'_>, order: &[usize]) -> Result<Vec<u
     ensures { IfOk result (λ table. IsFilledBy (graph_of graph.now) (spot_depth (depth_in table.items)) (depth_in table.items) order.now) }
 {
     let mut table = vec![in alloc; 0; graph.bodies.len()]?;
+    let mut inside = Vec::new(alloc);
     for j in order {
-        let depth = body_depth(&graph.bodies[*j], table.as_slice());
+        let depth = body_depth(&mut inside, &graph.bodies[*j], table.as_slice())?;
         table[*j] = depth;
     }
     Ok(table)
 }
 
 /// Whether some tree or name class is too deep, given the depths of the definitions.
-pub fn is_too_deep(graph: &Graph<'_>, definitions: &[u32]) -> bool
-    ensures deep { IsTrue result → IsDeepBy (classes_of graph.now) (graph_of graph.now) (depth_in definitions.now) }
-    ensures flat { IsFalse result → ¬ (IsDeepBy (classes_of graph.now) (graph_of graph.now) (depth_in definitions.now)) }
+///
+/// Takes time linear in the bodies. Fails only when out of memory.
+pub fn is_too_deep(
+    alloc: Global,
+    graph: &Graph<'_>,
+    definitions: &[u32],
+) -> Result<bool, AllocError>
+    ensures deep { IfOk result (λ b. IsTrue b → IsDeepBy (classes_of graph.now) (graph_of graph.now) (depth_in definitions.now)) }
+    ensures flat { IfOk result (λ b. IsFalse b → ¬ (IsDeepBy (classes_of graph.now) (graph_of graph.now) (depth_in definitions.now))) }
 {
     if definition_depth(definitions, 0) > DEPTH_LIMIT {
-        return true;
+        return Ok(true);
     }
+    let mut inside = Vec::new(alloc);
     'elements: for element in &graph.elements {
-        if is_deep_element(element, definitions) {
-            return true;
+        if is_deep_element(&mut inside, element, definitions)? {
+            return Ok(true);
         }
     }
-    false
+    Ok(false)
 }
 
-/// Whether the name class of an element or the tree of its body is too deep, given the depths of the definitions.
-fn is_deep_element(element: &GraphElement<'_>, definitions: &[u32]) -> bool
-    ensures deep { IsTrue result → IsDeepElement definitions.now element.now }
-    ensures flat { IsFalse result → ¬ (IsDeepElement definitions.now element.now) }
+/// Whether the name class of an element or the tree of its body is too deep, given the depths of the definitions. Uses
+/// `inside`.
+fn is_deep_element(
+    inside: &mut Vec<u32>,
+    element: &GraphElement<'_>,
+    definitions: &[u32],
+) -> Result<bool, AllocError>
+    ensures deep { IfOk result (λ b. IsTrue b → IsDeepElement definitions.now element.now) }
+    ensures flat { IfOk result (λ b. IsFalse b → ¬ (IsDeepElement definitions.now element.now)) }
 {
-    class_depth(element.class) > DEPTH_LIMIT
-        || pattern_depth(&element.content, definitions) > DEPTH_LIMIT
+    let depth = pattern_depth(inside, &element.content, definitions)?;
+    Ok(depth > DEPTH_LIMIT || class_depth(element.class) > DEPTH_LIMIT)
 }

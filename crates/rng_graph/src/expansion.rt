@@ -17,8 +17,8 @@ use std::alloc::Global;
 ///
 /// Fails with clause 16 if some expansion loops outside elements. Otherwise fails with clause 17 if some tree or name
 /// class is deeper than 1,000, with members nested in twos, and `mixed`, `?` and `*` replaced by other patterns. The
-/// only other failure is out of memory. Takes time and memory linear in the graph. Recurses as deep as a single body
-/// nests.
+/// only other failure is out of memory. Takes time and memory linear in the graph. Recurses as deep as a single name
+/// class nests.
 ///
 /// RELAX NG Specification, section 4.19.
 pub fn expansion_order(alloc: Global, graph: &Graph<'_>) -> Result<Vec<usize>, SchemaFault>
@@ -33,7 +33,7 @@ pub fn expansion_order(alloc: Global, graph: &Graph<'_>) -> Result<Vec<usize>, S
         Sorted::Loop(_) => return Err(SchemaFault::Clause(16)),
     };
     let depths = depths(alloc, graph, order.as_slice())?;
-    if is_too_deep(graph, depths.as_slice()) {
+    if is_too_deep(alloc, graph, depths.as_slice())? {
         return Err(SchemaFault::Clause(17));
     }
     Ok(order)

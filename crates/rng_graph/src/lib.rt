@@ -19,4 +19,4 @@ mod resolving;
 
 pub use building::schema_graph;
 pub use expansion::expansion_order;
-pub use graph::{Graph, GraphBody, GraphElement, GraphPattern};
+pub use graph::{Graph, GraphBody, GraphElement, GraphRow};

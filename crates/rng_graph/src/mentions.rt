@@ -1,10 +1,10 @@
 // The definitions that each body mentions.
 ghost use Rattle.std.specs.Prelude.{◌≡◌, ◌++◌, map, IfOk, OnOk};
-ghost use Rattle.rng_graph.specs.views.GraphView.{graph_pattern_of, graph_body_of, graph_of};
-ghost use Rattle.rng_graph.specs.plain.Mentioned.{mentioned, all_mentioned};
+ghost use Rattle.rng_graph.specs.views.GraphView.{forest, graph_body_of, graph_of};
+ghost use Rattle.rng_graph.specs.plain.Mentioned.{mentioned, all_mentioned, definition_of_row};
 ghost use Rattle.rng_graph.specs.plain.Search.{lists};
 
-use crate::graph::{Graph, GraphBody, GraphPattern};
+use crate::graph::{Graph, GraphBody, GraphRow};
 use std::alloc::{AllocError, Global};
 
 /// Returns for each definition those that its body mentions outside elements.
@@ -26,52 +26,34 @@ fn body_mentions(alloc: Global, body: &GraphBody<'_>) -> Result<Vec<usize>, Allo
     ensures { IfOk result (λ found. found.items ≡ mentioned (graph_body_of body.now)) }
 {
     match body {
-        GraphBody::Choice(all) => members_mentions(alloc, all),
-        GraphBody::Interleave(all) => members_mentions(alloc, all),
+        GraphBody::Choice(rows) => rows_mentions(alloc, rows),
+        GraphBody::Interleave(rows) => rows_mentions(alloc, rows),
     }
 }
 
-/// The definitions that patterns mention outside elements.
-fn members_mentions(alloc: Global, all: &[GraphPattern<'_>]) -> Result<Vec<usize>, AllocError>
-    ensures { IfOk result (λ found. found.items ≡ all_mentioned (map graph_pattern_of all.now)) }
+/// The definitions that the patterns of these rows mention outside elements.
+fn rows_mentions(alloc: Global, rows: &[GraphRow<'_>]) -> Result<Vec<usize>, AllocError>
+    ensures { IfOk result (λ found. found.items ≡ all_mentioned (forest rows.now)) }
 {
     let mut found = Vec::new(alloc);
-    add_all_mentions(&mut found, all)?;
+    for row in rows {
+        add_mention(&mut found, row)?;
+    }
     Ok(found)
 }
 
-/// Appends the definitions that a pattern mentions outside elements.
-#[cycle(patterns)]
-fn add_mentions(found: &mut Vec<usize>, pattern: &GraphPattern<'_>) -> Result<(), AllocError>
-    ensures { OnOk result (found.new.items ≡ found.old.items ++ mentioned (graph_pattern_of pattern.now)) }
+/// Appends the definition of a row, if it is one.
+#[tactic(auto, using(crate::proofs::Mentioned::nothing_added))]
+fn add_mention(found: &mut Vec<usize>, row: &GraphRow<'_>) -> Result<(), AllocError>
+    ensures { OnOk result (found.new.items ≡ found.old.items ++ definition_of_row row.now) }
 {
-    match pattern {
-        GraphPattern::NotAllowed | GraphPattern::Empty | GraphPattern::Text => Ok(()),
-        GraphPattern::Element(_) | GraphPattern::Value(_) => Ok(()),
-        GraphPattern::Definition(j) => Ok(found.push(*j)?),
-        GraphPattern::Attribute(_, body) => add_mentions(found, body),
-        GraphPattern::List(body) => add_mentions(found, body),
-        GraphPattern::Data { except, .. } => match except {
-            Some(body) => add_mentions(found, body),
-            None => Ok(()),
-        },
-        GraphPattern::Mixed(body) => add_mentions(found, body),
-        GraphPattern::Optional(body) => add_mentions(found, body),
-        GraphPattern::ZeroOrMore(body) => add_mentions(found, body),
-        GraphPattern::OneOrMore(body) => add_mentions(found, body),
-        GraphPattern::Group(all) => add_all_mentions(found, all),
-        GraphPattern::Interleave(all) => add_all_mentions(found, all),
-        GraphPattern::Choice(all) => add_all_mentions(found, all),
+    match row {
+        GraphRow::Definition(j) => Ok(found.push(*j)?),
+        GraphRow::NotAllowed | GraphRow::Empty | GraphRow::Text => Ok(()),
+        GraphRow::Element(_) | GraphRow::Data(_) | GraphRow::Value(_) => Ok(()),
+        GraphRow::Attribute(_) | GraphRow::List | GraphRow::DataExcept(_) => Ok(()),
+        GraphRow::Mixed | GraphRow::Optional => Ok(()),
+        GraphRow::ZeroOrMore | GraphRow::OneOrMore => Ok(()),
+        GraphRow::Group(_) | GraphRow::Interleave(_) | GraphRow::Choice(_) => Ok(()),
     }
-}
-
-/// Appends the definitions that patterns mention outside elements.
-#[cycle(patterns)]
-fn add_all_mentions(found: &mut Vec<usize>, all: &[GraphPattern<'_>]) -> Result<(), AllocError>
-    ensures { OnOk result (found.new.items ≡ found.old.items ++ all_mentioned (map graph_pattern_of all.now)) }
-{
-    for member in all {
-        add_mentions(found, member)?;
-    }
-    Ok(())
 }

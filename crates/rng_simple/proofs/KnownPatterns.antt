@@ -1,5 +1,5 @@
 -- If each pattern of a table is used, and the grammar that it represents has only known datatypes, so has the table.
-use Rattle.std.proofs.Common.{ℕ, List, [], ◌∷◌, subst, length, get_or, All}
+use Rattle.std.proofs.Common.{ℕ, List, subst, get_or, All}
 use Rattle.std.proofs.lemmas.List.Elements.{All-from_get_or, All-head, All-tail}
 use Rattle.std.proofs.lemmas.Option.{slice_get-get_or}
 use Rattle.rng_model.specs.simple.Tree.{Simple}

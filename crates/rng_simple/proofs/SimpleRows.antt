@@ -1,8 +1,8 @@
 -- Rows that are filled in along an order, and rows of bodies, one after another.
 use Rattle.std.proofs.Common.{◌≡◌, inl, inr, ap, sym, ◌∙◌, subst, ℕ, ◌+◌, ◌<◌, ◌≤◌, List, [], ◌∷◌, ◌++◌, length, take, set, get_or, slice_get, slice_index_or}
-use Rattle.std.proofs.Common.{Some, arith, length-append}
+use Rattle.std.proofs.Common.{Some, arith}
 use Rattle.std.proofs.lemmas.Bool.{cases_lt, cases_eq}
-use Rattle.std.proofs.lemmas.List.{take_more, get_or-set_same, get_or-set_other, get_or_past, get_or_append_left, get_or_push}
+use Rattle.std.proofs.lemmas.List.{take_more, get_or-set_same, get_or-set_other, get_or_past}
 use Rattle.std.proofs.lemmas.Option.{slice_get-get_or, get_or_from_slice_get}
 use Rattle.rng_model.specs.simple.Tree.{Tree, empty, s_empty, Simple}
 use Rattle.rng_graph.specs.plain.Graph.{Spot, Graph, Mentions, IsOrderBy, IsFilledBy}
@@ -13,7 +13,7 @@ use Rattle.rng_simple.specs.plain.GrammarBy.{spot_simple, content_simple}
 use Rattle.rng_simple.specs.plain.SimpleWith.{simple_with}
 use Rattle.rng_simple.specs.views.RowTable.{row_count, tree_of, IsRowTable, IsGrown}
 use Rattle.rng_simple.specs.plain.SimpleParts.{AreRowsBelow, values_in}
-use Rattle.rng_simple.proofs.SimpleParts.{empty_below, empty_is, stay_below}
+use Rattle.rng_simple.proofs.SimpleParts.{at_front, at_last, empty_is, stay_below}
 use Rattle.rng_simple.proofs.SimpleTables.{simple_reads}
 
 -- ---- one definition more
@@ -58,26 +58,10 @@ contents_past g values t rows n k is e f h =
     ap (tree_of t) (get_or_past rows k 0 (omega (arith, e))) ∙ empty_is t is ∙ empty_content g values k (omega (arith, f))
 
 module _ (t u : RowTable) (grown : IsGrown t u) (rows new : List ℕ) (id n : ℕ) (more : new ≡ rows ++ id ∷ []) (long : length rows ≡ n)
-    (below : AreRowsBelow (row_count t) rows) (there : id < row_count u) where
-  at_last : get_or new n 0 ≡ id
-  at_last = ap (λ xs. get_or xs n 0) more ∙ get_or_push rows id 0 n long
-
-  at_front : (k : ℕ) → k < n → get_or new k 0 ≡ get_or rows k 0
-  at_front k h = ap (λ xs. get_or xs k 0) more ∙ get_or_append_left rows (id ∷ []) 0 k (omega (arith, long))
-
-  pub push_below : AreRowsBelow (row_count u) new
-  push_below k = elim (cases_lt k n) [
-    | inl h ↦ subst (λ m. m < row_count u) (sym (at_front k h)) (stay_below t u rows grown below k)
-    | inr h ↦ elim (cases_eq k n) [
-      | inl e ↦ subst (λ m. m < row_count u) (sym (ap (λ i. get_or new i 0) e ∙ at_last)) there
-      | inr e ↦ subst (λ m. m < row_count u) (sym (get_or_past new k 0 (omega (arith, ap length more, length-append rows (id ∷ []), h, e, long))))
-          (empty_below u grown.table)
-    ]
-  ]
-
+    (below : AreRowsBelow (row_count t) rows) where
   pub contents_next : (tree : ℕ → Simple ℕ) → ((k : ℕ) → k < n → tree_of t (slice_index_or rows k 0) ≡ tree k) → tree_of u id ≡ tree n
       → (k : ℕ) → k < n + 1 → tree_of u (slice_index_or new k 0) ≡ tree k
   contents_next tree f e k h = elim (cases_lt k n) [
-    | inl l ↦ ap (tree_of u) (at_front k l) ∙ grown.stays (get_or rows k 0) (below k) ∙ f k l
-    | inr l ↦ let last : k ≡ n = omega arith in ap (λ i. tree_of u (get_or new i 0)) last ∙ ap (tree_of u) at_last ∙ e ∙ ap tree (sym last)
+    | inl l ↦ ap (tree_of u) (at_front rows new id n more long k l) ∙ grown.stays (get_or rows k 0) (below k) ∙ f k l
+    | inr l ↦ let last : k ≡ n = omega arith in ap (λ i. tree_of u (get_or new i 0)) last ∙ ap (tree_of u) (at_last rows new id n more long) ∙ e ∙ ap tree (sym last)
   ]

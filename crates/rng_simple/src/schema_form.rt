@@ -42,7 +42,7 @@ struct GrammarTables {
 /// The result is in the simple syntax of section 5. It is the only simple form of the schema, up to the numbers of its
 /// elements. Each definition and each element is simplified once, equal patterns have one number, and elements that the
 /// start does not reach are left out. Fails only when out of memory. Takes time and memory linear in the graph, apart
-/// from hash collisions. Recurses as deep as a single body nests. To limit memory, the graph and the order are freed
+/// from hash collisions. Recurses as deep as a single name class nests. To limit memory, the graph and the order are freed
 /// before the grammar is made.
 pub(crate) fn simple_grammar(
     alloc: Global,

@@ -7,7 +7,7 @@ ghost use Rattle.rng_simple.specs.views.RowTable.{IsGrown, IsRowTable, row_count
 ghost use Rattle.rng_simple.specs.plain.SimpleParts.{AreRowsBelow, values_in};
 
 use crate::row_table::{EMPTY, RowTable};
-use crate::simple_parts::{simple_body, simple_part};
+use crate::simple_parts::{simple_body, simple_pattern};
 use rng_graph::Graph;
 use std::alloc::{AllocError, Global};
 
@@ -30,8 +30,9 @@ pub fn definition_rows<'a>(
         IsFilledBy (graph_of graph.now) (spot_simple values) values order.now) }
 {
     let mut rows = vec![in alloc; EMPTY; graph.bodies.len()]?;
+    let mut sides = Vec::new(alloc);
     for j in order {
-        let row = simple_body(table, rows.as_slice(), &graph.bodies[*j])?;
+        let row = simple_body(table, rows.as_slice(), &mut sides, &graph.bodies[*j])?;
         rows[*j] = row;
     }
     Ok(rows)
@@ -54,8 +55,9 @@ pub fn content_rows<'a>(
         tree_of table.new (slice_index_or rows.items k 0) ≡ content_simple (graph_of graph.now) (values_in table.old definitions.now) k) }
 {
     let mut rows = Vec::with_capacity(alloc, graph.elements.len())?;
+    let mut sides = Vec::new(alloc);
     'elements: for element in &graph.elements {
-        rows.push(simple_part(table, definitions, &element.content)?)?;
+        rows.push(simple_pattern(table, definitions, &mut sides, &element.content)?)?;
     }
     Ok(rows)
 }

@@ -3,6 +3,8 @@ use Rattle.std.specs.Prelude.{ℕ, List, [], ◌∷◌, ◌++◌}
 use Rattle.rng_model.specs.simple.Tree.{Tree, not_allowed, empty, text, leaf, attribute, list, data_of, data_except, value, mixed, optional, zero_or_more, one_or_more}
 use Rattle.rng_model.specs.simple.Tree.{joined, Trees, no_trees, tree_and}
 use Rattle.rng_graph.specs.plain.Graph.{Spot, at_element, at_definition}
+use Rattle.rng_graph.specs.declared.graph.GraphRow.{GraphRow}
+use Rattle.rng_graph.specs.declared.graph.GraphRow.TheVariants as row
 
 abbrev pub definition_there : Spot → List ℕ
 definition_there (at_element k) = []
@@ -32,3 +34,23 @@ abbrev mutual
 abbrev pub all_mentioned : List (Tree Spot) → List ℕ
 all_mentioned [] = []
 all_mentioned (a ∷ ts) = mentioned a ++ all_mentioned ts
+
+-- the definition that a row is, if it is one
+abbrev pub definition_of_row : GraphRow → List ℕ
+definition_of_row row.NotAllowed = []
+definition_of_row row.Empty = []
+definition_of_row row.Text = []
+definition_of_row (row.Element k) = []
+definition_of_row (row.Definition j) = j ∷ []
+definition_of_row (row.Data d) = []
+definition_of_row (row.Value v) = []
+definition_of_row (row.Attribute c) = []
+definition_of_row row.List = []
+definition_of_row (row.DataExcept d) = []
+definition_of_row row.Mixed = []
+definition_of_row row.Optional = []
+definition_of_row row.ZeroOrMore = []
+definition_of_row row.OneOrMore = []
+definition_of_row (row.Group n) = []
+definition_of_row (row.Interleave n) = []
+definition_of_row (row.Choice n) = []

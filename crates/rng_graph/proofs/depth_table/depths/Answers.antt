@@ -18,11 +18,11 @@ loop-j-preserved c =
     let inside : i < length order = omega arith in
     let below : j < length bodies = omega (arith, c.requires.within i 0 inside, length-map bodies graph_body_of) in
     let there = map_at graph_body_of bodies j c.index.result.now (read_at bodies j c.index.result.now c.index.result.now below c.index.ensures refl) in
-    let new : c.body_depth-depth.result ≡ spot_depth (depth_in table) (graph_body_of c.index.result.now) =
-    c.body_depth-depth.ensures ∙ ap (λ ns. spot_depth (depth_in ns) (graph_body_of c.index.result.now)) c.as_slice.ensures.value in
+    let new : c.in_ok-depth.depth ≡ spot_depth (depth_in table) (graph_body_of c.index.result.now) =
+    c.in_ok-depth.ensures ∙ ap (λ ns. spot_depth (depth_in ns) (graph_body_of c.index.result.now)) c.as_slice.ensures.value in
     record {
-      long = length-set table j c.body_depth-depth.result ∙ c.loop-j.invariant.long;
-      filled = filled_next g order c.requires.order table i j c.body_depth-depth.result (graph_body_of c.index.result.now) inside refl there
+      long = length-set table j c.in_ok-depth.depth ∙ c.loop-j.invariant.long;
+      filled = filled_next g order c.requires.order table i j c.in_ok-depth.depth (graph_body_of c.index.result.now) inside refl there
           (omega (arith, below, c.loop-j.invariant.long)) new c.loop-j.invariant.filled;
     }
 

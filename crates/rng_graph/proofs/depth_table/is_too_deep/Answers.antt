@@ -4,14 +4,14 @@ use Rattle.rng_graph.proofs.DepthTable.{element_is_deep, none_is_deep, next_is_f
 use Rattle.rng_graph.proofs.depth_table.is_too_deep.Goals as goal
 use Rattle.rng_graph.proofs.ListParts.{read_at}
 
-pub returns-then-is_deep_element-clause-deep : goal.returns-then-is_deep_element-clause-deep
-returns-then-is_deep_element-clause-deep c = λ yes.
+pub returns-then-branch-clause-deep : goal.returns-then-branch-clause-deep
+returns-then-branch-clause-deep c = λ yes.
     let e = c.element-item.result in
     let i = c.elements.element-index in
     let items = c.args.graph.now.elements.items in
     let same : e ≡ get_or items i e = c.element-item.is ∙ ap (λ xs. get_or xs i e) c.deref-element-items.ensures.value in
     let inside : i < length items = omega (arith, ap length c.deref-element-items.ensures.value) in
-    element_is_deep c.args.graph.now c.args.definitions.now i e (read_at items i e e inside same refl) (c.is_deep_element.ensures.deep (search rules))
+    element_is_deep c.args.graph.now c.args.definitions.now i e (read_at items i e e inside same refl) (c.in_ok-is_deep_element.ensures.deep (search rules))
 
 pub elements-preserved : goal.elements-preserved
 elements-preserved c =
@@ -20,7 +20,7 @@ elements-preserved c =
     let items = c.args.graph.now.elements.items in
     let same : e ≡ get_or items i e = c.element-item.is ∙ ap (λ xs. get_or xs i e) c.deref-element-items.ensures.value in
     let inside : i < length items = omega (arith, ap length c.deref-element-items.ensures.value) in
-    next_is_flat c.args.graph.now c.args.definitions.now i e inside same (c.is_deep_element.ensures.flat (search rules)) c.elements.invariant
+    next_is_flat c.args.graph.now c.args.definitions.now i e inside same (c.in_ok-is_deep_element.ensures.flat (search rules)) c.elements.invariant
 
 pub returns-clause-flat : goal.returns-clause-flat
 returns-clause-flat c = λ no_more.

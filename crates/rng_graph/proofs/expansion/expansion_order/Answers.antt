@@ -37,14 +37,14 @@ returns-clause-order c =
     let is = ap lists c.as_slice.ensures.value ∙ c.in_ok-all.ensures in
     answer_is_whole c.args.graph.now all is c.in_ok-order.field-0 c.in-Order.order c.in_ok-order.ensures c.in-Order.is
 
-pub returns-then-is_too_deep-clause-broken : goal.returns-then-is_too_deep-clause-broken
-returns-then-is_too_deep-clause-broken c = λ s is.
+pub returns-then-branch-clause-broken : goal.returns-then-branch-clause-broken
+returns-then-branch-clause-broken c = λ s is.
     let g = c.args.graph.now in
     let lists_are = ap lists c.as_slice.ensures.value ∙ c.in_ok-all.ensures in
     let order = answer_is_whole g (lists c.as_slice.result.now) lists_are c.in_ok-order.field-0 c.in-Order.order c.in_ok-order.ensures c.in-Order.is in
     let values = depth_in c.in_ok-depths.depths.items in
     let filled = subst (IsFilledBy (graph_of g) (spot_depth values) values) c.as_slice-2.ensures.value c.in_ok-depths.ensures in
-    let deep = subst (λ table. IsDeepBy (classes_of g) (graph_of g) (depth_in table)) c.as_slice-3.ensures.value (c.is_too_deep.ensures.deep (search rules)) in
+    let deep = subst (λ table. IsDeepBy (classes_of g) (graph_of g) (depth_in table)) c.as_slice-3.ensures.value (c.in_ok-is_too_deep.ensures.deep (search rules)) in
     inr (refl, (depth_breaks g c.in-Order.order.items order s is values filled).1 deep, keeps_breaks_not (order_keeps g c.in-Order.order.items order s is))
 
 pub returns-clause-kept : goal.returns-clause-kept
@@ -55,5 +55,5 @@ returns-clause-kept c = λ s is.
     let values = depth_in c.in_ok-depths.depths.items in
     let filled = subst (IsFilledBy (graph_of g) (spot_depth values) values) c.as_slice-2.ensures.value c.in_ok-depths.ensures in
     let flat =
-    subst (λ table. IsDeepBy (classes_of g) (graph_of g) (depth_in table) → ⊥) c.as_slice-3.ensures.value (c.is_too_deep.ensures.flat (search rules)) in
+    subst (λ table. IsDeepBy (classes_of g) (graph_of g) (depth_in table) → ⊥) c.as_slice-3.ensures.value (c.in_ok-is_too_deep.ensures.flat (search rules)) in
     (keeps_breaks_not (order_keeps g c.in-Order.order.items order s is), λ b. flat ((depth_breaks g c.in-Order.order.items order s is values filled).0 b))
