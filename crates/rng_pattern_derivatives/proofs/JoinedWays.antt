@@ -144,15 +144,20 @@ module _ (old : List Node) (ways : List LeafWay) where
               (λ e. subst (IsJoin new) e join) (Contains-push_cases all w v c);
           met = λ v c. ⊎_elim
               (λ k.
-                  let o = h.met v k in
-                  let there = All-contains (IsInside base) all o.0 h.inside o.1 in (
-                    o.0,
-                    Contains-append_left all (w ∷ []) o.0 o.1,
-                    o.2,
-                    λ t g xs ns d. subst (λ p. Takes g p xs ns) (sym (tree_stays t base new o.0.rest.0 longer there.1)) (o.3 t g xs ns d),
-                  ))
-              (λ k. (w, Contains-push all w, sym k.0, λ t g xs ns d. (takes t g xs ns).1
-                  (v.rest, k.1, subst (λ p. Takes g p xs ns) (sym (stays t v.rest k.1)) d)))
+              let o = h.met v k in
+              let there = All-contains (IsInside base) all o.0 h.inside o.1 in (
+                o.0,
+                Contains-append_left all (w ∷ []) o.0 o.1,
+                o.2,
+                λ t g xs ns d. subst (λ p. Takes g p xs ns) (sym (tree_stays t base new o.0.rest.0 longer there.1)) (o.3 t g xs ns d),
+              ))
+              (λ k. (
+                w,
+                Contains-push all w,
+                sym k.0,
+                λ t g xs ns d. (takes t g xs ns).1
+                    (v.rest, k.1, subst (λ p. Takes g p xs ns) (sym (stays t v.rest k.1)) d),
+              ))
               (run.all v c);
         }
 
@@ -211,8 +216,10 @@ run_begins ways start inside = record {
   some = omega arith;
   within = omega (arith, inside);
   all = λ v c. ⊎_elim (λ k. inl k)
-      (λ e. inr (sym (ap (λ (w : LeafWay). w.leaf) e),
-        subst (Contains ((way_at ways start).rest ∷ [])) (ap (λ (w : LeafWay). w.rest) e) (Contains-push [] (way_at ways start).rest)))
+      (λ e. inr (
+        sym (ap (λ (w : LeafWay). w.leaf) e),
+        subst (Contains ((way_at ways start).rest ∷ [])) (ap (λ (w : LeafWay). w.rest) e) (Contains-push [] (way_at ways start).rest),
+      ))
       (Contains-push_cases (take start ways) (way_at ways start) v (subst (λ ws. Contains ws v) (sym (one_more_taken ways start _ inside)) c));
   own = λ r c. ⊎_elim (λ none. absurd (let k = none.1 in omega (arith, k)))
       (λ e. subst (λ r. Contains ways (way_to (way_at ways start).leaf r)) e (Contains-get_or ways start _ inside))
@@ -230,14 +237,16 @@ run_more ways start next rests at inside run same =
       within = omega (arith, long, at, inside);
       all = λ v c. ⊎_elim
           (λ k. ⊎_elim (λ a. inl a) (λ b. inr (b.0, Contains-append_left rests _ v.rest b.1))
-              (run.all v (subst (λ i. Contains (take i ways) v) at k)))
-          (λ e. inr (sym (ap (λ (w : LeafWay). w.leaf) e) ∙ same,
-            subst (Contains (rests ++ (way_at ways next).rest ∷ [])) (ap (λ (w : LeafWay). w.rest) e) (Contains-push rests _)))
+          (run.all v (subst (λ i. Contains (take i ways) v) at k)))
+          (λ e. inr (
+            sym (ap (λ (w : LeafWay). w.leaf) e) ∙ same,
+            subst (Contains (rests ++ (way_at ways next).rest ∷ [])) (ap (λ (w : LeafWay). w.rest) e) (Contains-push rests _),
+          ))
           (Contains-push_cases (take next ways) (way_at ways next) v (subst (λ ws. Contains ws v) (sym (one_more_taken ways next _ inside))
           (subst (λ i. Contains (take i ways) v) after c)));
       own = λ r c. ⊎_elim (λ k. run.own r k)
           (λ e. subst (λ r. Contains ways (way_to (way_at ways start).leaf r)) e
-              (subst (λ l. Contains ways (way_to l (way_at ways next).rest)) same (Contains-get_or ways next _ inside)))
+          (subst (λ l. Contains ways (way_to l (way_at ways next).rest)) same (Contains-get_or ways next _ inside)))
           (Contains-push_cases rests (way_at ways next).rest r c);
     }
 

@@ -8,7 +8,7 @@ ghost use Rattle.rng_pattern_table.specs.views.Trees.{tree_of};
 ghost use Rattle.rng_pattern_derivatives.specs.plain.Closing.{IsChoice, IsClosed};
 ghost use Rattle.rng_pattern_derivatives.specs.views.KnownRests.{AreRestsOf};
 
-use crate::rests::{KnownRests, keep_rest, known_rest};
+use crate::rests::{KnownRests, keep_rest};
 use crate::ways::copied;
 use rng_model::OutOfMemory;
 use rng_pattern_table::{Pattern, PatternNumber, PatternTable, Step};
@@ -81,7 +81,7 @@ fn take_step(
             Ok(true)
         }
         Some(Step::Parts(part)) => {
-            if !table.facts(part).attributes || known_rest(known, part).is_some() {
+            if !table.facts(part).attributes || known.get(&part).is_some() {
                 return Ok(true);
             }
             steps.push(Step::Whole(part))?;
@@ -108,8 +108,8 @@ fn rest_of(
     if !table.facts(number).attributes {
         return Ok(number);
     }
-    if let Some(rest) = known_rest(known, number) {
-        return Ok(rest);
+    if let Some(rest) = known.get(&number) {
+        return Ok(*rest);
     }
     let rest = close_parts(alloc, table, known, number)?;
     keep_rest(known, number, rest)?;

@@ -1,4 +1,4 @@
-use Rattle.std.proofs.Common.{◌≡◌, ◌∙◌, ◌<◌, ◌+◌, ◌↔◌, All, List, length, map, take, get_or, refl, sym, ap, subst, arith, true, false}
+use Rattle.std.proofs.Common.{◌≡◌, ◌∙◌, ◌<◌, ◌+◌, ◌↔◌, All, List, length, map, take, get_or, refl, sym, ap, subst, arith, rules, true, false}
 use Rattle.std.proofs.lemmas.Bool.{not-false, not-true}
 use Rattle.std.proofs.Math.ListN.{get_or-map}
 use Rattle.std.proofs.lemmas.List.{length-map, take_all}
@@ -20,6 +20,7 @@ use Rattle.rng_pattern_derivatives.specs.plain.Closing.{IsBareOfAttributes}
 use Rattle.rng_pattern_derivatives.proofs.PatternsWithoutAttributes.{bare_there, closed_same}
 use Rattle.rng_pattern_derivatives.specs.declared.way.Joint.TheVariants as joints
 use Rattle.rng_pattern_derivatives.proofs.ClosedTags.{both_closed, both_ok, choice_closed, copies_closed, inside_more, none_closed, takes_more, bare_more}
+use Rattle.rng_pattern_derivatives.specs.views.KnownRests.{HasRest}
 use Rattle.rng_pattern_derivatives.proofs.KnownRests.{rests_longer, rests_more}
 use Rattle.rng_pattern_derivatives.proofs.PatternNodes.{is_over, other_single, parts_there, single_alone}
 use Rattle.rng_pattern_derivatives.proofs.closing.+closing.Goals as goal
@@ -129,7 +130,9 @@ rest_of-close_parts-requires t c =
     (omega (arith, d), (c.requires.inside, (c.requires.known, there)))
 
 pub rest_of-returns-in-Some-clause-closed : goal.rest_of-returns-in-Some-clause-closed
-rest_of-returns-in-Some-clause-closed t c = (c.requires.known c.args.number c.in-Some.rest c.in-Some.ensures).closed
+rest_of-returns-in-Some-clause-closed t c =
+    let has : HasRest c.args.known.now c.args.number c.in-Some.rest.now = search rules in
+    (c.requires.known c.args.number c.in-Some.rest.now has).closed
 
 pub rest_of-returns-clause-known : goal.rest_of-returns-clause-known
 rest_of-returns-clause-known t c =

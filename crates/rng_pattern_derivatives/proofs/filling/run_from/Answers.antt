@@ -1,4 +1,4 @@
-use Rattle.std.proofs.Common.{◌≡◌, ◌<◌, ◌+◌, ◌++◌, ◌∷◌, [], List, arith, length, rules, subst, sym}
+use Rattle.std.proofs.Common.{◌≡◌, ◌<◌, ◌++◌, ◌∷◌, [], length, rules, subst, sym}
 use Rattle.std.proofs.lemmas.List.{length_push}
 use Rattle.rng_pattern_derivatives.specs.plain.Ways.{IsRun, way_at}
 use Rattle.rng_pattern_derivatives.proofs.JoinedWays.{run_begins, run_more}
