@@ -2,6 +2,7 @@
 use Rattle.std.proofs.Common.{◌≡◌, ◌⊎◌, ◌<◌, List, Some, None, length, ⊎_elim, sym, subst, arith}
 use Rattle.std.specs.HashMap.{HashMap, IsEmpty}
 use Rattle.std.specs.Map.{lookup}
+use Rattle.rng_model.specs.simple.Table.{Table}
 use Rattle.rng_deriv_laws.specs.plain.Derivatives.{closed}
 use Rattle.rng_deriv_laws.specs.plain.Restricted.{HasTexts, MayBeListed}
 use Rattle.rng_deriv_laws.specs.plain.Taking.{Same}
@@ -48,6 +49,16 @@ module _ (old new : List Node) (longer : Longer old new) where
       → ((m r : PatternNumber) → HasRest more m r → HasRest known m r ⊎ ((m ≡ n) × (r ≡ rest))) → AreRestsOf new more
   rests_more known more n rest inside all made within = λ m r h. ⊎_elim (λ a. all m r a)
       (λ b. subst (λ m. IsRestOf new m r) (sym b.0) (subst (IsRestOf new n) (sym b.1) (rest_made n rest inside made))) (within m r h)
+
+-- what is left of a pattern of a shorter table
+pub closed_before : (old mid new : List Node) (n rest : PatternNumber) → Longer old mid → n.0 < length old → IsClosed mid new n rest → IsClosed old new n rest
+closed_before old mid new n rest longer inside h =
+    let same : (t : Table) → tree_of t mid n.0 ≡ tree_of t old n.0 = λ t. tree_stays t old mid n.0 longer inside in
+    record {
+      inside = h.inside;
+      same = λ t g. subst (λ p. Same g (tree_of t new rest.0) (closed p)) (same t) (h.same t g);
+      bare = λ t. subst (λ p. HasTexts MayBeListed p → IsBareOfAttributes (tree_of t new rest.0)) (same t) (h.bare t);
+    }
 
 pub no_rests : {Z : Type 0} (ns : List Node) (known : HashMap PatternNumber PatternNumber Z) → IsEmpty known → AreRestsOf ns known
 no_rests ns known empty n rest h = absurd (none_is (subst (λ es. lookup (same.ghosts.eq n) es ≡ Some rest) empty h))

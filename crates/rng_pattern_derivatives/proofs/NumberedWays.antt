@@ -65,6 +65,18 @@ stands_more base new all more ws vs h k = record {
       (each_second _ _ (ws t) (vs t) a));
 }
 
+-- ways that represent ways that represent others
+pub stands_on : (base new : List Node) (all more : List numbered.LeafWay) (ws : Table → List Way) → StandFor base all ws
+    → StandFor new more (λ t. ways_by (tree_of t base) all) → StandFor new more ws
+stands_on base new all more ws h k = record {
+  inside = k.inside;
+  offers = λ t g xs ks ys ms.
+      let e = k.offers t g xs ks ys ms in
+      let f = h.offers t g xs ks ys ms in
+      (λ a. f.0 (e.0 a), λ a. e.1 (f.1 a));
+  kept = λ t kind place a. k.kept t kind place (h.kept t kind place a);
+}
+
 -- ---- in a hole
 
 pub behind-append : (f : Simple ℕ → Simple ℕ) (ws vs : List Way) → behind f (ws ++ vs) ≡ behind f ws ++ behind f vs

@@ -9,15 +9,8 @@ use rng_names::{NameKey, NameKeys};
 use std::alloc::Global;
 use std::collections::HashMap;
 
-/// What alike elements have in common: one name, by its key, and one body.
-#[derive(Clone, Copy, PartialEq, Eq, Hash)]
-struct Content {
-    name: NameKey,
-    body: PatternId,
-}
-
-/// The elements found so far, the first one of each content.
-type Met = HashMap<Content, ElementId>;
+/// The elements found so far: the first one of each name, given by its key, and each body.
+type Met = HashMap<(NameKey, PatternId), ElementId>;
 
 /// Returns for each element of a grammar the first one with the same name and the same body. If the class of an element
 /// is not one name, this is the element itself.
@@ -55,10 +48,7 @@ fn first_alike(
     let Some((name, body)) = named_element(grammar, element) else {
         return Ok(element);
     };
-    let content = Content {
-        name: keys.key(name),
-        body,
-    };
+    let content = (keys.key(name), body);
     if let Some(first) = met.get(&content) {
         let first = *first;
         return Ok(if are_alike(grammar, element, first) {

@@ -6,9 +6,9 @@ ghost use Rattle.rng_pattern_derivatives.specs.views.KnownWays.{AreKnownFor, Kee
 ghost use Rattle.rng_pattern_derivatives.specs.plain.Takers.{AreCandidates};
 ghost use Rattle.rng_pattern_derivatives.specs.plain.Ways.{AreWaysOf};
 
+use crate::deep_ways::ways_of;
 use crate::known::KnownByKey;
 use crate::way::{Candidates, Kind, Ways};
-use crate::ways::ways;
 use rng_model::{OutOfMemory, SimpleGrammar};
 use rng_names::NameKey;
 use rng_pattern_table::{PatternNumber, PatternTable};
@@ -36,10 +36,10 @@ pub fn ways_by_key(
     ensures ways { IfOk result (λ ws. AreWaysOf grammar.now table.new kind.entry (tree_of grammar.now table.old number.0) ws.items) }
 {
     if let Some(own) = known.get_mut(&key) {
-        return ways(alloc, grammar, table, own, candidates, kind, number);
+        return ways_of(alloc, grammar, table, own, candidates, kind, number);
     }
     let mut own = HashMap::new(alloc);
-    let ways = ways(alloc, grammar, table, &mut own, candidates, kind, number)?;
+    let ways = ways_of(alloc, grammar, table, &mut own, candidates, kind, number)?;
     known.insert(key, own)?;
     Ok(ways)
 }

@@ -1,24 +1,99 @@
 // Patterns after all attributes of a tag are taken.
 ghost use Rattle.std.specs.Prelude.{◌≡◌, ◌<◌, IfOk, OnOk, length, true};
 ghost use Rattle.rng_model.specs.simple.Table.{Table};
+ghost use Rattle.rng_pattern_table.specs.plain.DeepParts.{AreStepsInside};
 ghost use Rattle.rng_pattern_table.specs.views.PatternTable.{Longer};
 ghost use Rattle.rng_pattern_table.specs.plain.Reduced.{has_attribute};
 ghost use Rattle.rng_pattern_table.specs.views.Trees.{tree_of};
 ghost use Rattle.rng_pattern_derivatives.specs.plain.Closing.{IsChoice, IsClosed};
 ghost use Rattle.rng_pattern_derivatives.specs.views.KnownRests.{AreRestsOf};
 
-use crate::rests::{KnownRests, keep_rest, known_rest};
+use crate::rests::{KnownRests, keep_rest};
 use crate::ways::copied;
 use rng_model::OutOfMemory;
-use rng_pattern_table::{Pattern, PatternNumber, PatternTable};
+use rng_pattern_table::{Pattern, PatternNumber, PatternTable, Step};
 use std::alloc::Global;
 
 /// Returns what is left of a pattern after all attributes of a tag are taken: a pattern that requires no attribute.
 ///
 /// RELAX NG Specification, section 6.2. Fails only when out of memory. It is computed once for each part that contains
 /// an attribute, however often that part occurs in others, and then kept.
-#[cycle(closing)]
 pub fn close(
+    alloc: Global,
+    table: &mut PatternTable,
+    known: &mut KnownRests,
+    number: PatternNumber,
+) -> Result<PatternNumber, OutOfMemory>
+    requires inside { number.0 < length table.old }
+    requires known { AreRestsOf table.old known.old }
+    ensures longer { OnOk result (Longer table.old table.new) }
+    ensures known { OnOk result (AreRestsOf table.new known.new) }
+    ensures closed { IfOk result (IsClosed table.old table.new number) }
+{
+    keep_deep_rests(alloc, table, known, number)?;
+    rest_of(alloc, table, known, number)
+}
+
+/// Keeps what is left of the deep parts of a pattern, and of itself if it is deep, from the innermost ones outwards. Then
+/// recursion is only as deep as a pattern that is not deep.
+fn keep_deep_rests(
+    alloc: Global,
+    table: &mut PatternTable,
+    known: &mut KnownRests,
+    number: PatternNumber,
+) -> Result<(), OutOfMemory>
+    requires inside { number.0 < length table.old }
+    requires known { AreRestsOf table.old known.old }
+    ensures longer { OnOk result (Longer table.old table.new) }
+    ensures known { OnOk result (AreRestsOf table.new known.new) }
+{
+    if !table.is_deep(number) {
+        return Ok(());
+    }
+    let mut steps = Vec::new(alloc);
+    steps.push(Step::Parts(number))?;
+    'steps: for _ in 0..usize::MAX {
+        if !take_step(alloc, table, known, &mut steps)? {
+            return Ok(());
+        }
+    }
+    Ok(())
+}
+
+/// Takes the last of some steps, and returns whether there was one. A pattern without attributes, or with a known rest,
+/// needs nothing. For any other one, its parts come first.
+fn take_step(
+    alloc: Global,
+    table: &mut PatternTable,
+    known: &mut KnownRests,
+    steps: &mut Vec<Step>,
+) -> Result<bool, OutOfMemory>
+    requires known { AreRestsOf table.old known.old }
+    requires steps { AreStepsInside table.old steps.old.items }
+    ensures longer { OnOk result (Longer table.old table.new) }
+    ensures known { OnOk result (AreRestsOf table.new known.new) }
+    ensures steps { OnOk result (AreStepsInside table.new steps.new.items) }
+{
+    match steps.pop() {
+        None => Ok(false),
+        Some(Step::Whole(part)) => {
+            rest_of(alloc, table, known, part)?;
+            Ok(true)
+        }
+        Some(Step::Parts(part)) => {
+            if !table.facts(part).attributes || known.get(&part).is_some() {
+                return Ok(true);
+            }
+            steps.push(Step::Whole(part))?;
+            table.add_deep_parts(part, steps)?;
+            Ok(true)
+        }
+    }
+}
+
+/// Returns what is left of a pattern, if what is left of its deep parts is known.
+#[cycle(closing)]
+fn rest_of(
     alloc: Global,
     table: &mut PatternTable,
     known: &mut KnownRests,
@@ -33,8 +108,8 @@ pub fn close(
     if !table.facts(number).attributes {
         return Ok(number);
     }
-    if let Some(rest) = known_rest(known, number) {
-        return Ok(rest);
+    if let Some(rest) = known.get(&number) {
+        return Ok(*rest);
     }
     let rest = close_parts(alloc, table, known, number)?;
     keep_rest(known, number, rest)?;
@@ -60,19 +135,19 @@ fn close_parts(
         Pattern::Choice(_) => close_choice(alloc, table, known, number),
         Pattern::Group(first, second) => {
             let (first, second) = (*first, *second);
-            let first = close(alloc, table, known, first)?;
-            let second = close(alloc, table, known, second)?;
+            let first = rest_of(alloc, table, known, first)?;
+            let second = rest_of(alloc, table, known, second)?;
             table.group(first, second)
         }
         Pattern::Interleave(first, second) => {
             let (first, second) = (*first, *second);
-            let first = close(alloc, table, known, first)?;
-            let second = close(alloc, table, known, second)?;
+            let first = rest_of(alloc, table, known, first)?;
+            let second = rest_of(alloc, table, known, second)?;
             table.interleave(first, second)
         }
         Pattern::OneOrMore(body) => {
             let body = *body;
-            let body = close(alloc, table, known, body)?;
+            let body = rest_of(alloc, table, known, body)?;
             table.one_or_more(body)
         }
         _ => table.not_allowed(),
@@ -100,7 +175,7 @@ fn close_choice(
     let members = copied(alloc, members.as_slice())?;
     let mut closed = Vec::new(alloc);
     'members: for member in &members {
-        closed.push(close(alloc, table, known, *member)?)?;
+        closed.push(rest_of(alloc, table, known, *member)?)?;
     }
     table.choice(alloc, closed.as_slice())
 }

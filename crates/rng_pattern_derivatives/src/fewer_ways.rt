@@ -67,29 +67,19 @@ pub fn uncovered(
 }
 
 /// Returns whether a way of the second side is left out: some way of the first side with its leaf may end after that. A
-/// way that leads back to the second side, as those of a repetition do, is kept, since its states come again. Allocates
-/// nothing.
+/// way whose rest is the second side, or a group that ends with it, as in a repetition, is kept, since its states come
+/// again. Allocates nothing.
 fn is_covered(table: &PatternTable, second: PatternNumber, firsts: &[LeafWay], way: LeafWay) -> bool
     requires firsts { AreInside table.now firsts.now }
     requires way { IsInside table.now way }
     ensures { result ≡ true → HasOptionalRest table.now firsts.now way.leaf }
 {
-    if leads_back(table, way.rest, second) {
+    if way.rest == second {
         return false;
     }
-    has_optional_rest(table, firsts, way.leaf)
-}
-
-/// Returns whether a pattern is another one, or a group that ends with it. Allocates nothing.
-fn leads_back(table: &PatternTable, rest: PatternNumber, second: PatternNumber) -> bool
-    requires { rest.0 < length table.now }
-{
-    if rest == second {
-        return true;
-    }
-    match table.pattern(rest) {
-        Pattern::Group(_, behind) => *behind == second,
-        _ => false,
+    match table.pattern(way.rest) {
+        Pattern::Group(_, behind) if *behind == second => false,
+        _ => has_optional_rest(table, firsts, way.leaf),
     }
 }
 

@@ -6,7 +6,7 @@ ghost use Rattle.rng_pattern_table.specs.views.PatternTable.{Adds, Longer};
 ghost use Rattle.rng_pattern_table.specs.views.Trees.{tree_of};
 ghost use Rattle.rng_pattern_derivatives.specs.declared.way.LeafWay.{LeafWay};
 ghost use Rattle.rng_pattern_derivatives.specs.plain.Kinds.{connector_of};
-ghost use Rattle.rng_pattern_derivatives.specs.plain.Ways.{AreInside, AreRestsBehind, IsInside, IsHoleInside, IsTakenOut, StandFor, filled, ways_by};
+ghost use Rattle.rng_pattern_derivatives.specs.plain.Ways.{AreInside, IsInside, IsHoleInside, IsRun, IsTakenOut, StandFor, filled, ways_by};
 
 use crate::known::copied_ways;
 use crate::way::{Hole, Joint, LeafWay, Rests, Ways};
@@ -100,6 +100,9 @@ pub fn add_way(
     Ok(())
 }
 
+/// The most ways that are compared with each other.
+const FEW_WAYS: usize = 16;
+
 /// Adds the ways of a side to those of the whole.
 pub fn add_filled(
     alloc: Global,
@@ -115,6 +118,9 @@ pub fn add_filled(
     ensures ways { OnOk result (StandFor table.new all.new.items
         (λ t. ways_by (tree_of t table.old) all.old.items ++ behind (filled (tree_of t table.old) hole) (ways_by (tree_of t table.old) ways.now))) }
 {
+    if all.len().saturating_add(ways.len()) > FEW_WAYS {
+        return add_many(alloc, table, hole, ways, all);
+    }
     'ways: for way in ways {
         let rest = fill(table, hole, way.rest)?;
         add_way(
@@ -130,15 +136,46 @@ pub fn add_filled(
     Ok(())
 }
 
-/// Returns the rests of the ways with this leaf.
-fn rests_behind(alloc: Global, ways: &[LeafWay], leaf: PatternNumber) -> Result<Rests, OutOfMemory>
-    ensures { IfOk result (λ rests. AreRestsBehind ways.now leaf rests.items) }
+/// The same for many ways. The cost is a sort of all of them.
+fn add_many(
+    alloc: Global,
+    table: &mut PatternTable,
+    hole: Hole,
+    ways: &[LeafWay],
+    all: &mut Ways,
+) -> Result<(), OutOfMemory>
+    requires hole { IsHoleInside table.old hole }
+    requires ways { AreInside table.old ways.now }
+    requires all { AreInside table.old all.old.items }
+    ensures longer { OnOk result (Longer table.old table.new) }
+    ensures ways { OnOk result (StandFor table.new all.new.items
+        (λ t. ways_by (tree_of t table.old) all.old.items ++ behind (filled (tree_of t table.old) hole) (ways_by (tree_of t table.old) ways.now))) }
 {
-    let mut rests = SmallVec::new(alloc);
+    let mut both = Vec::new(alloc);
+    both.extend_from_slice(all.as_slice())?;
     'ways: for way in ways {
-        if way.leaf == leaf {
-            rests.push(way.rest)?;
-        }
+        let rest = fill(table, hole, way.rest)?;
+        both.push(LeafWay {
+            leaf: way.leaf,
+            rest,
+        })?;
+    }
+    *all = joined_ways(alloc, table, both.as_slice())?;
+    Ok(())
+}
+
+/// Returns the rests of the ways from this position on, as far as they have one leaf.
+fn run_from(alloc: Global, ways: &[LeafWay], start: usize) -> Result<Rests, OutOfMemory>
+    requires { start < length ways.now }
+    ensures { IfOk result (λ rests. IsRun ways.now start rests.items) }
+{
+    let leaf = ways[start].leaf;
+    let mut rests = SmallVec::new(alloc);
+    rests.push(ways[start].rest)?;
+    let mut next = start + 1;
+    'ways: while next < ways.len() && ways[next].leaf == leaf {
+        rests.push(ways[next].rest)?;
+        next += 1;
     }
     Ok(rests)
 }
@@ -156,7 +193,7 @@ fn are_rising(ways: &[LeafWay]) -> bool {
 }
 
 /// Returns the same ways, each leaf once: its rest is the choice of its rests. The cost is one pass if the numbers of
-/// the leaves rise, as those of a choice of leaves do. Otherwise each leaf is compared with the others.
+/// the leaves rise, as those of a choice of leaves do, and otherwise a sort by these numbers.
 pub fn joined_ways(
     alloc: Global,
     table: &mut PatternTable,
@@ -169,17 +206,30 @@ pub fn joined_ways(
     if are_rising(ways) {
         return copied_ways(alloc, ways);
     }
+    let mut sorted = Vec::new(alloc);
+    sorted.extend_from_slice(ways)?;
+    sorted.sort_by_key(|way| way.leaf)?;
+    joined_runs(alloc, table, sorted.as_slice())
+}
+
+/// Returns the same ways, with one way for those that have one leaf and are next to each other.
+fn joined_runs(
+    alloc: Global,
+    table: &mut PatternTable,
+    ways: &[LeafWay],
+) -> Result<Ways, OutOfMemory>
+    requires { AreInside table.old ways.now }
+    ensures longer { OnOk result (Longer table.old table.new) }
+    ensures ways { IfOk result (λ all. StandFor table.new all.items (λ t. ways_by (tree_of t table.old) ways.now)) }
+{
     let mut all = SmallVec::new(alloc);
-    'ways: for way in ways {
-        if place_of(all.as_slice(), way.leaf).is_some() {
-            continue;
-        }
-        let rests = rests_behind(alloc, ways, way.leaf)?;
+    let mut start = 0;
+    'runs: while start < ways.len() {
+        let leaf = ways[start].leaf;
+        let rests = run_from(alloc, ways, start)?;
         let rest = table.choice(alloc, rests.as_slice())?;
-        all.push(LeafWay {
-            leaf: way.leaf,
-            rest,
-        })?;
+        all.push(LeafWay { leaf, rest })?;
+        start += rests.len();
     }
     Ok(all)
 }

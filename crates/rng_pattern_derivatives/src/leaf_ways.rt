@@ -7,10 +7,11 @@ ghost use Rattle.rng_pattern_derivatives.specs.plain.Ways.{AreWaysOf};
 ghost use Rattle.rng_pattern_derivatives.specs.declared.way.Kind.TheVariants as kinds;
 
 use crate::by_key::ways_by_key;
+use crate::deep_ways::ways_of;
 use crate::known::{Known, KnownWays, keep_last};
 use crate::spans::add_spans;
 use crate::way::{Candidates, Kind, Ways};
-use crate::ways::{is_kept, ways};
+use crate::ways::is_kept;
 use rng_model::{Name, OutOfMemory, SimpleGrammar};
 use rng_names::NameKeys;
 use rng_pattern_table::{PatternNumber, PatternTable};
@@ -30,7 +31,7 @@ pub fn text_ways(
     ensures known { OnOk result (AreKnown grammar.now table.new kinds.Text known.new) }
     ensures ways { IfOk result (λ ws. AreWaysOf grammar.now table.new kinds.Text (tree_of grammar.now table.old number.0) ws.items) }
 {
-    ways(
+    ways_of(
         alloc,
         grammar,
         table,

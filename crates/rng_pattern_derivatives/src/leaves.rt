@@ -1,7 +1,7 @@
 // The ways of leaves.
-ghost use Rattle.std.specs.Prelude.{◌≡◌, ◌<◌, IfOk, IfSome, OnOk, length, slice_get, if◌then◌else◌};
+ghost use Rattle.std.specs.Prelude.{◌≡◌, ◌<◌, IfOk, OnOk, length, slice_get, if◌then◌else◌};
 ghost use Rattle.rng_model.specs.simple.Table.{Table};
-ghost use Rattle.rng_model.specs.simple.Tree.{group, s_joined, s_leaf, s_text};
+ghost use Rattle.rng_model.specs.simple.Tree.{s_leaf, s_text};
 ghost use Rattle.rng_model.specs.matching.Reading.{Reading};
 ghost use Rattle.rng_pattern_table.specs.views.PatternTable.{Adds, Longer};
 ghost use Rattle.rng_pattern_table.specs.views.Trees.{attribute_found, tree_of};
@@ -133,28 +133,4 @@ fn like_leaf(
         Some(first) => table.element(*first),
         None => Ok(number),
     }
-}
-
-/// Returns the sides of a group that is the first side of another group, if that one is reassociated to the right. This
-/// is not done where it would unfold a shared side, as in a nullable group of groups.
-pub fn opened(table: &PatternTable, first: PatternNumber) -> Option<(PatternNumber, PatternNumber)>
-    requires { first.0 < length table.now }
-    ensures inside { IfSome result (λ sides. (sides.0.0 < length table.now) × (sides.1.0 < length table.now)) }
-    ensures sides { IfSome result (λ sides. (t : Table)
-        → tree_of t table.now first.0 ≡ s_joined group (tree_of t table.now sides.0.0) (tree_of t table.now sides.1.0)) }
-{
-    let Pattern::Group(outer, inner) = table.pattern(first) else {
-        return None;
-    };
-    if table.facts(*outer).nullable && is_group(table, *inner) {
-        return None;
-    }
-    Some((*outer, *inner))
-}
-
-/// Returns whether a pattern is a group.
-fn is_group(table: &PatternTable, number: PatternNumber) -> bool
-    requires { number.0 < length table.now }
-{
-    matches!(table.pattern(number), Pattern::Group(_, _))
 }

@@ -10,6 +10,7 @@ mod alike;
 mod by_key;
 mod closing;
 mod datatypes;
+mod deep_ways;
 mod fewer_ways;
 mod filling;
 mod known;

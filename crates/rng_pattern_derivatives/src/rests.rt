@@ -1,5 +1,5 @@
 // What is left of patterns after a tag is closed, kept for later.
-ghost use Rattle.std.specs.Prelude.{◌≡◌, ◌⊎◌, IfSome, OnOk};
+ghost use Rattle.std.specs.Prelude.{◌≡◌, ◌⊎◌, OnOk};
 ghost use Rattle.rng_pattern_table.specs.declared.pattern.PatternNumber.{PatternNumber};
 ghost use Rattle.rng_pattern_derivatives.specs.views.KnownRests.{HasRest};
 
@@ -9,13 +9,6 @@ use std::collections::HashMap;
 
 /// What is left of patterns after the attributes of a tag are taken, as far as it is known.
 pub type KnownRests = HashMap<PatternNumber, PatternNumber>;
-
-/// Returns what is known to be left of a pattern.
-pub fn known_rest(known: &KnownRests, number: PatternNumber) -> Option<PatternNumber>
-    ensures { IfSome result (λ rest. HasRest known.now number rest) }
-{
-    Some(*known.get(&number)?)
-}
 
 /// Keeps what is left of a pattern. Fails only when out of memory.
 pub fn keep_rest(

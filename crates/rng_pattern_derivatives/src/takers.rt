@@ -38,7 +38,7 @@ impl Takers {
             };
             takers.add(keys, class, number);
         }
-        Ok(Takers::unknown(alloc))
+        Err(OutOfMemory)
     }
 
     /// Collects the attributes of a grammar with these keys of names, by their positions. Fails only when out of
@@ -60,27 +60,21 @@ impl Takers {
             };
             takers.add(keys, class, position);
         }
-        Ok(Takers::unknown(alloc))
+        Err(OutOfMemory)
     }
 
     /// Creates a value with an empty range for each of these keys. Fails only when out of memory.
     fn none(alloc: Global, keys: &NameKeys) -> Result<Self, OutOfMemory>
         ensures { IfOk result (λ takers. length takers.by_key.items ≡ length keys.now.names) }
     {
+        let mut by_key = Vec::new(alloc);
+        'keys: for _ in 0..keys.len() {
+            by_key.push(Span::NONE)?;
+        }
         Ok(Takers {
-            by_key: none_by_key(alloc, keys)?,
+            by_key,
             others: Span::NONE,
         })
-    }
-
-    /// Creates a value that knows nothing of any key. Allocates nothing.
-    fn unknown(alloc: Global) -> Self
-        ensures { (k n : ℕ) → IsTold result k n }
-    {
-        Takers {
-            by_key: Vec::new(alloc),
-            others: Span::ALL,
-        }
     }
 
     /// Adds the element or attribute with this number, which has this class.
@@ -110,15 +104,4 @@ impl Takers {
             None => Span::ALL,
         }
     }
-}
-
-/// Returns an empty range for each of these keys. Fails only when out of memory.
-fn none_by_key(alloc: Global, keys: &NameKeys) -> Result<Vec<Span>, OutOfMemory>
-    ensures { IfOk result (λ all. length all.items ≡ length keys.now.names) }
-{
-    let mut all = Vec::new(alloc);
-    'keys: for _ in 0..keys.len() {
-        all.push(Span::NONE)?;
-    }
-    Ok(all)
 }

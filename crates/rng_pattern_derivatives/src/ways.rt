@@ -13,7 +13,7 @@ ghost use Rattle.rng_pattern_derivatives.specs.declared.way.Kind as kinds;
 use crate::fewer_ways::{repeated_ways, uncovered};
 use crate::filling::{add_filled, joined_ways};
 use crate::known::{KnownWays, copied_ways, keep, known_ways};
-use crate::leaves::{opened, ways_of_leaf};
+use crate::leaves::ways_of_leaf;
 use crate::way::{Candidates, Hole, Joint, Kind, Ways};
 use rng_model::{OutOfMemory, SimpleGrammar};
 use rng_pattern_table::{Pattern, PatternNumber, PatternTable};
@@ -27,7 +27,7 @@ use std::alloc::Global;
 /// There are none if the pattern contains none of the candidates.
 ///
 /// The ways of choices, groups and repetitions are kept, so that they are computed once for each pattern. An interleave
-/// of many members leads to too many other patterns for that.
+/// of many members leads to too many other patterns for that, unless it is deep.
 #[cycle(ways)]
 pub fn ways(
     alloc: Global,
@@ -60,7 +60,7 @@ pub fn ways(
 }
 
 /// Returns true only if a pattern contains none of the candidates. Then it has no ways.
-fn is_idle(table: &PatternTable, candidates: Candidates, number: PatternNumber) -> bool
+pub fn is_idle(table: &PatternTable, candidates: Candidates, number: PatternNumber) -> bool
     requires { number.0 < length table.now }
     ensures { result ≡ true → (t : Table) (kind : kinds.Kind) → AreCandidates t table.now kind candidates.entry
         → AreWaysOf t table.now kind (tree_of t table.now number.0) [] }
@@ -75,7 +75,7 @@ fn is_idle(table: &PatternTable, candidates: Candidates, number: PatternNumber) 
     }
 }
 
-/// The most members of an interleave whose ways are kept. More members lead to too many other patterns.
+/// The most members of an interleave whose ways are kept, if it is not deep. More members lead to too many other patterns.
 const MOST_KEPT_MEMBERS: u16 = 4;
 
 /// Returns whether the ways of a pattern are kept. Allocates nothing.
@@ -84,7 +84,9 @@ pub fn is_kept(table: &PatternTable, number: PatternNumber) -> bool
 {
     match table.pattern(number) {
         Pattern::Choice(_) | Pattern::Group(_, _) | Pattern::OneOrMore(_) => true,
-        Pattern::Interleave(_, _) => table.facts(number).members <= MOST_KEPT_MEMBERS,
+        Pattern::Interleave(_, _) => {
+            table.facts(number).members <= MOST_KEPT_MEMBERS || table.is_deep(number)
+        }
         _ => false,
     }
 }
@@ -222,29 +224,8 @@ fn ways_of_group(
             second,
         );
     }
-    if begins_with_copies(table, first, second) {
-        let (copy, rest) = table.first_copy(first, second)?;
-        return item_ways_of_group(alloc, grammar, table, known, candidates, kind, copy, rest);
-    }
-    let Some((outer, inner)) = opened(table, first) else {
-        return item_ways_of_group(
-            alloc, grammar, table, known, candidates, kind, first, second,
-        );
-    };
-    let rest = table.group(inner, second)?;
-    ways_of_group(alloc, grammar, table, known, candidates, kind, outer, rest)
-}
-
-/// Returns whether a group of these two begins with two copies of a pattern that may be left out. Allocates nothing.
-fn begins_with_copies(table: &PatternTable, first: PatternNumber, second: PatternNumber) -> bool
-    requires first { first.0 < length table.now }
-    requires second { second.0 < length table.now }
-{
-    let unit = table.unit(first);
-    if !table.facts(unit).nullable {
-        return false;
-    }
-    unit != first || table.behind_copies(unit, second) != Some(second)
+    let (first, rest) = table.reassociated(first, second)?;
+    item_ways_of_group(alloc, grammar, table, known, candidates, kind, first, rest)
 }
 
 /// Returns the ways of a group to take an item first. These are the ways of its first side and, if that is nullable,

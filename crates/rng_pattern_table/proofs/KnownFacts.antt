@@ -1,6 +1,6 @@
 -- What is known of a pattern, from what is known of its parts.
 use Rattle.std.proofs.Common.{◌≡◌, ℕ, ◌+◌, ◌<◌, ◌≤◌, All, length, take, get_or, arith, subst, refl, ap, ap₂, sym, ◌∙◌, Bool, true, false, ◌&&◌, ◌||◌, List}
-use Rattle.std.proofs.Common.{◌^◌, [], ◌∷◌, ◌++◌, map, Option, Some, None, inl, inr}
+use Rattle.std.proofs.Common.{◌^◌, max, [], ◌∷◌, ◌++◌, map, Option, Some, None, inl, inr}
 use Rattle.std.specs.List.{list_all, list_any}
 use Rattle.std.proofs.lemmas.List.{get_or-map, length-map, take_all, take_more}
 use Rattle.std.proofs.lemmas.List.Folds.{list_all_more, list_any_more}
@@ -9,7 +9,7 @@ use Rattle.rng_model.specs.simple.Table.{Table}
 use Rattle.rng_model.specs.declared.simple.Simple.{Simple}
 use Rattle.rng_model.specs.declared.simple.Simple.TheVariants as simple
 use Rattle.rng_deriv_laws.specs.plain.Derivatives.{has_data, is_nullable}
-use Rattle.rng_pattern_table.specs.plain.Facts.{HasElement, IsWithin, elements_of, has_subsequences, joined_spans, members_of, no_span, one_span}
+use Rattle.rng_pattern_table.specs.plain.Facts.{HasElement, IsWithin, depth_of, elements_of, has_subsequences, joined_spans, members_of, no_span, one_span}
 use Rattle.rng_pattern_table.specs.views.PatternTable.{facts_of}
 use Rattle.rng_pattern_table.specs.plain.Reduced.{has_attribute}
 use Rattle.rng_pattern_table.specs.views.Trees.{attribute_found, data_found, choice_over}
@@ -103,6 +103,26 @@ pub elements_more : (f : ℕ → tree.Simple ℕ) (ms : List PatternNumber) (i :
 elements_more f ms i d known fact inside e g =
     ap₂ joined_spans e g ∙ sym (ap (elements_among f) (take_more ms i d inside) ∙ elements_pushed f (take i ms) (get_or ms i d))
 
+-- the greatest depth of the members
+abbrev pub depth_among : (ℕ → tree.Simple ℕ) → List PatternNumber → ℕ
+depth_among f [] = 0
+depth_among f (m ∷ ms) = max (depth_of (f m.0)) (depth_among f ms)
+
+choice_depth : (f : ℕ → tree.Simple ℕ) (ms : List PatternNumber) → depth_among f ms ≡ depth_of (choice_over f (map (λ m. m.0) ms))
+choice_depth f [] = refl
+choice_depth f (m ∷ []) = omega arith
+choice_depth f (m ∷ n ∷ ms) = ap (max (depth_of (f m.0))) (choice_depth f (n ∷ ms))
+
+depth_pushed : (f : ℕ → tree.Simple ℕ) (ms : List PatternNumber) (m : PatternNumber)
+    → depth_among f (ms ++ m ∷ []) ≡ max (depth_among f ms) (depth_of (f m.0))
+depth_pushed f [] m = omega arith
+depth_pushed f (n ∷ ms) m = let more = depth_pushed f ms m in omega (arith, more)
+
+pub depth_more : (f : ℕ → tree.Simple ℕ) (ms : List PatternNumber) (i : ℕ) (d : PatternNumber) (known fact : ℕ) → i < length ms
+    → known ≡ depth_among f (take i ms) → fact ≡ depth_of (f (get_or ms i d).0) → max known fact ≡ depth_among f (take (i + 1) ms)
+depth_more f ms i d known fact inside e g =
+    ap₂ max e g ∙ sym (ap (depth_among f) (take_more ms i d inside) ∙ depth_pushed f (take i ms) (get_or ms i d))
+
 -- a choice is not an interleave
 choice_members : (f : ℕ → tree.Simple ℕ) (ms : List PatternNumber) → 2 ≤ length ms → members_of (choice_over f (map (λ m. m.0) ms)) ≡ 1
 choice_members f [] two = absurd (omega (arith, two))
@@ -114,21 +134,23 @@ pub all_members : (f : ℕ → tree.Simple ℕ) (ms : List PatternNumber) (i : �
     → known.nullable ≡ list_any (λ m. is_nullable (f m.0)) (take i ms) → known.attributes ≡ list_any (λ m. has_attribute (f m.0)) (take i ms)
     → known.tests_strings ≡ list_any (λ m. has_data (f m.0)) (take i ms)
     → known.subsequences ≡ list_all (λ m. has_subsequences (f m.0)) (take i ms) → known.elements ≡ elements_among f (take i ms) → known.members ≡ 1
-    → known ≡ facts_of (choice_over f (map (λ m. m.0) ms))
-all_members f ms i known two over n a d s e o =
+    → known.depth ≡ depth_among f (take i ms) → known ≡ facts_of (choice_over f (map (λ m. m.0) ms))
+all_members f ms i known two over n a d s e o h =
     let all = take_all i ms over in
     same_facts known _ (n ∙ ap (list_any (λ m. is_nullable (f m.0))) all ∙ choice_nullable f ms)
     (a ∙ ap (list_any (λ m. has_attribute (f m.0))) all ∙ choice_attributes f ms)
     (d ∙ ap (list_any (λ m. has_data (f m.0))) all ∙ choice_data f ms)
     (s ∙ ap (list_all (λ m. has_subsequences (f m.0))) all ∙ choice_subsequences f ms)
     (e ∙ ap (elements_among f) all ∙ choice_elements f ms) (o ∙ sym (choice_members f ms two))
+    (h ∙ ap (depth_among f) all ∙ choice_depth f ms)
   where
     same_facts : (a b : Facts) → a.nullable ≡ b.nullable → a.attributes ≡ b.attributes → a.tests_strings ≡ b.tests_strings → a.subsequences ≡ b.subsequences
-        → a.elements ≡ b.elements → a.members ≡ b.members → a ≡ b
-    same_facts a b n o d s e m =
-        ap₂ (λ x y. record { nullable = x; attributes = y; tests_strings = a.tests_strings; subsequences = a.subsequences; elements = a.elements; members = a.members }) n o
-        ∙ ap₂ (λ x y. record { nullable = b.nullable; attributes = b.attributes; tests_strings = x; subsequences = y; elements = a.elements; members = a.members }) d s
-        ∙ ap₂ (λ x y. record { nullable = b.nullable; attributes = b.attributes; tests_strings = b.tests_strings; subsequences = b.subsequences; elements = x; members = y }) e m
+        → a.elements ≡ b.elements → a.members ≡ b.members → a.depth ≡ b.depth → a ≡ b
+    same_facts a b n o d s e m h =
+        ap₂ (λ x y. record { nullable = x; attributes = y; tests_strings = a.tests_strings; subsequences = a.subsequences; elements = a.elements; members = a.members; depth = a.depth }) n o
+        ∙ ap₂ (λ x y. record { nullable = b.nullable; attributes = b.attributes; tests_strings = x; subsequences = y; elements = a.elements; members = a.members; depth = a.depth }) d s
+        ∙ ap₂ (λ x y. record { nullable = b.nullable; attributes = b.attributes; tests_strings = b.tests_strings; subsequences = b.subsequences; elements = x; members = y; depth = a.depth }) e m
+        ∙ ap (λ x. record { nullable = b.nullable; attributes = b.attributes; tests_strings = b.tests_strings; subsequences = b.subsequences; elements = b.elements; members = b.members; depth = x }) h
 
 -- an element in the tree is within the known range
 pub one_within : (k : ℕ) → IsWithin (one_span k) k
@@ -167,6 +189,7 @@ pub attribute_known : (t : Table) (o : Option Simple) → facts_of (attribute_fo
   subsequences = true;
   elements = no_span;
   members = 1;
+  depth = 0;
 }
 attribute_known t None = refl
 attribute_known t (Some simple.NotAllowed) = refl
@@ -190,6 +213,7 @@ pub data_known : (t : Table) (o : Option Simple) → facts_of (data_found t o) �
   subsequences = true;
   elements = no_span;
   members = 1;
+  depth = 0;
 }
 data_known t None = refl
 data_known t (Some simple.NotAllowed) = refl

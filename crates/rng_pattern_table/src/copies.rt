@@ -1,6 +1,7 @@
 // Patterns that are copies of one other pattern, one after the other.
-ghost use Rattle.std.specs.Prelude.{◌<◌, IfOk, IfSome, IfNone, OnOk, length};
+ghost use Rattle.std.specs.Prelude.{◌≡◌, ◌<◌, IfOk, IfSome, IfNone, OnOk, length};
 ghost use Rattle.rng_model.specs.simple.Table.{Table};
+ghost use Rattle.rng_model.specs.simple.Tree.{group, s_joined};
 ghost use Rattle.rng_pattern_table.specs.plain.Copies.{IsBehindCopies, IsOfCopies, IsOpened};
 ghost use Rattle.rng_pattern_table.specs.views.PatternTable.{Longer};
 ghost use Rattle.rng_pattern_table.specs.views.Trees.{tree_of};
@@ -10,10 +11,10 @@ use crate::pattern_table::PatternTable;
 use rng_model::OutOfMemory;
 
 impl PatternTable {
-    /// Returns the sides of a group of these two after its first side is reassociated to the right, down to a first
-    /// copy of its unit. The sides are that copy, and everything after it. Fails only when out of memory. The cost is
-    /// one look-up for each group that is opened.
-    pub fn first_copy(
+    /// Returns the sides of a group of these two after its first side is reassociated to the right. If copies of a pattern
+    /// that may be left out are at the front, this goes down to a first copy: the sides are that copy, and everything
+    /// after it. Fails only when out of memory. The cost is one look-up for each group that is opened.
+    pub fn reassociated(
         &mut self,
         first: PatternNumber,
         second: PatternNumber,
@@ -25,18 +26,52 @@ impl PatternTable {
         ensures opened { IfOk result (λ sides. (t : Table) → IsOpened (tree_of t self.old first.0) (tree_of t self.old second.0)
             (tree_of t self.new sides.0.0) (tree_of t self.new sides.1.0)) }
     {
-        let unit = self.unit(first);
         let mut front = first;
         let mut rest = second;
-        'groups: while front != unit {
-            let Pattern::Group(outer, inner) = self.pattern(front) else {
-                break;
-            };
-            let (outer, inner) = (*outer, *inner);
+        'groups: while let Some((outer, inner)) = self.opened(front, rest) {
             rest = self.group(inner, rest)?;
             front = outer;
         }
         Ok((front, rest))
+    }
+
+    /// Returns the sides of the first side of a group, if this one is reassociated. A group of copies of a pattern that
+    /// may be left out is, down to one copy, if more copies follow. Any other group is not where that would unfold a
+    /// shared side, as in a nullable group of groups. Allocates nothing.
+    fn opened(
+        &self,
+        first: PatternNumber,
+        second: PatternNumber,
+    ) -> Option<(PatternNumber, PatternNumber)>
+        requires first { first.0 < length self.now }
+        requires second { second.0 < length self.now }
+        ensures below { IfSome result (λ sides. (sides.0.0 < first.0) × (sides.1.0 < first.0)) }
+        ensures sides { IfSome result (λ sides. (t : Table)
+            → tree_of t self.now first.0 ≡ s_joined group (tree_of t self.now sides.0.0) (tree_of t self.now sides.1.0)) }
+    {
+        let Pattern::Group(outer, inner) = self.pattern(first) else {
+            return None;
+        };
+        let unit = self.unit(first);
+        if self.facts(unit).nullable {
+            if unit != first {
+                return Some((*outer, *inner));
+            }
+            if self.behind_copies(unit, second) != Some(second) {
+                return None;
+            }
+        }
+        if self.facts(*outer).nullable && self.is_group(*inner) {
+            return None;
+        }
+        Some((*outer, *inner))
+    }
+
+    /// Returns whether a pattern is a group. Allocates nothing.
+    fn is_group(&self, number: PatternNumber) -> bool
+        requires { number.0 < length self.now }
+    {
+        matches!(self.pattern(number), Pattern::Group(_, _))
     }
 
     /// Returns what is in a pattern after the copies of `unit` with which it begins, or `None` if it consists only of

@@ -9,6 +9,7 @@
 mod choosing;
 mod copies;
 mod covering;
+mod deep_parts;
 mod grammar;
 mod making;
 mod pattern;
@@ -16,5 +17,6 @@ mod pattern_table;
 mod selecting;
 mod uses;
 
+pub use deep_parts::Step;
 pub use pattern::{Facts, Pattern, PatternNumber, Span};
 pub use pattern_table::PatternTable;

@@ -45,6 +45,9 @@ pub struct Facts {
     /// For an interleave, the number of patterns other than interleaves that it joins, at most 65,535. For any other
     /// pattern, 1.
     pub members: u16,
+    /// A bound on how many parts are in one another, at most 65,535. The parts of both sides of a group count, so that it
+    /// holds however groups are nested.
+    pub depth: u16,
     /// The range of numbers of the elements in it, outside its attributes, lists and excepts.
     pub elements: Span,
 }

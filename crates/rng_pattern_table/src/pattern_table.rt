@@ -125,16 +125,25 @@ impl PatternTable {
                 ..NOTHING_KNOWN
             },
             Pattern::Choice(members) => self.facts_of_choice(members.as_slice()),
-            Pattern::Group(first, second) => { both(self.facts(*first), self.facts(*second), 1) }
+            Pattern::Group(first, second) => {
+                let first = self.facts(*first);
+                let second = self.facts(*second);
+                both(first, second, 1, first.depth.saturating_add(second.depth))
+            }
             Pattern::Interleave(first, second) => {
                 let first = self.facts(*first);
                 let second = self.facts(*second);
-                both(first, second, first.members.saturating_add(second.members))
+                let members = first.members.saturating_add(second.members);
+                both(first, second, members, first.depth.max(second.depth))
             }
-            Pattern::OneOrMore(pattern) => Facts {
-                members: 1,
-                ..self.facts(*pattern)
-            },
+            Pattern::OneOrMore(pattern) => {
+                let facts = self.facts(*pattern);
+                Facts {
+                    members: 1,
+                    depth: facts.depth.saturating_add(1),
+                    ..facts
+                }
+            }
             Pattern::NotAllowed => NOTHING_KNOWN,
             Pattern::Data(_) => Facts {
                 tests_strings: true,
@@ -164,6 +173,7 @@ impl PatternTable {
             known.attributes |= facts.attributes;
             known.tests_strings |= facts.tests_strings;
             known.subsequences &= facts.subsequences;
+            known.depth = known.depth.max(facts.depth);
             known.elements = known.elements.joined(facts.elements);
         }
         known
@@ -249,13 +259,14 @@ const NOTHING_KNOWN: Facts = Facts {
     tests_strings: false,
     subsequences: true,
     members: 1,
+    depth: 0,
     elements: Span::NONE,
 };
 
-/// Returns what is known of a group or an interleave of two patterns, with this many members, from what is known of
-/// these.
-fn both(first: Facts, second: Facts, members: u16) -> Facts
-    ensures { result ≡ both_facts first second members }
+/// Returns what is known of a group or an interleave of two patterns, with this many members and with sides of this
+/// depth, from what is known of these.
+fn both(first: Facts, second: Facts, members: u16, depth: u16) -> Facts
+    ensures { result ≡ both_facts first second members depth }
 {
     Facts {
         nullable: first.nullable && second.nullable,
@@ -266,6 +277,7 @@ fn both(first: Facts, second: Facts, members: u16) -> Facts
             && second.nullable
             && second.subsequences,
         members,
+        depth: depth.saturating_add(1),
         elements: first.elements.joined(second.elements),
     }
 }

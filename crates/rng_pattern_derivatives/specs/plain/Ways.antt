@@ -1,5 +1,5 @@
 -- Ways by number, and when they are those of a pattern.
-use Rattle.std.specs.Prelude.{◌≡◌, ℕ, ◌<◌, ⊤, List, ◌∷◌, ◌++◌, length, map, All, ◌↔◌}
+use Rattle.std.specs.Prelude.{◌≡◌, ◌⊎◌, ℕ, ◌+◌, ◌<◌, ◌≤◌, ⊤, List, ◌∷◌, ◌++◌, length, map, slice_index_or, take, All, ◌↔◌}
 use Rattle.std.specs.List.{Contains}
 use Rattle.rng_model.specs.names.Lists.{Among}
 use Rattle.rng_model.specs.simple.Tree.{Simple}
@@ -38,9 +38,17 @@ IsInside ns w = (w.leaf.0 < length ns) × (w.rest.0 < length ns)
 abbrev pub AreInside : List Node → List LeafWay → Type 0
 AreInside ns ws = All (IsInside ns) ws
 
--- the rests of the ways with this leaf
-abbrev pub AreRestsBehind : List LeafWay → PatternNumber → List PatternNumber → Type 0
-AreRestsBehind ways leaf rests = (r : PatternNumber) → Contains rests r ↔ Contains ways (record { leaf = leaf; rest = r })
+-- the way at this position
+abbrev pub way_at : List LeafWay → ℕ → LeafWay
+way_at ways i = slice_index_or ways i (record { leaf = record { 0 = 0 }; rest = record { 0 = 0 } })
+
+-- the rests of ways with one leaf, one after the other from this position on
+pub record IsRun (ways : List LeafWay) (start : ℕ) (rests : List PatternNumber) : Type 0 where
+  pub some : 0 < length rests
+  pub within : start + length rests ≤ length ways
+  pub all : (v : LeafWay) → Contains (take (start + length rests) ways) v
+      → Contains (take start ways) v ⊎ ((v.leaf ≡ (way_at ways start).leaf) × Contains rests v.rest)
+  pub own : (r : PatternNumber) → Contains rests r → Contains ways (record { leaf = (way_at ways start).leaf; rest = r })
 
 -- the element is removed from a list
 abbrev pub IsTakenOut : {A : Type 0} → List A → List A → A → Type 0

@@ -1,5 +1,5 @@
--- What is known of a tree: which elements it contains, how many patterns an interleave joins, and whether it takes the
--- subsequences of what it takes.
+-- What is known of a tree: which elements it contains, how many patterns an interleave joins, how deep its parts are in
+-- one another, and whether it takes the subsequences of what it takes.
 use Rattle.std.specs.Prelude.{◌≡◌, ◌⊎◌, ◌≤◌, ◌&&◌, ℕ, ◌+◌, ◌-◌, ◌^◌, List, ◌∷◌, Bool, true, min, max}
 use Rattle.rng_model.specs.matching.Document.{Attribute, Item}
 use Rattle.rng_model.specs.simple.Tree.{Simple, choice, group, interleave, s_not_allowed, s_empty, s_text, s_leaf, s_attribute, s_list, s_data}
@@ -71,6 +71,27 @@ members_of (s_one_or_more p) = 1
 members_of (s_joined choice p q) = 1
 members_of (s_joined group p q) = 1
 members_of (s_joined interleave p q) = min (members_of p + members_of q) (2 ^ 16 - 1)
+
+-- the number as it is kept in 16 bits
+abbrev pub kept_depth : ℕ → ℕ
+kept_depth n = min n (2 ^ 16 - 1)
+
+-- A bound on how many parts of a tree are in one another, up to 65,535. The parts of both sides of a group count, so that
+-- it does not grow if a group is reassociated.
+abbrev pub depth_of : Simple ℕ → ℕ
+depth_of s_not_allowed = 0
+depth_of s_empty = 0
+depth_of s_text = 0
+depth_of (s_leaf k) = 0
+depth_of (s_attribute c p) = 0
+depth_of (s_list p) = 0
+depth_of (s_data d) = 0
+depth_of (s_data_except d p) = 0
+depth_of (s_value d v) = 0
+depth_of (s_one_or_more p) = kept_depth (depth_of p + 1)
+depth_of (s_joined choice p q) = max (depth_of p) (depth_of q)
+depth_of (s_joined group p q) = kept_depth (kept_depth (depth_of p + depth_of q) + 1)
+depth_of (s_joined interleave p q) = kept_depth (max (depth_of p) (depth_of q) + 1)
 
 -- As its shape shows, the tree takes each subsequence of each sequence of items that it takes, except perhaps the empty
 -- one (blank strings beside elements are ignored).

@@ -1,12 +1,12 @@
 -- The invariant of a table of patterns.
-use Rattle.std.specs.Prelude.{◌≡◌, ◌&&◌, ◌||◌, ℕ, ◌<◌, ◌≤◌, ⊤, List, ◌++◌, length, map, slice_get, Option, Some, All, IfSome}
+use Rattle.std.specs.Prelude.{◌≡◌, ◌&&◌, ◌||◌, ℕ, ◌+◌, ◌<◌, ◌≤◌, ⊤, List, ◌++◌, length, map, slice_get, Option, Some, All, IfSome}
 use Rattle.std.specs.List.Sorted.{IsStrictlyIncreasing}
 use Rattle.rng_model.specs.simple.Table.{Table}
 use Rattle.rng_model.specs.simple.Tree.{Simple}
 use Rattle.rng_pattern_table.specs.views.Node.{Node, node_of}
 use Rattle.rng_pattern_table.specs.views.Node as node
 use Rattle.rng_deriv_laws.specs.plain.Derivatives.{has_data, is_nullable}
-use Rattle.rng_pattern_table.specs.plain.Facts.{elements_of, has_subsequences, joined_spans, members_of}
+use Rattle.rng_pattern_table.specs.plain.Facts.{depth_of, elements_of, has_subsequences, joined_spans, kept_depth, members_of}
 use Rattle.rng_pattern_table.specs.plain.Reduced.{AreReduced, has_attribute}
 use Rattle.rng_pattern_table.specs.views.Trees.{trees, tree_of}
 use Rattle.rng_pattern_table.specs.declared.pattern.Facts.{Facts}
@@ -51,17 +51,19 @@ facts_of s = record {
   subsequences = has_subsequences s;
   elements = elements_of s;
   members = members_of s;
+  depth = depth_of s;
 }
 
 -- what is known of a group or an interleave, from what is known of its sides
-abbrev pub both_facts : Facts → Facts → ℕ → Facts
-both_facts a b members = record {
+abbrev pub both_facts : Facts → Facts → ℕ → ℕ → Facts
+both_facts a b members depth = record {
   nullable = a.nullable && b.nullable;
   attributes = a.attributes || b.attributes;
   tests_strings = a.tests_strings || b.tests_strings;
   subsequences = (a.nullable && a.subsequences) && (b.nullable && b.subsequences);
   elements = joined_spans a.elements b.elements;
   members = members;
+  depth = kept_depth (depth + 1);
 }
 
 -- what is kept of each pattern is right for its tree

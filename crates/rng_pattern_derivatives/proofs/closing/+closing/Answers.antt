@@ -1,4 +1,4 @@
-use Rattle.std.proofs.Common.{◌≡◌, ◌∙◌, ◌<◌, ◌+◌, ◌↔◌, All, List, length, map, take, get_or, refl, sym, ap, subst, arith, true, false}
+use Rattle.std.proofs.Common.{◌≡◌, ◌∙◌, ◌<◌, ◌+◌, ◌↔◌, All, List, length, map, take, get_or, refl, sym, ap, subst, arith, rules, true, false}
 use Rattle.std.proofs.lemmas.Bool.{not-false, not-true}
 use Rattle.std.proofs.Math.ListN.{get_or-map}
 use Rattle.std.proofs.lemmas.List.{length-map, take_all}
@@ -20,12 +20,13 @@ use Rattle.rng_pattern_derivatives.specs.plain.Closing.{IsBareOfAttributes}
 use Rattle.rng_pattern_derivatives.proofs.PatternsWithoutAttributes.{bare_there, closed_same}
 use Rattle.rng_pattern_derivatives.specs.declared.way.Joint.TheVariants as joints
 use Rattle.rng_pattern_derivatives.proofs.ClosedTags.{both_closed, both_ok, choice_closed, copies_closed, inside_more, none_closed, takes_more, bare_more}
+use Rattle.rng_pattern_derivatives.specs.views.KnownRests.{HasRest}
 use Rattle.rng_pattern_derivatives.proofs.KnownRests.{rests_longer, rests_more}
 use Rattle.rng_pattern_derivatives.proofs.PatternNodes.{is_over, other_single, parts_there, single_alone}
 use Rattle.rng_pattern_derivatives.proofs.closing.+closing.Goals as goal
 
-pub close-returns-then-not-facts-clause-closed : goal.close-returns-then-not-facts-clause-closed
-close-returns-then-not-facts-clause-closed t c =
+pub rest_of-returns-then-not-facts-clause-closed : goal.rest_of-returns-then-not-facts-clause-closed
+rest_of-returns-then-not-facts-clause-closed t c =
     let none : (t0 : Table) → has_attribute (tree_of t0 c.args.table.now c.args.number.0) ≡ false = λ t0.
     sym (ap (λ (f : Facts). f.attributes) (c.facts.ensures.exact t0)) ∙ not-true _ c.if-not-facts.true in
     record {
@@ -34,38 +35,38 @@ close-returns-then-not-facts-clause-closed t c =
       bare = λ t0 o. bare_there (tree_of t0 c.args.table.now c.args.number.0) (none t0) o;
     }
 
-pub close_parts-close-requires : goal.close_parts-close-requires
-close_parts-close-requires t c =
+pub close_parts-rest_of-requires : goal.close_parts-rest_of-requires
+close_parts-rest_of-requires t c =
     let below = (parts_there c.args.table.now c.args.number.0 c.pattern.result.now _ c.pattern.ensures.table c.pattern.ensures.found c.in-Group.is).0 in
     let d = c.decreases in
     let inside = c.requires.inside in
     (omega (arith, below, d), (omega (arith, below, inside), c.requires.known))
 
-pub close_parts-close-requires-in-Group : goal.close_parts-close-requires-in-Group
-close_parts-close-requires-in-Group t c =
+pub close_parts-rest_of-requires-in-Group : goal.close_parts-rest_of-requires-in-Group
+close_parts-rest_of-requires-in-Group t c =
     let below = (parts_there c.args.table.now c.args.number.0 c.pattern.result.now _ c.pattern.ensures.table c.pattern.ensures.found c.in-Group.is).1 in
     let d = c.decreases in
     let inside = c.requires.inside in
-    let long = Longer-length c.args.table.now c.close.new.table c.in_ok-first-in-Group.ensures.longer in
+    let long = Longer-length c.args.table.now c.rest_of.new.table c.in_ok-first-in-Group.ensures.longer in
     (omega (arith, below, d), (omega (arith, below, inside, long), c.in_ok-first-in-Group.ensures.known))
 
-pub close_parts-close-requires-in-Interleave : goal.close_parts-close-requires-in-Interleave
-close_parts-close-requires-in-Interleave t c =
+pub close_parts-rest_of-requires-in-Interleave : goal.close_parts-rest_of-requires-in-Interleave
+close_parts-rest_of-requires-in-Interleave t c =
     let below = (parts_there c.args.table.now c.args.number.0 c.pattern.result.now _ c.pattern.ensures.table c.pattern.ensures.found c.in-Interleave.is).0 in
     let d = c.decreases in
     let inside = c.requires.inside in
     (omega (arith, below, d), (omega (arith, below, inside), c.requires.known))
 
-pub close_parts-close-requires-in-Interleave-2 : goal.close_parts-close-requires-in-Interleave-2
-close_parts-close-requires-in-Interleave-2 t c =
+pub close_parts-rest_of-requires-in-Interleave-2 : goal.close_parts-rest_of-requires-in-Interleave-2
+close_parts-rest_of-requires-in-Interleave-2 t c =
     let below = (parts_there c.args.table.now c.args.number.0 c.pattern.result.now _ c.pattern.ensures.table c.pattern.ensures.found c.in-Interleave.is).1 in
     let d = c.decreases in
     let inside = c.requires.inside in
-    let long = Longer-length c.args.table.now c.close-in-Interleave.new.table c.in_ok-first-in-Interleave.ensures.longer in
+    let long = Longer-length c.args.table.now c.rest_of-in-Interleave.new.table c.in_ok-first-in-Interleave.ensures.longer in
     (omega (arith, below, d), (omega (arith, below, inside, long), c.in_ok-first-in-Interleave.ensures.known))
 
-pub close_parts-close-requires-in-OneOrMore : goal.close_parts-close-requires-in-OneOrMore
-close_parts-close-requires-in-OneOrMore t c =
+pub close_parts-rest_of-requires-in-OneOrMore : goal.close_parts-rest_of-requires-in-OneOrMore
+close_parts-rest_of-requires-in-OneOrMore t c =
     let below = parts_there c.args.table.now c.args.number.0 c.pattern.result.now _ c.pattern.ensures.table c.pattern.ensures.found c.in-OneOrMore.is in
     let d = c.decreases in
     let inside = c.requires.inside in
@@ -74,8 +75,8 @@ close_parts-close-requires-in-OneOrMore t c =
 pub close_parts-returns-in_ok-second-in-Group-clause-closed : goal.close_parts-returns-in_ok-second-in-Group-clause-closed
 close_parts-returns-in_ok-second-in-Group-clause-closed t c =
     let old = c.args.table.now in
-    let n1 = c.close.new.table in
-    let n2 = c.close-in-Group.new.table in
+    let n1 = c.rest_of.new.table in
+    let n2 = c.rest_of-in-Group.new.table in
     let below = (parts_there c.args.table.now c.args.number.0 c.pattern.result.now _ c.pattern.ensures.table c.pattern.ensures.found c.in-Group.is).1 in
     let inside = c.requires.inside in
     if_ok c.group.result _ _ (λ n adds. both_closed joints.Group old n1 n2 c.group.new.self c.args.number c.in-Group.first c.in-Group.second
@@ -88,8 +89,8 @@ close_parts-returns-in_ok-second-in-Group-clause-closed t c =
 pub close_parts-returns-in_ok-second-in-Interleave-clause-closed : goal.close_parts-returns-in_ok-second-in-Interleave-clause-closed
 close_parts-returns-in_ok-second-in-Interleave-clause-closed t c =
     let old = c.args.table.now in
-    let n1 = c.close-in-Interleave.new.table in
-    let n2 = c.close-in-Interleave-2.new.table in
+    let n1 = c.rest_of-in-Interleave.new.table in
+    let n2 = c.rest_of-in-Interleave-2.new.table in
     let below = (parts_there c.args.table.now c.args.number.0 c.pattern.result.now _ c.pattern.ensures.table c.pattern.ensures.found c.in-Interleave.is).1 in
     let inside = c.requires.inside in
     if_ok c.interleave.result _ _ (λ n adds. both_closed joints.Interleave old n1 n2 c.interleave.new.self c.args.number c.in-Interleave.first
@@ -102,7 +103,7 @@ close_parts-returns-in_ok-second-in-Interleave-clause-closed t c =
 
 pub close_parts-returns-in_ok-body-in-OneOrMore-clause-closed : goal.close_parts-returns-in_ok-body-in-OneOrMore-clause-closed
 close_parts-returns-in_ok-body-in-OneOrMore-clause-closed t c =
-    if_ok c.one_or_more.result _ _ (λ n adds. copies_closed c.args.table.now c.close-in-OneOrMore.new.table c.one_or_more.new.self c.args.number
+    if_ok c.one_or_more.result _ _ (λ n adds. copies_closed c.args.table.now c.rest_of-in-OneOrMore.new.table c.one_or_more.new.self c.args.number
     c.in-OneOrMore.body c.in_ok-body-in-OneOrMore.body n (λ t0. is_over t0 c.args.table.now c.args.number.0 c.pattern.result.now _ c.pattern.ensures.table
     c.pattern.ensures.found c.in-OneOrMore.is) c.in_ok-body-in-OneOrMore.ensures.closed adds)
     c.one_or_more.ensures.tree
@@ -121,43 +122,45 @@ close_parts-returns-in_default t c =
           c.requires.attribute adds) c.not_allowed.ensures.tree;
     }
 
-pub close-close_parts-requires : goal.close-close_parts-requires
-close-close_parts-requires t c =
+pub rest_of-close_parts-requires : goal.rest_of-close_parts-requires
+rest_of-close_parts-requires t c =
     let d = c.decreases in
     let there : (t0 : Table) → has_attribute (tree_of t0 c.args.table.now c.args.number.0) ≡ true = λ t0.
     sym (ap (λ (f : Facts). f.attributes) (c.facts.ensures.exact t0)) ∙ not-false _ c.if-not-facts.false in
     (omega (arith, d), (c.requires.inside, (c.requires.known, there)))
 
-pub close-returns-in-Some-clause-closed : goal.close-returns-in-Some-clause-closed
-close-returns-in-Some-clause-closed t c = (c.requires.known c.args.number c.in-Some.rest c.in-Some.ensures).closed
+pub rest_of-returns-in-Some-clause-closed : goal.rest_of-returns-in-Some-clause-closed
+rest_of-returns-in-Some-clause-closed t c =
+    let has : HasRest c.args.known.now c.args.number c.in-Some.rest.now = search rules in
+    (c.requires.known c.args.number c.in-Some.rest.now has).closed
 
-pub close-returns-clause-known : goal.close-returns-clause-known
-close-returns-clause-known t c =
+pub rest_of-returns-clause-known : goal.rest_of-returns-clause-known
+rest_of-returns-clause-known t c =
     rests_more c.args.table.now c.close_parts.new.table c.in_ok-rest.ensures.longer c.close_parts.new.known c.keep_rest.new.known c.args.number
     c.in_ok-rest.rest c.requires.inside c.in_ok-rest.ensures.known c.in_ok-rest.ensures.closed c.in_ok-keep_rest.ensures
 
 pub close_parts-returns-in_ok-second-in-Group-clause-known : goal.close_parts-returns-in_ok-second-in-Group-clause-known
 close_parts-returns-in_ok-second-in-Group-clause-known t c =
-    if_ok c.group.result _ _ (λ n h. rests_longer c.close-in-Group.new.table c.group.new.self c.group.ensures.longer c.close-in-Group.new.known
+    if_ok c.group.result _ _ (λ n h. rests_longer c.rest_of-in-Group.new.table c.group.new.self c.group.ensures.longer c.rest_of-in-Group.new.known
     c.in_ok-second-in-Group.ensures.known) c.group.ensures.tree
 
 pub close_parts-returns-in_ok-second-in-Interleave-clause-known : goal.close_parts-returns-in_ok-second-in-Interleave-clause-known
 close_parts-returns-in_ok-second-in-Interleave-clause-known t c =
-    if_ok c.interleave.result _ _ (λ n h. rests_longer c.close-in-Interleave-2.new.table c.interleave.new.self c.interleave.ensures.longer
-    c.close-in-Interleave-2.new.known c.in_ok-second-in-Interleave.ensures.known) c.interleave.ensures.tree
+    if_ok c.interleave.result _ _ (λ n h. rests_longer c.rest_of-in-Interleave-2.new.table c.interleave.new.self c.interleave.ensures.longer
+    c.rest_of-in-Interleave-2.new.known c.in_ok-second-in-Interleave.ensures.known) c.interleave.ensures.tree
 
 pub close_parts-returns-in_ok-body-in-OneOrMore-clause-known : goal.close_parts-returns-in_ok-body-in-OneOrMore-clause-known
 close_parts-returns-in_ok-body-in-OneOrMore-clause-known t c =
-    if_ok c.one_or_more.result _ _ (λ n h. rests_longer c.close-in-OneOrMore.new.table c.one_or_more.new.self c.one_or_more.ensures.longer
-    c.close-in-OneOrMore.new.known c.in_ok-body-in-OneOrMore.ensures.known) c.one_or_more.ensures.tree
+    if_ok c.one_or_more.result _ _ (λ n h. rests_longer c.rest_of-in-OneOrMore.new.table c.one_or_more.new.self c.one_or_more.ensures.longer
+    c.rest_of-in-OneOrMore.new.known c.in_ok-body-in-OneOrMore.ensures.known) c.one_or_more.ensures.tree
 
 pub close_choice-returns-clause-known : goal.close_choice-returns-clause-known
 close_choice-returns-clause-known t c =
     if_ok c.choice.result _ _ (λ n h. rests_longer c.members.table c.choice.new.self c.choice.ensures.longer c.members.known c.members.invariant.known)
     c.choice.ensures.inside
 
-pub close_choice-close-requires : goal.close_choice-close-requires
-close_choice-close-requires t c =
+pub close_choice-rest_of-requires : goal.close_choice-rest_of-requires
+close_choice-rest_of-requires t c =
     let ms : List PatternNumber = c.deref-member-items.result.now in
     let i = c.members.member-index in
     let none : PatternNumber = record { 0 = 0 } in
@@ -176,7 +179,7 @@ pub close_choice-members-preserved : goal.close_choice-members-preserved
 close_choice-members-preserved t c =
     let n0 = c.args.table.now in
     let before = c.members.table in
-    let n1 = c.close.new.table in
+    let n1 = c.rest_of.new.table in
     let ms : List PatternNumber = c.deref-member-items.result.now in
     let i = c.members.member-index in
     let none : PatternNumber = record { 0 = 0 } in
@@ -189,21 +192,21 @@ close_choice-members-preserved t c =
     let whole = c.requires.inside in
     let inside : (get_or ms i none).0 < length n0 = omega (arith, one, at, whole) in
     let closes : List PatternNumber = c.members.closed.items in
-    let rest = c.in_ok-close.field-0 in
+    let rest = c.in_ok-rest_of.field-0 in
     let added = sym c.in_ok-push.ensures.items in
     let inv = c.members.invariant in
     record {
-      longer = Longer-trans n0 before n1 inv.longer c.in_ok-close.ensures.longer;
-      known = c.in_ok-close.ensures.known;
+      longer = Longer-trans n0 before n1 inv.longer c.in_ok-rest_of.ensures.longer;
+      known = c.in_ok-rest_of.ensures.known;
       inside = subst (λ (xs : List PatternNumber). All (λ (m : PatternNumber). m.0 < length n1) xs) added
-          (inside_more n0 before n1 ms i none closes rest within inside inv.longer c.in_ok-close.ensures.longer c.in_ok-close.ensures.closed
+          (inside_more n0 before n1 ms i none closes rest within inside inv.longer c.in_ok-rest_of.ensures.longer c.in_ok-rest_of.ensures.closed
           inv.inside inv.takes inv.bare);
       takes = λ t0 g xs ns. subst (λ (rs : List PatternNumber). SomeTakes g (tree_of t0 n1) rs xs ns
           ↔ Takes g (choice_all (map (λ (m : PatternNumber). closed (tree_of t0 n0 m.0)) (take (i + 1) ms))) xs ns) added
-          (takes_more n0 before n1 ms i none closes rest within inside inv.longer c.in_ok-close.ensures.longer c.in_ok-close.ensures.closed
+          (takes_more n0 before n1 ms i none closes rest within inside inv.longer c.in_ok-rest_of.ensures.longer c.in_ok-rest_of.ensures.closed
           inv.inside inv.takes inv.bare t0 g xs ns);
       bare = λ t0 each. subst (λ (rs : List PatternNumber). All (λ (m : PatternNumber). IsBareOfAttributes (tree_of t0 n1 m.0)) rs) added
-          (bare_more n0 before n1 ms i none closes rest within inside inv.longer c.in_ok-close.ensures.longer c.in_ok-close.ensures.closed
+          (bare_more n0 before n1 ms i none closes rest within inside inv.longer c.in_ok-rest_of.ensures.longer c.in_ok-rest_of.ensures.closed
           inv.inside inv.takes inv.bare t0 each);
     }
 

@@ -13,8 +13,8 @@ use Rattle.rng_pattern_derivatives.specs.plain.Closing.{IsBareOfAttributes}
 use Rattle.rng_pattern_derivatives.specs.views.KnownRests.{AreRestsOf}
 use Rattle.rng_pattern_derivatives.proofs.closing.+closing.Given as goal
 
-abbrev pub decreases-close : goal.decreases-close
-decreases-close l = 3 * l.number.0 + 2
+abbrev pub decreases-rest_of : goal.decreases-rest_of
+decreases-rest_of l = 3 * l.number.0 + 2
 
 abbrev pub decreases-close_parts : goal.decreases-close_parts
 decreases-close_parts l = 3 * l.number.0 + 1

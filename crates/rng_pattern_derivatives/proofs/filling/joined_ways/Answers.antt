@@ -1,11 +1,11 @@
-use Rattle.std.proofs.Common.{◌+◌, List, get_or, refl, subst, sym}
-use Rattle.std.proofs.lemmas.List.Elements.{Contains-get_or}
+use Rattle.std.proofs.Common.{◌≡◌, IsPermutation, List, rules, subst, sym}
+use Rattle.std.proofs.lemmas.List.Sorted.{All-permutation}
 use Rattle.rng_pattern_table.specs.views.Trees.{tree_of}
 use Rattle.rng_pattern_table.proofs.Choices.{if_ok}
-use Rattle.rng_pattern_derivatives.specs.plain.Ways.{AreRestsBehind, StandFor, ways_by}
+use Rattle.rng_pattern_derivatives.specs.plain.Ways.{AreInside, IsInside, StandFor, ways_by}
 use Rattle.rng_pattern_derivatives.specs.declared.way.LeafWay.{LeafWay}
 use Rattle.rng_pattern_derivatives.proofs.NumberedWays.{stands_itself}
-use Rattle.rng_pattern_derivatives.proofs.JoinedWays.{AreJoined, join_made, joined_stand, one_joined, rests_inside, way_to}
+use Rattle.rng_pattern_derivatives.proofs.JoinedWays.{reordered_stand}
 use Rattle.rng_pattern_derivatives.proofs.filling.joined_ways.Goals as goal
 
 pub returns-then-are_rising-clause-ways : goal.returns-then-are_rising-clause-ways
@@ -15,27 +15,18 @@ returns-then-are_rising-clause-ways c =
     if_ok c.copied_ways.result _ _ (λ copy e. subst (λ all. StandFor ns all (λ t. ways_by (tree_of t ns) ways)) (sym e) (stands_itself ns ways c.requires))
     c.copied_ways.ensures
 
-pub choice-requires : goal.choice-requires
-choice-requires c = λ k d h.
-    let slice = c.as_slice-in-ways.result.now in
-    rests_inside c.args.table.now c.args.ways.now c.requires c.ways.table _ slice c.ways.invariant.longer
-    (subst (AreRestsBehind c.args.ways.now _) (sym c.as_slice-in-ways.ensures) c.in_ok-rests.ensures) (get_or slice k d) (Contains-get_or slice k d h)
-
-pub ways-preserved : goal.ways-preserved
-ways-preserved c =
-    let old = c.args.table.now in
-    let ways : List LeafWay = c.args.ways.now in
-    let i = c.ways.way-index in
-    let none = way_to (record { 0 = 0 }) (record { 0 = 0 }) in
-    let way : LeafWay = get_or ways i none in
-    let slice = c.as_slice-in-ways.result.now in
-    let rest = c.in_ok-rest.rest in
-    let behind = subst (AreRestsBehind ways way.leaf) (sym c.as_slice-in-ways.ensures) c.in_ok-rests.ensures in
-    let join = join_made old ways c.requires c.ways.table c.choice.new.self way.leaf way.rest rest slice c.ways.invariant.longer behind
-    (Contains-get_or ways i none c.ways-test.true) c.in_ok-rest.ensures.matches c.in_ok-rest.ensures.alternatives in
-    subst (λ all. AreJoined old ways c.choice.new.self all (i + 1)) (sym c.in_ok-push.ensures.ok)
-    (one_joined old ways c.requires c.ways.table c.choice.new.self c.ways.all.items i none way.leaf rest c.ways-test.true refl c.in_ok-rest.ensures.longer
-    c.in_ok-rest.ensures.inside join c.ways.invariant)
+pub joined_runs-requires : goal.joined_runs-requires
+joined_runs-requires c =
+    let ns = c.args.table.now in
+    let made : c.extend_from_slice.new.self.items ≡ c.args.ways.now = search rules in
+    subst (AreInside ns) (sym c.as_slice.ensures.value)
+    (All-permutation (IsInside ns) _ _ c.sort_by_key.ensures.permutation (subst (AreInside ns) (sym made) c.requires))
 
 pub returns-clause-ways : goal.returns-clause-ways
-returns-clause-ways c = joined_stand c.args.table.now c.args.ways.now c.requires c.ways.table c.ways.all.items c.ways.way-index c.ways-test.false c.ways.invariant
+returns-clause-ways c =
+    let old = c.args.table.now in
+    let new = c.joined_runs.new.table in
+    let ways : List LeafWay = c.args.ways.now in
+    let sorted : List LeafWay = c.as_slice.result.now in
+    let same : IsPermutation ways sorted = search rules in
+    if_ok c.joined_runs.result _ _ (λ all h. reordered_stand old new ways sorted all.items same h) c.joined_runs.ensures.ways

@@ -1,10 +1,10 @@
-use Rattle.std.proofs.Common.{◌≡◌, ◌∙◌, ◌<◌, ◌≤◌, ◌+◌, ℕ, suc, All, List, [], ◌∷◌, ◌++◌, length, map, take, get_or, refl, sym, ap, ap₂, subst, arith, rules, IsTrue}
+use Rattle.std.proofs.Common.{◌≡◌, ◌∙◌, ◌<◌, ◌≤◌, ◌+◌, ℕ, suc, All, List, [], ◌∷◌, ◌++◌, length, map, take, get_or, refl, sym, ap, subst, arith, rules, IsTrue}
 use Rattle.std.proofs.lemmas.Bool.{not-false, not-true}
 use Rattle.std.proofs.Math.ListN.{get_or-map}
 use Rattle.std.proofs.lemmas.List.{length-map, map-append, take_all}
 use Rattle.std.proofs.Math.Seq.{take-suc}
 use Rattle.rng_model.specs.simple.Tree.{Simple, group, s_joined, s_not_allowed}
-use Rattle.rng_deriv_laws.specs.plain.Derivatives.{behind, group_of, is_nullable}
+use Rattle.rng_deriv_laws.specs.plain.Derivatives.{behind, is_nullable}
 use Rattle.rng_deriv_laws.proofs.SameWays.{choice_all}
 use Rattle.rng_deriv_laws.specs.plain.Taking.{Takes}
 use Rattle.rng_pattern_table.specs.plain.Copies.{IsBehindCopies, IsOfCopies}
@@ -21,7 +21,7 @@ use Rattle.rng_pattern_derivatives.specs.plain.FewerWays.{AreRepeated, AreUncove
 use Rattle.rng_pattern_derivatives.specs.plain.Ways.{AreInside, AreWaysOf, StandFor, filled, ways_by}
 use Rattle.rng_pattern_derivatives.specs.declared.way.Hole.TheVariants as holes
 use Rattle.rng_pattern_derivatives.specs.declared.way.Joint.TheVariants as joints
-use Rattle.rng_pattern_derivatives.proofs.WaysOfSides.{both_made, copies_made, first_made, made, member_made, opened_hands_on, opened_same, over_hands_on}
+use Rattle.rng_pattern_derivatives.proofs.WaysOfSides.{both_made, copies_made, first_made, made, member_made, over_hands_on}
 use Rattle.rng_pattern_derivatives.proofs.WaysOfSides.{map_numbers, no_order_between, none_made, none_more, over_same, side_law, ways_of_same}
 use Rattle.rng_pattern_derivatives.proofs.FewerWaysLaws.{alone_made, left_inside, more_copies, repeated_made, uncovered_made}
 use Rattle.rng_pattern_derivatives.proofs.Copies.{behind_weight, opened_gives, opened_takes, opened_weight}
@@ -30,7 +30,7 @@ use Rattle.rng_pattern_derivatives.proofs.WayLists.{inside_longer}
 use Rattle.rng_pattern_derivatives.proofs.NumberedWays.{appended_stand}
 use Rattle.rng_pattern_derivatives.proofs.PatternNodes.{is_over, other_single, parts_there, single_alone}
 use Rattle.rng_pattern_derivatives.proofs.AttributeTakers.{candidates_longer}
-use Rattle.rng_pattern_derivatives.proofs.SideWeights.{member_less, opened_less, right_less}
+use Rattle.rng_pattern_derivatives.proofs.SideWeights.{member_less, right_less}
 use Rattle.rng_pattern_derivatives.proofs.ways.+ways.Goals as goal
 
 one_taken : (f : PatternNumber → Simple ℕ) (ms : List PatternNumber) (i : ℕ) (d : PatternNumber) → i < length ms
@@ -443,56 +443,6 @@ ways_of_copies-add_filled-requires t c =
       all = subst (AreInside n3) (sym c.new-all.ensures.items) none;
     }
 
-pub ways_of_group-ways_of_group-requires : goal.ways_of_group-ways_of_group-requires
-ways_of_group-ways_of_group-requires t c =
-    let t0 = c.args.grammar.now in
-    let n0 = c.args.table.now in
-    let n1 = c.group.new.self in
-    let x = tree_of t0 n0 c.in-Some.outer.0 in
-    let y = tree_of t0 n0 c.in-Some.inner.0 in
-    let b = tree_of t0 n0 c.args.second.0 in
-    let longer = c.in_ok-rest.ensures.longer in
-    let outer_is = ap weight (tree_stays t0 n0 n1 c.in-Some.outer.0 longer c.in-Some.ensures.inside.0) in
-    let rest_is = ap weight (c.in_ok-rest.ensures.tree.is t0) in
-    let v = ap (λ p. weight (s_joined group p b)) (c.in-Some.ensures.sides t0) in
-    let less = opened_less x y b in
-    let inside = c.in-Some.ensures.inside.0 in
-    let long = Longer-length n0 n1 longer in
-    let d = c.decreases in (
-      omega (arith, outer_is, rest_is, v, less, d),
-      (
-        omega (arith, inside, long),
-        (
-          c.in_ok-rest.ensures.tree.inside,
-          (
-            known_longer t0 n0 n1 c.args.kind longer c.args.known.now c.requires.known,
-            candidates_longer t0 n0 n1 longer c.args.kind c.args.candidates c.requires.candidates,
-          ),
-        ),
-      ),
-    )
-
-pub ways_of_group-returns : goal.ways_of_group-returns
-ways_of_group-returns t c =
-    let t0 = c.args.grammar.now in
-    let n0 = c.args.table.now in
-    let n1 = c.group.new.self in
-    let n2 = c.ways_of_group.new.table in
-    let x = tree_of t0 n0 c.in-Some.outer.0 in
-    let y = tree_of t0 n0 c.in-Some.inner.0 in
-    let b = tree_of t0 n0 c.args.second.0 in
-    let longer = c.in_ok-rest.ensures.longer in
-    let is = ap₂ (λ p q. s_joined group p q) (tree_stays t0 n0 n1 c.in-Some.outer.0 longer c.in-Some.ensures.inside.0) (c.in_ok-rest.ensures.tree.is t0) in
-    record {
-      longer = if_ok c.ways_of_group.result _ _ (λ ws h. Longer-trans n0 n1 n2 longer h) c.ways_of_group.ensures.longer;
-      known = c.ways_of_group.ensures.known;
-      ways = if_ok c.ways_of_group.result _ _
-          (λ ws h. subst (λ p. AreWaysOf t0 n2 c.args.kind (s_joined group p b) ws.items) (sym (c.in-Some.ensures.sides t0))
-          (ways_of_same t0 n2 c.args.kind (s_joined group x (group_of y b)) (s_joined group (s_joined group x y) b) ws.items (opened_same (reading_of t0) x y b)
-          (opened_hands_on x y b) (subst (λ p. AreWaysOf t0 n2 c.args.kind p ws.items) is h)))
-          c.ways_of_group.ensures.ways;
-    }
-
 pub ways_of_both-returns-clause-known : goal.ways_of_both-returns-clause-known
 ways_of_both-returns-clause-known t c =
     let n2 = c.ways-2.new.table in
@@ -585,18 +535,18 @@ pub ways_of_group-item_ways_of_group-requires : goal.ways_of_group-item_ways_of_
 ways_of_group-item_ways_of_group-requires t c =
     let t0 = c.args.grammar.now in
     let n0 = c.args.table.now in
-    let n1 = c.first_copy.new.self in
-    let longer = c.in_ok-copy.ensures.longer in
-    let less = opened_weight (tree_of t0 n0 c.args.first.0) (tree_of t0 n0 c.args.second.0) (tree_of t0 n1 c.in_ok-copy.copy.0)
-    (tree_of t0 n1 c.in_ok-copy.rest.0) (c.in_ok-copy.ensures.opened t0) in
+    let n1 = c.reassociated.new.self in
+    let longer = c.in_ok-first.ensures.longer in
+    let less = opened_weight (tree_of t0 n0 c.args.first.0) (tree_of t0 n0 c.args.second.0) (tree_of t0 n1 c.in_ok-first.first.0)
+    (tree_of t0 n1 c.in_ok-first.rest.0) (c.in_ok-first.ensures.opened t0) in
     let d = c.decreases in (
       omega (arith, less, d),
       (
         search rules,
         (
-          c.in_ok-copy.ensures.inside.0,
+          c.in_ok-first.ensures.inside.0,
           (
-            c.in_ok-copy.ensures.inside.1,
+            c.in_ok-first.ensures.inside.1,
             (
               known_longer t0 n0 n1 c.args.kind longer c.args.known.now c.requires.known,
               candidates_longer t0 n0 n1 longer c.args.kind c.args.candidates c.requires.candidates,
@@ -606,19 +556,19 @@ ways_of_group-item_ways_of_group-requires t c =
       ),
     )
 
-pub ways_of_group-returns-then-begins_with_copies : goal.ways_of_group-returns-then-begins_with_copies
-ways_of_group-returns-then-begins_with_copies t c =
+pub ways_of_group-returns : goal.ways_of_group-returns
+ways_of_group-returns t c =
     let t0 = c.args.grammar.now in
     let n0 = c.args.table.now in
-    let n1 = c.first_copy.new.self in
+    let n1 = c.reassociated.new.self in
     let n2 = c.item_ways_of_group.new.table in
     let p = tree_of t0 n0 c.args.first.0 in
     let q = tree_of t0 n0 c.args.second.0 in
-    let x = tree_of t0 n1 c.in_ok-copy.copy.0 in
-    let y = tree_of t0 n1 c.in_ok-copy.rest.0 in
-    let opened = c.in_ok-copy.ensures.opened t0 in
+    let x = tree_of t0 n1 c.in_ok-first.first.0 in
+    let y = tree_of t0 n1 c.in_ok-first.rest.0 in
+    let opened = c.in_ok-first.ensures.opened t0 in
     record {
-      longer = if_ok c.item_ways_of_group.result _ _ (λ ws h. Longer-trans n0 n1 n2 c.in_ok-copy.ensures.longer h) c.item_ways_of_group.ensures.longer;
+      longer = if_ok c.item_ways_of_group.result _ _ (λ ws h. Longer-trans n0 n1 n2 c.in_ok-first.ensures.longer h) c.item_ways_of_group.ensures.longer;
       known = c.item_ways_of_group.ensures.known;
       ways = if_ok c.item_ways_of_group.result _ _
           (λ ws h. ways_of_same t0 n2 c.args.kind (s_joined group x y) (s_joined group p q) ws.items (opened_takes (reading_of t0) p q x y opened)

@@ -28,6 +28,3 @@ patterns-preserved-in_default-pattern c =
 pub returns-in_default : goal.returns-in_default
 returns-in_default c =
     all_attributes_told c.args.grammar.now c.args.keys.now c.patterns.takers c.patterns.position (sym c.in_default.ensures.value) c.patterns.invariant.told
-
-pub returns : goal.returns
-returns c = λ k q has. c.unknown.ensures _ k

@@ -12,6 +12,3 @@ elements-preserved c = record {
 pub returns-in_default : goal.returns-in_default
 returns-in_default c =
     all_told c.args.grammar.now c.args.keys.now c.elements.takers c.elements.number (sym c.in_default.ensures) c.elements.invariant.told
-
-pub returns : goal.returns
-returns c = λ e q named. c.unknown.ensures _ e

@@ -3,7 +3,7 @@ use Rattle.rng_deriv_laws.specs.plain.Derivatives.{has_data, is_nullable}
 use Rattle.rng_pattern_table.specs.plain.Facts.{has_subsequences}
 use Rattle.rng_pattern_table.specs.plain.Reduced.{has_attribute}
 use Rattle.rng_pattern_table.specs.views.Trees.{tree_of}
-use Rattle.rng_pattern_table.proofs.KnownFacts.{all_members, all_more, elements_more, member_more}
+use Rattle.rng_pattern_table.proofs.KnownFacts.{all_members, all_more, depth_more, elements_more, member_more}
 use Rattle.rng_pattern_table.proofs.pattern_table.PatternTable.facts_of_choice.Goals as goal
 
 pub loop-member-preserved : goal.loop-member-preserved
@@ -24,10 +24,12 @@ loop-member-preserved c = λ t.
       elements = c.joined-known.ensures ∙ elements_more f ms i _ c.loop-member.known.elements c.facts-facts.result.elements c.loop-member-test.true
           kept.elements (ap (λ (x : _). x.elements) (c.facts-facts.ensures.exact t));
       members = kept.members;
+      depth = c.max.ensures ∙ depth_more f ms i _ c.loop-member.known.depth c.facts-facts.result.depth c.loop-member-test.true
+          kept.depth (ap (λ (x : _). x.depth) (c.facts-facts.ensures.exact t));
     }
 
 pub returns : goal.returns
 returns c = λ t.
     let kept = c.loop-member.invariant t in
     all_members (tree_of t c.args.self.now) c.args.members.now c.loop-member.member-index c.loop-member.known c.requires.two c.loop-member-test.false
-    kept.nullable kept.attributes kept.tests_strings kept.subsequences kept.elements kept.members
+    kept.nullable kept.attributes kept.tests_strings kept.subsequences kept.elements kept.members kept.depth

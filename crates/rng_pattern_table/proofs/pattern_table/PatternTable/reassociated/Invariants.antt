@@ -3,7 +3,7 @@ use Rattle.rng_model.specs.simple.Table.{Table}
 use Rattle.rng_pattern_table.specs.plain.Copies.{IsOpened}
 use Rattle.rng_pattern_table.specs.views.PatternTable.{Longer}
 use Rattle.rng_pattern_table.specs.views.Trees.{tree_of}
-use Rattle.rng_pattern_table.proofs.pattern_table.PatternTable.first_copy.Given as goal
+use Rattle.rng_pattern_table.proofs.pattern_table.PatternTable.reassociated.Given as goal
 
 abbrev pub invariant-groups : goal.invariant-groups
 invariant-groups l = record {

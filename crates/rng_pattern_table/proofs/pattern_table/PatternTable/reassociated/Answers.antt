@@ -3,8 +3,7 @@ use Rattle.rng_model.specs.simple.Tree.{Simple}
 use Rattle.rng_pattern_table.specs.plain.Copies.{IsOpened, as_it_is, once_more}
 use Rattle.rng_pattern_table.specs.views.Trees.{tree_of}
 use Rattle.rng_pattern_table.proofs.Trees.{Longer-length, Longer-refl, Longer-trans, tree_stays}
-use Rattle.rng_pattern_table.proofs.Units.{group_there}
-use Rattle.rng_pattern_table.proofs.pattern_table.PatternTable.first_copy.Goals as goal
+use Rattle.rng_pattern_table.proofs.pattern_table.PatternTable.reassociated.Goals as goal
 
 pub groups-init : goal.groups-init
 groups-init c = record {
@@ -16,24 +15,18 @@ groups-init c = record {
 
 pub group-requires-clause-first : goal.group-requires-clause-first
 group-requires-clause-first c =
-    let sides = group_there c.groups.self c.groups.front.0 c.pattern.result.now c.in-Group.outer c.in-Group.inner c.pattern.ensures.table
-    c.pattern.ensures.found c.in-Group.is in
-    let below = sides.1 in
+    let below = c.in-Some.ensures.below.1 in
     let inside = c.groups.invariant.front in
     omega (arith, below, inside)
 
 pub groups-smaller : goal.groups-smaller
-groups-smaller c =
-    (group_there c.groups.self c.groups.front.0 c.pattern.result.now c.in-Group.outer c.in-Group.inner c.pattern.ensures.table c.pattern.ensures.found
-    c.in-Group.is).0
+groups-smaller c = c.in-Some.ensures.below.0
 
 pub groups-preserved : goal.groups-preserved
 groups-preserved c =
     let old = c.groups.self in
     let new = c.group.new.self in
-    let sides = group_there old c.groups.front.0 c.pattern.result.now c.in-Group.outer c.in-Group.inner c.pattern.ensures.table
-    c.pattern.ensures.found c.in-Group.is in
-    let below = sides.0 in
+    let below = c.in-Some.ensures.below.0 in
     let inside = c.groups.invariant.front in
     let long = Longer-length old new c.in_ok-rest.ensures.longer in
     record {
@@ -44,7 +37,7 @@ groups-preserved c =
           let first = tree_of t c.args.self.now c.args.first.0 in
           let second = tree_of t c.args.self.now c.args.second.0 in
           subst (λ (p : Simple _). IsOpened first second p (tree_of t new c.in_ok-rest.rest.0))
-          (sym (tree_stays t old new c.in-Group.outer.0 c.in_ok-rest.ensures.longer (omega (arith, below, inside))))
-          (once_more (subst (λ (p : Simple _). IsOpened first second p (tree_of t old c.groups.rest.0)) (sides.2 t) (c.groups.invariant.opened t))
-          (c.in_ok-rest.ensures.tree.is t));
+          (sym (tree_stays t old new c.in-Some.outer.0 c.in_ok-rest.ensures.longer (omega (arith, below, inside))))
+          (once_more (subst (λ (p : Simple _). IsOpened first second p (tree_of t old c.groups.rest.0)) (c.in-Some.ensures.sides t)
+          (c.groups.invariant.opened t)) (c.in_ok-rest.ensures.tree.is t));
     }
