@@ -9,9 +9,10 @@ ghost use Rattle.rnc_syntax.specs.views.SyntaxView.{component_of, parameter_of, 
 
 use crate::atoms::{Opening, Setting, component, join};
 use crate::fault::{ReadFault, Stop};
-use crate::reading::{Reader, onward};
+use crate::reading::{Reader, onward, put};
 use crate::syntax_tree::{Component, DatatypeName, Parameter, Pattern};
 use rnc_text::{Keyword, Sign, Token};
+use std::mem;
 
 impl Reader {
     /// Reads a pattern one bracket deeper.
@@ -21,13 +22,14 @@ impl Reader {
         self,
         levels: u8,
         tokens: &'t [Token<'a>],
-    ) -> Result<(Pattern<'a>, &'t [Token<'a>]), ReadFault>
-        ensures { Gives stop_of (λ x. (pattern_of x.0, lexemes_in self.count x.1.now)) result ((inside_at levels).pattern (lexemes_in self.count tokens.now)) }
+        place: &mut Pattern<'a>,
+    ) -> Result<&'t [Token<'a>], ReadFault>
+        ensures { Gives stop_of (λ x. (pattern_of place.new, lexemes_in self.count x.now)) result ((inside_at levels).pattern (lexemes_in self.count tokens.now)) }
     {
         if levels == 0 {
             return Err(ReadFault::Stop(Stop::TooDeep));
         }
-        self.pattern(levels - 1, tokens)
+        self.pattern(levels - 1, tokens, place)
     }
 
     /// Reads components one bracket deeper.
@@ -58,9 +60,9 @@ impl Reader {
         ensures { Gives stop_of (λ x. (pattern_of x.0.value, lexemes_in self.count x.1.now)) result (braced_with (inside_at levels) (lexemes_in self.count tokens.now)) }
     {
         let rest = self.skip(Sign::OpenBrace, tokens)?;
-        let (body, rest) = self.inner_pattern(levels, rest)?;
-        let (body, rest) = self.closed(Sign::CloseBrace, body, rest)?;
-        Ok((Box::new(self.alloc, body)?, rest))
+        let mut body = Box::new(self.alloc, Pattern::Empty)?;
+        let rest = self.inner_pattern(levels, rest, &mut body)?;
+        self.closed(Sign::CloseBrace, body, rest)
     }
 
     /// Reads `"{" content* "}"` or `"{" over* "}"`.
@@ -87,35 +89,41 @@ impl Reader {
         levels: u8,
         opening: Opening,
         tokens: &'t [Token<'a>],
-    ) -> Result<(Pattern<'a>, &'t [Token<'a>]), ReadFault>
-        ensures { Gives stop_of (λ x. (pattern_of x.0, lexemes_in self.count x.1.now)) result (opened_with (inside_at levels) opening (lexemes_in self.count tokens.now)) }
+        place: &mut Pattern<'a>,
+    ) -> Result<&'t [Token<'a>], ReadFault>
+        ensures { Gives stop_of (λ x. (pattern_of place.new, lexemes_in self.count x.now)) result (opened_with (inside_at levels) opening (lexemes_in self.count tokens.now)) }
     {
         match opening {
             Opening::Element => {
                 let (class, rest) = self.class(levels, tokens)?;
                 let (body, rest) = self.braced(levels, rest)?;
-                Ok((Pattern::Element(class, body), rest))
+                put(place, Pattern::Element(class, body));
+                Ok(rest)
             }
             Opening::Attribute => {
                 let (class, rest) = self.class(levels, tokens)?;
                 let (body, rest) = self.braced(levels, rest)?;
-                Ok((Pattern::Attribute(class, body), rest))
+                put(place, Pattern::Attribute(class, body));
+                Ok(rest)
             }
             Opening::List => {
                 let (body, rest) = self.braced(levels, tokens)?;
-                Ok((Pattern::List(body), rest))
+                put(place, Pattern::List(body));
+                Ok(rest)
             }
             Opening::Mixed => {
                 let (body, rest) = self.braced(levels, tokens)?;
-                Ok((Pattern::Mixed(body), rest))
+                put(place, Pattern::Mixed(body));
+                Ok(rest)
             }
             Opening::Grammar => {
                 let (components, rest) = self.contents(levels, Setting::Content, tokens)?;
-                Ok((Pattern::Grammar(components), rest))
+                put(place, Pattern::Grammar(components));
+                Ok(rest)
             }
             Opening::Parenthesis => {
-                let (body, rest) = self.inner_pattern(levels, tokens)?;
-                self.closed(Sign::CloseParenthesis, body, rest)
+                let rest = self.inner_pattern(levels, tokens, place)?;
+                self.skip(Sign::CloseParenthesis, rest)
             }
         }
     }
@@ -127,11 +135,12 @@ impl Reader {
         self,
         levels: u8,
         tokens: &'t [Token<'a>],
-    ) -> Result<(Pattern<'a>, &'t [Token<'a>]), ReadFault>
-        ensures { Gives stop_of (λ x. (pattern_of x.0, lexemes_in self.count x.1.now)) result (primary_with (inside_at levels) (lexemes_in self.count tokens.now)) }
+        place: &mut Pattern<'a>,
+    ) -> Result<&'t [Token<'a>], ReadFault>
+        ensures { Gives stop_of (λ x. (pattern_of place.new, lexemes_in self.count x.now)) result (primary_with (inside_at levels) (lexemes_in self.count tokens.now)) }
     {
         let rest = self.annotation(tokens)?;
-        self.bare_primary(levels, rest)
+        self.bare_primary(levels, rest, place)
     }
 
     /// Reads a primary after its annotation.
@@ -141,12 +150,13 @@ impl Reader {
         self,
         levels: u8,
         tokens: &'t [Token<'a>],
-    ) -> Result<(Pattern<'a>, &'t [Token<'a>]), ReadFault>
-        ensures { Gives stop_of (λ x. (pattern_of x.0, lexemes_in self.count x.1.now)) result (bare_primary_with (inside_at levels) (lexemes_in self.count tokens.now)) }
+        place: &mut Pattern<'a>,
+    ) -> Result<&'t [Token<'a>], ReadFault>
+        ensures { Gives stop_of (λ x. (pattern_of place.new, lexemes_in self.count x.now)) result (bare_primary_with (inside_at levels) (lexemes_in self.count tokens.now)) }
     {
         match self.find_opening(tokens) {
-            Some((opening, rest)) => self.opened(levels, opening, rest),
-            None => self.atom(tokens),
+            Some((opening, rest)) => self.opened(levels, opening, rest, place),
+            None => self.atom(tokens, place),
         }
     }
 
@@ -157,11 +167,12 @@ impl Reader {
         self,
         levels: u8,
         tokens: &'t [Token<'a>],
-    ) -> Result<(Pattern<'a>, &'t [Token<'a>]), ReadFault>
-        ensures { Gives stop_of (λ x. (pattern_of x.0, lexemes_in self.count x.1.now)) result (particle_with (inside_at levels) (lexemes_in self.count tokens.now)) }
+        place: &mut Pattern<'a>,
+    ) -> Result<&'t [Token<'a>], ReadFault>
+        ensures { Gives stop_of (λ x. (pattern_of place.new, lexemes_in self.count x.now)) result (particle_with (inside_at levels) (lexemes_in self.count tokens.now)) }
     {
-        let (primary, rest) = self.primary(levels, tokens)?;
-        self.repeated(primary, rest)
+        let rest = self.primary(levels, tokens, place)?;
+        self.repeated(rest, place)
     }
 
     /// Reads the patterns that follow, each after this connector, and appends them.
@@ -177,7 +188,8 @@ impl Reader {
     {
         let mut rest = tokens;
         while let Some(after) = self.find_after(sign, rest) {
-            let (next, after) = self.particle(levels, after)?;
+            let mut next = Pattern::Empty;
+            let after = self.particle(levels, after, &mut next)?;
             all.push(next)?;
             rest = onward(after);
         }
@@ -189,13 +201,13 @@ impl Reader {
     fn pattern_from<'t, 'a>(
         self,
         levels: u8,
-        primary: Pattern<'a>,
         tokens: &'t [Token<'a>],
-    ) -> Result<(Pattern<'a>, &'t [Token<'a>]), ReadFault>
-        ensures { Gives stop_of (λ x. (pattern_of x.0, lexemes_in self.count x.1.now)) result (pattern_read_from (inside_at levels) (pattern_of primary.entry) (lexemes_in self.count tokens.now)) }
+        place: &mut Pattern<'a>,
+    ) -> Result<&'t [Token<'a>], ReadFault>
+        ensures { Gives stop_of (λ x. (pattern_of place.new, lexemes_in self.count x.now)) result (pattern_read_from (inside_at levels) (pattern_of place.old) (lexemes_in self.count tokens.now)) }
     {
-        let (first, rest) = self.repeated(primary, tokens)?;
-        self.members(levels, first, rest)
+        let rest = self.repeated(tokens, place)?;
+        self.members(levels, rest, place)
     }
 
     /// Reads the rest of a pattern after its first particle.
@@ -204,17 +216,18 @@ impl Reader {
     fn members<'t, 'a>(
         self,
         levels: u8,
-        first: Pattern<'a>,
         tokens: &'t [Token<'a>],
-    ) -> Result<(Pattern<'a>, &'t [Token<'a>]), ReadFault>
-        ensures { Gives stop_of (λ x. (pattern_of x.0, lexemes_in self.count x.1.now)) result (rest_with (inside_at levels) (pattern_of first.entry) (separator_of (lexemes_in self.count tokens.now)) (lexemes_in self.count tokens.now)) }
+        place: &mut Pattern<'a>,
+    ) -> Result<&'t [Token<'a>], ReadFault>
+        ensures { Gives stop_of (λ x. (pattern_of place.new, lexemes_in self.count x.now)) result (rest_with (inside_at levels) (pattern_of place.old) (separator_of (lexemes_in self.count tokens.now)) (lexemes_in self.count tokens.now)) }
     {
         match self.separator(tokens) {
-            None => Ok((first, tokens)),
+            None => Ok(tokens),
             Some(sign) => {
-                let all = self.alone(first)?;
+                let all = self.alone(mem::replace(place, Pattern::Empty))?;
                 let (all, rest) = self.more(levels, sign, all, tokens)?;
-                Ok((join(sign, all), rest))
+                put(place, join(sign, all));
+                Ok(rest)
             }
         }
     }
@@ -228,15 +241,20 @@ impl Reader {
         type_name: DatatypeName<'a>,
         parameters: Vec<Parameter<'a>>,
         tokens: &'t [Token<'a>],
-    ) -> Result<(Pattern<'a>, &'t [Token<'a>]), ReadFault>
-        ensures { Gives stop_of (λ x. (pattern_of x.0, lexemes_in self.count x.1.now)) result (data_with (inside_at levels) (type_of type_name.entry) (map parameter_of parameters.entry.items) (lexemes_in self.count tokens.now)) }
+        place: &mut Pattern<'a>,
+    ) -> Result<&'t [Token<'a>], ReadFault>
+        ensures { Gives stop_of (λ x. (pattern_of place.new, lexemes_in self.count x.now)) result (data_with (inside_at levels) (type_of type_name.entry) (map parameter_of parameters.entry.items) (lexemes_in self.count tokens.now)) }
     {
         match self.find_after(Sign::Minus, tokens) {
-            None => self.pattern_from(levels, Pattern::Data(type_name, parameters), tokens),
+            None => {
+                put(place, Pattern::Data(type_name, parameters));
+                self.pattern_from(levels, tokens, place)
+            }
             Some(rest) => {
-                let (except, rest) = self.primary(levels, rest)?;
-                let except = Box::new(self.alloc, except)?;
-                Ok((Pattern::DataExcept(type_name, parameters, except), rest))
+                let mut except = Box::new(self.alloc, Pattern::Empty)?;
+                let rest = self.primary(levels, rest, &mut except)?;
+                put(place, Pattern::DataExcept(type_name, parameters, except));
+                Ok(rest)
             }
         }
     }
@@ -248,11 +266,12 @@ impl Reader {
         self,
         levels: u8,
         tokens: &'t [Token<'a>],
-    ) -> Result<(Pattern<'a>, &'t [Token<'a>]), ReadFault>
-        ensures { Gives stop_of (λ x. (pattern_of x.0, lexemes_in self.count x.1.now)) result (pattern_with (inside_at levels) (lexemes_in self.count tokens.now)) }
+        place: &mut Pattern<'a>,
+    ) -> Result<&'t [Token<'a>], ReadFault>
+        ensures { Gives stop_of (λ x. (pattern_of place.new, lexemes_in self.count x.now)) result (pattern_with (inside_at levels) (lexemes_in self.count tokens.now)) }
     {
         let rest = self.annotation(tokens)?;
-        self.bare_pattern(levels, rest)
+        self.bare_pattern(levels, rest, place)
     }
 
     /// Reads a pattern after an annotation.
@@ -262,17 +281,18 @@ impl Reader {
         self,
         levels: u8,
         tokens: &'t [Token<'a>],
-    ) -> Result<(Pattern<'a>, &'t [Token<'a>]), ReadFault>
-        ensures { Gives stop_of (λ x. (pattern_of x.0, lexemes_in self.count x.1.now)) result (bare_pattern_with (inside_at levels) (lexemes_in self.count tokens.now)) }
+        place: &mut Pattern<'a>,
+    ) -> Result<&'t [Token<'a>], ReadFault>
+        ensures { Gives stop_of (λ x. (pattern_of place.new, lexemes_in self.count x.now)) result (bare_pattern_with (inside_at levels) (lexemes_in self.count tokens.now)) }
     {
         match self.find_data(tokens) {
             None => {
-                let (primary, rest) = self.bare_primary(levels, tokens)?;
-                self.pattern_from(levels, primary, rest)
+                let rest = self.bare_primary(levels, tokens, place)?;
+                self.pattern_from(levels, rest, place)
             }
             Some((type_name, rest)) => {
                 let (parameters, rest) = self.parameters(rest)?;
-                self.data(levels, type_name, parameters, rest)
+                self.data(levels, type_name, parameters, rest, place)
             }
         }
     }
@@ -301,11 +321,12 @@ impl Reader {
         levels: u8,
         setting: Setting,
         tokens: &'t [Token<'a>],
-    ) -> Result<(Component<'a>, &'t [Token<'a>]), ReadFault>
-        ensures { Gives stop_of (λ x. (component_of x.0, lexemes_in self.count x.1.now)) result (component_with (inside_at levels) (setting_of setting) (lexemes_in self.count tokens.now)) }
+        place: &mut Component<'a>,
+    ) -> Result<&'t [Token<'a>], ReadFault>
+        ensures { Gives stop_of (λ x. (component_of place.new, lexemes_in self.count x.now)) result (component_with (inside_at levels) (setting_of setting) (lexemes_in self.count tokens.now)) }
     {
         let rest = self.annotation(tokens)?;
-        self.bare_component(levels, setting, rest)
+        self.bare_component(levels, setting, rest, place)
     }
 
     /// Reads one component after its annotation.
@@ -316,21 +337,26 @@ impl Reader {
         levels: u8,
         setting: Setting,
         tokens: &'t [Token<'a>],
-    ) -> Result<(Component<'a>, &'t [Token<'a>]), ReadFault>
-        ensures { Gives stop_of (λ x. (component_of x.0, lexemes_in self.count x.1.now)) result (bare_component_with (inside_at levels) (setting_of setting) (lexemes_in self.count tokens.now)) }
+        place: &mut Component<'a>,
+    ) -> Result<&'t [Token<'a>], ReadFault>
+        ensures { Gives stop_of (λ x. (component_of place.new, lexemes_in self.count x.now)) result (bare_component_with (inside_at levels) (setting_of setting) (lexemes_in self.count tokens.now)) }
     {
         if let Some(rest) = self.find_after_keyword(Keyword::Div, tokens) {
             let (components, rest) = self.contents(levels, setting, rest)?;
-            return Ok((Component::Div(components), rest));
+            put(place, Component::Div(components));
+            return Ok(rest);
         }
         if let Some((number, rest)) = self.find_include(setting, tokens) {
             let (mention, rest) = self.mention(number, rest)?;
             let (components, rest) = self.overrides(levels, rest)?;
-            return Ok((Component::Include(mention, components), rest));
+            put(place, Component::Include(mention, components));
+            return Ok(rest);
         }
         let (name, method, rest) = self.assigned(tokens)?;
-        let (body, rest) = self.pattern(levels, rest)?;
-        Ok((component(name, method, body), rest))
+        let mut body = Pattern::Empty;
+        let rest = self.pattern(levels, rest, &mut body)?;
+        put(place, component(name, method, body));
+        Ok(rest)
     }
 
     /// Reads a list of components inside which at most `levels` brackets may be open.
@@ -360,7 +386,8 @@ impl Reader {
     {
         let mut rest = tokens;
         while self.begins_component(setting, rest) {
-            let (next, after) = self.component(levels, setting, rest)?;
+            let mut next = Component::Div(Vec::new(self.alloc));
+            let after = self.component(levels, setting, rest, &mut next)?;
             all.push(next)?;
             rest = onward(after);
         }
