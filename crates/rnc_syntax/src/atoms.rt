@@ -45,14 +45,15 @@ pub enum Repetition {
     OneOrMore,
 }
 
-/// Two patterns or more with this connector between them.
-pub fn join<'a>(sign: Sign, all: Vec<Pattern<'a>>) -> Pattern<'a>
-    ensures { pattern_of result ≡ joined sign (map pattern_of all.entry.items) }
+/// Puts two patterns or more in this place, with this connector between them.
+#[inline(never)]
+pub fn put_joined<'a>(place: &mut Pattern<'a>, sign: Sign, all: Vec<Pattern<'a>>)
+    ensures { pattern_of place.new ≡ joined sign (map pattern_of all.entry.items) }
 {
     match sign {
-        Sign::Comma => Pattern::Group(all),
-        Sign::And => Pattern::Interleave(all),
-        _ => Pattern::Choice(all),
+        Sign::Comma => put(place, Pattern::Group(all)),
+        Sign::And => put(place, Pattern::Interleave(all)),
+        _ => put(place, Pattern::Choice(all)),
     }
 }
 
@@ -278,6 +279,7 @@ impl Reader {
 
     /// Reads a primary that contains no other pattern.
     #[tactic(auto, unfolding(crate::specs::plain::Productions::atom_at))]
+    #[inline(never)]
     pub fn atom<'t, 'a>(
         self,
         tokens: &'t [Token<'a>],
@@ -344,6 +346,7 @@ impl Reader {
 
     /// Reads `?`, `*` or `+` after a pattern, if there is one, and returns the repeated pattern.
     #[tactic(auto, using(crate::proofs::FirstTokens::repeated_is))]
+    #[inline(never)]
     pub fn repeated<'t, 'a>(
         self,
         tokens: &'t [Token<'a>],

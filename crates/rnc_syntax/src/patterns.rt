@@ -1,16 +1,17 @@
 // Reading patterns and the components of grammars.
-ghost use Rattle.std.specs.Prelude.{map};
+ghost use Rattle.std.specs.Prelude.{map, if◌then◌else◌};
 ghost use Rattle.rnc_syntax.specs.plain.Reading.{lexemes_in};
+ghost use Rattle.rnc_model.specs.grammar.Syntax as written;
 ghost use Rattle.rnc_syntax.specs.plain.Combinators.{follow, many, with_front};
 ghost use Rattle.rng_model.specs.plain.Answers.{Gives};
 ghost use Rattle.rnc_syntax.specs.views.Fault.{stop_of};
-ghost use Rattle.rnc_syntax.specs.plain.Productions.{bare_component_with, bare_pattern_with, bare_primary_with, braced_with, component_with, components_with, contents_with, data_with, inside_at, opened_with, overrides_with, particle_with, pattern_from as pattern_read_from, pattern_with, primary_with, rest_with, separator_of};
-ghost use Rattle.rnc_syntax.specs.views.SyntaxView.{component_of, parameter_of, pattern_of, setting_of, type_of};
+ghost use Rattle.rnc_syntax.specs.plain.Productions.{bare_component_with, bare_pattern_with, bare_primary_with, braced_with, component_with, components_with, contents_with, inside_at, named_data_with, named_with, opened_with, overrides_with, particle_with, pattern_from as pattern_read_from, pattern_with, primary_with, rest_with, separator_of};
+ghost use Rattle.rnc_syntax.specs.views.SyntaxView.{component_of, pattern_of, setting_of, type_of};
 
-use crate::atoms::{Opening, Setting, component, join};
+use crate::atoms::{Opening, Setting, component, put_joined};
 use crate::fault::{ReadFault, Stop};
 use crate::reading::{Reader, onward, put};
-use crate::syntax_tree::{Component, DatatypeName, Parameter, Pattern};
+use crate::syntax_tree::{Component, DatatypeName, NameClass, Pattern};
 use rnc_text::{Keyword, Sign, Token};
 use std::mem;
 
@@ -32,23 +33,6 @@ impl Reader {
         self.pattern(levels - 1, tokens, place)
     }
 
-    /// Reads components one bracket deeper.
-    #[cycle(patterns)]
-    #[tactic(auto, using(crate::proofs::InsideBrackets::components_step, crate::proofs::InsideBrackets::components_too_deep))]
-    fn inner_components<'t, 'a>(
-        self,
-        levels: u8,
-        setting: Setting,
-        tokens: &'t [Token<'a>],
-    ) -> Result<(Vec<Component<'a>>, &'t [Token<'a>]), ReadFault>
-        ensures { Gives stop_of (λ x. (map component_of x.0.items, lexemes_in self.count x.1.now)) result ((inside_at levels).components (setting_of setting) (lexemes_in self.count tokens.now)) }
-    {
-        if levels == 0 {
-            return Err(ReadFault::Stop(Stop::TooDeep));
-        }
-        self.components(levels - 1, setting, tokens)
-    }
-
     /// Reads `"{" pattern "}"`.
     #[cycle(patterns)]
     #[tactic(auto, unfolding(crate::specs::plain::Productions::braced_with, crate::specs::plain::Productions::in_braces_at))]
@@ -67,7 +51,7 @@ impl Reader {
 
     /// Reads `"{" content* "}"` or `"{" over* "}"`.
     #[cycle(patterns)]
-    #[tactic(auto, unfolding(crate::specs::plain::Productions::contents_with, crate::specs::plain::Productions::in_braces_at))]
+    #[tactic(auto, using(crate::proofs::InsideBrackets::components_step, crate::proofs::InsideBrackets::components_too_deep), unfolding(crate::specs::plain::Productions::contents_with, crate::specs::plain::Productions::in_braces_at))]
     fn contents<'t, 'a>(
         self,
         levels: u8,
@@ -77,13 +61,40 @@ impl Reader {
         ensures { Gives stop_of (λ x. (map component_of x.0.items, lexemes_in self.count x.1.now)) result (contents_with (inside_at levels) (setting_of setting) (lexemes_in self.count tokens.now)) }
     {
         let rest = self.skip(Sign::OpenBrace, tokens)?;
-        let (components, rest) = self.inner_components(levels, setting, rest)?;
+        if levels == 0 {
+            return Err(ReadFault::Stop(Stop::TooDeep));
+        }
+        let (components, rest) = self.components(levels - 1, setting, rest)?;
         self.closed(Sign::CloseBrace, components, rest)
+    }
+
+    /// Reads the name class and the body of an element or an attribute, after its keyword.
+    #[cycle(patterns)]
+    #[inline(never)]
+    #[tactic(auto, unfolding(crate::specs::plain::Productions::named_with))]
+    fn named<'t, 'a>(
+        self,
+        levels: u8,
+        is_attribute: bool,
+        tokens: &'t [Token<'a>],
+        place: &mut Pattern<'a>,
+    ) -> Result<&'t [Token<'a>], ReadFault>
+        ensures { Gives stop_of (λ x. (pattern_of place.new, lexemes_in self.count x.now)) result (named_with (inside_at levels) (if is_attribute then written.attribute else written.element) (lexemes_in self.count tokens.now)) }
+    {
+        let mut class = NameClass::Any;
+        let rest = self.class(levels, tokens, &mut class)?;
+        let (body, rest) = self.braced(levels, rest)?;
+        if is_attribute {
+            put(place, Pattern::Attribute(class, body));
+            return Ok(rest);
+        }
+        put(place, Pattern::Element(class, body));
+        Ok(rest)
     }
 
     /// Reads a primary that contains other patterns, after its keyword or its parenthesis.
     #[cycle(patterns)]
-    #[tactic(auto, unfolding(crate::specs::plain::Productions::opened_with, crate::specs::plain::Productions::named_with, crate::specs::plain::Productions::parens_with))]
+    #[tactic(auto, unfolding(crate::specs::plain::Productions::opened_with, crate::specs::plain::Productions::parens_with))]
     fn opened<'t, 'a>(
         self,
         levels: u8,
@@ -94,18 +105,8 @@ impl Reader {
         ensures { Gives stop_of (λ x. (pattern_of place.new, lexemes_in self.count x.now)) result (opened_with (inside_at levels) opening (lexemes_in self.count tokens.now)) }
     {
         match opening {
-            Opening::Element => {
-                let (class, rest) = self.class(levels, tokens)?;
-                let (body, rest) = self.braced(levels, rest)?;
-                put(place, Pattern::Element(class, body));
-                Ok(rest)
-            }
-            Opening::Attribute => {
-                let (class, rest) = self.class(levels, tokens)?;
-                let (body, rest) = self.braced(levels, rest)?;
-                put(place, Pattern::Attribute(class, body));
-                Ok(rest)
-            }
+            Opening::Element => self.named(levels, false, tokens, place),
+            Opening::Attribute => self.named(levels, true, tokens, place),
             Opening::List => {
                 let (body, rest) = self.braced(levels, tokens)?;
                 put(place, Pattern::List(body));
@@ -177,6 +178,7 @@ impl Reader {
 
     /// Reads the patterns that follow, each after this connector, and appends them.
     #[cycle(patterns)]
+    #[inline(never)]
     fn more<'t, 'a>(
         self,
         levels: u8,
@@ -226,29 +228,30 @@ impl Reader {
             Some(sign) => {
                 let all = self.alone(mem::replace(place, Pattern::Empty))?;
                 let (all, rest) = self.more(levels, sign, all, tokens)?;
-                put(place, join(sign, all));
+                put_joined(place, sign, all);
                 Ok(rest)
             }
         }
     }
 
-    /// Reads a pattern that begins with a datatype and its parameters.
+    /// Reads a pattern that begins with a datatype, after the name of that.
     #[cycle(patterns)]
+    #[inline(never)]
     #[tactic(auto, unfolding(crate::specs::plain::Productions::data_with))]
     fn data<'t, 'a>(
         self,
         levels: u8,
         type_name: DatatypeName<'a>,
-        parameters: Vec<Parameter<'a>>,
         tokens: &'t [Token<'a>],
         place: &mut Pattern<'a>,
     ) -> Result<&'t [Token<'a>], ReadFault>
-        ensures { Gives stop_of (λ x. (pattern_of place.new, lexemes_in self.count x.now)) result (data_with (inside_at levels) (type_of type_name.entry) (map parameter_of parameters.entry.items) (lexemes_in self.count tokens.now)) }
+        ensures { Gives stop_of (λ x. (pattern_of place.new, lexemes_in self.count x.now)) result (named_data_with (inside_at levels) (type_of type_name.entry) (lexemes_in self.count tokens.now)) }
     {
-        match self.find_after(Sign::Minus, tokens) {
+        let (parameters, rest) = self.parameters(tokens)?;
+        match self.find_after(Sign::Minus, rest) {
             None => {
                 put(place, Pattern::Data(type_name, parameters));
-                self.pattern_from(levels, tokens, place)
+                self.pattern_from(levels, rest, place)
             }
             Some(rest) => {
                 let mut except = Box::new(self.alloc, Pattern::Empty)?;
@@ -290,10 +293,7 @@ impl Reader {
                 let rest = self.bare_primary(levels, tokens, place)?;
                 self.pattern_from(levels, rest, place)
             }
-            Some((type_name, rest)) => {
-                let (parameters, rest) = self.parameters(rest)?;
-                self.data(levels, type_name, parameters, rest, place)
-            }
+            Some((type_name, rest)) => self.data(levels, type_name, rest, place),
         }
     }
 

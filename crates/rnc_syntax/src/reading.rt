@@ -21,6 +21,7 @@ pub fn onward<'t, 'a>(tokens: &'t [Token<'a>]) -> &'t [Token<'a>]
 }
 
 /// Puts a value in the place of another one.
+#[inline(always)]
 pub fn put<T: Drop>(place: &mut T, value: T)
     ensures { place.new ≡ value }
 {
