@@ -46,9 +46,9 @@ fn resolved(alloc: Global, file: &File<'_>) -> Result<FileTree, ParseFault>
 /// `parse` is `read_syntax` followed by this call. A caller that makes the two calls can free the tokens between them,
 /// so that tokens and file tree are not in memory at once.
 ///
-/// Takes time and memory linear in the syntax tree and its texts, except that each name, mention and datatype has its
-/// own copy of its uri. Prefixes are looked up by a hash with a fixed seed: if n prefixes are chosen to have equal
-/// hashes, each look-up takes n steps. Recurses as deep as the syntax tree.
+/// Takes time and memory linear in the syntax tree and its texts, except that each datatype has its own copy of the uri
+/// of its library. Names and mentions share the uri of their declaration. Prefixes are looked up by a hash with a fixed
+/// seed: if n prefixes are chosen to have equal hashes, each look-up takes n steps. Recurses as deep as the syntax tree.
 ///
 /// RELAX NG Compact Syntax, "Syntax" (`decl`).
 pub fn resolve(alloc: Global, file: &File<'_>) -> Result<FileTree, ParseFault>
@@ -77,9 +77,10 @@ pub fn resolve(alloc: Global, file: &File<'_>) -> Result<FileTree, ParseFault>
 /// The mentions of other files in the tree are in the order of their tokens, and no two have the same token
 /// (`FileTree::mentioned_files`). The tree owns its texts, and does not borrow from the tokens.
 ///
-/// Takes time and memory linear in the tokens and their texts, except that each name, mention and datatype has its own
-/// copy of its uri. Prefixes are looked up by a hash with a fixed seed: if n prefixes are chosen to have equal hashes,
-/// each look-up takes n steps. Recurses as deep as `{` and `(` nest, at most 128.
+/// Takes time and memory linear in the tokens and their texts, except that each datatype has its own copy of the uri of
+/// its library. Names and mentions share the uri of their declaration. Prefixes are looked up by a hash with a fixed
+/// seed: if n prefixes are chosen to have equal hashes, each look-up takes n steps. Recurses as deep as `{` and `(`
+/// nest, at most 128.
 ///
 /// RELAX NG Compact Syntax, "Syntax".
 pub fn parse(alloc: Global, tokens: &[Token<'_>]) -> Result<FileTree, ParseFault>

@@ -10,10 +10,11 @@ ghost use Rattle.rnc_syntax.specs.plain.Productions.{assigned as assigned_of};
 ghost use Rattle.rnc_syntax.specs.views.SyntaxView.{component_of, pattern_of, setting_of, type_of};
 
 use crate::fault::ReadFault;
-use crate::reading::{Reader, split_name};
+use crate::reading::{Reader, put, split_name};
 use crate::syntax_tree::{Component, DatatypeName, Pattern};
 use rnc_text::{Keyword, Sign, Token, TokenKind};
 use rng_model::Method;
+use std::mem;
 
 /// Where a component is: in a grammar, or in the braces of an include.
 #[derive(Clone, Copy)]
@@ -44,14 +45,15 @@ pub enum Repetition {
     OneOrMore,
 }
 
-/// Two patterns or more with this connector between them.
-pub fn join<'a>(sign: Sign, all: Vec<Pattern<'a>>) -> Pattern<'a>
-    ensures { pattern_of result ≡ joined sign (map pattern_of all.entry.items) }
+/// Puts two patterns or more in this place, with this connector between them.
+#[inline(never)]
+pub fn put_joined<'a>(place: &mut Pattern<'a>, sign: Sign, all: Vec<Pattern<'a>>)
+    ensures { pattern_of place.new ≡ joined sign (map pattern_of all.entry.items) }
 {
     match sign {
-        Sign::Comma => Pattern::Group(all),
-        Sign::And => Pattern::Interleave(all),
-        _ => Pattern::Choice(all),
+        Sign::Comma => put(place, Pattern::Group(all)),
+        Sign::And => put(place, Pattern::Interleave(all)),
+        _ => put(place, Pattern::Choice(all)),
     }
 }
 
@@ -277,17 +279,30 @@ impl Reader {
 
     /// Reads a primary that contains no other pattern.
     #[tactic(auto, unfolding(crate::specs::plain::Productions::atom_at))]
+    #[inline(never)]
     pub fn atom<'t, 'a>(
         self,
         tokens: &'t [Token<'a>],
-    ) -> Result<(Pattern<'a>, &'t [Token<'a>]), ReadFault>
-        ensures { Gives stop_of (λ x. (pattern_of x.0, lexemes_in self.count x.1.now)) result (atom_at (lexemes_in self.count tokens.now)) }
+        place: &mut Pattern<'a>,
+    ) -> Result<&'t [Token<'a>], ReadFault>
+        ensures { Gives stop_of (λ x. (pattern_of place.new, lexemes_in self.count x.now)) result (atom_at (lexemes_in self.count tokens.now)) }
     {
         match self.find_type(tokens) {
-            Some((type_name, rest)) => self.typed(type_name, rest),
+            Some((type_name, rest)) => {
+                let (typed, rest) = self.typed(type_name, rest)?;
+                put(place, typed);
+                Ok(rest)
+            }
             None => match self.find_lone(tokens) {
-                Some((pattern, rest)) => Ok((pattern, rest)),
-                None => self.other(tokens),
+                Some((lone, rest)) => {
+                    put(place, lone);
+                    Ok(rest)
+                }
+                None => {
+                    let (other, rest) = self.other(tokens)?;
+                    put(place, other);
+                    Ok(rest)
+                }
             },
         }
     }
@@ -331,21 +346,31 @@ impl Reader {
 
     /// Reads `?`, `*` or `+` after a pattern, if there is one, and returns the repeated pattern.
     #[tactic(auto, using(crate::proofs::FirstTokens::repeated_is))]
+    #[inline(never)]
     pub fn repeated<'t, 'a>(
         self,
-        pattern: Pattern<'a>,
         tokens: &'t [Token<'a>],
-    ) -> Result<(Pattern<'a>, &'t [Token<'a>]), ReadFault>
-        ensures { Gives stop_of (λ x. (pattern_of x.0, lexemes_in self.count x.1.now)) result (Ok (repeated_of (pattern_of pattern.entry) (lexemes_in self.count tokens.now))) }
+        place: &mut Pattern<'a>,
+    ) -> Result<&'t [Token<'a>], ReadFault>
+        ensures { Gives stop_of (λ x. (pattern_of place.new, lexemes_in self.count x.now)) result (Ok (repeated_of (pattern_of place.old) (lexemes_in self.count tokens.now))) }
     {
         let Some((repetition, rest)) = self.find_repetition(tokens) else {
-            return Ok((pattern, tokens));
+            return Ok(tokens);
         };
-        let body = Box::new(self.alloc, pattern)?;
+        let body = Box::new(self.alloc, mem::replace(place, Pattern::Empty))?;
         match repetition {
-            Repetition::Optional => Ok((Pattern::Optional(body), rest)),
-            Repetition::ZeroOrMore => Ok((Pattern::ZeroOrMore(body), rest)),
-            Repetition::OneOrMore => Ok((Pattern::OneOrMore(body), rest)),
+            Repetition::Optional => {
+                put(place, Pattern::Optional(body));
+                Ok(rest)
+            }
+            Repetition::ZeroOrMore => {
+                put(place, Pattern::ZeroOrMore(body));
+                Ok(rest)
+            }
+            Repetition::OneOrMore => {
+                put(place, Pattern::OneOrMore(body));
+                Ok(rest)
+            }
         }
     }
 }

@@ -9,7 +9,7 @@ ghost use Rattle.rnc_syntax.specs.views.SyntaxView.{body_of, declaration_of, fil
 use crate::atoms::Setting;
 use crate::fault::ReadFault;
 use crate::reading::{Reader, onward};
-use crate::syntax_tree::{Body, Declaration, File, Uri};
+use crate::syntax_tree::{Body, Component, Declaration, File, Pattern, Uri};
 use rnc_text::{Keyword, Sign, Token, TokenKind};
 
 impl Reader {
@@ -176,7 +176,8 @@ impl Reader {
             let (components, rest) = self.components(levels, Setting::Content, tokens)?;
             Ok((Body::Grammar(components), rest))
         } else {
-            let (pattern, rest) = self.bare_pattern(levels, tokens)?;
+            let mut pattern = Pattern::Empty;
+            let rest = self.bare_pattern(levels, tokens, &mut pattern)?;
             Ok((Body::Pattern(pattern), rest))
         }
     }
@@ -191,12 +192,14 @@ impl Reader {
         ensures { Gives stop_of (λ x. (body_of x.0, lexemes_in self.count x.1.now)) result (annotated_body_with (inside_at levels) (lexemes_in self.count tokens.now)) }
     {
         if self.begins_grammar(false, tokens) {
-            let (first, rest) = self.bare_component(levels, Setting::Content, tokens)?;
+            let mut first = Component::Div(Vec::new(self.alloc));
+            let rest = self.bare_component(levels, Setting::Content, tokens, &mut first)?;
             let first = self.alone(first)?;
             let (components, rest) = self.more_components(levels, Setting::Content, first, rest)?;
             Ok((Body::Grammar(components), rest))
         } else {
-            let (pattern, rest) = self.bare_pattern(levels, tokens)?;
+            let mut pattern = Pattern::Empty;
+            let rest = self.bare_pattern(levels, tokens, &mut pattern)?;
             Ok((Body::Pattern(pattern), rest))
         }
     }

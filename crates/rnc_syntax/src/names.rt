@@ -9,7 +9,7 @@ ghost use Rattle.rnc_syntax.specs.views.SyntaxView.{class_of};
 ghost use Rattle.rnc_model.specs.declared.token.Sign.TheVariants.{Bar};
 
 use crate::fault::{ReadFault, Stop};
-use crate::reading::{Reader, onward, split_name};
+use crate::reading::{Reader, onward, put, split_name};
 use crate::syntax_tree::{NameClass, QualifiedName};
 use rnc_text::{Sign, Token, TokenKind};
 
@@ -61,11 +61,14 @@ impl Reader {
         self,
         levels: u8,
         tokens: &'t [Token<'a>],
-    ) -> Result<(NameClass<'a>, &'t [Token<'a>]), ReadFault>
-        ensures { Gives stop_of (λ x. (class_of x.0, lexemes_in self.count x.1.now)) result (class_with (inside_at levels).class (lexemes_in self.count tokens.now)) }
+        place: &mut NameClass<'a>,
+    ) -> Result<&'t [Token<'a>], ReadFault>
+        ensures { Gives stop_of (λ x. (class_of place.new, lexemes_in self.count x.now)) result (class_with (inside_at levels).class (lexemes_in self.count tokens.now)) }
     {
         let rest = self.annotation(tokens)?;
-        self.bare_class(levels, rest)
+        let (class, rest) = self.bare_class(levels, rest)?;
+        put(place, class);
+        Ok(rest)
     }
 
     /// Reads a name class after an annotation.
@@ -197,6 +200,8 @@ impl Reader {
         if levels == 0 {
             return Err(ReadFault::Stop(Stop::TooDeep));
         }
-        self.class(levels - 1, tokens)
+        let mut class = NameClass::Any;
+        let rest = self.class(levels - 1, tokens, &mut class)?;
+        Ok((class, rest))
     }
 }

@@ -1,17 +1,19 @@
 // Reading patterns and the components of grammars.
-ghost use Rattle.std.specs.Prelude.{map};
+ghost use Rattle.std.specs.Prelude.{map, if◌then◌else◌};
 ghost use Rattle.rnc_syntax.specs.plain.Reading.{lexemes_in};
+ghost use Rattle.rnc_model.specs.grammar.Syntax as written;
 ghost use Rattle.rnc_syntax.specs.plain.Combinators.{follow, many, with_front};
 ghost use Rattle.rng_model.specs.plain.Answers.{Gives};
 ghost use Rattle.rnc_syntax.specs.views.Fault.{stop_of};
-ghost use Rattle.rnc_syntax.specs.plain.Productions.{bare_component_with, bare_pattern_with, bare_primary_with, braced_with, component_with, components_with, contents_with, data_with, inside_at, opened_with, overrides_with, particle_with, pattern_from as pattern_read_from, pattern_with, primary_with, rest_with, separator_of};
-ghost use Rattle.rnc_syntax.specs.views.SyntaxView.{component_of, parameter_of, pattern_of, setting_of, type_of};
+ghost use Rattle.rnc_syntax.specs.plain.Productions.{bare_component_with, bare_pattern_with, bare_primary_with, braced_with, component_with, components_with, contents_with, inside_at, named_data_with, named_with, opened_with, overrides_with, particle_with, pattern_from as pattern_read_from, pattern_with, primary_with, rest_with, separator_of};
+ghost use Rattle.rnc_syntax.specs.views.SyntaxView.{component_of, pattern_of, setting_of, type_of};
 
-use crate::atoms::{Opening, Setting, component, join};
+use crate::atoms::{Opening, Setting, component, put_joined};
 use crate::fault::{ReadFault, Stop};
-use crate::reading::{Reader, onward};
-use crate::syntax_tree::{Component, DatatypeName, Parameter, Pattern};
+use crate::reading::{Reader, onward, put};
+use crate::syntax_tree::{Component, DatatypeName, NameClass, Pattern};
 use rnc_text::{Keyword, Sign, Token};
+use std::mem;
 
 impl Reader {
     /// Reads a pattern one bracket deeper.
@@ -21,30 +23,14 @@ impl Reader {
         self,
         levels: u8,
         tokens: &'t [Token<'a>],
-    ) -> Result<(Pattern<'a>, &'t [Token<'a>]), ReadFault>
-        ensures { Gives stop_of (λ x. (pattern_of x.0, lexemes_in self.count x.1.now)) result ((inside_at levels).pattern (lexemes_in self.count tokens.now)) }
+        place: &mut Pattern<'a>,
+    ) -> Result<&'t [Token<'a>], ReadFault>
+        ensures { Gives stop_of (λ x. (pattern_of place.new, lexemes_in self.count x.now)) result ((inside_at levels).pattern (lexemes_in self.count tokens.now)) }
     {
         if levels == 0 {
             return Err(ReadFault::Stop(Stop::TooDeep));
         }
-        self.pattern(levels - 1, tokens)
-    }
-
-    /// Reads components one bracket deeper.
-    #[cycle(patterns)]
-    #[tactic(auto, using(crate::proofs::InsideBrackets::components_step, crate::proofs::InsideBrackets::components_too_deep))]
-    fn inner_components<'t, 'a>(
-        self,
-        levels: u8,
-        setting: Setting,
-        tokens: &'t [Token<'a>],
-    ) -> Result<(Vec<Component<'a>>, &'t [Token<'a>]), ReadFault>
-        ensures { Gives stop_of (λ x. (map component_of x.0.items, lexemes_in self.count x.1.now)) result ((inside_at levels).components (setting_of setting) (lexemes_in self.count tokens.now)) }
-    {
-        if levels == 0 {
-            return Err(ReadFault::Stop(Stop::TooDeep));
-        }
-        self.components(levels - 1, setting, tokens)
+        self.pattern(levels - 1, tokens, place)
     }
 
     /// Reads `"{" pattern "}"`.
@@ -58,14 +44,14 @@ impl Reader {
         ensures { Gives stop_of (λ x. (pattern_of x.0.value, lexemes_in self.count x.1.now)) result (braced_with (inside_at levels) (lexemes_in self.count tokens.now)) }
     {
         let rest = self.skip(Sign::OpenBrace, tokens)?;
-        let (body, rest) = self.inner_pattern(levels, rest)?;
-        let (body, rest) = self.closed(Sign::CloseBrace, body, rest)?;
-        Ok((Box::new(self.alloc, body)?, rest))
+        let mut body = Box::new(self.alloc, Pattern::Empty)?;
+        let rest = self.inner_pattern(levels, rest, &mut body)?;
+        self.closed(Sign::CloseBrace, body, rest)
     }
 
     /// Reads `"{" content* "}"` or `"{" over* "}"`.
     #[cycle(patterns)]
-    #[tactic(auto, unfolding(crate::specs::plain::Productions::contents_with, crate::specs::plain::Productions::in_braces_at))]
+    #[tactic(auto, using(crate::proofs::InsideBrackets::components_step, crate::proofs::InsideBrackets::components_too_deep), unfolding(crate::specs::plain::Productions::contents_with, crate::specs::plain::Productions::in_braces_at))]
     fn contents<'t, 'a>(
         self,
         levels: u8,
@@ -75,47 +61,70 @@ impl Reader {
         ensures { Gives stop_of (λ x. (map component_of x.0.items, lexemes_in self.count x.1.now)) result (contents_with (inside_at levels) (setting_of setting) (lexemes_in self.count tokens.now)) }
     {
         let rest = self.skip(Sign::OpenBrace, tokens)?;
-        let (components, rest) = self.inner_components(levels, setting, rest)?;
+        if levels == 0 {
+            return Err(ReadFault::Stop(Stop::TooDeep));
+        }
+        let (components, rest) = self.components(levels - 1, setting, rest)?;
         self.closed(Sign::CloseBrace, components, rest)
+    }
+
+    /// Reads the name class and the body of an element or an attribute, after its keyword.
+    #[cycle(patterns)]
+    #[inline(never)]
+    #[tactic(auto, unfolding(crate::specs::plain::Productions::named_with))]
+    fn named<'t, 'a>(
+        self,
+        levels: u8,
+        is_attribute: bool,
+        tokens: &'t [Token<'a>],
+        place: &mut Pattern<'a>,
+    ) -> Result<&'t [Token<'a>], ReadFault>
+        ensures { Gives stop_of (λ x. (pattern_of place.new, lexemes_in self.count x.now)) result (named_with (inside_at levels) (if is_attribute then written.attribute else written.element) (lexemes_in self.count tokens.now)) }
+    {
+        let mut class = NameClass::Any;
+        let rest = self.class(levels, tokens, &mut class)?;
+        let (body, rest) = self.braced(levels, rest)?;
+        if is_attribute {
+            put(place, Pattern::Attribute(class, body));
+            return Ok(rest);
+        }
+        put(place, Pattern::Element(class, body));
+        Ok(rest)
     }
 
     /// Reads a primary that contains other patterns, after its keyword or its parenthesis.
     #[cycle(patterns)]
-    #[tactic(auto, unfolding(crate::specs::plain::Productions::opened_with, crate::specs::plain::Productions::named_with, crate::specs::plain::Productions::parens_with))]
+    #[tactic(auto, unfolding(crate::specs::plain::Productions::opened_with, crate::specs::plain::Productions::parens_with))]
     fn opened<'t, 'a>(
         self,
         levels: u8,
         opening: Opening,
         tokens: &'t [Token<'a>],
-    ) -> Result<(Pattern<'a>, &'t [Token<'a>]), ReadFault>
-        ensures { Gives stop_of (λ x. (pattern_of x.0, lexemes_in self.count x.1.now)) result (opened_with (inside_at levels) opening (lexemes_in self.count tokens.now)) }
+        place: &mut Pattern<'a>,
+    ) -> Result<&'t [Token<'a>], ReadFault>
+        ensures { Gives stop_of (λ x. (pattern_of place.new, lexemes_in self.count x.now)) result (opened_with (inside_at levels) opening (lexemes_in self.count tokens.now)) }
     {
         match opening {
-            Opening::Element => {
-                let (class, rest) = self.class(levels, tokens)?;
-                let (body, rest) = self.braced(levels, rest)?;
-                Ok((Pattern::Element(class, body), rest))
-            }
-            Opening::Attribute => {
-                let (class, rest) = self.class(levels, tokens)?;
-                let (body, rest) = self.braced(levels, rest)?;
-                Ok((Pattern::Attribute(class, body), rest))
-            }
+            Opening::Element => self.named(levels, false, tokens, place),
+            Opening::Attribute => self.named(levels, true, tokens, place),
             Opening::List => {
                 let (body, rest) = self.braced(levels, tokens)?;
-                Ok((Pattern::List(body), rest))
+                put(place, Pattern::List(body));
+                Ok(rest)
             }
             Opening::Mixed => {
                 let (body, rest) = self.braced(levels, tokens)?;
-                Ok((Pattern::Mixed(body), rest))
+                put(place, Pattern::Mixed(body));
+                Ok(rest)
             }
             Opening::Grammar => {
                 let (components, rest) = self.contents(levels, Setting::Content, tokens)?;
-                Ok((Pattern::Grammar(components), rest))
+                put(place, Pattern::Grammar(components));
+                Ok(rest)
             }
             Opening::Parenthesis => {
-                let (body, rest) = self.inner_pattern(levels, tokens)?;
-                self.closed(Sign::CloseParenthesis, body, rest)
+                let rest = self.inner_pattern(levels, tokens, place)?;
+                self.skip(Sign::CloseParenthesis, rest)
             }
         }
     }
@@ -127,11 +136,12 @@ impl Reader {
         self,
         levels: u8,
         tokens: &'t [Token<'a>],
-    ) -> Result<(Pattern<'a>, &'t [Token<'a>]), ReadFault>
-        ensures { Gives stop_of (λ x. (pattern_of x.0, lexemes_in self.count x.1.now)) result (primary_with (inside_at levels) (lexemes_in self.count tokens.now)) }
+        place: &mut Pattern<'a>,
+    ) -> Result<&'t [Token<'a>], ReadFault>
+        ensures { Gives stop_of (λ x. (pattern_of place.new, lexemes_in self.count x.now)) result (primary_with (inside_at levels) (lexemes_in self.count tokens.now)) }
     {
         let rest = self.annotation(tokens)?;
-        self.bare_primary(levels, rest)
+        self.bare_primary(levels, rest, place)
     }
 
     /// Reads a primary after its annotation.
@@ -141,12 +151,13 @@ impl Reader {
         self,
         levels: u8,
         tokens: &'t [Token<'a>],
-    ) -> Result<(Pattern<'a>, &'t [Token<'a>]), ReadFault>
-        ensures { Gives stop_of (λ x. (pattern_of x.0, lexemes_in self.count x.1.now)) result (bare_primary_with (inside_at levels) (lexemes_in self.count tokens.now)) }
+        place: &mut Pattern<'a>,
+    ) -> Result<&'t [Token<'a>], ReadFault>
+        ensures { Gives stop_of (λ x. (pattern_of place.new, lexemes_in self.count x.now)) result (bare_primary_with (inside_at levels) (lexemes_in self.count tokens.now)) }
     {
         match self.find_opening(tokens) {
-            Some((opening, rest)) => self.opened(levels, opening, rest),
-            None => self.atom(tokens),
+            Some((opening, rest)) => self.opened(levels, opening, rest, place),
+            None => self.atom(tokens, place),
         }
     }
 
@@ -157,15 +168,17 @@ impl Reader {
         self,
         levels: u8,
         tokens: &'t [Token<'a>],
-    ) -> Result<(Pattern<'a>, &'t [Token<'a>]), ReadFault>
-        ensures { Gives stop_of (λ x. (pattern_of x.0, lexemes_in self.count x.1.now)) result (particle_with (inside_at levels) (lexemes_in self.count tokens.now)) }
+        place: &mut Pattern<'a>,
+    ) -> Result<&'t [Token<'a>], ReadFault>
+        ensures { Gives stop_of (λ x. (pattern_of place.new, lexemes_in self.count x.now)) result (particle_with (inside_at levels) (lexemes_in self.count tokens.now)) }
     {
-        let (primary, rest) = self.primary(levels, tokens)?;
-        self.repeated(primary, rest)
+        let rest = self.primary(levels, tokens, place)?;
+        self.repeated(rest, place)
     }
 
     /// Reads the patterns that follow, each after this connector, and appends them.
     #[cycle(patterns)]
+    #[inline(never)]
     fn more<'t, 'a>(
         self,
         levels: u8,
@@ -177,7 +190,8 @@ impl Reader {
     {
         let mut rest = tokens;
         while let Some(after) = self.find_after(sign, rest) {
-            let (next, after) = self.particle(levels, after)?;
+            let mut next = Pattern::Empty;
+            let after = self.particle(levels, after, &mut next)?;
             all.push(next)?;
             rest = onward(after);
         }
@@ -189,13 +203,13 @@ impl Reader {
     fn pattern_from<'t, 'a>(
         self,
         levels: u8,
-        primary: Pattern<'a>,
         tokens: &'t [Token<'a>],
-    ) -> Result<(Pattern<'a>, &'t [Token<'a>]), ReadFault>
-        ensures { Gives stop_of (λ x. (pattern_of x.0, lexemes_in self.count x.1.now)) result (pattern_read_from (inside_at levels) (pattern_of primary.entry) (lexemes_in self.count tokens.now)) }
+        place: &mut Pattern<'a>,
+    ) -> Result<&'t [Token<'a>], ReadFault>
+        ensures { Gives stop_of (λ x. (pattern_of place.new, lexemes_in self.count x.now)) result (pattern_read_from (inside_at levels) (pattern_of place.old) (lexemes_in self.count tokens.now)) }
     {
-        let (first, rest) = self.repeated(primary, tokens)?;
-        self.members(levels, first, rest)
+        let rest = self.repeated(tokens, place)?;
+        self.members(levels, rest, place)
     }
 
     /// Reads the rest of a pattern after its first particle.
@@ -204,39 +218,46 @@ impl Reader {
     fn members<'t, 'a>(
         self,
         levels: u8,
-        first: Pattern<'a>,
         tokens: &'t [Token<'a>],
-    ) -> Result<(Pattern<'a>, &'t [Token<'a>]), ReadFault>
-        ensures { Gives stop_of (λ x. (pattern_of x.0, lexemes_in self.count x.1.now)) result (rest_with (inside_at levels) (pattern_of first.entry) (separator_of (lexemes_in self.count tokens.now)) (lexemes_in self.count tokens.now)) }
+        place: &mut Pattern<'a>,
+    ) -> Result<&'t [Token<'a>], ReadFault>
+        ensures { Gives stop_of (λ x. (pattern_of place.new, lexemes_in self.count x.now)) result (rest_with (inside_at levels) (pattern_of place.old) (separator_of (lexemes_in self.count tokens.now)) (lexemes_in self.count tokens.now)) }
     {
         match self.separator(tokens) {
-            None => Ok((first, tokens)),
+            None => Ok(tokens),
             Some(sign) => {
-                let all = self.alone(first)?;
+                let all = self.alone(mem::replace(place, Pattern::Empty))?;
                 let (all, rest) = self.more(levels, sign, all, tokens)?;
-                Ok((join(sign, all), rest))
+                put_joined(place, sign, all);
+                Ok(rest)
             }
         }
     }
 
-    /// Reads a pattern that begins with a datatype and its parameters.
+    /// Reads a pattern that begins with a datatype, after the name of that.
     #[cycle(patterns)]
+    #[inline(never)]
     #[tactic(auto, unfolding(crate::specs::plain::Productions::data_with))]
     fn data<'t, 'a>(
         self,
         levels: u8,
         type_name: DatatypeName<'a>,
-        parameters: Vec<Parameter<'a>>,
         tokens: &'t [Token<'a>],
-    ) -> Result<(Pattern<'a>, &'t [Token<'a>]), ReadFault>
-        ensures { Gives stop_of (λ x. (pattern_of x.0, lexemes_in self.count x.1.now)) result (data_with (inside_at levels) (type_of type_name.entry) (map parameter_of parameters.entry.items) (lexemes_in self.count tokens.now)) }
+        place: &mut Pattern<'a>,
+    ) -> Result<&'t [Token<'a>], ReadFault>
+        ensures { Gives stop_of (λ x. (pattern_of place.new, lexemes_in self.count x.now)) result (named_data_with (inside_at levels) (type_of type_name.entry) (lexemes_in self.count tokens.now)) }
     {
-        match self.find_after(Sign::Minus, tokens) {
-            None => self.pattern_from(levels, Pattern::Data(type_name, parameters), tokens),
+        let (parameters, rest) = self.parameters(tokens)?;
+        match self.find_after(Sign::Minus, rest) {
+            None => {
+                put(place, Pattern::Data(type_name, parameters));
+                self.pattern_from(levels, rest, place)
+            }
             Some(rest) => {
-                let (except, rest) = self.primary(levels, rest)?;
-                let except = Box::new(self.alloc, except)?;
-                Ok((Pattern::DataExcept(type_name, parameters, except), rest))
+                let mut except = Box::new(self.alloc, Pattern::Empty)?;
+                let rest = self.primary(levels, rest, &mut except)?;
+                put(place, Pattern::DataExcept(type_name, parameters, except));
+                Ok(rest)
             }
         }
     }
@@ -248,11 +269,12 @@ impl Reader {
         self,
         levels: u8,
         tokens: &'t [Token<'a>],
-    ) -> Result<(Pattern<'a>, &'t [Token<'a>]), ReadFault>
-        ensures { Gives stop_of (λ x. (pattern_of x.0, lexemes_in self.count x.1.now)) result (pattern_with (inside_at levels) (lexemes_in self.count tokens.now)) }
+        place: &mut Pattern<'a>,
+    ) -> Result<&'t [Token<'a>], ReadFault>
+        ensures { Gives stop_of (λ x. (pattern_of place.new, lexemes_in self.count x.now)) result (pattern_with (inside_at levels) (lexemes_in self.count tokens.now)) }
     {
         let rest = self.annotation(tokens)?;
-        self.bare_pattern(levels, rest)
+        self.bare_pattern(levels, rest, place)
     }
 
     /// Reads a pattern after an annotation.
@@ -262,18 +284,16 @@ impl Reader {
         self,
         levels: u8,
         tokens: &'t [Token<'a>],
-    ) -> Result<(Pattern<'a>, &'t [Token<'a>]), ReadFault>
-        ensures { Gives stop_of (λ x. (pattern_of x.0, lexemes_in self.count x.1.now)) result (bare_pattern_with (inside_at levels) (lexemes_in self.count tokens.now)) }
+        place: &mut Pattern<'a>,
+    ) -> Result<&'t [Token<'a>], ReadFault>
+        ensures { Gives stop_of (λ x. (pattern_of place.new, lexemes_in self.count x.now)) result (bare_pattern_with (inside_at levels) (lexemes_in self.count tokens.now)) }
     {
         match self.find_data(tokens) {
             None => {
-                let (primary, rest) = self.bare_primary(levels, tokens)?;
-                self.pattern_from(levels, primary, rest)
+                let rest = self.bare_primary(levels, tokens, place)?;
+                self.pattern_from(levels, rest, place)
             }
-            Some((type_name, rest)) => {
-                let (parameters, rest) = self.parameters(rest)?;
-                self.data(levels, type_name, parameters, rest)
-            }
+            Some((type_name, rest)) => self.data(levels, type_name, rest, place),
         }
     }
 
@@ -301,11 +321,12 @@ impl Reader {
         levels: u8,
         setting: Setting,
         tokens: &'t [Token<'a>],
-    ) -> Result<(Component<'a>, &'t [Token<'a>]), ReadFault>
-        ensures { Gives stop_of (λ x. (component_of x.0, lexemes_in self.count x.1.now)) result (component_with (inside_at levels) (setting_of setting) (lexemes_in self.count tokens.now)) }
+        place: &mut Component<'a>,
+    ) -> Result<&'t [Token<'a>], ReadFault>
+        ensures { Gives stop_of (λ x. (component_of place.new, lexemes_in self.count x.now)) result (component_with (inside_at levels) (setting_of setting) (lexemes_in self.count tokens.now)) }
     {
         let rest = self.annotation(tokens)?;
-        self.bare_component(levels, setting, rest)
+        self.bare_component(levels, setting, rest, place)
     }
 
     /// Reads one component after its annotation.
@@ -316,21 +337,26 @@ impl Reader {
         levels: u8,
         setting: Setting,
         tokens: &'t [Token<'a>],
-    ) -> Result<(Component<'a>, &'t [Token<'a>]), ReadFault>
-        ensures { Gives stop_of (λ x. (component_of x.0, lexemes_in self.count x.1.now)) result (bare_component_with (inside_at levels) (setting_of setting) (lexemes_in self.count tokens.now)) }
+        place: &mut Component<'a>,
+    ) -> Result<&'t [Token<'a>], ReadFault>
+        ensures { Gives stop_of (λ x. (component_of place.new, lexemes_in self.count x.now)) result (bare_component_with (inside_at levels) (setting_of setting) (lexemes_in self.count tokens.now)) }
     {
         if let Some(rest) = self.find_after_keyword(Keyword::Div, tokens) {
             let (components, rest) = self.contents(levels, setting, rest)?;
-            return Ok((Component::Div(components), rest));
+            put(place, Component::Div(components));
+            return Ok(rest);
         }
         if let Some((number, rest)) = self.find_include(setting, tokens) {
             let (mention, rest) = self.mention(number, rest)?;
             let (components, rest) = self.overrides(levels, rest)?;
-            return Ok((Component::Include(mention, components), rest));
+            put(place, Component::Include(mention, components));
+            return Ok(rest);
         }
         let (name, method, rest) = self.assigned(tokens)?;
-        let (body, rest) = self.pattern(levels, rest)?;
-        Ok((component(name, method, body), rest))
+        let mut body = Pattern::Empty;
+        let rest = self.pattern(levels, rest, &mut body)?;
+        put(place, component(name, method, body));
+        Ok(rest)
     }
 
     /// Reads a list of components inside which at most `levels` brackets may be open.
@@ -360,7 +386,8 @@ impl Reader {
     {
         let mut rest = tokens;
         while self.begins_component(setting, rest) {
-            let (next, after) = self.component(levels, setting, rest)?;
+            let mut next = Component::Div(Vec::new(self.alloc));
+            let after = self.component(levels, setting, rest, &mut next)?;
             all.push(next)?;
             rest = onward(after);
         }

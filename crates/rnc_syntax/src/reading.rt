@@ -20,6 +20,14 @@ pub fn onward<'t, 'a>(tokens: &'t [Token<'a>]) -> &'t [Token<'a>]
     tokens
 }
 
+/// Puts a value in the place of another one.
+#[inline(always)]
+pub fn put<T: Drop>(place: &mut T, value: T)
+    ensures { place.new ≡ value }
+{
+    *place = value;
+}
+
 /// Splits a name at its first colon into prefix and local part.
 pub fn split_name(text: &str) -> (&str, &str)
     ensures prefix { result.0.now ≡ prefix_in text.now }

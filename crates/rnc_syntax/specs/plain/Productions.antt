@@ -308,6 +308,10 @@ unfoldable pub data_with : Inside → DatatypeName → List (List ℕ × List �
 data_with inside d ps ts = either_way (follow Minus ts) (pattern_from inside (syntax.data_of d ps) ts) (λ us. primary_with inside us
     >>= λ t. Ok (syntax.data_except d ps t.0, t.1))
 
+-- a datatype after its name, with its parameters
+abbrev pub named_data_with : Inside → DatatypeName → List Lexeme → Outcome Pattern
+named_data_with inside d ts = parameters_at ts >>= λ ps. data_with inside d ps.0 ps.1
+
 -- a pattern after an annotation
 unfoldable pub bare_pattern_with : Inside → List Lexeme → Outcome Pattern
 bare_pattern_with inside ts = either_way (data_front ts) (bare_primary_with inside ts >>= λ t. pattern_from inside t.0 t.1) (λ d. parameters_at d.1

@@ -7,61 +7,61 @@ use Rattle.rnc_syntax.proofs.ReadItems.{Goes}
 use Rattle.rnc_syntax.proofs.reading.Reader.+patterns.Given as goal
 
 abbrev pub decreases-inner_pattern : goal.decreases-inner_pattern
-decreases-inner_pattern l = 16 * l.levels
-
-abbrev pub decreases-inner_components : goal.decreases-inner_components
-decreases-inner_components l = 16 * l.levels
+decreases-inner_pattern l = 20 * l.levels
 
 abbrev pub decreases-braced : goal.decreases-braced
-decreases-braced l = 16 * l.levels + 1
+decreases-braced l = 20 * l.levels + 1
 
 abbrev pub decreases-contents : goal.decreases-contents
-decreases-contents l = 16 * l.levels + 1
+decreases-contents l = 20 * l.levels + 1
 
 abbrev pub decreases-primary : goal.decreases-primary
-decreases-primary l = 16 * l.levels + 4
+decreases-primary l = 20 * l.levels + 5
 
 abbrev pub decreases-bare_primary : goal.decreases-bare_primary
-decreases-bare_primary l = 16 * l.levels + 3
+decreases-bare_primary l = 20 * l.levels + 4
 
 abbrev pub decreases-opened : goal.decreases-opened
-decreases-opened l = 16 * l.levels + 2
+decreases-opened l = 20 * l.levels + 3
+
+abbrev pub decreases-named : goal.decreases-named
+decreases-named l = 20 * l.levels + 2
 
 abbrev pub decreases-particle : goal.decreases-particle
-decreases-particle l = 16 * l.levels + 5
+decreases-particle l = 20 * l.levels + 6
 
 abbrev pub decreases-more : goal.decreases-more
-decreases-more l = 16 * l.levels + 6
+decreases-more l = 20 * l.levels + 7
 
 abbrev pub decreases-members : goal.decreases-members
-decreases-members l = 16 * l.levels + 7
+decreases-members l = 20 * l.levels + 8
 
 abbrev pub decreases-pattern_from : goal.decreases-pattern_from
-decreases-pattern_from l = 16 * l.levels + 8
+decreases-pattern_from l = 20 * l.levels + 9
 
 abbrev pub decreases-data : goal.decreases-data
-decreases-data l = 16 * l.levels + 9
+decreases-data l = 20 * l.levels + 10
 
 abbrev pub decreases-pattern : goal.decreases-pattern
-decreases-pattern l = 16 * l.levels + 11
+decreases-pattern l = 20 * l.levels + 12
 
 abbrev pub decreases-bare_pattern : goal.decreases-bare_pattern
-decreases-bare_pattern l = 16 * l.levels + 10
+decreases-bare_pattern l = 20 * l.levels + 11
 
 abbrev pub decreases-overrides : goal.decreases-overrides
-decreases-overrides l = 16 * l.levels + 2
+decreases-overrides l = 20 * l.levels + 2
 
 abbrev pub decreases-component : goal.decreases-component
-decreases-component l = 16 * l.levels + 13
+decreases-component l = 20 * l.levels + 14
 
 abbrev pub decreases-bare_component : goal.decreases-bare_component
-decreases-bare_component l = 16 * l.levels + 12
+decreases-bare_component l = 20 * l.levels + 13
 
 abbrev pub decreases-more_components : goal.decreases-more_components
-decreases-more_components l = 16 * l.levels + 14
+decreases-more_components l = 20 * l.levels + 15
 
 abbrev pub decreases-components : goal.decreases-components
-decreases-components l = 16 * l.levels + 15
+decreases-components l = 20 * l.levels + 16
 
 abbrev pub invariant-more-loop-after : goal.invariant-more-loop-after
 invariant-more-loop-after l = Goes (follow l.sign) (particle_with (inside_at l.levels)) (map pattern_of l.all.items) (lexemes_in l.self.count l.rest)
