@@ -1,11 +1,10 @@
 // Elements of a grammar that take the same.
 ghost use Rattle.std.specs.Prelude.{◌≡◌, IfOk, IfSome, Some, slice_get, true};
-ghost use Rattle.rng_model.specs.names.NameViews.{name_of};
 ghost use Rattle.rng_model.specs.declared.name.NameClass.TheVariants as classes;
 ghost use Rattle.rng_pattern_derivatives.specs.plain.Alike.{AreAlike, IsAlike};
 
 use rng_model::{ElementId, Name, NameClass, OutOfMemory, PatternId, SimpleGrammar};
-use rng_names::{NameKey, NameKeys};
+use rng_names::{NameKey, NameKeys, is_same_name};
 use std::alloc::Global;
 use std::collections::HashMap;
 
@@ -86,12 +85,4 @@ fn are_alike(grammar: &SimpleGrammar, one: ElementId, other: ElementId) -> bool
         return false;
     }
     is_same_name(first, second)
-}
-
-/// Returns true only if two names are equal. Does not read their namespaces unless the local names are equal. Allocates
-/// nothing.
-pub fn is_same_name(one: &Name, other: &Name) -> bool
-    ensures { result ≡ true → name_of one.now ≡ name_of other.now }
-{
-    one.local == other.local && one.ns == other.ns
 }

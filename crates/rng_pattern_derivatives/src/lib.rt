@@ -24,7 +24,6 @@ mod takers;
 mod way;
 mod ways;
 
-pub use alike::is_same_name;
 pub use closing::close;
 pub use datatypes::Datatypes;
 pub use known::{Known, KnownByKey, KnownWays, LastByPattern, LastWays, known_ways, last_ways};

@@ -24,9 +24,9 @@ use crate::context::Context;
 use crate::first::First;
 use crate::leaf_tests::{is_blank, is_leaf_for};
 use rng_model::{Attr, Name, PatternId, Simple, SimpleGrammar};
-use rng_names::contains;
+use rng_names::{contains, is_same_name};
 use rng_pattern_derivatives::{
-    Datatypes, Known, LastWays, LeafWay, Place, is_same_name, known_ways, last_ways, number_at,
+    Datatypes, Known, LastWays, LeafWay, Place, known_ways, last_ways, number_at,
 };
 use rng_pattern_table::{Pattern, PatternNumber, PatternTable};
 

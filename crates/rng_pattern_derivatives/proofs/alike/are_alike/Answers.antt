@@ -12,4 +12,4 @@ returns c =
     let e : same ≡ body = search rules in
     λ named. named_alike t c.args.one.0 c.args.other.0 c.in-Some.first.now c.in-Some-named_element.second.now body c.in-Some.ensures
     (subst (λ (b : PatternId). slice_get t.elements c.args.other.0 ≡ Some (classes.Name c.in-Some-named_element.second.now, b)) e
-    c.in-Some-named_element.ensures) (c.is_same_name.ensures named)
+    c.in-Some-named_element.ensures) (c.is_same_name.ensures.0 named)
