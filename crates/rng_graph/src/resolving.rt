@@ -145,7 +145,7 @@ impl<'a> Scope<'a> {
             ≡ (with_element (class_of class.now) (resolve (place_of self.now.place.now) (option_map (λ z. place_of z.now) self.now.outer)
             (schema_pattern_of body.now) (numbering_of numbering.old))).1) }
     {
-        let mut content = Vec::new(self.alloc);
+        let mut content = Vec::with_capacity(self.alloc, 1)?;
         self.pattern(body, &mut content, numbering)?;
         let number = numbering.elements.len();
         numbering.elements.push(GraphElement { class, content })?;

@@ -53,6 +53,6 @@ around-returns-clause-pattern t c =
 
 pub element-returns-clause-numbering : goal.element-returns-clause-numbering
 element-returns-clause-numbering t c =
-    let content = content_is c.pattern.new.rows c.new-content.result.items _ c.new-content.ensures.items c.in_ok-pattern.ensures.pattern in
+    let content = content_is c.pattern.new.rows c.in_ok-content.content.items _ c.in_ok-content.ensures.items c.in_ok-pattern.ensures.pattern in
     let whole = element_put c.pattern.new.numbering _ _ _ c.push.new.self c.in_ok-pattern.ensures.numbering c.in_ok-push.ensures.items content in
     on_ok_weaker c.put.result (λ put. whole) c.put.ensures
