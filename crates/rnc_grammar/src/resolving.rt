@@ -152,6 +152,7 @@ impl<'s, 'a> Resolver<'s, 'a> {
         Ok(Box::new(self.alloc, datatype)?)
     }
 
+    #[inline(never)]
     fn value(
         self,
         type_name: &rnc_syntax::DatatypeName<'a>,
@@ -165,6 +166,7 @@ impl<'s, 'a> Resolver<'s, 'a> {
         Ok(Box::new(self.alloc, DatatypeValue { type_name, text })?)
     }
 
+    #[inline(never)]
     fn name_class(
         self,
         place: Unprefixed,

@@ -132,6 +132,7 @@ impl Reader {
     /// Reads a primary: a pattern without a connector or a repetition outside brackets.
     #[cycle(patterns)]
     #[tactic(auto, unfolding(crate::specs::plain::Productions::primary_with))]
+    #[inline(always)]
     fn primary<'t, 'a>(
         self,
         levels: u8,
