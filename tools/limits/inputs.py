@@ -66,7 +66,7 @@ def many_files(factor):
 def nested_files(front, back, last, files=64):
     """Files of 126 nested brackets. The innermost mentions the next file."""
     def make(factor):
-        count = max(2, int(files * factor))
+        count = max(min(2, files), int(files * factor))
         return [front * BRACKETS + (f'external "f{i + 1}.rnc"' if i + 1 < count else last) + back * BRACKETS for i in range(count)], ""
     return make
 
@@ -183,6 +183,51 @@ def prefixes_in_use(factor):
     return [ANY], root(tag * (int(10_000_000 * factor) // len(tag)))
 
 
+def slot(name):
+    """The slot of a name, as `pyx_namespaces/src/slots.rt` has it."""
+    total = 0
+    for byte in name.encode():
+        total = (total ^ byte) * 16_777_619 % 2**32
+    return (total >> 8) % 4_096
+
+
+def names_of_one_slot(count):
+    found, number = [], 0
+    while len(found) < count:
+        name = short(number)
+        if slot(name) == 0:
+            found.append(name)
+        number += 1
+    return found
+
+
+def tags(tag, factor, front="", back=""):
+    return [ANY], root(front + tag * (int(10_000_000 * factor) // len(tag)) + back)
+
+
+def attributes_of_one_slot(factor):
+    return tags("(e\n" + "".join(f"A{name} 1\n" for name in names_of_one_slot(255)) + ")e\n", factor)
+
+
+def prefixes_of_one_slot(factor):
+    return tags("(e\n" + "".join(f"Axmlns:{name} u\n" for name in names_of_one_slot(255)) + ")e\n", factor)
+
+
+def long_namespaces(prefixes):
+    def make(factor):
+        declared = "".join(f"Axmlns:p{number} {'u' * 65_000}{number}\n" for number in range(prefixes))
+        attributes = "".join(f"Ap{i % prefixes}:x{i} 1\n" for i in range(254))
+        return tags(f"(e\n{attributes})e\n", factor, f"(e\n{declared}", ")e\n")
+    return make
+
+
+def deep_group(factor):
+    """Groups in one another by their definitions, and a document whose children go through all of them."""
+    count = int(900 * factor)
+    rules = "".join(f"x{i} = element b {{ empty }}?, x{i + 1}\n" for i in range(count))
+    return [f"start = element doc {{ x0 }}\n{rules}x{count} = element c {{ empty }}\n"], root("(b\n)b\n" * count + "(c\n)c\n")
+
+
 def many_values(factor):
     count = int(95_000 * factor)
     return [f"element doc {{ {lists('|', (repr(short(i)) for i in range(count)))} }}"], root(f"-{short(count - 1)}\n")
@@ -255,10 +300,18 @@ ROWS = [
     ("2,000 tags of 255 declarations, the last with two of one prefix", "valid", None, prefix_declared_twice),
     ("510 tags in one another, each of 256 declarations, and 20 tags of 255 attributes with prefixes", "valid", None, declarations_everywhere),
     ("10 MB of 250 declarations a tag, each prefix in use", "valid", None, prefixes_in_use),
+    ("10 MB of 255 attributes a tag, whose names share a slot", "valid", None, attributes_of_one_slot),
+    ("10 MB of 255 declarations a tag, whose prefixes share a slot", "valid", None, prefixes_of_one_slot),
+    ("10 MB of 254 attributes a tag, of a namespace of 65,000 bytes", "valid", None, long_namespaces(1)),
+    ("10 MB of 254 attributes a tag, of two namespaces of 65,000 bytes in turn", "valid", None, long_namespaces(2)),
     ("95,000 values in a choice, and one text", "valid", None, many_values),
     ("a class of 130,000 names, and 20,000 different children", "valid", None, many_names),
     ('a list `(("a" | "bi"), ..)*` of 900 members, and a text of 1 MiB', "valid", None, list_of_choices('("a" | "b#")')),
     ('a list `(("a" | "bi")?, ..)*` of 900 members, and a text of 1 MiB', "valid", None, list_of_choices('("a" | "b#")?')),
+] + [
+    ("900 groups in one another, and as many children, a stack of 256 KiB", "valid", 256, deep_group),
+    ("a file of 126 elements in one another, a stack of 256 KiB", "check", 256, nested_files("element a { ", " }", "text", 1)),
+    ("a file of 126 elements `element a { text, ..? }` in one another, a stack of 256 KiB", "check", 256, nested_files(*THREE, 1)),
 ] + [
     (f"{files} files of 126 elements `element a {{ text, ..? }}` in one another, a stack of {stack:,} KiB", "check", stack, nested_files(*THREE, files))
     for files in (27, 64) for stack in (256, 8_192)
