@@ -1,23 +1,23 @@
 -- The smallest schemas that break each clause from S11 to S17. `GoodSchemaExample` has one that breaks none.
-use Rattle.std.proofs.Common.{◌≡◌, refl, sym, subst, ap, ◌∙◌, arith, ℕ, suc, zero, ◌+◌, ◌<◌, max, List, [], ◌∷◌, Some, None, codes}
+use Rattle.std.proofs.Common.{◌≡◌, refl, sym, subst, arith, ℕ, suc, zero, ◌+◌, List, [], ◌∷◌, Some, codes}
 use Rattle.rng_model.specs.names.Lists.{Among, here, there, first_and}
-use Rattle.rng_model.specs.names.Names.{NameClass, any_name, any_except}
+use Rattle.rng_model.specs.names.Names.{any_except}
 use Rattle.rng_model.specs.simple.Tree as tree
 use Rattle.rng_model.specs.simple.Tree.{Datatype, Tree, choice, Simple, s_text, s_list, as_tree}
 use Rattle.rng_model.specs.datatypes.Datatypes.{IsKnownDatatype}
 use Rattle.rng_model.specs.schema.Patterns.{Place, Position, Point, Pattern, text, element, attribute, list, data_of, ref, parent_ref, grammar, joined, no_patterns}
 use Rattle.rng_model.specs.schema.Patterns.{pattern_tree}
 use Rattle.rng_model.specs.schema.Patterns as in_pattern
-use Rattle.rng_model.specs.schema.Schema.{Schema, Component, Definition, body, main_start, IsWrittenAt}
+use Rattle.rng_model.specs.schema.Schema.{Schema, Component, body, main_start, IsWrittenAt}
 use Rattle.rng_model.specs.simple.Leaves as at
 use Rattle.rng_model.specs.simple.Simplification as steps
 use Rattle.rng_model.specs.schema.Unfolding.{Leaf, to_definition, aim, Unfolds, IsTreeOf}
 use Rattle.rng_model.specs.schema.Unfolding as u
-use Rattle.rng_model.specs.schema.Reached.{IsReachedTree, of_body, IsReachedByTrees, from_start}
+use Rattle.rng_model.specs.schema.Reached.{of_body, IsReachedByTrees, from_start}
 use Rattle.rng_model.specs.schema.Depth.{depth}
 use Rattle.rng_model.specs.schema.SchemaClauses as clauses
 use Rattle.rng_model.specs.schema.SchemaClauses.{BreaksClause, any_in_any, any_but_is, itself}
-use Rattle.rng_model.specs.declared.method.Method.TheVariants.{Plain, Choice, Interleave}
+use Rattle.rng_model.specs.declared.method.Method.TheVariants.{Choice, Interleave}
 use Rattle.rng_model.proofs.DatatypeExamples.{library_unknown}
 use Rattle.rng_model.proofs.Unfolding.{not_both, one_definition}
 use Rattle.rng_model.proofs.SchemaExamples.{named, an_element_of, start, one_grammar, only_main, some_is, in_main, looping, no_tree_of_c}

@@ -1,6 +1,6 @@
 -- `element a { (text & text), notAllowed }` breaks no clause: the part that would break S27 is gone after notAllowed is
 -- propagated.
-use Rattle.std.proofs.Common.{◌≡◌, refl, sym, subst, ap, ◌∙◌, ◌⊎◌, inl, inr, arith, ℕ, suc, ◌<◌, List, [], ◌∷◌, Option, Some, None, codes, length, slice_get}
+use Rattle.std.proofs.Common.{◌≡◌, refl, sym, subst, ap, ◌∙◌, ◌⊎◌, inl, inr, arith, ℕ, suc, ◌<◌, List, [], ◌∷◌, Some, codes, slice_get}
 use Rattle.std.proofs.Common.{Contains, zero, Bool, true, false, true≢false}
 use Rattle.std.proofs.lemmas.List.Elements.{All-nil, All-cons, All-contains, Contains-push}
 use Rattle.rng_model.specs.names.Lists.{Among, here, there, HasTwo, first_and, both_later}
@@ -16,7 +16,7 @@ use Rattle.rng_model.specs.simple.Leaves as at
 use Rattle.rng_model.specs.schema.Patterns.{Place, Pattern, text, not_allowed, element, attribute, data_of, data_except, value, ref, parent_ref, joined, no_patterns}
 use Rattle.rng_model.specs.schema.Patterns.{IsWrittenIn}
 use Rattle.rng_model.specs.schema.Patterns as in_pattern
-use Rattle.rng_model.specs.schema.Schema.{Schema, Component, body, main_start, IsWrittenAt, HasComponent}
+use Rattle.rng_model.specs.schema.Schema.{Schema, Component, body, main_start, IsWrittenAt}
 use Rattle.rng_model.specs.schema.Unfolding.{Leaf, Unfolds, IsTreeOf, IsBodyOf}
 use Rattle.rng_model.specs.schema.Unfolding as u
 use Rattle.rng_model.specs.simple.Simplification.{RuleGroup, rewriting, propagation, Step, AnyStep, Steps, no_step, step_and, IsLast, IsRewritten, IsSimpleFormOf}
@@ -24,11 +24,11 @@ use Rattle.rng_model.specs.simple.Simplification as steps
 use Rattle.rng_model.specs.schema.Reached.{IsReachedByTrees, from_start, from_element, IsReachedTree, of_start, of_body, IsReachedBySimpleForms, from_simple_start}
 use Rattle.rng_model.specs.schema.Reached.{from_simple_body}
 use Rattle.rng_model.specs.schema.Depth.{depth, class_depth}
-use Rattle.rng_model.specs.simple.SchemaForm.{Element, IsElementOf, SimpleForm, IsSimpleFormOfSchema, IsSameUpToNumbering, IsSimpleGrammarOf}
+use Rattle.rng_model.specs.simple.SchemaForm.{Element, IsElementOf, SimpleForm, IsSimpleFormOfSchema, IsSimpleGrammarOf}
 use Rattle.rng_model.specs.schema.SchemaClauses as clauses
 use Rattle.rng_model.specs.schema.SchemaClauses.{BreaksClause, BreaksNoClause}
 use Rattle.rng_model.specs.restrictions.Restrictions as restrictions
-use Rattle.rng_model.specs.declared.method.Method.TheVariants.{Plain, Choice, Interleave}
+use Rattle.rng_model.specs.declared.method.Method.TheVariants.{Choice}
 use Rattle.rng_model.proofs.SimpleTrees.{same_simple}
 use Rattle.rng_model.proofs.Unfolding.{one_tree}
 use Rattle.rng_model.proofs.SchemaExamples.{named, start, one_grammar, only_main, some_is, no_components}

@@ -1,14 +1,13 @@
 -- The line `(a` breaks only P13: more lines may make it a document.
-use Rattle.std.proofs.Common.{◌≡◌, ◌≢◌, ℕ, suc, ◌+◌, ◌<◌, ◌≤◌, true, false, List, [], ◌∷◌, ◌++◌, length, map, codes, Option, Some, None, ◌⊎◌, inl, inr, refl}
+use Rattle.std.proofs.Common.{◌≡◌, ℕ, suc, List, [], ◌∷◌, ◌++◌, length, codes, None, refl}
 use Rattle.std.proofs.Common.{sym, ap, subst, arith, ◌∙◌}
 use Rattle.std.proofs.lemmas.List.{length-append}
-use Rattle.std.specs.Prelude.{All}
 use Rattle.std.specs.Str.{is_utf8, chars}
-use Rattle.rng_model.specs.names.Lists.{Among, HasTwice}
+use Rattle.rng_model.specs.names.Lists.{Among}
 use Rattle.rng_model.specs.matching.Document.{Attribute}
 use Rattle.rng_model.specs.documents.Lines.{Line}
 use Rattle.rng_model.specs.matching.WellFormed.{Distinct, none}
-use Rattle.rng_model.specs.documents.PyxFaults.{Fault, HasKind}
+use Rattle.rng_model.specs.documents.PyxFaults.{HasKind}
 use Rattle.rng_model.specs.documents.PyxLines as lines
 use Rattle.rng_model.specs.documents.PyxLines.{WrittenName, IsName, Said, start, says_start, Says, IsGoodLine, AreGoodLines, BreaksWithin}
 use Rattle.rng_model.specs.documents.PyxNamespaces.{WrittenAttribute, AreWritten, none_written, AreParted, Declaration, Scope, AreExpanded, none_left}
@@ -17,7 +16,7 @@ use Rattle.rng_model.specs.documents.PyxTrees.{IsRun, no_run}
 use Rattle.rng_model.specs.documents.PyxTrees as trees
 use Rattle.rng_model.specs.documents.PyxClauses as clauses
 use Rattle.rng_model.specs.documents.PyxClauses.{BreaksHere, BreaksNamespaces, RepeatsName, EndsInText, EndsWithTag, AreOpenTags, Tag, Breaks, IsFront}
-use Rattle.rng_model.proofs.PyxExamples.{whole, good, is_name, a_is_a_name, first_of}
+use Rattle.rng_model.proofs.PyxExamples.{whole, good, a_is_a_name, first_of}
 
 abbrev the_line : Line
 the_line = whole (codes "(a")

@@ -1,10 +1,9 @@
 -- Small schemas: their definitions, and the trees of these.
 use Rattle.std.proofs.Common.{◌≡◌, refl, ap, sym, subst, ℕ, List, [], ◌∷◌, Option, Some, None, codes}
-use Rattle.rng_model.specs.names.Names.{Name, NameClass, name_is}
+use Rattle.rng_model.specs.names.Names.{NameClass, name_is}
 use Rattle.rng_model.specs.simple.Tree as tree
 use Rattle.rng_model.specs.simple.Tree.{Tree, choice, group, interleave}
 use Rattle.rng_model.specs.schema.Patterns.{Place, Pattern, element, empty, ref, parent_ref, grammar, external, joined, no_patterns, Point, an_element, a_ref}
-use Rattle.rng_model.specs.schema.Patterns.{a_parent_ref, a_grammar}
 use Rattle.rng_model.specs.names.Lists.{Among}
 use Rattle.rng_model.specs.schema.Schema.{Schema, Component, Definition, body, main_start, HasComponent}
 use Rattle.rng_model.specs.simple.Leaves as at

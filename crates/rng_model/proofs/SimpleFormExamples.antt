@@ -1,5 +1,5 @@
 -- Trees and their simple forms.
-use Rattle.std.proofs.Common.{refl, [], ◌∷◌, codes}
+use Rattle.std.proofs.Common.{refl, [], codes}
 use Rattle.rng_model.specs.simple.Tree.{Datatype, Tree, choice, group, data_of, data_except, value, joined, no_trees, tree_and, not_allowed, empty, text}
 use Rattle.rng_model.specs.simple.Simplification.{RuleGroup, rewriting, propagation, Step, IsSimpleFormOf, no_step, step_and}
 use Rattle.rng_model.specs.simple.Simplification as steps

@@ -2,4 +2,5 @@
 pub mod PiecesView
 pub mod NumbersViews
 pub mod PlaceViews
+pub mod ReplacedLists
 pub mod SchemaView

@@ -42,5 +42,5 @@ pub use namespace::Namespace;
 pub use outcome::Outcome;
 pub use place::Place;
 pub use pyx_fault::PyxFault;
-pub use schema_pattern::SchemaPattern;
+pub use schema_pattern::{SchemaPattern, SchemaRow};
 pub use simple::{ElementId, PatternId, Simple};

@@ -10,7 +10,7 @@ ghost use Rattle.rng_model.specs.views.PlaceViews.{numbers_of};
 ghost use Rattle.rng_model.specs.views.SchemaView.{place_of};
 
 use crate::fault::OutOfMemory;
-use crate::place_numbers::HashedNumbers;
+use crate::place_numbers::{BASIS, HashedNumbers};
 use std::alloc::Global;
 use std::hash::{Hash, Hasher};
 use std::sync::Arc;
@@ -74,7 +74,7 @@ impl Place {
     {
         match &self.way {
             Some(way) => way.hash,
-            None => 0,
+            None => BASIS,
         }
     }
 }

@@ -23,6 +23,9 @@ pub(crate) struct HashedNumbers {
     pub ghost hashed: { hash ≡ place_hash (numbers_in numbers) },
 }
 
+/// The number with which the hash of Fowler, Noll and Vo in 64 bits begins.
+pub(crate) const BASIS: u64 = 14_695_981_039_346_656_037;
+
 /// The factor of the hash of Fowler, Noll and Vo in 64 bits.
 const FACTOR: u64 = 1_099_511_628_211;
 
@@ -56,7 +59,7 @@ fn words_of(alloc: Global, bytes: &[u8]) -> Result<Vec<usize>, OutOfMemory>
 fn hash_of_bytes(bytes: &[u8]) -> u64
     ensures { result ≡ place_hash bytes.now }
 {
-    let mut sum: u64 = 0;
+    let mut sum: u64 = BASIS;
     'bytes: for byte in bytes {
         sum = (sum ^ (*byte as u64)).wrapping_mul(FACTOR);
     }
@@ -68,7 +71,7 @@ fn hash_of_bytes(bytes: &[u8]) -> u64
 fn hash_of_words(words: &[usize]) -> u64
     ensures { result ≡ place_hash words.now }
 {
-    let mut sum: u64 = 0;
+    let mut sum: u64 = BASIS;
     'words: for word in words {
         sum = (sum ^ (*word as u64)).wrapping_mul(FACTOR);
     }

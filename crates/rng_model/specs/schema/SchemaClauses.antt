@@ -1,7 +1,7 @@
 -- The clauses that a schema of one grammar or more may break: S11 to S15 over all components at all places, reached or
 -- not; S16 and S17 over the trees that are reached; S18 to S27 over its simple form. (RELAX NG Specification, sections
 -- 4.16 to 4.19 and 7; S17 is profile)
-use Rattle.std.specs.Prelude.{◌≡◌, codes, ℕ, ◌<◌, ◌≤◌, List, [], Some, None}
+use Rattle.std.specs.Prelude.{◌≡◌, codes, ℕ, ◌<◌, List, [], Some, None}
 use Rattle.rng_model.specs.schema.Least.{IsLeast}
 use Rattle.rng_model.specs.names.Lists.{Among, HasTwo}
 use Rattle.rng_model.specs.names.Names.{Name, NameClass, NameClasses, any_name, any_except, ns_name, ns_except, name_is, one_of, class_and}

@@ -1,4 +1,4 @@
-use Rattle.std.proofs.Common.{◌≡◌, ◌≤◌, ◌∙◌, sym, subst, length}
+use Rattle.std.proofs.Common.{◌≤◌, ◌∙◌, sym, subst, length}
 use Rattle.std.specs.Cmp.Lexicographic.{bytes_decides}
 use Rattle.std.proofs.lemmas.List.{take_all}
 use Rattle.rng_model.proofs.place_numbers.are_same.Goals as goal
