@@ -53,8 +53,7 @@ impl Tables {
         Ok(Tables { places, shared })
     }
 
-    /// Returns the key of a name. Allocates nothing. The cost is a comparison with one name, and if that is another one, at
-    /// most two look-ups by hashing.
+    /// Returns the key of a name. Allocates nothing. The cost is at most two look-ups by hashing.
     pub(crate) fn key(&self, name: &Name) -> usize
         requires { AreTables self.now }
         ensures key { result ≡ key_of (keys_in self.now) (name_of name.now) }

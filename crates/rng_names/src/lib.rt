@@ -27,7 +27,6 @@ mod namespaces;
 mod places;
 mod prepared_class;
 mod shared_keys;
-mod slots;
 mod texts;
 mod written;
 mod written_names;

@@ -48,8 +48,7 @@ impl NameKeys {
         Ok(NameKeys { tables })
     }
 
-    /// Returns the key of a name. Allocates nothing. The cost is a comparison with one name, and if that is another one, at
-    /// most two look-ups by hashing.
+    /// Returns the key of a name. Allocates nothing. The cost is at most two look-ups by hashing.
     pub fn key(&self, name: &Name) -> NameKey
         ensures key { result.0 ≡ key_of self.now (name_of name.now) }
         ensures inside { result.0 < length self.now.names }

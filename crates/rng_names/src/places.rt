@@ -1,13 +1,11 @@
 // The places of names.
-ghost use Rattle.std.specs.Prelude.{◌≡◌, IfOk, IfSome, OnOk};
+ghost use Rattle.std.specs.Prelude.{◌≡◌, IfOk, OnOk};
 ghost use Rattle.rng_model.specs.names.NameViews.{name_of};
 ghost use Rattle.rng_model.specs.names.NamespaceViews.{namespace_bytes};
 ghost use Rattle.rng_names.specs.plain.Keys.{place_of};
 ghost use Rattle.rng_names.specs.views.KeyTables.{AddsOthers, IsTold, places_in};
 ghost use Rattle.rng_names.specs.plain.WrittenNames.{written_as};
 
-use crate::membership::is_same_name;
-use crate::slots::{places_by_slot, slot_of};
 use crate::texts::{name_in, note, number_of, place_of, put};
 use crate::written::fresh_text;
 use indexmap::{IndexMap, IndexSet};
@@ -21,8 +19,6 @@ pub(crate) struct Places {
     pub(crate) names: IndexSet<Name>,
     /// For each namespace that is written, the place of the name that represents its names that are not written.
     pub(crate) namespaces: IndexMap<Namespace, usize>,
-    /// For each slot of local names the place of a name that has it, so that most names are found without hashing.
-    pub(crate) slots: Vec<usize>,
 }
 
 impl Places {
@@ -38,13 +34,11 @@ impl Places {
         let mut all = Places {
             names,
             namespaces: IndexMap::new(alloc),
-            slots: Vec::new(alloc),
         };
         'namespaces: for ns in longest.keys().as_slice() {
             let bytes = number_of(longest, ns).unwrap_or(0);
             all.add_others(alloc, ns, bytes)?;
         }
-        all.slots = places_by_slot(alloc, all.names.as_slice())?;
         Ok(all)
     }
 
@@ -58,29 +52,14 @@ impl Places {
         note(&mut self.namespaces, ns.share()?, place)
     }
 
-    /// Returns the place of a name: its own, or that of the name that represents it. Allocates nothing. The cost is a
-    /// comparison with the name in its slot, and if that is another one, at most two look-ups by hashing.
+    /// Returns the place of a name: its own, or that of the name that represents it. Allocates nothing. The cost is at
+    /// most two look-ups by hashing.
     pub(crate) fn place(&self, name: &Name) -> usize
         ensures { result ≡ place_of (places_in self.now) (name_of name.now) }
     {
-        if let Some(found) = self.place_by_slot(name) {
-            return found;
-        }
         if let Some(place) = place_of(&self.names, name) {
             return place;
         }
         number_of(&self.namespaces, &name.ns).unwrap_or(0)
-    }
-
-    /// Returns the place of a name, if it is the one that is found by its slot. Allocates nothing.
-    fn place_by_slot(&self, name: &Name) -> Option<usize>
-        ensures { IfSome result (λ place. place_of (places_in self.now) (name_of name.now) ≡ place) }
-    {
-        let place = *self.slots.get(slot_of(name.local.as_str()))?;
-        let there = self.names.as_slice().get(place)?;
-        if !is_same_name(there, name) {
-            return None;
-        }
-        Some(place)
     }
 }

@@ -59,7 +59,9 @@ pub fn ways(
     Ok(ways)
 }
 
-/// Returns true only if a pattern contains none of the candidates. Then it has no ways.
+/// Returns true only if a pattern contains none of the candidates. Then it has no ways. A wide choice asks for each of its
+/// members.
+#[inline(always)]
 pub fn is_idle(table: &PatternTable, candidates: Candidates, number: PatternNumber) -> bool
     requires { number.0 < length table.now }
     ensures { result ≡ true → (t : Table) (kind : kinds.Kind) → AreCandidates t table.now kind candidates.entry

@@ -94,6 +94,7 @@ impl Span {
     }
 
     /// Returns whether a number may be in both ranges. Allocates nothing.
+    #[inline(always)]
     pub fn may_meet(self, others: Span) -> bool
         ensures { (k : ℕ) → IsWithin self k → IsWithin others k → IsTrue result }
     {

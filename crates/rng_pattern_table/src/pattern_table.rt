@@ -75,6 +75,7 @@ impl PatternTable {
     }
 
     /// Returns what is known of the pattern with this number. Allocates nothing.
+    #[inline(always)]
     pub fn facts(&self, number: PatternNumber) -> Facts
         requires { number.0 < length self.now }
         ensures exact { (t : Table) → result ≡ facts_of (tree_of t self.now number.0) }
@@ -283,6 +284,7 @@ fn both(first: Facts, second: Facts, members: u16, depth: u16) -> Facts
 }
 
 /// Returns the row at a place.
+#[inline(always)]
 fn row_at(rows: &IndexMap<Pattern, Facts>, place: usize) -> (&Pattern, &Facts)
     requires { place < length rows.now.entries }
     ensures { slice_get rows.now.entries place ≡ Some (result.0.now, result.1.now) }

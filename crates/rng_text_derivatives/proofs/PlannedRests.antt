@@ -36,8 +36,11 @@ use Rattle.rng_pattern_derivatives.proofs.LikeAttributes.{ways_alike}
 use Rattle.rng_pattern_derivatives.proofs.WayLists.{inside_longer, ways_stay}
 use Rattle.rng_text_derivatives.specs.plain.After.{AreFor, AreRests, AreThoseBehind, AreWaysFor, IsLeft, TellsTaken, attributes_of, items_of, place_of}
 use Rattle.rng_text_derivatives.specs.plain.Asking.{AreTests, IsAskedBy, IsPieceOf}
+use Rattle.rng_text_derivatives.specs.plain.Settling.{AreLeft, IsSettled}
+use Rattle.rng_text_derivatives.specs.declared.settled.Rest.{Rest}
 use Rattle.rng_text_derivatives.specs.declared.first.First.{First}
 use Rattle.rng_text_derivatives.specs.declared.first.First.TheVariants as firsts
+use Rattle.rng_text_derivatives.proofs.SettledRests.{settled_by}
 use Rattle.rng_text_derivatives.proofs.RestsOfWays.{leaf_leaves, leaf_leaves_none, left_behind, no_rests, ways_for_attribute, ways_for_text}
 
 -- ---- rests by tests
@@ -274,6 +277,23 @@ module _ (t : Table) (keys : Keys) (old ns : List Node) (longer : Longer old ns)
       by (firsts.Attribute attr) all =
           let k : NameKey = record { 0 = key_of keys (name_of attr.now.name) } in
           (all (asked.Attribute number k) (k, refl, refl) (kinds.Attribute (record { ref_ptr = (0, 0); now = attr.now.name })) refl).inside
+
+    asked_ways : AreWaysFor t ns first (tree_of t ns number.0) ws
+    asked_ways = subst (λ p. AreWaysFor t ns first p ws) (sym (tree_stays t old ns number.0 longer there)) (by first all) where
+      p : Simple ℕ
+      p = tree_of t old number.0
+
+      by : (first : First)
+          → ((a : Asked) → IsAskedBy keys first number a → (kind : Kind) → IsKindAsked keys a kind → AreWaysOf t ns kind (tree_of t old number.0) ws)
+          → AreWaysFor t ns first p ws
+      by (firsts.Text place s) all = ways_for_text t ns place s p ws (all (asked.Text number) refl kinds.Text tt)
+      by (firsts.Attribute attr) all =
+          let k : NameKey = record { 0 = key_of keys (name_of attr.now.name) } in
+          let q : Bor Name = record { ref_ptr = (0, 0); now = attr.now.name } in
+          ways_for_attribute t ns attr q p ws refl (all (asked.Attribute number k) (k, refl, refl) (kinds.Attribute q) refl)
+
+    pub new_settled : (r : Rest) → AreLeft t ns first ws r → IsSettled t ns first (tree_of t ns number.0) r
+    new_settled r left = settled_by t ns first (tree_of t ns number.0) ws r asked_ways left
 
     pub new_plan_right : (plan : Plan) → plan.ways.items ≡ ws → plan.pieces.items ≡ [] → IsPlan t ns plan → (a : Asked) → IsAskedBy keys first number a
         → IsPlanFor t keys ns a plan

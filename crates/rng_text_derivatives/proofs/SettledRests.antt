@@ -1,5 +1,5 @@
 -- What is left of a pattern where no more than two rests are left.
-use Rattle.std.proofs.Common.{Bor, ◌≡◌, ◌∙◌, ◌||◌, inl, inr, All, ℕ, ◌<◌, ◌↔◌, List, [], ◌∷◌, ◌++◌, length, refl, sym, subst, arith}
+use Rattle.std.proofs.Common.{Bor, ◌≡◌, ◌∙◌, ◌||◌, inl, inr, ℕ, ◌<◌, ◌↔◌, List, [], ◌∷◌, ◌++◌, length, refl, sym, subst, arith}
 use Rattle.std.proofs.Common.{Bool, true, false, Option, Some, None, Contains}
 use Rattle.std.specs.Prelude.{IfSome}
 use Rattle.std.proofs.lemmas.List.Elements.{Contains-append_cases, Contains-append_left, Contains-append_right, Contains-get_or}
@@ -24,7 +24,7 @@ use Rattle.rng_pattern_derivatives.specs.declared.way.LeafWay.{LeafWay}
 use Rattle.rng_pattern_derivatives.specs.declared.way.Place.TheVariants as places
 use Rattle.rng_pattern_derivatives.proofs.KeptRestrictions.{Obeys-hereditary}
 use Rattle.rng_text_derivatives.specs.plain.After.{AreWaysFor, IsLeft, TellsTaken, place_of}
-use Rattle.rng_text_derivatives.specs.plain.Settling.{AreLeft, IsCovered, IsSettled, with_told}
+use Rattle.rng_text_derivatives.specs.plain.Settling.{AreLeft, IsCovered, IsRestInside, IsSettled, with_told}
 use Rattle.rng_text_derivatives.specs.declared.first.First.{First}
 use Rattle.rng_text_derivatives.specs.declared.first.First.TheVariants as firsts
 use Rattle.rng_text_derivatives.specs.declared.settled.Rest.{Rest}
@@ -86,6 +86,19 @@ settled_by t ns first p ws rest_kinds.Nothing all left = (ws, all, left)
 settled_by t ns first p ws (rest_kinds.Only r) all left = (ws, all, left)
 settled_by t ns first p ws (rest_kinds.Two r q) all left = (ws, all, left)
 
+pub rest_inside : (t : Table) (ns : List Node) (first : First) (p : Simple ℕ) (r : Rest) → IsSettled t ns first p r → IsRestInside ns r
+rest_inside t ns first p rest_kinds.Unknown settled = tt
+rest_inside t ns first p rest_kinds.Nothing settled = tt
+rest_inside t ns first p (rest_kinds.Only r) (ws, all, some) = contained (λ m. m.0 < length ns) (r ∷ []) r some.inside (has_one r)
+rest_inside t ns first p (rest_kinds.Two r q) (ws, all, some) = some.inside
+
+-- what the rest of some ways tells
+pub told : (t : Table) (old new : List Node) (first : First) (number : PatternNumber) (r : Rest) (o : Option PatternNumber) (left : PatternNumber) → o ≡ Some left
+    → IfSome o (λ left. (f : First) (n : PatternNumber) → IsSettled t old f (tree_of t old n.0) r → IsLeft t old new f n left)
+    → IsSettled t old first (tree_of t old number.0) r → IsLeft t old new first number left
+told t old new first number r o left is all settled =
+    subst (λ o. IfSome o (λ left. (f : First) (n : PatternNumber) → IsSettled t old f (tree_of t old n.0) r → IsLeft t old new f n left)) is all first number settled
+
 module _ (t : Table) (ns : List Node) (first : First) (number : PatternNumber) where
   pub only_left : (rest : PatternNumber) → IsSettled t ns first (tree_of t ns number.0) (rest_kinds.Only rest) → IsLeft t ns ns first number rest
   only_left rest (ws, all, some) =
@@ -101,10 +114,6 @@ module _ (t : Table) (ns : List Node) (first : First) (number : PatternNumber) w
             )) (all.law o);
         kept = λ o. contained Kept (rest ∷ []) rest (some.kept (all.kept o)) (has_one rest);
       }
-
-  pub two_inside : (rest other : PatternNumber) → IsSettled t ns first (tree_of t ns number.0) (rest_kinds.Two rest other)
-      → All (λ (m : PatternNumber). m.0 < length ns) (rest ∷ other ∷ [])
-  two_inside rest other (ws, all, some) = some.inside
 
   -- a choice of the two
   pub two_left : (new : List Node) (rest other n : PatternNumber) → IsSettled t ns first (tree_of t ns number.0) (rest_kinds.Two rest other)

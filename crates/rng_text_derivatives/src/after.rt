@@ -21,13 +21,15 @@ ghost use Rattle.rng_pattern_derivatives.specs.declared.way.Kind.{Kind};
 ghost use Rattle.rng_pattern_derivatives.specs.views.KnownWays.{AreAllKnown};
 ghost use Rattle.rng_text_derivatives.specs.plain.After.{AreRests, AreWaysFor, IsLeafFor, IsLeft, IsLeftOfTag, TellsTaken};
 ghost use Rattle.rng_text_derivatives.specs.plain.Asking.{AreTests, IsAskedBy};
+ghost use Rattle.rng_text_derivatives.specs.plain.Settling.{IsRestInside, IsSettled};
+ghost use Rattle.rng_text_derivatives.specs.declared.first.First.{First};
 ghost use Rattle.rng_text_derivatives.specs.declared.first.First.TheVariants as firsts;
 
 use crate::context::Context;
 use crate::first::First;
 use crate::leaf_tests::{data_takes, is_blank, is_leaf_for, list_body};
 use crate::plans::{TakenPlan, asked, keep_piece, kept_piece, plan_of, rest_by};
-use crate::settled::{Rest, settled_by_few};
+use crate::settled::{Rest, left_by_few, settled_by_few};
 use rng_model::{Attr, OutOfMemory, PatternId, Pieces, Simple};
 use rng_names::contains;
 use rng_pattern_derivatives::{
@@ -72,21 +74,20 @@ fn ways_for(
     }
 }
 
-/// Returns what is left of a pattern after this, if its known ways tell it. Fails only when out of memory.
-fn after_few(
+/// Returns the pattern of what some ways leave, if they tell it. Fails only when out of memory.
+#[inline(always)]
+fn told_by(
     context: &Context,
     table: &mut PatternTable,
-    known: &Known,
-    first: First,
-    number: PatternNumber,
+    rest: Rest,
 ) -> Result<Option<PatternNumber>, OutOfMemory>
-    requires inside { number.0 < length table.old }
-    requires ready { IsReady context.now.grammar.now table.old context.now.numbers.now }
-    requires known { AreAllKnown context.now.grammar.now context.now.keys.now table.old known.now }
+    requires inside { IsRestInside table.old rest }
     ensures longer { OnOk result (Longer table.old table.new) }
-    ensures left { IfOk result (λ o. IfSome o (IsLeft context.now.grammar.now table.old table.new first.entry number)) }
+    ensures left { IfOk result (λ o. IfSome o (λ left. (first : First) (number : PatternNumber)
+        → IsSettled context.now.grammar.now table.old first (tree_of context.now.grammar.now table.old number.0) rest
+        → IsLeft context.now.grammar.now table.old table.new first number left)) }
 {
-    match settled_by_few(context, table, known, first, number) {
+    match rest {
         Rest::Unknown => Ok(None),
         Rest::Nothing => Ok(Some(table.not_allowed()?)),
         Rest::Only(rest) => Ok(Some(rest)),
@@ -213,7 +214,8 @@ fn after_ways(
     ensures known { OnOk result (AreAllKnown context.now.grammar.now context.now.keys.now table.new known.new) }
     ensures left { IfOk result (IsLeft context.now.grammar.now table.old table.new first.entry number) }
 {
-    if let Some(rest) = after_few(context, table, known, first, number)? {
+    let rest = settled_by_few(context, table, known, first, number);
+    if let Some(rest) = told_by(context, table, rest)? {
         return Ok(rest);
     }
     let asked = asked(context, first, number);
@@ -240,7 +242,8 @@ fn after_new_ways(
     ensures left { IfOk result (IsLeft context.now.grammar.now table.old table.new first.entry number) }
 {
     let ways = ways_for(context, table, known, first, number)?;
-    if let Some(rest) = after_few(context, table, known, first, number)? {
+    let rest = left_by_few(context, table, known, first, ways.as_slice());
+    if let Some(rest) = told_by(context, table, rest)? {
         return Ok(rest);
     }
     let asked = asked(context, first, number);

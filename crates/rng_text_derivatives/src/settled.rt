@@ -214,9 +214,29 @@ pub fn settled_by_few(
     ensures { IsSettled context.now.grammar.now table.now first.entry (tree_of context.now.grammar.now table.now number.0) result }
 {
     match ways_known(context, known, first, number) {
-        Some(ways) if ways.len() <= FEW_WAYS => only_rest(context, table, known, first, ways),
-        _ => Rest::Unknown,
+        Some(ways) => left_by_few(context, table, known, first, ways),
+        None => Rest::Unknown,
     }
+}
+
+/// Returns what is left by these ways, unless they are many. Allocates nothing. The cost is a test of each leaf.
+#[inline(always)]
+pub fn left_by_few(
+    context: &Context,
+    table: &PatternTable,
+    known: &Known,
+    first: First,
+    ways: &[LeafWay],
+) -> Rest
+    requires inside { AreInside table.now ways.now }
+    requires ready { IsReady context.now.grammar.now table.now context.now.numbers.now }
+    requires known { AreAllKnown context.now.grammar.now context.now.keys.now table.now known.now }
+    ensures { AreLeft context.now.grammar.now table.now first.entry ways.now result }
+{
+    if ways.len() > FEW_WAYS {
+        return Rest::Unknown;
+    }
+    only_rest(context, table, known, first, ways)
 }
 
 /// Returns the rest of the ways whose leaves take this.

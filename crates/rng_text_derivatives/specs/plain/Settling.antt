@@ -1,8 +1,9 @@
 -- What is left of a pattern, as far as its known ways tell.
-use Rattle.std.specs.Prelude.{◌≡◌, ◌⊎◌, ℕ, List, [], ◌∷◌, Bool, true, false, Option, Some, None}
+use Rattle.std.specs.Prelude.{◌≡◌, ◌⊎◌, ℕ, ◌<◌, All, List, [], ◌∷◌, length, Bool, true, false, Option, Some, None}
 use Rattle.rng_model.specs.simple.Tree.{Simple}
 use Rattle.rng_model.specs.simple.Table.{Table}
 use Rattle.rng_pattern_table.specs.views.Node.{Node}
+use Rattle.rng_pattern_table.specs.declared.pattern.PatternNumber.{PatternNumber}
 use Rattle.rng_pattern_derivatives.specs.declared.way.LeafWay.{LeafWay}
 use Rattle.rng_text_derivatives.specs.plain.After.{AreRests, AreWaysFor}
 use Rattle.rng_text_derivatives.specs.declared.first.First.{First}
@@ -24,6 +25,13 @@ with_told (Some true) rest_kinds.Unknown w = rest_kinds.Unknown
 with_told (Some true) rest_kinds.Nothing w = rest_kinds.Only w.rest
 with_told (Some true) (rest_kinds.Only r) w = rest_kinds.Two r w.rest
 with_told (Some true) (rest_kinds.Two r q) w = rest_kinds.Unknown
+
+-- the rests are patterns of the table
+abbrev pub IsRestInside : List Node → Rest → Type 0
+IsRestInside ns rest_kinds.Unknown = Unit {0}
+IsRestInside ns rest_kinds.Nothing = Unit {0}
+IsRestInside ns (rest_kinds.Only r) = r.0 < length ns
+IsRestInside ns (rest_kinds.Two r q) = All (λ (m : PatternNumber). m.0 < length ns) (r ∷ q ∷ [])
 
 -- what is left by these ways
 abbrev pub AreLeft : Table → List Node → First → List LeafWay → Rest → Type 0

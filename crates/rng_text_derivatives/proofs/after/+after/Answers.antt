@@ -19,6 +19,8 @@ use Rattle.rng_pattern_table.specs.declared.pattern.PatternNumber.{PatternNumber
 use Rattle.rng_pattern_table.proofs.Choices.{if_ok}
 use Rattle.rng_pattern_table.proofs.Trees.{Longer-length, Longer-refl, Longer-trans, tree_stays}
 use Rattle.rng_text_derivatives.specs.plain.After.{AreRests, IsLeft, TellsTaken}
+use Rattle.rng_text_derivatives.specs.plain.Settling.{AreLeft}
+use Rattle.rng_text_derivatives.proofs.SettledRests.{rest_inside, told}
 use Rattle.rng_pattern_derivatives.specs.plain.Kinds.{Obeys, rest_of_leaf}
 use Rattle.rng_model.specs.matching.GrammarReading.{reading_of}
 use Rattle.rng_pattern_derivatives.specs.plain.Ways.{AreInside}
@@ -38,7 +40,7 @@ use Rattle.rng_pattern_derivatives.specs.views.Plans.{IsAfterPiece, IsOutcome, I
 use Rattle.rng_pattern_derivatives.proofs.KnownPlans.{plan_for_longer, plan_longer}
 use Rattle.rng_pattern_derivatives.proofs.WayLists.{inside_longer}
 use Rattle.rng_text_derivatives.specs.plain.Asking.{AreTests, IsAskedBy}
-use Rattle.rng_text_derivatives.proofs.PlannedRests.{asked_inside, kept_left, new_plan_right, left_earlier, no_tests, number_asked, one_more_test, outcome_left, plan_again, planned_ways, some_question, tests_later, ways_for_later}
+use Rattle.rng_text_derivatives.proofs.PlannedRests.{asked_inside, new_settled, kept_left, new_plan_right, left_earlier, no_tests, number_asked, one_more_test, outcome_left, plan_again, planned_ways, tests_later, ways_for_later}
 use Rattle.rng_text_derivatives.proofs.after.+after.Goals as goal
 use Rattle.rng_text_derivatives.proofs.after.+after.Goals.{rests-then-branch+in_ok-push, rests-else-branch}
 
@@ -385,9 +387,21 @@ after_taken_plan-returns t c =
 
 -- ---- by known ways, by a known plan, or by new ways
 
+pub after_ways-told_by-requires : goal.after_ways-told_by-requires
+after_ways-told_by-requires t c =
+    let t0 = c.args.context.now.grammar.now in
+    record { inside = rest_inside t0 c.args.table.now c.args.first (tree_of t0 c.args.table.now c.args.number.0) c.settled_by_few-rest.result c.settled_by_few-rest.ensures }
+
+pub after_ways-returns-in-Some-clause-left : goal.after_ways-returns-in-Some-clause-left
+after_ways-returns-in-Some-clause-left t c =
+    let t0 = c.args.context.now.grammar.now in
+    let old = c.args.table.now in
+    told t0 old c.told_by.new.table c.args.first c.args.number c.settled_by_few-rest.result c.in_ok-rest.field-0 c.in-Some.rest c.in-Some.is
+    c.in_ok-rest.ensures.left c.settled_by_few-rest.ensures
+
 pub after_ways-returns-in-Some-clause-known : goal.after_ways-returns-in-Some-clause-known
 after_ways-returns-in-Some-clause-known t c =
-    all_longer c.args.context.now.grammar.now c.args.context.now.keys.now c.args.table.now c.after_few.new.table c.in_ok-rest.ensures.longer
+    all_longer c.args.context.now.grammar.now c.args.context.now.keys.now c.args.table.now c.told_by.new.table c.in_ok-rest.ensures.longer
     c.args.known.now c.requires.known
 
 pub after_ways-after_taken_plan-requires : goal.after_ways-after_taken_plan-requires
@@ -395,7 +409,7 @@ after_ways-after_taken_plan-requires t c =
     let t0 = c.args.context.now.grammar.now in
     let keys = c.args.context.now.keys.now in
     let old = c.args.table.now in
-    let new = c.after_few.new.table in
+    let new = c.told_by.new.table in
     let longer = c.in_ok-rest.ensures.longer in
     let known = all_longer t0 keys old new longer c.args.known.now c.requires.known in
     let d = c.decreases in (
@@ -409,7 +423,7 @@ after_ways-after_taken_plan-requires t c =
 pub after_ways-returns-in-Some-take_plan-clause-left : goal.after_ways-returns-in-Some-take_plan-clause-left
 after_ways-returns-in-Some-take_plan-clause-left t c =
     let t0 = c.args.context.now.grammar.now in
-    if_ok c.after_taken_plan.result _ _ (λ rest left. left_earlier t0 c.args.table.now c.after_few.new.table c.after_taken_plan.new.table c.args.first
+    if_ok c.after_taken_plan.result _ _ (λ rest left. left_earlier t0 c.args.table.now c.told_by.new.table c.after_taken_plan.new.table c.args.first
     c.args.number rest c.in_ok-rest.ensures.longer c.requires.inside (left c.args.number c.asked-asked.ensures)) c.after_taken_plan.ensures.left
 
 pub after_ways-after_new_ways-requires : goal.after_ways-after_new_ways-requires
@@ -417,7 +431,7 @@ after_ways-after_new_ways-requires t c =
     let t0 = c.args.context.now.grammar.now in
     let keys = c.args.context.now.keys.now in
     let old = c.args.table.now in
-    let new = c.after_few.new.table in
+    let new = c.told_by.new.table in
     let longer = c.in_ok-rest.ensures.longer in
     let known = all_longer t0 keys old new longer c.args.known.now c.requires.known in
     let inside = c.requires.inside in
@@ -433,25 +447,45 @@ after_ways-after_new_ways-requires t c =
 pub after_ways-returns-clause-left : goal.after_ways-returns-clause-left
 after_ways-returns-clause-left t c =
     let t0 = c.args.context.now.grammar.now in
-    if_ok c.after_new_ways.result _ _ (λ rest left. left_earlier t0 c.args.table.now c.after_few.new.table c.after_new_ways.new.table c.args.first
+    if_ok c.after_new_ways.result _ _ (λ rest left. left_earlier t0 c.args.table.now c.told_by.new.table c.after_new_ways.new.table c.args.first
     c.args.number rest c.in_ok-rest.ensures.longer c.requires.inside left) c.after_new_ways.ensures.left
 
-pub after_new_ways-after_few-requires-clause-ready : goal.after_new_ways-after_few-requires-clause-ready
-after_new_ways-after_few-requires-clause-ready t c =
+pub after_new_ways-left_by_few-rest-requires-clause-ready : goal.after_new_ways-left_by_few-rest-requires-clause-ready
+after_new_ways-left_by_few-rest-requires-clause-ready t c =
     ready_longer c.args.context.now.grammar.now c.args.table.now c.ways_for.new.table c.args.context.now.numbers.now c.in_ok-ways.ensures.longer
     c.requires.ready
 
 pub after_new_ways-returns-in-Some-clause-known : goal.after_new_ways-returns-in-Some-clause-known
 after_new_ways-returns-in-Some-clause-known t c =
-    all_longer c.args.context.now.grammar.now c.args.context.now.keys.now c.ways_for.new.table c.after_few.new.table c.in_ok-rest.ensures.longer
+    all_longer c.args.context.now.grammar.now c.args.context.now.keys.now c.ways_for.new.table c.told_by.new.table c.in_ok-rest.ensures.longer
     c.ways_for.new.known c.in_ok-ways.ensures.known
+
+pub after_new_ways-left_by_few-rest-requires-clause-inside : goal.after_new_ways-left_by_few-rest-requires-clause-inside
+after_new_ways-left_by_few-rest-requires-clause-inside t c =
+    subst (AreInside c.ways_for.new.table) (sym c.as_slice.ensures) (asked_inside c.args.context.now.grammar.now c.args.context.now.keys.now
+    c.args.table.now c.ways_for.new.table c.in_ok-ways.ensures.longer c.args.first c.args.number c.requires.inside c.in_ok-ways.ways.items c.in_ok-ways.ensures.ways)
+
+pub after_new_ways-told_by-requires : goal.after_new_ways-told_by-requires
+after_new_ways-told_by-requires t c =
+    let t0 = c.args.context.now.grammar.now in
+    let new = c.ways_for.new.table in
+    let rest = c.left_by_few-rest in
+    record {
+      inside = rest_inside t0 new c.args.first (tree_of t0 new c.args.number.0) rest.result
+          (new_settled t0 c.args.context.now.keys.now c.args.table.now new c.in_ok-ways.ensures.longer c.args.first c.args.number c.requires.inside
+          c.in_ok-ways.ways.items c.in_ok-ways.ensures.ways rest.result
+          (subst (λ ws. AreLeft t0 new c.args.first ws rest.result) c.as_slice.ensures rest.ensures));
+    }
 
 pub after_new_ways-returns-in-Some-clause-left : goal.after_new_ways-returns-in-Some-clause-left
 after_new_ways-returns-in-Some-clause-left t c =
-    left_earlier c.args.context.now.grammar.now c.args.table.now c.ways_for.new.table c.after_few.new.table c.args.first c.args.number c.in-Some.rest
-    c.in_ok-ways.ensures.longer c.requires.inside
-    (subst (λ o. IfSome o (IsLeft c.args.context.now.grammar.now c.ways_for.new.table c.after_few.new.table c.args.first c.args.number)) c.in-Some.is
-    c.in_ok-rest.ensures.left)
+    let t0 = c.args.context.now.grammar.now in
+    let new = c.ways_for.new.table in
+    let rest = c.left_by_few-rest in
+    left_earlier t0 c.args.table.now new c.told_by.new.table c.args.first c.args.number c.in-Some.rest c.in_ok-ways.ensures.longer c.requires.inside
+    (told t0 new c.told_by.new.table c.args.first c.args.number rest.result c.in_ok-rest.field-0 c.in-Some.rest c.in-Some.is c.in_ok-rest.ensures.left
+    (new_settled t0 c.args.context.now.keys.now c.args.table.now new c.in_ok-ways.ensures.longer c.args.first c.args.number c.requires.inside
+    c.in_ok-ways.ways.items c.in_ok-ways.ensures.ways rest.result (subst (λ ws. AreLeft t0 new c.args.first ws rest.result) c.as_slice.ensures rest.ensures)))
 
 pub after_new_ways-after_taken_plan-requires : goal.after_new_ways-after_taken_plan-requires
 after_new_ways-after_taken_plan-requires t c =
@@ -459,7 +493,7 @@ after_new_ways-after_taken_plan-requires t c =
     let keys = c.args.context.now.keys.now in
     let old = c.args.table.now in
     let n1 = c.ways_for.new.table in
-    let n2 = c.after_few.new.table in
+    let n2 = c.told_by.new.table in
     let longer = c.in_ok-ways.ensures.longer in
     let longer' = c.in_ok-rest.ensures.longer in
     let ready = ready_longer t0 old n2 c.args.context.now.numbers.now (Longer-trans old n1 n2 longer longer') c.requires.ready in
@@ -481,8 +515,8 @@ pub after_new_ways-returns-clause-left : goal.after_new_ways-returns-clause-left
 after_new_ways-returns-clause-left t c =
     let t0 = c.args.context.now.grammar.now in
     let old = c.args.table.now in
-    let longer = Longer-trans old c.ways_for.new.table c.after_few.new.table c.in_ok-ways.ensures.longer c.in_ok-rest.ensures.longer in
-    if_ok c.after_taken_plan.result _ _ (λ rest left. left_earlier t0 old c.after_few.new.table c.after_taken_plan.new.table c.args.first
+    let longer = Longer-trans old c.ways_for.new.table c.told_by.new.table c.in_ok-ways.ensures.longer c.in_ok-rest.ensures.longer in
+    if_ok c.after_taken_plan.result _ _ (λ rest left. left_earlier t0 old c.told_by.new.table c.after_taken_plan.new.table c.args.first
     c.args.number rest longer c.requires.inside (left c.args.number c.asked-asked.ensures)) c.after_taken_plan.ensures.left
 
 pub after_plan-tests-requires : goal.after_plan-tests-requires
