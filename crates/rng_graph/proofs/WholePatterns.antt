@@ -3,7 +3,8 @@ use Rattle.std.proofs.Common.{◌≡◌, refl, ap, ap₂, sym, ◌∙◌, ℕ, �
 use Rattle.std.proofs.Common.{length-append}
 use Rattle.std.specs.List.{fold}
 use Rattle.std.proofs.Math.Seq.{take-nil}
-use Rattle.std.proofs.lemmas.List.{take_all, take-append-le, take-append-drop, drop-append-le, drop-drop, drop-take, length-take-le, length-drop, same_from_push, drop_more, drop_all, take-take}
+use Rattle.std.proofs.lemmas.List.{take_all, take-append-le, take-append-drop, drop-append-le, drop-drop, drop-take, length-take-le}
+use Rattle.std.proofs.lemmas.List.{length-drop, same_from_push, drop_more, drop_all, take-take}
 use Rattle.std.proofs.lemmas.List.Sums.{fold-append}
 use Rattle.rng_model.specs.simple.Tree.{Tree}
 use Rattle.rng_model.specs.declared.schema_pattern.SchemaRow.{SchemaRow}

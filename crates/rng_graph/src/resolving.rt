@@ -75,7 +75,11 @@ impl<'a> Scope<'a> {
             SchemaRow::Attribute(class) => around(GraphRow::Attribute(class), children, rows),
             SchemaRow::List => around(GraphRow::List, children, rows),
             SchemaRow::Data(datatype) => put(rows, GraphRow::Data(datatype)),
-            SchemaRow::DataExcept(datatype) => around(GraphRow::DataExcept(datatype), children, rows),
+            SchemaRow::DataExcept(datatype) => around(
+                GraphRow::DataExcept(datatype),
+                children,
+                rows,
+            ),
             SchemaRow::Value(value) => put(rows, GraphRow::Value(value)),
             SchemaRow::Mixed => around(GraphRow::Mixed, children, rows),
             SchemaRow::Optional => around(GraphRow::Optional, children, rows),
@@ -93,11 +97,7 @@ impl<'a> Scope<'a> {
                 numbering,
             ),
             SchemaRow::ParentRef(name) => self.look_up_outside(name.as_str(), rows, numbering),
-            SchemaRow::Grammar(place) => look_up(
-                Definition { place, name: None },
-                rows,
-                numbering,
-            ),
+            SchemaRow::Grammar(place) => look_up(Definition { place, name: None }, rows, numbering),
             SchemaRow::External => put_missing(rows, children),
         }
     }

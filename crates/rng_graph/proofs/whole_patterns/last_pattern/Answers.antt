@@ -11,10 +11,12 @@ returns-then-is_empty-clause-last c =
     λ ts t e. absurd (none_last c.args.rows.now none ts t e)
 
 pub rows-init : goal.rows-init
-rows-init c = record {
-  within = search rules;
-  takes = subst (Takes c.args.rows.now _) (sym c.arity-missing.ensures) (last_row c.args.rows.now _ c.index-rows-begin.result (search rules) c.index-rows-begin.is);
-}
+rows-init c =
+    let takes = last_row c.args.rows.now _ c.index-rows-begin.result (search rules) c.index-rows-begin.is in
+    record {
+      within = search rules;
+      takes = subst (Takes c.args.rows.now _) (sym c.arity-missing.ensures) takes;
+    }
 
 pub rows-preserved : goal.rows-preserved
 rows-preserved c =
