@@ -52,7 +52,6 @@ impl<'a> Scope<'a> {
 
     /// Appends the row, whose children are so many of the last patterns. The row of an element takes the rows of its
     /// body away.
-    #[tactic(auto, unfolding(crate::specs::plain::Resolving::looked_up_outside))]
     fn row(
         &self,
         row: &'a SchemaRow,
@@ -104,7 +103,6 @@ impl<'a> Scope<'a> {
 
     /// Appends the row of a name of the grammar around, or of `notAllowed` if no grammar is around.
     #[tactic(auto, unfolding(crate::specs::plain::Resolving::looked_up_outside))]
-    #[inline(never)]
     fn look_up_outside(
         &self,
         name: &'a str,
@@ -130,7 +128,6 @@ impl<'a> Scope<'a> {
 }
 
 /// Appends the row of a definition.
-#[inline(never)]
 fn look_up<'a>(
     definition: Definition<'a>,
     rows: &mut Vec<GraphRow<'a>>,
@@ -144,7 +141,6 @@ fn look_up<'a>(
 }
 
 /// Appends the row of a pattern without children.
-#[inline(never)]
 #[tactic(auto, using(crate::proofs::Forests::leaf_put))]
 fn put<'a>(rows: &mut Vec<GraphRow<'a>>, row: GraphRow<'a>) -> Result<(), OutOfMemory>
     requires { arity row ≡ 0 }
@@ -154,7 +150,6 @@ fn put<'a>(rows: &mut Vec<GraphRow<'a>>, row: GraphRow<'a>) -> Result<(), OutOfM
 }
 
 /// Appends the row of a pattern that joins the ones before it.
-#[inline(never)]
 #[tactic(auto, using(crate::proofs::Forests::row_put))]
 fn join<'a>(rows: &mut Vec<GraphRow<'a>>, row: GraphRow<'a>) -> Result<(), OutOfMemory>
     ensures { OnOk result (forest rows.new.items ≡ with_row (forest rows.old.items) row.entry) }
@@ -175,7 +170,6 @@ fn put_missing(rows: &mut Vec<GraphRow<'_>>, count: usize) -> Result<(), OutOfMe
 }
 
 /// Appends the row around the last pattern. That one is `notAllowed` if it is missing.
-#[inline(never)]
 fn around<'a>(
     outside: GraphRow<'a>,
     children: usize,
@@ -193,7 +187,6 @@ fn around<'a>(
 
 /// Appends the row of an element with names of this class, whose body is the last pattern. The element gets the next
 /// number and takes the rows of its body. The body is `notAllowed` if it is missing.
-#[inline(never)]
 fn element<'a>(
     class: &'a NameClass,
     children: usize,
