@@ -32,3 +32,5 @@ pub mod GraphSteps
 pub mod ElementsApart
 pub mod SchemaGraphs
 pub mod ReadySchemas
+pub mod WholePatterns
+pub mod ResolvedRows

@@ -12,7 +12,8 @@ use Rattle.rng_graph.specs.views.GraphView.{arity, child, combined, forest, memb
 use Rattle.rng_graph.specs.declared.graph.GraphRow.{GraphRow}
 use Rattle.rng_graph.specs.declared.graph.GraphRow.TheVariants as row
 use Rattle.rng_graph.specs.plain.MemberDepths.{nested_class_depth, members_depth, row_depth}
-use Rattle.rng_graph.proofs.Forests.{first_seen, last_seen, next_row, replaced_seen}
+use Rattle.rng_model.proofs.ReplacedLists.{first_seen, last_seen, replaced_seen}
+use Rattle.rng_graph.proofs.Forests.{next_row}
 
 -- ---- name classes
 

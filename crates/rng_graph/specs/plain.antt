@@ -9,5 +9,6 @@ pub mod Met
 pub mod ReadySchema
 pub mod ResolvedBody
 pub mod ResolvedElements
+pub mod ResolvedRows
 pub mod Resolving
 pub mod Search

@@ -1,6 +1,5 @@
 -- Views of types, and invariants.
 pub mod ComponentTable
-pub mod Connectors
 pub mod Definitions
 pub mod ExpansionOrder
 pub mod GraphView

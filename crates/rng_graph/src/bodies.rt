@@ -50,6 +50,7 @@ impl<'a> Scope<'a> {
         for component in components {
             self.pattern(&component.pattern, &mut rows, numbering)?;
         }
+        rows.shrink_to_fit();
         Ok(rows)
     }
 }

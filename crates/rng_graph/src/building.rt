@@ -22,7 +22,7 @@ use std::alloc::Global;
 /// Builds the graph of a schema: the definitions and the elements that are met from its start, by number.
 ///
 /// The grammars of the schema must have starts, and its refs must have definitions. Fails only when out of memory.
-/// Takes linear time, apart from hash collisions. Recurses as deep as a pattern nests.
+/// Takes linear time, apart from hash collisions.
 ///
 /// RELAX NG Specification, sections 4.17 to 4.19.
 pub fn schema_graph<'a>(alloc: Global, schema: &'a Schema) -> Result<Graph<'a>, OutOfMemory>

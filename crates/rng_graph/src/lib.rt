@@ -16,6 +16,7 @@ mod graph;
 mod mentions;
 mod order;
 mod resolving;
+mod whole_patterns;
 
 pub use building::schema_graph;
 pub use expansion::expansion_order;

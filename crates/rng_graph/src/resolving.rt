@@ -1,44 +1,20 @@
 // From the patterns of a schema to the rows of its graph.
-ghost use Rattle.std.specs.Prelude.{◌≡◌, ◌∷◌, ◌++◌, [], List, OnOk, map, option_map};
+ghost use Rattle.std.specs.Prelude.{◌≡◌, ◌≤◌, ◌∷◌, ◌++◌, ◌-◌, [], List, OnOk, length, take, drop, option_map};
 ghost use Rattle.rng_model.specs.simple.Tree.{Tree};
-ghost use Rattle.rng_model.specs.schema.Patterns as schema;
-ghost use Rattle.rng_model.specs.views.SchemaView.{place_of, schema_pattern_of};
+ghost use Rattle.rng_model.specs.views.ReplacedLists.{replaced};
+ghost use Rattle.rng_model.specs.views.SchemaView.{place_of, row_arity, schema_pattern_of};
 ghost use Rattle.rng_model.specs.names.NameViews.{class_of};
-ghost use Rattle.rng_graph.specs.views.Connectors.{connector_of};
 ghost use Rattle.rng_graph.specs.views.Definitions.{definition_of, numbering_of};
-ghost use Rattle.rng_graph.specs.views.GraphView.{arity, forest, members, row_tree};
+ghost use Rattle.rng_graph.specs.views.GraphView.{arity, child, forest, row_tree, with_row};
 ghost use Rattle.rng_graph.specs.plain.Graph.{Spot};
-ghost use Rattle.rng_graph.specs.plain.Resolving.{looked_up, looked_up_outside, resolve, with_element, within};
+ghost use Rattle.rng_graph.specs.plain.Resolving.{looked_up, looked_up_outside, resolve, with_element};
+ghost use Rattle.rng_graph.specs.plain.ResolvedRows.{in_place, with_resolved};
 
 use crate::definitions::{Definition, Numbering, number};
 use crate::graph::{GraphElement, GraphRow};
-use rng_model::{NameClass, OutOfMemory, Place, SchemaPattern};
+use crate::whole_patterns::{first_pattern, last_pattern};
+use rng_model::{NameClass, OutOfMemory, Place, SchemaPattern, SchemaRow};
 use std::alloc::Global;
-
-/// The connector between the members of a list.
-#[derive(Clone, Copy)]
-pub(crate) enum Connector {
-    /// `,`
-    Group,
-    /// `&`
-    Interleave,
-    /// `|`
-    Choice,
-}
-
-impl Connector {
-    /// The row that joins so many members.
-    fn row<'a>(self, count: usize) -> GraphRow<'a>
-        ensures arity { arity result ≡ count }
-        ensures tree { (ts : List (Tree Spot)) → row_tree result ts ≡ members (connector_of self) ts }
-    {
-        match self {
-            Connector::Group => GraphRow::Group(count),
-            Connector::Interleave => GraphRow::Interleave(count),
-            Connector::Choice => GraphRow::Choice(count),
-        }
-    }
-}
 
 /// The scope of a pattern: the place of its grammar, and the place of the grammar around that one.
 #[derive(Clone, Copy)]
@@ -50,11 +26,9 @@ pub(crate) struct Scope<'a> {
 
 impl<'a> Scope<'a> {
     /// Appends the rows of the pattern, with numbers in place of its elements and of the definitions that it refers to.
-    /// New ones get numbers.
+    /// New ones get numbers. Takes linear time, apart from hash collisions.
     ///
     /// RELAX NG Specification, sections 4.18 and 4.19.
-    #[cycle(resolving)]
-    #[tactic(auto, unfolding(crate::specs::plain::Resolving::resolve))]
     pub(crate) fn pattern(
         &self,
         pattern: &'a SchemaPattern,
@@ -66,50 +40,54 @@ impl<'a> Scope<'a> {
         ensures numbering { OnOk result (numbering_of numbering.new
             ≡ (resolve (place_of self.now.place.now) (option_map (λ z. place_of z.now) self.now.outer) (schema_pattern_of pattern.now) (numbering_of numbering.old)).1) }
     {
-        match pattern {
-            SchemaPattern::NotAllowed => put(rows, GraphRow::NotAllowed),
-            SchemaPattern::Empty => put(rows, GraphRow::Empty),
-            SchemaPattern::Text => put(rows, GraphRow::Text),
-            SchemaPattern::Element(class, body) => self.element(body, class, rows, numbering),
-            SchemaPattern::Attribute(class, body) => self.around(
-                GraphRow::Attribute(class),
-                body,
+        let first = first_pattern(pattern.rows.as_slice());
+        let mut count = 0;
+        for row in first {
+            let children = row.arity().min(count);
+            self.row(row, children, rows, numbering)?;
+            count = count - children + 1;
+        }
+        put_missing(rows, count)
+    }
+
+    /// Appends the row, whose children are so many of the last patterns. The row of an element takes the rows of its
+    /// body away.
+    fn row(
+        &self,
+        row: &'a SchemaRow,
+        children: usize,
+        rows: &mut Vec<GraphRow<'a>>,
+        numbering: &mut Numbering<'a>,
+    ) -> Result<(), OutOfMemory>
+        requires arity { children ≤ row_arity row.now }
+        requires there { children ≤ length (forest rows.old.items) }
+        ensures patterns { OnOk result (forest rows.new.items
+            ≡ (with_resolved (place_of self.now.place.now) (option_map (λ z. place_of z.now) self.now.outer) row.now children (forest rows.old.items) (numbering_of numbering.old)).0) }
+        ensures numbering { OnOk result (numbering_of numbering.new
+            ≡ (with_resolved (place_of self.now.place.now) (option_map (λ z. place_of z.now) self.now.outer) row.now children (forest rows.old.items) (numbering_of numbering.old)).1) }
+    {
+        match row {
+            SchemaRow::NotAllowed => put(rows, GraphRow::NotAllowed),
+            SchemaRow::Empty => put(rows, GraphRow::Empty),
+            SchemaRow::Text => put(rows, GraphRow::Text),
+            SchemaRow::Element(class) => element(class, children, rows, numbering),
+            SchemaRow::Attribute(class) => around(GraphRow::Attribute(class), children, rows),
+            SchemaRow::List => around(GraphRow::List, children, rows),
+            SchemaRow::Data(datatype) => put(rows, GraphRow::Data(datatype)),
+            SchemaRow::DataExcept(datatype) => around(
+                GraphRow::DataExcept(datatype),
+                children,
                 rows,
-                numbering,
             ),
-            SchemaPattern::List(body) => self.around(GraphRow::List, body, rows, numbering),
-            SchemaPattern::Data {
-                datatype,
-                except: None,
-            } => put(rows, GraphRow::Data(datatype)),
-            SchemaPattern::Data {
-                datatype,
-                except: Some(except),
-            } => self.around(GraphRow::DataExcept(datatype), except, rows, numbering),
-            SchemaPattern::Value(value) => put(rows, GraphRow::Value(value)),
-            SchemaPattern::Mixed(body) => self.around(GraphRow::Mixed, body, rows, numbering),
-            SchemaPattern::Optional(body) => self.around(GraphRow::Optional, body, rows, numbering),
-            SchemaPattern::ZeroOrMore(body) => self.around(
-                GraphRow::ZeroOrMore,
-                body,
-                rows,
-                numbering,
-            ),
-            SchemaPattern::OneOrMore(body) => self.around(
-                GraphRow::OneOrMore,
-                body,
-                rows,
-                numbering,
-            ),
-            SchemaPattern::Group(all) => self.members(Connector::Group, all, rows, numbering),
-            SchemaPattern::Interleave(all) => self.members(
-                Connector::Interleave,
-                all,
-                rows,
-                numbering,
-            ),
-            SchemaPattern::Choice(all) => self.members(Connector::Choice, all, rows, numbering),
-            SchemaPattern::Ref(name) => look_up(
+            SchemaRow::Value(value) => put(rows, GraphRow::Value(value)),
+            SchemaRow::Mixed => around(GraphRow::Mixed, children, rows),
+            SchemaRow::Optional => around(GraphRow::Optional, children, rows),
+            SchemaRow::ZeroOrMore => around(GraphRow::ZeroOrMore, children, rows),
+            SchemaRow::OneOrMore => around(GraphRow::OneOrMore, children, rows),
+            SchemaRow::Group(_) => join(rows, GraphRow::Group(children)),
+            SchemaRow::Interleave(_) => join(rows, GraphRow::Interleave(children)),
+            SchemaRow::Choice(_) => join(rows, GraphRow::Choice(children)),
+            SchemaRow::Ref(name) => look_up(
                 Definition {
                     place: self.place,
                     name: Some(name.as_str()),
@@ -117,89 +95,14 @@ impl<'a> Scope<'a> {
                 rows,
                 numbering,
             ),
-            SchemaPattern::ParentRef(name) => self.look_up_outside(name.as_str(), rows, numbering),
-            SchemaPattern::Grammar(place) => look_up(
-                Definition { place, name: None },
-                rows,
-                numbering,
-            ),
-            SchemaPattern::External(body) => self.pattern(body, rows, numbering),
+            SchemaRow::ParentRef(name) => self.look_up_outside(name.as_str(), rows, numbering),
+            SchemaRow::Grammar(place) => look_up(Definition { place, name: None }, rows, numbering),
+            SchemaRow::External => put_missing(rows, children),
         }
-    }
-
-    /// Appends the rows of an element with names of this class. The element gets the next number after those of its
-    /// body.
-    #[cycle(resolving)]
-    #[inline(never)]
-    fn element(
-        &self,
-        body: &'a SchemaPattern,
-        class: &'a NameClass,
-        rows: &mut Vec<GraphRow<'a>>,
-        numbering: &mut Numbering<'a>,
-    ) -> Result<(), OutOfMemory>
-        ensures pattern { OnOk result (forest rows.new.items ≡ forest rows.old.items
-            ++ (with_element (class_of class.now) (resolve (place_of self.now.place.now) (option_map (λ z. place_of z.now) self.now.outer)
-            (schema_pattern_of body.now) (numbering_of numbering.old))).0 ∷ []) }
-        ensures numbering { OnOk result (numbering_of numbering.new
-            ≡ (with_element (class_of class.now) (resolve (place_of self.now.place.now) (option_map (λ z. place_of z.now) self.now.outer)
-            (schema_pattern_of body.now) (numbering_of numbering.old))).1) }
-    {
-        let mut content = Vec::with_capacity(self.alloc, 1)?;
-        self.pattern(body, &mut content, numbering)?;
-        let number = numbering.elements.len();
-        numbering.elements.push(GraphElement { class, content })?;
-        put(rows, GraphRow::Element(number))
-    }
-
-    /// Appends the rows of the only child, and the row around it.
-    #[cycle(resolving)]
-    #[inline(never)]
-    fn around(
-        &self,
-        outside: GraphRow<'a>,
-        child: &'a SchemaPattern,
-        rows: &mut Vec<GraphRow<'a>>,
-        numbering: &mut Numbering<'a>,
-    ) -> Result<(), OutOfMemory>
-        requires single { arity outside ≡ 1 }
-        ensures pattern { OnOk result (forest rows.new.items ≡ forest rows.old.items
-            ++ row_tree outside.entry ((resolve (place_of self.now.place.now) (option_map (λ z. place_of z.now) self.now.outer)
-            (schema_pattern_of child.now) (numbering_of numbering.old)).0 ∷ []) ∷ []) }
-        ensures numbering { OnOk result (numbering_of numbering.new
-            ≡ (resolve (place_of self.now.place.now) (option_map (λ z. place_of z.now) self.now.outer)
-            (schema_pattern_of child.now) (numbering_of numbering.old)).1) }
-    {
-        self.pattern(child, rows, numbering)?;
-        Ok(rows.push(outside)?)
-    }
-
-    /// Appends the rows of the members, in order, and the row that joins them.
-    #[cycle(resolving)]
-    #[inline(never)]
-    fn members(
-        &self,
-        connector: Connector,
-        patterns: &'a [SchemaPattern],
-        rows: &mut Vec<GraphRow<'a>>,
-        numbering: &mut Numbering<'a>,
-    ) -> Result<(), OutOfMemory>
-        ensures pattern { OnOk result (forest rows.new.items ≡ forest rows.old.items
-            ++ (resolve (place_of self.now.place.now) (option_map (λ z. place_of z.now) self.now.outer)
-            (schema.members (connector_of connector) (map schema_pattern_of patterns.now)) (numbering_of numbering.old)).0 ∷ []) }
-        ensures numbering { OnOk result (numbering_of numbering.new
-            ≡ (resolve (place_of self.now.place.now) (option_map (λ z. place_of z.now) self.now.outer)
-            (schema.members (connector_of connector) (map schema_pattern_of patterns.now)) (numbering_of numbering.old)).1) }
-    {
-        for pattern in patterns {
-            self.pattern(pattern, rows, numbering)?;
-        }
-        Ok(rows.push(connector.row(patterns.len()))?)
     }
 
     /// Appends the row of a name of the grammar around, or of `notAllowed` if no grammar is around.
     #[tactic(auto, unfolding(crate::specs::plain::Resolving::looked_up_outside))]
-    #[inline(never)]
     fn look_up_outside(
         &self,
         name: &'a str,
@@ -225,7 +128,6 @@ impl<'a> Scope<'a> {
 }
 
 /// Appends the row of a definition.
-#[inline(never)]
 fn look_up<'a>(
     definition: Definition<'a>,
     rows: &mut Vec<GraphRow<'a>>,
@@ -239,11 +141,68 @@ fn look_up<'a>(
 }
 
 /// Appends the row of a pattern without children.
-#[inline(never)]
 #[tactic(auto, using(crate::proofs::Forests::leaf_put))]
 fn put<'a>(rows: &mut Vec<GraphRow<'a>>, row: GraphRow<'a>) -> Result<(), OutOfMemory>
     requires { arity row ≡ 0 }
     ensures { OnOk result (forest rows.new.items ≡ forest rows.old.items ++ row_tree row.entry [] ∷ []) }
 {
     Ok(rows.push(row)?)
+}
+
+/// Appends the row of a pattern that joins the ones before it.
+#[tactic(auto, using(crate::proofs::Forests::row_put))]
+fn join<'a>(rows: &mut Vec<GraphRow<'a>>, row: GraphRow<'a>) -> Result<(), OutOfMemory>
+    ensures { OnOk result (forest rows.new.items ≡ with_row (forest rows.old.items) row.entry) }
+{
+    Ok(rows.push(row)?)
+}
+
+/// Appends `notAllowed` if a pattern that has to be there, as the last one, is missing.
+fn put_missing(rows: &mut Vec<GraphRow<'_>>, count: usize) -> Result<(), OutOfMemory>
+    requires single { count ≤ 1 }
+    requires there { count ≤ length (forest rows.old.items) }
+    ensures { OnOk result (forest rows.new.items ≡ replaced count child (forest rows.old.items)) }
+{
+    if count > 0 {
+        return Ok(());
+    }
+    put(rows, GraphRow::NotAllowed)
+}
+
+/// Appends the row around the last pattern. That one is `notAllowed` if it is missing.
+fn around<'a>(
+    outside: GraphRow<'a>,
+    children: usize,
+    rows: &mut Vec<GraphRow<'a>>,
+) -> Result<(), OutOfMemory>
+    requires arity { arity outside ≡ 1 }
+    requires single { children ≤ 1 }
+    requires there { children ≤ length (forest rows.old.items) }
+    ensures { OnOk result (forest rows.new.items
+        ≡ replaced children (λ us. row_tree outside.entry (child us ∷ [])) (forest rows.old.items)) }
+{
+    put_missing(rows, children)?;
+    Ok(rows.push(outside)?)
+}
+
+/// Appends the row of an element with names of this class, whose body is the last pattern. The element gets the next
+/// number and takes the rows of its body. The body is `notAllowed` if it is missing.
+fn element<'a>(
+    class: &'a NameClass,
+    children: usize,
+    rows: &mut Vec<GraphRow<'a>>,
+    numbering: &mut Numbering<'a>,
+) -> Result<(), OutOfMemory>
+    requires single { children ≤ 1 }
+    requires there { children ≤ length (forest rows.old.items) }
+    ensures patterns { OnOk result (forest rows.new.items
+        ≡ (in_place children (λ us. with_element (class_of class.now) (child us, numbering_of numbering.old)) (forest rows.old.items)).0) }
+    ensures numbering { OnOk result (numbering_of numbering.new
+        ≡ (in_place children (λ us. with_element (class_of class.now) (child us, numbering_of numbering.old)) (forest rows.old.items)).1) }
+{
+    put_missing(rows, children)?;
+    let content = rows.split_off(last_pattern(rows.as_slice()))?;
+    let number = numbering.elements.len();
+    numbering.elements.push(GraphElement { class, content })?;
+    put(rows, GraphRow::Element(number))
 }

@@ -12,7 +12,8 @@ use Rattle.rng_graph.specs.plain.Graph.{Spot, of_spot}
 use Rattle.rng_graph.specs.views.GraphView.{arity, child, combined, forest, members, row_tree, trees_of}
 use Rattle.rng_graph.specs.declared.graph.GraphRow.{GraphRow}
 use Rattle.rng_graph.specs.declared.graph.GraphRow.TheVariants as row
-use Rattle.rng_graph.proofs.Forests.{last_seen, next_row, replaced_seen}
+use Rattle.rng_model.proofs.ReplacedLists.{last_seen, replaced_seen}
+use Rattle.rng_graph.proofs.Forests.{next_row}
 use Rattle.rng_model.specs.datatypes.DatatypeViews.{datatype_of}
 use Rattle.rng_model.specs.names.NameViews.{class_of}
 use Rattle.rng_simple.specs.declared.rows.Row.TheVariants as simple

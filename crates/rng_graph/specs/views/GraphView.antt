@@ -1,5 +1,5 @@
 -- Views of the parts of a graph, without their place in memory. A list of rows is viewed as the trees that it is made of.
-use Rattle.std.specs.Prelude.{ℕ, ◌-◌, List, [], ◌∷◌, ◌++◌, map, length, take, drop, slice_index_or, string_bytes}
+use Rattle.std.specs.Prelude.{ℕ, List, [], ◌∷◌, map, slice_index_or, string_bytes}
 use Rattle.std.specs.List.{fold}
 use Rattle.std.proofs.Common.{Vec, Global}
 use Rattle.rng_model.specs.names.Names as names
@@ -9,6 +9,7 @@ use Rattle.rng_model.specs.schema.Patterns.{without_parameters}
 use Rattle.rng_model.specs.schema.Schema.{nested_from}
 use Rattle.rng_model.specs.datatypes.DatatypeViews.{datatype_of}
 use Rattle.rng_model.specs.names.NameViews.{class_of}
+use Rattle.rng_model.specs.views.ReplacedLists.{replaced}
 use Rattle.rng_graph.specs.plain.Graph.{Spot, at_element, at_definition, Graph}
 use Rattle.rng_graph.specs.declared.graph.GraphRow.{GraphRow}
 use Rattle.rng_graph.specs.declared.graph.GraphRow.TheVariants as row
@@ -71,10 +72,6 @@ row_tree row.OneOrMore ts = one_or_more (child ts)
 row_tree (row.Group n) ts = members group ts
 row_tree (row.Interleave n) ts = members interleave ts
 row_tree (row.Choice n) ts = members choice ts
-
--- the last n members replaced by what is made of them; all members, if there are fewer
-abbrev pub replaced : {A : Type 0} → ℕ → (List A → A) → List A → List A
-replaced n make xs = take (length xs - n) xs ++ make (drop (length xs - n) xs) ∷ []
 
 abbrev pub with_row : List (Tree Spot) → GraphRow → List (Tree Spot)
 with_row ts r = replaced (arity r) (row_tree r) ts

@@ -2,7 +2,8 @@ use Rattle.std.proofs.Common.{◌≡◌, ◌∙◌, ◌-◌, ◌++◌, ◌∷◌
 use Rattle.rng_graph.specs.plain.DepthWith.{depth_with}
 use Rattle.rng_graph.specs.plain.MemberDepths.{depth_at_spot}
 use Rattle.rng_graph.specs.views.GraphView.{arity}
-use Rattle.rng_graph.proofs.Forests.{no_rows, rest_from}
+use Rattle.rng_model.proofs.ReplacedLists.{rest_from}
+use Rattle.rng_graph.proofs.Forests.{no_rows}
 use Rattle.rng_graph.proofs.MemberDepths.{next_depths}
 use Rattle.rng_graph.proofs.depth.put_depths.Goals as goal
 

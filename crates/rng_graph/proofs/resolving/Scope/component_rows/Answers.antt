@@ -22,7 +22,8 @@ loop-component-preserved c =
 
 pub returns-clause-patterns : goal.returns-clause-patterns
 returns-clause-patterns c =
-    all_patterns (λ c. (schema_component_of c.now).pattern) c.args.components.now c.loop-component.component-index
+    ap forest c.shrink_to_fit.ensures.items
+    ∙ all_patterns (λ c. (schema_component_of c.now).pattern) c.args.components.now c.loop-component.component-index
     (forest c.loop-component.rows.items) (numbering_of c.loop-component.numbering) c.loop-component-test.false c.loop-component.invariant
 
 pub returns-clause-numbering : goal.returns-clause-numbering
