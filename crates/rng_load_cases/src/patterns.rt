@@ -1,143 +1,149 @@
 // Patterns of a schema, printed.
-use rng_model::{Datatype, NameClass, Place, SchemaPattern};
+use rng_model::{Datatype, NameClass, Place, SchemaPattern, SchemaRow};
+use std::alloc::Global;
 use std::io;
 
 /// Prints a place, a `/` before each of its numbers, the outermost first; `/` for the main grammar.
 pub fn print_place(rt: &(impl Print + AllocGlobal), place: &Place) -> io::Result<()> {
-    let Ok(numbers) = place.to_numbers(rt.alloc()) else {
-        return print!(rt; "out of memory");
-    };
-    if numbers.is_empty() {
-        return print!(rt; "/");
-    }
-    for number in &numbers {
-        print!(rt; "/{number}")?;
-    }
-    Ok(())
+    let text = place_text(rt.alloc(), place)?;
+    print!(rt; "{text}")
 }
 
 /// Prints a pattern, members in parentheses.
-#[cycle(patterns)]
 pub fn print_pattern(rt: &(impl Print + AllocGlobal), pattern: &SchemaPattern) -> io::Result<()> {
-    match pattern {
-        SchemaPattern::NotAllowed => print!(rt; "notAllowed"),
-        SchemaPattern::Empty => print!(rt; "empty"),
-        SchemaPattern::Text => print!(rt; "text"),
-        SchemaPattern::Element(class, body) => {
-            print!(rt; "element ")?;
-            print_class(rt, class)?;
-            print_in_braces(rt, "", body)
+    let mut texts = Vec::new(rt.alloc());
+    for row in &pattern.rows {
+        let start = texts.len().saturating_sub(row.arity());
+        let text = row_text(rt.alloc(), row, &texts[start..])?;
+        texts.truncate(start);
+        texts.push(text)?;
+    }
+    print!(rt; "{}", first(texts.as_slice()))
+}
+
+/// Returns the first text, or that of `notAllowed` if there is none.
+fn first(texts: &[String]) -> &str {
+    match texts {
+        [text, ..] => text.as_str(),
+        [] => "notAllowed",
+    }
+}
+
+/// Returns the text of the pattern of a row, given those of its children.
+fn row_text(alloc: Global, row: &SchemaRow, children: &[String]) -> io::Result<String> {
+    match row {
+        SchemaRow::NotAllowed => text(alloc, "notAllowed"),
+        SchemaRow::Empty => text(alloc, "empty"),
+        SchemaRow::Text => text(alloc, "text"),
+        SchemaRow::Element(class) => {
+            let class = class_text(alloc, class)?;
+            Ok(format!(in alloc; "element {class} {{ {} }}", first(children))?)
         }
-        SchemaPattern::Attribute(class, body) => {
-            print!(rt; "attribute ")?;
-            print_class(rt, class)?;
-            print_in_braces(rt, "", body)
+        SchemaRow::Attribute(class) => {
+            let class = class_text(alloc, class)?;
+            Ok(format!(in alloc; "attribute {class} {{ {} }}", first(children))?)
         }
-        SchemaPattern::List(inner) => print_in_braces(rt, "list", inner),
-        SchemaPattern::Mixed(inner) => print_in_braces(rt, "mixed", inner),
-        SchemaPattern::External(inner) => print_in_braces(rt, "external", inner),
-        SchemaPattern::Optional(inner) => print_repeated(rt, inner, "?"),
-        SchemaPattern::ZeroOrMore(inner) => print_repeated(rt, inner, "*"),
-        SchemaPattern::OneOrMore(inner) => print_repeated(rt, inner, "+"),
-        SchemaPattern::Group(members) => print_members(rt, members, ", "),
-        SchemaPattern::Interleave(members) => print_members(rt, members, " & "),
-        SchemaPattern::Choice(members) => print_members(rt, members, " | "),
-        SchemaPattern::Data { datatype, except } => {
-            print_datatype(rt, datatype)?;
-            match except {
-                Some(inner) => print_in_braces(rt, " -", inner),
-                None => Ok(()),
-            }
+        SchemaRow::List => text_in_braces(alloc, "list", children),
+        SchemaRow::Mixed => text_in_braces(alloc, "mixed", children),
+        SchemaRow::External => text_in_braces(alloc, "external", children),
+        SchemaRow::Optional => Ok(format!(in alloc; "{}?", first(children))?),
+        SchemaRow::ZeroOrMore => Ok(format!(in alloc; "{}*", first(children))?),
+        SchemaRow::OneOrMore => Ok(format!(in alloc; "{}+", first(children))?),
+        SchemaRow::Group(_) => members_text(alloc, children, ", "),
+        SchemaRow::Interleave(_) => members_text(alloc, children, " & "),
+        SchemaRow::Choice(_) => members_text(alloc, children, " | "),
+        SchemaRow::Data(datatype) => datatype_text(alloc, datatype),
+        SchemaRow::DataExcept(datatype) => {
+            let datatype = datatype_text(alloc, datatype)?;
+            Ok(format!(in alloc; "{datatype} - {{ {} }}", first(children))?)
         }
-        SchemaPattern::Value(value) => {
-            print!(rt; "{{{}}}{} {:?}", value.library, value.name, value.text)
+        SchemaRow::Value(value) => {
+            Ok(format!(in alloc; "{{{}}}{} {:?}", value.library, value.name, value.text)?)
         }
-        SchemaPattern::Ref(name) => print!(rt; "{name}"),
-        SchemaPattern::ParentRef(name) => print!(rt; "parent {name}"),
-        SchemaPattern::Grammar(place) => {
-            print!(rt; "grammar ")?;
-            print_place(rt, place)
+        SchemaRow::Ref(name) => Ok(format!(in alloc; "{name}")?),
+        SchemaRow::ParentRef(name) => Ok(format!(in alloc; "parent {name}")?),
+        SchemaRow::Grammar(place) => {
+            Ok(format!(in alloc; "grammar {}", place_text(alloc, place)?)?)
         }
     }
 }
 
-/// Prints a word, and a pattern in braces.
-#[cycle(patterns)]
-fn print_in_braces(
-    rt: &(impl Print + AllocGlobal),
-    word: &str,
-    inner: &SchemaPattern,
-) -> io::Result<()> {
-    print!(rt; "{word} {{ ")?;
-    print_pattern(rt, inner)?;
-    print!(rt; " }}")
+/// Returns a word as a text of its own.
+fn text(alloc: Global, word: &str) -> io::Result<String> {
+    Ok(String::from_str(alloc, word)?)
 }
 
-/// Prints a pattern, and the sign after it.
-#[cycle(patterns)]
-fn print_repeated(
-    rt: &(impl Print + AllocGlobal),
-    inner: &SchemaPattern,
-    sign: &str,
-) -> io::Result<()> {
-    print_pattern(rt, inner)?;
-    print!(rt; "{sign}")
+/// Returns a word, and the only child in braces.
+fn text_in_braces(alloc: Global, word: &str, children: &[String]) -> io::Result<String> {
+    Ok(format!(in alloc; "{word} {{ {} }}", first(children))?)
 }
 
-/// Prints patterns in parentheses, with this between two of them.
-#[cycle(patterns)]
-fn print_members(
-    rt: &(impl Print + AllocGlobal),
-    members: &[SchemaPattern],
-    between: &str,
-) -> io::Result<()> {
-    print!(rt; "(")?;
+/// Returns the texts of members in parentheses, with this between two of them.
+fn members_text(alloc: Global, members: &[String], between: &str) -> io::Result<String> {
+    let mut all = String::from_str(alloc, "(")?;
     for (number, member) in members.iter().enumerate() {
         if number > 0 {
-            print!(rt; "{between}")?;
+            all.push_str(between)?;
         }
-        print_pattern(rt, member)?;
+        all.push_str(member.as_str())?;
     }
-    print!(rt; ")")
+    all.push_str(")")?;
+    Ok(all)
 }
 
-/// Prints a datatype, its library in braces, and its parameters.
-fn print_datatype(rt: &(impl Print + AllocGlobal), datatype: &Datatype) -> io::Result<()> {
-    print!(rt; "{{{}}}{}", datatype.library, datatype.name)?;
+/// Returns the text of a place, a `/` before each of its numbers; `/` for the main grammar.
+fn place_text(alloc: Global, place: &Place) -> io::Result<String> {
+    let Ok(numbers) = place.to_numbers(alloc) else {
+        return text(alloc, "out of memory");
+    };
+    if numbers.is_empty() {
+        return text(alloc, "/");
+    }
+    let mut all = String::new(alloc);
+    for number in &numbers {
+        let number = format!(in alloc; "/{number}")?;
+        all.push_str(number.as_str())?;
+    }
+    Ok(all)
+}
+
+/// Returns the text of a datatype, its library in braces, and its parameters.
+fn datatype_text(alloc: Global, datatype: &Datatype) -> io::Result<String> {
+    let mut all = format!(in alloc; "{{{}}}{}", datatype.library, datatype.name)?;
     for (name, text) in &datatype.parameters {
-        print!(rt; " {name}={text:?}")?;
+        let parameter = format!(in alloc; " {name}={text:?}")?;
+        all.push_str(parameter.as_str())?;
     }
-    Ok(())
+    Ok(all)
 }
 
-/// Prints a name class, each namespace in braces, members in parentheses.
+/// Returns the text of a name class, each namespace in braces, members in parentheses.
 #[cycle(classes)]
-fn print_class(rt: &(impl Print + AllocGlobal), class: &NameClass) -> io::Result<()> {
+fn class_text(alloc: Global, class: &NameClass) -> io::Result<String> {
     match class {
-        NameClass::Any => print!(rt; "*"),
+        NameClass::Any => text(alloc, "*"),
         NameClass::AnyExcept(except) => {
-            print!(rt; "* - ")?;
-            print_class(rt, except)
+            let except = class_text(alloc, except)?;
+            Ok(format!(in alloc; "* - {except}")?)
         }
-        NameClass::Ns(ns) => print!(rt; "{{{}}}*", ns.as_str()),
+        NameClass::Ns(ns) => Ok(format!(in alloc; "{{{}}}*", ns.as_str())?),
         NameClass::NsExcept(ns, except) => {
-            print!(rt; "{{{}}}* - ", ns.as_str())?;
-            print_class(rt, except)
+            let except = class_text(alloc, except)?;
+            Ok(format!(in alloc; "{{{}}}* - {except}", ns.as_str())?)
         }
-        NameClass::Name(name) => print!(rt; "{{{}}}{}", name.ns.as_str(), name.local),
-        NameClass::Choice(members) => print_classes(rt, members),
+        NameClass::Name(name) => {
+            Ok(format!(in alloc; "{{{}}}{}", name.ns.as_str(), name.local)?)
+        }
+        NameClass::Choice(members) => choice_text(alloc, members),
     }
 }
 
-/// Prints the members of a choice of name classes.
+/// Returns the text of a choice of name classes.
 #[cycle(classes)]
-fn print_classes(rt: &(impl Print + AllocGlobal), members: &[NameClass]) -> io::Result<()> {
-    print!(rt; "(")?;
-    for (number, member) in members.iter().enumerate() {
-        if number > 0 {
-            print!(rt; " | ")?;
-        }
-        print_class(rt, member)?;
+fn choice_text(alloc: Global, members: &[NameClass]) -> io::Result<String> {
+    let mut texts = Vec::new(alloc);
+    for member in members {
+        texts.push(class_text(alloc, member)?)?;
     }
-    print!(rt; ")")
+    members_text(alloc, texts.as_slice(), " | ")
 }

@@ -4,6 +4,7 @@ mod NamesByPlace
 mod NameSets
 mod NameClassTests
 mod WrittenPatterns
+mod BrokenRows
 mod CombinedNames
 mod WrittenInGrammars
 mod AllPlaces

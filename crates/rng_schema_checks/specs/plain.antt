@@ -4,4 +4,5 @@ pub mod ClauseTests
 pub mod GrammarTests
 pub mod Judged
 pub mod PatternTests
+pub mod RowTests
 pub mod RuleTests

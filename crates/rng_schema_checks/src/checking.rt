@@ -53,7 +53,7 @@ struct Judge<'a, 'd> {
 /// - 15 if a ref has no definition.
 ///
 /// Fails with `Memory` only when out of memory. Takes time linear in the schema, apart from hash collisions. Recurses
-/// as deep as patterns and name classes nest.
+/// as deep as name classes nest.
 ///
 /// RELAX NG Specification, sections 4.16 to 4.18.
 pub fn check_components(alloc: Global, schema: &Schema) -> Result<(), SchemaFault>

@@ -1,17 +1,17 @@
 // Patterns that break a rule.
-ghost use Rattle.std.specs.Prelude.{◌≡◌, map, string_bytes};
-ghost use Rattle.rng_model.specs.schema.Patterns.{patterns_of};
-ghost use Rattle.rng_model.specs.views.SchemaView.{schema_pattern_of};
+ghost use Rattle.std.specs.Prelude.{◌≡◌, string_bytes};
+ghost use Rattle.rng_model.specs.views.SchemaView.{patterns_in, schema_pattern_of};
 ghost use Rattle.rng_model.specs.datatypes.DatatypeViews.{datatype_of};
 ghost use Rattle.rng_model.specs.names.NameViews.{class_of};
 ghost use Rattle.rng_schema_checks.specs.views.Defined.{finds};
-ghost use Rattle.rng_schema_checks.specs.plain.PatternTests.{has_written, some_has_written};
+ghost use Rattle.rng_schema_checks.specs.plain.PatternTests.{has_written};
+ghost use Rattle.rng_schema_checks.specs.plain.RowTests.{first_met, met_with, row_passes};
 ghost use Rattle.rng_schema_checks.specs.plain.RuleTests.{rule_test};
 
 use crate::datatypes::{is_refused, is_unknown};
 use crate::definitions::DefinedNames;
 use crate::name_classes::{breaks_except, has_declaration};
-use rng_model::{Datatype, DatatypeValue, NameClass, SchemaPattern};
+use rng_model::{Datatype, DatatypeValue, NameClass, SchemaPattern, SchemaRow};
 
 /// A rule that each pattern keeps by itself.
 #[derive(Clone, Copy)]
@@ -104,56 +104,58 @@ impl Rule<'_, '_> {
         }
     }
 
-    /// Whether the pattern or one inside it breaks the rule. The components of a nested grammar are not inside, since
-    /// they are at its own place. Takes linear time, and allocates nothing.
-    #[cycle(patterns)]
-    pub fn is_broken_in(&self, pattern: &SchemaPattern) -> bool
-        ensures { result ≡ has_written (rule_test self.now) (schema_pattern_of pattern.now) }
+    /// Whether the pattern of the row breaks the rule, its children apart.
+    fn is_broken_by(&self, row: &SchemaRow) -> bool
+        ensures { result ≡ row_passes (rule_test self.now) row.now }
     {
-        match pattern {
-            SchemaPattern::NotAllowed
-            | SchemaPattern::Empty
-            | SchemaPattern::Text
-            | SchemaPattern::Grammar(_) => false,
-            SchemaPattern::Element(class, body) => {
-                self.is_broken_by_element(class) || self.is_broken_in(body)
-            }
-            SchemaPattern::Attribute(class, body) => {
-                self.is_broken_by_attribute(class) || self.is_broken_in(body)
-            }
-            SchemaPattern::Data {
-                datatype,
-                except: None,
-            } => self.is_broken_by_datatype(datatype),
-            SchemaPattern::Data {
-                datatype,
-                except: Some(except),
-            } => self.is_broken_by_datatype(datatype) || self.is_broken_in(except),
-            SchemaPattern::Value(value) => self.is_broken_by_value(value),
-            SchemaPattern::List(body)
-            | SchemaPattern::Mixed(body)
-            | SchemaPattern::Optional(body)
-            | SchemaPattern::ZeroOrMore(body)
-            | SchemaPattern::OneOrMore(body)
-            | SchemaPattern::External(body) => self.is_broken_in(body),
-            SchemaPattern::Group(members)
-            | SchemaPattern::Interleave(members)
-            | SchemaPattern::Choice(members) => self.is_broken_among(members),
-            SchemaPattern::Ref(name) => self.is_broken_by_ref(name.as_str()),
-            SchemaPattern::ParentRef(name) => self.is_broken_by_parent_ref(name.as_str()),
+        match row {
+            SchemaRow::NotAllowed | SchemaRow::Empty | SchemaRow::Text => false,
+            SchemaRow::Element(class) => self.is_broken_by_element(class),
+            SchemaRow::Attribute(class) => self.is_broken_by_attribute(class),
+            SchemaRow::Data(datatype) => self.is_broken_by_datatype(datatype),
+            SchemaRow::DataExcept(datatype) => self.is_broken_by_datatype(datatype),
+            SchemaRow::Value(value) => self.is_broken_by_value(value),
+            SchemaRow::List | SchemaRow::Mixed | SchemaRow::Optional => false,
+            SchemaRow::ZeroOrMore | SchemaRow::OneOrMore | SchemaRow::External => false,
+            SchemaRow::Group(_) | SchemaRow::Interleave(_) | SchemaRow::Choice(_) => false,
+            SchemaRow::Ref(name) => self.is_broken_by_ref(name.as_str()),
+            SchemaRow::ParentRef(name) => self.is_broken_by_parent_ref(name.as_str()),
+            SchemaRow::Grammar(_) => false,
         }
     }
 
-    /// Whether one of the patterns, or one inside them, breaks the rule.
-    #[cycle(patterns)]
-    fn is_broken_among(&self, members: &[SchemaPattern]) -> bool
-        ensures { result ≡ some_has_written (rule_test self.now) (patterns_of (map schema_pattern_of members.now)) }
+    /// The number of the first pattern with a breach, when the pattern of a row replaces those from `start` on. Before
+    /// that it is `broken`.
+    fn broken_with(&self, row: &SchemaRow, start: usize, broken: Option<usize>) -> Option<usize>
+        ensures { result ≡ met_with (row_passes (rule_test self.now) row.now) start broken }
     {
-        for member in members {
-            if self.is_broken_in(member) {
-                return true;
-            }
+        match broken {
+            Some(number) => Some(number.min(start)),
+            None if self.is_broken_by(row) => Some(start),
+            None => None,
         }
-        false
+    }
+
+    /// The number of the first of the patterns of these rows that has a breach, or has one inside it.
+    fn first_broken(&self, rows: &[SchemaRow]) -> Option<usize>
+        ensures { result ≡ first_met (has_written (rule_test self.now)) (patterns_in rows.now) }
+    {
+        let mut count: usize = 0;
+        let mut broken = None;
+        for row in rows {
+            let start = count.saturating_sub(row.arity());
+            broken = self.broken_with(row, start, broken);
+            count = start + 1;
+        }
+        broken
+    }
+
+    /// Whether the pattern or one inside it breaks the rule. The components of a nested grammar are not inside, since
+    /// they are at its own place. Takes linear time, and allocates nothing.
+    #[tactic(auto, using(crate::proofs::BrokenRows::first_is))]
+    pub fn is_broken_in(&self, pattern: &SchemaPattern) -> bool
+        ensures { result ≡ has_written (rule_test self.now) (schema_pattern_of pattern.now) }
+    {
+        matches!(self.first_broken(&pattern.rows), Some(0))
     }
 }
