@@ -124,8 +124,8 @@ impl Rule<'_, '_> {
         }
     }
 
-    /// The number of the first pattern with a breach, when the pattern of a row replaces those from `start` on. Before
-    /// that it is `broken`.
+    /// The number of the first pattern that breaks the rule, by itself or inside it, once the pattern of a row has
+    /// replaced those from `start` on. Before that, the number is `broken`.
     fn broken_with(&self, row: &SchemaRow, start: usize, broken: Option<usize>) -> Option<usize>
         ensures { result ≡ met_with (row_passes (rule_test self.now) row.now) start broken }
     {
@@ -136,7 +136,8 @@ impl Rule<'_, '_> {
         }
     }
 
-    /// The number of the first of the patterns of these rows that has a breach, or has one inside it.
+    /// The number of the first of the patterns of these rows that breaks the rule, by itself or inside it. A row replaces
+    /// patterns at the end, so this number tells whether one of them breaks the rule, and no list is kept.
     fn first_broken(&self, rows: &[SchemaRow]) -> Option<usize>
         ensures { result ≡ first_met (has_written (rule_test self.now)) (patterns_in rows.now) }
     {
