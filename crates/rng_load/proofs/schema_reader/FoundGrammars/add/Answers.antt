@@ -29,4 +29,5 @@ pub returns-clause-put : goal.returns-clause-put
 returns-clause-put c =
     put_at c.put.result c.args.self.now.grammars.entries c.inner.self.grammars.entries c.put.new.map.entries c.args.place
     (record { components = c.in_ok-components.components; outer = _ }) (map gathered_of c.args.all.items)
-    (ap (λ m. m.entries) c.inner.invariant.grammars) c.put.ensures (ap (λ o. option_map place_of o) c.inner.invariant.outer) c.in_ok-components.ensures.components
+    (ap (λ m. m.entries) c.inner.invariant.grammars) c.put.ensures (ap (λ o. option_map place_of o) c.inner.invariant.outer)
+    c.in_ok-components.ensures.components
