@@ -125,7 +125,9 @@ impl<'a> SchemaReader<'a> {
         Ok(all)
     }
 
-    /// The grammars at their places, given the components of the main one.
+    /// The grammars at their places, given the components of the main one. Fails only when out of memory.
+    ///
+    /// Recurses no deeper than the components of one grammar do, however deep grammars are nested.
     fn grammars(
         self,
         main: Vec<GatheredComponent<'a>>,
@@ -140,7 +142,7 @@ impl<'a> SchemaReader<'a> {
             left: Vec::new(alloc),
         };
         found.add(alloc, Place::main(), None, main)?;
-        // The count only bounds the loop for the proof.
+        // The count only bounds the loop for the proof. Past it the call fails as it does when memory runs out.
         'places: for _ in 0..usize::MAX {
             let Some(PendingGrammar { outer, nested }) = found.left.pop() else {
                 return Ok(found.grammars);
@@ -155,7 +157,7 @@ impl<'a> SchemaReader<'a> {
 
 impl<'a> FoundGrammars<'a> {
     /// Puts a grammar of these components at a place, with the place of the grammar around it. The grammars that are nested in it are
-    /// then left, the first one last.
+    /// then left, the first one last. Fails only when out of memory.
     ///
     /// RELAX NG Specification, section 4.18.
     fn add(
