@@ -1,7 +1,8 @@
 -- Grammars are found one after another, until all nested ones are found. Then they are the grammars of the schema.
-use Rattle.std.proofs.Common.{◌≡◌, refl, sym, subst, ap, ap₂, ◌∙◌, ℕ, ◌-◌, ◌<◌, List, [], ◌∷◌, Option, Some, None, Bool, true, false, cond, map, arith, inl}
+use Rattle.std.proofs.Common.{◌≡◌, refl, sym, subst, ap, ap₂, ◌∙◌, ℕ, List, [], ◌∷◌, Option, Some, None, Bool, true, false, cond, map, inl}
 use Rattle.std.proofs.Common.{inr, ◌⊎◌}
-use Rattle.std.proofs.Common.{option_map, length, ◌++◌, ◌+◌, ◌*◌}
+use Rattle.std.proofs.Common.{option_map, ◌++◌}
+use Rattle.std.proofs.lemmas.List.{map-append}
 use Rattle.std.specs.Map.{lookup}
 use Rattle.std.specs.Str.{bytes_eq}
 use Rattle.std.proofs.lemmas.Slice.Eq.{bytes_eq-Decides}
@@ -14,19 +15,18 @@ use Rattle.rng_model.specs.declared.place.Place as declared
 use Rattle.rng_model.proofs.SamePlaces.{same_place}
 use Rattle.rnc_model.specs.declarations.FileTree as tree
 use Rattle.rnc_model.specs.declarations.FileTree.{FileTree}
-use Rattle.rng_load.specs.plain.FoundGrammars.{IsFound, CanBeRead, IsGrammarAt, HasGathered, AreRight, IsComplete, AreMore, gathered_at, nested_in}
-use Rattle.rnc_model.specs.loading.Loading.{TakenFiles, tree_in}
+use Rattle.rng_load.specs.plain.FoundGrammars.{AreFound, AreLeft, CanBeRead, HasGathered, IsFound, IsGrammarAt, IsKnown, IsPut, gathered_at, grammar_with}
+use Rattle.rng_load.specs.plain.FoundGrammars.{left_by, nested_in, pending_in, places_left}
 use Rattle.rnc_model.specs.loading.MentionPaths.{path_limit}
+use Rattle.rng_load.specs.views.PendingGrammars.{Pending}
 use Rattle.rng_load.specs.views.PlacedGrammars.{PlacedGrammar, PlacedGrammars, grammar_of, grammar_at, outer_if, schema_with}
 use Rattle.rnc_model.specs.loading.Places.{Gathered, Gathers, HasGrammar, main_is, nested_is, Nested, IsSchemaOf}
 use Rattle.rng_load.specs.declared.schema.Grammar.{Grammar}
-use Rattle.rng_load.proofs.NameLists.{in_cons, in_either, in_none, false_true}
+use Rattle.rng_load.proofs.NameLists.{false_true, in_cons, in_either, in_first, in_left, in_more, in_none, in_right}
 use Rattle.rng_load.proofs.OneGrammar.{one_grammar}
 use Rattle.rng_load.proofs.OneSchema.{one_gathering}
 use Rattle.rng_load.proofs.PlacesApart.{in_nested}
-use Rattle.rng_load.proofs.PlacesWithin.{further, grammars_within, longest}
 use Rattle.rng_load.proofs.PlainReading.{gather_sound, grammars_readable}
-use Rattle.rng_load.proofs.TreeSizes.{file_fits, size_of_all}
 
 -- ---- entries by their places
 
@@ -62,12 +62,6 @@ module _ {V : Type 0} where
 
 -- ---- one more entry
 
--- a grammar is put at a place
-pub record ArePut (old new : PlacedGrammars) (x : Place) (g : PlacedGrammar) : Type 0 where
-  pub kept : (y : Place) → IsFound y old → IsFound y new
-  pub there : IsFound x new
-  pub either : (e : Place × PlacedGrammar) → Among e new → Among e old ⊎ (e ≡ (x, g))
-
 abbrev pub Entries : Type 0
 Entries = List (declared.Place × Grammar)
 
@@ -75,7 +69,7 @@ abbrev pub view : Entries → PlacedGrammars
 view es = map (λ e. (place_of e.0, grammar_of e.1)) es
 
 module _ (k : declared.Place) (g : Grammar) where
-  first_put : ArePut [] (view ((k, g) ∷ [])) (place_of k) (grammar_of g)
+  first_put : IsPut [] (view ((k, g) ∷ [])) (place_of k) (grammar_of g)
   first_put = record {
     kept = λ y i. absurd (in_none i);
     there = here;
@@ -83,15 +77,15 @@ module _ (k : declared.Place) (g : Grammar) where
   }
 
   replaced : (e : declared.Place × Grammar) (es : Entries) → place_of k ≡ place_of e.0
-      → ArePut (view (e ∷ es)) (view ((e.0, g) ∷ es)) (place_of k) (grammar_of g)
+      → IsPut (view (e ∷ es)) (view ((e.0, g) ∷ es)) (place_of k) (grammar_of g)
   replaced e es s = record {
     kept = λ y i. i;
     there = subst (λ x. Among x (map (λ e. e.0) (view ((e.0, g) ∷ es)))) (sym s) here;
     either = λ d i. elim (in_cons i) [ inl t ↦ inr (t ∙ ap (λ x. (x, grammar_of g)) (sym s)) | inr j ↦ inl (there j) ];
   }
 
-  put_later : (e : declared.Place × Grammar) (es new : Entries) → ArePut (view es) (view new) (place_of k) (grammar_of g)
-      → ArePut (view (e ∷ es)) (view (e ∷ new)) (place_of k) (grammar_of g)
+  put_later : (e : declared.Place × Grammar) (es new : Entries) → IsPut (view es) (view new) (place_of k) (grammar_of g)
+      → IsPut (view (e ∷ es)) (view (e ∷ new)) (place_of k) (grammar_of g)
   put_later e es new p = record {
     kept = λ y i. elim (in_cons i) [ inl s ↦ subst (λ x. Among x (map (λ e. e.0) (view (e ∷ new)))) (sym s) here | inr j ↦ there (p.kept y j) ];
     there = there p.there;
@@ -102,12 +96,12 @@ module _ (k : declared.Place) (g : Grammar) where
   }
 
   by_test_put : (e : declared.Place × Grammar) (es : Entries) (b : Bool) → place_eq k e.0 ≡ b
-      → ArePut (view es) (view (insert_entry place_eq es k g)) (place_of k) (grammar_of g)
-      → ArePut (view (e ∷ es)) (view (cond b ((e.0, g) ∷ es) (e ∷ insert_entry place_eq es k g))) (place_of k) (grammar_of g)
+      → IsPut (view es) (view (insert_entry place_eq es k g)) (place_of k) (grammar_of g)
+      → IsPut (view (e ∷ es)) (view (cond b ((e.0, g) ∷ es) (e ∷ insert_entry place_eq es k g))) (place_of k) (grammar_of g)
   by_test_put e es true i p = replaced e es ((same_place k e.0).0 i)
   by_test_put e es false i p = put_later e es (insert_entry place_eq es k g) p
 
-  pub is_put : (es : Entries) → ArePut (view es) (view (insert_entry place_eq es k g)) (place_of k) (grammar_of g)
+  pub is_put : (es : Entries) → IsPut (view es) (view (insert_entry place_eq es k g)) (place_of k) (grammar_of g)
   is_put [] = first_put
   is_put (e ∷ es) = by_test_put e es (place_eq k e.0) refl (is_put es)
 
@@ -118,12 +112,28 @@ in_keys (there i) = there (in_keys i)
 has_entry : (x : Place) (gs : PlacedGrammars) → IsFound x gs → (g : PlacedGrammar) × Among (x, g) gs
 has_entry x gs i = let f = found_at x gs i in (f.0, among_at x gs f.0 f.1)
 
-found_either : {old new : PlacedGrammars} {x : Place} {g : PlacedGrammar} → ArePut old new x g → (y : Place) → IsFound y new → IsFound y old ⊎ (y ≡ x)
+found_either : {old new : PlacedGrammars} {x : Place} {g : PlacedGrammar} → IsPut old new x g → (y : Place) → IsFound y new → IsFound y old ⊎ (y ≡ x)
 found_either {new = new} p y i =
     let e = has_entry y new i in
     elim (p.either (y, e.0) e.1) [ inl j ↦ inl (in_keys j) | inr s ↦ inr (ap (λ e. e.0) s) ]
 
--- ---- more and more
+-- ---- those that are left
+
+-- the place of each grammar that is nested is one of them
+among_left : {n : Nested} (x : Place) (ns : List Nested) → Among n ns → Among n.place (places_left (left_by x ns))
+among_left x [] i = absurd (in_none i)
+among_left {n} x (m ∷ ns) i = subst (Among n.place) (sym (map-append (λ p. p.nested.place) (left_by x ns) (pending_in x m ∷ [])))
+    (elim (in_cons i) [ inl e ↦ in_right (places_left (left_by x ns)) (in_first [] (ap (λ n. n.place) e)) | inr j ↦ in_left (among_left x ns j) _ ])
+
+-- and each of them is nested
+one_left : {p : Pending} (x : Place) (ns : List Nested) → Among p (left_by x ns) → (n : Nested) × Among n ns × (p ≡ pending_in x n)
+one_left x [] i = absurd (in_none i)
+one_left x (n ∷ ns) i = elim (in_more (left_by x ns) i) [ inl j ↦ let r = one_left x ns j in (r.0, there r.1, r.2) | inr e ↦ (n, here, e) ]
+
+-- the last one of those that are nested comes first
+pub left_last : (x : Place) (ns : List Nested) (n : Nested) → left_by x (ns ++ n ∷ []) ≡ pending_in x n ∷ left_by x ns
+left_last x [] n = refl
+left_last x (m ∷ ns) n = ap (λ ps. ps ++ pending_in x m ∷ []) (left_last x ns n)
 
 -- what is nested in components is nested in one of them
 one_nested : {n : Nested} (gs : List Gathered) → Among n (nested_in gs) → (g : Gathered) × Among g gs × Among n g.nested
@@ -131,66 +141,50 @@ one_nested [] i = absurd (in_none i)
 one_nested (g ∷ gs) i = elim (in_either g.nested i) [ inl j ↦ (g, here, j) | inr j ↦ let r = one_nested gs j in (r.0, there r.1, r.2) ]
 
 module _ (files : List ℕ → Option FileTree) (main : FileTree) where
-  still_complete : (x : Place) (old new : PlacedGrammars) → ((y : Place) → IsFound y old → IsFound y new) → IsComplete files main x old
-      → IsComplete files main x new
-  still_complete x old new kept c o u cs h n i = kept n.place (c o u cs h n i)
-
   -- the components at a place are gathered in only one way
   gathered_once : {x : Place} {o p : Option Place} {u v : List ℕ} {cs ds : tree.Components} → HasGrammar files main x o u cs
       → HasGrammar files main x p v ds → gathered_at files u x cs ≡ gathered_at files v x ds
   gathered_once {x} h k = let one = one_grammar files main h k in ap₂ (λ u cs. gathered_at files u x cs) one.1 one.2
 
-  -- a grammar is put at this place, and then the grammars that are nested in it; these are found so far
-  pub record IsAdding (old now : PlacedGrammars) (x : Place) (done : List Nested) : Type 0 where
-    pub kept : (y : Place) → IsFound y old → IsFound y now
-    pub there : IsFound x now
-    pub complete : (y : Place) → IsFound y now → IsFound y old ⊎ ((y ≡ x) ⊎ IsComplete files main y now)
-    pub right : AreRight files main old → AreRight files main now
-    pub found : (n : Nested) → Among n done → IsFound n.place now
-
-  pub begins : {old put : PlacedGrammars} {x : Place} {g : PlacedGrammar} {all : List Gathered} → HasGathered files main x g.outer all
-      → g.components ≡ map (λ c. c.component) all → ArePut old put x g → IsAdding old put x []
-  begins {x = x} {g} has are p = record {
-    kept = p.kept;
-    there = p.there;
-    complete = λ y i. elim (found_either p y i) [ inl j ↦ inl j | inr s ↦ inr (inl s) ];
-    right = λ r e i. elim (p.either e i) [ inl j ↦ r e j | inr s ↦ subst (λ d. IsGrammarAt files main d.0 d.1) (sym s) is ];
-    found = λ n i. absurd (in_none i);
-  } where
-    is : IsGrammarAt files main x g
-    is = record { uri = has.uri; components = has.components; there = has.there; are = are ∙ ap (map (λ c. c.component)) has.are }
-
-  pub goes_on : {old now next : PlacedGrammars} {x : Place} {done : List Nested} (n : Nested) → IsAdding old now x done → AreMore files main now next
-      → IsFound n.place next → IsAdding old next x (done ++ n ∷ [])
-  goes_on {now = now} {next} {done = done} n a m f = record {
-    kept = λ y i. m.kept y (a.kept y i);
-    there = m.kept _ a.there;
-    complete = λ y i. elim (m.complete y i) [
-      | inl j ↦ elim (a.complete y j) [
-        | inl l ↦ inl l
-        | inr r ↦ elim r [ inl s ↦ inr (inl s) | inr c ↦ inr (inr (still_complete y now next m.kept c)) ]
-      ]
-      | inr c ↦ inr (inr c)
-    ];
-    right = λ r. m.right (a.right r);
-    found = λ k i. elim (in_either done i) [
-      | inl j ↦ m.kept k.place (a.found k j)
-      | inr j ↦ elim (in_cons j) [ inl s ↦ subst (λ k. IsFound k.place next) (sym s) f | inr l ↦ absurd (in_none l) ]
-    ];
+  -- at first the main grammar is left
+  pub main_left : AreFound files main [] ([] ∷ [])
+  main_left = record {
+    main_known = inr here;
+    nested_known = λ x i. absurd (in_none i);
+    right = λ e i. absurd (in_none i);
   }
 
-  pub ends : {old now : PlacedGrammars} {x : Place} {o : Option Place} {all : List Gathered} → HasGathered files main x o all
-      → IsAdding old now x (nested_in all) → AreMore files main old now
-  ends {now = now} {x} has a = record {
-    kept = a.kept;
-    complete = λ y i. elim (a.complete y i) [
-      | inl j ↦ inl j
-      | inr r ↦ elim r [ inl s ↦ inr (subst (λ z. IsComplete files main z now) (sym s) complete) | inr c ↦ inr c ]
-    ];
-    right = a.right;
-  } where
-    complete : IsComplete files main x now
-    complete o u cs h n i = a.found n (subst (λ gs. Among n (nested_in gs)) (gathered_once h has.there ∙ sym has.are) i)
+  -- the last one that is left is put at its place, and those that are nested in it are left
+  module _ {gs next : PlacedGrammars} {x : Place} {o : Option Place} {all : List Gathered} (left : List Place) (a : AreFound files main gs (left ++ x ∷ []))
+      (has : HasGathered files main x o all) (put : IsPut gs next x (grammar_with o all)) where
+    abbrev now : List Place
+    now = left ++ places_left (left_by x (nested_in all))
+
+    still_known : (y : Place) → IsKnown gs (left ++ x ∷ []) y → IsKnown next now y
+    still_known y k = elim k [
+      | inl f ↦ inl (put.kept y f)
+      | inr i ↦ elim (in_more left i) [ inl j ↦ inr (in_left j _) | inr e ↦ inl (subst (λ y. IsFound y next) (sym e) put.there) ]
+    ]
+
+    known_inside : (n : Nested) → Among n (nested_in all) → IsKnown next now n.place
+    known_inside n i = inr (in_right left (among_left x (nested_in all) i))
+
+    here_known : {p : Option Place} {v : List ℕ} {ds : tree.Components} → HasGrammar files main x p v ds → (n : Nested)
+        → Among n (nested_in (gathered_at files v x ds)) → IsKnown next now n.place
+    here_known h n i = known_inside n (subst (λ gs. Among n (nested_in gs)) (gathered_once h has.there ∙ sym has.are) i)
+
+    is_right : IsGrammarAt files main x (grammar_with o all)
+    is_right = record { uri = has.uri; components = has.components; there = has.there; are = ap (map (λ c. c.component)) has.are }
+
+    pub goes_on : AreFound files main next now
+    goes_on = record {
+      main_known = still_known [] a.main_known;
+      nested_known = λ y f p v ds h n i. elim (found_either put y f) [
+        | inl j ↦ still_known n.place (a.nested_known y j p v ds h n i)
+        | inr e ↦ here_known (subst (λ y. HasGrammar files main y p v ds) e h) n (subst (λ y. Among n (nested_in (gathered_at files v y ds))) e i)
+      ];
+      right = λ e i. elim (put.either e i) [ inl j ↦ a.right e j | inr s ↦ subst (λ d. IsGrammarAt files main d.0 d.1) (sym s) is_right ];
+    }
 
   -- ---- all of them
 
@@ -207,18 +201,28 @@ module _ (files : List ℕ → Option FileTree) (main : FileTree) where
         let one = one_nested all i in
         nested_is has.there (gathers_at has.there) (subst (Among one.0) has.are one.1) one.2
 
-    module _ (gs : PlacedGrammars) (more : AreMore files main [] gs) (first : IsFound [] gs) where
+    -- all that are left then are grammars of the files
+    pub left_there : {x : Place} {o : Option Place} {all : List Gathered} (left : List Pending) → AreLeft files main left → HasGathered files main x o all
+        → AreLeft files main (left ++ left_by x (nested_in all))
+    left_there {x} {all = all} left l has p i = elim (in_either left i) [
+      | inl j ↦ l p j
+      | inr j ↦
+          let n = one_left x (nested_in all) j in
+          subst (λ p. HasGrammar files main p.nested.place (Some p.outer) p.nested.uri p.nested.components) (sym n.2) (nested_there has n.1)
+    ]
+
+    module _ (gs : PlacedGrammars) (found : AreFound files main gs []) where
+      none_left : {x : Place} → IsKnown gs [] x → IsFound x gs
+      none_left k = elim k [ inl f ↦ f | inr i ↦ absurd (in_none i) ]
+
       pub all_found : {x : Place} {o : Option Place} {u : List ℕ} {cs : tree.Components} → HasGrammar files main x o u cs → IsFound x gs
-      all_found (main_is e) = first
+      all_found (main_is e) = none_left found.main_known
       all_found (nested_is {x} {o} {u} {cs} {g = g} {n} h d i j) =
           let same = one_gathering files d (gathers_at h) in
-          elim (more.complete x (all_found h)) [
-            | inl k ↦ absurd (in_none k)
-            | inr c ↦ c o u cs h n (in_nested (subst (Among g) same i) j)
-          ]
+          none_left (found.nested_known x (all_found h) o u cs h n (in_nested (subst (Among g) same i) j))
 
       right_at : (x : Place) (g : PlacedGrammar) → grammar_at gs x ≡ Some g → IsGrammarAt files main x g
-      right_at x g f = more.right (λ e i. absurd (in_none i)) (x, g) (among_at x gs g f)
+      right_at x g f = found.right (x, g) (among_at x gs g f)
 
       there_is : (x : Place) (o : Option Place) (u : List ℕ) (cs : tree.Components) → HasGrammar files main x o u cs → (gathered : List Gathered)
           × Gathers files u x 0 cs gathered × ((schema_with [] gs).components x ≡ Some (map (λ g. g.component) gathered))
@@ -246,17 +250,3 @@ module _ (files : List ℕ → Option FileTree) (main : FileTree) where
         only_there = λ x all e. only x all (grammar_at gs x) refl e;
         none_around = λ x e. none (grammar_at gs x) e;
       }
-
--- ---- the distance to the longest place
-
--- it falls from a grammar to one that is nested in it
-pub nearer : (read : TakenFiles) (main : FileTree) {x : Place} {o : Option Place} {all : List Gathered} {n : Nested} → CanBeRead (tree_in read) main
-    → HasGathered (tree_in read) main x o all → Among n (nested_in all)
-    → 2 * (longest read main - length n.place) + 1 < 2 * (longest read main - length x)
-nearer read main {all = all} {n} r has i =
-    let one = one_nested all i in
-    let gathers = gathers_at (tree_in read) main r has.there in
-    let on = further (tree_in read) gathers (subst (Among one.0) has.are one.1) one.2 in
-    let w = grammars_within (tree_in read) (size_of_all read) (file_fits read) (nested_there (tree_in read) main r has i) path_limit r in
-    let b = w.bound in
-    omega (arith, on, b)

@@ -21,7 +21,6 @@ mod OneGrammar
 mod PlainReading
 mod ClosedFiles
 mod TreeSizes
-mod PlacesWithin
 mod ReadOneByOne
 mod ReadingSizes
 mod ReadDatatypes
@@ -32,7 +31,6 @@ mod GatherIncluded
 mod FoundGrammars
 mod GrammarLookup
 pub mod PlacesListed
-mod LoopItems
 mod ReaderEnds
 mod LoadedFiles
 mod WellPlaced

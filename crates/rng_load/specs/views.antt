@@ -4,5 +4,6 @@ pub mod FilesView
 pub mod GatheredComponents
 pub mod Loaded
 pub mod LoadingFaults
+pub mod PendingGrammars
 pub mod PlacedGrammars
 pub mod ReadPatterns

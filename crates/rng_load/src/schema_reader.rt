@@ -1,15 +1,16 @@
 // From the files of a schema to its grammars at their places.
-ghost use Rattle.std.specs.Prelude.{◌≡◌, [], map, option_map, reverse, IfOk, OnOk, None, Some};
+ghost use Rattle.std.specs.Prelude.{◌≡◌, ◌++◌, [], map, option_map, reverse, IfOk, OnOk, None};
 ghost use Rattle.rng_model.specs.views.SchemaView.{place_of, schema_component_of};
 ghost use Rattle.rng_model.specs.names.NamespaceViews.{namespace_bytes};
 ghost use Rattle.rnc_model.specs.declarations.FileTree.{components_of};
 ghost use Rattle.rnc_grammar.specs.views.View.{component_of, file_of, pattern_of};
 ghost use Rattle.rng_load.specs.views.FilesView.{taken_files_of};
-ghost use Rattle.rng_load.specs.plain.FoundGrammars.{AreMore, CanBeRead, HasGathered, IsFound, gathered_at, nested_in};
+ghost use Rattle.rng_load.specs.plain.FoundGrammars.{AreFound, CanBeRead, HasGathered, IsPut, gathered_at, grammar_with, left_by, nested_in};
 ghost use Rattle.rng_load.specs.views.GatheredComponents.{gathered_of};
 ghost use Rattle.rnc_model.specs.loading.Loading.{tree_in};
+ghost use Rattle.rng_load.specs.views.PendingGrammars.{pending_of};
 ghost use Rattle.rng_load.specs.views.PlacedGrammars.{grammars_of, schema_of};
-ghost use Rattle.rnc_model.specs.loading.Places.{HasGrammar, IsSchemaOf, grammar_or_start, main_grammar};
+ghost use Rattle.rnc_model.specs.loading.Places.{IsSchemaOf, grammar_or_start, main_grammar};
 ghost use Rattle.rng_load.specs.views.ReadPatterns.{files_in, nested_of};
 
 use crate::gathering::GatheredComponent;
@@ -31,6 +32,20 @@ struct SchemaReader<'a> {
     main: &'a FileTree,
 }
 
+/// A grammar that is left to be put at its place, and the place of the grammar around it.
+#[derive(Drop)]
+struct PendingGrammar<'a> {
+    outer: Place,
+    nested: NestedGrammar<'a>,
+}
+
+/// The grammars that are at their places, and those that are left, the next one last.
+#[derive(Drop)]
+struct FoundGrammars<'a> {
+    grammars: IndexMap<Place, Grammar>,
+    left: Vec<PendingGrammar<'a>>,
+}
+
 /// Reads the schema of these files, whose main file has the tree `main`.
 ///
 /// Takes time and memory linear in the contents of all places, each with the way to it.
@@ -48,13 +63,11 @@ pub(crate) fn schema_of_files(
         trees: TreeReader { alloc, trees },
         main,
     };
-    let mut grammars = IndexMap::new(alloc);
     let none = Namespace::none();
     let components = reader.main_components(&none)?;
-    reader.add(Place::main(), None, components, &mut grammars)?;
     Ok(Schema {
         main: Place::main(),
-        grammars,
+        grammars: reader.grammars(components)?,
     })
 }
 
@@ -112,47 +125,59 @@ impl<'a> SchemaReader<'a> {
         Ok(all)
     }
 
-    /// Puts a grammar at this place, and then those that are nested in it.
-    #[cycle(grammars)]
-    fn add(
+    /// The grammars at their places, given the components of the main one. Fails only when out of memory.
+    ///
+    /// Recurses no deeper than the components of one grammar do, however deep grammars are nested.
+    fn grammars(
         self,
+        main: Vec<GatheredComponent<'a>>,
+    ) -> Result<IndexMap<Place, Grammar>, OutOfMemory>
+        requires readable { CanBeRead (files_in self.trees) (file_of self.main.now) }
+        requires there { HasGathered (files_in self.trees) (file_of self.main.now) [] None (map gathered_of main.items) }
+        ensures { IfOk result (λ all. AreFound (files_in self.entry.trees) (file_of self.entry.main.now) (grammars_of all) []) }
+    {
+        let alloc = self.trees.alloc;
+        let mut found = FoundGrammars {
+            grammars: IndexMap::new(alloc),
+            left: Vec::new(alloc),
+        };
+        found.add(alloc, Place::main(), None, main)?;
+        // The count only bounds the loop for the proof. Past it the call fails as it does when memory runs out.
+        'places: for _ in 0..usize::MAX {
+            let Some(PendingGrammar { outer, nested }) = found.left.pop() else {
+                return Ok(found.grammars);
+            };
+            let way = nested.place.to_numbers(alloc)?;
+            let all = self.components(nested.uri, way, nested.components)?;
+            found.add(alloc, nested.place, Some(outer), all)?;
+        }
+        Err(OutOfMemory)
+    }
+}
+
+impl<'a> FoundGrammars<'a> {
+    /// Puts a grammar of these components at a place, with the place of the grammar around it. The grammars that are nested in it are
+    /// then left, the first one last. Fails only when out of memory.
+    ///
+    /// RELAX NG Specification, section 4.18.
+    fn add(
+        &mut self,
+        alloc: Global,
         place: Place,
         outer: Option<Place>,
         all: Vec<GatheredComponent<'a>>,
-        grammars: &mut IndexMap<Place, Grammar>,
     ) -> Result<(), OutOfMemory>
-        requires readable { CanBeRead (files_in self.trees) (file_of self.main.now) }
-        requires there { HasGathered (files_in self.trees) (file_of self.main.now) (place_of place) (option_map place_of outer) (map gathered_of all.items) }
-        ensures more { OnOk result (AreMore (files_in self.entry.trees) (file_of self.entry.main.now) (grammars_of grammars.old) (grammars_of grammars.new)) }
-        ensures found { OnOk result (IsFound (place_of place) (grammars_of grammars.new)) }
+        ensures put { OnOk result (IsPut (grammars_of self.old.grammars) (grammars_of self.new.grammars) (place_of place) (grammar_with (option_map place_of outer) (map gathered_of all.entry.items))) }
+        ensures left { OnOk result (map pending_of self.new.left.items ≡ map pending_of self.old.left.items ++ left_by (place_of place) (nested_in (map gathered_of all.entry.items))) }
     {
-        let (components, nested) = parted(self.trees.alloc, all)?;
-        let key = place.share()?;
-        put(grammars, key, Grammar { components, outer })?;
-        for grammar in &nested {
-            self.add_nested(&place, grammar, grammars)?;
+        let (components, mut nested) = parted(alloc, all)?;
+        'inner: while let Some(grammar) = nested.pop() {
+            self.left.push(PendingGrammar {
+                outer: place.share()?,
+                nested: grammar,
+            })?;
         }
-        Ok(())
-    }
-
-    /// Puts a grammar that is nested in the one at `outer`, and then those that are nested in it.
-    ///
-    /// RELAX NG Specification, section 4.18.
-    #[cycle(grammars)]
-    fn add_nested(
-        self,
-        outer: &Place,
-        nested: &NestedGrammar<'a>,
-        grammars: &mut IndexMap<Place, Grammar>,
-    ) -> Result<(), OutOfMemory>
-        requires readable { CanBeRead (files_in self.trees) (file_of self.main.now) }
-        requires there { HasGrammar (files_in self.trees) (file_of self.main.now) (nested_of nested.now).place (Some (place_of outer.now)) (nested_of nested.now).uri (nested_of nested.now).components }
-        ensures more { OnOk result (AreMore (files_in self.entry.trees) (file_of self.entry.main.now) (grammars_of grammars.old) (grammars_of grammars.new)) }
-        ensures found { OnOk result (IsFound (nested_of nested.now).place (grammars_of grammars.new)) }
-    {
-        let way = nested.place.to_numbers(self.trees.alloc)?;
-        let all = self.components(nested.uri, way, nested.components)?;
-        self.add(nested.place.share()?, Some(outer.share()?), all, grammars)
+        put(&mut self.grammars, place, Grammar { components, outer })
     }
 }
 
