@@ -21,9 +21,7 @@ mod OneGrammar
 mod PlainReading
 mod ClosedFiles
 mod TreeSizes
-mod ReadOneByOne
 mod ReadingSizes
-mod ReadDatatypes
 mod ReadMentioned
 mod GatherOneByOne
 mod GatheringSizes
@@ -31,6 +29,7 @@ mod GatherIncluded
 mod FoundGrammars
 mod GrammarLookup
 pub mod PlacesListed
+mod OpenPatterns
 mod ReaderEnds
 mod LoadedFiles
 mod WellPlaced
