@@ -75,14 +75,6 @@ pub fn put_assigned<'a>(
     }
 }
 
-/// Puts a grammar with these components in this place.
-#[inline(never)]
-pub fn put_grammar<'a>(place: &mut Pattern<'a>, components: Vec<Component<'a>>)
-    ensures { pattern_of place.new ≡ written.grammar (written.components_of (map component_of components.entry.items)) }
-{
-    put(place, Pattern::Grammar(components));
-}
-
 /// Puts an element or an attribute in this place. Takes the name class out of its place.
 #[inline(never)]
 pub fn put_named<'a>(

@@ -160,7 +160,7 @@ impl Reader {
     }
 
     /// Reads the body of a file.
-    #[tactic(auto, unfolding(crate::specs::plain::Productions::body_with, crate::specs::plain::Productions::bare_body_with))]
+    #[tactic(auto, using(crate::proofs::JoinedRest::nothing_before), unfolding(crate::specs::plain::Productions::body_with, crate::specs::plain::Productions::bare_body_with))]
     fn body<'t, 'a>(
         self,
         levels: u8,
@@ -174,7 +174,7 @@ impl Reader {
         }
         if self.begins_grammar(true, tokens) {
             let mut components = Vec::new(self.alloc);
-            let rest = self.components(levels, Setting::Content, tokens, &mut components)?;
+            let rest = self.more_components(levels, Setting::Content, tokens, &mut components)?;
             Ok((Body::Grammar(components), rest))
         } else {
             let mut pattern = Pattern::Empty;

@@ -5,14 +5,12 @@ ghost use Rattle.rnc_model.specs.grammar.Syntax as written;
 ghost use Rattle.rnc_syntax.specs.plain.Combinators.{either_way, unexpected, with_front};
 ghost use Rattle.rng_model.specs.plain.Answers.{Gives};
 ghost use Rattle.rnc_syntax.specs.views.Fault.{stop_of};
-ghost use Rattle.rnc_syntax.specs.plain.Productions.{bare_component_with, bare_pattern_with, bare_primary_with, braced_with, component_with, components_with, contents_with, data_front, inside_at, named_data_with, named_with, opened_with, particle_with, pattern_from as pattern_read_from, pattern_with, primary_with, rest_with, separator_of};
+ghost use Rattle.rnc_syntax.specs.plain.Productions.{bare_component_with, bare_pattern_with, bare_primary_with, braced_with, component_with, components_with, contents_with, data_front, inside_at, named_data_with, named_with, opened_with, particle_with, pattern_from as pattern_read_from, pattern_with, rest_with};
 ghost use Rattle.rnc_syntax.specs.plain.ComponentParts.{div_with, include_with};
 ghost use Rattle.rnc_syntax.specs.declared.atoms.Opening.TheVariants as openings;
-ghost use Rattle.rnc_syntax.specs.views.SyntaxView.{component_of, pattern_of, setting_of, type_of};
+ghost use Rattle.rnc_syntax.specs.views.SyntaxView.{component_of, pattern_of, setting_of};
 
-use crate::atoms::{
-    Opening, Setting, append_pattern, put_assigned, put_grammar, put_joined, put_named,
-};
+use crate::atoms::{Opening, Setting, append_pattern, put_assigned, put_joined, put_named};
 use crate::fault::{ReadFault, Stop};
 use crate::reading::{Reader, onward, put};
 use crate::syntax_tree::{Component, NameClass, Pattern};
@@ -54,7 +52,7 @@ impl Reader {
 
     /// Reads `"{" content* "}"` or `"{" over* "}"` into this list, which is empty.
     #[cycle(patterns)]
-    #[tactic(auto, using(crate::proofs::InsideBrackets::components_step, crate::proofs::InsideBrackets::components_too_deep), unfolding(crate::specs::plain::Productions::contents_with, crate::specs::plain::Productions::in_braces_at))]
+    #[tactic(auto, using(crate::proofs::InsideBrackets::components_step, crate::proofs::InsideBrackets::components_too_deep, crate::proofs::JoinedRest::nothing_before), unfolding(crate::specs::plain::Productions::contents_with, crate::specs::plain::Productions::in_braces_at))]
     fn contents<'t, 'a>(
         self,
         levels: u8,
@@ -69,7 +67,7 @@ impl Reader {
         if levels == 0 {
             return Err(ReadFault::Stop(Stop::TooDeep));
         }
-        let rest = self.components(levels - 1, setting, rest, place)?;
+        let rest = self.more_components(levels - 1, setting, rest, place)?;
         self.skip(Sign::CloseBrace, rest)
     }
 
@@ -131,24 +129,8 @@ impl Reader {
     {
         let mut components = Vec::new(self.alloc);
         let rest = self.contents(levels, Setting::Content, tokens, &mut components)?;
-        put_grammar(place, components);
+        put(place, Pattern::Grammar(components));
         Ok(rest)
-    }
-
-    /// Reads a primary: a pattern without a connector or a repetition outside brackets.
-    #[cycle(patterns)]
-    #[tactic(auto, unfolding(crate::specs::plain::Productions::primary_with))]
-    #[inline(always)]
-    fn primary<'t, 'a>(
-        self,
-        levels: u8,
-        tokens: &'t [Token<'a>],
-        place: &mut Pattern<'a>,
-    ) -> Result<&'t [Token<'a>], ReadFault>
-        ensures { Gives stop_of (λ x. (pattern_of place.new, lexemes_in self.count x.now)) result (primary_with (inside_at levels) (lexemes_in self.count tokens.now)) }
-    {
-        let rest = self.annotation(tokens)?;
-        self.bare_primary(levels, rest, place)
     }
 
     /// Reads a primary after its annotation.
@@ -180,7 +162,7 @@ impl Reader {
 
     /// Reads `primary | primary "?" | primary "*" | primary "+"`.
     #[cycle(patterns)]
-    #[tactic(auto, unfolding(crate::specs::plain::Productions::particle_with))]
+    #[tactic(auto, unfolding(crate::specs::plain::Productions::particle_with, crate::specs::plain::Productions::primary_with))]
     fn particle<'t, 'a>(
         self,
         levels: u8,
@@ -189,7 +171,8 @@ impl Reader {
     ) -> Result<&'t [Token<'a>], ReadFault>
         ensures { Gives stop_of (λ x. (pattern_of place.new, lexemes_in self.count x.now)) result (particle_with (inside_at levels) (lexemes_in self.count tokens.now)) }
     {
-        let rest = self.primary(levels, tokens, place)?;
+        let rest = self.annotation(tokens)?;
+        let rest = self.bare_primary(levels, rest, place)?;
         self.repeated(rest, place)
     }
 
@@ -238,7 +221,7 @@ impl Reader {
     /// Reads a pattern that begins with a datatype.
     #[cycle(patterns)]
     #[inline(never)]
-    #[tactic(auto, unfolding(crate::specs::plain::Productions::data_with))]
+    #[tactic(auto, unfolding(crate::specs::plain::Productions::data_with, crate::specs::plain::Productions::primary_with))]
     fn data<'t, 'a>(
         self,
         levels: u8,
@@ -258,7 +241,8 @@ impl Reader {
             }
             Some(rest) => {
                 let mut except = Box::new(self.alloc, Pattern::Empty)?;
-                let rest = self.primary(levels, rest, &mut except)?;
+                let rest = self.annotation(rest)?;
+                let rest = self.bare_primary(levels, rest, &mut except)?;
                 put(place, Pattern::DataExcept(type_name, parameters, except));
                 Ok(rest)
             }
@@ -382,22 +366,7 @@ impl Reader {
         Ok(rest)
     }
 
-    /// Reads a list of components inside which at most `levels` brackets may be open into this list, which is empty.
-    #[cycle(patterns)]
-    pub fn components<'t, 'a>(
-        self,
-        levels: u8,
-        setting: Setting,
-        tokens: &'t [Token<'a>],
-        place: &mut Vec<Component<'a>>,
-    ) -> Result<&'t [Token<'a>], ReadFault>
-        requires { place.old.items ≡ [] }
-        ensures { Gives stop_of (λ x. (map component_of place.new.items, lexemes_in self.count x.now)) result (components_with (inside_at levels) (setting_of setting) (lexemes_in self.count tokens.now)) }
-    {
-        self.more_components(levels, setting, tokens, place)
-    }
-
-    /// Reads the components that follow, and appends them.
+    /// Reads components inside which at most `levels` brackets may be open, and appends them.
     #[cycle(patterns)]
     #[tactic(auto, unfolding(crate::specs::plain::Productions::components_with))]
     pub fn more_components<'t, 'a>(

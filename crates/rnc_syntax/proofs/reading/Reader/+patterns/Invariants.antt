@@ -15,9 +15,6 @@ decreases-braced l = 20 * l.levels + 1
 abbrev pub decreases-contents : goal.decreases-contents
 decreases-contents l = 20 * l.levels + 1
 
-abbrev pub decreases-primary : goal.decreases-primary
-decreases-primary l = 20 * l.levels + 5
-
 abbrev pub decreases-bare_primary : goal.decreases-bare_primary
 decreases-bare_primary l = 20 * l.levels + 4
 
@@ -62,9 +59,6 @@ decreases-bare_component l = 20 * l.levels + 13
 
 abbrev pub decreases-more_components : goal.decreases-more_components
 decreases-more_components l = 20 * l.levels + 15
-
-abbrev pub decreases-components : goal.decreases-components
-decreases-components l = 20 * l.levels + 16
 
 abbrev pub invariant-more-loop-after : goal.invariant-more-loop-after
 invariant-more-loop-after l = Goes (follow l.sign) (particle_with (inside_at l.levels)) (map pattern_of l.all.items) (lexemes_in l.self.count l.rest)
