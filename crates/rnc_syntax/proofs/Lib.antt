@@ -28,6 +28,7 @@ pub mod LocalityPatterns
 pub mod LocalityComponents
 pub mod LocalityFiles
 pub mod TakenItems
+pub mod JoinedRest
 pub mod Viability
 pub mod ViabilityAnnotations
 pub mod ViabilityLiterals

@@ -1,5 +1,6 @@
 // Reading the parts of patterns and components that contain no other pattern.
-ghost use Rattle.std.specs.Prelude.{◌≡◌, Ok, map, option_map};
+ghost use Rattle.std.specs.Prelude.{◌≡◌, ◌++◌, ◌∷◌, [], Ok, if◌then◌else◌, map, option_map};
+ghost use Rattle.rnc_model.specs.grammar.Syntax as written;
 ghost use Rattle.rnc_syntax.specs.plain.Reading.{lexemes_in};
 ghost use Rattle.rng_model.specs.plain.Answers.{Gives};
 ghost use Rattle.rnc_syntax.specs.views.Fault.{stop_of};
@@ -7,11 +8,11 @@ ghost use Rattle.rnc_syntax.specs.plain.Productions.{atom_at, begins_component a
 ghost use Rattle.rnc_syntax.specs.plain.Productions.{include_front, opening_front, repetition_front};
 ghost use Rattle.rnc_syntax.specs.plain.Productions.{assigned_at};
 ghost use Rattle.rnc_syntax.specs.plain.Productions.{assigned as assigned_of};
-ghost use Rattle.rnc_syntax.specs.views.SyntaxView.{component_of, pattern_of, setting_of, type_of};
+ghost use Rattle.rnc_syntax.specs.views.SyntaxView.{class_of, component_of, pattern_of, setting_of, type_of};
 
 use crate::fault::ReadFault;
 use crate::reading::{Reader, put, split_name};
-use crate::syntax_tree::{Component, DatatypeName, Pattern};
+use crate::syntax_tree::{Component, DatatypeName, NameClass, Pattern};
 use rnc_text::{Keyword, Sign, Token, TokenKind};
 use rng_model::Method;
 use std::mem;
@@ -57,17 +58,68 @@ pub fn put_joined<'a>(place: &mut Pattern<'a>, sign: Sign, all: Vec<Pattern<'a>>
     }
 }
 
-/// A define of the name, or a start if there is no name.
-pub fn component<'a>(name: Option<&'a str>, method: Method, body: Pattern<'a>) -> Component<'a>
-    ensures { component_of result ≡ assigned_of (option_map (λ n. n.now) name.entry) method (pattern_of body.entry) }
+/// Puts a define of the name in this place, or a start if there is no name.
+#[inline(never)]
+pub fn put_assigned<'a>(
+    place: &mut Component<'a>,
+    name: Option<&'a str>,
+    method: Method,
+    mut body: Box<Pattern<'a>>,
+)
+    ensures { component_of place.new ≡ assigned_of (option_map (λ n. n.now) name.entry) method (pattern_of body.entry.value) }
 {
+    let body = mem::replace(&mut *body, Pattern::Empty);
     match name {
-        None => Component::Start(method, body),
-        Some(name) => Component::Define(name, method, body),
+        None => put(place, Component::Start(method, body)),
+        Some(name) => put(place, Component::Define(name, method, body)),
     }
 }
 
+/// Puts an element or an attribute in this place. Takes the name class out of its place.
+#[inline(never)]
+pub fn put_named<'a>(
+    place: &mut Pattern<'a>,
+    is_attribute: bool,
+    class: &mut NameClass<'a>,
+    body: Box<Pattern<'a>>,
+)
+    ensures { pattern_of place.new ≡ (if is_attribute then written.attribute else written.element) (class_of class.old) (pattern_of body.entry.value) }
+{
+    let class = mem::replace(class, NameClass::Any);
+    if is_attribute {
+        put(place, Pattern::Attribute(class, body));
+    } else {
+        put(place, Pattern::Element(class, body));
+    }
+}
+
+/// Appends the pattern in this place, and leaves another one there.
+#[inline(never)]
+pub fn append_pattern<'a>(
+    all: &mut Vec<Pattern<'a>>,
+    place: &mut Pattern<'a>,
+) -> Result<(), ReadFault>
+    ensures { Gives stop_of (λ _. map pattern_of all.new.items) result (Ok (map pattern_of all.old.items ++ pattern_of place.old ∷ [])) }
+{
+    all.push(mem::replace(place, Pattern::Empty))?;
+    Ok(())
+}
+
 impl Reader {
+    /// Appends the component in this place, and leaves another one there.
+    #[inline(never)]
+    pub fn append_component<'a>(
+        self,
+        all: &mut Vec<Component<'a>>,
+        place: &mut Component<'a>,
+    ) -> Result<(), ReadFault>
+        ensures { Gives stop_of (λ _. map component_of all.new.items) result (Ok (map component_of all.old.items ++ component_of place.old ∷ [])) }
+    {
+        let empty = Component::Div(Vec::new(self.alloc));
+        all.push(mem::replace(place, empty))?;
+        Ok(())
+    }
+
     /// Whether the first token is a segment.
     fn begins_with_segment(self, tokens: &[Token<'_>]) -> bool
         ensures { result ≡ begins_segment (lexemes_in self.count tokens.now) }
@@ -200,6 +252,7 @@ impl Reader {
     }
 
     /// The name of a datatype at the front, and the tokens after it, unless a segment follows.
+    #[inline(never)]
     pub fn find_data<'t, 'a>(
         self,
         tokens: &'t [Token<'a>],

@@ -160,7 +160,7 @@ impl Reader {
     }
 
     /// Reads the body of a file.
-    #[tactic(auto, unfolding(crate::specs::plain::Productions::body_with, crate::specs::plain::Productions::bare_body_with))]
+    #[tactic(auto, using(crate::proofs::JoinedRest::nothing_before), unfolding(crate::specs::plain::Productions::body_with, crate::specs::plain::Productions::bare_body_with))]
     fn body<'t, 'a>(
         self,
         levels: u8,
@@ -173,7 +173,8 @@ impl Reader {
             return self.annotated_body(levels, rest);
         }
         if self.begins_grammar(true, tokens) {
-            let (components, rest) = self.components(levels, Setting::Content, tokens)?;
+            let mut components = Vec::new(self.alloc);
+            let rest = self.more_components(levels, Setting::Content, tokens, &mut components)?;
             Ok((Body::Grammar(components), rest))
         } else {
             let mut pattern = Pattern::Empty;
@@ -194,8 +195,8 @@ impl Reader {
         if self.begins_grammar(false, tokens) {
             let mut first = Component::Div(Vec::new(self.alloc));
             let rest = self.bare_component(levels, Setting::Content, tokens, &mut first)?;
-            let first = self.alone(first)?;
-            let (components, rest) = self.more_components(levels, Setting::Content, first, rest)?;
+            let mut components = self.alone(first)?;
+            let rest = self.more_components(levels, Setting::Content, rest, &mut components)?;
             Ok((Body::Grammar(components), rest))
         } else {
             let mut pattern = Pattern::Empty;

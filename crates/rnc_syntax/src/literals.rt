@@ -84,7 +84,8 @@ impl Reader {
             None => Ok((Vec::new(self.alloc), tokens)),
             Some(rest) => {
                 let (parameters, rest) = self.parameter_list(rest)?;
-                self.closed(Sign::CloseBrace, parameters, rest)
+                let rest = self.skip(Sign::CloseBrace, rest)?;
+                Ok((parameters, rest))
             }
         }
     }

@@ -4,7 +4,7 @@ ghost use Rattle.rnc_syntax.specs.plain.Reading.{lexemes_in};
 ghost use Rattle.rnc_syntax.specs.plain.Combinators.{follow, many, with_front};
 ghost use Rattle.rng_model.specs.plain.Answers.{Gives};
 ghost use Rattle.rnc_syntax.specs.views.Fault.{stop_of};
-ghost use Rattle.rnc_syntax.specs.plain.Productions.{bare_basic_with, bare_class_with, basic_with, choice_with, class_with, except_front, excepted, inside_at, wide_front};
+ghost use Rattle.rnc_syntax.specs.plain.Productions.{bare_basic_with, bare_class_with, basic_with, choice_with, class_with, except_front, excepted, inside_at};
 ghost use Rattle.rnc_syntax.specs.views.SyntaxView.{class_of};
 ghost use Rattle.rnc_model.specs.declared.token.Sign.TheVariants.{Bar};
 
@@ -24,23 +24,6 @@ fn except<'a>(prefix: Option<&'a str>, class: Box<NameClass<'a>>) -> NameClass<'
 }
 
 impl Reader {
-    /// `*` or `p:*` at the front, and the tokens after it.
-    fn find_wide<'t, 'a>(
-        self,
-        tokens: &'t [Token<'a>],
-    ) -> Option<(Option<&'a str>, &'t [Token<'a>])>
-        ensures { option_map (λ x. (option_map (λ p. p.now) x.0, lexemes_in self.count x.1.now)) result ≡ wide_front (lexemes_in self.count tokens.now) }
-    {
-        match tokens {
-            [first, rest @ ..] => match first.kind {
-                TokenKind::Sign(Sign::Star) => Some((None, rest)),
-                TokenKind::NsName => Some((Some(split_name(first.text).0), rest)),
-                _ => None,
-            },
-            [] => None,
-        }
-    }
-
     /// `*` or `p:*` and then `-` at the front, and the tokens after them.
     fn find_except<'t, 'a>(
         self,
@@ -48,9 +31,20 @@ impl Reader {
     ) -> Option<(Option<&'a str>, &'t [Token<'a>])>
         ensures { option_map (λ x. (option_map (λ p. p.now) x.0, lexemes_in self.count x.1.now)) result ≡ except_front (lexemes_in self.count tokens.now) }
     {
-        let (prefix, rest) = self.find_wide(tokens)?;
-        let rest = self.find_after(Sign::Minus, rest)?;
-        Some((prefix, rest))
+        match tokens {
+            [first, rest @ ..] => match first.kind {
+                TokenKind::Sign(Sign::Star) => {
+                    let rest = self.find_after(Sign::Minus, rest)?;
+                    Some((None, rest))
+                }
+                TokenKind::NsName => {
+                    let rest = self.find_after(Sign::Minus, rest)?;
+                    Some((Some(split_name(first.text).0), rest))
+                }
+                _ => None,
+            },
+            [] => None,
+        }
     }
 
     /// Reads a name class inside which at most `levels` brackets may be open:
@@ -179,7 +173,8 @@ impl Reader {
                 TokenKind::Sign(Sign::Star) => Ok((NameClass::Any, rest)),
                 TokenKind::Sign(Sign::OpenParenthesis) => {
                     let (class, rest) = self.inner_class(levels, rest)?;
-                    self.closed(Sign::CloseParenthesis, class, rest)
+                    let rest = self.skip(Sign::CloseParenthesis, rest)?;
+                    Ok((class, rest))
                 }
                 _ => Err(self.unexpected(tokens)),
             },

@@ -1,19 +1,20 @@
 // Reading patterns and the components of grammars.
-ghost use Rattle.std.specs.Prelude.{map, if◌then◌else◌};
+ghost use Rattle.std.specs.Prelude.{◌≡◌, [], Some, map, if◌then◌else◌};
 ghost use Rattle.rnc_syntax.specs.plain.Reading.{lexemes_in};
 ghost use Rattle.rnc_model.specs.grammar.Syntax as written;
-ghost use Rattle.rnc_syntax.specs.plain.Combinators.{follow, many, with_front};
+ghost use Rattle.rnc_syntax.specs.plain.Combinators.{either_way, unexpected, with_front};
 ghost use Rattle.rng_model.specs.plain.Answers.{Gives};
 ghost use Rattle.rnc_syntax.specs.views.Fault.{stop_of};
-ghost use Rattle.rnc_syntax.specs.plain.Productions.{bare_component_with, bare_pattern_with, bare_primary_with, braced_with, component_with, components_with, contents_with, inside_at, named_data_with, named_with, opened_with, overrides_with, particle_with, pattern_from as pattern_read_from, pattern_with, primary_with, rest_with, separator_of};
-ghost use Rattle.rnc_syntax.specs.views.SyntaxView.{component_of, pattern_of, setting_of, type_of};
+ghost use Rattle.rnc_syntax.specs.plain.Productions.{bare_component_with, bare_pattern_with, bare_primary_with, braced_with, component_with, components_with, contents_with, data_front, inside_at, named_data_with, named_with, opened_with, particle_with, pattern_from as pattern_read_from, pattern_with, rest_with};
+ghost use Rattle.rnc_syntax.specs.plain.ComponentParts.{div_with, include_with};
+ghost use Rattle.rnc_syntax.specs.declared.atoms.Opening.TheVariants as openings;
+ghost use Rattle.rnc_syntax.specs.views.SyntaxView.{component_of, pattern_of, setting_of};
 
-use crate::atoms::{Opening, Setting, component, put_joined};
+use crate::atoms::{Opening, Setting, append_pattern, put_assigned, put_joined, put_named};
 use crate::fault::{ReadFault, Stop};
 use crate::reading::{Reader, onward, put};
-use crate::syntax_tree::{Component, DatatypeName, NameClass, Pattern};
+use crate::syntax_tree::{Component, NameClass, Pattern};
 use rnc_text::{Keyword, Sign, Token};
-use std::mem;
 
 impl Reader {
     /// Reads a pattern one bracket deeper.
@@ -40,32 +41,34 @@ impl Reader {
         self,
         levels: u8,
         tokens: &'t [Token<'a>],
-    ) -> Result<(Box<Pattern<'a>>, &'t [Token<'a>]), ReadFault>
-        ensures { Gives stop_of (λ x. (pattern_of x.0.value, lexemes_in self.count x.1.now)) result (braced_with (inside_at levels) (lexemes_in self.count tokens.now)) }
+        place: &mut Pattern<'a>,
+    ) -> Result<&'t [Token<'a>], ReadFault>
+        ensures { Gives stop_of (λ x. (pattern_of place.new, lexemes_in self.count x.now)) result (braced_with (inside_at levels) (lexemes_in self.count tokens.now)) }
     {
         let rest = self.skip(Sign::OpenBrace, tokens)?;
-        let mut body = Box::new(self.alloc, Pattern::Empty)?;
-        let rest = self.inner_pattern(levels, rest, &mut body)?;
-        self.closed(Sign::CloseBrace, body, rest)
+        let rest = self.inner_pattern(levels, rest, place)?;
+        self.skip(Sign::CloseBrace, rest)
     }
 
-    /// Reads `"{" content* "}"` or `"{" over* "}"`.
+    /// Reads `"{" content* "}"` or `"{" over* "}"` into this list, which is empty.
     #[cycle(patterns)]
-    #[tactic(auto, using(crate::proofs::InsideBrackets::components_step, crate::proofs::InsideBrackets::components_too_deep), unfolding(crate::specs::plain::Productions::contents_with, crate::specs::plain::Productions::in_braces_at))]
+    #[tactic(auto, using(crate::proofs::InsideBrackets::components_step, crate::proofs::InsideBrackets::components_too_deep, crate::proofs::JoinedRest::nothing_before), unfolding(crate::specs::plain::Productions::contents_with, crate::specs::plain::Productions::in_braces_at))]
     fn contents<'t, 'a>(
         self,
         levels: u8,
         setting: Setting,
         tokens: &'t [Token<'a>],
-    ) -> Result<(Vec<Component<'a>>, &'t [Token<'a>]), ReadFault>
-        ensures { Gives stop_of (λ x. (map component_of x.0.items, lexemes_in self.count x.1.now)) result (contents_with (inside_at levels) (setting_of setting) (lexemes_in self.count tokens.now)) }
+        place: &mut Vec<Component<'a>>,
+    ) -> Result<&'t [Token<'a>], ReadFault>
+        requires { place.old.items ≡ [] }
+        ensures { Gives stop_of (λ x. (map component_of place.new.items, lexemes_in self.count x.now)) result (contents_with (inside_at levels) (setting_of setting) (lexemes_in self.count tokens.now)) }
     {
         let rest = self.skip(Sign::OpenBrace, tokens)?;
         if levels == 0 {
             return Err(ReadFault::Stop(Stop::TooDeep));
         }
-        let (components, rest) = self.components(levels - 1, setting, rest)?;
-        self.closed(Sign::CloseBrace, components, rest)
+        let rest = self.more_components(levels - 1, setting, rest, place)?;
+        self.skip(Sign::CloseBrace, rest)
     }
 
     /// Reads the name class and the body of an element or an attribute, after its keyword.
@@ -83,71 +86,56 @@ impl Reader {
     {
         let mut class = NameClass::Any;
         let rest = self.class(levels, tokens, &mut class)?;
-        let (body, rest) = self.braced(levels, rest)?;
-        if is_attribute {
-            put(place, Pattern::Attribute(class, body));
-            return Ok(rest);
-        }
-        put(place, Pattern::Element(class, body));
+        let mut body = Box::new(self.alloc, Pattern::Empty)?;
+        let rest = self.braced(levels, rest, &mut body)?;
+        put_named(place, is_attribute, &mut class, body);
         Ok(rest)
     }
 
-    /// Reads a primary that contains other patterns, after its keyword or its parenthesis.
+    /// Reads the body of a list or of what is mixed, after its keyword.
     #[cycle(patterns)]
-    #[tactic(auto, unfolding(crate::specs::plain::Productions::opened_with, crate::specs::plain::Productions::parens_with))]
-    fn opened<'t, 'a>(
+    #[inline(never)]
+    #[tactic(auto, unfolding(crate::specs::plain::Productions::opened_with))]
+    fn wrapped<'t, 'a>(
         self,
         levels: u8,
-        opening: Opening,
+        is_mixed: bool,
         tokens: &'t [Token<'a>],
         place: &mut Pattern<'a>,
     ) -> Result<&'t [Token<'a>], ReadFault>
-        ensures { Gives stop_of (λ x. (pattern_of place.new, lexemes_in self.count x.now)) result (opened_with (inside_at levels) opening (lexemes_in self.count tokens.now)) }
+        ensures { Gives stop_of (λ x. (pattern_of place.new, lexemes_in self.count x.now)) result (opened_with (inside_at levels) (if is_mixed then openings.Mixed else openings.List) (lexemes_in self.count tokens.now)) }
     {
-        match opening {
-            Opening::Element => self.named(levels, false, tokens, place),
-            Opening::Attribute => self.named(levels, true, tokens, place),
-            Opening::List => {
-                let (body, rest) = self.braced(levels, tokens)?;
-                put(place, Pattern::List(body));
-                Ok(rest)
-            }
-            Opening::Mixed => {
-                let (body, rest) = self.braced(levels, tokens)?;
-                put(place, Pattern::Mixed(body));
-                Ok(rest)
-            }
-            Opening::Grammar => {
-                let (components, rest) = self.contents(levels, Setting::Content, tokens)?;
-                put(place, Pattern::Grammar(components));
-                Ok(rest)
-            }
-            Opening::Parenthesis => {
-                let rest = self.inner_pattern(levels, tokens, place)?;
-                self.skip(Sign::CloseParenthesis, rest)
-            }
+        let mut body = Box::new(self.alloc, Pattern::Empty)?;
+        let rest = self.braced(levels, tokens, &mut body)?;
+        if is_mixed {
+            put(place, Pattern::Mixed(body));
+            return Ok(rest);
         }
+        put(place, Pattern::List(body));
+        Ok(rest)
     }
 
-    /// Reads a primary: a pattern without a connector or a repetition outside brackets.
+    /// Reads the components of a grammar, after its keyword.
     #[cycle(patterns)]
-    #[tactic(auto, unfolding(crate::specs::plain::Productions::primary_with))]
-    #[inline(always)]
-    fn primary<'t, 'a>(
+    #[inline(never)]
+    #[tactic(auto, unfolding(crate::specs::plain::Productions::opened_with))]
+    fn grammar<'t, 'a>(
         self,
         levels: u8,
         tokens: &'t [Token<'a>],
         place: &mut Pattern<'a>,
     ) -> Result<&'t [Token<'a>], ReadFault>
-        ensures { Gives stop_of (λ x. (pattern_of place.new, lexemes_in self.count x.now)) result (primary_with (inside_at levels) (lexemes_in self.count tokens.now)) }
+        ensures { Gives stop_of (λ x. (pattern_of place.new, lexemes_in self.count x.now)) result (opened_with (inside_at levels) openings.Grammar (lexemes_in self.count tokens.now)) }
     {
-        let rest = self.annotation(tokens)?;
-        self.bare_primary(levels, rest, place)
+        let mut components = Vec::new(self.alloc);
+        let rest = self.contents(levels, Setting::Content, tokens, &mut components)?;
+        put(place, Pattern::Grammar(components));
+        Ok(rest)
     }
 
     /// Reads a primary after its annotation.
     #[cycle(patterns)]
-    #[tactic(auto, unfolding(crate::specs::plain::Productions::bare_primary_with))]
+    #[tactic(auto, unfolding(crate::specs::plain::Productions::bare_primary_with, crate::specs::plain::Productions::opened_with, crate::specs::plain::Productions::parens_with))]
     fn bare_primary<'t, 'a>(
         self,
         levels: u8,
@@ -156,15 +144,25 @@ impl Reader {
     ) -> Result<&'t [Token<'a>], ReadFault>
         ensures { Gives stop_of (λ x. (pattern_of place.new, lexemes_in self.count x.now)) result (bare_primary_with (inside_at levels) (lexemes_in self.count tokens.now)) }
     {
-        match self.find_opening(tokens) {
-            Some((opening, rest)) => self.opened(levels, opening, rest, place),
-            None => self.atom(tokens, place),
+        let Some((opening, rest)) = self.find_opening(tokens) else {
+            return self.atom(tokens, place);
+        };
+        match opening {
+            Opening::Element => self.named(levels, false, rest, place),
+            Opening::Attribute => self.named(levels, true, rest, place),
+            Opening::List => self.wrapped(levels, false, rest, place),
+            Opening::Mixed => self.wrapped(levels, true, rest, place),
+            Opening::Grammar => self.grammar(levels, rest, place),
+            Opening::Parenthesis => {
+                let rest = self.inner_pattern(levels, rest, place)?;
+                self.skip(Sign::CloseParenthesis, rest)
+            }
         }
     }
 
     /// Reads `primary | primary "?" | primary "*" | primary "+"`.
     #[cycle(patterns)]
-    #[tactic(auto, unfolding(crate::specs::plain::Productions::particle_with))]
+    #[tactic(auto, unfolding(crate::specs::plain::Productions::particle_with, crate::specs::plain::Productions::primary_with))]
     fn particle<'t, 'a>(
         self,
         levels: u8,
@@ -173,34 +171,38 @@ impl Reader {
     ) -> Result<&'t [Token<'a>], ReadFault>
         ensures { Gives stop_of (λ x. (pattern_of place.new, lexemes_in self.count x.now)) result (particle_with (inside_at levels) (lexemes_in self.count tokens.now)) }
     {
-        let rest = self.primary(levels, tokens, place)?;
+        let rest = self.annotation(tokens)?;
+        let rest = self.bare_primary(levels, rest, place)?;
         self.repeated(rest, place)
     }
 
-    /// Reads the patterns that follow, each after this connector, and appends them.
+    /// Reads the patterns that follow the one in this place, each after this connector, and joins them.
     #[cycle(patterns)]
     #[inline(never)]
     fn more<'t, 'a>(
         self,
         levels: u8,
         sign: Sign,
-        mut all: Vec<Pattern<'a>>,
         tokens: &'t [Token<'a>],
-    ) -> Result<(Vec<Pattern<'a>>, &'t [Token<'a>]), ReadFault>
-        ensures { Gives stop_of (λ x. (map pattern_of x.0.items, lexemes_in self.count x.1.now)) result (with_front (map pattern_of all.entry.items) (many (follow sign) (particle_with (inside_at levels)) (lexemes_in self.count tokens.now))) }
+        place: &mut Pattern<'a>,
+    ) -> Result<&'t [Token<'a>], ReadFault>
+        ensures { Gives stop_of (λ x. (pattern_of place.new, lexemes_in self.count x.now)) result (rest_with (inside_at levels) (pattern_of place.old) (Some sign) (lexemes_in self.count tokens.now)) }
     {
+        let mut all = Vec::new(self.alloc);
+        append_pattern(&mut all, place)?;
         let mut rest = tokens;
         while let Some(after) = self.find_after(sign, rest) {
-            let mut next = Pattern::Empty;
-            let after = self.particle(levels, after, &mut next)?;
-            all.push(next)?;
+            let after = self.particle(levels, after, place)?;
+            append_pattern(&mut all, place)?;
             rest = onward(after);
         }
-        Ok((all, rest))
+        put_joined(place, sign, all);
+        Ok(rest)
     }
 
     /// Reads the rest of a pattern after its first primary.
     #[cycle(patterns)]
+    #[tactic(auto, unfolding(crate::specs::plain::Productions::rest_with))]
     fn pattern_from<'t, 'a>(
         self,
         levels: u8,
@@ -210,45 +212,28 @@ impl Reader {
         ensures { Gives stop_of (λ x. (pattern_of place.new, lexemes_in self.count x.now)) result (pattern_read_from (inside_at levels) (pattern_of place.old) (lexemes_in self.count tokens.now)) }
     {
         let rest = self.repeated(tokens, place)?;
-        self.members(levels, rest, place)
-    }
-
-    /// Reads the rest of a pattern after its first particle.
-    #[cycle(patterns)]
-    #[tactic(auto, unfolding(crate::specs::plain::Productions::rest_with))]
-    fn members<'t, 'a>(
-        self,
-        levels: u8,
-        tokens: &'t [Token<'a>],
-        place: &mut Pattern<'a>,
-    ) -> Result<&'t [Token<'a>], ReadFault>
-        ensures { Gives stop_of (λ x. (pattern_of place.new, lexemes_in self.count x.now)) result (rest_with (inside_at levels) (pattern_of place.old) (separator_of (lexemes_in self.count tokens.now)) (lexemes_in self.count tokens.now)) }
-    {
-        match self.separator(tokens) {
-            None => Ok(tokens),
-            Some(sign) => {
-                let all = self.alone(mem::replace(place, Pattern::Empty))?;
-                let (all, rest) = self.more(levels, sign, all, tokens)?;
-                put_joined(place, sign, all);
-                Ok(rest)
-            }
+        match self.separator(rest) {
+            None => Ok(rest),
+            Some(sign) => self.more(levels, sign, rest, place),
         }
     }
 
-    /// Reads a pattern that begins with a datatype, after the name of that.
+    /// Reads a pattern that begins with a datatype.
     #[cycle(patterns)]
     #[inline(never)]
-    #[tactic(auto, unfolding(crate::specs::plain::Productions::data_with))]
+    #[tactic(auto, unfolding(crate::specs::plain::Productions::data_with, crate::specs::plain::Productions::primary_with))]
     fn data<'t, 'a>(
         self,
         levels: u8,
-        type_name: DatatypeName<'a>,
         tokens: &'t [Token<'a>],
         place: &mut Pattern<'a>,
     ) -> Result<&'t [Token<'a>], ReadFault>
-        ensures { Gives stop_of (λ x. (pattern_of place.new, lexemes_in self.count x.now)) result (named_data_with (inside_at levels) (type_of type_name.entry) (lexemes_in self.count tokens.now)) }
+        ensures { Gives stop_of (λ x. (pattern_of place.new, lexemes_in self.count x.now)) result (either_way (data_front (lexemes_in self.count tokens.now)) (unexpected (lexemes_in self.count tokens.now)) (λ d. named_data_with (inside_at levels) d.0 d.1)) }
     {
-        let (parameters, rest) = self.parameters(tokens)?;
+        let Some((type_name, rest)) = self.find_data(tokens) else {
+            return Err(self.unexpected(tokens));
+        };
+        let (parameters, rest) = self.parameters(rest)?;
         match self.find_after(Sign::Minus, rest) {
             None => {
                 put(place, Pattern::Data(type_name, parameters));
@@ -256,7 +241,8 @@ impl Reader {
             }
             Some(rest) => {
                 let mut except = Box::new(self.alloc, Pattern::Empty)?;
-                let rest = self.primary(levels, rest, &mut except)?;
+                let rest = self.annotation(rest)?;
+                let rest = self.bare_primary(levels, rest, &mut except)?;
                 put(place, Pattern::DataExcept(type_name, parameters, except));
                 Ok(rest)
             }
@@ -294,24 +280,49 @@ impl Reader {
                 let rest = self.bare_primary(levels, tokens, place)?;
                 self.pattern_from(levels, rest, place)
             }
-            Some((type_name, rest)) => self.data(levels, type_name, rest, place),
+            Some(_) => self.data(levels, tokens, place),
         }
     }
 
-    /// Reads the components in the braces of an include, if there are braces.
+    /// Reads the components of a div, after its keyword.
     #[cycle(patterns)]
-    #[tactic(auto, unfolding(crate::specs::plain::Productions::overrides_with))]
-    fn overrides<'t, 'a>(
+    #[inline(never)]
+    fn div<'t, 'a>(
         self,
         levels: u8,
+        setting: Setting,
         tokens: &'t [Token<'a>],
-    ) -> Result<(Vec<Component<'a>>, &'t [Token<'a>]), ReadFault>
-        ensures { Gives stop_of (λ x. (map component_of x.0.items, lexemes_in self.count x.1.now)) result (overrides_with (inside_at levels) (lexemes_in self.count tokens.now)) }
+        place: &mut Component<'a>,
+    ) -> Result<&'t [Token<'a>], ReadFault>
+        ensures { Gives stop_of (λ x. (component_of place.new, lexemes_in self.count x.now)) result (div_with (inside_at levels) (setting_of setting) (lexemes_in self.count tokens.now)) }
     {
-        match self.find_after(Sign::OpenBrace, tokens) {
-            None => Ok((Vec::new(self.alloc), tokens)),
-            Some(_) => self.contents(levels, Setting::Override, tokens),
-        }
+        let mut components = Vec::new(self.alloc);
+        let rest = self.contents(levels, setting, tokens, &mut components)?;
+        put(place, Component::Div(components));
+        Ok(rest)
+    }
+
+    /// Reads the mention and the components of an include, after its keyword, which has this number.
+    #[cycle(patterns)]
+    #[inline(never)]
+    #[tactic(auto, unfolding(crate::specs::plain::Productions::overrides_with))]
+    fn include<'t, 'a>(
+        self,
+        levels: u8,
+        number: usize,
+        tokens: &'t [Token<'a>],
+        place: &mut Component<'a>,
+    ) -> Result<&'t [Token<'a>], ReadFault>
+        ensures { Gives stop_of (λ x. (component_of place.new, lexemes_in self.count x.now)) result (include_with (inside_at levels) number (lexemes_in self.count tokens.now)) }
+    {
+        let (mention, rest) = self.mention(number, tokens)?;
+        let mut components = Vec::new(self.alloc);
+        let rest = match self.find_after(Sign::OpenBrace, rest) {
+            None => rest,
+            Some(_) => self.contents(levels, Setting::Override, rest, &mut components)?,
+        };
+        put(place, Component::Include(mention, components));
+        Ok(rest)
     }
 
     /// Reads one component.
@@ -343,55 +354,37 @@ impl Reader {
         ensures { Gives stop_of (λ x. (component_of place.new, lexemes_in self.count x.now)) result (bare_component_with (inside_at levels) (setting_of setting) (lexemes_in self.count tokens.now)) }
     {
         if let Some(rest) = self.find_after_keyword(Keyword::Div, tokens) {
-            let (components, rest) = self.contents(levels, setting, rest)?;
-            put(place, Component::Div(components));
-            return Ok(rest);
+            return self.div(levels, setting, rest, place);
         }
         if let Some((number, rest)) = self.find_include(setting, tokens) {
-            let (mention, rest) = self.mention(number, rest)?;
-            let (components, rest) = self.overrides(levels, rest)?;
-            put(place, Component::Include(mention, components));
-            return Ok(rest);
+            return self.include(levels, number, rest, place);
         }
         let (name, method, rest) = self.assigned(tokens)?;
-        let mut body = Pattern::Empty;
+        let mut body = Box::new(self.alloc, Pattern::Empty)?;
         let rest = self.pattern(levels, rest, &mut body)?;
-        put(place, component(name, method, body));
+        put_assigned(place, name, method, body);
         Ok(rest)
     }
 
-    /// Reads a list of components inside which at most `levels` brackets may be open.
-    #[cycle(patterns)]
-    pub fn components<'t, 'a>(
-        self,
-        levels: u8,
-        setting: Setting,
-        tokens: &'t [Token<'a>],
-    ) -> Result<(Vec<Component<'a>>, &'t [Token<'a>]), ReadFault>
-        ensures { Gives stop_of (λ x. (map component_of x.0.items, lexemes_in self.count x.1.now)) result (components_with (inside_at levels) (setting_of setting) (lexemes_in self.count tokens.now)) }
-    {
-        self.more_components(levels, setting, Vec::new(self.alloc), tokens)
-    }
-
-    /// Reads the components that follow, and appends them.
+    /// Reads components inside which at most `levels` brackets may be open, and appends them.
     #[cycle(patterns)]
     #[tactic(auto, unfolding(crate::specs::plain::Productions::components_with))]
     pub fn more_components<'t, 'a>(
         self,
         levels: u8,
         setting: Setting,
-        mut all: Vec<Component<'a>>,
         tokens: &'t [Token<'a>],
-    ) -> Result<(Vec<Component<'a>>, &'t [Token<'a>]), ReadFault>
-        ensures { Gives stop_of (λ x. (map component_of x.0.items, lexemes_in self.count x.1.now)) result (with_front (map component_of all.entry.items) (components_with (inside_at levels) (setting_of setting) (lexemes_in self.count tokens.now))) }
+        all: &mut Vec<Component<'a>>,
+    ) -> Result<&'t [Token<'a>], ReadFault>
+        ensures { Gives stop_of (λ x. (map component_of all.new.items, lexemes_in self.count x.now)) result (with_front (map component_of all.old.items) (components_with (inside_at levels) (setting_of setting) (lexemes_in self.count tokens.now))) }
     {
+        let mut next = Box::new(self.alloc, Component::Div(Vec::new(self.alloc)))?;
         let mut rest = tokens;
         while self.begins_component(setting, rest) {
-            let mut next = Component::Div(Vec::new(self.alloc));
             let after = self.component(levels, setting, rest, &mut next)?;
-            all.push(next)?;
+            self.append_component(all, &mut next)?;
             rest = onward(after);
         }
-        Ok((all, rest))
+        Ok(rest)
     }
 }

@@ -1,5 +1,5 @@
 // Reading tokens from left to right.
-ghost use Rattle.std.specs.Prelude.{◌≡◌, [], ◌∷◌, IfOk, Ok, option_map, length};
+ghost use Rattle.std.specs.Prelude.{◌≡◌, [], ◌∷◌, Ok, option_map, length};
 ghost use Rattle.rnc_model.specs.tokens.Lexeme.{local_in, prefix_in};
 ghost use Rattle.rnc_syntax.specs.plain.Reading.{lexemes_in};
 ghost use Rattle.rnc_syntax.specs.plain.Combinators.{after, follow, follow_keyword, word_at, identifier_at, segment_at};
@@ -87,20 +87,6 @@ impl Reader {
             Some(rest) => Ok(rest),
             None => Err(self.unexpected(tokens)),
         }
-    }
-
-    /// Skips this sign after a value. Returns the value and the tokens after the sign, or fails if the sign is not first.
-    pub fn closed<'t, 'a, T: Drop>(
-        self,
-        sign: Sign,
-        value: T,
-        tokens: &'t [Token<'a>],
-    ) -> Result<(T, &'t [Token<'a>]), ReadFault>
-        ensures value { IfOk result (λ x. x.0 ≡ value) }
-        ensures reads { Gives stop_of (λ x. (tt, lexemes_in self.count x.1.now)) result (after sign (lexemes_in self.count tokens.now)) }
-    {
-        let rest = self.skip(sign, tokens)?;
-        Ok((value, rest))
     }
 
     /// The tokens after this keyword, if it is first.

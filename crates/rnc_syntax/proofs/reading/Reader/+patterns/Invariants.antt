@@ -1,4 +1,4 @@
-use Rattle.std.proofs.Common.{map, length, ◌+◌, ◌*◌}
+use Rattle.std.proofs.Common.{map, [], ◌∷◌, length, ◌+◌, ◌*◌}
 use Rattle.rnc_syntax.specs.plain.Reading.{lexemes_in}
 use Rattle.rnc_syntax.specs.plain.Combinators.{follow, many, with_front}
 use Rattle.rnc_syntax.specs.plain.Productions.{particle_with, component_front, component_with, components_with, inside_at}
@@ -15,14 +15,20 @@ decreases-braced l = 20 * l.levels + 1
 abbrev pub decreases-contents : goal.decreases-contents
 decreases-contents l = 20 * l.levels + 1
 
-abbrev pub decreases-primary : goal.decreases-primary
-decreases-primary l = 20 * l.levels + 5
-
 abbrev pub decreases-bare_primary : goal.decreases-bare_primary
 decreases-bare_primary l = 20 * l.levels + 4
 
-abbrev pub decreases-opened : goal.decreases-opened
-decreases-opened l = 20 * l.levels + 3
+abbrev pub decreases-wrapped : goal.decreases-wrapped
+decreases-wrapped l = 20 * l.levels + 2
+
+abbrev pub decreases-grammar : goal.decreases-grammar
+decreases-grammar l = 20 * l.levels + 2
+
+abbrev pub decreases-div : goal.decreases-div
+decreases-div l = 20 * l.levels + 2
+
+abbrev pub decreases-include : goal.decreases-include
+decreases-include l = 20 * l.levels + 2
 
 abbrev pub decreases-named : goal.decreases-named
 decreases-named l = 20 * l.levels + 2
@@ -32,9 +38,6 @@ decreases-particle l = 20 * l.levels + 6
 
 abbrev pub decreases-more : goal.decreases-more
 decreases-more l = 20 * l.levels + 7
-
-abbrev pub decreases-members : goal.decreases-members
-decreases-members l = 20 * l.levels + 8
 
 abbrev pub decreases-pattern_from : goal.decreases-pattern_from
 decreases-pattern_from l = 20 * l.levels + 9
@@ -48,9 +51,6 @@ decreases-pattern l = 20 * l.levels + 12
 abbrev pub decreases-bare_pattern : goal.decreases-bare_pattern
 decreases-bare_pattern l = 20 * l.levels + 11
 
-abbrev pub decreases-overrides : goal.decreases-overrides
-decreases-overrides l = 20 * l.levels + 2
-
 abbrev pub decreases-component : goal.decreases-component
 decreases-component l = 20 * l.levels + 14
 
@@ -60,12 +60,9 @@ decreases-bare_component l = 20 * l.levels + 13
 abbrev pub decreases-more_components : goal.decreases-more_components
 decreases-more_components l = 20 * l.levels + 15
 
-abbrev pub decreases-components : goal.decreases-components
-decreases-components l = 20 * l.levels + 16
-
 abbrev pub invariant-more-loop-after : goal.invariant-more-loop-after
 invariant-more-loop-after l = Goes (follow l.sign) (particle_with (inside_at l.levels)) (map pattern_of l.all.items) (lexemes_in l.self.count l.rest)
-    (with_front (map pattern_of l.fn.all.items) (many (follow l.sign) (particle_with (inside_at l.levels)) (lexemes_in l.self.count l.tokens)))
+    (with_front (pattern_of l.fn.place ∷ []) (many (follow l.sign) (particle_with (inside_at l.levels)) (lexemes_in l.self.count l.tokens)))
 
 abbrev pub decreases-more-loop-after : goal.decreases-more-loop-after
 decreases-more-loop-after l = length l.rest
