@@ -22,9 +22,7 @@ mod PlainReading
 mod ClosedFiles
 mod TreeSizes
 mod PlacesWithin
-mod ReadOneByOne
 mod ReadingSizes
-mod ReadDatatypes
 mod ReadMentioned
 mod GatherOneByOne
 mod GatheringSizes
@@ -33,6 +31,7 @@ mod FoundGrammars
 mod GrammarLookup
 pub mod PlacesListed
 mod LoopItems
+mod OpenPatterns
 mod ReaderEnds
 mod LoadedFiles
 mod WellPlaced

@@ -2,5 +2,6 @@
 pub mod ComponentNames
 pub mod Counting
 pub mod FoundGrammars
+pub mod OpenPatterns
 pub mod PlainReading
 pub mod SchemaPlaces

@@ -11,6 +11,7 @@ ghost use Rattle.rng_load.specs.plain.PlainReading.{gather_at, gather_below, gat
 ghost use Rattle.rng_load.specs.views.ReadPatterns.{files_in};
 
 use crate::component_names::{grammar_of, note};
+use crate::pattern_rows::FileScope;
 use crate::reading_names::namespace_uri;
 use crate::reading_patterns::{NestedGrammar, TreeReader};
 use indexmap::IndexSet;
@@ -126,7 +127,8 @@ impl<'a> TreeReader<'a> {
         ensures gathered { OnOk result (map gathered_of all.new.items ≡ map gathered_of all.old.items
             ++ replaced_by (included_with (gather_below (files_in self.entry) levels) (uri_in (namespace_bytes uri.now) (mention_of mention.now).namespace)
             (reverse way.old.items) (grammar_if (files_in self.entry (mention_of mention.now).href)))
-            (gather_at (files_in self.entry) levels (namespace_bytes uri.now) (1 ∷ reverse way.old.items) 0 (components_of (map component_of overriding.now)))) }
+            (gather_at (files_in self.entry) levels (namespace_bytes uri.now) (1 ∷ reverse way.old.items) 0
+            (components_of (map component_of overriding.now)))) }
         ensures way { OnOk result (way.new.items ≡ way.old.items) }
     {
         let included = self.included(levels, uri, way, mention)?;
@@ -175,7 +177,8 @@ impl<'a> TreeReader<'a> {
         all: &mut Vec<GatheredComponent<'a>>,
     ) -> Result<(), OutOfMemory>
         ensures gathered { OnOk result (map gathered_of all.new.items ≡ map gathered_of all.old.items
-            ++ gather_at (files_in self.entry) levels (namespace_bytes uri.now) (number ∷ reverse way.old.items) 0 (components_of (map component_of components.now))) }
+            ++ gather_at (files_in self.entry) levels (namespace_bytes uri.now) (number ∷ reverse way.old.items) 0
+            (components_of (map component_of components.now))) }
         ensures way { OnOk result (way.new.items ≡ way.old.items) }
     {
         way.push(number)?;
@@ -197,7 +200,8 @@ impl<'a> TreeReader<'a> {
         all: &mut Vec<GatheredComponent<'a>>,
     ) -> Result<(), OutOfMemory>
         ensures gathered { OnOk result (map gathered_of all.new.items ≡ map gathered_of all.old.items
-            ++ gathered_as (option_map (λ y. string_bytes y) name) method (read_at (files_in self.entry) levels (namespace_bytes uri.now) (reverse way.old.items) (pattern_of pattern.now)) ∷ []) }
+            ++ gathered_as (option_map (λ y. string_bytes y) name) method
+            (read_at (files_in self.entry) levels (namespace_bytes uri.now) (reverse way.old.items) (pattern_of pattern.now)) ∷ []) }
         ensures way { OnOk result (way.new.items ≡ way.old.items) }
     {
         let component = self.gathered(levels, uri, way, name, method, pattern)?;
@@ -215,11 +219,11 @@ impl<'a> TreeReader<'a> {
         pattern: &'a Pattern,
     ) -> Result<GatheredComponent<'a>, OutOfMemory>
         ensures gathered { IfOk result (λ g. gathered_of g
-            ≡ gathered_as (option_map (λ y. string_bytes y) name) method (read_at (files_in self.entry) levels (namespace_bytes uri.now) (reverse way.old.items) (pattern_of pattern.now))) }
+            ≡ gathered_as (option_map (λ y. string_bytes y) name) method
+            (read_at (files_in self.entry) levels (namespace_bytes uri.now) (reverse way.old.items) (pattern_of pattern.now))) }
         ensures way { OnOk result (way.new.items ≡ way.old.items) }
     {
-        let mut grammars = Vec::new(self.alloc);
-        let pattern = self.pattern(levels, uri, way, pattern, &mut grammars)?;
+        let (pattern, grammars) = self.pattern(FileScope { levels, uri }, way, pattern)?;
         let component = Component {
             name,
             method,
@@ -241,7 +245,8 @@ fn replace<'a>(
     mut included: Vec<GatheredComponent<'a>>,
     mut overriding: Vec<GatheredComponent<'a>>,
 ) -> Result<(), OutOfMemory>
-    ensures { OnOk result (map gathered_of all.new.items ≡ map gathered_of all.old.items ++ replaced_by (map gathered_of included.entry.items) (map gathered_of overriding.entry.items)) }
+    ensures { OnOk result (map gathered_of all.new.items ≡ map gathered_of all.old.items
+        ++ replaced_by (map gathered_of included.entry.items) (map gathered_of overriding.entry.items)) }
 {
     remove_overridden(alloc, &mut included, &overriding)?;
     all.append(&mut included)?;

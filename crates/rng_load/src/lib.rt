@@ -9,6 +9,7 @@ mod loading;
 mod mentioned;
 mod order;
 mod paths;
+mod pattern_rows;
 mod put;
 mod reading;
 mod reading_names;

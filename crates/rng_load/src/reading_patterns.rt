@@ -1,19 +1,26 @@
 // From the patterns of files to those of a schema.
-ghost use Rattle.std.specs.Prelude.{◌≡◌, ◌∷◌, ◌++◌, IfOk, OnOk, map, option_map, reverse, string_bytes};
+ghost use Rattle.std.specs.Prelude.{◌≡◌, [], ◌++◌, false, IfOk, OnOk, map, option_map, reverse, string_bytes};
 ghost use Rattle.rng_model.specs.schema.Patterns as schema;
-ghost use Rattle.rng_model.specs.views.SchemaView.{schema_pattern_of};
+ghost use Rattle.rng_model.specs.declared.schema_pattern.SchemaRow.TheVariants as rows;
+ghost use Rattle.rng_model.specs.views.SchemaView.{row_arity, row_pattern, schema_pattern_of};
 ghost use Rattle.rng_model.specs.datatypes.DatatypeViews.{datatype_of, parameter_of};
+ghost use Rattle.rng_model.specs.names.NameViews.{class_of as schema_class_of};
 ghost use Rattle.rng_model.specs.names.NamespaceViews.{namespace_bytes};
-ghost use Rattle.rnc_model.specs.declarations.FileTree.{components_of, patterns_of};
-ghost use Rattle.rnc_grammar.specs.views.View.{class_of, component_of, file_of, mention_of, parameters_of, pattern_of, type_of};
-ghost use Rattle.rnc_model.specs.loading.Places.{class_in, datatype_in, uri_in};
-ghost use Rattle.rng_load.specs.plain.PlainReading.{external_with, nested_here, read_all_at, read_at, read_below};
-ghost use Rattle.rng_load.specs.views.ReadPatterns.{connector_of, files_in, nested_of};
+ghost use Rattle.rnc_model.specs.declarations.FileTree.{components_of};
+ghost use Rattle.rnc_grammar.specs.views.View.{class_of, component_of, data_of, file_of, mention_of, parameters_of, pattern_of, type_of};
+ghost use Rattle.rnc_model.specs.loading.Places.{TreePath, class_in, datatype_in};
+ghost use Rattle.rng_load.specs.plain.OpenPatterns.{Files, finished, with_read};
+ghost use Rattle.rng_load.specs.plain.PlainReading.{nested_here, read_at, read_mention};
+ghost use Rattle.rng_load.specs.views.PatternRows.{Fits, made_of, opens, read_head};
+ghost use Rattle.rng_load.specs.views.ReadPatterns.{files_in, nested_of};
 
+use crate::pattern_rows::{Children, FileScope, PatternHead, PatternRows};
 use crate::reading_names::{name_class, namespace_uri};
 use indexmap::IndexMap;
-use rnc_grammar::{Component, FileTree, Mention, NameClass, Pattern};
-use rng_model::{Datatype, DatatypeValue, Namespace, OutOfMemory, Place, SchemaPattern};
+use rnc_grammar::{Component, FileTree, Mention, Pattern};
+use rng_model::{
+    Datatype, DatatypeValue, NameClass, Namespace, OutOfMemory, Place, SchemaPattern, SchemaRow,
+};
 use std::alloc::Global;
 
 /// A nested grammar: its place, the namespace that its file inherits, and its components.
@@ -33,203 +40,168 @@ pub(crate) struct TreeReader<'a> {
     pub trees: &'a IndexMap<String, FileTree>,
 }
 
-/// The connector between the members of a list.
-#[derive(Clone, Copy)]
-pub(crate) enum Connector {
-    /// `,`
-    Group,
-    /// `&`
-    Interleave,
-    /// `|`
-    Choice,
-}
-
-impl Connector {
-    /// The pattern with these members.
-    fn joined(self, members: Vec<SchemaPattern>) -> SchemaPattern
-        ensures { schema_pattern_of result ≡ schema.members (connector_of self) (map schema_pattern_of members.items) }
-    {
-        match self {
-            Connector::Group => SchemaPattern::Group(members),
-            Connector::Interleave => SchemaPattern::Interleave(members),
-            Connector::Choice => SchemaPattern::Choice(members),
-        }
-    }
-}
-
 impl<'a> TreeReader<'a> {
-    /// Reads a pattern of a file as a pattern of the schema. Follows mentions for at most `levels` levels. `uri` is the
-    /// namespace that its file inherits. `way` leads to it, with the outermost number first. Appends the grammars that
-    /// are nested in it to `grammars`.
+    /// Reads a pattern of a file as a pattern of the schema, and returns the grammars that are nested in it too. Follows
+    /// mentions for at most the levels of the scope. `way` leads to the pattern, with the outermost number first.
     ///
     /// A mention is `notAllowed` if its file does not exist, or no level is left.
     ///
     /// RELAX NG Specification, sections 4.6, 4.9 and 4.18.
-    #[cycle(reading)]
-    #[tactic(auto, unfolding(crate::specs::plain::PlainReading::read_with))]
     pub(crate) fn pattern(
         self,
-        levels: u32,
-        uri: &'a Namespace,
+        scope: FileScope<'a>,
         way: &mut Vec<usize>,
         pattern: &'a Pattern,
-        grammars: &mut Vec<NestedGrammar<'a>>,
-    ) -> Result<SchemaPattern, OutOfMemory>
-        ensures pattern { IfOk result (λ p. schema_pattern_of p ≡ (read_at (files_in self.entry) levels (namespace_bytes uri.now) (reverse way.old.items) (pattern_of pattern.now)).0) }
-        ensures nested { OnOk result (map nested_of grammars.new.items ≡ map nested_of grammars.old.items ++ (read_at (files_in self.entry) levels (namespace_bytes uri.now) (reverse way.old.items) (pattern_of pattern.now)).1) }
+    ) -> Result<(SchemaPattern, Vec<NestedGrammar<'a>>), OutOfMemory>
+        ensures read { IfOk result (λ r. (schema_pattern_of r.0, map nested_of r.1.items)
+            ≡ read_at (files_in self.entry) scope.entry.levels (namespace_bytes scope.entry.uri.now) (reverse way.old.items) (pattern_of pattern.now)) }
         ensures way { OnOk result (way.new.items ≡ way.old.items) }
+    {
+        let mut made = PatternRows::new(self.alloc);
+        self.open(scope, way, pattern, &mut made)?;
+        // The count only bounds the loop for the proof.
+        'steps: for _ in 0..usize::MAX {
+            if !self.step(way, &mut made)? {
+                return Ok((SchemaPattern { rows: made.rows }, made.grammars));
+            }
+        }
+        Err(OutOfMemory)
+    }
+
+    /// Reads the next child of the innermost open pattern, or ends that pattern if it has none. Returns whether a
+    /// pattern was open.
+    fn step(self, way: &mut Vec<usize>, made: &mut PatternRows<'a>) -> Result<bool, OutOfMemory>
+        ensures same { OnOk result (finished (files_in self.entry) (opens made.new) (reverse way.new.items) (made_of made.new)
+            ≡ finished (files_in self.entry) (opens made.old) (reverse way.old.items) (made_of made.old)) }
+        ensures none { IfOk result (λ some. some ≡ false → opens made.new ≡ []) }
+    {
+        let Some(mut open) = made.open.pop() else {
+            return Ok(false);
+        };
+        way.pop();
+        let Some(child) = open.children.get(open.number) else {
+            made.rows.push(open.row)?;
+            return Ok(true);
+        };
+        let scope = open.scope;
+        way.push(open.number)?;
+        open.number += 1;
+        made.open.push(open)?;
+        self.open(scope, way, child, made)?;
+        Ok(true)
+    }
+
+    /// Appends the rows of a pattern to which this way leads, or opens it.
+    fn open(
+        self,
+        scope: FileScope<'a>,
+        way: &mut Vec<usize>,
+        pattern: &'a Pattern,
+        made: &mut PatternRows<'a>,
+    ) -> Result<(), OutOfMemory>
+        ensures { OnOk result (finished (files_in self.entry) (opens made.new) (reverse way.new.items) (made_of made.new)
+            ≡ finished (files_in self.entry) (opens made.old) (reverse way.old.items) (with_read (made_of made.old)
+            (read_at (files_in self.entry) scope.entry.levels (namespace_bytes scope.entry.uri.now) (reverse way.old.items) (pattern_of pattern.now)))) }
+    {
+        let head = self.head(scope, way.as_slice(), pattern, &mut made.grammars)?;
+        made.put(way, head)
+    }
+
+    /// How a pattern begins to which this way leads. Appends a grammar to `grammars`.
+    ///
+    /// RELAX NG Specification, sections 4.6, 4.9 and 4.18.
+    #[tactic(auto, using(crate::proofs::OpenPatterns::no_more), unfolding(crate::specs::plain::PlainReading::read_with))]
+    fn head(
+        self,
+        scope: FileScope<'a>,
+        way: &[usize],
+        pattern: &'a Pattern,
+        grammars: &mut Vec<NestedGrammar<'a>>,
+    ) -> Result<PatternHead<'a>, OutOfMemory>
+        ensures pattern { IfOk result (λ h. (read_head (files_in self.entry) (reverse way.now) h).0
+            ≡ (read_at (files_in self.entry) scope.entry.levels (namespace_bytes scope.entry.uri.now) (reverse way.now) (pattern_of pattern.now)).0) }
+        ensures nested { IfOk result (λ h. map nested_of grammars.new.items ++ (read_head (files_in self.entry) (reverse way.now) h).1
+            ≡ map nested_of grammars.old.items
+            ++ (read_at (files_in self.entry) scope.entry.levels (namespace_bytes scope.entry.uri.now) (reverse way.now) (pattern_of pattern.now)).1) }
+        ensures fits { IfOk result Fits }
     {
         match pattern {
             Pattern::Element(class, body) => {
-                let body = self.body(levels, uri, way, body, grammars)?;
-                element(self.alloc, class, uri, body)
+                let class = boxed_class(self.alloc, class, scope.uri)?;
+                Ok(Children::One(body).of(SchemaRow::Element(class), scope))
             }
             Pattern::Attribute(class, body) => {
-                let body = self.body(levels, uri, way, body, grammars)?;
-                attribute(self.alloc, class, uri, body)
+                let class = boxed_class(self.alloc, class, scope.uri)?;
+                Ok(Children::One(body).of(SchemaRow::Attribute(class), scope))
             }
-            Pattern::List(body) => Ok(SchemaPattern::List(self.body(
-                levels, uri, way, body, grammars,
-            )?)),
-            Pattern::Mixed(body) => Ok(SchemaPattern::Mixed(self.body(
-                levels, uri, way, body, grammars,
-            )?)),
-            Pattern::Optional(body) => Ok(SchemaPattern::Optional(self.body(
-                levels, uri, way, body, grammars,
-            )?)),
-            Pattern::ZeroOrMore(body) => Ok(SchemaPattern::ZeroOrMore(self.body(
-                levels, uri, way, body, grammars,
-            )?)),
-            Pattern::OneOrMore(body) => Ok(SchemaPattern::OneOrMore(self.body(
-                levels, uri, way, body, grammars,
-            )?)),
-            Pattern::Ref(name) => reference(self.alloc, name.as_str()),
-            Pattern::ParentRef(name) => parent_reference(self.alloc, name.as_str()),
-            Pattern::Empty => Ok(SchemaPattern::Empty),
-            Pattern::Text => Ok(SchemaPattern::Text),
-            Pattern::NotAllowed => Ok(SchemaPattern::NotAllowed),
-            Pattern::Value(written) => value(self.alloc, written),
-            Pattern::Data { datatype, except } => match except {
-                None => data(self.alloc, datatype),
-                Some(except) => {
-                    let except = self.body(levels, uri, way, except, grammars)?;
-                    data_except(self.alloc, datatype, except)
-                }
-            },
-            Pattern::External(mention) => self.external(levels, uri, way, mention, grammars),
+            Pattern::List(body) => Ok(Children::One(body).of(SchemaRow::List, scope)),
+            Pattern::Mixed(body) => Ok(Children::One(body).of(SchemaRow::Mixed, scope)),
+            Pattern::Optional(body) => Ok(Children::One(body).of(SchemaRow::Optional, scope)),
+            Pattern::ZeroOrMore(body) => Ok(Children::One(body).of(SchemaRow::ZeroOrMore, scope)),
+            Pattern::OneOrMore(body) => Ok(Children::One(body).of(SchemaRow::OneOrMore, scope)),
+            Pattern::Ref(name) => {
+                let name = String::from_str(self.alloc, name.as_str())?;
+                Ok(PatternHead::Leaf(SchemaRow::Ref(name)))
+            }
+            Pattern::ParentRef(name) => {
+                let name = String::from_str(self.alloc, name.as_str())?;
+                Ok(PatternHead::Leaf(SchemaRow::ParentRef(name)))
+            }
+            Pattern::Empty => Ok(PatternHead::Leaf(SchemaRow::Empty)),
+            Pattern::Text => Ok(PatternHead::Leaf(SchemaRow::Text)),
+            Pattern::NotAllowed => Ok(PatternHead::Leaf(SchemaRow::NotAllowed)),
+            Pattern::Value(written) => {
+                let value = value(self.alloc, written)?;
+                Ok(PatternHead::Leaf(SchemaRow::Value(value)))
+            }
+            Pattern::Data { datatype, except } => data(self.alloc, scope, datatype, except),
+            Pattern::External(mention) => self.external(scope, way, mention, grammars),
             Pattern::Grammar(components) => {
-                grammar(self.alloc, uri, way.as_slice(), components, grammars)
+                let row = grammar(self.alloc, scope.uri, way, components, grammars)?;
+                Ok(PatternHead::Leaf(row))
             }
-            Pattern::Group(all) => {
-                self.members(levels, uri, way, Connector::Group, all, grammars)
-            }
+            Pattern::Group(all) => Ok(Children::All(all).of(SchemaRow::Group(all.len()), scope)),
             Pattern::Interleave(all) => {
-                self.members(levels, uri, way, Connector::Interleave, all, grammars)
+                Ok(Children::All(all).of(SchemaRow::Interleave(all.len()), scope))
             }
-            Pattern::Choice(all) => {
-                self.members(levels, uri, way, Connector::Choice, all, grammars)
-            }
+            Pattern::Choice(all) => Ok(Children::All(all).of(SchemaRow::Choice(all.len()), scope)),
         }
     }
 
-    /// Reads the child with this number.
-    #[cycle(reading)]
-    #[inline(always)]
-    fn child(
-        self,
-        levels: u32,
-        uri: &'a Namespace,
-        way: &mut Vec<usize>,
-        number: usize,
-        pattern: &'a Pattern,
-        grammars: &mut Vec<NestedGrammar<'a>>,
-    ) -> Result<SchemaPattern, OutOfMemory>
-        ensures pattern { IfOk result (λ p. schema_pattern_of p ≡ (read_at (files_in self.entry) levels (namespace_bytes uri.now) (number ∷ reverse way.old.items) (pattern_of pattern.now)).0) }
-        ensures nested { OnOk result (map nested_of grammars.new.items ≡ map nested_of grammars.old.items ++ (read_at (files_in self.entry) levels (namespace_bytes uri.now) (number ∷ reverse way.old.items) (pattern_of pattern.now)).1) }
-        ensures way { OnOk result (way.new.items ≡ way.old.items) }
-    {
-        way.push(number)?;
-        let read = self.pattern(levels, uri, way, pattern, grammars)?;
-        way.pop();
-        Ok(read)
-    }
-
-    /// Reads the only child.
-    #[cycle(reading)]
-    #[inline(never)]
-    fn body(
-        self,
-        levels: u32,
-        uri: &'a Namespace,
-        way: &mut Vec<usize>,
-        pattern: &'a Pattern,
-        grammars: &mut Vec<NestedGrammar<'a>>,
-    ) -> Result<Box<SchemaPattern>, OutOfMemory>
-        ensures pattern { IfOk result (λ p. schema_pattern_of p.value ≡ (read_at (files_in self.entry) levels (namespace_bytes uri.now) (0 ∷ reverse way.old.items) (pattern_of pattern.now)).0) }
-        ensures nested { OnOk result (map nested_of grammars.new.items ≡ map nested_of grammars.old.items ++ (read_at (files_in self.entry) levels (namespace_bytes uri.now) (0 ∷ reverse way.old.items) (pattern_of pattern.now)).1) }
-        ensures way { OnOk result (way.new.items ≡ way.old.items) }
-    {
-        let read = self.child(levels, uri, way, 0, pattern, grammars)?;
-        Ok(Box::new(self.alloc, read)?)
-    }
-
-    /// Reads the children in order, and joins them.
-    #[cycle(reading)]
-    #[inline(never)]
-    fn members(
-        self,
-        levels: u32,
-        uri: &'a Namespace,
-        way: &mut Vec<usize>,
-        connector: Connector,
-        patterns: &'a [Pattern],
-        grammars: &mut Vec<NestedGrammar<'a>>,
-    ) -> Result<SchemaPattern, OutOfMemory>
-        ensures pattern { IfOk result (λ p. schema_pattern_of p ≡ schema.members (connector_of connector) (read_all_at (files_in self.entry) levels (namespace_bytes uri.now) (reverse way.old.items) 0 (patterns_of (map pattern_of patterns.now))).0) }
-        ensures nested { OnOk result (map nested_of grammars.new.items ≡ map nested_of grammars.old.items ++ (read_all_at (files_in self.entry) levels (namespace_bytes uri.now) (reverse way.old.items) 0 (patterns_of (map pattern_of patterns.now))).1) }
-        ensures way { OnOk result (way.new.items ≡ way.old.items) }
-    {
-        let mut members = Vec::with_capacity(self.alloc, patterns.len())?;
-        for (number, pattern) in patterns.iter().enumerate() {
-            members.push(self.child(levels, uri, way, number, pattern, grammars)?)?;
-        }
-        Ok(connector.joined(members))
-    }
-
-    /// Reads the pattern of a mentioned file. A grammar becomes a nested one.
+    /// How the pattern of a mentioned file begins. A grammar becomes a nested one.
     ///
     /// RELAX NG Specification, section 4.6.
-    #[cycle(reading)]
     #[tactic(auto, unfolding(crate::specs::plain::PlainReading::external_with, crate::specs::plain::PlainReading::read_below))]
-    #[inline(never)]
     fn external(
         self,
-        levels: u32,
-        uri: &'a Namespace,
-        way: &mut Vec<usize>,
+        scope: FileScope<'a>,
+        way: &[usize],
         mention: &'a Mention,
         grammars: &mut Vec<NestedGrammar<'a>>,
-    ) -> Result<SchemaPattern, OutOfMemory>
-        ensures pattern { IfOk result (λ p. schema_pattern_of p ≡ (external_with (read_below (files_in self.entry) levels) (uri_in (namespace_bytes uri.now) (mention_of mention.now).namespace) (reverse way.old.items) (files_in self.entry (mention_of mention.now).href)).0) }
-        ensures nested { OnOk result (map nested_of grammars.new.items ≡ map nested_of grammars.old.items ++ (external_with (read_below (files_in self.entry) levels) (uri_in (namespace_bytes uri.now) (mention_of mention.now).namespace) (reverse way.old.items) (files_in self.entry (mention_of mention.now).href)).1) }
-        ensures way { OnOk result (way.new.items ≡ way.old.items) }
+    ) -> Result<PatternHead<'a>, OutOfMemory>
+        ensures pattern { IfOk result (λ h. (read_head (files_in self.entry) (reverse way.now) h).0
+            ≡ (read_mention (files_in self.entry) scope.entry.levels (namespace_bytes scope.entry.uri.now) (reverse way.now) (mention_of mention.now)).0) }
+        ensures nested { IfOk result (λ h. map nested_of grammars.new.items ++ (read_head (files_in self.entry) (reverse way.now) h).1
+            ≡ map nested_of grammars.old.items
+            ++ (read_mention (files_in self.entry) scope.entry.levels (namespace_bytes scope.entry.uri.now) (reverse way.now) (mention_of mention.now)).1) }
+        ensures fits { IfOk result Fits }
     {
-        let uri = namespace_uri(&mention.namespace, uri);
+        let uri = namespace_uri(&mention.namespace, scope.uri);
         let Some(tree) = self.tree(mention.href.as_str()) else {
-            return Ok(SchemaPattern::NotAllowed);
+            return Ok(PatternHead::Leaf(SchemaRow::NotAllowed));
         };
         match tree {
             FileTree::Grammar(components) => {
-                let nested = grammar(self.alloc, uri, way.as_slice(), components, grammars)?;
-                Ok(SchemaPattern::External(Box::new(self.alloc, nested)?))
+                let row = grammar(self.alloc, uri, way, components, grammars)?;
+                Ok(PatternHead::External(row))
             }
             FileTree::Pattern(pattern) => {
-                if levels == 0 {
-                    let nothing = Box::new(self.alloc, SchemaPattern::NotAllowed)?;
-                    return Ok(SchemaPattern::External(nothing));
+                if scope.levels == 0 {
+                    return Ok(PatternHead::External(SchemaRow::NotAllowed));
                 }
-                let body = self.body(levels - 1, uri, way, pattern, grammars)?;
-                Ok(SchemaPattern::External(body))
+                let levels = scope.levels - 1;
+                let scope = FileScope { levels, uri };
+                Ok(Children::One(pattern).of(SchemaRow::External, scope))
             }
         }
     }
@@ -242,19 +214,20 @@ impl<'a> TreeReader<'a> {
     }
 }
 
-/// The pattern of a nested grammar. Appends the grammar to `grammars`.
+/// The row of a nested grammar. Appends the grammar to `grammars`.
 ///
 /// RELAX NG Specification, section 4.18.
-#[inline(never)]
 fn grammar<'a>(
     alloc: Global,
     uri: &'a Namespace,
     way: &[usize],
     components: &'a [Component],
     grammars: &mut Vec<NestedGrammar<'a>>,
-) -> Result<SchemaPattern, OutOfMemory>
-    ensures pattern { IfOk result (λ p. schema_pattern_of p ≡ schema.grammar (reverse way.now)) }
-    ensures nested { OnOk result (map nested_of grammars.new.items ≡ map nested_of grammars.old.items ++ nested_here (reverse way.now) (namespace_bytes uri.now) (components_of (map component_of components.now))) }
+) -> Result<SchemaRow, OutOfMemory>
+    ensures pattern { IfOk result (λ r. row_pattern r [] ≡ schema.grammar (reverse way.now)) }
+    ensures leaf { IfOk result (λ r. row_arity r ≡ 0) }
+    ensures nested { OnOk result (map nested_of grammars.new.items ≡ map nested_of grammars.old.items
+        ++ nested_here (reverse way.now) (namespace_bytes uri.now) (components_of (map component_of components.now))) }
 {
     let place = Place::from_outermost(alloc, way)?;
     grammars.push(NestedGrammar {
@@ -262,96 +235,56 @@ fn grammar<'a>(
         uri,
         components,
     })?;
-    Ok(SchemaPattern::Grammar(place))
+    Ok(SchemaRow::Grammar(place))
 }
 
-/// An element with names of this class, in a file that inherits this namespace.
+/// A name class, in a file that inherits this namespace.
 ///
 /// RELAX NG Specification, section 4.9.
-#[inline(never)]
-fn element(
+fn boxed_class(
     alloc: Global,
-    class: &NameClass,
+    class: &rnc_grammar::NameClass,
     inherited: &Namespace,
-    body: Box<SchemaPattern>,
-) -> Result<SchemaPattern, OutOfMemory>
-    ensures { IfOk result (λ p. schema_pattern_of p ≡ schema.element (class_in (namespace_bytes inherited.now) (class_of class.now)) (schema_pattern_of body.value)) }
+) -> Result<Box<NameClass>, OutOfMemory>
+    ensures { IfOk result (λ c. schema_class_of c.value ≡ class_in (namespace_bytes inherited.now) (class_of class.now)) }
 {
-    let class = Box::new(alloc, name_class(alloc, class, inherited)?)?;
-    Ok(SchemaPattern::Element(class, body))
+    let class = name_class(alloc, class, inherited)?;
+    Ok(Box::new(alloc, class)?)
 }
 
-/// An attribute with names of this class, in a file that inherits this namespace.
-///
-/// RELAX NG Specification, section 4.9.
-#[inline(never)]
-fn attribute(
+/// How a datatype begins, with or without a pattern that it excludes.
+#[tactic(auto, using(crate::proofs::OpenPatterns::no_more), unfolding(crate::specs::plain::PlainReading::read_with))]
+fn data<'a>(
     alloc: Global,
-    class: &NameClass,
-    inherited: &Namespace,
-    body: Box<SchemaPattern>,
-) -> Result<SchemaPattern, OutOfMemory>
-    ensures { IfOk result (λ p. schema_pattern_of p ≡ schema.attribute (class_in (namespace_bytes inherited.now) (class_of class.now)) (schema_pattern_of body.value)) }
-{
-    let class = Box::new(alloc, name_class(alloc, class, inherited)?)?;
-    Ok(SchemaPattern::Attribute(class, body))
-}
-
-/// A reference to this name.
-#[inline(never)]
-fn reference(alloc: Global, name: &str) -> Result<SchemaPattern, OutOfMemory>
-    ensures { IfOk result (λ p. schema_pattern_of p ≡ schema.ref name.now) }
-{
-    Ok(SchemaPattern::Ref(String::from_str(alloc, name)?))
-}
-
-/// A reference to this name in the grammar around.
-#[inline(never)]
-fn parent_reference(alloc: Global, name: &str) -> Result<SchemaPattern, OutOfMemory>
-    ensures { IfOk result (λ p. schema_pattern_of p ≡ schema.parent_ref name.now) }
-{
-    Ok(SchemaPattern::ParentRef(String::from_str(alloc, name)?))
-}
-
-/// A datatype as a pattern.
-#[inline(never)]
-fn data(alloc: Global, written: &rnc_grammar::Datatype) -> Result<SchemaPattern, OutOfMemory>
-    ensures { IfOk result (λ p. schema_pattern_of p ≡ schema.data_of (datatype_in (type_of written.now.type_name) (parameters_of written.now))) }
-{
-    let datatype = datatype(alloc, written)?;
-    Ok(SchemaPattern::Data {
-        datatype,
-        except: None,
-    })
-}
-
-/// A datatype as a pattern, except for the texts that another pattern matches.
-#[inline(never)]
-fn data_except(
-    alloc: Global,
+    scope: FileScope<'a>,
     written: &rnc_grammar::Datatype,
-    except: Box<SchemaPattern>,
-) -> Result<SchemaPattern, OutOfMemory>
-    ensures { IfOk result (λ p. schema_pattern_of p ≡ schema.data_except (datatype_in (type_of written.now.type_name) (parameters_of written.now)) (schema_pattern_of except.value)) }
+    except: &'a Option<Box<Pattern>>,
+) -> Result<PatternHead<'a>, OutOfMemory>
+    ensures pattern { (files : Files) → (x : TreePath) → IfOk result (λ h. read_head files x h
+        ≡ read_at files scope.entry.levels (namespace_bytes scope.entry.uri.now) x (data_of written.now (option_map (λ p. pattern_of p.value) except.now))) }
+    ensures fits { IfOk result Fits }
 {
     let datatype = datatype(alloc, written)?;
-    Ok(SchemaPattern::Data {
-        datatype,
-        except: Some(except),
-    })
+    match except {
+        None => Ok(PatternHead::Leaf(SchemaRow::Data(datatype))),
+        Some(except) => { Ok(Children::One(except).of(SchemaRow::DataExcept(datatype), scope)) }
+    }
 }
 
-/// A value of a datatype as a pattern.
-#[inline(never)]
-fn value(alloc: Global, written: &rnc_grammar::DatatypeValue) -> Result<SchemaPattern, OutOfMemory>
-    ensures { IfOk result (λ p. schema_pattern_of p ≡ schema.value (type_of written.now.type_name).library (type_of written.now.type_name).name (string_bytes written.now.text)) }
+/// A value of a datatype.
+fn value(
+    alloc: Global,
+    written: &rnc_grammar::DatatypeValue,
+) -> Result<Box<DatatypeValue>, OutOfMemory>
+    ensures { IfOk result (λ v. row_pattern (rows.Value v) []
+        ≡ schema.value (type_of written.now.type_name).library (type_of written.now.type_name).name (string_bytes written.now.text)) }
 {
     let value = DatatypeValue {
         library: String::from_str(alloc, written.type_name.library.as_str())?,
         name: String::from_str(alloc, written.type_name.name.as_str())?,
         text: String::from_str(alloc, written.text.as_str())?,
     };
-    Ok(SchemaPattern::Value(Box::new(alloc, value)?))
+    Ok(Box::new(alloc, value)?)
 }
 
 /// A datatype with its parameters.

@@ -33,12 +33,11 @@ impl Model for Schema {
     ghost use Rattle.rng_model.specs.schema.Schema.{IsWellPlaced};
     ghost use Rattle.rng_load.specs.views.PlacedGrammars.{SchemaEntries, schema_of};
     ghost use Rattle.rng_model.specs.contracts.name.NameClass as classes;
-    ghost use Rattle.rng_model.specs.contracts.schema_pattern.SchemaPattern as patterns;
     ghost use Rattle.std.specs.Coded.{codes};
 
     ghost Value = { SchemaEntries };
 
-    ghost coded = { Prim.hlevel (codes, classes.the_row.coded, patterns.the_row.coded) };
+    ghost coded = { Prim.hlevel (codes, classes.the_row.coded) };
 
     ghost view = { λ s. record { main = s.main; grammars = s.grammars.entries } };
 

@@ -104,6 +104,10 @@ module _ (files : List ℕ → Option FileTree) where
   abbrev pub read_at : ℕ → PatternReader
   read_at n = read_with (read_below n)
 
+  -- a mention of an external file, with this many levels left
+  abbrev pub read_mention : ℕ → List ℕ → TreePath → tree.Mention → Pattern × List Nested
+  read_mention n u x m = external_with (read_below n) (uri_in u m.namespace) x (files m.href)
+
   -- patterns in order; the first is the child with this number
   abbrev pub read_all_at : ℕ → List ℕ → TreePath → ℕ → tree.Patterns → List Pattern × List Nested
   read_all_at n = read_all_with (read_below n)

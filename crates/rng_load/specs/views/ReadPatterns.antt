@@ -2,11 +2,8 @@
 use Rattle.std.specs.Prelude.{ℕ, List, map, Option}
 use Rattle.rng_model.specs.names.NamespaceViews.{namespace_bytes}
 use Rattle.rng_model.specs.views.SchemaView.{place_of}
-use Rattle.rng_model.specs.simple.Tree as tree
 use Rattle.rnc_model.specs.declarations.FileTree.{FileTree, components_of}
 use Rattle.rnc_grammar.specs.views.View.{component_of}
-use Rattle.rng_load.specs.declared.reading_patterns.Connector.{Connector}
-use Rattle.rng_load.specs.declared.reading_patterns.Connector.TheVariants as connectors
 use Rattle.rng_load.specs.declared.reading_patterns.NestedGrammar.{NestedGrammar}
 use Rattle.rng_load.specs.declared.reading_patterns.TreeReader.{TreeReader}
 use Rattle.rng_load.specs.views.FilesView.{taken_files_of}
@@ -19,9 +16,3 @@ nested_of g = record { place = place_of g.place; uri = namespace_bytes g.uri.now
 -- the trees by name
 abbrev pub files_in : TreeReader → List ℕ → Option FileTree
 files_in r = tree_in (taken_files_of r.trees.now)
-
--- the connector between the members of a list
-abbrev pub connector_of : Connector → tree.Connector
-connector_of connectors.Group = tree.group
-connector_of connectors.Interleave = tree.interleave
-connector_of connectors.Choice = tree.choice
