@@ -3,7 +3,7 @@ pub mod FileFaults
 pub mod FilesView
 pub mod GatheredComponents
 pub mod Loaded
-pub mod PatternRows
 pub mod LoadingFaults
+pub mod PatternRows
 pub mod PlacedGrammars
 pub mod ReadPatterns
