@@ -8,7 +8,7 @@ use Rattle.rng_model.specs.schema.Patterns.{Pattern}
 use Rattle.rng_model.specs.schema.Patterns as pattern
 use Rattle.rng_model.specs.views.SchemaView.{child, patterns_in, row_arity, row_pattern, with_row}
 use Rattle.rng_model.proofs.ReplacedLists.{with_children}
-use Rattle.rng_model.proofs.SchemaRows.{leaf_put, put_around, row_put}
+use Rattle.rng_model.proofs.SchemaRows.{leaf_put, put_around}
 use Rattle.rnc_model.specs.declarations.FileTree as tree
 use Rattle.rnc_model.specs.declarations.FileTree.{patterns_of}
 use Rattle.rnc_model.specs.loading.Places.{TreePath, Nested}

@@ -5,7 +5,7 @@ use Rattle.rng_model.specs.schema.Patterns as pattern
 use Rattle.rng_model.specs.views.SchemaView.{child}
 use Rattle.rnc_model.specs.declarations.FileTree as tree
 use Rattle.rnc_model.specs.declarations.FileTree.{FileTree, pattern_file}
-use Rattle.rnc_model.specs.loading.Places.{TreePath, Nested}
+use Rattle.rnc_model.specs.loading.Places.{TreePath}
 use Rattle.rnc_grammar.specs.declared.file_tree.Component.{the_lemmas as tree_lemmas}
 use Rattle.rnc_grammar.specs.declared.file_tree.Datatype.{Datatype}
 use Rattle.rnc_grammar.specs.declared.file_tree.Pattern.{Pattern}

@@ -58,11 +58,6 @@ size_of_all (file ∷ read) = size_of_file file.1 + size_of_all read
 
 -- ---- parts are smaller
 
--- each of some patterns
-pub pattern_smaller : {p : tree.Pattern} {ps : List tree.Pattern} → Among p ps → size p < size_of_patterns (tree.patterns_of ps)
-pattern_smaller here = omega arith
-pattern_smaller (there i) = let l = pattern_smaller i in omega (arith, l)
-
 -- each of some components
 pub component_smaller : {c : tree.Component} {cs : List tree.Component} → Among c cs → size_of_component c < size_of_components (tree.components_of cs)
 component_smaller here = omega arith
@@ -86,10 +81,6 @@ among_all (there i) = let l = among_all i in omega (arith, l)
 -- a file that was read
 pub file_fits : (read : TakenFiles) (f : Name) (t : FileTree) → tree_in read f ≡ Some t → size_of_file t ≤ size_of_all read
 file_fits read f t e = let r = found_among read f t e in let l = among_all r.1 in let s = ap size_of_file r.2 in omega (arith, l, s)
-
--- its pattern
-pub pattern_of_file_fits : (read : TakenFiles) (f : Name) (p : tree.Pattern) → tree_in read f ≡ Some (pattern_file p) → size p ≤ size_of_all read
-pattern_of_file_fits read f p e = file_fits read f (pattern_file p) e
 
 -- its components, if it is a grammar
 pub grammar_of_file_fits : (read : TakenFiles) (f : Name) (cs : tree.Components) → grammar_if (tree_in read f) ≡ Some cs

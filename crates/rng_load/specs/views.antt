@@ -3,8 +3,8 @@ pub mod FileFaults
 pub mod FilesView
 pub mod GatheredComponents
 pub mod Loaded
-pub mod PatternRows
 pub mod LoadingFaults
+pub mod PatternRows
 pub mod PendingGrammars
 pub mod PlacedGrammars
 pub mod ReadPatterns

@@ -1,4 +1,4 @@
-use Rattle.std.proofs.Common.{◌≡◌, ◌∙◌, ◌<◌, ◌++◌, rules, sym, ap, map, reverse, Some}
+use Rattle.std.proofs.Common.{◌∙◌, ◌<◌, ◌++◌, rules, sym, ap, map, reverse, Some}
 use Rattle.rng_model.specs.names.NamespaceViews.{namespace_bytes}
 use Rattle.rnc_grammar.specs.views.View.{file_of, pattern_of}
 use Rattle.rng_load.specs.views.PatternRows.{read_head}

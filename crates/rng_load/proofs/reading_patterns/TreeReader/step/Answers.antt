@@ -1,12 +1,11 @@
-use Rattle.std.proofs.Common.{◌≡◌, ◌∙◌, ◌+◌, ◌∷◌, [], sym, ap, ap₂, map, reverse, drop}
-use Rattle.rng_model.specs.names.NamespaceViews.{namespace_bytes}
+use Rattle.std.proofs.Common.{◌≡◌, ◌∙◌, ◌+◌, ◌∷◌, sym, ap, ap₂, map, reverse, drop}
 use Rattle.rng_model.specs.views.SchemaView.{patterns_in, with_row}
 use Rattle.rng_model.proofs.SchemaRows.{row_put}
 use Rattle.rnc_grammar.specs.views.View.{pattern_of}
 use Rattle.rng_load.specs.plain.OpenPatterns.{finished, with_read}
 use Rattle.rng_load.specs.plain.PlainReading.{read_at}
 use Rattle.rng_load.specs.views.PatternRows.{children_of, made_of, open_of, opens}
-use Rattle.rng_load.specs.views.ReadPatterns.{files_in, nested_of}
+use Rattle.rng_load.specs.views.ReadPatterns.{files_in}
 use Rattle.rng_load.proofs.OpenPatterns.{ends, goes_on, reverse_pushed, views_pushed, way_popped}
 use Rattle.rng_load.proofs.reading_patterns.TreeReader.step.Goals as goal
 
