@@ -62,6 +62,7 @@ impl<'a> TreeReader<'a> {
         // The count only bounds the loop for the proof.
         'steps: for _ in 0..usize::MAX {
             if !self.step(way, &mut made)? {
+                made.rows.shrink_to_fit();
                 return Ok((SchemaPattern { rows: made.rows }, made.grammars));
             }
         }
