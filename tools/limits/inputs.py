@@ -63,11 +63,11 @@ def many_files(factor):
     return ["start = empty\n" + "".join(f'include "f{i}.rnc"\n' for i in range(1, 64))] + [components(i, room) for i in range(1, 64)], ""
 
 
-def nested_files(front, back, last, files=64):
+def nested_files(front, back, last, files=64, mention="external"):
     """Files of 126 nested brackets. The innermost mentions the next file."""
     def make(factor):
         count = max(min(2, files), int(files * factor))
-        return [front * BRACKETS + (f'external "f{i + 1}.rnc"' if i + 1 < count else last) + back * BRACKETS for i in range(count)], ""
+        return [front * BRACKETS + (f'{mention} "f{i + 1}.rnc"' if i + 1 < count else last) + back * BRACKETS for i in range(count)], ""
     return make
 
 
@@ -255,7 +255,32 @@ def list_of_choices(member, sign="*"):
 
 ELEMENTS = nested_files("element a { ", " }", "text")
 GRAMMARS = nested_files("grammar { start = ", " }", "text")
-THREE = ("element a { text, ", "? }", "element b { empty }")
+SHAPES = [
+    ("elements", "element a { ", " }", "text"),
+    ("elements `element a { text, ..? }`", "element a { text, ", "? }", "element b { empty }"),
+    ("lists `list { text, .. }`", "list { text, ", " }", "empty"),
+    ("`mixed`", "mixed { ", " }", "element b { empty }"),
+    ("grammars", "grammar { start = ", " }", "text"),
+    ("grammars `grammar { start = text, ..? }`", "grammar { start = text, ", "? }", "empty"),
+    ("grammars `grammar { start = string, ..? }`", "grammar { start = string, ", "? }", "empty"),
+    ("parentheses", "(", ")", "text"),
+]
+
+# What nests deeply, in one file and through files in one another: name, command, and a function as in a row.
+NESTED = [
+    ("an empty element", "check", lambda factor: (["element a { empty }"], "")),
+    ("900 groups in one another, and as many children", "valid", deep_group),
+    ("900 groups in one another", "simple", deep_group),
+] + [
+    (f"{'a file' if files == 1 else f'{files} files'} of 126 {what} in one another", "check", nested_files(front, back, last, files))
+    for files in (1, 64) for what, front, back, last in SHAPES
+] + [
+    ("64 files of 126 `div` in one another, each file included in the one before", "check", nested_files("div { ", " }", "start = element a { empty }", 64, "include")),
+    ("a file of 120 excepts of name classes in one another", "check",
+     lambda factor: (["element " + "(* - (a | " * 120 + "b" + "))" * 120 + " { empty }"], "")),
+    ("a file of 120 excepts of data in one another", "check",
+     lambda factor: (["element a { string - " + "(string - " * 120 + '"a"' + ")" * 120 + " }"], "")),
+]
 
 ROWS = [
     ("64 files of 1 MiB, 63 of them included by the first", "check", None, many_files),
@@ -308,14 +333,4 @@ ROWS = [
     ("a class of 130,000 names, and 20,000 different children", "valid", None, many_names),
     ('a list `(("a" | "bi"), ..)*` of 900 members, and a text of 1 MiB', "valid", None, list_of_choices('("a" | "b#")')),
     ('a list `(("a" | "bi")?, ..)*` of 900 members, and a text of 1 MiB', "valid", None, list_of_choices('("a" | "b#")?')),
-] + [
-    ("900 groups in one another, and as many children, a stack of 256 KiB", "valid", 256, deep_group),
-    ("a file of 126 elements in one another, a stack of 256 KiB", "check", 256, nested_files("element a { ", " }", "text", 1)),
-    ("a file of 126 elements `element a { text, ..? }` in one another, a stack of 256 KiB", "check", 256, nested_files(*THREE, 1)),
-] + [
-    (f"{files} files of 126 elements `element a {{ text, ..? }}` in one another, a stack of {stack:,} KiB", "check", stack, nested_files(*THREE, files))
-    for files in (27, 64) for stack in (256, 8_192)
-] + [
-    (f"{what}, a stack of {stack:,} KiB", "check", stack, make) for what, make in (("64 files of 126 elements", ELEMENTS), ("64 files of 126 grammars", GRAMMARS))
-    for stack in (256, 8_192)
-]
+] + [(f"{name}, a stack of 256 KiB", command, 256, make) for name, command, make in NESTED]
