@@ -1,5 +1,6 @@
-use Rattle.std.proofs.Common.{◌≡◌, ◌∙◌, rules, false, reverse}
+use Rattle.std.proofs.Common.{◌≡◌, ◌∙◌, ap, rules, false, reverse}
 use Rattle.rng_model.specs.names.NamespaceViews.{namespace_bytes}
+use Rattle.rng_model.specs.views.SchemaView.{child, patterns_in}
 use Rattle.rnc_grammar.specs.views.View.{pattern_of}
 use Rattle.rng_load.specs.plain.PlainReading.{read_at}
 use Rattle.rng_load.specs.views.PatternRows.{made_of, opens}
@@ -21,7 +22,8 @@ returns-then-not-branch-clause-read c =
     let way = reverse c.args.way.now.items in
     let read = read_at files c.args.scope.levels (namespace_bytes c.args.scope.uri.now) way (pattern_of c.args.pattern.now) in
     let stopped : c.in_ok-step.field-0 ≡ false = search rules in
-    is_read files (opens c.step.new.made) (reverse c.step.new.way.items) way (made_of c.step.new.made) read (c.in_ok-step.ensures.none stopped)
+    ap (λ rows. (child (patterns_in rows), (made_of c.step.new.made).1)) c.shrink_to_fit.ensures.items
+    ∙ is_read files (opens c.step.new.made) (reverse c.step.new.way.items) way (made_of c.step.new.made) read (c.in_ok-step.ensures.none stopped)
     (c.in_ok-step.ensures.same ∙ c.steps.invariant)
 
 pub returns-then-not-branch-clause-way : goal.returns-then-not-branch-clause-way
