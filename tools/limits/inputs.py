@@ -276,8 +276,8 @@ NESTED = [
     for files in (1, 64) for what, front, back, last in SHAPES
 ] + [
     ("64 files of 126 `div` in one another, each file included in the one before", "check", nested_files("div { ", " }", "start = element a { empty }", 64, "include")),
-    ("a file of 120 excepts of name classes in one another", "check",
-     lambda factor: (["element " + "(* - (a | " * 120 + "b" + "))" * 120 + " { empty }"], "")),
+    ("a file of 60 excepts of name classes in one another", "check",
+     lambda factor: (["element " + "(* - (a | " * 60 + "b" + "))" * 60 + " { empty }"], "")),
     ("a file of 120 excepts of data in one another", "check",
      lambda factor: (["element a { string - " + "(string - " * 120 + '"a"' + ")" * 120 + " }"], "")),
 ]

@@ -45,7 +45,7 @@ def judged(given, program, command, stack, folder, names):
     said = (folder / "answer").read_text(encoding="utf-8", errors="replace").strip()
     if child.returncode < 0:
         said = f"ended by {signal.Signals(-child.returncode).name}"
-    return f"`{said[:80]}`", used.ru_utime + used.ru_stime, used.ru_maxrss / 1024
+    return f"`{said.splitlines()[0][:80] if said else ''}`", used.ru_utime + used.ru_stime, used.ru_maxrss / 1024
 
 
 def main():
