@@ -14,40 +14,50 @@ room=$(mktemp -d)
 trap 'rm -rf "$room"' EXIT
 RNCV_XML_PROGRAMS=$room/programs
 export RNCV_XML_PROGRAMS
-status=0
+failed=
 
 # what wants expat, the library or a C compiler is skipped where these are missing; the script says which
 "$here/xml/build.sh" "$RNCV_XML_PROGRAMS"
 case $? in
   0) built=1 ;;
   2) built='' && echo "tools/test.sh: rncv-xml is not built, and what wants it is skipped" ;;
-  *) built=1 && status=1 ;;
+  *) built=1 && failed=' xml/build.sh' ;;
 esac
 
-"$here/schema/test.sh" "$program" >"$room/schema" 2>&1 & schema=$!
-python3 -B "$here/transcripts/test.py" "$program" >"$room/transcripts" 2>&1 & transcripts=$!
-"$here/believed/test.sh" >"$room/believed" 2>&1 & believed=$!
-python3 -B "$here/pages/test.py" >"$room/pages" 2>&1 & pages=$!
-python3 -B "$here/edits/test.py" >"$room/edits" 2>&1 & edits=$!
-RNCV_REQUIRED=$built "$here/xml/test.sh" "$program" >"$room/xml" 2>&1 & xml=$!
-RNCV_REQUIRED=$built "$here/package/test.sh" "$program" >"$room/package" 2>&1 & package=$!
-RNCV_REQUIRED=$built "$here/lsp/test.sh" >"$room/lsp" 2>&1 & lsp=$!
-"$here/refused_growths/test.sh" "$program" >"$room/growths" 2>&1 & growths=$!
-"$here/streams/test.sh" "$program" >"$room/streams" 2>&1 & streams=$!
-python3 -B "$here/fuzz/test.py" "$program" >"$room/fuzz" 2>&1 & fuzz=$!
-for part in "$schema" "$transcripts" "$believed" "$pages" "$edits" "$xml" "$package" "$lsp" "$growths" "$streams" "$fuzz"; do
-  wait "$part" || status=1
-done
-for part in schema transcripts believed pages edits xml package lsp growths streams fuzz; do
+# tests PART COMMAND..: what the command prints goes to the file PART, and its status to PART.status
+tests() {
+  part=$1
+  shift
+  "$@" >"$room/$part" 2>&1
+  echo $? >"$room/$part.status"
+}
+tests schema "$here/schema/test.sh" "$program" &
+tests transcripts python3 -B "$here/transcripts/test.py" "$program" &
+tests believed "$here/believed/test.sh" &
+tests pages python3 -B "$here/pages/test.py" &
+tests edits python3 -B "$here/edits/test.py" &
+tests xml env RNCV_REQUIRED=$built "$here/xml/test.sh" "$program" &
+tests package env RNCV_REQUIRED=$built "$here/package/test.sh" "$program" &
+tests lsp env RNCV_REQUIRED=$built "$here/lsp/test.sh" &
+tests refused_growths "$here/refused_growths/test.sh" "$program" &
+tests streams "$here/streams/test.sh" "$program" &
+tests fuzz python3 -B "$here/fuzz/test.py" "$program" &
+tests limits python3 -B "$here/limits/test.py" "$program" &
+wait
+for part in schema transcripts believed pages edits xml package lsp refused_growths streams fuzz limits; do
   cat "$room/$part"
+  [ "$(cat "$room/$part.status")" = 0 ] || failed="$failed $part"
 done
 
 if [ "${RNCV_SKIP-}" = library ]; then
   echo "tools/library: left out"
 elif command -v "${CC:-cc}" >/dev/null; then
-  "$here/library/test.sh" || status=1
+  "$here/library/test.sh" || failed="$failed library"
 else
   echo "tools/library: not tested, since no C compiler is installed"
 fi
-[ "$status" = 0 ] && echo "tools/test.sh: ok" || echo "tools/test.sh: FAILED"
-exit "$status"
+if [ -n "$failed" ]; then
+  echo "tools/test.sh: FAILED:$failed"
+  exit 1
+fi
+echo "tools/test.sh: ok"
