@@ -255,6 +255,7 @@ def list_of_choices(member, sign="*"):
 
 ELEMENTS = nested_files("element a { ", " }", "text")
 GRAMMARS = nested_files("grammar { start = ", " }", "text")
+# What nests in a file: its name, each bracket up to what is inside it, the rest of the bracket, and what is inside the innermost one of the last file.
 SHAPES = [
     ("elements", "element a { ", " }", "text"),
     ("elements `element a { text, ..? }`", "element a { text, ", "? }", "element b { empty }"),
@@ -275,7 +276,8 @@ NESTED = [
     (f"{'a file' if files == 1 else f'{files} files'} of 126 {what} in one another", "check", nested_files(front, back, last, files))
     for files in (1, 64) for what, front, back, last in SHAPES
 ] + [
-    ("64 files of 126 `div` in one another, each file included in the one before", "check", nested_files("div { ", " }", "start = element a { empty }", 64, "include")),
+    ("64 files of 126 `div` in one another, each file included in the one before", "check",
+     nested_files("div { ", " }", "start = element a { empty }", 64, "include")),
     ("a file of 60 excepts of name classes in one another", "check",
      lambda factor: (["element " + "(* - (a | " * 60 + "b" + "))" * 60 + " { empty }"], "")),
     ("a file of 120 excepts of data in one another", "check",

@@ -217,6 +217,8 @@ def main():
     words.add_argument("--keep", type=pathlib.Path, default=HERE.parents[1] / "build/limits-search")
     words.add_argument("program", nargs="?", type=pathlib.Path, default=HERE.parents[1] / "crates/rncv/out/rncv")
     given = words.parse_args()
+    if not os.access(given.program, os.X_OK):
+        sys.exit(f"{given.program} is not there, or is no program")
     sys.setrecursionlimit(20_000)
     chance = random.Random(given.seed)
     with tempfile.TemporaryDirectory(prefix="limits-search-") as room:

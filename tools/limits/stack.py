@@ -3,24 +3,20 @@
 
     tools/limits/stack.py [--only WORD] [--most KIB] [PROGRAM]
 
-The default PROGRAM is `crates/rncv/out/rncv`. `inputs.py` has the inputs (`NESTED`). Each is run with stacks of different sizes (`ulimit -s`) until the least is
-known to 1 KiB, or to a hundredth where it is more than 100 KiB. `--most` is the largest stack that is tried (default: 65,536 KiB). `--only` picks the inputs
-that have WORD in their name.
+The default PROGRAM is `crates/rncv/out/rncv`. `inputs.py` has the inputs (`NESTED`). Each is run with stacks of different sizes (`ulimit -s`) until the
+least is known to 1 KiB, or to a hundredth where it is more than 100 KiB. `--most` is the largest stack that is tried (default: 65,536 KiB). `--only`
+picks the inputs that have WORD in their name.
 """
 import argparse
-import os
 import pathlib
-import sys
 import tempfile
 
 from inputs import NESTED
-from run import judged, write_input
-
-HERE = pathlib.Path(__file__).resolve().parent
+from run import cell, judged, parsed, write_input
 
 
 def least(answers, most):
-    """The least size from 8 to `most` with which `answers` is true, to a hundredth. It is true of `most`, and a larger size never makes it false."""
+    """The least size from 8 to `most` for which `answers` is true, to a hundredth. It is true of `most`, and a larger size never makes it false."""
     low, high = 8, most
     while high - low > max(1, high // 100):
         middle = (low + high) // 2
@@ -28,27 +24,31 @@ def least(answers, most):
     return high
 
 
+def least_stack(given, command, make):
+    """The least stack in KiB, as a text, and the answer with it. The text is `more` if the largest stack does not suffice."""
+    with tempfile.TemporaryDirectory(prefix="stack-") as room:
+        folder = pathlib.Path(room)
+        names = write_input(make, 1, folder)
+
+        def answer(size):
+            return judged(given, command, size, folder, names)[0]
+
+        wanted = answer(given.most)
+        if wanted.startswith("ended by"):
+            return "more", wanted
+        return f"{least(lambda size: answer(size) == wanted, given.most):,}", wanted
+
+
 def main():
     words = argparse.ArgumentParser(description=__doc__.splitlines()[0])
-    words.add_argument("--only", default="")
     words.add_argument("--most", type=int, default=65_536)
-    words.add_argument("program", nargs="?", type=pathlib.Path, default=HERE.parents[1] / "crates/rncv/out/rncv")
-    given = words.parse_args()
+    given = parsed(words)
     given.seconds, given.megabytes = 120, 4_096
-    program = given.program.resolve()
-    if not os.access(program, os.X_OK):
-        sys.exit(f"{program} is not there, or is no program")
     print("| Input | Command | Least stack, KiB | Answer |\n|---|---|---|---|", flush=True)
     for name, command, make in NESTED:
-        if given.only not in name:
-            continue
-        with tempfile.TemporaryDirectory(prefix="stack-") as room:
-            folder = pathlib.Path(room)
-            names = write_input(make, 1, folder)
-            run = lambda size: judged(given, program, command, size, folder, names)[0]
-            answer = run(given.most)
-            shown = "more" if "ended by" in answer else f"{least(lambda size: run(size) == answer, given.most):,}"
-            print(f"| {name} | `{command}` | {shown} | {answer} |", flush=True)
+        if given.only in name:
+            size, answer = least_stack(given, command, make)
+            print(f"| {cell(name)} | `{command}` | {size} | {cell(answer)} |", flush=True)
 
 
 if __name__ == "__main__":
