@@ -6,7 +6,7 @@ import time
 import unittest
 
 import generated
-from testing import HERE, TOP, XML2PYX, InFolder, peak_of
+from testing import HERE, TOP, XML2PYX, InFolder, peak_of, processor_seconds
 
 import pyx_writer
 
@@ -285,18 +285,18 @@ class Costs(Converted):
         for begin, end in (("<a><!--", "--></a>"), ("<a><?t ", "?></a>"), ("<!DOCTYPE a [<!--", "-->]><a/>"), ("<a><![CDATA[", "]]></a>"),
                            ("<a>", "</a>")):
             path = self.write("long.xml", begin + "x" * 20_000_000 + end)
-            begun = time.monotonic()
+            begun = processor_seconds()
             peak, status = peak_of([XML2PYX, path])
             self.assertEqual(status, 0)
-            self.assertLess(time.monotonic() - begun, 3, begin)
+            self.assertLess(processor_seconds() - begun, 3, begin)
             self.assertLess(peak, 16_384, begin)
 
     def test_limit_of_markup(self):
         for begin, unit in (('<a x="', " "), ("<a ", " "), ("<b", "b"), ("<?xml version='1.0' ", " "), ("<!DOCTYPE a [<!ENTITY e '", "x"),
                             ("<a>&", "e")):
-            begun = time.monotonic()
+            begun = processor_seconds()
             self.assertRegex(self.fault(begin + unit * 20_000_000)[2], "markup of more than 16,777,216 bytes", begin)
-            self.assertLess(time.monotonic() - begun, 5, begin)
+            self.assertLess(processor_seconds() - begun, 5, begin)
 
     def test_memory_does_not_grow(self):
         small, large = (peak_of([XML2PYX, self.write("d.xml", "<r>" + '<b x="1">t</b>\n' * count + "</r>")])[0] for count in (20_000, 2_000_000))

@@ -5,10 +5,9 @@ import re
 import signal
 import subprocess
 import sys
-import time
 import unittest
 
-from testing import RNCV_XML, SCHEMA, TOP, InFolder, peak_of
+from testing import RNCV_XML, SCHEMA, TOP, InFolder, peak_of, processor_seconds
 
 
 class Lines(InFolder):
@@ -324,9 +323,9 @@ class Ends(InFolder):
         self.assertLess(large[0], small[0] + 2_000)
         self.assertLess(large[0], 16_384)
         names = [self.write(f"d{number}.xml", '<r><b x="1"/></r>') for number in range(2_000)]
-        begun = time.monotonic()
+        begun = processor_seconds()
         self.assertEqual(self.judge("-j1", "r.rnc", *names), ("", 0))
-        self.assertLess(time.monotonic() - begun, 3)
+        self.assertLess(processor_seconds() - begun, 3)
 
 
 if __name__ == "__main__":

@@ -4,6 +4,7 @@ The variable RNCV_XML_PROGRAMS names the folder with the two programs, RNCV_PROG
 """
 import os
 import pathlib
+import resource
 import shutil
 import subprocess
 import sys
@@ -70,6 +71,12 @@ class InFolder(unittest.TestCase):
         for program in programs:
             if not shutil.which(program):
                 self.skipTest(f"{program} is not installed")
+
+
+def processor_seconds():
+    """The seconds of a processor that ended programs took. A busy machine does not change them much, as it changes the seconds on the clock."""
+    used = resource.getrusage(resource.RUSAGE_CHILDREN)
+    return used.ru_utime + used.ru_stime
 
 
 def peak_of(words):
