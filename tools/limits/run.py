@@ -46,7 +46,9 @@ def judged(given, command, stack, folder, names):
     said = (folder / "answer").read_text(encoding="utf-8", errors="replace").strip()
     said = f"`{said.splitlines()[0][:80] if said else ''}`"
     if child.returncode < 0:
-        said = f"stopped after {given.seconds} seconds" if seconds > given.seconds - 2 else f"ended by {signal.Signals(-child.returncode).name}"
+        ended = signal.Signals(-child.returncode)
+        is_slow = ended in (signal.SIGKILL, signal.SIGXCPU) and seconds > given.seconds - 1
+        said = f"stopped after {given.seconds} seconds" if is_slow else f"ended by {ended.name}"
     return said, seconds, used.ru_maxrss / 1024
 
 

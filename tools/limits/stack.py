@@ -1,5 +1,5 @@
 #!/usr/bin/env python3
-"""Finds the least stack with which the program answers inputs that nest deeply, and prints a table. It is not part of the gate.
+"""Finds the least stack that the program needs for inputs that nest deeply, and prints a table. It is not part of the gate.
 
     tools/limits/stack.py [--only WORD] [--most KIB] [PROGRAM]
 
@@ -16,7 +16,7 @@ from run import cell, judged, parsed, write_input
 
 
 def least(answers, most):
-    """The least size from 8 to `most` for which `answers` is true, to a hundredth. It is true of `most`, and a larger size never makes it false."""
+    """The least size from 8 to `most` for which `answers` is true, to a hundredth. It is true for `most`, and a larger size never makes it false."""
     low, high = 8, most
     while high - low > max(1, high // 100):
         middle = (low + high) // 2
