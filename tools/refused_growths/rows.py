@@ -20,7 +20,7 @@ NO_MEMORY = 4, b"", b"rncv: out of memory\n"
 USAGE = 5, b"", b"usage: rncv valid|check|simple FILES..\n"
 # Wrong command lines. In the last two, a word is too long, or there are too many words, for the first room for words.
 WRONG_WORDS = [], ["--"], ["check"], ["print", "s.rnc"], ["check", "-x", "s.rnc"], ["--", "--", "s.rnc"], ["x" * 2000, "s.rnc"], ["print"] + ["s.rnc"] * 200
-SECONDS = 300
+SECONDS = 900
 SPARED = 3
 
 

@@ -15,7 +15,8 @@ from typing import Any, Callable, Dict, List, Optional, Set
 
 TOP = pathlib.Path(__file__).resolve().parents[3]
 SERVER = TOP / "tools/lsp/rncv-lsp"
-SECONDS = 20.0
+# How long to wait for the server. A busy machine may take long.
+SECONDS = 120.0
 SCHEMA = "start = element list { element item { attribute at { xsd:integer }, text }* }\n"
 
 

@@ -144,9 +144,9 @@ class Faults(unittest.TestCase):
         jobs = Jobs(told.put)
         for number in range(5):
             jobs.put("fault", lambda: [][0])
-            self.assertIsInstance(told.get(timeout=20), IndexError)
+            self.assertIsInstance(told.get(timeout=120), IndexError)
             jobs.put("good", lambda: done.put(number))
-            self.assertEqual(done.get(timeout=20), number)
+            self.assertEqual(done.get(timeout=120), number)
 
     def test_judging(self):
         documents = Documents()
@@ -154,7 +154,7 @@ class Faults(unittest.TestCase):
         documents.open(Document("file:///none/s.rnc", "/none/s.rnc", "/none/s.rnc", "rnc", 1, 5))
         coordinator.start()
         coordinator.touch()
-        limit = time.monotonic() + 20
+        limit = time.monotonic() + 120
         while not self.sink.getvalue() and time.monotonic() < limit:
             time.sleep(0.01)
         self.assertIn("internal error: AttributeError", self.sent()[0]["params"]["message"])
