@@ -19,7 +19,7 @@ SMALL = "an empty element"
 
 def told(tool, *words):
     """What a tool prints on both streams, and its status."""
-    run = subprocess.run([sys.executable, "-B", HERE / tool, *map(str, words)], capture_output=True, text=True, timeout=100, check=False)
+    run = subprocess.run([sys.executable, "-B", HERE / tool, *map(str, words)], capture_output=True, text=True, timeout=600, check=False)
     return run.stdout, run.stderr, run.returncode
 
 

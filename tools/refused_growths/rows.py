@@ -122,9 +122,14 @@ def row_over(runner, command, document, *names):
     return row
 
 
+def too_long(*_):
+    sys.exit(f"rows.py: the rows take more than {SECONDS} seconds")
+
+
 def main(program, shim, *words):
     """Tries all rows, or the one of these words, and returns the exit status."""
     count, rows = Count(), [] if words else rows_of(HERE / "rows.txt")
+    signal.signal(signal.SIGALRM, too_long)
     signal.alarm(0 if words else SECONDS)
     with tempfile.TemporaryDirectory() as folder, tempfile.TemporaryDirectory() as room:
         runner = Runner(os.path.abspath(program), os.path.abspath(shim), room)

@@ -213,9 +213,9 @@ class LongMarkup(unittest.TestCase):
 
     def test_time(self):
         for begin, end in (("<a><!--", "--></a>"), ("<a><?t ", "?></a>"), ("<!DOCTYPE a [<!--", "-->]><a/>"), ("<a><![CDATA[", "]]></a>")):
-            begun = time.monotonic()
+            begun = time.process_time()
             pyx_writer.convert(io.BytesIO((begin + "x" * 20_000_000 + end).encode()), lambda line: None)
-            self.assertLess(time.monotonic() - begun, 4, begin)
+            self.assertLess(time.process_time() - begun, 4, begin)
 
     def test_limit(self):
         for begin, unit in (('<a x="', " "), ("<a ", " "), ("<b", "b"), ("<?xml version='1.0' ", " "), ("<!DOCTYPE a [<!ENTITY e '", "x"),
