@@ -1,7 +1,7 @@
 //! The graph of a schema: its definitions and its elements by number instead of names and places.
 //!
 //! `expansion_order` returns an order in which each definition can be expanded once. It fails exactly if some expansion
-//! loops outside elements, or if what is reached is too deep. No recursion crosses a definition, and no tree is
+//! loops outside elements, or if what is reached is too deep. Nothing recurses but name classes, and no tree is
 //! expanded.
 #![tactic(auto)]
 

@@ -50,8 +50,8 @@ impl<'a> Scope<'a> {
         put_missing(rows, count)
     }
 
-    /// Appends the row, whose children are so many of the last patterns. The row of an element takes the rows of its
-    /// body away.
+    /// Appends a row that takes as many of the last patterns as it has children. The row of an element takes the rows
+    /// of its body away.
     fn row(
         &self,
         row: &'a SchemaRow,

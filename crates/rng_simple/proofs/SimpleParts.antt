@@ -2,7 +2,7 @@
 use Rattle.std.proofs.Common.{◌≡◌, inl, inr, refl, ap, ap₂, sym, ◌∙◌, subst, ℕ, ◌<◌, ◌+◌, ◌-◌, suc, List, [], ◌∷◌, ◌++◌, length, map, take, drop, get_or, slice_index_or, arith}
 use Rattle.std.proofs.Common.{length-append}
 use Rattle.std.proofs.lemmas.Bool.{cases_lt, cases_eq}
-use Rattle.std.proofs.lemmas.List.{length-map, length-take, take-map, drop-map, drop_more, map_push, get_or-take, get_or-drop, get_or_past, get_or_append_left, get_or_push}
+use Rattle.std.proofs.lemmas.List.{length-map, length-take, take-map, drop-map, drop_more, map_push, get_or-take, get_or_past, get_or_append_left, get_or_push}
 use Rattle.std.proofs.lemmas.Option.{slice_get_within}
 use Rattle.rng_model.specs.simple.Tree.{Connector, choice, group, interleave, Tree}
 use Rattle.rng_model.specs.simple.Tree.{joined, no_trees, Simple, s_leaf, s_empty, s_text}
@@ -151,9 +151,6 @@ module _ (rows new : List ℕ) (id n : ℕ) (more : new ≡ rows ++ id ∷ []) (
   ]
 
 -- ---- sides in a table that grows
-
-pub below_rest : (n k : ℕ) (xs : List ℕ) → AreRowsBelow n xs → AreRowsBelow n (drop k xs)
-below_rest n k xs below j = subst (λ i. i < n) (sym (get_or-drop k xs j 0)) (below (k + j))
 
 below_front : (n k : ℕ) (xs : List ℕ) → 0 < n → AreRowsBelow n xs → AreRowsBelow n (take k xs)
 below_front n k xs some below j = elim (cases_lt j k) [

@@ -28,7 +28,7 @@ use std::alloc::Global;
 /// is reached: by an expansion that loops outside elements, or by one that is deeper than 1,000. Never fails with
 /// `File`. Fails with `Memory` only when out of memory.
 ///
-/// Takes time and memory linear in the schema, apart from hash collisions. Recurses as deep as one component nests.
+/// Takes time and memory linear in the schema, apart from hash collisions. Recurses as deep as a name class nests.
 pub fn simplify(alloc: Global, schema: &Schema) -> Result<SimpleGrammar, SchemaFault>
     ensures syntax { IfOk result (λ g. IsInSimpleSyntax (grammar_of g)) }
     ensures used { IfOk result AreAllUsed }
