@@ -1,8 +1,9 @@
--- Groups and interleaves cover others part by part, and of two alternatives one that covers the other is enough.
-use Rattle.std.proofs.Common.{◌≡◌, ◌⊎◌, ◌<◌, ◌≤◌, ℕ, List, [], ◌∷◌, Some, length, slice_get, slice_index_or, take, refl, subst, sym, ⊎_elim}
+-- Groups and interleaves cover others part by part, and an alternative that covers another one is enough for both.
+use Rattle.std.proofs.Common.{◌≡◌, ◌⊎◌, ◌+◌, ◌<◌, ◌≤◌, ℕ, List, [], ◌∷◌, ◌++◌, Some, get_or, length, slice_get, slice_index_or, take, refl, subst, sym, ⊎_elim}
 use Rattle.std.proofs.Common.{inl, inr, arith}
 use Rattle.std.specs.List.{Contains, remove}
-use Rattle.std.proofs.lemmas.List.Elements.{Contains-append_cases}
+use Rattle.std.proofs.lemmas.List.{take_more}
+use Rattle.std.proofs.lemmas.List.Elements.{Contains-append_cases, Contains-append_left, Contains-append_right}
 use Rattle.rng_model.specs.simple.Tree.{Simple, s_empty}
 use Rattle.rng_model.specs.matching.Document.{Attribute, Item}
 use Rattle.rng_model.specs.simple.Table.{Table}
@@ -40,6 +41,12 @@ module _ (ns : List Node) (table : IsPatternTable ns) where
         subst (λ (p : Simple ℕ). Takes g p xs is) (sym (over t outer _ whole))
         (on_group g (covers t g) behind xs is (subst (λ (p : Simple ℕ). Takes g p xs is) (over t inner _ part) d))
 
+    -- if the first side may be left out
+    pub second_side_covered : slice_get ns outer.0 ≡ Some (node.group first.0 second.0)
+        → ((t : Table) (g : Reading) → Takes g (tree_of t ns first.0) [] []) → Covers ns outer second
+    second_side_covered whole none = λ t g xs is d. subst (λ (p : Simple ℕ). Takes g p xs is) (sym (over t outer _ whole))
+        (taking.grouped (none t g) d (right_alone xs) refl)
+
     module _ (whole : slice_get ns outer.0 ≡ Some (node.interleave first.0 second.0)) where
       pub interleave_covers : (inner one other : PatternNumber) → slice_get ns inner.0 ≡ Some (node.interleave one.0 other.0)
           → Covers ns first one → Covers ns second other → Covers ns outer inner
@@ -59,11 +66,20 @@ module _ (ns : List Node) (table : IsPatternTable ns) where
       second_covers inner none covers = λ t g xs is d. subst (λ (p : Simple ℕ). Takes g p xs is) (sym (over t outer _ whole))
           (taking.interleaved (none t g) (covers t g xs is d) (right_alone xs) (right_alone is))
 
--- ---- of two alternatives one is enough
+-- ---- fewer alternatives are enough
 
 module _ (P : PatternNumber → Type 0) where
   abbrev Some_of : List PatternNumber → Type 0
   Some_of ms = (m : PatternNumber) × Contains ms m × P m
+
+  -- what is enough for the first of them is enough, with the next one, for one more
+  pub one_more : (left ms : List PatternNumber) (i : ℕ) (d : PatternNumber) → i < length ms → (Some_of (take i ms) → Some_of left)
+      → Some_of (take (i + 1) ms) → Some_of (left ++ get_or ms i d ∷ [])
+  one_more left ms i d inside enough h =
+      let next = get_or ms i d ∷ [] in
+      ⊎_elim (λ c. let l = enough (h.0, c, h.2) in (l.0, Contains-append_left left next l.0 l.1, l.2))
+      (λ c. (h.0, Contains-append_right left next h.0 c, h.2))
+      (Contains-append_cases (take i ms) next h.0 (subst (λ ns. Contains ns h.0) (take_more ms i d inside) h.1))
 
   of_two : (m n : PatternNumber) → Some_of (m ∷ n ∷ []) → P m ⊎ P n
   of_two m n h = ⊎_elim (λ c. inl (subst P (sym (only_one m h.0 c)) h.2)) (λ c. inr (subst P (sym (only_one n h.0 c)) h.2))

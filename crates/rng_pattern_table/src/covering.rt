@@ -1,5 +1,5 @@
 // Patterns that match everything that others match, as far as their shape shows.
-ghost use Rattle.std.specs.Prelude.{◌≡◌, ◌<◌, [], All, IsTrue, List, length};
+ghost use Rattle.std.specs.Prelude.{◌≡◌, ◌⊎◌, ◌<◌, ◌++◌, ◌∷◌, [], All, IfOk, IsTrue, List, OnOk, length};
 ghost use Rattle.std.specs.List.{Contains};
 ghost use Rattle.rng_model.specs.matching.Document.{Attribute, Item};
 ghost use Rattle.rng_model.specs.simple.Table.{Table};
@@ -11,10 +11,104 @@ ghost use Rattle.rng_pattern_table.specs.declared.pattern.PatternNumber.{Pattern
 
 use crate::pattern::{Pattern, PatternNumber};
 use crate::pattern_table::PatternTable;
+use rng_model::OutOfMemory;
+use std::alloc::Global;
 
 impl PatternTable {
+    /// Removes alternatives that others cover. Two are compared part by part. Of more, each is compared with its
+    /// neighbours, by the fronts of groups alone. Fails only when out of memory. Linear.
+    pub(crate) fn remove_covered(
+        &self,
+        alloc: Global,
+        alternatives: &mut Vec<PatternNumber>,
+    ) -> Result<(), OutOfMemory>
+        requires { All (λ m. m.0 < length self.now) alternatives.old.items }
+        ensures within { OnOk result ((m : PatternNumber) → Contains alternatives.new.items m → Contains alternatives.old.items m) }
+        ensures takes { OnOk result ((t : Table) (g : Reading) (xs : List Attribute) (ns : List Item)
+            → SomeTakes g (tree_of t self.now) alternatives.old.items xs ns → SomeTakes g (tree_of t self.now) alternatives.new.items xs ns) }
+    {
+        if alternatives.len() < 2 {
+            return Ok(());
+        }
+        *alternatives = self.without_covered(alloc, alternatives.as_slice())?;
+        self.remove_one_of_two(alternatives);
+        Ok(())
+    }
+
+    /// Returns the alternatives without those that a neighbour covers by its front.
+    fn without_covered(
+        &self,
+        alloc: Global,
+        alternatives: &[PatternNumber],
+    ) -> Result<Vec<PatternNumber>, OutOfMemory>
+        requires { All (λ m. m.0 < length self.now) alternatives.now }
+        ensures within { IfOk result (λ left. (m : PatternNumber) → Contains left.items m → Contains alternatives.now m) }
+        ensures takes { IfOk result (λ left. (t : Table) (g : Reading) (xs : List Attribute) (ns : List Item)
+            → SomeTakes g (tree_of t self.now) alternatives.now xs ns → SomeTakes g (tree_of t self.now) left.items xs ns) }
+    {
+        let mut left = Vec::with_capacity(alloc, alternatives.len())?;
+        for alternative in alternatives {
+            self.add_uncovered(&mut left, *alternative)?;
+        }
+        Ok(left)
+    }
+
+    /// Appends an alternative, unless the last one covers it by its front. It replaces the last one if it covers that.
+    fn add_uncovered(
+        &self,
+        left: &mut Vec<PatternNumber>,
+        alternative: PatternNumber,
+    ) -> Result<(), OutOfMemory>
+        requires inside { All (λ m. m.0 < length self.now) left.old.items }
+        requires alternative { alternative.0 < length self.now }
+        ensures within { OnOk result ((m : PatternNumber) → Contains left.new.items m → Contains (left.old.items ++ alternative ∷ []) m) }
+        ensures takes { OnOk result ((t : Table) (g : Reading) (xs : List Attribute) (ns : List Item)
+            → SomeTakes g (tree_of t self.now) (left.old.items ++ alternative ∷ []) xs ns → SomeTakes g (tree_of t self.now) left.new.items xs ns) }
+    {
+        let Some(last) = left.as_slice().last() else {
+            return Ok(left.push(alternative)?);
+        };
+        let last = *last;
+        if self.covers_by_front(last, alternative) {
+            return Ok(());
+        }
+        if self.covers_by_front(alternative, last) {
+            left.pop();
+        }
+        Ok(left.push(alternative)?)
+    }
+
+    /// Returns true only if a group covers another one, since both end alike and its front is an option and then the
+    /// front of the other one, as `(a?, b), c` covers `b, c`. Allocates nothing.
+    fn covers_by_front(&self, outer: PatternNumber, inner: PatternNumber) -> bool
+        requires outer { outer.0 < length self.now }
+        requires inner { inner.0 < length self.now }
+        ensures { IsTrue result → Covers self.now outer inner }
+    {
+        let Pattern::Group(first, second) = self.pattern(outer) else {
+            return false;
+        };
+        match self.pattern(inner) {
+            Pattern::Group(front, rest) if rest == second => {
+                self.is_behind_option(*first, *front)
+            }
+            _ => false,
+        }
+    }
+
+    /// Returns true only if a pattern is an option and then this part. Allocates nothing.
+    fn is_behind_option(&self, pattern: PatternNumber, part: PatternNumber) -> bool
+        requires pattern { pattern.0 < length self.now }
+        ensures { IsTrue result → Covers self.now pattern part }
+    {
+        match self.pattern(pattern) {
+            Pattern::Group(option, rest) => *rest == part && self.facts(*option).nullable,
+            _ => false,
+        }
+    }
+
     /// Removes one of two alternatives if the other one covers it.
-    pub(crate) fn remove_covered(&self, alternatives: &mut Vec<PatternNumber>)
+    fn remove_one_of_two(&self, alternatives: &mut Vec<PatternNumber>)
         requires { All (λ m. m.0 < length self.now) alternatives.old.items }
         ensures within { (m : PatternNumber) → Contains alternatives.new.items m → Contains alternatives.old.items m }
         ensures takes { (t : Table) (g : Reading) (xs : List Attribute) (ns : List Item)

@@ -41,13 +41,13 @@ remove_covered-requires c =
 pub choice_of-requires-clause-inside : goal.choice_of-requires-clause-inside
 choice_of-requires-clause-inside c =
     all_within (λ m. m.0 < length c.args.self.now) c.in_ok-alternatives.alternatives.items c.put_in_order.new.numbers.items
-    (λ m h. c.in_ok-remove_absorbed.ensures.within m (c.remove_covered.ensures.within m ((c.in_ok-put_in_order.ensures.same m).0 h)))
+    (λ m h. c.in_ok-remove_absorbed.ensures.within m (c.in_ok-remove_covered.ensures.within m ((c.in_ok-put_in_order.ensures.same m).0 h)))
     c.in_ok-alternatives.ensures.inside
 
 pub choice_of-requires-clause-members : goal.choice_of-requires-clause-members
 choice_of-requires-clause-members c = λ t.
     all_within (λ m. MayBeMember (tree_of t c.args.self.now m.0)) c.in_ok-alternatives.alternatives.items c.put_in_order.new.numbers.items
-    (λ m h. c.in_ok-remove_absorbed.ensures.within m (c.remove_covered.ensures.within m ((c.in_ok-put_in_order.ensures.same m).0 h)))
+    (λ m h. c.in_ok-remove_absorbed.ensures.within m (c.in_ok-remove_covered.ensures.within m ((c.in_ok-put_in_order.ensures.same m).0 h)))
     (c.in_ok-alternatives.ensures.members t)
 
 pub returns-clause-alternatives : goal.returns-clause-alternatives
@@ -61,7 +61,7 @@ returns-clause-alternatives c =
     (λ n has t s h.
     (c.in_ok-alternatives.ensures.same t s).0
     (as_sets (tree_of t ns) ordered all s
-    (λ m i. c.in_ok-remove_absorbed.ensures.within m (c.remove_covered.ensures.within m ((c.in_ok-put_in_order.ensures.same m).0 i))) ((has t s).0 h)))
+    (λ m i. c.in_ok-remove_absorbed.ensures.within m (c.in_ok-remove_covered.ensures.within m ((c.in_ok-put_in_order.ensures.same m).0 i))) ((has t s).0 h)))
     c.choice_of.ensures.same
 
 pub returns-clause-matches : goal.returns-clause-matches
@@ -78,8 +78,8 @@ returns-clause-matches c =
     let made = takes_some g (tree_of t ns) ordered (tree_of t c.choice_of.new.self n.0) (has t) xs ks in (
       λ d. let o = made.0 d in
           takes_within g (tree_of t ns) all members (λ s. (c.in_ok-alternatives.ensures.same t s).0) xs ks
-          (o.0, c.in_ok-remove_absorbed.ensures.within o.0 (c.remove_covered.ensures.within o.0 ((c.in_ok-put_in_order.ensures.same o.0).0 o.1)), o.2),
-      λ d. let l = c.remove_covered.ensures.takes t g xs ks (c.in_ok-remove_absorbed.ensures.takes t g xs ks
+          (o.0, c.in_ok-remove_absorbed.ensures.within o.0 (c.in_ok-remove_covered.ensures.within o.0 ((c.in_ok-put_in_order.ensures.same o.0).0 o.1)), o.2),
+      λ d. let l = c.in_ok-remove_covered.ensures.takes t g xs ks (c.in_ok-remove_absorbed.ensures.takes t g xs ks
           (takes_within g (tree_of t ns) members all (λ s. (c.in_ok-alternatives.ensures.same t s).1) xs ks d)) in
           made.1 (l.0, (c.in_ok-put_in_order.ensures.same l.0).1 l.1, l.2),
     ))
