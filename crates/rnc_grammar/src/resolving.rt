@@ -51,6 +51,9 @@ fn put<T: Drop>(place: &mut T, value: T)
 }
 
 /// Applies the declarations of a file to the parts of its syntax tree.
+///
+/// Patterns and components are put in a place, and what has no pattern in it is read by functions that are not inlined.
+/// So the frames of the calls that are in one another as deep as the tree are small.
 #[derive(Clone, Copy)]
 struct Resolver<'s, 'a> {
     alloc: Global,
@@ -304,6 +307,7 @@ impl<'s, 'a> Resolver<'s, 'a> {
         Ok(())
     }
 
+    /// A pattern in a box of its own.
     #[cycle(resolved)]
     #[inline(always)]
     fn child(self, pattern: &rnc_syntax::Pattern<'a>) -> Result<Box<Pattern>, ScopeFault>
@@ -325,10 +329,10 @@ impl<'s, 'a> Resolver<'s, 'a> {
     {
         match pattern {
             rnc_syntax::Pattern::Element(class, body) => {
-                self.named(Unprefixed::Default, class, body, place)
+                self.named(Unprefixed::Default, body, class, place)
             }
             rnc_syntax::Pattern::Attribute(class, body) => {
-                self.named(Unprefixed::None, class, body, place)
+                self.named(Unprefixed::None, body, class, place)
             }
             rnc_syntax::Pattern::List(body) => self.wrapped(Wrapper::List, body, place),
             rnc_syntax::Pattern::Mixed(body) => self.wrapped(Wrapper::Mixed, body, place),
@@ -364,14 +368,14 @@ impl<'s, 'a> Resolver<'s, 'a> {
         }
     }
 
-    /// Puts an element or an attribute in this place.
+    /// Puts an element or an attribute in this place. The body is the first tree, since the recursion goes by its depth.
     #[cycle(resolved)]
     #[inline(never)]
     fn named(
         self,
         unprefixed: Unprefixed,
-        class: &rnc_syntax::NameClass<'a>,
         body: &rnc_syntax::Pattern<'a>,
+        class: &rnc_syntax::NameClass<'a>,
         place: &mut Pattern,
     ) -> Result<(), ScopeFault>
         ensures { Resolves (λ _. tree.pattern_of place.new) result (named_in (scope_view self.entry.scope.now) unprefixed (syntax.class_of class.now) (syntax.pattern_of body.now)) }
@@ -382,7 +386,7 @@ impl<'s, 'a> Resolver<'s, 'a> {
         Ok(())
     }
 
-    /// Puts this around a pattern in this place.
+    /// Puts a pattern in this place, with this around it.
     #[cycle(resolved)]
     #[inline(never)]
     fn wrapped(
@@ -563,7 +567,7 @@ fn put_named(place: &mut Pattern, unprefixed: Unprefixed, class: Box<NameClass>,
     }
 }
 
-/// Puts this around a pattern in this place.
+/// Puts a pattern in this place, with this around it.
 #[inline(never)]
 fn put_wrapped(place: &mut Pattern, wrapper: Wrapper, body: Box<Pattern>)
     ensures { tree.pattern_of place.new ≡ wrapped_with wrapper (tree.pattern_of body.value) }
