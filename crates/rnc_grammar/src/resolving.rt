@@ -52,8 +52,8 @@ fn put<T: Drop>(place: &mut T, value: T)
 
 /// Applies the declarations of a file to the parts of its syntax tree.
 ///
-/// Patterns and components are put in a place, and what has no pattern in it is read by functions that are not inlined.
-/// So the frames of the calls that are in one another as deep as the tree are small.
+/// Patterns and components are put in a place. What has no pattern in it is resolved by functions that are not inlined.
+/// So the frames of the functions that recurse are small.
 #[derive(Clone, Copy)]
 struct Resolver<'s, 'a> {
     alloc: Global,
