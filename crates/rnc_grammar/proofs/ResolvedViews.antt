@@ -58,11 +58,11 @@ data_except_view : (d : DatatypeName) (ps : Vec Parameter Global) (b : Box Patte
     → syntax.pattern_of (patterns.DataExcept d ps b) ≡ written.data_except (syntax.type_of d) (map syntax.parameter_of ps.items) (syntax.pattern_of b.value)
 data_except_view d ps b = search (rules, the_lemmas)
 
-plain_in : (s : Scope) (d : written.DatatypeName) (ps values : List (List ℕ × List ℕ)) (u : tree.DatatypeName) → type_in s d ≡ Some u → Some ps ≡ Some values
+pub plain_in : (s : Scope) (d : written.DatatypeName) (ps values : List (List ℕ × List ℕ)) (u : tree.DatatypeName) → type_in s d ≡ Some u → Some ps ≡ Some values
     → pattern_in s (written.data_of d ps) ≡ Some (tree.data_of u values)
 plain_in s d ps values u type same = rw type (ap (option_map (tree.data_of u)) same)
 
-except_in : (s : Scope) (d : written.DatatypeName) (ps values : List (List ℕ × List ℕ)) (p : written.Pattern) (u : tree.DatatypeName) (q : tree.Pattern)
+pub except_in : (s : Scope) (d : written.DatatypeName) (ps values : List (List ℕ × List ℕ)) (p : written.Pattern) (u : tree.DatatypeName) (q : tree.Pattern)
     → type_in s d ≡ Some u → Some ps ≡ Some values → pattern_in s p ≡ Some q → pattern_in s (written.data_except d ps p) ≡ Some (tree.data_except u values q)
 except_in s d ps values p u q type same except = rw (type, except) (ap (option_map (λ ps. tree.data_except u ps q)) same)
 
@@ -74,16 +74,13 @@ typed_with {A} {B} (Some d) ps values u e =
     let same : ◌≡◌ {A = A × B} (d, ps) (u, values) = cc in (ap (λ (x : A × B). Some x.0) same, ap (λ (x : A × B). x.1) same)
 
 -- a datatype, whose parameters the code has as a slice
-pub data_in : (s : Scope) (d : DatatypeName) (ps : Vec Parameter Global) (slice : List Parameter) (u : tree.DatatypeName) (values : List (List ℕ × List ℕ))
-    → slice ≡ ps.items → type_in s (syntax.type_of d) ≡ Some u → Some (map syntax.parameter_of slice) ≡ Some values
-    → pattern_in s (syntax.pattern_of (patterns.Data d ps)) ≡ Some (tree.data_of u values)
-data_in s d ps slice u values e type same = ap (pattern_in s) (data_view d ps) ∙ plain_in s (syntax.type_of d) _ values u type
-    (ap (λ xs. Some (map syntax.parameter_of xs)) (sym e) ∙ same)
+pub data_in : (s : Scope) (d : DatatypeName) (ps : Vec Parameter Global) (slice : List Parameter) → slice ≡ ps.items
+    → pattern_in s (syntax.pattern_of (patterns.Data d ps)) ≡ pattern_in s (written.data_of (syntax.type_of d) (map syntax.parameter_of slice))
+data_in s d ps slice e = ap (pattern_in s) (data_view d ps) ∙ ap (λ xs. pattern_in s (written.data_of (syntax.type_of d) (map syntax.parameter_of xs))) (sym e)
 
 pub data_except_in : (s : Scope) (d : DatatypeName) (ps : Vec Parameter Global) (b : Box Pattern Global) (slice : List Parameter) (inner : Pattern)
-    (u : tree.DatatypeName) (values : List (List ℕ × List ℕ)) (q : tree.Pattern) → slice ≡ ps.items → inner ≡ b.value → type_in s (syntax.type_of d) ≡ Some u
-    → Some (map syntax.parameter_of slice) ≡ Some values → pattern_in s (syntax.pattern_of inner) ≡ Some q
-    → pattern_in s (syntax.pattern_of (patterns.DataExcept d ps b)) ≡ Some (tree.data_except u values q)
-data_except_in s d ps b slice inner u values q e body type same except = ap (pattern_in s) (data_except_view d ps b) ∙ except_in s (syntax.type_of d) _ values
-    (syntax.pattern_of b.value) u q type (ap (λ xs. Some (map syntax.parameter_of xs)) (sym e) ∙ same) (ap (λ p. pattern_in s (syntax.pattern_of p)) (sym body)
-    ∙ except)
+    → slice ≡ ps.items → inner ≡ b.value → pattern_in s (syntax.pattern_of (patterns.DataExcept d ps b))
+    ≡ pattern_in s (written.data_except (syntax.type_of d) (map syntax.parameter_of slice) (syntax.pattern_of inner))
+data_except_in s d ps b slice inner e body = ap (pattern_in s) (data_except_view d ps b)
+    ∙ ap (λ xs. pattern_in s (written.data_except (syntax.type_of d) (map syntax.parameter_of xs) (syntax.pattern_of b.value))) (sym e)
+    ∙ ap (λ p. pattern_in s (written.data_except (syntax.type_of d) (map syntax.parameter_of slice) (syntax.pattern_of p))) (sym body)

@@ -5,12 +5,19 @@ use Rattle.std.specs.Str.{bytes_eq}
 use Rattle.std.proofs.Common.{Bor}
 use Rattle.rnc_grammar.specs.declared.resolving.Unprefixed.{Unprefixed}
 use Rattle.rnc_grammar.specs.declared.resolving.Unprefixed.TheVariants as places
+use Rattle.rnc_grammar.specs.declared.resolving.Connector.{Connector}
+use Rattle.rnc_grammar.specs.declared.resolving.Connector.TheVariants as connectors
+use Rattle.rnc_grammar.specs.declared.resolving.Wrapper.{Wrapper}
+use Rattle.rnc_grammar.specs.declared.resolving.Wrapper.TheVariants as wrappers
 use Rattle.rnc_grammar.specs.declared.scope.Scope.{Scope}
 use Rattle.rnc_grammar.specs.declared.scope.ScopeFault.{ScopeFault}
 use Rattle.rnc_grammar.specs.declared.scope.ScopeFault.TheVariants.{Broken, Memory}
 use Rattle.rnc_model.specs.declarations.Declarations as declarations
-use Rattle.rnc_model.specs.declarations.Declarations.{◌>>=◌, default_of}
+use Rattle.rnc_model.specs.declarations.Declarations.{◌>>=◌, class_in, default_of, pattern_in}
+use Rattle.rnc_model.specs.declarations.FileTree as tree
 use Rattle.rnc_model.specs.declarations.FileTree.{Namespace, given}
+use Rattle.rnc_model.specs.grammar.Syntax as syntax
+use Rattle.rng_model.specs.simple.Tree as simple
 use Rattle.rnc_grammar.specs.views.View.{namespace_of}
 
 -- a call returns what the definition returns, as the view sees it, unless memory runs out
@@ -36,7 +43,38 @@ abbrev pub namespace_at : declarations.Scope → Unprefixed → Namespace
 namespace_at s places.Default = default_of s
 namespace_at s places.None = given []
 
+-- an element or an attribute of this class
+abbrev pub named_with : Unprefixed → tree.NameClass → tree.Pattern → tree.Pattern
+named_with places.Default = tree.element
+named_with places.None = tree.attribute
+
+-- an element or an attribute, with its declarations applied
+abbrev pub named_in : declarations.Scope → Unprefixed → syntax.NameClass → syntax.Pattern → Option tree.Pattern
+named_in s place c p = class_in s (namespace_at s place) c >>= λ c. pattern_in s p >>= λ p. Some (named_with place c p)
+
+-- this around a pattern
+abbrev pub wrapped_with : Wrapper → tree.Pattern → tree.Pattern
+wrapped_with wrappers.List = tree.list
+wrapped_with wrappers.Mixed = tree.mixed
+wrapped_with wrappers.Optional = tree.optional
+wrapped_with wrappers.ZeroOrMore = tree.zero_or_more
+wrapped_with wrappers.OneOrMore = tree.one_or_more
+
+-- this around a pattern, with its declarations applied
+abbrev pub wrapped_in : declarations.Scope → Wrapper → syntax.Pattern → Option tree.Pattern
+wrapped_in s wrapper p = pattern_in s p >>= λ p. Some (wrapped_with wrapper p)
+
+-- a connector, without its place in memory
+abbrev pub connector_of : Connector → simple.Connector
+connector_of connectors.Group = simple.group
+connector_of connectors.Interleave = simple.interleave
+connector_of connectors.Choice = simple.choice
+
 -- the results for all members, if each has one
 abbrev pub each : {A B : Type 0} → (A → Option B) → List A → Option (List B)
 each f [] = Some []
 each f (x ∷ xs) = f x >>= λ y. each f xs >>= λ ys. Some (y ∷ ys)
+
+-- members with this connector between them, with their declarations applied
+abbrev pub joined_in : declarations.Scope → Connector → List syntax.Pattern → Option tree.Pattern
+joined_in s k ps = each (pattern_in s) ps >>= λ ps. Some (tree.members (connector_of k) ps)

@@ -6,8 +6,8 @@ use Rattle.rnc_grammar.specs.views.View as tree
 use Rattle.rnc_grammar.proofs.ResolvedMembers.{after}
 use Rattle.rnc_grammar.proofs.resolving.Resolver.+resolved.Given as goal
 
-abbrev pub invariant-patterns-loop-pattern : goal.invariant-patterns-loop-pattern
-invariant-patterns-loop-pattern l = each (pattern_in (scope_view l.self.scope.now)) (map syntax.pattern_of l.all) ≡ after (map tree.pattern_of l.patterns.items)
+abbrev pub invariant-members-loop-pattern : goal.invariant-members-loop-pattern
+invariant-members-loop-pattern l = each (pattern_in (scope_view l.self.scope.now)) (map syntax.pattern_of l.all) ≡ after (map tree.pattern_of l.patterns.items)
     (each (pattern_in (scope_view l.self.scope.now)) (map syntax.pattern_of (drop l.pattern-index l.all)))
 
 abbrev pub invariant-components-loop-component : goal.invariant-components-loop-component
