@@ -4,7 +4,7 @@ ghost use Rattle.rnc_syntax.specs.plain.Reading.{lexemes_in};
 ghost use Rattle.rnc_syntax.specs.plain.Combinators.{follow, many, with_front};
 ghost use Rattle.rng_model.specs.plain.Answers.{Gives};
 ghost use Rattle.rnc_syntax.specs.views.Fault.{stop_of};
-ghost use Rattle.rnc_syntax.specs.plain.Productions.{bare_basic_with, bare_class_with, basic_with, choice_with, class_with, except_front, excepted, inside_at};
+ghost use Rattle.rnc_syntax.specs.plain.Productions.{bare_basic_with, bare_class_with, basic_with, choice_with, class_with, except_front, inside_at};
 ghost use Rattle.rnc_syntax.specs.views.SyntaxView.{class_of};
 ghost use Rattle.rnc_model.specs.declared.token.Sign.TheVariants.{Bar};
 
@@ -12,16 +12,6 @@ use crate::fault::{ReadFault, Stop};
 use crate::reading::{Reader, onward, put, split_name};
 use crate::syntax_tree::{NameClass, QualifiedName};
 use rnc_text::{Sign, Token, TokenKind};
-
-/// All names, or those of a prefix, except those of a class.
-fn except<'a>(prefix: Option<&'a str>, class: Box<NameClass<'a>>) -> NameClass<'a>
-    ensures { class_of result ≡ excepted (option_map (λ p. p.now) prefix.entry) (class_of class.entry.value) }
-{
-    match prefix {
-        None => NameClass::AnyExcept(class),
-        Some(prefix) => NameClass::NsExcept(prefix, class),
-    }
-}
 
 impl Reader {
     /// `*` or `p:*` and then `-` at the front, and the tokens after them.
@@ -79,7 +69,10 @@ impl Reader {
             Some((prefix, rest)) => {
                 let (class, rest) = self.basic(levels, rest)?;
                 let class = Box::new(self.alloc, class)?;
-                Ok((except(prefix, class), rest))
+                match prefix {
+                    None => Ok((NameClass::AnyExcept(class), rest)),
+                    Some(prefix) => Ok((NameClass::NsExcept(prefix, class), rest)),
+                }
             }
             None => {
                 let (class, rest) = self.bare_basic(levels, tokens)?;
@@ -144,7 +137,7 @@ impl Reader {
 
     /// Reads `word | CName | nsName | "*" | "(" class ")"`.
     #[cycle(classes)]
-    #[tactic(auto, unfolding(crate::specs::plain::Productions::bare_basic_with, crate::specs::plain::Productions::class_in_parens))]
+    #[tactic(auto, using(crate::proofs::InsideBrackets::class_step, crate::proofs::InsideBrackets::class_too_deep), unfolding(crate::specs::plain::Productions::bare_basic_with, crate::specs::plain::Productions::class_in_parens))]
     fn bare_basic<'t, 'a>(
         self,
         levels: u8,
@@ -172,7 +165,11 @@ impl Reader {
                 TokenKind::NsName => Ok((NameClass::Ns(split_name(first.text).0), rest)),
                 TokenKind::Sign(Sign::Star) => Ok((NameClass::Any, rest)),
                 TokenKind::Sign(Sign::OpenParenthesis) => {
-                    let (class, rest) = self.inner_class(levels, rest)?;
+                    if levels == 0 {
+                        return Err(ReadFault::Stop(Stop::TooDeep));
+                    }
+                    let mut class = NameClass::Any;
+                    let rest = self.class(levels - 1, rest, &mut class)?;
                     let rest = self.skip(Sign::CloseParenthesis, rest)?;
                     Ok((class, rest))
                 }
@@ -180,23 +177,5 @@ impl Reader {
             },
             [] => Err(self.unexpected(tokens)),
         }
-    }
-
-    /// Reads a name class one bracket deeper.
-    #[cycle(classes)]
-    #[tactic(auto, using(crate::proofs::InsideBrackets::class_step, crate::proofs::InsideBrackets::class_too_deep))]
-    fn inner_class<'t, 'a>(
-        self,
-        levels: u8,
-        tokens: &'t [Token<'a>],
-    ) -> Result<(NameClass<'a>, &'t [Token<'a>]), ReadFault>
-        ensures { Gives stop_of (λ x. (class_of x.0, lexemes_in self.count x.1.now)) result ((inside_at levels).class (lexemes_in self.count tokens.now)) }
-    {
-        if levels == 0 {
-            return Err(ReadFault::Stop(Stop::TooDeep));
-        }
-        let mut class = NameClass::Any;
-        let rest = self.class(levels - 1, tokens, &mut class)?;
-        Ok((class, rest))
     }
 }
