@@ -71,7 +71,7 @@ module _ (inside : Inside) where
 
   -- The first primary is read in the same way if it is a datatype.
   pub pattern_is : (ts : List Lexeme) → bare_pattern_with inside ts ≡ (bare_primary_with inside ts >>= λ t. behind_primary inside ts t.0 t.1)
-  unfolding bare_pattern_with, bare_primary_with, atom_at
+  unfolding bare_pattern_with bare_primary_with atom_at
   pattern_is [] = refl
   pattern_is (cname p l ∷ ts) = typed_is (syntax.prefixed_type p l) ts (begins_segment ts) refl
   pattern_is (keyword keywords.String s ∷ ts) = typed_is syntax.string_type ts (begins_segment ts) refl

@@ -13,7 +13,9 @@ ghost use Rattle.rnc_syntax.specs.plain.ComponentParts.{div_with, include_with};
 ghost use Rattle.rnc_syntax.specs.declared.atoms.Opening.TheVariants as openings;
 ghost use Rattle.rnc_syntax.specs.views.SyntaxView.{component_of, pattern_of, setting_of};
 
-use crate::atoms::{Opening, Setting, append_pattern, put_assigned, put_except, put_grammar, put_joined, put_named};
+use crate::atoms::{
+    Opening, Setting, append_pattern, put_assigned, put_except, put_grammar, put_joined, put_named,
+};
 use crate::fault::{ReadFault, Stop};
 use crate::reading::{Reader, onward, put};
 use crate::syntax_tree::{Component, NameClass, Pattern};
@@ -55,7 +57,7 @@ impl Reader {
 
     /// Reads `"{" content* "}"` or `"{" over* "}"` into this list, which is empty.
     #[cycle(patterns)]
-    #[tactic(auto, using(crate::proofs::InsideBrackets::components_step, crate::proofs::InsideBrackets::components_too_deep, crate::proofs::JoinedRest::nothing_before), unfolding(crate::specs::plain::Productions::contents_with, crate::specs::plain::Productions::in_braces_at))]
+    #[tactic(auto, using(crate::proofs::InsideBrackets::components_inside, crate::proofs::JoinedRest::nothing_before), unfolding(crate::specs::plain::Productions::contents_with, crate::specs::plain::Productions::in_braces_at))]
     fn contents<'t, 'a>(
         self,
         levels: u8,
@@ -132,6 +134,7 @@ impl Reader {
     {
         let mut components = Vec::new(self.alloc);
         let rest = self.contents(levels, Setting::Content, tokens, &mut components);
+        // Put there after a fault too: nothing is dropped here then, which would take room in the frame.
         put_grammar(place, components);
         rest
     }
@@ -351,6 +354,7 @@ impl Reader {
         let (name, method, rest) = self.assigned(tokens)?;
         let mut body = self.no_pattern()?;
         let rest = self.pattern(levels, rest, &mut body);
+        // Put there after a fault too, as in `grammar`.
         put_assigned(place, name, method, body);
         rest
     }
@@ -365,7 +369,8 @@ impl Reader {
         tokens: &'t [Token<'a>],
         all: &mut Vec<Component<'a>>,
     ) -> Result<&'t [Token<'a>], ReadFault>
-        ensures { Gives stop_of (λ x. (map component_of all.new.items, lexemes_in self.count x.now)) result (with_front (map component_of all.old.items) (components_with (inside_at levels) (setting_of setting) (lexemes_in self.count tokens.now))) }
+        ensures { Gives stop_of (λ x. (map component_of all.new.items, lexemes_in self.count x.now)) result
+            (with_front (map component_of all.old.items) (components_with (inside_at levels) (setting_of setting) (lexemes_in self.count tokens.now))) }
     {
         let mut next = Box::new(self.alloc, Component::Div(Vec::new(self.alloc)))?;
         let mut rest = tokens;
