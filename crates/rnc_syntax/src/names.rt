@@ -137,7 +137,7 @@ impl Reader {
 
     /// Reads `word | CName | nsName | "*" | "(" class ")"`.
     #[cycle(classes)]
-    #[tactic(auto, using(crate::proofs::InsideBrackets::class_step, crate::proofs::InsideBrackets::class_too_deep), unfolding(crate::specs::plain::Productions::bare_basic_with, crate::specs::plain::Productions::class_in_parens))]
+    #[tactic(auto, unfolding(crate::specs::plain::Productions::bare_basic_with, crate::specs::plain::Productions::class_in_parens))]
     fn bare_basic<'t, 'a>(
         self,
         levels: u8,
@@ -165,11 +165,7 @@ impl Reader {
                 TokenKind::NsName => Ok((NameClass::Ns(split_name(first.text).0), rest)),
                 TokenKind::Sign(Sign::Star) => Ok((NameClass::Any, rest)),
                 TokenKind::Sign(Sign::OpenParenthesis) => {
-                    if levels == 0 {
-                        return Err(ReadFault::Stop(Stop::TooDeep));
-                    }
-                    let mut class = NameClass::Any;
-                    let rest = self.class(levels - 1, rest, &mut class)?;
+                    let (class, rest) = self.inner_class(levels, rest)?;
                     let rest = self.skip(Sign::CloseParenthesis, rest)?;
                     Ok((class, rest))
                 }
@@ -177,5 +173,23 @@ impl Reader {
             },
             [] => Err(self.unexpected(tokens)),
         }
+    }
+
+    /// Reads a name class one bracket deeper.
+    #[cycle(classes)]
+    #[tactic(auto, using(crate::proofs::InsideBrackets::class_step, crate::proofs::InsideBrackets::class_too_deep))]
+    fn inner_class<'t, 'a>(
+        self,
+        levels: u8,
+        tokens: &'t [Token<'a>],
+    ) -> Result<(NameClass<'a>, &'t [Token<'a>]), ReadFault>
+        ensures { Gives stop_of (λ x. (class_of x.0, lexemes_in self.count x.1.now)) result ((inside_at levels).class (lexemes_in self.count tokens.now)) }
+    {
+        if levels == 0 {
+            return Err(ReadFault::Stop(Stop::TooDeep));
+        }
+        let mut class = NameClass::Any;
+        let rest = self.class(levels - 1, tokens, &mut class)?;
+        Ok((class, rest))
     }
 }

@@ -7,6 +7,9 @@ use Rattle.rnc_syntax.specs.views.SyntaxView.{class_of}
 use Rattle.rnc_syntax.proofs.ReadItems.{Goes}
 use Rattle.rnc_syntax.proofs.reading.Reader.+classes.Given as goal
 
+abbrev pub decreases-inner_class : goal.decreases-inner_class
+decreases-inner_class l = 8 * l.levels
+
 abbrev pub decreases-basic : goal.decreases-basic
 decreases-basic l = 8 * l.levels + 2
 
