@@ -34,3 +34,6 @@ pub components_step : (n : ℕ) (w : Setting) (ts : List Lexeme) → 0 < n → (
 unfolding inside_at
 components_step zero w ts some = absurd (omega (arith, some))
 components_step (suc n) w ts some = rw sub-one refl
+
+-- components inside brackets
+pub ruleset components_inside = (components_step, components_too_deep)

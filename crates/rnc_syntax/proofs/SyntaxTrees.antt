@@ -5,8 +5,8 @@ use Rattle.rnc_syntax.specs.declared.fault.Stop.TheVariants.{Unexpected, TooDeep
 use Rattle.rnc_syntax.specs.declared.fault.SyntaxFault.{SyntaxFault}
 use Rattle.rnc_syntax.specs.declared.fault.SyntaxFault.TheVariants as faults
 use Rattle.rnc_syntax.specs.declared.syntax_tree.File as declared
-use Rattle.rng_model.specs.plain.Answers.{Gives, Refuses}
-use Rattle.rnc_syntax.specs.views.Fault.{fault_at, told, unless_memory}
+use Rattle.rng_model.specs.plain.Answers.{Gives}
+use Rattle.rnc_syntax.specs.views.Fault.{told, unless_memory}
 use Rattle.rnc_model.specs.tokens.Lexeme.{Lexeme}
 use Rattle.rnc_model.specs.grammar.Syntax.{File}
 use Rattle.rnc_syntax.specs.views.SyntaxView.{file_of}
@@ -59,14 +59,6 @@ module _ (ts : List Lexeme) (nests : NestsWithin nesting_limit ts) where
     is_fault e is = fault_read (file_with (inside_at nesting_limit) ts) e refl is
 
 -- ---- what a call returned
-
-refused : (n : ℕ) (stop : Stop) → Refuses (unless_memory (fault_at n stop)) (told {Y = File} n (Err stop))
-refused n TooDeep = refl
-refused n (Unexpected left) = refl
-
--- the fault if reading stopped
-pub stop_told : (n : ℕ) (stop : Stop) (r : Result File Stop) (e : SyntaxFault) → r ≡ Err stop → e ≡ fault_at n stop → Refuses (unless_memory e) (told n r)
-stop_told n stop r e is fault = rw (is, fault) (refused n stop)
 
 -- a tree that is returned
 pub tree_given : (ts : List Lexeme) (r : Result declared.File SyntaxFault) (w : Result File SyntaxFault) → ((f : File) → w ≡ Ok f → IsSyntaxTree ts f)

@@ -3,3 +3,4 @@ pub mod Combinators
 pub mod Productions
 pub mod ComponentParts
 pub mod Reading
+pub mod DataParts

@@ -1,12 +1,13 @@
 // Reading the parts of patterns and components that contain no other pattern.
-ghost use Rattle.std.specs.Prelude.{◌≡◌, ◌++◌, ◌∷◌, [], Ok, if◌then◌else◌, map, option_map};
+ghost use Rattle.std.specs.Prelude.{◌≡◌, ◌++◌, ◌∷◌, [], IfOk, Ok, OnOk, if◌then◌else◌, map, option_map};
 ghost use Rattle.rnc_model.specs.grammar.Syntax as written;
 ghost use Rattle.rnc_syntax.specs.plain.Reading.{lexemes_in};
 ghost use Rattle.rng_model.specs.plain.Answers.{Gives};
 ghost use Rattle.rnc_syntax.specs.views.Fault.{stop_of};
-ghost use Rattle.rnc_syntax.specs.plain.Productions.{atom_at, begins_component as is_component_front, begins_segment, data_front, joined, lone_front, method_at, other_at, repeated as repeated_of, separator_of, type_front, typed_at};
+ghost use Rattle.rnc_syntax.specs.plain.Productions.{atom_at, begins_component as is_component_front, begins_segment, joined, lone_front, method_at, other_at, repeated as repeated_of, separator_of, type_front, typed_at};
 ghost use Rattle.rnc_syntax.specs.plain.Productions.{include_front, opening_front, repetition_front};
 ghost use Rattle.rnc_syntax.specs.plain.Productions.{assigned_at};
+ghost use Rattle.rnc_syntax.specs.plain.DataParts.{excluding, exclusion_front};
 ghost use Rattle.rnc_syntax.specs.plain.Productions.{assigned as assigned_of};
 ghost use Rattle.rnc_syntax.specs.views.SyntaxView.{class_of, component_of, pattern_of, setting_of, type_of};
 
@@ -14,7 +15,7 @@ use crate::fault::ReadFault;
 use crate::reading::{Reader, put, split_name};
 use crate::syntax_tree::{Component, DatatypeName, NameClass, Pattern};
 use rnc_text::{Keyword, Sign, Token, TokenKind};
-use rng_model::Method;
+use rng_model::{Method, OutOfMemory};
 use std::mem;
 
 /// Where a component is: in a grammar, or in the braces of an include.
@@ -58,6 +59,27 @@ pub fn put_joined<'a>(place: &mut Pattern<'a>, sign: Sign, all: Vec<Pattern<'a>>
     }
 }
 
+/// Puts a grammar of these components in this place.
+#[inline(never)]
+pub fn put_grammar<'a>(place: &mut Pattern<'a>, components: Vec<Component<'a>>)
+    ensures { pattern_of place.new ≡ written.grammar (written.components_of (map component_of components.entry.items)) }
+{
+    put(place, Pattern::Grammar(components));
+}
+
+/// Excludes a pattern from the datatype in this place.
+#[inline(never)]
+pub fn put_except<'a>(place: &mut Pattern<'a>, except: Box<Pattern<'a>>)
+    ensures { pattern_of place.new ≡ excluding (pattern_of place.old) (pattern_of except.entry.value) }
+{
+    match mem::replace(place, Pattern::Empty) {
+        Pattern::Data(type_name, parameters) => {
+            put(place, Pattern::DataExcept(type_name, parameters, except));
+        }
+        other => put(place, other),
+    }
+}
+
 /// Puts a define of the name in this place, or a start if there is no name.
 #[inline(never)]
 pub fn put_assigned<'a>(
@@ -98,22 +120,30 @@ pub fn put_named<'a>(
 pub fn append_pattern<'a>(
     all: &mut Vec<Pattern<'a>>,
     place: &mut Pattern<'a>,
-) -> Result<(), ReadFault>
-    ensures { Gives stop_of (λ _. map pattern_of all.new.items) result (Ok (map pattern_of all.old.items ++ pattern_of place.old ∷ [])) }
+) -> Result<(), OutOfMemory>
+    ensures { OnOk result (map pattern_of all.new.items ≡ map pattern_of all.old.items ++ pattern_of place.old ∷ []) }
 {
     all.push(mem::replace(place, Pattern::Empty))?;
     Ok(())
 }
 
 impl Reader {
+    /// A pattern in whose place another one is read.
+    #[inline(never)]
+    pub fn no_pattern<'a>(self) -> Result<Box<Pattern<'a>>, OutOfMemory>
+        ensures { IfOk result (λ p. pattern_of p.value ≡ written.empty) }
+    {
+        Ok(Box::new(self.alloc, Pattern::Empty)?)
+    }
+
     /// Appends the component in this place, and leaves another one there.
     #[inline(never)]
     pub fn append_component<'a>(
         self,
         all: &mut Vec<Component<'a>>,
         place: &mut Component<'a>,
-    ) -> Result<(), ReadFault>
-        ensures { Gives stop_of (λ _. map component_of all.new.items) result (Ok (map component_of all.old.items ++ component_of place.old ∷ [])) }
+    ) -> Result<(), OutOfMemory>
+        ensures { OnOk result (map component_of all.new.items ≡ map component_of all.old.items ++ component_of place.old ∷ []) }
     {
         let empty = Component::Div(Vec::new(self.alloc));
         all.push(mem::replace(place, empty))?;
@@ -251,19 +281,21 @@ impl Reader {
         }
     }
 
-    /// The name of a datatype at the front, and the tokens after it, unless a segment follows.
+    /// The tokens after `-`, if it is the first of `rest` and the pattern before it, which begins at `tokens`, is a
+    /// datatype.
     #[inline(never)]
-    pub fn find_data<'t, 'a>(
+    pub fn find_exclusion<'t, 'a>(
         self,
-        tokens: &'t [Token<'a>],
-    ) -> Option<(DatatypeName<'a>, &'t [Token<'a>])>
-        ensures { option_map (λ x. (type_of x.0, lexemes_in self.count x.1.now)) result ≡ data_front (lexemes_in self.count tokens.now) }
+        tokens: &[Token<'_>],
+        rest: &'t [Token<'a>],
+    ) -> Option<&'t [Token<'a>]>
+        ensures { option_map (λ x. lexemes_in self.count x.now) result ≡ exclusion_front (lexemes_in self.count tokens.now) (lexemes_in self.count rest.now) }
     {
-        let (type_name, rest) = self.find_type(tokens)?;
-        if self.begins_with_segment(rest) {
+        let (_, after) = self.find_type(tokens)?;
+        if self.begins_with_segment(after) {
             return None;
         }
-        Some((type_name, rest))
+        self.find_after(Sign::Minus, rest)
     }
 
     /// Reads a value or a datatype after its name: `literal` or `[params]`.

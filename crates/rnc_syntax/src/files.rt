@@ -3,7 +3,8 @@ ghost use Rattle.std.specs.Prelude.{◌≡◌, map};
 ghost use Rattle.rnc_syntax.specs.plain.Reading.{lexemes_in};
 ghost use Rattle.rng_model.specs.plain.Answers.{Gives};
 ghost use Rattle.rnc_syntax.specs.views.Fault.{stop_of};
-ghost use Rattle.rnc_syntax.specs.plain.Productions.{annotated_body_with, begins_declaration as is_declaration_front, begins_method as is_method_front, body_with, declaration_at, declarations_at, default_at, file_with, if_ended, inside_at, is_grammar_body, prefix_at, uri_at};
+ghost use Rattle.rnc_syntax.specs.plain.Productions.{begins_declaration as is_declaration_front, begins_method as is_method_front, is_grammar_body};
+ghost use Rattle.rnc_syntax.specs.plain.Productions.{annotated_body_with, body_with, declaration_at, declarations_at, default_at, file_with, if_ended, inside_at, prefix_at, uri_at};
 ghost use Rattle.rnc_syntax.specs.views.SyntaxView.{body_of, declaration_of, file_of, uri_of};
 
 use crate::atoms::Setting;

@@ -4,7 +4,7 @@ ghost use Rattle.rnc_syntax.specs.plain.Reading.{lexemes_in};
 ghost use Rattle.rnc_syntax.specs.plain.Combinators.{follow, many, with_front};
 ghost use Rattle.rng_model.specs.plain.Answers.{Gives};
 ghost use Rattle.rnc_syntax.specs.views.Fault.{stop_of};
-ghost use Rattle.rnc_syntax.specs.plain.Productions.{bare_basic_with, bare_class_with, basic_with, choice_with, class_with, except_front, excepted, inside_at};
+ghost use Rattle.rnc_syntax.specs.plain.Productions.{bare_basic_with, bare_class_with, basic_with, choice_with, class_with, except_front, inside_at};
 ghost use Rattle.rnc_syntax.specs.views.SyntaxView.{class_of};
 ghost use Rattle.rnc_model.specs.declared.token.Sign.TheVariants.{Bar};
 
@@ -12,16 +12,6 @@ use crate::fault::{ReadFault, Stop};
 use crate::reading::{Reader, onward, put, split_name};
 use crate::syntax_tree::{NameClass, QualifiedName};
 use rnc_text::{Sign, Token, TokenKind};
-
-/// All names, or those of a prefix, except those of a class.
-fn except<'a>(prefix: Option<&'a str>, class: Box<NameClass<'a>>) -> NameClass<'a>
-    ensures { class_of result ≡ excepted (option_map (λ p. p.now) prefix.entry) (class_of class.entry.value) }
-{
-    match prefix {
-        None => NameClass::AnyExcept(class),
-        Some(prefix) => NameClass::NsExcept(prefix, class),
-    }
-}
 
 impl Reader {
     /// `*` or `p:*` and then `-` at the front, and the tokens after them.
@@ -79,7 +69,10 @@ impl Reader {
             Some((prefix, rest)) => {
                 let (class, rest) = self.basic(levels, rest)?;
                 let class = Box::new(self.alloc, class)?;
-                Ok((except(prefix, class), rest))
+                match prefix {
+                    None => Ok((NameClass::AnyExcept(class), rest)),
+                    Some(prefix) => Ok((NameClass::NsExcept(prefix, class), rest)),
+                }
             }
             None => {
                 let (class, rest) = self.bare_basic(levels, tokens)?;

@@ -9,23 +9,14 @@ use rnc_text::{Sign, Token, TokenKind};
 /// The largest number of brackets that may be open at once.
 pub const NESTING_LIMIT: u8 = 128;
 
-/// Whether a token of this kind opens a bracket.
-fn opens(kind: TokenKind) -> bool
-    ensures { result ≡ is_opening (lexeme_at kind [] 0) }
+/// Whether a token of this kind opens a bracket, and whether it closes one.
+fn bracket(kind: TokenKind) -> (bool, bool)
+    ensures { result ≡ (is_opening (lexeme_at kind [] 0), is_closing (lexeme_at kind [] 0)) }
 {
     match kind {
-        TokenKind::Sign(Sign::OpenBrace | Sign::OpenParenthesis) => true,
-        _ => false,
-    }
-}
-
-/// Whether a token of this kind closes a bracket.
-fn closes(kind: TokenKind) -> bool
-    ensures { result ≡ is_closing (lexeme_at kind [] 0) }
-{
-    match kind {
-        TokenKind::Sign(Sign::CloseBrace | Sign::CloseParenthesis) => true,
-        _ => false,
+        TokenKind::Sign(Sign::OpenBrace | Sign::OpenParenthesis) => (true, false),
+        TokenKind::Sign(Sign::CloseBrace | Sign::CloseParenthesis) => (false, true),
+        _ => (false, false),
     }
 }
 
@@ -36,8 +27,9 @@ pub fn nests_within_limit(tokens: &[Token<'_>]) -> bool
     let mut opened = 0usize;
     let mut closed = 0usize;
     for token in tokens {
-        opened += usize::from(opens(token.kind));
-        closed += usize::from(closes(token.kind));
+        let (opens, closes) = bracket(token.kind);
+        opened += usize::from(opens);
+        closed += usize::from(closes);
         if opened.saturating_sub(closed) > usize::from(NESTING_LIMIT) {
             return false;
         }

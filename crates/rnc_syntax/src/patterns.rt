@@ -2,15 +2,20 @@
 ghost use Rattle.std.specs.Prelude.{◌≡◌, [], Some, map, if◌then◌else◌};
 ghost use Rattle.rnc_syntax.specs.plain.Reading.{lexemes_in};
 ghost use Rattle.rnc_model.specs.grammar.Syntax as written;
-ghost use Rattle.rnc_syntax.specs.plain.Combinators.{either_way, unexpected, with_front};
+ghost use Rattle.rnc_syntax.specs.plain.Combinators.{with_front};
 ghost use Rattle.rng_model.specs.plain.Answers.{Gives};
 ghost use Rattle.rnc_syntax.specs.views.Fault.{stop_of};
-ghost use Rattle.rnc_syntax.specs.plain.Productions.{bare_component_with, bare_pattern_with, bare_primary_with, braced_with, component_with, components_with, contents_with, data_front, inside_at, named_data_with, named_with, opened_with, particle_with, pattern_from as pattern_read_from, pattern_with, rest_with};
+ghost use Rattle.rnc_syntax.specs.plain.Productions.{bare_pattern_with, bare_primary_with, particle_with, pattern_from as pattern_read_from, pattern_with, rest_with};
+ghost use Rattle.rnc_syntax.specs.plain.Productions.{braced_with, contents_with, inside_at, named_with, opened_with};
+ghost use Rattle.rnc_syntax.specs.plain.Productions.{bare_component_with, component_with, components_with};
+ghost use Rattle.rnc_syntax.specs.plain.DataParts.{excluded_with};
 ghost use Rattle.rnc_syntax.specs.plain.ComponentParts.{div_with, include_with};
 ghost use Rattle.rnc_syntax.specs.declared.atoms.Opening.TheVariants as openings;
 ghost use Rattle.rnc_syntax.specs.views.SyntaxView.{component_of, pattern_of, setting_of};
 
-use crate::atoms::{Opening, Setting, append_pattern, put_assigned, put_joined, put_named};
+use crate::atoms::{
+    Opening, Setting, append_pattern, put_assigned, put_except, put_grammar, put_joined, put_named,
+};
 use crate::fault::{ReadFault, Stop};
 use crate::reading::{Reader, onward, put};
 use crate::syntax_tree::{Component, NameClass, Pattern};
@@ -52,7 +57,7 @@ impl Reader {
 
     /// Reads `"{" content* "}"` or `"{" over* "}"` into this list, which is empty.
     #[cycle(patterns)]
-    #[tactic(auto, using(crate::proofs::InsideBrackets::components_step, crate::proofs::InsideBrackets::components_too_deep, crate::proofs::JoinedRest::nothing_before), unfolding(crate::specs::plain::Productions::contents_with, crate::specs::plain::Productions::in_braces_at))]
+    #[tactic(auto, using(crate::proofs::InsideBrackets::components_inside, crate::proofs::JoinedRest::nothing_before), unfolding(crate::specs::plain::Productions::contents_with, crate::specs::plain::Productions::in_braces_at))]
     fn contents<'t, 'a>(
         self,
         levels: u8,
@@ -86,7 +91,7 @@ impl Reader {
     {
         let mut class = NameClass::Any;
         let rest = self.class(levels, tokens, &mut class)?;
-        let mut body = Box::new(self.alloc, Pattern::Empty)?;
+        let mut body = self.no_pattern()?;
         let rest = self.braced(levels, rest, &mut body)?;
         put_named(place, is_attribute, &mut class, body);
         Ok(rest)
@@ -105,7 +110,7 @@ impl Reader {
     ) -> Result<&'t [Token<'a>], ReadFault>
         ensures { Gives stop_of (λ x. (pattern_of place.new, lexemes_in self.count x.now)) result (opened_with (inside_at levels) (if is_mixed then openings.Mixed else openings.List) (lexemes_in self.count tokens.now)) }
     {
-        let mut body = Box::new(self.alloc, Pattern::Empty)?;
+        let mut body = self.no_pattern()?;
         let rest = self.braced(levels, tokens, &mut body)?;
         if is_mixed {
             put(place, Pattern::Mixed(body));
@@ -128,9 +133,10 @@ impl Reader {
         ensures { Gives stop_of (λ x. (pattern_of place.new, lexemes_in self.count x.now)) result (opened_with (inside_at levels) openings.Grammar (lexemes_in self.count tokens.now)) }
     {
         let mut components = Vec::new(self.alloc);
-        let rest = self.contents(levels, Setting::Content, tokens, &mut components)?;
-        put(place, Pattern::Grammar(components));
-        Ok(rest)
+        let rest = self.contents(levels, Setting::Content, tokens, &mut components);
+        // Put there after a fault too: nothing is dropped here then, which would take room in the frame.
+        put_grammar(place, components);
+        rest
     }
 
     /// Reads a primary after its annotation.
@@ -218,35 +224,23 @@ impl Reader {
         }
     }
 
-    /// Reads a pattern that begins with a datatype.
+    /// Reads the pattern that the datatype in this place excludes, after the `-`.
     #[cycle(patterns)]
     #[inline(never)]
-    #[tactic(auto, unfolding(crate::specs::plain::Productions::data_with, crate::specs::plain::Productions::primary_with))]
-    fn data<'t, 'a>(
+    #[tactic(auto, unfolding(crate::specs::plain::Productions::primary_with))]
+    fn excluded<'t, 'a>(
         self,
         levels: u8,
         tokens: &'t [Token<'a>],
         place: &mut Pattern<'a>,
     ) -> Result<&'t [Token<'a>], ReadFault>
-        ensures { Gives stop_of (λ x. (pattern_of place.new, lexemes_in self.count x.now)) result (either_way (data_front (lexemes_in self.count tokens.now)) (unexpected (lexemes_in self.count tokens.now)) (λ d. named_data_with (inside_at levels) d.0 d.1)) }
+        ensures { Gives stop_of (λ x. (pattern_of place.new, lexemes_in self.count x.now)) result (excluded_with (inside_at levels) (pattern_of place.old) (lexemes_in self.count tokens.now)) }
     {
-        let Some((type_name, rest)) = self.find_data(tokens) else {
-            return Err(self.unexpected(tokens));
-        };
-        let (parameters, rest) = self.parameters(rest)?;
-        match self.find_after(Sign::Minus, rest) {
-            None => {
-                put(place, Pattern::Data(type_name, parameters));
-                self.pattern_from(levels, rest, place)
-            }
-            Some(rest) => {
-                let mut except = Box::new(self.alloc, Pattern::Empty)?;
-                let rest = self.annotation(rest)?;
-                let rest = self.bare_primary(levels, rest, &mut except)?;
-                put(place, Pattern::DataExcept(type_name, parameters, except));
-                Ok(rest)
-            }
-        }
+        let mut except = self.no_pattern()?;
+        let rest = self.annotation(tokens)?;
+        let rest = self.bare_primary(levels, rest, &mut except)?;
+        put_except(place, except);
+        Ok(rest)
     }
 
     /// Reads a pattern inside which at most `levels` brackets may be open.
@@ -275,12 +269,10 @@ impl Reader {
     ) -> Result<&'t [Token<'a>], ReadFault>
         ensures { Gives stop_of (λ x. (pattern_of place.new, lexemes_in self.count x.now)) result (bare_pattern_with (inside_at levels) (lexemes_in self.count tokens.now)) }
     {
-        match self.find_data(tokens) {
-            None => {
-                let rest = self.bare_primary(levels, tokens, place)?;
-                self.pattern_from(levels, rest, place)
-            }
-            Some(_) => self.data(levels, tokens, place),
+        let rest = self.bare_primary(levels, tokens, place)?;
+        match self.find_exclusion(tokens, rest) {
+            None => self.pattern_from(levels, rest, place),
+            Some(rest) => self.excluded(levels, rest, place),
         }
     }
 
@@ -360,10 +352,11 @@ impl Reader {
             return self.include(levels, number, rest, place);
         }
         let (name, method, rest) = self.assigned(tokens)?;
-        let mut body = Box::new(self.alloc, Pattern::Empty)?;
-        let rest = self.pattern(levels, rest, &mut body)?;
+        let mut body = self.no_pattern()?;
+        let rest = self.pattern(levels, rest, &mut body);
+        // Put there after a fault too, as in `grammar`.
         put_assigned(place, name, method, body);
-        Ok(rest)
+        rest
     }
 
     /// Reads components inside which at most `levels` brackets may be open, and appends them.
@@ -376,7 +369,8 @@ impl Reader {
         tokens: &'t [Token<'a>],
         all: &mut Vec<Component<'a>>,
     ) -> Result<&'t [Token<'a>], ReadFault>
-        ensures { Gives stop_of (λ x. (map component_of all.new.items, lexemes_in self.count x.now)) result (with_front (map component_of all.old.items) (components_with (inside_at levels) (setting_of setting) (lexemes_in self.count tokens.now))) }
+        ensures { Gives stop_of (λ x. (map component_of all.new.items, lexemes_in self.count x.now)) result
+            (with_front (map component_of all.old.items) (components_with (inside_at levels) (setting_of setting) (lexemes_in self.count tokens.now))) }
     {
         let mut next = Box::new(self.alloc, Component::Div(Vec::new(self.alloc)))?;
         let mut rest = tokens;

@@ -1,7 +1,7 @@
 // From the tokens of a schema file to its syntax tree.
 ghost use Rattle.std.specs.Prelude.{◌≡◌, ℕ, Err, IfErr, IfOk, Ok, length};
 ghost use Rattle.rng_model.specs.plain.Answers.{Gives};
-ghost use Rattle.rnc_syntax.specs.views.Fault.{fault_at, told, unless_memory};
+ghost use Rattle.rnc_syntax.specs.views.Fault.{told, unless_memory};
 ghost use Rattle.rnc_model.specs.grammar.Grammar.{IsFile};
 ghost use Rattle.rnc_model.specs.tokens.Lexeme.{lexemes};
 ghost use Rattle.rnc_syntax.specs.plain.Productions.{file_with, inside_at};
@@ -19,19 +19,6 @@ use crate::syntax_tree::File;
 use rnc_text::Token;
 use std::alloc::Global;
 
-/// The fault of tokens for which reading stops so.
-#[tactic(auto, using(crate::proofs::Lexemes::count_of_lexemes))]
-fn fault_of(tokens: &[Token<'_>], stop: Stop) -> SyntaxFault
-    ensures { result ≡ fault_at (length (lexemes (tokens_of tokens.now))) stop }
-{
-    match stop {
-        Stop::TooDeep => SyntaxFault::TooDeep,
-        Stop::Unexpected(left) => SyntaxFault::Unexpected {
-            number: tokens.len().saturating_sub(left) as u64 + 1,
-        },
-    }
-}
-
 /// Reads the tokens of a file that nest within the limit. Fails where reading stops.
 fn read<'a>(alloc: Global, tokens: &[Token<'a>]) -> Result<File<'a>, SyntaxFault>
     ensures { Gives unless_memory file_of result (told (length (lexemes (tokens_of tokens.now))) (file_with (inside_at nesting_limit) (lexemes (tokens_of tokens.now)))) }
@@ -43,7 +30,10 @@ fn read<'a>(alloc: Global, tokens: &[Token<'a>]) -> Result<File<'a>, SyntaxFault
     match reader.file(NESTING_LIMIT, tokens) {
         Ok(file) => Ok(file),
         Err(ReadFault::Memory) => Err(SyntaxFault::Memory),
-        Err(ReadFault::Stop(stop)) => Err(fault_of(tokens, stop)),
+        Err(ReadFault::Stop(Stop::TooDeep)) => Err(SyntaxFault::TooDeep),
+        Err(ReadFault::Stop(Stop::Unexpected(left))) => Err(SyntaxFault::Unexpected {
+            number: tokens.len().saturating_sub(left) as u64 + 1,
+        }),
     }
 }
 

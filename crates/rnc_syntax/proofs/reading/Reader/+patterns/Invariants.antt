@@ -42,8 +42,8 @@ decreases-more l = 20 * l.levels + 7
 abbrev pub decreases-pattern_from : goal.decreases-pattern_from
 decreases-pattern_from l = 20 * l.levels + 9
 
-abbrev pub decreases-data : goal.decreases-data
-decreases-data l = 20 * l.levels + 10
+abbrev pub decreases-excluded : goal.decreases-excluded
+decreases-excluded l = 20 * l.levels + 10
 
 abbrev pub decreases-pattern : goal.decreases-pattern
 decreases-pattern l = 20 * l.levels + 12
