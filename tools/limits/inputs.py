@@ -71,6 +71,16 @@ def nested_files(front, back, last, files=64, mention="external"):
     return make
 
 
+def nested_file_with_fault(front, back, last):
+    """A file of 126 nested brackets, and behind them what no pattern has there."""
+    whole = nested_files(front, back, last, 1)
+
+    def make(factor):
+        [file], document = whole(factor)
+        return [file + ", }"], document
+    return make
+
+
 def grammars_in_a_ring(factor):
     return [" | ".join(["grammar { start = text }"] * int(20_000 * factor))], ""
 
@@ -275,6 +285,8 @@ NESTED = [
 ] + [
     (f"{'a file' if files == 1 else f'{files} files'} of 126 {what} in one another", "check", nested_files(front, back, last, files))
     for files in (1, 64) for what, front, back, last in SHAPES
+] + [
+    (f"a file of 126 {what} in one another, and `, }}` behind them", "check", nested_file_with_fault(front, back, last)) for what, front, back, last in SHAPES
 ] + [
     ("64 files of 126 `div` in one another, each file included in the one before", "check",
      nested_files("div { ", " }", "start = element a { empty }", 64, "include")),
