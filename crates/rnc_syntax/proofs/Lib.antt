@@ -29,7 +29,7 @@ pub mod LocalityComponents
 pub mod LocalityFiles
 pub mod TakenItems
 pub mod JoinedRest
-pub mod PlacedReads
+pub mod FirstPrimaries
 pub mod Viability
 pub mod ViabilityAnnotations
 pub mod ViabilityLiterals

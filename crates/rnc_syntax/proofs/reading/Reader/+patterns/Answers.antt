@@ -5,7 +5,7 @@ use Rattle.rnc_syntax.specs.views.Fault.{stop_of}
 use Rattle.rnc_syntax.specs.views.SyntaxView.{pattern_of, component_of}
 use Rattle.rnc_syntax.proofs.FirstTokens.{component_starts, component_stops}
 use Rattle.rnc_syntax.proofs.JoinedRest.{from_is, rest_ends, rest_stops}
-use Rattle.rnc_syntax.proofs.PlacedReads.{excludes_behind, goes_on_behind, grammar_made, primary_stops}
+use Rattle.rnc_syntax.proofs.FirstPrimaries.{excludes_behind, goes_on_behind, primary_stops}
 use Rattle.rnc_syntax.proofs.ReadItems.{goes_on, stops, is_done}
 use Rattle.rnc_syntax.proofs.TakenItems.{fewer, particle_taken, component_taken}
 use Rattle.rnc_syntax.proofs.reading.Reader.+patterns.Goals as goal
@@ -70,6 +70,3 @@ bare_pattern-returns-in-None t c = subst (Gives stop_of _ c.pattern_from.result)
 pub bare_pattern-returns-in-Some : goal.bare_pattern-returns-in-Some
 bare_pattern-returns-in-Some t c = subst (Gives stop_of _ c.excluded.result)
     (sym (excludes_behind _ _ _ _ _ c.in_ok-rest.ensures (sym c.in-Some.ensures))) c.excluded.ensures
-
-pub grammar-returns : goal.grammar-returns
-grammar-returns t c = grammar_made _ _ _ _ _ _ c.put_grammar.ensures c.contents-rest.ensures

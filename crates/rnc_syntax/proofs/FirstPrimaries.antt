@@ -1,36 +1,18 @@
--- What is read in place, after the step that puts it there.
-use Rattle.std.proofs.Common.{◌≡◌, ℕ, Bool, true, false, if◌then◌else◌, List, [], ◌∷◌, Option, Some, None, Result, Ok, Err, refl, ap, ◌∙◌}
+-- A pattern after its first primary: a datatype is read like any other primary, and what it excludes after that.
+use Rattle.std.proofs.Common.{◌≡◌, ℕ, Bool, true, false, if◌then◌else◌, List, [], ◌∷◌, Option, Some, None, Ok, Err, refl, ap, ◌∙◌}
 use Rattle.rnc_model.specs.declared.token.Keyword.TheVariants as keywords
 use Rattle.rnc_model.specs.declared.token.Sign.TheVariants.{Minus}
-use Rattle.rnc_model.specs.grammar.Grammar.{content}
 use Rattle.rnc_model.specs.grammar.Syntax as syntax
-use Rattle.rnc_model.specs.grammar.Syntax.{Component, DatatypeName, Pattern}
+use Rattle.rnc_model.specs.grammar.Syntax.{DatatypeName, Pattern}
 use Rattle.rnc_model.specs.tokens.Lexeme.{Lexeme, keyword, cname}
-use Rattle.rng_model.specs.plain.Answers.{Gives, Refuses}
-use Rattle.rnc_syntax.specs.declared.atoms.Opening.TheVariants as openings
+use Rattle.rng_model.specs.plain.Answers.{Refuses}
 use Rattle.rnc_syntax.specs.declared.fault.ReadFault.{ReadFault}
 use Rattle.rnc_syntax.specs.declared.fault.ReadFault.TheVariants as read_faults
 use Rattle.rnc_syntax.specs.plain.Combinators.{Outcome, ◌>>=◌, either_way, follow}
 use Rattle.rnc_syntax.specs.plain.DataParts.{excluded_with, exclusion_front}
-use Rattle.rnc_syntax.specs.plain.Productions.{Inside, atom_at, bare_pattern_with, bare_primary_with}
-use Rattle.rnc_syntax.specs.plain.Productions.{begins_segment, contents_with, data_with, opened_with, parameters_at, pattern_from}
-use Rattle.rnc_syntax.specs.plain.Productions.{typed_at}
+use Rattle.rnc_syntax.specs.plain.Productions.{Inside, atom_at, bare_pattern_with, bare_primary_with, begins_segment, data_with, named_data_with}
+use Rattle.rnc_syntax.specs.plain.Productions.{parameters_at, pattern_from, typed_at}
 use Rattle.rnc_syntax.specs.views.Fault.{stop_of}
-
--- what is made of a value that was read
-pub made : {A B X : Type 0} (f : A → B) (a : A) (b : B) (rest : X → List Lexeme) (r : Result X ReadFault) (o : Outcome A) → b ≡ f a
-    → Gives {Y = A × List Lexeme} stop_of (λ x. (a, rest x)) r o → Gives {Y = B × List Lexeme} stop_of (λ x. (b, rest x)) r (o >>= λ x. Ok (f x.0, x.1))
-made f a b rest (Ok x) o is given = rw (given, is) refl
-made f a b rest (Err read_faults.Memory) o is given = tt
-made f a b rest (Err (read_faults.Stop s)) o is given = rw given refl
-
--- a grammar of components that were read
-pub grammar_made : {X : Type 0} (inside : Inside) (ts : List Lexeme) (cs : List Component) (t : Pattern) (rest : X → List Lexeme) (r : Result X ReadFault)
-    → t ≡ syntax.grammar (syntax.components_of cs) → Gives {Y = List Component × List Lexeme} stop_of (λ x. (cs, rest x)) r (contents_with inside content ts)
-    → Gives {Y = Pattern × List Lexeme} stop_of (λ x. (t, rest x)) r (opened_with inside openings.Grammar ts)
-unfolding opened_with
-grammar_made inside ts cs t rest r is given =
-    made (λ (cs : List Component). syntax.grammar (syntax.components_of cs)) cs t rest r (contents_with inside content ts) is given
 
 -- a pattern after its first primary, which begins at ts
 abbrev behind_primary : Inside → List Lexeme → Pattern → List Lexeme → Outcome Pattern
@@ -39,6 +21,10 @@ behind_primary inside ts t us = either_way (exclusion_front ts us) (pattern_from
 -- a datatype with its parameters
 abbrev data_read : DatatypeName → List (List ℕ × List ℕ) × List Lexeme → Outcome Pattern
 data_read d ps = Ok (syntax.data_of d ps.0, ps.1)
+
+-- the name of a datatype, unless a segment follows
+abbrev unless_segment : Bool → DatatypeName → List Lexeme → Option (DatatypeName × List Lexeme)
+unless_segment b d ts = if b then None else Some (d, ts)
 
 module _ (inside : Inside) where
   data_is : (d : DatatypeName) (r : Outcome (List (List ℕ × List ℕ))) → (r >>= λ ps. data_with inside d ps.0 ps.1)
@@ -49,9 +35,8 @@ module _ (inside : Inside) where
 
   -- a datatype or a value, by whether a segment follows
   typed_is : (d : DatatypeName) (ts : List Lexeme) (b : Bool) → begins_segment ts ≡ b
-      → either_way {A = DatatypeName × List Lexeme} (if b then None else Some (d, ts)) (typed_at d ts >>= λ t. pattern_from inside t.0 t.1) (λ x. parameters_at x.1
-      >>= λ ps. data_with inside x.0 ps.0 ps.1)
-      ≡ (typed_at d ts >>= λ t. either_way (either_way {A = DatatypeName × List Lexeme} (if b then None else Some (d, ts)) None (λ x. follow Minus t.1)) (pattern_from inside t.0 t.1)
+      → either_way (unless_segment b d ts) (typed_at d ts >>= λ t. pattern_from inside t.0 t.1) (λ x. named_data_with inside x.0 x.1)
+      ≡ (typed_at d ts >>= λ t. either_way (either_way (unless_segment b d ts) None (λ x. follow Minus t.1)) (pattern_from inside t.0 t.1)
       (excluded_with inside t.0))
   unfolding typed_at
   typed_is d ts true e = refl
