@@ -1,9 +1,17 @@
 -- The components of an included file.
-use Rattle.std.proofs.Common.{◌≡◌, ◌∙◌, refl, sym, subst, ap, ℕ, zero, suc, ◌-◌, ◌<◌, List, ◌∷◌, Option, None, Some, arith}
+use Rattle.std.proofs.Common.{◌≡◌, ◌∙◌, refl, sym, subst, ap, ℕ, zero, suc, ◌-◌, ◌<◌, List, ◌∷◌, map, Option, None, Some, arith, rules, Box, Global, Vec}
 use Rattle.rnc_model.specs.declarations.FileTree as tree
-use Rattle.rnc_model.specs.declarations.FileTree.{FileTree}
+use Rattle.rnc_model.specs.declarations.FileTree.{FileTree, components_of}
 use Rattle.rnc_model.specs.loading.Places.{TreePath}
+use Rattle.rnc_grammar.specs.declared.file_tree.Component.{Component, the_lemmas as tree_lemmas}
+use Rattle.rnc_grammar.specs.declared.file_tree.Component.TheVariants as trees
+use Rattle.rnc_grammar.specs.declared.file_tree.Mention.{Mention}
+use Rattle.rnc_grammar.specs.views.View.{component_of, mention_of}
 use Rattle.rng_load.specs.plain.PlainReading.{included_with, gather_at, gather_below, gather_with}
+
+pub include_tree : (m : Box Mention Global) (over : Vec Component Global)
+    → component_of (trees.Include m over) ≡ tree.include (mention_of m.value) (components_of (map component_of over.items))
+include_tree m over = search (rules, tree_lemmas)
 
 module _ (files : List ℕ → Option FileTree) where
   one_level_less : (levels : ℕ) (v : List ℕ) (x : TreePath) (k : ℕ) (cs : tree.Components) → 0 < levels
