@@ -114,8 +114,11 @@ impl<'a> TreeReader<'a> {
         made: &mut GatheredComponents<'a>,
     ) -> Result<(), OutOfMemory>
         ensures { OnOk result (gathered_at_end (files_in self.entry) (lists_in made.new) (gathered_in made.new, reverse way.new.items)
-            ≡ gathered_at_end (files_in self.entry) (lists_in made.old) (gathered_in made.old ++ gather_one_at (files_in self.entry) scope.entry.levels
-            (namespace_bytes scope.entry.uri.now) (reverse way.old.items) (component_of component.now), reverse way.old.items)) }
+            ≡ gathered_at_end (files_in self.entry) (lists_in made.old) (
+              gathered_in made.old ++ gather_one_at (files_in self.entry) scope.entry.levels
+                  (namespace_bytes scope.entry.uri.now) (reverse way.old.items) (component_of component.now),
+              reverse way.old.items,
+            )) }
     {
         match component {
             rnc_grammar::Component::Start(method, body) => {
@@ -138,7 +141,11 @@ impl<'a> TreeReader<'a> {
             }
             rnc_grammar::Component::Include(mention, overriding) => {
                 let before = mem::replace(&mut made.all, Vec::new(self.alloc));
-                let at_end = AtEnd::Braces { before, scope, overriding };
+                let at_end = AtEnd::Braces {
+                    before,
+                    scope,
+                    overriding,
+                };
                 way.push(0)?;
                 made.open_list(way, self.included(scope, mention, at_end))
             }
@@ -161,7 +168,10 @@ impl<'a> TreeReader<'a> {
         let uri = namespace_uri(&mention.namespace, scope.uri);
         match grammar_of(self.trees, mention.href.as_str()) {
             Some(components) if scope.levels > 0 => OpenComponents {
-                scope: FileScope { levels: scope.levels - 1, uri },
+                scope: FileScope {
+                    levels: scope.levels - 1,
+                    uri,
+                },
                 components,
                 number: 0,
                 at_end,

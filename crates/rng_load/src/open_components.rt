@@ -74,7 +74,11 @@ impl<'a> GatheredComponents<'a> {
     {
         match at_end {
             AtEnd::Nothing => Ok(()),
-            AtEnd::Braces { before, scope, overriding } => {
+            AtEnd::Braces {
+                before,
+                scope,
+                overriding,
+            } => {
                 let included = mem::replace(&mut self.all, Vec::new(alloc));
                 way.pop();
                 way.push(1)?;

@@ -117,7 +117,9 @@ impl<'a> SchemaReader<'a> {
             levels: MENTION_LIMIT,
             uri: none,
         };
-        let start = self.trees.gathered(scope, &mut way, None, Method::Plain, pattern)?;
+        let start = self
+            .trees
+            .gathered(scope, &mut way, None, Method::Plain, pattern)?;
         let mut all = Vec::new(self.trees.alloc);
         all.push(start)?;
         Ok(all)

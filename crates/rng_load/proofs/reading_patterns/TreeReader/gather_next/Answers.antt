@@ -44,7 +44,10 @@ returns-clause-same c =
     reverse_pushed c.pop-2.new.self.items c.push.new.self.items list.number c.in_ok-push.ensures.items ∙ ap (λ x. list.number ∷ x) parent in
     let inside : list.number < length list.components.now = search rules in
     let again = views_pushed list_of c.pop.new.self.items c.push-2.new.self.items _ c.in_ok-push-2.ensures.items in
+    let below = reverse c.push.new.self.items in
     c.in_ok-gather.ensures
+    ∙ ap (λ d. gathered_at_end files (reverse (map list_of c.push-2.new.self.items)) (all ++ gather_one_at files o.levels o.uri below (component_of d), below))
+    (sym c.index-list-list.is)
     ∙ ap₂ (λ os x. gathered_at_end files os (all ++ gather_one_at files o.levels o.uri x one, x)) again child
     ∙ goes_on files o.levels o.uri o.number one left o.at_end rest way all
     ∙ ap (λ cs. gathered_at_end files (record { levels = o.levels; uri = o.uri; number = o.number; left = cs; at_end = o.at_end } ∷ rest) (all, way))

@@ -25,6 +25,6 @@ returns-in_default-clause-gathered c = λ x.
     let v = uri_in (namespace_bytes c.args.scope.uri.now) (mention_of c.args.mention.now).namespace in
     let file = grammar_if (files (mention_of c.args.mention.now).href) in
     elim c.in_default.branch [
-      in_default-via-in-Some+else-scope-gt0 w ↦ no_level files 0 levels uri v x file (omega (arith, w.if-scope-gt0.false))
-    | in_default-via-in_default w ↦ no_grammar files 0 levels uri v x file (w.in_default.ensures ∙ ap (λ f. grammar_if (files f)) c.as_str.ensures.value)
+      | in_default-via-in-Some+else-scope-gt0 w ↦ no_level files 0 levels uri v x file (omega (arith, w.if-scope-gt0.false))
+      | in_default-via-in_default w ↦ no_grammar files 0 levels uri v x file (w.in_default.ensures ∙ ap (λ f. grammar_if (files f)) c.as_str.ensures.value)
     ]
