@@ -102,7 +102,7 @@ impl<'a> TreeReader<'a> {
         Ok(true)
     }
 
-    /// Appends what a component adds to which this way leads, or opens the lists of components in it.
+    /// Appends what a component adds, or opens the list of components in it. `way` leads to the component.
     ///
     /// RELAX NG Specification, sections 4.7 and 4.11.
     #[tactic(auto, unfolding(crate::specs::plain::PlainReading::gather_with))]
@@ -154,6 +154,8 @@ impl<'a> TreeReader<'a> {
 
     /// The components of the included file, with what is to be done at their end. There are none if the file is no
     /// grammar, or no level is left.
+    ///
+    /// RELAX NG Specification, sections 4.7 and 4.9.
     fn included(
         self,
         scope: FileScope<'a>,

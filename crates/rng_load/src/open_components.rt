@@ -1,5 +1,5 @@
 // Components that are being gathered, and the lists of components that are not gathered to their ends.
-ghost use Rattle.std.specs.Prelude.{◌≡◌, OnOk, map, reverse};
+ghost use Rattle.std.specs.Prelude.{◌≡◌, OnOk, reverse};
 ghost use Rattle.rng_load.specs.plain.OpenComponents.{Files, after_end, gathered_at_end, with_list};
 ghost use Rattle.rng_load.specs.views.GatheredComponents.{end_of, gathered_in, list_of, lists_in};
 
@@ -25,21 +25,21 @@ pub(crate) struct OpenComponents<'a> {
 pub(crate) enum AtEnd<'a> {
     /// Nothing: the list is that of a grammar or of a div.
     Nothing,
-    /// The list is that of an included file. Its include's braces are next. They are read where the include is.
+    /// The list is that of an included file. The braces of its include are next, in the scope of the include.
     Braces {
         before: Vec<GatheredComponent<'a>>,
         scope: FileScope<'a>,
         overriding: &'a [Component],
     },
-    /// The list is that of an include's braces. It overrides included components.
+    /// The list is that of an include's braces. Included components of the same names are removed.
     Override {
         before: Vec<GatheredComponent<'a>>,
         included: Vec<GatheredComponent<'a>>,
     },
 }
 
-/// What is gathered: the components since the last include whose end is not reached, and the lists of components that
-/// are open. The innermost open list is the last.
+/// What is gathered, and the lists of components that are open. The innermost open list is the last. An include that is
+/// open has what was gathered before it, and `all` has only what was gathered since.
 #[derive(Drop)]
 pub(crate) struct GatheredComponents<'a> {
     pub all: Vec<GatheredComponent<'a>>,
@@ -47,7 +47,7 @@ pub(crate) struct GatheredComponents<'a> {
 }
 
 impl<'a> GatheredComponents<'a> {
-    /// Opens a list of components to whose parent this way leads.
+    /// Opens a list of components. `way` leads to their parent.
     pub(crate) fn open_list(
         &mut self,
         way: &mut Vec<usize>,
@@ -60,7 +60,7 @@ impl<'a> GatheredComponents<'a> {
         Ok(self.open.push(list)?)
     }
 
-    /// Does what is to be done at the end of a list of components to whose parent this way leads.
+    /// Does what is to be done at the end of a list of components. `way` leads to their parent.
     ///
     /// RELAX NG Specification, section 4.7.
     pub(crate) fn end_list(

@@ -126,8 +126,6 @@ impl<'a> SchemaReader<'a> {
     }
 
     /// The grammars at their places, given the components of the main one. Fails only when out of memory.
-    ///
-    /// Recurses no deeper than the components of one grammar do, however deep grammars are nested.
     fn grammars(
         self,
         main: Vec<GatheredComponent<'a>>,

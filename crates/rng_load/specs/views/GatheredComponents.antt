@@ -43,6 +43,6 @@ list_of o = record {
 abbrev pub lists_in : declared.GatheredComponents → List OpenList
 lists_in m = reverse (map list_of m.open.items)
 
--- what is gathered since the last include whose end is not reached
+-- what is gathered since the innermost open include began its file or its braces
 abbrev pub gathered_in : declared.GatheredComponents → List Gathered
 gathered_in m = map gathered_of m.all.items

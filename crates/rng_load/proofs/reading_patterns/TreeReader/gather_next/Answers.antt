@@ -1,4 +1,4 @@
-use Rattle.std.proofs.Common.{◌≡◌, ◌∙◌, ◌+◌, ◌<◌, ◌≤◌, ◌∷◌, ◌++◌, [], rules, sym, ap, ap₂, map, reverse, drop, length}
+use Rattle.std.proofs.Common.{◌≡◌, ◌∙◌, ◌+◌, ◌<◌, ◌≤◌, ◌∷◌, ◌++◌, rules, sym, ap, ap₂, map, reverse, drop, length}
 use Rattle.rnc_grammar.specs.views.View.{component_of}
 use Rattle.rng_load.specs.plain.OpenComponents.{after_end, gathered_at_end}
 use Rattle.rng_load.specs.plain.PlainReading.{gather_one_at}

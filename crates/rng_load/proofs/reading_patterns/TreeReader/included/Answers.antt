@@ -1,4 +1,4 @@
-use Rattle.std.proofs.Common.{◌≡◌, ◌∙◌, ◌<◌, rules, arith, sym, ap, map}
+use Rattle.std.proofs.Common.{◌∙◌, ◌<◌, rules, arith, sym, ap, map}
 use Rattle.rng_model.specs.names.NamespaceViews.{namespace_bytes}
 use Rattle.rnc_model.specs.declarations.FileTree.{components_of}
 use Rattle.rnc_model.specs.loading.Loading.{grammar_if}
