@@ -1,9 +1,17 @@
 -- The components of an included file.
-use Rattle.std.proofs.Common.{◌≡◌, ◌∙◌, sym, subst, ap, ℕ, zero, suc, ◌-◌, ◌<◌, List, ◌∷◌, Option, Some, arith}
+use Rattle.std.proofs.Common.{◌≡◌, ◌∙◌, refl, sym, subst, ap, ℕ, zero, suc, ◌-◌, ◌<◌, List, ◌∷◌, map, Option, None, Some, arith, rules, Box, Global, Vec}
 use Rattle.rnc_model.specs.declarations.FileTree as tree
-use Rattle.rnc_model.specs.declarations.FileTree.{FileTree}
+use Rattle.rnc_model.specs.declarations.FileTree.{FileTree, components_of}
 use Rattle.rnc_model.specs.loading.Places.{TreePath}
-use Rattle.rng_load.specs.plain.PlainReading.{included_with, gather_at, gather_below}
+use Rattle.rnc_grammar.specs.declared.file_tree.Component.{Component, the_lemmas as tree_lemmas}
+use Rattle.rnc_grammar.specs.declared.file_tree.Component.TheVariants as trees
+use Rattle.rnc_grammar.specs.declared.file_tree.Mention.{Mention}
+use Rattle.rnc_grammar.specs.views.View.{component_of, mention_of}
+use Rattle.rng_load.specs.plain.PlainReading.{included_with, gather_at, gather_below, gather_with}
+
+pub include_tree : (m : Box Mention Global) (over : Vec Component Global)
+    → component_of (trees.Include m over) ≡ tree.include (mention_of m.value) (components_of (map component_of over.items))
+include_tree m over = search (rules, tree_lemmas)
 
 module _ (files : List ℕ → Option FileTree) where
   one_level_less : (levels : ℕ) (v : List ℕ) (x : TreePath) (k : ℕ) (cs : tree.Components) → 0 < levels
@@ -21,3 +29,16 @@ module _ (files : List ℕ → Option FileTree) where
   file_gathered levels u v x o cs l is same =
       subst (λ o. included_with (gather_below files levels) v x o ≡ gather_at files (levels - 1) u (0 ∷ x) 0 cs) is
       (one_level_less levels v (0 ∷ x) 0 cs l ∙ ap (λ w. gather_at files (levels - 1) w (0 ∷ x) 0 cs) (sym same))
+
+  -- there are none if the file is no grammar
+  pub no_grammar : (n levels : ℕ) (u v : List ℕ) (x : TreePath) (o : Option tree.Components) → None ≡ o
+      → gather_at files n u (0 ∷ x) 0 tree.no_components ≡ included_with (gather_below files levels) v x o
+  unfolding included_with gather_with
+  no_grammar n levels u v x o e = ap (included_with (gather_below files levels) v x) e
+
+  -- or if no level is left
+  pub no_level : (n levels : ℕ) (u v : List ℕ) (x : TreePath) (o : Option tree.Components) → levels ≡ 0
+      → gather_at files n u (0 ∷ x) 0 tree.no_components ≡ included_with (gather_below files levels) v x o
+  unfolding included_with gather_with gather_below
+  no_level n levels u v x None e = refl
+  no_level n levels u v x (Some is) e = ap (λ k. gather_below files k v (0 ∷ x) 0 is) (sym e)

@@ -20,12 +20,10 @@ pub mod OneSchema
 mod OneGrammar
 mod PlainReading
 mod ClosedFiles
-mod TreeSizes
-mod ReadingSizes
 mod ReadMentioned
-mod GatherOneByOne
-mod GatheringSizes
 mod GatherIncluded
+mod OverriddenComponents
+mod OpenComponents
 mod FoundGrammars
 mod GrammarLookup
 pub mod PlacesListed

@@ -2,6 +2,7 @@
 pub mod ComponentNames
 pub mod Counting
 pub mod FoundGrammars
+pub mod OpenComponents
 pub mod OpenPatterns
 pub mod PlainReading
 pub mod SchemaPlaces

@@ -1,16 +1,18 @@
 // From the components of files to those of the grammars of a schema.
-ghost use Rattle.std.specs.Prelude.{◌≡◌, [], ◌∷◌, ◌++◌, ◌||◌, ℕ, IfOk, List, OnOk, Option, filter, map, not, option_map, reverse, string_bytes};
+ghost use Rattle.std.specs.Prelude.{◌≡◌, [], ◌∷◌, ◌++◌, ◌||◌, ℕ, false, IfOk, List, OnOk, Option, filter, map, not, option_map, reverse, string_bytes};
 ghost use Rattle.rng_model.specs.schema.Schema.{same_name};
 ghost use Rattle.rng_model.specs.names.NamespaceViews.{namespace_bytes};
 ghost use Rattle.rnc_model.specs.declarations.FileTree.{components_of};
 ghost use Rattle.rnc_grammar.specs.views.View.{component_of, mention_of, pattern_of};
-ghost use Rattle.rng_load.specs.views.GatheredComponents.{gathered_of, has_name};
+ghost use Rattle.rng_load.specs.views.GatheredComponents.{gathered_in, gathered_of, has_name, list_of, lists_in};
 ghost use Rattle.rnc_model.specs.loading.Loading.{grammar_if};
-ghost use Rattle.rnc_model.specs.loading.Places.{Gathered, is_overridden, uri_in};
+ghost use Rattle.rnc_model.specs.loading.Places.{Gathered, TreePath, is_overridden, uri_in};
+ghost use Rattle.rng_load.specs.plain.OpenComponents.{components_at, gathered_at_end};
 ghost use Rattle.rng_load.specs.plain.PlainReading.{gather_at, gather_below, gather_one_at, gathered_as, included_with, read_at, replaced_by};
 ghost use Rattle.rng_load.specs.views.ReadPatterns.{files_in};
 
 use crate::component_names::{grammar_of, note};
+use crate::open_components::{AtEnd, GatheredComponents, OpenComponents};
 use crate::pattern_rows::FileScope;
 use crate::reading_names::namespace_uri;
 use crate::reading_patterns::{NestedGrammar, TreeReader};
@@ -18,6 +20,7 @@ use indexmap::IndexSet;
 use rnc_grammar::{Mention, Method, Pattern};
 use rng_model::{Component, Namespace, OutOfMemory};
 use std::alloc::Global;
+use std::mem;
 
 /// A component of a grammar, with the grammars that are nested in it.
 ///
@@ -38,7 +41,6 @@ impl<'a> TreeReader<'a> {
     /// braces.
     ///
     /// RELAX NG Specification, sections 4.7, 4.9 and 4.11.
-    #[cycle(gathering)]
     pub(crate) fn gather_all(
         self,
         levels: u32,
@@ -51,168 +53,144 @@ impl<'a> TreeReader<'a> {
             ++ gather_at (files_in self.entry) levels (namespace_bytes uri.now) (reverse way.old.items) 0 (components_of (map component_of components.now))) }
         ensures way { OnOk result (way.new.items ≡ way.old.items) }
     {
-        for (number, component) in components.iter().enumerate() {
-            self.gather_child(levels, uri, way, number, component, all)?;
+        let mut made = GatheredComponents {
+            all: mem::replace(all, Vec::new(self.alloc)),
+            open: Vec::new(self.alloc),
+        };
+        let list = OpenComponents {
+            scope: FileScope { levels, uri },
+            components,
+            number: 0,
+            at_end: AtEnd::Nothing,
+        };
+        made.open_list(way, list)?;
+        // The count only bounds the loop for the proof.
+        'steps: for _ in 0..usize::MAX {
+            if !self.gather_next(way, &mut made)? {
+                *all = made.all;
+                return Ok(());
+            }
         }
-        Ok(())
+        Err(OutOfMemory)
     }
 
-    /// Appends the components that the child with this number adds.
-    #[cycle(gathering)]
-    fn gather_child(
+    /// Gathers the next component of the innermost open list, or ends that list if it has none. Returns whether a list
+    /// was open.
+    fn gather_next(
         self,
-        levels: u32,
-        uri: &'a Namespace,
         way: &mut Vec<usize>,
-        number: usize,
-        component: &'a rnc_grammar::Component,
-        all: &mut Vec<GatheredComponent<'a>>,
-    ) -> Result<(), OutOfMemory>
-        ensures gathered { OnOk result (map gathered_of all.new.items ≡ map gathered_of all.old.items
-            ++ gather_one_at (files_in self.entry) levels (namespace_bytes uri.now) (number ∷ reverse way.old.items) (component_of component.now)) }
-        ensures way { OnOk result (way.new.items ≡ way.old.items) }
+        made: &mut GatheredComponents<'a>,
+    ) -> Result<bool, OutOfMemory>
+        ensures same { OnOk result (gathered_at_end (files_in self.entry) (lists_in made.new) (gathered_in made.new, reverse way.new.items)
+            ≡ gathered_at_end (files_in self.entry) (lists_in made.old) (gathered_in made.old, reverse way.old.items)) }
+        ensures none { IfOk result (λ some. some ≡ false → lists_in made.new ≡ []) }
     {
-        way.push(number)?;
-        self.gather(levels, uri, way, component, all)?;
+        let Some(mut list) = made.open.pop() else {
+            return Ok(false);
+        };
         way.pop();
-        Ok(())
+        if list.number >= list.components.len() {
+            made.end_list(self.alloc, way, list.at_end)?;
+            return Ok(true);
+        }
+        let scope = list.scope;
+        let component = &list.components[list.number];
+        way.push(list.number)?;
+        list.number += 1;
+        made.open.push(list)?;
+        self.gather(scope, way, component, made)?;
+        Ok(true)
     }
 
-    /// Appends the components that one component adds.
-    #[cycle(gathering)]
+    /// Appends what a component adds, or opens the list of components in it. `way` leads to the component.
+    ///
+    /// RELAX NG Specification, sections 4.7 and 4.11.
     #[tactic(auto, unfolding(crate::specs::plain::PlainReading::gather_with))]
     fn gather(
         self,
-        levels: u32,
-        uri: &'a Namespace,
+        scope: FileScope<'a>,
         way: &mut Vec<usize>,
         component: &'a rnc_grammar::Component,
-        all: &mut Vec<GatheredComponent<'a>>,
+        made: &mut GatheredComponents<'a>,
     ) -> Result<(), OutOfMemory>
-        ensures gathered { OnOk result (map gathered_of all.new.items ≡ map gathered_of all.old.items
-            ++ gather_one_at (files_in self.entry) levels (namespace_bytes uri.now) (reverse way.old.items) (component_of component.now)) }
-        ensures way { OnOk result (way.new.items ≡ way.old.items) }
+        ensures { OnOk result (gathered_at_end (files_in self.entry) (lists_in made.new) (gathered_in made.new, reverse way.new.items)
+            ≡ gathered_at_end (files_in self.entry) (lists_in made.old) (
+              gathered_in made.old ++ gather_one_at (files_in self.entry) scope.entry.levels
+                  (namespace_bytes scope.entry.uri.now) (reverse way.old.items) (component_of component.now),
+              reverse way.old.items,
+            )) }
     {
         match component {
             rnc_grammar::Component::Start(method, body) => {
-                self.put_gathered(levels, uri, way, None, *method, body, all)
+                let start = self.gathered(scope, way, None, *method, body)?;
+                Ok(made.all.push(start)?)
             }
             rnc_grammar::Component::Define(name, method, body) => {
                 let name = String::from_str(self.alloc, name.as_str())?;
-                self.put_gathered(levels, uri, way, Some(name), *method, body, all)
+                let define = self.gathered(scope, way, Some(name), *method, body)?;
+                Ok(made.all.push(define)?)
             }
             rnc_grammar::Component::Div(components) => {
-                self.gather_all(levels, uri, way, components, all)
+                let list = OpenComponents {
+                    scope,
+                    components,
+                    number: 0,
+                    at_end: AtEnd::Nothing,
+                };
+                made.open_list(way, list)
             }
             rnc_grammar::Component::Include(mention, overriding) => {
-                self.include(levels, uri, way, mention, overriding, all)
+                let before = mem::replace(&mut made.all, Vec::new(self.alloc));
+                let at_end = AtEnd::Braces {
+                    before,
+                    scope,
+                    overriding,
+                };
+                way.push(0)?;
+                made.open_list(way, self.included(scope, mention, at_end))
             }
         }
     }
 
-    /// Appends the components that an include adds, including those in its braces.
+    /// The components of the included file, with what is to be done at their end. There are none if the file is no
+    /// grammar, or no level is left.
     ///
-    /// RELAX NG Specification, section 4.7.
-    #[cycle(gathering)]
-    #[inline(never)]
-    fn include(
-        self,
-        levels: u32,
-        uri: &'a Namespace,
-        way: &mut Vec<usize>,
-        mention: &'a Mention,
-        overriding: &'a [rnc_grammar::Component],
-        all: &mut Vec<GatheredComponent<'a>>,
-    ) -> Result<(), OutOfMemory>
-        ensures gathered { OnOk result (map gathered_of all.new.items ≡ map gathered_of all.old.items
-            ++ replaced_by (included_with (gather_below (files_in self.entry) levels) (uri_in (namespace_bytes uri.now) (mention_of mention.now).namespace)
-            (reverse way.old.items) (grammar_if (files_in self.entry (mention_of mention.now).href)))
-            (gather_at (files_in self.entry) levels (namespace_bytes uri.now) (1 ∷ reverse way.old.items) 0
-            (components_of (map component_of overriding.now)))) }
-        ensures way { OnOk result (way.new.items ≡ way.old.items) }
-    {
-        let included = self.included(levels, uri, way, mention)?;
-        let mut replacing = Vec::with_capacity(self.alloc, overriding.len())?;
-        self.gather_under(levels, uri, way, 1, overriding, &mut replacing)?;
-        replace(self.alloc, all, included, replacing)
-    }
-
-    /// The components of the included file.
-    #[cycle(gathering)]
-    #[tactic(auto, unfolding(crate::specs::plain::PlainReading::included_with, crate::specs::plain::PlainReading::gather_below))]
-    #[inline(never)]
+    /// RELAX NG Specification, sections 4.7 and 4.9.
     fn included(
         self,
-        levels: u32,
-        uri: &'a Namespace,
-        way: &mut Vec<usize>,
+        scope: FileScope<'a>,
         mention: &'a Mention,
-    ) -> Result<Vec<GatheredComponent<'a>>, OutOfMemory>
-        ensures gathered { IfOk result (λ all. map gathered_of all.items
-            ≡ included_with (gather_below (files_in self.entry) levels) (uri_in (namespace_bytes uri.now) (mention_of mention.now).namespace)
-            (reverse way.old.items) (grammar_if (files_in self.entry (mention_of mention.now).href))) }
-        ensures way { OnOk result (way.new.items ≡ way.old.items) }
+        at_end: AtEnd<'a>,
+    ) -> OpenComponents<'a>
+        ensures gathered { (x : TreePath) → components_at (files_in self.entry) (0 ∷ x) (list_of result)
+            ≡ included_with (gather_below (files_in self.entry) scope.entry.levels) (uri_in (namespace_bytes scope.entry.uri.now) (mention_of mention.now).namespace)
+            x (grammar_if (files_in self.entry (mention_of mention.now).href)) }
+        ensures end { result.at_end ≡ at_end.entry }
     {
-        let uri = namespace_uri(&mention.namespace, uri);
-        let Some(components) = grammar_of(self.trees, mention.href.as_str()) else {
-            return Ok(Vec::new(self.alloc));
-        };
-        if levels == 0 {
-            return Ok(Vec::new(self.alloc));
+        let uri = namespace_uri(&mention.namespace, scope.uri);
+        match grammar_of(self.trees, mention.href.as_str()) {
+            Some(components) if scope.levels > 0 => OpenComponents {
+                scope: FileScope {
+                    levels: scope.levels - 1,
+                    uri,
+                },
+                components,
+                number: 0,
+                at_end,
+            },
+            _ => OpenComponents {
+                scope: FileScope { levels: 0, uri },
+                components: &[],
+                number: 0,
+                at_end,
+            },
         }
-        let mut all = Vec::with_capacity(self.alloc, components.len())?;
-        self.gather_under(levels - 1, uri, way, 0, components, &mut all)?;
-        Ok(all)
-    }
-
-    /// Appends the components that the components in the child with this number add.
-    #[cycle(gathering)]
-    fn gather_under(
-        self,
-        levels: u32,
-        uri: &'a Namespace,
-        way: &mut Vec<usize>,
-        number: usize,
-        components: &'a [rnc_grammar::Component],
-        all: &mut Vec<GatheredComponent<'a>>,
-    ) -> Result<(), OutOfMemory>
-        ensures gathered { OnOk result (map gathered_of all.new.items ≡ map gathered_of all.old.items
-            ++ gather_at (files_in self.entry) levels (namespace_bytes uri.now) (number ∷ reverse way.old.items) 0
-            (components_of (map component_of components.now))) }
-        ensures way { OnOk result (way.new.items ≡ way.old.items) }
-    {
-        way.push(number)?;
-        self.gather_all(levels, uri, way, components, all)?;
-        way.pop();
-        Ok(())
-    }
-
-    /// Appends a component of this name, or a start if there is no name.
-    #[inline(never)]
-    fn put_gathered(
-        self,
-        levels: u32,
-        uri: &'a Namespace,
-        way: &mut Vec<usize>,
-        name: Option<String>,
-        method: Method,
-        pattern: &'a Pattern,
-        all: &mut Vec<GatheredComponent<'a>>,
-    ) -> Result<(), OutOfMemory>
-        ensures gathered { OnOk result (map gathered_of all.new.items ≡ map gathered_of all.old.items
-            ++ gathered_as (option_map (λ y. string_bytes y) name) method
-            (read_at (files_in self.entry) levels (namespace_bytes uri.now) (reverse way.old.items) (pattern_of pattern.now)) ∷ []) }
-        ensures way { OnOk result (way.new.items ≡ way.old.items) }
-    {
-        let component = self.gathered(levels, uri, way, name, method, pattern)?;
-        Ok(all.push(component)?)
     }
 
     /// The component of this name, with the grammars that are nested in its pattern.
     pub(crate) fn gathered(
         self,
-        levels: u32,
-        uri: &'a Namespace,
+        scope: FileScope<'a>,
         way: &mut Vec<usize>,
         name: Option<String>,
         method: Method,
@@ -220,10 +198,10 @@ impl<'a> TreeReader<'a> {
     ) -> Result<GatheredComponent<'a>, OutOfMemory>
         ensures gathered { IfOk result (λ g. gathered_of g
             ≡ gathered_as (option_map (λ y. string_bytes y) name) method
-            (read_at (files_in self.entry) levels (namespace_bytes uri.now) (reverse way.old.items) (pattern_of pattern.now))) }
+            (read_at (files_in self.entry) scope.entry.levels (namespace_bytes scope.entry.uri.now) (reverse way.old.items) (pattern_of pattern.now))) }
         ensures way { OnOk result (way.new.items ≡ way.old.items) }
     {
-        let (pattern, grammars) = self.pattern(FileScope { levels, uri }, way, pattern)?;
+        let (pattern, grammars) = self.pattern(scope, way, pattern)?;
         let component = Component {
             name,
             method,
@@ -239,7 +217,7 @@ impl<'a> TreeReader<'a> {
 /// Appends the included components that are not overridden, and then the overriding ones.
 ///
 /// RELAX NG Specification, section 4.7.
-fn replace<'a>(
+pub(crate) fn replace<'a>(
     alloc: Global,
     all: &mut Vec<GatheredComponent<'a>>,
     mut included: Vec<GatheredComponent<'a>>,

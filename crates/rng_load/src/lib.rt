@@ -7,6 +7,7 @@ mod gathering;
 mod includes;
 mod loading;
 mod mentioned;
+mod open_components;
 mod order;
 mod paths;
 mod pattern_rows;

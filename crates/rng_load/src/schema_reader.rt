@@ -14,6 +14,7 @@ ghost use Rattle.rnc_model.specs.loading.Places.{IsSchemaOf, grammar_or_start, m
 ghost use Rattle.rng_load.specs.views.ReadPatterns.{files_in, nested_of};
 
 use crate::gathering::GatheredComponent;
+use crate::pattern_rows::FileScope;
 use crate::put::put;
 use crate::reading_patterns::{NestedGrammar, TreeReader};
 use crate::schema::{Grammar, Schema};
@@ -112,22 +113,19 @@ impl<'a> SchemaReader<'a> {
         ensures { IfOk result (λ all. map gathered_of all.items ≡ gathered_at (files_in self.entry.trees) [] [] (grammar_or_start (pattern_of pattern.now) None)) }
     {
         let mut way = Vec::from_slice(self.trees.alloc, &[0])?;
-        let start = self.trees.gathered(
-            MENTION_LIMIT,
-            none,
-            &mut way,
-            None,
-            Method::Plain,
-            pattern,
-        )?;
+        let scope = FileScope {
+            levels: MENTION_LIMIT,
+            uri: none,
+        };
+        let start = self
+            .trees
+            .gathered(scope, &mut way, None, Method::Plain, pattern)?;
         let mut all = Vec::new(self.trees.alloc);
         all.push(start)?;
         Ok(all)
     }
 
     /// The grammars at their places, given the components of the main one. Fails only when out of memory.
-    ///
-    /// Recurses no deeper than the components of one grammar do, however deep grammars are nested.
     fn grammars(
         self,
         main: Vec<GatheredComponent<'a>>,

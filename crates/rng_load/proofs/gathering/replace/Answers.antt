@@ -1,7 +1,7 @@
 use Rattle.std.proofs.Common.{◌≡◌, ◌∙◌, ap, filter, map, not}
 use Rattle.rng_load.specs.views.GatheredComponents.{gathered_of}
 use Rattle.rnc_model.specs.loading.Places.{is_overridden}
-use Rattle.rng_load.proofs.GatherOneByOne.{replaced}
+use Rattle.rng_load.proofs.OverriddenComponents.{replaced}
 use Rattle.rng_load.proofs.gathering.replace.Goals as goal
 
 pub returns : goal.returns
