@@ -69,7 +69,7 @@ pub fn is_idle(table: &PatternTable, candidates: Candidates, number: PatternNumb
 {
     match candidates {
         Candidates::Any => false,
-        Candidates::Elements(own, _) => !own.may_meet(table.facts(number).elements),
+        Candidates::Elements(own, _, _) => !own.may_meet(table.facts(number).elements),
         Candidates::Attributes(own, spans) => match spans.get(number.0) {
             Some(span) => !own.may_meet(*span),
             None => false,
@@ -112,17 +112,8 @@ fn new_ways(
     ensures ways { IfOk result (λ ws. AreWaysOf grammar.now table.new kind.entry (tree_of grammar.now table.old number.0) ws.items) }
 {
     match table.pattern(number) {
-        Pattern::Choice(members) => {
-            let members = copied(alloc, members.as_slice())?;
-            ways_of_choice(
-                alloc,
-                grammar,
-                table,
-                known,
-                candidates,
-                kind,
-                members.as_slice(),
-            )
+        Pattern::Choice(_) => {
+            ways_of_choice(alloc, grammar, table, known, candidates, kind, number)
         }
         Pattern::Group(first, second) => {
             let (first, second) = (*first, *second);
@@ -152,16 +143,7 @@ fn new_ways(
     }
 }
 
-/// Returns a copy of numbers.
-pub fn copied(alloc: Global, numbers: &[PatternNumber]) -> Result<Vec<PatternNumber>, OutOfMemory>
-    ensures { IfOk result (λ copy. copy.items ≡ numbers.now) }
-{
-    let mut copy = Vec::new(alloc);
-    copy.extend_from_slice(numbers)?;
-    Ok(copy)
-}
-
-/// Returns the ways of a choice of these members.
+/// Returns the ways of the choice with this number.
 #[cycle(ways)]
 fn ways_of_choice(
     alloc: Global,
@@ -170,24 +152,24 @@ fn ways_of_choice(
     known: &mut KnownWays,
     candidates: Candidates,
     kind: Kind,
-    members: &[PatternNumber],
+    number: PatternNumber,
 ) -> Result<Ways, OutOfMemory>
-    requires inside { All (λ m. m.0 < length table.old) members.now }
-    requires two { 2 ≤ length members.now }
+    requires inside { All (λ m. m < length table.old) (members_at table.old number.0) }
+    requires two { 2 ≤ length (members_at table.old number.0) }
+    requires number { number.0 < length table.old }
     requires known { AreKnown grammar.now table.old kind known.old }
     requires candidates { AreCandidates grammar.now table.old kind candidates }
     ensures longer { OnOk result (Longer table.old table.new) }
     ensures known { OnOk result (AreKnown grammar.now table.new kind.entry known.new) }
     ensures ways { IfOk result (λ ws. AreWaysOf grammar.now table.new kind.entry (choice_over (tree_of grammar.now table.old)
-        (map (λ m. m.0) members.now)) ws.items) }
+        (members_at table.old number.0)) ws.items) }
 {
     let mut all = Vec::new(alloc);
-    'members: for member in members {
-        if is_idle(table, candidates, *member) {
-            continue;
-        }
-        let ways = ways(alloc, grammar, table, known, candidates, kind, *member)?;
+    let mut next = 0;
+    'members: while let Some((position, member)) = next_member(table, candidates, number, next) {
+        let ways = ways(alloc, grammar, table, known, candidates, kind, member)?;
         all.extend_from_slice(ways.as_slice())?;
+        next = position + 1;
     }
     joined_ways(alloc, table, all.as_slice())
 }
