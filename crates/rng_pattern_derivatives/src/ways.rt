@@ -1,17 +1,17 @@
 // The ways of a pattern: the leaves by which it may begin, each with what is left then.
-ghost use Rattle.std.specs.Prelude.{◌≡◌, ◌<◌, ◌≤◌, [], All, IfOk, OnOk, length, map, true};
-ghost use Rattle.rng_model.specs.simple.Table.{Table};
+ghost use Rattle.std.specs.Prelude.{◌≡◌, ◌<◌, ◌≤◌, All, IfOk, OnOk, length};
 ghost use Rattle.rng_model.specs.simple.Tree.{group, s_joined, s_one_or_more};
 ghost use Rattle.rng_pattern_table.specs.views.PatternTable.{Longer};
+ghost use Rattle.rng_pattern_table.specs.views.Skips.{members_at};
 ghost use Rattle.rng_pattern_table.specs.views.Trees.{choice_over, tree_of};
 ghost use Rattle.rng_pattern_derivatives.specs.plain.Kinds.{HasNoOrder, IsOfItems, connector_of};
 ghost use Rattle.rng_pattern_derivatives.specs.views.KnownWays.{AreKnown};
 ghost use Rattle.rng_pattern_derivatives.specs.plain.Takers.{AreCandidates};
 ghost use Rattle.rng_pattern_derivatives.specs.plain.Ways.{AreWaysOf, IsHoleInside, filled};
-ghost use Rattle.rng_pattern_derivatives.specs.declared.way.Kind as kinds;
 
 use crate::fewer_ways::{repeated_ways, uncovered};
 use crate::filling::{add_filled, joined_ways};
+use crate::idle::{is_idle, next_member};
 use crate::known::{KnownWays, copied_ways, keep, known_ways};
 use crate::leaves::ways_of_leaf;
 use crate::way::{Candidates, Hole, Joint, Kind, Ways};
@@ -57,24 +57,6 @@ pub fn ways(
     let ways = new_ways(alloc, grammar, table, known, candidates, kind, number)?;
     keep(alloc, known, number, ways.as_slice())?;
     Ok(ways)
-}
-
-/// Returns true only if a pattern contains none of the candidates. Then it has no ways. A wide choice asks for each of its
-/// members.
-#[inline(always)]
-pub fn is_idle(table: &PatternTable, candidates: Candidates, number: PatternNumber) -> bool
-    requires { number.0 < length table.now }
-    ensures { result ≡ true → (t : Table) (kind : kinds.Kind) → AreCandidates t table.now kind candidates.entry
-        → AreWaysOf t table.now kind (tree_of t table.now number.0) [] }
-{
-    match candidates {
-        Candidates::Any => false,
-        Candidates::Elements(own, _, _) => !own.may_meet(table.facts(number).elements),
-        Candidates::Attributes(own, spans) => match spans.get(number.0) {
-            Some(span) => !own.may_meet(*span),
-            None => false,
-        },
-    }
 }
 
 /// The most members of an interleave whose ways are kept, if it is not deep. More members lead to too many other patterns.
@@ -166,10 +148,10 @@ fn ways_of_choice(
 {
     let mut all = Vec::new(alloc);
     let mut next = 0;
-    'members: while let Some((position, member)) = next_member(table, candidates, number, next) {
+    'members: while let Some((behind, member)) = next_member(table, candidates, number, next) {
         let ways = ways(alloc, grammar, table, known, candidates, kind, member)?;
         all.extend_from_slice(ways.as_slice())?;
-        next = position + 1;
+        next = behind;
     }
     joined_ways(alloc, table, all.as_slice())
 }

@@ -21,4 +21,4 @@ mod uses;
 pub use deep_parts::Step;
 pub use pattern::{Facts, Pattern, PatternNumber, Span};
 pub use pattern_table::PatternTable;
-pub use skips::{Skip, Skips};
+pub use skips::{FEW_MEMBERS, Skip, Skips};

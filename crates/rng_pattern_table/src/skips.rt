@@ -11,8 +11,8 @@ use rng_model::OutOfMemory;
 use std::alloc::Global;
 use std::collections::HashMap;
 
-/// The most members of a choice that needs no skips.
-const FEW_MEMBERS: usize = 16;
+/// The most members of a choice without skips.
+pub const FEW_MEMBERS: usize = 16;
 
 /// A step from a member of a choice to one behind it.
 #[derive(Clone, Copy)]
