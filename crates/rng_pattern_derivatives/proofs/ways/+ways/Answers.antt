@@ -47,8 +47,7 @@ new_ways-ways_of_choice-requires t c =
     let w = ap weight (is ∙ ap (choice_over (tree_of t0 ns)) (sym there)) in
     let d = c.decreases in
     let inside = c.requires.inside in
-    let member : All (λ m. m < length ns) ms = λ k d h. let one = below.1 k d h in omega (arith, one, inside) in
-    (
+    let member : All (λ m. m < length ns) ms = λ k d h. let one = below.1 k d h in omega (arith, one, inside) in (
       omega (arith, w, d),
       (
         subst (All (λ m. m < length ns)) (sym there) member,
