@@ -26,6 +26,7 @@ use Rattle.rng_pattern_table.specs.declared.pattern.Pattern.TheVariants as patte
 use Rattle.rng_pattern_table.specs.declared.pattern.PatternNumber.{PatternNumber}
 use Rattle.rng_pattern_table.specs.declared.pattern.Span.{Span}
 use Rattle.rng_pattern_table.proofs.KnownFacts.{joined_first, joined_second}
+use Rattle.rng_pattern_table.proofs.MemberSkips.{skips_longer}
 use Rattle.rng_pattern_table.proofs.Trees.{Longer-length, tree_stays}
 use Rattle.rng_pattern_derivatives.proofs.PatternNodes.{IsStringLeaf, a_datatype, a_list, a_value, an_except, found_string}
 use Rattle.rng_model.specs.matching.GrammarReading.{reading_of}
@@ -110,7 +111,7 @@ module _ (t : Table) (old new : List Node) (longer : Longer old new) where
 
   pub candidates_longer : (kind : Kind) (c : Candidates) → AreCandidates t old kind c → AreCandidates t new kind c
   candidates_longer kind candidates.Any h = h
-  candidates_longer kind (candidates.Elements takers alike) h = h
+  candidates_longer kind (candidates.Elements takers alike skips) h = (h.0, h.1, skips_longer old new longer skips.now h.2)
   candidates_longer kind (candidates.Attributes takers spans) h = (h.0, spans_longer spans.now h.1)
 
 -- ---- spans of wholes

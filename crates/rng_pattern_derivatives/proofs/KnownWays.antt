@@ -18,6 +18,7 @@ use Rattle.rng_pattern_table.specs.views.PatternTable.{Longer}
 use Rattle.rng_pattern_table.specs.views.Trees.{tree_of}
 use Rattle.rng_pattern_table.specs.declared.pattern.PatternNumber.{PatternNumber}
 use Rattle.rng_pattern_table.specs.contracts.pattern.PatternNumberPartialEq.TheImpl as same
+use Rattle.rng_pattern_table.proofs.MemberSkips.{skips_longer}
 use Rattle.rng_pattern_table.proofs.Trees.{Longer-length, tree_stays}
 use Rattle.rng_pattern_derivatives.specs.plain.Kinds.{IsElementNamed, IsNamed, Obeys}
 use Rattle.rng_model.specs.matching.GrammarReading.{reading_of}
@@ -177,6 +178,7 @@ all_longer t keys old new longer known all = record {
   alike = all.alike;
   attribute_takers = all.attribute_takers;
   spans = spans_longer t old new longer known.spans.items all.spans;
+  skips = skips_longer old new longer known.skips all.skips;
   datatypes = all.datatypes;
   last = last_longer t keys old new longer known.last.items all.last;
   plans = plans_longer t old new longer keys known.plans all.plans;

@@ -7,6 +7,7 @@ pub mod PatternNodes
 pub mod GrammarRows
 pub mod WaysOfLeaves
 mod WaysOfSides
+mod IdleMembers
 mod SideWeights
 pub mod KnownRests
 pub mod AttributeTakers

@@ -2,6 +2,7 @@
 pub mod Alike
 pub mod Closing
 pub mod FewerWays
+pub mod Idle
 pub mod Kinds
 pub mod Starting
 pub mod Takers

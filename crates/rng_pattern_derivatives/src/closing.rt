@@ -9,7 +9,6 @@ ghost use Rattle.rng_pattern_derivatives.specs.plain.Closing.{IsChoice, IsClosed
 ghost use Rattle.rng_pattern_derivatives.specs.views.KnownRests.{AreRestsOf};
 
 use crate::rests::{KnownRests, keep_rest};
-use crate::ways::copied;
 use rng_model::OutOfMemory;
 use rng_pattern_table::{Pattern, PatternNumber, PatternTable, Step};
 use std::alloc::Global;
@@ -152,6 +151,15 @@ fn close_parts(
         }
         _ => table.not_allowed(),
     }
+}
+
+/// Returns a copy of numbers.
+fn copied(alloc: Global, numbers: &[PatternNumber]) -> Result<Vec<PatternNumber>, OutOfMemory>
+    ensures { IfOk result (λ copy. copy.items ≡ numbers.now) }
+{
+    let mut copy = Vec::new(alloc);
+    copy.extend_from_slice(numbers)?;
+    Ok(copy)
 }
 
 /// Returns what is left of a choice: a choice of what is left of its members.

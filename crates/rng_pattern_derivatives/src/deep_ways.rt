@@ -7,9 +7,10 @@ ghost use Rattle.rng_pattern_derivatives.specs.views.KnownWays.{AreKnown};
 ghost use Rattle.rng_pattern_derivatives.specs.plain.Takers.{AreCandidates};
 ghost use Rattle.rng_pattern_derivatives.specs.plain.Ways.{AreWaysOf};
 
+use crate::idle::is_idle;
 use crate::known::{KnownWays, known_ways};
 use crate::way::{Candidates, Kind, Ways};
-use crate::ways::{is_idle, ways};
+use crate::ways::ways;
 use rng_model::{OutOfMemory, SimpleGrammar};
 use rng_pattern_table::{Pattern, PatternNumber, PatternTable, Step};
 use std::alloc::Global;

@@ -17,7 +17,7 @@ use crate::takers::Takers;
 use crate::way::{LeafWay, Ways};
 use rng_model::{ElementId, OutOfMemory, SimpleGrammar};
 use rng_names::{NameKey, NameKeys};
-use rng_pattern_table::{PatternNumber, Span};
+use rng_pattern_table::{PatternNumber, Skips, Span};
 use smallvec::SmallVec;
 use std::alloc::Global;
 use std::collections::HashMap;
@@ -59,6 +59,8 @@ pub struct Known {
     pub attribute_takers: Takers,
     /// For the first patterns of the table, the range of positions of the attributes in each.
     pub spans: Vec<Span>,
+    /// The skips of choices of many members, for elements.
+    pub skips: Skips,
     /// The datatypes that the grammar names, by positions.
     pub datatypes: Datatypes,
     /// For patterns with known ways to take an attribute, those that were computed last. They are tried first for the
@@ -89,6 +91,7 @@ impl Known {
             alike,
             attribute_takers,
             spans: Vec::new(alloc),
+            skips: Skips::new(alloc),
             datatypes,
             last: Vec::new(alloc),
             plans: HashMap::new(alloc),
@@ -105,6 +108,7 @@ impl Known {
         self.attributes = HashMap::new(alloc);
         self.rests = HashMap::new(alloc);
         self.spans = Vec::new(alloc);
+        self.skips = Skips::new(alloc);
         self.last = Vec::new(alloc);
         self.plans = HashMap::new(alloc);
     }

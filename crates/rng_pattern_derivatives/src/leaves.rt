@@ -123,7 +123,7 @@ fn like_leaf(
     ensures leaf { IfOk result (λ leaf. (t : Table) (kind : kinds.Kind) → AreCandidates t table.old kind candidates.entry
         → IsLikeLeaf t table.old table.new number leaf) }
 {
-    let Candidates::Elements(_, alike) = candidates else {
+    let Candidates::Elements(_, alike, _) = candidates else {
         return Ok(number);
     };
     let Pattern::Element(element) = table.pattern(number) else {

@@ -13,6 +13,7 @@ mod datatypes;
 mod deep_ways;
 mod fewer_ways;
 mod filling;
+mod idle;
 mod known;
 mod leaf_ways;
 mod leaves;

@@ -4,20 +4,19 @@ ghost use Rattle.rng_names.specs.plain.Keys.{name_at};
 ghost use Rattle.rng_model.specs.names.NameViews.{name_of};
 ghost use Rattle.rng_pattern_table.specs.views.PatternTable.{Longer};
 ghost use Rattle.rng_pattern_table.specs.views.Trees.{tree_of};
-ghost use Rattle.rng_pattern_derivatives.specs.plain.Alike.{AreAlike};
 ghost use Rattle.rng_pattern_derivatives.specs.views.KnownWays.{AreAllKnown, AreKnownByKey, IsElementKind};
 ghost use Rattle.rng_pattern_derivatives.specs.declared.way.Kind.{Kind};
 ghost use Rattle.rng_pattern_derivatives.specs.plain.Ways.{AreInside, AreWaysOf};
 ghost use Rattle.rng_pattern_derivatives.specs.plain.Starting.{AreBodies, AreStarts, IsBodyOf, IsReady};
-ghost use Rattle.rng_pattern_derivatives.specs.plain.Takers.{AreOfKey};
+ghost use Rattle.rng_pattern_derivatives.specs.plain.Takers.{AreCandidates};
 
 use crate::by_key::ways_by_key;
 use crate::known::{Known, KnownByKey};
 use crate::leaves::element_takes;
 use crate::way::{Candidates, Kind, LeafWay, Ways};
-use rng_model::{ElementId, Name, OutOfMemory, PatternId, SimpleGrammar};
+use rng_model::{Name, OutOfMemory, PatternId, SimpleGrammar};
 use rng_names::{NameKey, NameKeys};
-use rng_pattern_table::{Pattern, PatternNumber, PatternTable, Span};
+use rng_pattern_table::{Pattern, PatternNumber, PatternTable};
 use smallvec::SmallVec;
 use std::alloc::Global;
 
@@ -45,16 +44,17 @@ pub fn start(
     ensures starts { IfOk result (λ ws. AreStarts grammar.now table.new numbers.now (tree_of grammar.now table.old number.0)
         (name_at keys.now key.0) ws.items) }
 {
+    known.skips.add(alloc, table)?;
     let name = keys.name(key);
     let takers = known.takers.of(key);
+    let candidates = Candidates::Elements(takers, known.alike.as_slice(), &known.skips);
     let ways = element_ways(
         alloc,
         grammar,
         keys,
         table,
         &mut known.elements,
-        takers,
-        known.alike.as_slice(),
+        candidates,
         key,
         number,
     )?;
@@ -70,16 +70,14 @@ fn element_ways(
     keys: &NameKeys,
     table: &mut PatternTable,
     known: &mut KnownByKey,
-    takers: Span,
-    alike: &[ElementId],
+    candidates: Candidates,
     key: NameKey,
     number: PatternNumber,
 ) -> Result<Ways, OutOfMemory>
     requires inside { number.0 < length table.old }
     requires key { key.0 < length keys.now.names }
     requires known { AreKnownByKey IsElementKind grammar.now keys.now table.old known.old }
-    requires takers { AreOfKey grammar.now keys.now key.0 takers }
-    requires alike { AreAlike grammar.now alike.now }
+    requires candidates { (kind : Kind) → IsElementKind (name_at keys.now key.0) kind → AreCandidates grammar.now table.old kind candidates }
     ensures longer { OnOk result (Longer table.old table.new) }
     ensures known { OnOk result (AreKnownByKey IsElementKind grammar.now keys.now table.new known.new) }
     ensures ways { IfOk result (λ ws. (kind : Kind) × IsElementKind (name_at keys.now key.0) kind
@@ -92,7 +90,7 @@ fn element_ways(
         table,
         known,
         key,
-        Candidates::Elements(takers, alike),
+        candidates,
         Kind::Element(name),
         number,
     )

@@ -1,6 +1,6 @@
 // Ways to begin.
 use rng_model::{ElementId, Name};
-use rng_pattern_table::{PatternNumber, Span};
+use rng_pattern_table::{PatternNumber, Skips, Span};
 use smallvec::SmallVec;
 
 /// A leaf of a pattern that may take what comes first, and the pattern of what may follow then.
@@ -42,8 +42,8 @@ pub enum Candidates<'a> {
     /// Nothing is known.
     Any,
     /// For an element that comes first: elements of the grammar with these numbers. For each element of the grammar the
-    /// slice has one that takes the same.
-    Elements(Span, &'a [ElementId]),
+    /// slice has one that takes the same. The skips are those of choices of the table.
+    Elements(Span, &'a [ElementId], &'a Skips),
     /// For an attribute that comes first: attributes at these positions of the grammar. The slice has the ranges of the
     /// attributes of the first patterns of the table, by number.
     Attributes(Span, &'a [Span]),

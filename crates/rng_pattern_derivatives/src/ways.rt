@@ -1,17 +1,17 @@
 // The ways of a pattern: the leaves by which it may begin, each with what is left then.
-ghost use Rattle.std.specs.Prelude.{◌≡◌, ◌<◌, ◌≤◌, [], All, IfOk, OnOk, length, map, true};
-ghost use Rattle.rng_model.specs.simple.Table.{Table};
+ghost use Rattle.std.specs.Prelude.{◌≡◌, ◌<◌, ◌≤◌, All, IfOk, OnOk, length};
 ghost use Rattle.rng_model.specs.simple.Tree.{group, s_joined, s_one_or_more};
 ghost use Rattle.rng_pattern_table.specs.views.PatternTable.{Longer};
+ghost use Rattle.rng_pattern_table.specs.views.Skips.{members_at};
 ghost use Rattle.rng_pattern_table.specs.views.Trees.{choice_over, tree_of};
 ghost use Rattle.rng_pattern_derivatives.specs.plain.Kinds.{HasNoOrder, IsOfItems, connector_of};
 ghost use Rattle.rng_pattern_derivatives.specs.views.KnownWays.{AreKnown};
 ghost use Rattle.rng_pattern_derivatives.specs.plain.Takers.{AreCandidates};
 ghost use Rattle.rng_pattern_derivatives.specs.plain.Ways.{AreWaysOf, IsHoleInside, filled};
-ghost use Rattle.rng_pattern_derivatives.specs.declared.way.Kind as kinds;
 
 use crate::fewer_ways::{repeated_ways, uncovered};
 use crate::filling::{add_filled, joined_ways};
+use crate::idle::{is_idle, next_member};
 use crate::known::{KnownWays, copied_ways, keep, known_ways};
 use crate::leaves::ways_of_leaf;
 use crate::way::{Candidates, Hole, Joint, Kind, Ways};
@@ -59,24 +59,6 @@ pub fn ways(
     Ok(ways)
 }
 
-/// Returns true only if a pattern contains none of the candidates. Then it has no ways. A wide choice asks for each of its
-/// members.
-#[inline(always)]
-pub fn is_idle(table: &PatternTable, candidates: Candidates, number: PatternNumber) -> bool
-    requires { number.0 < length table.now }
-    ensures { result ≡ true → (t : Table) (kind : kinds.Kind) → AreCandidates t table.now kind candidates.entry
-        → AreWaysOf t table.now kind (tree_of t table.now number.0) [] }
-{
-    match candidates {
-        Candidates::Any => false,
-        Candidates::Elements(own, _) => !own.may_meet(table.facts(number).elements),
-        Candidates::Attributes(own, spans) => match spans.get(number.0) {
-            Some(span) => !own.may_meet(*span),
-            None => false,
-        },
-    }
-}
-
 /// The most members of an interleave whose ways are kept, if it is not deep. More members lead to too many other patterns.
 const MOST_KEPT_MEMBERS: u16 = 4;
 
@@ -112,17 +94,8 @@ fn new_ways(
     ensures ways { IfOk result (λ ws. AreWaysOf grammar.now table.new kind.entry (tree_of grammar.now table.old number.0) ws.items) }
 {
     match table.pattern(number) {
-        Pattern::Choice(members) => {
-            let members = copied(alloc, members.as_slice())?;
-            ways_of_choice(
-                alloc,
-                grammar,
-                table,
-                known,
-                candidates,
-                kind,
-                members.as_slice(),
-            )
+        Pattern::Choice(_) => {
+            ways_of_choice(alloc, grammar, table, known, candidates, kind, number)
         }
         Pattern::Group(first, second) => {
             let (first, second) = (*first, *second);
@@ -152,16 +125,7 @@ fn new_ways(
     }
 }
 
-/// Returns a copy of numbers.
-pub fn copied(alloc: Global, numbers: &[PatternNumber]) -> Result<Vec<PatternNumber>, OutOfMemory>
-    ensures { IfOk result (λ copy. copy.items ≡ numbers.now) }
-{
-    let mut copy = Vec::new(alloc);
-    copy.extend_from_slice(numbers)?;
-    Ok(copy)
-}
-
-/// Returns the ways of a choice of these members.
+/// Returns the ways of the choice with this number.
 #[cycle(ways)]
 fn ways_of_choice(
     alloc: Global,
@@ -170,24 +134,24 @@ fn ways_of_choice(
     known: &mut KnownWays,
     candidates: Candidates,
     kind: Kind,
-    members: &[PatternNumber],
+    number: PatternNumber,
 ) -> Result<Ways, OutOfMemory>
-    requires inside { All (λ m. m.0 < length table.old) members.now }
-    requires two { 2 ≤ length members.now }
+    requires inside { All (λ m. m < length table.old) (members_at table.old number.0) }
+    requires two { 2 ≤ length (members_at table.old number.0) }
+    requires number { number.0 < length table.old }
     requires known { AreKnown grammar.now table.old kind known.old }
     requires candidates { AreCandidates grammar.now table.old kind candidates }
     ensures longer { OnOk result (Longer table.old table.new) }
     ensures known { OnOk result (AreKnown grammar.now table.new kind.entry known.new) }
     ensures ways { IfOk result (λ ws. AreWaysOf grammar.now table.new kind.entry (choice_over (tree_of grammar.now table.old)
-        (map (λ m. m.0) members.now)) ws.items) }
+        (members_at table.old number.0)) ws.items) }
 {
     let mut all = Vec::new(alloc);
-    'members: for member in members {
-        if is_idle(table, candidates, *member) {
-            continue;
-        }
-        let ways = ways(alloc, grammar, table, known, candidates, kind, *member)?;
+    let mut next = 0;
+    'members: while let Some((behind, member)) = next_member(table, candidates, number, next) {
+        let ways = ways(alloc, grammar, table, known, candidates, kind, member)?;
         all.extend_from_slice(ways.as_slice())?;
+        next = behind;
     }
     joined_ways(alloc, table, all.as_slice())
 }

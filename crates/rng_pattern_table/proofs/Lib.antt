@@ -3,6 +3,7 @@ mod EqualPatterns
 pub mod KnownFacts
 pub mod Subsequences
 mod TableRows
+pub mod MemberSkips
 mod Units
 mod PutPatterns
 mod PatternKinds

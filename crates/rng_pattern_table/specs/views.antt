@@ -2,5 +2,6 @@
 pub mod Choices
 pub mod Node
 pub mod PatternTable
+pub mod Skips
 pub mod Taking
 pub mod Trees

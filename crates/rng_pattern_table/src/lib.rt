@@ -15,8 +15,10 @@ mod making;
 mod pattern;
 mod pattern_table;
 mod selecting;
+mod skips;
 mod uses;
 
 pub use deep_parts::Step;
 pub use pattern::{Facts, Pattern, PatternNumber, Span};
 pub use pattern_table::PatternTable;
+pub use skips::{FEW_MEMBERS, Skip, Skips};

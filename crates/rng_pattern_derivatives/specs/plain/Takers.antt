@@ -10,6 +10,7 @@ use Rattle.rng_names.specs.plain.Holding.{holds}
 use Rattle.rng_deriv_laws.specs.plain.Reading.{has_name}
 use Rattle.rng_pattern_table.specs.plain.Facts.{IsWithin, joined_spans}
 use Rattle.rng_pattern_table.specs.views.Node.{Node}
+use Rattle.rng_pattern_table.specs.views.Skips.{AreSkips}
 use Rattle.rng_pattern_table.specs.views.Trees.{attribute_found, tree_of}
 use Rattle.rng_pattern_table.specs.declared.pattern.Span.{Span}
 use Rattle.rng_pattern_derivatives.specs.plain.Alike.{AreAlike}
@@ -67,7 +68,7 @@ AreAttributes t kinds.Text takers = ⊥
 -- the candidates are right for what comes first
 abbrev pub AreCandidates : Table → List Node → Kind → Candidates → Type 0
 AreCandidates t ns kind candidates.Any = Unit {0}
-AreCandidates t ns kind (candidates.Elements takers alike) = AreElements t kind takers × AreAlike t alike.now
+AreCandidates t ns kind (candidates.Elements takers alike skips) = AreElements t kind takers × AreAlike t alike.now × AreSkips ns skips.now
 AreCandidates t ns kind (candidates.Attributes takers spans) = AreAttributes t kind takers × AreSpansOf t ns spans.now
 
 -- ---- by key

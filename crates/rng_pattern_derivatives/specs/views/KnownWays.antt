@@ -9,6 +9,7 @@ use Rattle.rng_model.specs.names.Names.{Name}
 use Rattle.rng_model.specs.simple.Table.{Table}
 use Rattle.rng_model.specs.names.NameViews.{name_of}
 use Rattle.rng_pattern_table.specs.views.Node.{Node}
+use Rattle.rng_pattern_table.specs.views.Skips.{AreSkips}
 use Rattle.rng_pattern_table.specs.views.Trees.{tree_of}
 use Rattle.rng_pattern_table.specs.declared.pattern.PatternNumber.{PatternNumber}
 use Rattle.rng_pattern_table.specs.contracts.pattern.PatternNumberPartialEq.TheImpl as same
@@ -78,7 +79,7 @@ AreLast t keys ns last = (n : PatternNumber) (ways : LastWays) → HasLast last 
 
 -- The keys serve, and everything known is right: the ways to take strings, elements and attributes, and what is left
 -- after a tag is closed. So are the elements and the attributes that may have a name, the alike elements, the ranges of
--- attributes, the datatypes, and the plans.
+-- attributes, the skips, the datatypes, and the plans.
 pub record AreAllKnown (t : Table) (keys : Keys) (ns : List Node) (known : Known) : Type 0 where
   pub serve : KeysServe t keys
   pub texts : AreKnown t ns kinds.Text known.texts
@@ -89,6 +90,7 @@ pub record AreAllKnown (t : Table) (keys : Keys) (ns : List Node) (known : Known
   pub alike : AreAlike t known.alike.items
   pub attribute_takers : AreAttributesTold t keys known.attribute_takers
   pub spans : AreSpansOf t ns known.spans.items
+  pub skips : AreSkips ns known.skips
   pub datatypes : AreDatatypesOf t known.datatypes
   pub last : AreLast t keys ns known.last.items
   pub plans : ArePlans t keys ns known.plans

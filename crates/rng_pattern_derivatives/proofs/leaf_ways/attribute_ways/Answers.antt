@@ -47,6 +47,7 @@ returns-then-not-is_kept-clause-known c =
       alike = more.alike;
       attribute_takers = more.attribute_takers;
       spans = spans_longer t old new told.longer c.add_spans.new.spans.items (c.in_ok-add_spans.ensures t c.requires.known.spans);
+      skips = more.skips;
       datatypes = more.datatypes;
       last = more.last;
       plans = more.plans;
@@ -72,6 +73,7 @@ returns-clause-known c =
       alike = more.alike;
       attribute_takers = more.attribute_takers;
       spans = spans_longer t old new told.longer c.add_spans.new.spans.items (c.in_ok-add_spans.ensures t c.requires.known.spans);
+      skips = more.skips;
       datatypes = more.datatypes;
       last = last_more t keys new c.args.known.now.last.items c.keep_last.new.last.items c.args.number c.key-key.result ws more.last
           (λ kind named. same_attributes t new (kinds.Attribute c.name.result) kind (name_at keys c.key-key.result.0) c.name.ensures.name named

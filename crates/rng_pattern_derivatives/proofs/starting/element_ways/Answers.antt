@@ -1,22 +1,15 @@
-use Rattle.std.proofs.Common.{refl}
-use Rattle.rng_model.specs.names.NameViews.{name_of}
 use Rattle.rng_pattern_table.proofs.Choices.{if_ok}
 use Rattle.rng_pattern_derivatives.specs.views.KnownWays.{IsElementKind}
 use Rattle.rng_pattern_derivatives.specs.declared.way.Kind.TheVariants as kinds
 use Rattle.rng_pattern_derivatives.proofs.ClosedTags.{both_ok}
 use Rattle.rng_pattern_derivatives.proofs.KnownWays.{by_key_changed, same_elements}
-use Rattle.rng_pattern_derivatives.proofs.ElementTakers.{element_takers}
 use Rattle.rng_pattern_derivatives.proofs.starting.element_ways.Goals as goal
 
 pub ways_by_key-requires-clause-known : goal.ways_by_key-requires-clause-known
 ways_by_key-requires-clause-known c = c.requires.known c.args.key (kinds.Element c.name-name.result) c.name-name.ensures.name
 
 pub ways_by_key-requires-clause-candidates : goal.ways_by_key-requires-clause-candidates
-ways_by_key-requires-clause-candidates c = (
-  element_takers c.args.grammar.now c.args.keys.now c.args.key.0 (name_of c.name-name.result.now) c.name-name.ensures.own
-      (kinds.Element c.name-name.result) c.args.takers refl c.requires.takers,
-  c.requires.alike,
-)
+ways_by_key-requires-clause-candidates c = c.requires.candidates (kinds.Element c.name-name.result) c.name-name.ensures.name
 
 pub returns-clause-known : goal.returns-clause-known
 returns-clause-known c =

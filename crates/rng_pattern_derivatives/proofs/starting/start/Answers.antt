@@ -1,27 +1,29 @@
-use Rattle.std.proofs.Common.{List, sym, subst}
-use Rattle.rng_names.specs.plain.Keys.{name_at}
+use Rattle.std.proofs.Common.{◌≡◌, List, sym, subst}
+use Rattle.rng_names.specs.plain.Keys.{key_of, name_at}
 use Rattle.rng_pattern_table.specs.views.Trees.{tree_of}
 use Rattle.rng_pattern_derivatives.specs.plain.Alike.{AreAlike}
 use Rattle.rng_pattern_derivatives.specs.plain.Starting.{AreBodies}
-use Rattle.rng_pattern_derivatives.specs.plain.Takers.{IsTold}
+use Rattle.rng_pattern_derivatives.specs.plain.Takers.{AreOfKey, IsTold}
 use Rattle.rng_pattern_derivatives.specs.plain.Ways.{AreInside}
-use Rattle.rng_pattern_derivatives.specs.views.KnownWays.{IsAttributeKind}
-use Rattle.rng_pattern_derivatives.specs.declared.way.Kind.TheVariants as kinds
 use Rattle.rng_pattern_derivatives.specs.declared.way.Place.TheVariants as places
 use Rattle.rng_pattern_derivatives.specs.declared.way.LeafWay as numbered
-use Rattle.rng_pattern_derivatives.proofs.AttributeTakers.{spans_longer}
-use Rattle.rng_pattern_derivatives.proofs.KnownRests.{rests_longer}
-use Rattle.rng_pattern_derivatives.proofs.KnownWays.{by_key_longer, element_kept, element_law, known_longer, last_longer}
-use Rattle.rng_pattern_derivatives.proofs.KnownPlans.{plans_longer}
+use Rattle.rng_pattern_derivatives.proofs.KnownWays.{all_longer, element_kept, element_law}
+use Rattle.rng_pattern_derivatives.proofs.ElementTakers.{element_takers}
+use Rattle.rng_pattern_table.proofs.MemberSkips.{skips_longer}
 use Rattle.rng_pattern_derivatives.proofs.StartBodies.{ready_longer, starts_made}
 use Rattle.rng_pattern_derivatives.proofs.starting.start.Goals as goal
 
-pub element_ways-requires-clause-takers : goal.element_ways-requires-clause-takers
-element_ways-requires-clause-takers c = λ e q is named.
-    c.of-takers.ensures e (subst (λ k. IsTold c.args.known.now.takers k e) is (c.requires.known.takers e q named))
-
-pub element_ways-requires-clause-alike : goal.element_ways-requires-clause-alike
-element_ways-requires-clause-alike c = subst (AreAlike c.args.grammar.now) (sym c.as_slice.ensures.value) c.requires.known.alike
+pub element_ways-requires-clause-candidates : goal.element_ways-requires-clause-candidates
+element_ways-requires-clause-candidates c = λ kind named.
+    let t = c.args.grammar.now in
+    let keys = c.args.keys.now in
+    let takers : AreOfKey t keys c.args.key.0 c.of-takers.result = λ e q is has.
+    c.of-takers.ensures e (subst (λ k. IsTold c.args.known.now.takers k e) is (c.requires.known.takers e q has)) in
+    let own = subst (λ q. key_of keys q ≡ c.args.key.0) c.name-name.ensures.name c.name-name.ensures.own in (
+      element_takers t keys c.args.key.0 (name_at keys c.args.key.0) own kind c.of-takers.result named takers,
+      subst (AreAlike t) (sym c.as_slice.ensures.value) c.requires.known.alike,
+      c.in_ok-add.ensures c.requires.known.skips,
+    )
 
 pub add_starts-requires : goal.add_starts-requires
 add_starts-requires c = record {
@@ -49,18 +51,19 @@ returns-clause-known c =
     let t = c.args.grammar.now in
     let old = c.args.table.now in
     let new = c.element_ways.new.table in
+    let more = all_longer t c.args.keys.now old new c.in_ok-ways.ensures.longer c.args.known.now c.requires.known in
     record {
-      serve = c.requires.known.serve;
-      texts = known_longer t old new kinds.Text c.in_ok-ways.ensures.longer c.args.known.now.texts c.requires.known.texts;
+      serve = more.serve;
+      texts = more.texts;
       elements = c.in_ok-ways.ensures.known;
-      attributes = by_key_longer IsAttributeKind t c.args.keys.now old new c.in_ok-ways.ensures.longer c.args.known.now.attributes
-          c.requires.known.attributes;
-      rests = rests_longer old new c.in_ok-ways.ensures.longer c.args.known.now.rests c.requires.known.rests;
-      takers = c.requires.known.takers;
-      alike = c.requires.known.alike;
-      attribute_takers = c.requires.known.attribute_takers;
-      spans = spans_longer t old new c.in_ok-ways.ensures.longer c.args.known.now.spans.items c.requires.known.spans;
-      datatypes = c.requires.known.datatypes;
-      last = last_longer t c.args.keys.now old new c.in_ok-ways.ensures.longer c.args.known.now.last.items c.requires.known.last;
-      plans = plans_longer t old new c.in_ok-ways.ensures.longer c.args.keys.now c.args.known.now.plans c.requires.known.plans;
+      attributes = more.attributes;
+      rests = more.rests;
+      takers = more.takers;
+      alike = more.alike;
+      attribute_takers = more.attribute_takers;
+      spans = more.spans;
+      skips = skips_longer old new c.in_ok-ways.ensures.longer c.add.new.self (c.in_ok-add.ensures c.requires.known.skips);
+      datatypes = more.datatypes;
+      last = more.last;
+      plans = more.plans;
     }

@@ -9,6 +9,7 @@ use Rattle.rng_deriv_laws.proofs.SameWays.{choice_all}
 use Rattle.rng_deriv_laws.specs.plain.Taking.{Takes}
 use Rattle.rng_pattern_table.specs.plain.Copies.{IsBehindCopies, IsOfCopies}
 use Rattle.rng_pattern_table.specs.views.PatternTable.{Longer}
+use Rattle.rng_pattern_table.specs.views.Skips.{members_at}
 use Rattle.rng_pattern_table.specs.views.Trees.{choice_over, tree_of}
 use Rattle.rng_pattern_table.specs.declared.pattern.Facts.{Facts}
 use Rattle.rng_pattern_table.specs.declared.pattern.PatternNumber.{PatternNumber}
@@ -30,38 +31,150 @@ use Rattle.rng_pattern_derivatives.proofs.WayLists.{inside_longer}
 use Rattle.rng_pattern_derivatives.proofs.NumberedWays.{appended_stand}
 use Rattle.rng_pattern_derivatives.proofs.PatternNodes.{is_over, other_single, parts_there, single_alone}
 use Rattle.rng_pattern_derivatives.proofs.AttributeTakers.{candidates_longer}
+use Rattle.rng_pattern_derivatives.proofs.IdleMembers.{all_idle, members_are, next_below, next_less, next_taken, next_within}
 use Rattle.rng_pattern_derivatives.proofs.SideWeights.{member_less, right_less}
 use Rattle.rng_pattern_derivatives.proofs.ways.+ways.Goals as goal
-
-one_taken : (f : PatternNumber → Simple ℕ) (ms : List PatternNumber) (i : ℕ) (d : PatternNumber) → i < length ms
-    → map f (take i ms) ++ f (get_or ms i d) ∷ [] ≡ map f (take (i + 1) ms)
-one_taken f ms i d inside =
-    let next : i + 1 ≡ suc i = omega arith in
-    sym (ap (map f) (ap (λ k. take k ms) next ∙ take-suc ms i d inside) ∙ map-append f (take i ms) (get_or ms i d ∷ []))
 
 pub new_ways-ways_of_choice-requires : goal.new_ways-ways_of_choice-requires
 new_ways-ways_of_choice-requires t c =
     let t0 = c.args.grammar.now in
-    let ms = c.in-Choice.members.items in
-    let n = length c.args.table.now in
-    let e : c.as_slice-in-Choice.result.now ≡ ms =
-    c.as_slice-in-Choice.ensures.value ∙ c.in_ok-members-in-Choice.ensures ∙ c.as_slice.ensures.value in
-    let is = is_over t0 c.args.table.now c.args.number.0 c.pattern.result.now _ c.pattern.ensures.table c.pattern.ensures.found c.in-Choice.is in
-    let w = ap weight is in
-    let v = ap (λ ms. weight (choice_over (tree_of t0 c.args.table.now) (map (λ (m : PatternNumber). m.0) ms))) e in
-    let below = parts_there c.args.table.now c.args.number.0 c.pattern.result.now _ c.pattern.ensures.table c.pattern.ensures.found c.in-Choice.is in
+    let ns = c.args.table.now in
+    let members = c.in-Choice.field-0 in
+    let ms = map (λ (m : PatternNumber). m.0) members.items in
+    let is = is_over t0 ns c.args.number.0 c.pattern.result.now _ c.pattern.ensures.table c.pattern.ensures.found c.in-Choice.is in
+    let there = members_are ns c.args.number.0 c.pattern.result.now members c.pattern.ensures.found c.in-Choice.is in
+    let below = parts_there ns c.args.number.0 c.pattern.result.now _ c.pattern.ensures.table c.pattern.ensures.found c.in-Choice.is in
+    let w = ap weight (is ∙ ap (choice_over (tree_of t0 ns)) (sym there)) in
     let d = c.decreases in
     let inside = c.requires.inside in
-    let long = length-map ms (λ (m : PatternNumber). m.0) in
-    let two = below.0 in
-    let two_members : 2 ≤ length ms = omega (arith, long, two) in
-    let Inside : List PatternNumber → Type 0 = λ ms. All (λ m. m.0 < n) ms in
-    let member : All (λ (m : PatternNumber). m.0 < n) ms = λ k dm h.
-    let one = below.1 k dm.0 (omega (arith, long, h)) in
-    let at = get_or-map (λ (m : PatternNumber). m.0) ms k dm in
-    omega (arith, one, at, inside) in
-    let two_there = subst (λ (ms : List PatternNumber). 2 ≤ length ms) (sym e) two_members in
-    (omega (arith, w, v, d), (subst Inside (sym e) member, (two_there, (c.requires.known, c.requires.candidates))))
+    let member : All (λ m. m < length ns) ms = λ k d h. let one = below.1 k d h in omega (arith, one, inside) in (
+      omega (arith, w, d),
+      (
+        subst (All (λ m. m < length ns)) (sym there) member,
+        (subst (λ ms. 2 ≤ length ms) (sym there) below.0, (inside, (c.requires.known, c.requires.candidates))),
+      ),
+    )
+
+pub new_ways-returns-in-Choice-clause-ways : goal.new_ways-returns-in-Choice-clause-ways
+new_ways-returns-in-Choice-clause-ways t c =
+    let t0 = c.args.grammar.now in
+    let ns = c.args.table.now in
+    let members = c.in-Choice.field-0 in
+    let there = members_are ns c.args.number.0 c.pattern.result.now members c.pattern.ensures.found c.in-Choice.is in
+    let is = ap (choice_over (tree_of t0 ns)) there
+    ∙ sym (is_over t0 ns c.args.number.0 c.pattern.result.now _ c.pattern.ensures.table c.pattern.ensures.found c.in-Choice.is) in
+    if_ok c.ways_of_choice.result _ _ (λ ws h. subst (λ p. AreWaysOf t0 c.ways_of_choice.new.table c.args.kind p ws.items) is h) c.ways_of_choice.ensures.ways
+
+pub ways_of_choice-next_member-requires : goal.ways_of_choice-next_member-requires
+ways_of_choice-next_member-requires t c =
+    let n0 = c.args.table.now in
+    let inside = c.requires.number in
+    let more = Longer-length n0 c.members.table c.members.invariant.longer in
+    record {
+      inside = omega (arith, inside, more);
+      candidates = (
+        c.args.grammar.now,
+        c.args.kind,
+        candidates_longer c.args.grammar.now n0 c.members.table c.members.invariant.longer c.args.kind c.args.candidates c.requires.candidates,
+      );
+    }
+
+pub ways_of_choice-ways-requires : goal.ways_of_choice-ways-requires
+ways_of_choice-ways-requires t c =
+    let t0 = c.args.grammar.now in
+    let n0 = c.args.table.now in
+    let before = c.members.table in
+    let next : ℕ × PatternNumber = (c.in-Some.behind, c.in-Some.member) in
+    let less = next_less t0 n0 before c.members.invariant.longer c.args.kind c.args.candidates c.args.number.0 c.requires.number c.requires.inside
+    c.requires.two c.members.next next c.in-Some.ensures in
+    let inside = next_below t0 n0 before c.members.invariant.longer c.args.kind c.args.candidates c.args.number.0 c.requires.number c.requires.inside
+    c.members.next next c.in-Some.ensures in
+    let more = Longer-length n0 before c.members.invariant.longer in
+    let d = c.decreases in (
+      omega (arith, less, d),
+      (
+        omega (arith, inside, more),
+        (
+          c.members.invariant.known,
+          candidates_longer t0 n0 before c.members.invariant.longer c.args.kind c.args.candidates c.requires.candidates,
+        ),
+      ),
+    )
+
+pub ways_of_choice-members-preserved : goal.ways_of_choice-members-preserved
+ways_of_choice-members-preserved t c =
+    let t0 = c.args.grammar.now in
+    let n0 = c.args.table.now in
+    let before = c.members.table in
+    let n1 = c.ways.new.table in
+    let next : ℕ × PatternNumber = (c.in-Some.behind, c.in-Some.member) in
+    let right = candidates_longer t0 n0 before c.members.invariant.longer c.args.kind c.args.candidates c.requires.candidates in
+    record {
+      longer = Longer-trans n0 before n1 c.members.invariant.longer c.in_ok-ways.ensures.longer;
+      known = c.in_ok-ways.ensures.known;
+      within = (next_within t0 n0 before c.members.invariant.longer c.args.kind c.args.candidates c.args.number.0 c.requires.number c.requires.inside
+          c.members.next next c.in-Some.ensures).1;
+      ways = next_taken t0 n0 before c.members.invariant.longer c.args.kind c.args.candidates c.args.number.0 c.requires.number c.requires.inside
+          right c.members.all.items n1 c.in_ok-ways.ensures.longer c.members.next next c.in-Some.ensures c.members.invariant.ways c.as_slice.result.now
+          c.extend_from_slice.new.self.items
+          (subst (AreWaysOf t0 n1 c.args.kind (tree_of t0 before c.in-Some.member.0)) (sym c.as_slice.ensures) c.in_ok-ways.ensures.ways)
+          c.in_ok-extend_from_slice.ensures.items;
+    }
+
+pub ways_of_choice-members-preserved-in_ok-extend_from_slice : goal.ways_of_choice-members-preserved-in_ok-extend_from_slice
+ways_of_choice-members-preserved-in_ok-extend_from_slice t c =
+    let t0 = c.args.grammar.now in
+    let n0 = c.args.table.now in
+    let before = c.members.table in
+    let n1 = c.ways.new.table in
+    let next : ℕ × PatternNumber = (c.in-Some.behind, c.in-Some.member) in
+    let right = candidates_longer t0 n0 before c.members.invariant.longer c.args.kind c.args.candidates c.requires.candidates in
+    record {
+      longer = Longer-trans n0 before n1 c.members.invariant.longer c.in_ok-ways.ensures.longer;
+      known = c.in_ok-ways.ensures.known;
+      within = (next_within t0 n0 before c.members.invariant.longer c.args.kind c.args.candidates c.args.number.0 c.requires.number c.requires.inside
+          c.members.next next c.in-Some.ensures).1;
+      ways = next_taken t0 n0 before c.members.invariant.longer c.args.kind c.args.candidates c.args.number.0 c.requires.number c.requires.inside
+          right c.members.all.items n1 c.in_ok-ways.ensures.longer c.members.next next c.in-Some.ensures c.members.invariant.ways c.as_slice.result.now
+          c.extend_from_slice.new.self.items
+          (subst (AreWaysOf t0 n1 c.args.kind (tree_of t0 before c.in-Some.member.0)) (sym c.as_slice.ensures) c.in_ok-ways.ensures.ways)
+          c.in_ok-extend_from_slice.ensures.items;
+    }
+
+pub ways_of_choice-members-smaller : goal.ways_of_choice-members-smaller
+ways_of_choice-members-smaller t c =
+    let next : ℕ × PatternNumber = (c.in-Some.behind, c.in-Some.member) in
+    let within = next_within c.args.grammar.now c.args.table.now c.members.table c.members.invariant.longer c.args.kind c.args.candidates c.args.number.0
+    c.requires.number c.requires.inside c.members.next next c.in-Some.ensures in
+    let further = within.0 in
+    let there = within.1 in
+    omega (arith, further, there)
+
+pub ways_of_choice-members-smaller-in_ok-extend_from_slice : goal.ways_of_choice-members-smaller-in_ok-extend_from_slice
+ways_of_choice-members-smaller-in_ok-extend_from_slice t c =
+    let next : ℕ × PatternNumber = (c.in-Some.behind, c.in-Some.member) in
+    let within = next_within c.args.grammar.now c.args.table.now c.members.table c.members.invariant.longer c.args.kind c.args.candidates c.args.number.0
+    c.requires.number c.requires.inside c.members.next next c.in-Some.ensures in
+    let further = within.0 in
+    let there = within.1 in
+    omega (arith, further, there)
+
+pub ways_of_choice-returns-clause-ways : goal.ways_of_choice-returns-clause-ways
+ways_of_choice-returns-clause-ways t c =
+    let t0 = c.args.grammar.now in
+    let n0 = c.args.table.now in
+    let before = c.members.table in
+    let f : ℕ → Simple ℕ = tree_of t0 n0 in
+    let numbers = members_at n0 c.args.number.0 in
+    let right = candidates_longer t0 n0 before c.members.invariant.longer c.args.kind c.args.candidates c.requires.candidates in
+    let h = all_idle t0 n0 before c.members.invariant.longer c.args.kind c.args.candidates c.args.number.0 c.requires.number c.requires.inside
+    right c.members.all.items c.members.next c.members.invariant.within c.next_member.result c.next_member.ensures c.in_default.not-Some
+    c.members.invariant.ways in
+    let whole = ways_of_same t0 before c.args.kind (choice_all (map f numbers)) (choice_over f numbers) c.members.all.items
+    (over_same (reading_of t0) f numbers) (over_hands_on f numbers) h in
+    let seen = subst (AreWaysOf t0 before c.args.kind (choice_over f numbers)) (sym c.as_slice-2.ensures.value) whole in
+    if_ok c.joined_ways.result _ _ (λ ws s. made t0 c.joined_ways.new.table c.args.kind (choice_over f numbers) ws.items _ s seen.law seen.kept)
+    c.joined_ways.ensures.ways
 
 pub new_ways-ways_of_group-requires : goal.new_ways-ways_of_group-requires
 new_ways-ways_of_group-requires t c =
@@ -115,15 +228,6 @@ new_ways-ways_of_leaf-requires t c = record {
       c.pattern.ensures.found refl
       (other_single c.pattern.result.now c.in_default.not-Choice c.in_default.not-Group c.in_default.not-Interleave c.in_default.not-OneOrMore);
 }
-
-pub new_ways-returns-in_ok-members-in-Choice-clause-ways : goal.new_ways-returns-in_ok-members-in-Choice-clause-ways
-new_ways-returns-in_ok-members-in-Choice-clause-ways t c =
-    let t0 = c.args.grammar.now in
-    let e : c.as_slice-in-Choice.result.now ≡ c.in-Choice.members.items =
-    c.as_slice-in-Choice.ensures.value ∙ c.in_ok-members-in-Choice.ensures ∙ c.as_slice.ensures.value in
-    let is = ap (λ ms. choice_over (tree_of t0 c.args.table.now) (map (λ (m : PatternNumber). m.0) ms)) e
-    ∙ sym (is_over t0 c.args.table.now c.args.number.0 c.pattern.result.now _ c.pattern.ensures.table c.pattern.ensures.found c.in-Choice.is) in
-    if_ok c.ways_of_choice.result _ _ (λ ws h. subst (λ p. AreWaysOf t0 c.ways_of_choice.new.table c.args.kind p ws.items) is h) c.ways_of_choice.ensures.ways
 
 pub new_ways-returns-in-Group-clause-ways : goal.new_ways-returns-in-Group-clause-ways
 new_ways-returns-in-Group-clause-ways t c =
@@ -257,103 +361,6 @@ item_ways_of_group-returns-clause-ways t c =
     c.add_filled.new.all.items c.add_filled-2.new.all.items c.requires.kind ends copies c.new-all.ensures.items
     (tree_stays t0 n0 n1 c.args.second.0 c.in_ok-firsts.ensures.longer c.requires.second) c.in_ok-firsts.ensures.ways c.in_ok-seconds.ensures.ways
     longer23 some c.in_ok-add_filled-2.ensures.ways
-
-pub ways_of_choice-ways-requires : goal.ways_of_choice-ways-requires
-ways_of_choice-ways-requires t c =
-    let t0 = c.args.grammar.now in
-    let n0 = c.args.table.now in
-    let ms : List PatternNumber = c.args.members.now in
-    let i = c.members.member-index in
-    let none : PatternNumber = record { 0 = 0 } in
-    let inside = c.requires.inside i none c.members-test.true in
-    let stays = ap weight (tree_stays t0 n0 c.members.table (get_or ms i none).0 c.members.invariant.longer inside) in
-    let at = ap (λ k. weight (tree_of t0 n0 k)) (get_or-map (λ (m : PatternNumber). m.0) ms i none) in
-    let long = length-map ms (λ (m : PatternNumber). m.0) in
-    let within = c.members-test.true in
-    let two = c.requires.two in
-    let less = member_less (tree_of t0 n0) (map (λ (m : PatternNumber). m.0) ms) i 0 (omega (arith, long, within)) (omega (arith, long, two)) in
-    let more = Longer-length n0 c.members.table c.members.invariant.longer in
-    let d = c.decreases in (
-      omega (arith, stays, at, less, d),
-      (
-        omega (arith, inside, more),
-        (
-          c.members.invariant.known,
-          candidates_longer t0 n0 c.members.table c.members.invariant.longer c.args.kind c.args.candidates c.requires.candidates,
-        ),
-      ),
-    )
-
-pub ways_of_choice-members-preserved : goal.ways_of_choice-members-preserved
-ways_of_choice-members-preserved t c =
-    let t0 = c.args.grammar.now in
-    let n0 = c.args.table.now in
-    let before = c.members.table in
-    let n1 = c.ways.new.table in
-    let ms : List PatternNumber = c.args.members.now in
-    let i = c.members.member-index in
-    let none : PatternNumber = record { 0 = 0 } in
-    let f : PatternNumber → Simple ℕ = λ m. tree_of t0 n0 m.0 in
-    let inside = c.requires.inside i none c.members-test.true in
-    let is = tree_stays t0 n0 before (get_or ms i none).0 c.members.invariant.longer inside in
-    let cut = one_taken f ms i none c.members-test.true in
-    let some = side_law t0 before n1 c.args.kind (choice_all (map f (take i ms))) c.members.all.items c.in_ok-ways.ensures.longer c.members.invariant.ways in
-    let own = subst (AreWaysOf t0 n1 c.args.kind (f (get_or ms i none))) (sym c.as_slice.ensures)
-    (subst (λ p. AreWaysOf t0 n1 c.args.kind p c.in_ok-ways.ways.items) is c.in_ok-ways.ensures.ways) in
-    record {
-      longer = Longer-trans n0 before n1 c.members.invariant.longer c.in_ok-ways.ensures.longer;
-      known = c.in_ok-ways.ensures.known;
-      ways = subst (λ ps. AreWaysOf t0 n1 c.args.kind (choice_all ps) c.extend_from_slice.new.self.items) cut
-          (member_made t0 n1 n1 c.args.kind (map f (take i ms)) (f (get_or ms i none)) c.as_slice.result.now c.members.all.items
-          c.extend_from_slice.new.self.items some own
-          (appended_stand n1 c.members.all.items c.as_slice.result.now c.extend_from_slice.new.self.items some.inside own.inside
-          c.in_ok-extend_from_slice.ensures.items));
-    }
-
-pub ways_of_choice-is_idle-requires : goal.ways_of_choice-is_idle-requires
-ways_of_choice-is_idle-requires t c =
-    let none : PatternNumber = record { 0 = 0 } in
-    let inside = c.requires.inside c.members.member-index none c.members-test.true in
-    let more = Longer-length c.args.table.now c.members.table c.members.invariant.longer in
-    omega (arith, inside, more)
-
-pub ways_of_choice-members-preserved-then-is_idle : goal.ways_of_choice-members-preserved-then-is_idle
-ways_of_choice-members-preserved-then-is_idle t c =
-    let t0 = c.args.grammar.now in
-    let n0 = c.args.table.now in
-    let before = c.members.table in
-    let ms : List PatternNumber = c.args.members.now in
-    let i = c.members.member-index in
-    let none : PatternNumber = record { 0 = 0 } in
-    let f : PatternNumber → Simple ℕ = λ m. tree_of t0 n0 m.0 in
-    let inside = c.requires.inside i none c.members-test.true in
-    let is = tree_stays t0 n0 before (get_or ms i none).0 c.members.invariant.longer inside in
-    record {
-      longer = c.members.invariant.longer;
-      known = c.members.invariant.known;
-      ways = subst (λ ps. AreWaysOf t0 before c.args.kind (choice_all ps) c.members.all.items) (one_taken f ms i none c.members-test.true)
-          (none_more t0 before c.args.kind (map f (take i ms)) (f (get_or ms i none)) c.members.all.items c.members.invariant.ways
-          (subst (λ p. AreWaysOf t0 before c.args.kind p []) is
-          (c.is_idle.ensures c.if-is_idle.true t0 c.args.kind
-          (candidates_longer t0 n0 before c.members.invariant.longer c.args.kind c.args.candidates c.requires.candidates))));
-    }
-
-pub ways_of_choice-returns-clause-ways : goal.ways_of_choice-returns-clause-ways
-ways_of_choice-returns-clause-ways t c =
-    let t0 = c.args.grammar.now in
-    let n0 = c.args.table.now in
-    let ms : List PatternNumber = c.args.members.now in
-    let f : ℕ → Simple ℕ = tree_of t0 n0 in
-    let numbers : List ℕ = map (λ (m : PatternNumber). m.0) ms in
-    let all = take_all c.members.member-index ms c.members-test.false in
-    let h = subst (λ ms. AreWaysOf t0 c.members.table c.args.kind (choice_all (map
-    (λ (m : PatternNumber). f m.0) ms)) c.members.all.items) all c.members.invariant.ways in
-    let whole = ways_of_same t0 c.members.table c.args.kind (choice_all (map f numbers)) (choice_over f numbers) c.members.all.items
-    (over_same (reading_of t0) f numbers) (over_hands_on f numbers)
-    (subst (λ ps. AreWaysOf t0 c.members.table c.args.kind (choice_all ps) c.members.all.items) (sym (map_numbers f ms)) h) in
-    let seen = subst (AreWaysOf t0 c.members.table c.args.kind (choice_over f numbers)) (sym c.as_slice-2.ensures.value) whole in
-    if_ok c.joined_ways.result _ _ (λ ws s. made t0 c.joined_ways.new.table c.args.kind (choice_over f numbers) ws.items _ s seen.law seen.kept)
-    c.joined_ways.ensures.ways
 
 pub ways_of_choice-returns-clause-known : goal.ways_of_choice-returns-clause-known
 ways_of_choice-returns-clause-known t c =
@@ -528,6 +535,7 @@ ways_of_choice-members-init t c =
     record {
       longer = Longer-refl n0;
       known = c.requires.known;
+      within = omega arith;
       ways = subst (AreWaysOf t0 n0 c.args.kind s_not_allowed) (sym c.new-all.ensures.items) (none_made t0 n0 c.args.kind);
     }
 

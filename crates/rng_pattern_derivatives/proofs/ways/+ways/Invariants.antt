@@ -1,7 +1,8 @@
-use Rattle.std.proofs.Common.{◌+◌, ◌*◌, map, take}
+use Rattle.std.proofs.Common.{◌+◌, ◌*◌, ◌-◌, ◌≤◌, length, map, take}
 use Rattle.rng_model.specs.simple.Tree.{group, s_joined}
 use Rattle.rng_deriv_laws.proofs.SameWays.{choice_all}
 use Rattle.rng_pattern_table.specs.views.PatternTable.{Longer}
+use Rattle.rng_pattern_table.specs.views.Skips.{members_at}
 use Rattle.rng_pattern_table.specs.views.Trees.{choice_over, tree_of}
 use Rattle.rng_pattern_derivatives.specs.plain.Kinds.{connector_of, weight}
 use Rattle.rng_pattern_derivatives.specs.views.KnownWays.{AreKnown}
@@ -15,7 +16,7 @@ abbrev pub decreases-new_ways : goal.decreases-new_ways
 decreases-new_ways l = 4 * weight (tree_of l.grammar.now l.table.now l.number.0) + 2
 
 abbrev pub decreases-ways_of_choice : goal.decreases-ways_of_choice
-decreases-ways_of_choice l = 4 * weight (choice_over (tree_of l.grammar.now l.table.now) (map (λ m. m.0) l.members.now))
+decreases-ways_of_choice l = 4 * weight (choice_over (tree_of l.grammar.now l.table.now) (members_at l.table.now l.number.0))
 
 abbrev pub decreases-ways_of_group : goal.decreases-ways_of_group
 decreases-ways_of_group l = 4 * weight (s_joined group (tree_of l.grammar.now l.table.now l.first.0) (tree_of l.grammar.now l.table.now l.second.0)) + 1
@@ -34,5 +35,9 @@ abbrev pub invariant-ways_of_choice-members : goal.invariant-ways_of_choice-memb
 invariant-ways_of_choice-members l = record {
   longer : Longer l.fn.table l.table;
   known : AreKnown l.grammar l.table l.kind l.known;
-  ways : AreWaysOf l.grammar l.table l.kind (choice_all (map (λ m. tree_of l.grammar l.fn.table m.0) (take l.member-index l.members))) l.all.items;
+  within : l.next ≤ length (members_at l.fn.table l.fn.number.0);
+  ways : AreWaysOf l.grammar l.table l.kind (choice_all (map (tree_of l.grammar l.fn.table) (take l.next (members_at l.fn.table l.fn.number.0)))) l.all.items;
 }
+
+abbrev pub decreases-ways_of_choice-members : goal.decreases-ways_of_choice-members
+decreases-ways_of_choice-members l = length (members_at l.fn.table l.fn.number.0) - l.next

@@ -43,6 +43,7 @@ returns-clause-known c =
       alike = more.alike;
       attribute_takers = more.attribute_takers;
       spans = more.spans;
+      skips = more.skips;
       datatypes = more.datatypes;
       last = more.last;
       plans = more.plans;

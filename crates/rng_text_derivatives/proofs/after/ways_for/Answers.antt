@@ -2,34 +2,29 @@ use Rattle.std.proofs.Common.{subst, rules}
 use Rattle.rng_pattern_table.proofs.Choices.{if_ok}
 use Rattle.rng_pattern_table.specs.views.Trees.{tree_of}
 use Rattle.rng_text_derivatives.specs.plain.Asking.{IsAskedBy}
-use Rattle.rng_pattern_derivatives.specs.views.KnownWays.{IsAttributeKind, IsElementKind}
 use Rattle.rng_pattern_derivatives.proofs.ClosedTags.{both_ok}
-use Rattle.rng_pattern_derivatives.proofs.AttributeTakers.{spans_longer}
-use Rattle.rng_pattern_derivatives.proofs.KnownRests.{rests_longer}
-use Rattle.rng_pattern_derivatives.proofs.KnownWays.{by_key_longer, last_longer}
-use Rattle.rng_pattern_derivatives.proofs.KnownPlans.{plans_longer}
+use Rattle.rng_pattern_derivatives.proofs.KnownWays.{all_longer}
 use Rattle.rng_text_derivatives.proofs.PlannedRests.{attribute_ways_asked, text_ways_asked}
 use Rattle.rng_text_derivatives.proofs.after.ways_for.Goals as goal
 
 pub returns-in-Text-clause-known : goal.returns-in-Text-clause-known
 returns-in-Text-clause-known c =
-    if_ok c.text_ways.result _ _ (λ ws h. record {
-      serve = c.requires.known.serve;
+    if_ok c.text_ways.result _ _ (λ ws h.
+    let more = all_longer c.args.context.now.grammar.now c.args.context.now.keys.now c.args.table.now c.text_ways.new.table h.0 c.args.known.now
+    c.requires.known in record {
+      serve = more.serve;
       texts = h.1;
-      elements = by_key_longer IsElementKind c.args.context.now.grammar.now c.args.context.now.keys.now c.args.table.now c.text_ways.new.table h.0 c.args.known.now.elements
-          c.requires.known.elements;
-      attributes = by_key_longer IsAttributeKind c.args.context.now.grammar.now c.args.context.now.keys.now c.args.table.now c.text_ways.new.table h.0
-          c.args.known.now.attributes c.requires.known.attributes;
-      rests = rests_longer c.args.table.now c.text_ways.new.table h.0 c.args.known.now.rests c.requires.known.rests;
-      takers = c.requires.known.takers;
-      alike = c.requires.known.alike;
-      attribute_takers = c.requires.known.attribute_takers;
-      spans = spans_longer c.args.context.now.grammar.now c.args.table.now c.text_ways.new.table h.0 c.args.known.now.spans.items c.requires.known.spans;
-      datatypes = c.requires.known.datatypes;
-      last = last_longer c.args.context.now.grammar.now c.args.context.now.keys.now c.args.table.now c.text_ways.new.table h.0 c.args.known.now.last.items
-          c.requires.known.last;
-      plans = plans_longer c.args.context.now.grammar.now c.args.table.now c.text_ways.new.table h.0 c.args.context.now.keys.now c.args.known.now.plans
-          c.requires.known.plans;
+      elements = more.elements;
+      attributes = more.attributes;
+      rests = more.rests;
+      takers = more.takers;
+      alike = more.alike;
+      attribute_takers = more.attribute_takers;
+      spans = more.spans;
+      skips = more.skips;
+      datatypes = more.datatypes;
+      last = more.last;
+      plans = more.plans;
     }) (both_ok c.text_ways.result _ _ c.text_ways.ensures.longer c.text_ways.ensures.known)
 
 pub returns-in-Text-clause-ways : goal.returns-in-Text-clause-ways

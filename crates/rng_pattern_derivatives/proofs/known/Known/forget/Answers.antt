@@ -17,7 +17,8 @@ returns c = λ t keys old new all. record {
   alike = all.alike;
   attribute_takers = all.attribute_takers;
   spans = no_spans t new c.new-5.result.items c.new-5.ensures.items;
+  skips = c.new-6.ensures new;
   datatypes = all.datatypes;
-  last = no_last t keys new c.new-6.result.items c.new-6.ensures.items;
-  plans = no_plans t keys new c.new-7.result c.new-7.ensures.empty;
+  last = no_last t keys new c.new-7.result.items c.new-7.ensures.items;
+  plans = no_plans t keys new c.new-8.result c.new-8.ensures.empty;
 }

@@ -18,7 +18,8 @@ returns c =
       alike = c.in_ok-alike.ensures;
       attribute_takers = c.in_ok-attribute_takers.ensures;
       spans = no_spans t ns c.new-6.result.items c.new-6.ensures.items;
+      skips = c.new-7.ensures ns;
       datatypes = c.in_ok-datatypes.ensures;
-      last = no_last t c.args.keys.now ns c.new-7.result.items c.new-7.ensures.items;
-      plans = no_plans t c.args.keys.now ns c.new-8.result c.new-8.ensures.empty;
+      last = no_last t c.args.keys.now ns c.new-8.result.items c.new-8.ensures.items;
+      plans = no_plans t c.args.keys.now ns c.new-9.result c.new-9.ensures.empty;
     }

@@ -14,6 +14,7 @@ returns c = record {
     alike = all.alike;
     attribute_takers = all.attribute_takers;
     spans = all.spans;
+    skips = all.skips;
     datatypes = all.datatypes;
     last = all.last;
     plans = plans_left t keys ns c.args.self.now.plans c.remove.new.self (λ a plan h. others_stay _ _ plan (sym (c.remove.ensures.updates.0 a) ∙ h)) all.plans;

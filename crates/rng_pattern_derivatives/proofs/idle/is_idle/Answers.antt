@@ -4,15 +4,12 @@ use Rattle.std.proofs.lemmas.Option.{slice_get-get_or}
 use Rattle.rng_pattern_table.specs.views.Trees.{tree_of}
 use Rattle.rng_pattern_derivatives.specs.plain.Takers.{AreCandidates}
 use Rattle.rng_pattern_derivatives.proofs.AttributeTakers.{idle_attributes}
-use Rattle.rng_pattern_derivatives.proofs.ElementTakers.{idle_elements}
-use Rattle.rng_pattern_derivatives.proofs.ways.is_idle.Goals as goal
+use Rattle.rng_pattern_derivatives.proofs.idle.is_idle.Goals as goal
 
 pub returns-in-Elements : goal.returns-in-Elements
-returns-in-Elements c = λ apart t kind among.
+returns-in-Elements c = λ free t kind among.
     let ns = c.args.table.now in
-    idle_elements t ns (tree_of t ns c.args.number.0) kind c.in-Elements.own (subst (AreCandidates t ns kind) c.in-Elements.is among).0 (λ e has within.
-    let met = c.may_meet.ensures e within (c.facts.ensures.elements t e has) in
-    let both : true ≡ false = sym met ∙ not-true _ apart in absurd (cc))
+    c.lacks.ensures free t ns kind (tree_of t ns c.args.number.0) among (λ e has. c.facts.ensures.elements t e has)
 
 pub returns-in-Some : goal.returns-in-Some
 returns-in-Some c = λ apart t kind among.
@@ -23,5 +20,5 @@ returns-in-Some c = λ apart t kind among.
     slice_get-get_or c.in-Attributes.spans.now c.args.number.0 c.in-Some.span.now look.3.0 ∙ ap Some (sym look.1) in
     let own = told.1 c.args.number.0 c.in-Some.span.now found in
     idle_attributes t ns (tree_of t ns c.args.number.0) kind c.in-Attributes.own c.in-Some.span.now told.0 own.1 (λ k within there.
-    let met = c.may_meet-in-Some.ensures k within there in
+    let met = c.may_meet.ensures k within there in
     let both : true ≡ false = sym met ∙ not-true _ apart in absurd (cc))
