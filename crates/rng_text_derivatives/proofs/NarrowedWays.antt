@@ -91,7 +91,7 @@ module _ {Y Z : Type 0} (before middle after : HashMap (String Y) (SmallVec Leaf
     (is_base : base ≡ unwrap_or (get_by_text before key) none) (more : all.items ≡ base.items ++ way ∷ [])
     (taken : (q : String Y) → get_by_text middle (string_bytes q) ≡ cond (bytes_eq key (string_bytes q)) None (get_by_text before (string_bytes q)))
     (added : (q : String Y) → get_by_text after (string_bytes q)
-        ≡ cond (bytes_eq (string_bytes put) (string_bytes q)) (Some all) (get_by_text middle (string_bytes q)))
+    ≡ cond (bytes_eq (string_bytes put) (string_bytes q)) (Some all) (get_by_text middle (string_bytes q)))
   where
     at_put : (q : String Y) → bytes_eq (string_bytes put) (string_bytes q) ≡ true → get_by_text after (string_bytes q) ≡ Some all
     at_put q e = added q ∙ ap (λ b. cond b (Some all) (get_by_text middle (string_bytes q))) e
@@ -121,8 +121,7 @@ module _ {Y Z : Type 0} (before middle after : HashMap (String Y) (SmallVec Leaf
     kept_still q w h = by (bytes_eq (string_bytes put) (string_bytes q)) refl where
       by : (b : Bool) → bytes_eq (string_bytes put) (string_bytes q) ≡ b → IsKeptFor after q w
       by true e =
-          let is : base ≡ h.0 = base_at q e ∙ ap (λ o. unwrap_or o none) h.1 in
-          (
+          let is : base ≡ h.0 = base_at q e ∙ ap (λ o. unwrap_or o none) h.1 in (
             all,
             at_put q e,
             subst (λ ws. Contains ws w) (sym more) (Contains-append_left base.items (way ∷ []) w
@@ -218,18 +217,18 @@ module _ (f : ℕ → Simple ℕ) where
   way_there [] v c = absurd (has_none v c)
   way_there (w ∷ ws) v c = ⊎_elim (λ a. subst (λ u. Among (way_by f u) (ways_by f (w ∷ ws))) (only a) here) (λ b. there (way_there ws v b))
       (Contains-append_cases (w ∷ []) ws v c) where
-    only : Contains (w ∷ []) v → w ≡ v
-    only (zero, h, e) = e
-    only (suc k, h, e) = absurd (omega (arith, h))
+        only : Contains (w ∷ []) v → w ≡ v
+        only (zero, h, e) = e
+        only (suc k, h, e) = absurd (omega (arith, h))
 
   module _ (P Q : Simple ℕ → Type 0) where
     each_at : (ws : List LeafWay) → EachWay P Q (ways_by f ws) → (v : LeafWay) → Contains ws v → P (f v.leaf.0) × Q (f v.rest.0)
     each_at [] each v c = absurd (has_none v c)
     each_at (w ∷ ws) each v c = ⊎_elim (λ a. let T : LeafWay → Type 0 = λ u. P (f u.leaf.0) × Q (f u.rest.0) in subst T (only a) each.0)
         (λ b. each_at ws each.1 v b) (Contains-append_cases (w ∷ []) ws v c) where
-      only : Contains (w ∷ []) v → w ≡ v
-      only (zero, h, e) = e
-      only (suc k, h, e) = absurd (omega (arith, h))
+          only : Contains (w ∷ []) v → w ≡ v
+          only (zero, h, e) = e
+          only (suc k, h, e) = absurd (omega (arith, h))
 
     each_of : (ws : List LeafWay) → ((v : LeafWay) → Contains ws v → P (f v.leaf.0) × Q (f v.rest.0)) → EachWay P Q (ways_by f ws)
     each_of [] each = tt
