@@ -489,8 +489,8 @@ after_new_ways-returns-in-Some-clause-left t c =
     (new_settled t0 c.args.context.now.keys.now c.args.table.now new c.in_ok-ways.ensures.longer c.args.first c.args.number c.requires.inside
     c.in_ok-ways.ways.items c.in_ok-ways.ensures.ways rest.result (subst (λ ws. AreLeft t0 new c.args.first ws rest.result) c.as_slice.ensures rest.ensures)))
 
-pub after_new_ways-plan_of-plan-requires : goal.after_new_ways-plan_of-plan-requires
-after_new_ways-plan_of-plan-requires t c =
+pub after_new_ways-plan_of-requires : goal.after_new_ways-plan_of-requires
+after_new_ways-plan_of-requires t c =
     let t0 = c.args.context.now.grammar.now in
     let keys = c.args.context.now.keys.now in
     let n1 = c.ways_for.new.table in
