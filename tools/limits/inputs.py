@@ -243,6 +243,12 @@ def many_values(factor):
     return [f"element doc {{ {lists('|', (repr(short(i)) for i in range(count)))} }}"], root(f"-{short(count - 1)}\n")
 
 
+def many_values_and_texts(factor):
+    count, children = int(50_000 * factor), int(20_000 * factor)
+    values = lists("|", (f'"v{i}"' for i in range(count)))
+    return [f"element a {{ element b {{ {values} }}* }}"], root("".join(f"(b\n-v{i}\n)b\n" for i in range(children)), "a")
+
+
 def many_names(factor):
     count, children = int(130_000 * factor), int(20_000 * factor)
     return ([f"element doc {{ element {names(count)} {{ empty }}* }}"],
@@ -344,6 +350,7 @@ ROWS = [
     ("10 MB of 254 attributes a tag, of a namespace of 65,000 bytes", "valid", None, long_namespaces(1)),
     ("10 MB of 254 attributes a tag, of two namespaces of 65,000 bytes in turn", "valid", None, long_namespaces(2)),
     ("95,000 values in a choice, and one text", "valid", None, many_values),
+    ("50,000 values in a choice, and 20,000 different texts", "valid", None, many_values_and_texts),
     ("a class of 130,000 names, and 20,000 different children", "valid", None, many_names),
     ('a list `(("a" | "bi"), ..)*` of 900 members, and a text of 1 MiB', "valid", None, list_of_choices('("a" | "b#")')),
     ('a list `(("a" | "bi")?, ..)*` of 900 members, and a text of 1 MiB', "valid", None, list_of_choices('("a" | "b#")?')),

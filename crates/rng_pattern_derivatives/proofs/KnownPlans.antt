@@ -1,5 +1,5 @@
 -- Plans of patterns stay right as a table grows.
-use Rattle.std.proofs.Common.{◌≡◌, ◌⊎◌, ◌<◌, ℕ, Bool, List, [], ◌∷◌, All, string_bytes, Contains, Option, Some, None, length, true, false, cond, IfSome, inl, inr, ⊎_elim, refl, sym, subst, arith, rules}
+use Rattle.std.proofs.Common.{◌≡◌, ◌⊎◌, ◌<◌, ℕ, Bool, List, [], ◌∷◌, All, string_bytes, Box, Contains, Option, Some, None, length, true, false, cond, IfSome, inl, inr, ⊎_elim, refl, sym, subst, arith, rules}
 use Rattle.std.specs.HashMap.{HashMap, IsEmpty, get}
 use Rattle.std.specs.Map.{lookup}
 use Rattle.rng_names.specs.plain.Keys.{Keys}
@@ -16,9 +16,10 @@ use Rattle.rng_pattern_table.proofs.Trees.{Longer-length, tree_stays}
 use Rattle.rng_pattern_derivatives.specs.contracts.plans.AskedPartialEq.TheImpl as same
 use Rattle.rng_pattern_derivatives.specs.plain.Kinds.{Obeys}
 use Rattle.rng_pattern_derivatives.specs.plain.Ways.{AreWaysOf}
-use Rattle.rng_pattern_derivatives.specs.views.Plans.{ArePlans, HasPlan, IsAfterPiece, IsChoiceOf, IsOutcome, IsPlan, IsPlanFor, number_of}
+use Rattle.rng_pattern_derivatives.specs.views.Plans.{ArePlans, HasPlan, IsAfterPiece, IsChoiceOf, IsIndex, IsOutcome, IsPlan, IsPlanFor, TakesOnly, number_of}
 use Rattle.rng_pattern_derivatives.specs.declared.plans.Asked.{Asked}
 use Rattle.rng_pattern_derivatives.specs.declared.plans.Plan.{Plan}
+use Rattle.rng_pattern_derivatives.specs.declared.plans.ValueIndex.{ValueIndex}
 use Rattle.rng_pattern_derivatives.specs.declared.way.LeafWay.{LeafWay}
 use Rattle.rng_pattern_derivatives.specs.declared.way.Place.TheVariants as places
 use Rattle.rng_pattern_derivatives.proofs.WaysOfSides.{side_law}
@@ -61,9 +62,30 @@ module _ (t : Table) (old new : List Node) (longer : Longer old new) where
     choice = choice_longer t old old new new longer longer h.rests rest h.inside h.choice;
   }
 
+  only_longer : (text : List ℕ) (leaf : PatternNumber) → TakesOnly t old text leaf → TakesOnly t new text leaf
+  only_longer text leaf h =
+      let long = Longer-length old new longer in
+      let inside = h.inside in record {
+        inside = omega (arith, inside, long);
+        only = λ s d. h.only s (subst (λ p. Takes (reading_of t) p [] (a_text s ∷ [])) (tree_stays t old new leaf.0 longer inside) d);
+      }
+
+  pub index_longer : (ws : List LeafWay) (index : ValueIndex) → IsIndex t old ws index → IsIndex t new ws index
+  index_longer ws index h = record {
+    others = h.others;
+    kept = h.kept;
+    all = λ w c. ⊎_elim (λ other. inl other) (λ own. inr (own.0, own.1, only_longer (string_bytes own.0) w.leaf own.2)) (h.all w c);
+  }
+
+  pub values_longer : {Z : Type 0} (ws : List LeafWay) (o : Option (Box ValueIndex Z)) → IfSome o (λ index. IsIndex t old ws index.value)
+      → IfSome o (λ index. IsIndex t new ws index.value)
+  values_longer ws None h = h
+  values_longer ws (Some index) h = index_longer ws index.value h
+
   pub plan_longer : (plan : Plan) → IsPlan t old plan → IsPlan t new plan
   plan_longer plan h = record {
     leaves = all_inside plan.leaves.items h.leaves;
+    values = values_longer plan.ways.items plan.values h.values;
     outcomes = λ o c. outcome_longer plan.ways.items plan.leaves.items o.taken.items o.rest (h.outcomes o c);
   }
 

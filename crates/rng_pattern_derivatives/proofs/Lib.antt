@@ -6,7 +6,7 @@ pub mod AddedWays
 pub mod PatternNodes
 pub mod GrammarRows
 pub mod WaysOfLeaves
-mod WaysOfSides
+pub mod WaysOfSides
 mod IdleMembers
 mod SideWeights
 pub mod KnownRests

@@ -44,8 +44,8 @@ impl Datatypes {
         Ok(())
     }
 
-    /// Returns the datatype that the pattern at a position names, if it names a known one.
-    fn at(&self, position: PatternId) -> Option<&Builtin>
+    /// Returns the datatype that the pattern at a position names, if it names a known one. Allocates nothing.
+    pub fn at(&self, position: PatternId) -> Option<&Builtin>
         ensures { option_map (λ b. built_in_type_of b.now) result ≡ type_at self.now position.0 }
     {
         match self.by_position.get(position.0) {

@@ -32,6 +32,15 @@ pub struct Piece {
     pub rest: PatternNumber,
 }
 
+/// Ways of a pattern, where those are found by hash whose leaves are values that a text can be equal to.
+#[derive(Drop)]
+pub struct ValueIndex {
+    /// Ways whose leaves take no strings but those with this text, once blanks are collapsed.
+    pub by_text: HashMap<String, Ways>,
+    /// The other ways. Their leaves have to be tested for each text.
+    pub others: Ways,
+}
+
 /// The ways of a pattern, their leaves, and the outcomes of the tests of these leaves that have occurred. A plan
 /// without leaves keeps no outcome.
 #[derive(Drop)]
@@ -41,6 +50,8 @@ pub struct Plan {
     pub outcomes: Vec<Outcome>,
     /// Strings that were tried in a list.
     pub pieces: Vec<Piece>,
+    /// The ways by the texts that their leaves take, if there are many leaves that may take a string.
+    pub values: Option<Box<ValueIndex>>,
 }
 
 /// The plans of patterns that were asked.

@@ -4,3 +4,4 @@ mod ListPieces
 mod TagAttributes
 mod SettledRests
 mod PlannedRests
+mod NarrowedWays

@@ -1,6 +1,7 @@
 -- What is left of a pattern by its plan.
 use Rattle.std.proofs.Common.{◌≡◌, ◌∙◌, ◌⊎◌, inl, inr, ⊎_elim, ℕ, zero, suc, ◌<◌, List, [], ◌∷◌, ◌++◌, length, All, Bool, true, false, Contains, Bor, Some, None, string_bytes}
 use Rattle.std.proofs.Common.{slice_get, refl, sym, ap, subst, arith}
+use Rattle.std.specs.Prelude.{IfSome}
 use Rattle.std.proofs.lemmas.List.Elements.{All-append}
 use Rattle.std.proofs.lemmas.Option.{get_or_from_slice_get, slice_get_within}
 use Rattle.smallvec.specs.SmallVec.{SmallVec}
@@ -20,7 +21,7 @@ use Rattle.rng_pattern_table.specs.declared.pattern.PatternNumber.{PatternNumber
 use Rattle.rng_pattern_table.proofs.Trees.{Longer-length, Longer-refl, tree_stays}
 use Rattle.rng_pattern_derivatives.specs.plain.Kinds.{Obeys}
 use Rattle.rng_pattern_derivatives.specs.plain.Ways.{AreInside, AreWaysOf, Offers}
-use Rattle.rng_pattern_derivatives.specs.views.Plans.{AreRestsBy, IsAfterPiece, IsChoiceOf, IsKindAsked, IsOutcome, IsPlan, IsPlanFor, no_ways, number_of, one_left_out, one_taken}
+use Rattle.rng_pattern_derivatives.specs.views.Plans.{AreRestsBy, IsAfterPiece, IsChoiceOf, IsIndex, IsKindAsked, IsOutcome, IsPlan, IsPlanFor, no_ways, number_of, one_left_out, one_taken}
 use Rattle.rng_pattern_derivatives.specs.declared.plans.Asked.{Asked}
 use Rattle.rng_pattern_derivatives.specs.declared.plans.Asked.TheVariants as asked
 use Rattle.rng_pattern_derivatives.specs.declared.plans.Outcome.{Outcome}
@@ -99,14 +100,16 @@ new_outcome t old new longer ws leaves taken rests n by inside choice =
 
 -- a plan with one more outcome
 pub outcome_kept : (t : Table) (old new : List Node) → Longer old new → (before after : Plan) (taken : List Bool) (rest : PatternNumber)
-    → after.ways ≡ before.ways → after.leaves ≡ before.leaves
+    → after.ways ≡ before.ways → after.leaves ≡ before.leaves → after.values ≡ before.values
     → ((o : Outcome) → Contains after.outcomes.items o → Contains before.outcomes.items o ⊎ ((o.taken.items ≡ taken) × (o.rest ≡ rest)))
     → IsOutcome t new before.ways.items before.leaves.items taken rest → IsPlan t old before → IsPlan t new after
-outcome_kept t old new longer before after taken rest ways leaves within own right =
+outcome_kept t old new longer before after taken rest ways leaves values within own right =
     let then = plan_longer t old new longer before right in
     let ws = ap (λ (v : SmallVec LeafWay). v.items) ways in
     let ls = ap (λ (v : SmallVec PatternNumber). v.items) leaves in record {
       leaves = subst (All (λ (m : PatternNumber). m.0 < length new)) (sym ls) then.leaves;
+      values = subst (λ o. IfSome o (λ index. IsIndex t new after.ways.items index.value)) (sym values)
+          (subst (λ ws. IfSome before.values (λ index. IsIndex t new ws index.value)) (sym ws) then.values);
       outcomes = λ o c. subst (λ ws. IsOutcome t new ws after.leaves.items o.taken.items o.rest) (sym ws)
           (subst (λ ls. IsOutcome t new before.ways.items ls o.taken.items o.rest) (sym ls) (⊎_elim
           (λ was. then.outcomes o was)

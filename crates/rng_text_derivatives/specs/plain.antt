@@ -3,3 +3,4 @@ pub mod After
 pub mod Asking
 pub mod Excepts
 pub mod Settling
+pub mod ValueWays

@@ -29,7 +29,8 @@ use crate::context::Context;
 use crate::first::First;
 use crate::leaf_tests::{data_takes, is_blank, is_leaf_for, list_body};
 use crate::plans::{TakenPlan, asked, keep_piece, kept_piece, plan_of, rest_by};
-use crate::settled::{Rest, left_by_few, settled_by_few};
+use crate::settled::{Rest, left_by_few, settled};
+use crate::value_index::ways_to_test;
 use rng_model::{Attr, OutOfMemory, PatternId, Pieces, Simple};
 use rng_names::contains;
 use rng_pattern_derivatives::{
@@ -214,7 +215,7 @@ fn after_ways(
     ensures known { OnOk result (AreAllKnown context.now.grammar.now context.now.keys.now table.new known.new) }
     ensures left { IfOk result (IsLeft context.now.grammar.now table.old table.new first.entry number) }
 {
-    let rest = settled_by_few(context, table, known, first, number);
+    let rest = settled(context, table, known, first, number);
     if let Some(rest) = told_by(context, table, rest)? {
         return Ok(rest);
     }
@@ -247,7 +248,7 @@ fn after_new_ways(
         return Ok(rest);
     }
     let asked = asked(context, first, number);
-    let plan = plan_of(context.alloc, ways)?;
+    let plan = plan_of(context, table, &known.datatypes, first, ways)?;
     after_taken_plan(context, table, known, first, TakenPlan { asked, plan })
 }
 
@@ -281,7 +282,8 @@ fn after_taken_plan(
 }
 
 /// Returns what is left by all ways of a plan: the choice of the rests of those whose leaves take this. Each leaf is
-/// tested once, unless there are many. What the tests leave is kept.
+/// tested once, and what the tests leave is kept. If there are many leaves, those are tested that an index does not rule
+/// out, and nothing is kept.
 #[cycle(after)]
 fn after_plan(
     context: &Context,
@@ -307,7 +309,8 @@ fn after_plan(
     if let Some(rest) = rest_by(context.alloc, table, plan, taken)? {
         return Ok(rest);
     }
-    let rests = rests(context, table, known, first, plan.ways.as_slice())?;
+    let ways = ways_to_test(context.alloc, plan, first)?;
+    let rests = rests(context, table, known, first, ways.as_slice())?;
     table.choice(context.alloc, rests.as_slice())
 }
 

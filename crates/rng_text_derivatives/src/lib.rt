@@ -12,6 +12,7 @@ mod leaf_tests;
 mod plans;
 mod settled;
 mod texts;
+mod value_index;
 
 pub use after::{after_tag, after_text};
 pub use context::Context;

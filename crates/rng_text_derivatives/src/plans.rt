@@ -6,7 +6,8 @@ ghost use Rattle.rng_pattern_table.specs.views.Node.{Node};
 ghost use Rattle.rng_pattern_table.specs.views.PatternTable.{Longer};
 ghost use Rattle.rng_pattern_table.specs.declared.pattern.PatternNumber.{PatternNumber};
 ghost use Rattle.rng_pattern_derivatives.specs.plain.Ways.{AreInside};
-ghost use Rattle.rng_pattern_derivatives.specs.views.Plans.{AreRestsBy, IsOutcome, IsPlan, IsTold};
+ghost use Rattle.rng_pattern_derivatives.specs.views.Datatypes.{AreDatatypesOf};
+ghost use Rattle.rng_pattern_derivatives.specs.views.Plans.{AreRestsBy, IsIndex, IsOutcome, IsPlan, IsTold};
 ghost use Rattle.rng_pattern_derivatives.specs.declared.plans.Outcome.{Outcome};
 ghost use Rattle.rng_pattern_derivatives.specs.declared.plans.Piece.{Piece};
 ghost use Rattle.rng_text_derivatives.specs.plain.Asking.{IsAskedBy, IsPieceOf};
@@ -14,9 +15,10 @@ ghost use Rattle.rng_text_derivatives.specs.plain.Asking.{IsAskedBy, IsPieceOf};
 use crate::context::Context;
 use crate::first::First;
 use crate::settled::FEW_WAYS;
+use crate::value_index::index_of;
 use rng_model::OutOfMemory;
 use rng_pattern_derivatives::{
-    Asked, LeafWay, Leaves, Outcome, Piece, Place, Plan, Rests, Tests, Ways,
+    Asked, Datatypes, LeafWay, Leaves, Outcome, Piece, Place, Plan, Rests, Tests, ValueIndex, Ways,
 };
 use rng_pattern_table::{PatternNumber, PatternTable};
 use smallvec::SmallVec;
@@ -68,19 +70,54 @@ fn different_leaves(alloc: Global, ways: &[LeafWay]) -> Result<Leaves, OutOfMemo
     Ok(leaves)
 }
 
-/// Returns a plan without outcomes. Fails only when out of memory. The cost is at most 64 comparisons for each way.
-pub fn plan_of(alloc: Global, ways: Ways) -> Result<Plan, OutOfMemory>
+/// Returns an index of ways to take this, if it is a string and their leaves are too many for outcomes to be kept. Fails
+/// only when out of memory.
+fn values_of(
+    context: &Context,
+    table: &PatternTable,
+    datatypes: &Datatypes,
+    first: First,
+    plan: &Plan,
+) -> Result<Option<Box<ValueIndex>>, OutOfMemory>
+    requires inside { AreInside table.now plan.now.ways.items }
+    requires datatypes { AreDatatypesOf context.now.grammar.now datatypes.now }
+    ensures { IfOk result (λ o. IfSome o (λ index. IsIndex context.now.grammar.now table.now plan.now.ways.items index.value)) }
+{
+    let First::Text(_, _) = first else {
+        return Ok(None);
+    };
+    if !plan.leaves.is_empty() {
+        return Ok(None);
+    }
+    let index = index_of(context, table, datatypes, plan.ways.as_slice())?;
+    Ok(Some(Box::new(context.alloc, index)?))
+}
+
+/// Returns a plan without outcomes. Fails only when out of memory. The cost is at most 64 comparisons for each way, and
+/// that of the texts of values if there are many leaves.
+pub fn plan_of(
+    context: &Context,
+    table: &PatternTable,
+    datatypes: &Datatypes,
+    first: First,
+    ways: Ways,
+) -> Result<Plan, OutOfMemory>
+    requires inside { AreInside table.now ways.items }
+    requires datatypes { AreDatatypesOf context.now.grammar.now datatypes.now }
     ensures ways { IfOk result (λ plan. plan.ways.items ≡ ways.items) }
     ensures pieces { IfOk result (λ plan. plan.pieces.items ≡ []) }
-    ensures plan { IfOk result (λ plan. (t : Table) (ns : List Node) → AreInside ns ways.items → IsPlan t ns plan) }
+    ensures plan { IfOk result (IsPlan context.now.grammar.now table.now) }
 {
-    let leaves = different_leaves(alloc, ways.as_slice())?;
-    Ok(Plan {
+    let leaves = different_leaves(context.alloc, ways.as_slice())?;
+    let mut plan = Plan {
         ways,
         leaves,
-        outcomes: Vec::new(alloc),
-        pieces: Vec::new(alloc),
-    })
+        outcomes: Vec::new(context.alloc),
+        pieces: Vec::new(context.alloc),
+        values: None,
+    };
+    plan.values = values_of(context, table, datatypes, first, &plan)?;
+    Ok(plan)
 }
 
 /// Returns the place of a leaf among those that were tested. Allocates nothing.
@@ -144,6 +181,7 @@ fn keep_outcome(plan: &mut Plan, taken: Tests, rest: PatternNumber) -> Result<()
     ensures ways { OnOk result (plan.new.ways ≡ plan.old.ways) }
     ensures leaves { OnOk result (plan.new.leaves ≡ plan.old.leaves) }
     ensures pieces { OnOk result (plan.new.pieces ≡ plan.old.pieces) }
+    ensures values { OnOk result (plan.new.values ≡ plan.old.values) }
     ensures outcomes { OnOk result ((o : Outcome) → Contains plan.new.outcomes.items o
         → Contains plan.old.outcomes.items o ⊎ ((o.taken.items ≡ taken.items) × (o.rest ≡ rest))) }
 {

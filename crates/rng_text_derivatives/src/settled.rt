@@ -178,30 +178,12 @@ fn with_told(told: Option<bool>, rest: Rest, way: LeafWay) -> Rest
     }
 }
 
-/// Returns what is left of a pattern after this, if its ways are known and tell no more than two rests. Allocates
-/// nothing. The cost is at most one look-up for a string, and a test of each leaf. For an attribute it is a comparison of names
-/// if its key is the last one of the pattern, and otherwise at most four look-ups.
+/// Returns what is left of a pattern after this, if its ways are known and tell no more than two rests. Tells nothing of
+/// a pattern with many ways, whose tests cost much. Allocates nothing. The cost is at most one look-up for a string, and
+/// a test of each leaf. For an attribute it is a comparison of names if its key is the last one of the pattern, and
+/// otherwise at most four look-ups.
 #[cycle(settled)]
 pub fn settled(
-    context: &Context,
-    table: &PatternTable,
-    known: &Known,
-    first: First,
-    number: PatternNumber,
-) -> Rest
-    requires inside { number.0 < length table.now }
-    requires ready { IsReady context.now.grammar.now table.now context.now.numbers.now }
-    requires known { AreAllKnown context.now.grammar.now context.now.keys.now table.now known.now }
-    ensures { IsSettled context.now.grammar.now table.now first.entry (tree_of context.now.grammar.now table.now number.0) result }
-{
-    match ways_known(context, known, first, number) {
-        Some(ways) => only_rest(context, table, known, first, ways),
-        None => Rest::Unknown,
-    }
-}
-
-/// The same, but tells nothing of a pattern with many ways, whose tests cost much.
-pub fn settled_by_few(
     context: &Context,
     table: &PatternTable,
     known: &Known,
@@ -220,6 +202,7 @@ pub fn settled_by_few(
 }
 
 /// Returns what is left by these ways, unless they are many. Allocates nothing. The cost is a test of each leaf.
+#[cycle(settled)]
 #[inline(always)]
 pub fn left_by_few(
     context: &Context,

@@ -1,8 +1,11 @@
 -- Plans of patterns: what is left of them, by the outcome of the tests of leaves and by the pieces of a list.
-use Rattle.std.specs.Prelude.{◌≡◌, ℕ, ◌<◌, ◌↔◌, List, [], ◌∷◌, ◌++◌, All, Bool, true, false, Some, length, slice_get, string_bytes}
-use Rattle.std.specs.HashMap.{HashMap, get}
+use Rattle.std.specs.Prelude.{◌≡◌, ◌⊎◌, ℕ, ◌<◌, ◌↔◌, List, [], ◌∷◌, ◌++◌, All, Bool, IfSome, String, true, false, Some, length, slice_get, string_bytes}
+use Rattle.std.specs.Global.{Global}
+use Rattle.std.specs.HashMap.{HashMap, get, get_by_text}
 use Rattle.std.specs.List.{Contains}
+use Rattle.smallvec.specs.SmallVec.{SmallVec}
 use Rattle.rng_names.specs.plain.Keys.{Keys, key_of}
+use Rattle.rng_model.specs.datatypes.Blanks.{collapse}
 use Rattle.rng_model.specs.matching.Document.{Attribute, Item, a_text}
 use Rattle.rng_model.specs.matching.GrammarReading.{reading_of}
 use Rattle.rng_model.specs.matching.Reading.{Reading}
@@ -24,6 +27,7 @@ use Rattle.rng_pattern_derivatives.specs.declared.plans.Asked.TheVariants as ask
 use Rattle.rng_pattern_derivatives.specs.declared.plans.Outcome.{Outcome}
 use Rattle.rng_pattern_derivatives.specs.declared.plans.Piece.{Piece}
 use Rattle.rng_pattern_derivatives.specs.declared.plans.Plan.{Plan}
+use Rattle.rng_pattern_derivatives.specs.declared.plans.ValueIndex.{ValueIndex}
 use Rattle.rng_pattern_derivatives.specs.declared.way.Kind.{Kind}
 use Rattle.rng_pattern_derivatives.specs.declared.way.Kind.TheVariants as kinds
 use Rattle.rng_pattern_derivatives.specs.declared.way.LeafWay.{LeafWay}
@@ -65,11 +69,31 @@ pub record IsAfterPiece (t : Table) (ns : List Node) (s : List ℕ) (n : ℕ) (r
       → Takes (reading_of t) (tree_of t ns rest.0) [] ks ↔ Takes (reading_of t) (tree_of t ns n) [] (a_text s ∷ ks)
   pub kept : Obeys places.List (tree_of t ns n) → Obeys places.List (tree_of t ns rest.0)
 
+-- ---- ways by the texts of values
+
+-- the way is kept for this text
+abbrev pub IsKeptFor : {Y Z : Type 0} → HashMap (String Y) (SmallVec LeafWay) Z → String Y → LeafWay → Type 0
+IsKeptFor by_text text w = (vs : SmallVec LeafWay) × (get_by_text by_text (string_bytes text) ≡ Some vs) × Contains vs.items w
+
+-- the leaf takes no strings but those that are this text, once blanks are collapsed (XML Schema Part 2, section 4.3.6)
+pub record TakesOnly (t : Table) (ns : List Node) (text : List ℕ) (leaf : PatternNumber) : Type 0 where
+  pub inside : leaf.0 < length ns
+  pub only : (s : List ℕ) → Takes (reading_of t) (tree_of t ns leaf.0) [] (a_text s ∷ []) → collapse s ≡ text
+
+-- The index has these ways and no others. A way that is not among the others is kept for the only text that its leaf
+-- takes.
+pub record IsIndex (t : Table) (ns : List Node) (ws : List LeafWay) (index : ValueIndex) : Type 0 where
+  pub others : (w : LeafWay) → Contains index.others.items w → Contains ws w
+  pub kept : (text : String Global) (w : LeafWay) → IsKeptFor index.by_text text w → Contains ws w
+  pub all : (w : LeafWay) → Contains ws w → Contains index.others.items w
+      ⊎ ((text : String Global) × IsKeptFor index.by_text text w × TakesOnly t ns (string_bytes text) w.leaf)
+
 -- ---- plans
 
--- all outcomes of a plan are right
+-- all outcomes of a plan are right, and so is the index of its ways
 pub record IsPlan (t : Table) (ns : List Node) (plan : Plan) : Type 0 where
   pub leaves : All (λ (m : PatternNumber). m.0 < length ns) plan.leaves.items
+  pub values : IfSome plan.values (λ index. IsIndex t ns plan.ways.items index.value)
   pub outcomes : (o : Outcome) → Contains plan.outcomes.items o → IsOutcome t ns plan.ways.items plan.leaves.items o.taken.items o.rest
 
 -- this plan is known for the pattern

@@ -37,8 +37,10 @@ use Rattle.rng_pattern_derivatives.proofs.StartBodies.{ready_longer}
 use Rattle.rng_text_derivatives.proofs.LeafKinds.{no_attribute_found, tells_of_attribute, tells_of_list, tells_of_no_attribute}
 use Rattle.rng_text_derivatives.proofs.LeafKinds.{tells_of_no_leaf, tells_of_no_string, tells_of_other_name, tells_of_text}
 use Rattle.rng_pattern_derivatives.specs.views.Plans.{IsAfterPiece, IsOutcome, IsPlan}
-use Rattle.rng_pattern_derivatives.proofs.KnownPlans.{plan_for_longer, plan_longer}
+use Rattle.rng_pattern_derivatives.proofs.KnownPlans.{plan_longer}
 use Rattle.rng_pattern_derivatives.proofs.WayLists.{inside_longer}
+use Rattle.rng_pattern_derivatives.proofs.WaysOfSides.{side_law}
+use Rattle.rng_text_derivatives.proofs.NarrowedWays.{few_inside, rests_of_all}
 use Rattle.rng_text_derivatives.specs.plain.Asking.{AreTests, IsAskedBy}
 use Rattle.rng_text_derivatives.proofs.PlannedRests.{asked_inside, new_settled, kept_left, new_plan_right, left_earlier, no_tests, number_asked, one_more_test, outcome_left, plan_again, planned_ways, tests_later, ways_for_later}
 use Rattle.rng_text_derivatives.proofs.after.+after.Goals as goal
@@ -390,14 +392,14 @@ after_taken_plan-returns t c =
 pub after_ways-told_by-requires : goal.after_ways-told_by-requires
 after_ways-told_by-requires t c =
     let t0 = c.args.context.now.grammar.now in
-    record { inside = rest_inside t0 c.args.table.now c.args.first (tree_of t0 c.args.table.now c.args.number.0) c.settled_by_few-rest.result c.settled_by_few-rest.ensures }
+    record { inside = rest_inside t0 c.args.table.now c.args.first (tree_of t0 c.args.table.now c.args.number.0) c.settled-rest.result c.settled-rest.ensures }
 
 pub after_ways-returns-in-Some-clause-left : goal.after_ways-returns-in-Some-clause-left
 after_ways-returns-in-Some-clause-left t c =
     let t0 = c.args.context.now.grammar.now in
     let old = c.args.table.now in
-    told t0 old c.told_by.new.table c.args.first c.args.number c.settled_by_few-rest.result c.in_ok-rest.field-0 c.in-Some.rest c.in-Some.is
-    c.in_ok-rest.ensures.left c.settled_by_few-rest.ensures
+    told t0 old c.told_by.new.table c.args.first c.args.number c.settled-rest.result c.in_ok-rest.field-0 c.in-Some.rest c.in-Some.is
+    c.in_ok-rest.ensures.left c.settled-rest.ensures
 
 pub after_ways-returns-in-Some-clause-known : goal.after_ways-returns-in-Some-clause-known
 after_ways-returns-in-Some-clause-known t c =
@@ -487,6 +489,17 @@ after_new_ways-returns-in-Some-clause-left t c =
     (new_settled t0 c.args.context.now.keys.now c.args.table.now new c.in_ok-ways.ensures.longer c.args.first c.args.number c.requires.inside
     c.in_ok-ways.ways.items c.in_ok-ways.ensures.ways rest.result (subst (λ ws. AreLeft t0 new c.args.first ws rest.result) c.as_slice.ensures rest.ensures)))
 
+pub after_new_ways-plan_of-requires : goal.after_new_ways-plan_of-requires
+after_new_ways-plan_of-requires t c =
+    let t0 = c.args.context.now.grammar.now in
+    let keys = c.args.context.now.keys.now in
+    let n1 = c.ways_for.new.table in
+    let n2 = c.told_by.new.table in record {
+      inside = inside_longer n1 n2 c.in_ok-ways.ways.items c.in_ok-rest.ensures.longer (asked_inside t0 keys c.args.table.now n1 c.in_ok-ways.ensures.longer
+          c.args.first c.args.number c.requires.inside c.in_ok-ways.ways.items c.in_ok-ways.ensures.ways);
+      datatypes = c.in_ok-ways.ensures.known.datatypes;
+    }
+
 pub after_new_ways-after_taken_plan-requires : goal.after_new_ways-after_taken_plan-requires
 after_new_ways-after_taken_plan-requires t c =
     let t0 = c.args.context.now.grammar.now in
@@ -502,11 +515,9 @@ after_new_ways-after_taken_plan-requires t c =
     let d = c.decreases in (
       omega (arith, d),
       (
-        plan_for_longer t0 n1 n2 longer' keys c.asked-asked.result c.in_ok-plan.plan
-            (new_plan_right t0 keys old n1 longer c.args.first c.args.number c.requires.inside ws c.in_ok-ways.ensures.ways c.in_ok-plan.plan
-            c.in_ok-plan.ensures.ways c.in_ok-plan.ensures.pieces
-            (c.in_ok-plan.ensures.plan t0 n1 (asked_inside t0 keys old n1 longer c.args.first c.args.number c.requires.inside ws c.in_ok-ways.ensures.ways))
-            c.asked-asked.result c.asked-asked.ensures),
+        new_plan_right t0 keys old n2 (Longer-trans old n1 n2 longer longer') c.args.first c.args.number c.requires.inside ws
+            (λ a asks kind k. side_law t0 n1 n2 kind (tree_of t0 old c.args.number.0) ws longer' (c.in_ok-ways.ensures.ways a asks kind k))
+            c.in_ok-plan.plan c.in_ok-plan.ensures.ways c.in_ok-plan.ensures.pieces c.in_ok-plan.ensures.plan c.asked-asked.result c.asked-asked.ensures,
         ((c.args.number, c.asked-asked.ensures), (ready, known)),
       ),
     )
@@ -572,8 +583,10 @@ after_plan-rests-requires t c =
     let d = c.decreases in (
       omega (arith, d),
       (
-        subst (AreInside n2) (sym (c.as_slice-2.ensures ∙ ap (λ v. v.items) told.ways))
-            (inside_longer old n2 c.args.plan.now.ways.items longer c.requires.inside),
+        subst (AreInside n2) (sym c.as_slice-2.ensures)
+            (few_inside t0 n2 n2 c.args.first c.rest_by.new.plan.ways.items c.in_ok-ways.ways.items
+            (c.in_ok-ways.ensures t0 n2 (told.plan t0 (plan_longer t0 old n1 tested.longer c.args.plan.now c.requires.plan))) n2
+            (subst (λ v. AreInside n2 v.items) (sym told.ways) (inside_longer old n2 c.args.plan.now.ways.items longer c.requires.inside))),
         (
           ready_longer t0 old n2 c.args.context.now.numbers.now longer c.requires.ready,
           all_longer t0 keys n1 n2 told.longer c.tests.new.known tested.known,
@@ -606,9 +619,13 @@ after_plan-returns-clause-left t c =
     let longer = Longer-trans old c.tests.new.table n2 c.in_ok-taken.ensures.longer told.longer in
     let slice : List PatternNumber = c.as_slice-3.result.now in
     let ws : List numbered.LeafWay = c.args.plan.now.ways.items in
+    let few : List numbered.LeafWay = c.in_ok-ways.ways.items in
+    let middle : List numbered.LeafWay = c.rest_by.new.plan.ways.items in
+    let right = told.plan t0 (plan_longer t0 old c.tests.new.table c.in_ok-taken.ensures.longer c.args.plan.now c.requires.plan) in
+    let all = rests_of_all t0 n2 n3 c.args.first middle few (c.in_ok-ways.ensures t0 n2 right) c.in_ok-rests.rests.items
+    (subst (λ (ws : List numbered.LeafWay). AreRests t0 n2 n3 c.args.first ws c.in_ok-rests.rests.items) c.as_slice-2.ensures c.in_ok-rests.ensures.rests) in
     let some = subst (λ (rs : List PatternNumber). AreRests t0 n2 n3 c.args.first ws rs) (sym c.as_slice-3.ensures)
-    (subst (λ (ws : List numbered.LeafWay). AreRests t0 n2 n3 c.args.first ws c.in_ok-rests.rests.items)
-    (c.as_slice-2.ensures ∙ ap (λ v. v.items) told.ways) c.in_ok-rests.ensures.rests) in
+    (subst (λ (ws : List numbered.LeafWay). AreRests t0 n2 n3 c.args.first ws c.in_ok-rests.rests.items) (ap (λ v. v.items) told.ways) all) in
     if_ok c.choice.result _ _ (λ n h. λ number inside all. left_behind t0 old n2 n3 c.choice.new.self c.args.first number n ws slice
     (ways_for_later t0 old n2 c.args.first (tree_of t0 old number.0) ws longer all) some h.0 (h.1.0 t0) (h.1.1 t0 (reading_of t0)))
     (both_ok c.choice.result _ _ c.choice.ensures.inside (both_ok c.choice.result _ _ c.choice.ensures.alternatives c.choice.ensures.matches))

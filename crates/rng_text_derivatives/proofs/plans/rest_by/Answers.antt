@@ -38,4 +38,4 @@ pub returns-clause-plan : goal.returns-clause-plan
 returns-clause-plan c = λ t right.
     let kept = c.in_ok-keep_outcome.ensures in
     outcome_kept t c.args.table.now c.choice.new.self c.in_ok-rest.ensures.longer c.args.plan.now c.keep_outcome.new.plan c.args.taken.items c.in_ok-rest.rest
-    kept.ways kept.leaves kept.outcomes (returns-clause-rest c t right) right
+    kept.ways kept.leaves kept.values kept.outcomes (returns-clause-rest c t right) right

@@ -24,16 +24,16 @@ use Rattle.rng_text_derivatives.proofs.RestsOfWays.{no_rests}
 use Rattle.rng_text_derivatives.proofs.SettledRests.{covered_more, if_some, nothing_told, only_told, settled_by, told_more, two_told}
 use Rattle.rng_text_derivatives.proofs.settled.+settled.Goals as goal
 
-pub settled-only_rest-requires : goal.settled-only_rest-requires
-settled-only_rest-requires t c =
+pub settled-left_by_few-requires : goal.settled-left_by_few-requires
+settled-left_by_few-requires t c =
     let d = c.decreases in
     (omega (arith, d), ((c.in-Some.ensures c.args.table.now c.requires.known).inside, (c.requires.ready, c.requires.known)))
 
 pub settled-returns-in-Some : goal.settled-returns-in-Some
 settled-returns-in-Some t c =
     let t0 = c.args.context.now.grammar.now in
-    settled_by t0 c.args.table.now c.args.first (tree_of t0 c.args.table.now c.args.number.0) c.in-Some.ways.now c.only_rest.result
-    (c.in-Some.ensures c.args.table.now c.requires.known) c.only_rest.ensures
+    settled_by t0 c.args.table.now c.args.first (tree_of t0 c.args.table.now c.args.number.0) c.in-Some.ways.now c.left_by_few.result
+    (c.in-Some.ensures c.args.table.now c.requires.known) c.left_by_few.ensures
 
 pub only_rest-ways-init : goal.only_rest-ways-init
 only_rest-ways-init t c = no_rests c.args.context.now.grammar.now c.args.table.now c.args.first [] refl
