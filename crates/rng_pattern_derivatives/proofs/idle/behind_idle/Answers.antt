@@ -1,4 +1,4 @@
-use Rattle.std.proofs.Common.{◌≡◌, ◌∙◌, ◌+◌, ℕ, Some, ap, arith, get_or, map, slice_get, subst, sym}
+use Rattle.std.proofs.Common.{◌≡◌, ◌∙◌, Some, ap, arith, map, slice_get, subst, sym}
 use Rattle.std.proofs.lemmas.Option.{slice_get-get_or}
 use Rattle.rng_pattern_table.specs.views.Trees.{tree_of}
 use Rattle.rng_pattern_table.specs.declared.pattern.PatternNumber.{PatternNumber}

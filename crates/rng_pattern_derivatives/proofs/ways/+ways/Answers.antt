@@ -1,8 +1,5 @@
-use Rattle.std.proofs.Common.{◌≡◌, ◌∙◌, ◌<◌, ◌≤◌, ◌+◌, ℕ, suc, All, List, [], ◌∷◌, ◌++◌, length, map, take, get_or, refl, sym, ap, subst, arith, rules, IsTrue}
+use Rattle.std.proofs.Common.{◌∙◌, ◌<◌, ◌≤◌, ℕ, All, [], ◌++◌, length, map, refl, sym, ap, subst, arith, rules, IsTrue}
 use Rattle.std.proofs.lemmas.Bool.{not-false, not-true}
-use Rattle.std.proofs.Math.ListN.{get_or-map}
-use Rattle.std.proofs.lemmas.List.{length-map, map-append, take_all}
-use Rattle.std.proofs.Math.Seq.{take-suc}
 use Rattle.rng_model.specs.simple.Tree.{Simple, group, s_joined, s_not_allowed}
 use Rattle.rng_deriv_laws.specs.plain.Derivatives.{behind, is_nullable}
 use Rattle.rng_deriv_laws.proofs.SameWays.{choice_all}
@@ -22,17 +19,16 @@ use Rattle.rng_pattern_derivatives.specs.plain.FewerWays.{AreRepeated, AreUncove
 use Rattle.rng_pattern_derivatives.specs.plain.Ways.{AreInside, AreWaysOf, StandFor, filled, ways_by}
 use Rattle.rng_pattern_derivatives.specs.declared.way.Hole.TheVariants as holes
 use Rattle.rng_pattern_derivatives.specs.declared.way.Joint.TheVariants as joints
-use Rattle.rng_pattern_derivatives.proofs.WaysOfSides.{both_made, copies_made, first_made, made, member_made, over_hands_on}
-use Rattle.rng_pattern_derivatives.proofs.WaysOfSides.{map_numbers, no_order_between, none_made, none_more, over_same, side_law, ways_of_same}
+use Rattle.rng_pattern_derivatives.proofs.WaysOfSides.{both_made, copies_made, first_made, made, over_hands_on}
+use Rattle.rng_pattern_derivatives.proofs.WaysOfSides.{no_order_between, none_made, over_same, side_law, ways_of_same}
 use Rattle.rng_pattern_derivatives.proofs.FewerWaysLaws.{alone_made, left_inside, more_copies, repeated_made, uncovered_made}
 use Rattle.rng_pattern_derivatives.proofs.Copies.{behind_weight, opened_gives, opened_takes, opened_weight}
 use Rattle.rng_pattern_derivatives.proofs.KnownWays.{known_longer, known_more, those_known}
 use Rattle.rng_pattern_derivatives.proofs.WayLists.{inside_longer}
-use Rattle.rng_pattern_derivatives.proofs.NumberedWays.{appended_stand}
 use Rattle.rng_pattern_derivatives.proofs.PatternNodes.{is_over, other_single, parts_there, single_alone}
 use Rattle.rng_pattern_derivatives.proofs.AttributeTakers.{candidates_longer}
 use Rattle.rng_pattern_derivatives.proofs.IdleMembers.{all_idle, members_are, next_below, next_less, next_taken, next_within}
-use Rattle.rng_pattern_derivatives.proofs.SideWeights.{member_less, right_less}
+use Rattle.rng_pattern_derivatives.proofs.SideWeights.{right_less}
 use Rattle.rng_pattern_derivatives.proofs.ways.+ways.Goals as goal
 
 pub new_ways-ways_of_choice-requires : goal.new_ways-ways_of_choice-requires

@@ -1,7 +1,6 @@
 use Rattle.std.proofs.Common.{◌≡◌, ◌∙◌, Some, ap, slice_get, subst, sym}
 use Rattle.std.proofs.lemmas.Option.{slice_get-get_or}
 use Rattle.rng_pattern_table.specs.views.Skips.{IsSkip}
-use Rattle.rng_pattern_table.specs.declared.skips.Skip.{Skip}
 use Rattle.rng_pattern_table.proofs.MemberSkips.{joined_made}
 use Rattle.rng_pattern_table.proofs.skips.joined_skip.Goals as goal
 
