@@ -91,6 +91,10 @@ class Client:
         """Waits for the answer with this identity."""
         return self.until(lambda message: isinstance(message, dict) and "method" not in message and message.get("id") == identity)
 
+    def next_answer(self) -> Any:
+        """Waits for the next answer, or the next batch of answers. What the server says by itself may come before it."""
+        return self.until(lambda message: not (isinstance(message, dict) and "method" in message))
+
     def until(self, is_it: Callable[[Any], bool]) -> Any:
         """Waits for a message that satisfies `is_it`."""
         limit = time.monotonic() + SECONDS

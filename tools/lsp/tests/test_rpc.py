@@ -49,7 +49,7 @@ class Ends(WithServer):
 
     def test_shutdown_and_exit_in_a_batch(self):
         self.client.write(framed([{"jsonrpc": "2.0", "id": "s", "method": "shutdown"}, {"jsonrpc": "2.0", "method": "exit"}]))
-        self.assertEqual(self.client.take(), [{"jsonrpc": "2.0", "id": "s", "result": None}])
+        self.assertEqual(self.client.next_answer(), [{"jsonrpc": "2.0", "id": "s", "result": None}])
         self.assertEqual(self.client.ended(), 0)
 
     def test_shutdown_while_a_large_document_is_judged(self):
@@ -115,7 +115,7 @@ class Messages(WithServer):
     def test_many_at_once(self):
         self.client.write(b"".join(framed({"jsonrpc": "2.0", "id": number, "method": "x"}) for number in range(100, 150)))
         for number in range(100, 150):
-            self.assertEqual(self.client.take()["id"], number)
+            self.assertEqual(self.client.next_answer()["id"], number)
 
     def test_headers(self):
         body = json.dumps({"jsonrpc": "2.0", "id": 9, "method": "x"}).encode()
@@ -140,7 +140,7 @@ class Messages(WithServer):
     def test_batch(self):
         ask = {"jsonrpc": "2.0", "id": "b", "method": "x"}
         self.client.write(framed([ask, {"jsonrpc": "2.0", "method": "y"}, 5, {**ask, "id": 1.5}]))
-        answers = self.client.take()
+        answers = self.client.next_answer()
         self.assertEqual([(answer["id"], answer["error"]["code"]) for answer in answers], [("b", -32601), (None, -32600), (1.5, -32601)])
 
     def test_bad_parameters(self):
