@@ -24,6 +24,7 @@ mod ReadMentioned
 mod GatherIncluded
 mod OverriddenComponents
 mod OpenComponents
+mod GatheredParts
 mod FoundGrammars
 mod GrammarLookup
 pub mod PlacesListed

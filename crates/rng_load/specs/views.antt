@@ -2,6 +2,7 @@
 pub mod FileFaults
 pub mod FilesView
 pub mod GatheredComponents
+pub mod GrammarParts
 pub mod Loaded
 pub mod LoadingFaults
 pub mod PatternRows

@@ -2,6 +2,7 @@
 ghost use Rattle.std.specs.Prelude.{◌≡◌, [], ◌∷◌, ◌++◌, ◌||◌, ℕ, false, IfOk, List, OnOk, Option, filter, map, not, option_map, reverse, string_bytes};
 ghost use Rattle.rng_model.specs.schema.Schema.{same_name};
 ghost use Rattle.rng_model.specs.names.NamespaceViews.{namespace_bytes};
+ghost use Rattle.rng_model.specs.views.SchemaView.{schema_component_of};
 ghost use Rattle.rnc_model.specs.declarations.FileTree.{components_of};
 ghost use Rattle.rnc_grammar.specs.views.View.{component_of, mention_of, pattern_of};
 ghost use Rattle.rng_load.specs.views.GatheredComponents.{gathered_in, gathered_of, has_name, list_of, lists_in};
@@ -9,7 +10,9 @@ ghost use Rattle.rnc_model.specs.loading.Loading.{grammar_if};
 ghost use Rattle.rnc_model.specs.loading.Places.{Gathered, TreePath, is_overridden, uri_in};
 ghost use Rattle.rng_load.specs.plain.OpenComponents.{components_at, gathered_at_end};
 ghost use Rattle.rng_load.specs.plain.PlainReading.{gather_at, gather_below, gather_one_at, gathered_as, included_with, read_at, replaced_by};
-ghost use Rattle.rng_load.specs.views.ReadPatterns.{files_in};
+ghost use Rattle.rng_load.specs.plain.FoundGrammars.{nested_in};
+ghost use Rattle.rng_load.specs.views.GrammarParts.{AreParts};
+ghost use Rattle.rng_load.specs.views.ReadPatterns.{files_in, nested_of};
 
 use crate::component_names::{grammar_of, note};
 use crate::open_components::{AtEnd, GatheredComponents, OpenComponents};
@@ -31,10 +34,44 @@ pub(crate) struct GatheredComponent<'a> {
     pub grammars: Vec<NestedGrammar<'a>>,
 }
 
+/// The components of a grammar, and the grammars that are nested in them, both in order.
+#[derive(Drop)]
+pub(crate) struct GrammarParts<'a> {
+    pub components: Vec<Component>,
+    pub nested: Vec<NestedGrammar<'a>>,
+}
+
+impl<'a> GrammarParts<'a> {
+    /// No parts yet.
+    pub(crate) fn new(alloc: Global) -> Self
+        ensures components { result.components.items ≡ [] }
+        ensures nested { result.nested.items ≡ [] }
+    {
+        GrammarParts {
+            components: Vec::new(alloc),
+            nested: Vec::new(alloc),
+        }
+    }
+
+    /// Appends gathered components, and the grammars that are nested in them.
+    pub(crate) fn append(&mut self, all: Vec<GatheredComponent<'a>>) -> Result<(), OutOfMemory>
+        ensures components { OnOk result (map schema_component_of self.new.components.items
+            ≡ map schema_component_of self.old.components.items ++ map (λ g. g.component) (map gathered_of all.entry.items)) }
+        ensures nested { OnOk result (map nested_of self.new.nested.items ≡ map nested_of self.old.nested.items ++ nested_in (map gathered_of all.entry.items)) }
+    {
+        for gathered in all {
+            let mut grammars = gathered.grammars;
+            self.components.push(gathered.component)?;
+            self.nested.append(&mut grammars)?;
+        }
+        Ok(())
+    }
+}
+
 impl<'a> TreeReader<'a> {
-    /// Appends the components that `components` add to their grammar, in order. Follows includes for at most `levels`
-    /// levels. `uri` is the namespace that their file inherits. `way` leads to their parent, with the outermost number
-    /// first.
+    /// Returns the components that `components` add to their grammar, in order, and the grammars that are nested in
+    /// them. Follows includes for at most `levels` levels. `uri` is the namespace that their file inherits. `way` leads
+    /// to their parent, with the outermost number first.
     ///
     /// An include adds the components of its file, except for those that its braces override, and then the components
     /// in its braces. If the file is no grammar, or no level is left, an include adds only the components in its
@@ -47,14 +84,12 @@ impl<'a> TreeReader<'a> {
         uri: &'a Namespace,
         way: &mut Vec<usize>,
         components: &'a [rnc_grammar::Component],
-        all: &mut Vec<GatheredComponent<'a>>,
-    ) -> Result<(), OutOfMemory>
-        ensures gathered { OnOk result (map gathered_of all.new.items ≡ map gathered_of all.old.items
-            ++ gather_at (files_in self.entry) levels (namespace_bytes uri.now) (reverse way.old.items) 0 (components_of (map component_of components.now))) }
-        ensures way { OnOk result (way.new.items ≡ way.old.items) }
+    ) -> Result<GrammarParts<'a>, OutOfMemory>
+        ensures { IfOk result (λ parts. AreParts parts
+            (gather_at (files_in self.entry) levels (namespace_bytes uri.now) (reverse way.old.items) 0 (components_of (map component_of components.now)))) }
     {
         let mut made = GatheredComponents {
-            all: mem::replace(all, Vec::new(self.alloc)),
+            all: Vec::new(self.alloc),
             open: Vec::new(self.alloc),
         };
         let list = OpenComponents {
@@ -64,12 +99,14 @@ impl<'a> TreeReader<'a> {
             at_end: AtEnd::Nothing,
         };
         made.open_list(way, list)?;
+        let mut parts = GrammarParts::new(self.alloc);
         // The count only bounds the loop for the proof.
         'steps: for _ in 0..usize::MAX {
             if !self.gather_next(way, &mut made)? {
-                *all = made.all;
-                return Ok(());
+                parts.append(made.all)?;
+                return Ok(parts);
             }
+            made.move_on(self.alloc, &mut parts)?;
         }
         Err(OutOfMemory)
     }

@@ -1,14 +1,19 @@
 // Components that are being gathered, and the lists of components that are not gathered to their ends.
-ghost use Rattle.std.specs.Prelude.{◌≡◌, OnOk, reverse};
-ghost use Rattle.rng_load.specs.plain.OpenComponents.{Files, after_end, gathered_at_end, with_list};
+ghost use Rattle.std.specs.Prelude.{◌≡◌, IsTrue, List, OnOk, reverse};
+ghost use Rattle.rng_load.specs.plain.OpenComponents.{Files, IsLast, after_end, gathered_at_end, with_list};
+ghost use Rattle.rng_load.specs.views.GrammarParts.{AreJoined};
+ghost use Rattle.rnc_model.specs.loading.Places.{Gathered, TreePath};
 ghost use Rattle.rng_load.specs.views.GatheredComponents.{end_of, gathered_in, list_of, lists_in};
 
-use crate::gathering::{GatheredComponent, replace};
+use crate::gathering::{GatheredComponent, GrammarParts, replace};
 use crate::pattern_rows::FileScope;
 use rnc_grammar::Component;
 use rng_model::OutOfMemory;
 use std::alloc::Global;
 use std::mem;
+
+/// How many components are moved on at once, at the least.
+const MANY: usize = 1_024;
 
 /// A list of components that is not gathered to its end: where it is read, the number of the next component, and what
 /// is to be done at the end of the list.
@@ -58,6 +63,39 @@ impl<'a> GatheredComponents<'a> {
     {
         way.push(0)?;
         Ok(self.open.push(list)?)
+    }
+
+    /// Whether components can be moved on: many are gathered, and no include is open.
+    pub(crate) fn has_enough(&self) -> bool
+        ensures { IsTrue result → IsLast (lists_in self.now) }
+    {
+        match self.open.as_slice() {
+            [
+                OpenComponents {
+                    at_end: AtEnd::Nothing,
+                    ..
+                },
+            ] => self.all.len() >= MANY,
+            _ => false,
+        }
+    }
+
+    /// Moves what is gathered to the parts of the grammar, if it is much and no include is open. So a grammar that includes
+    /// many files has its components in one list alone.
+    pub(crate) fn move_on(
+        &mut self,
+        alloc: Global,
+        parts: &mut GrammarParts<'a>,
+    ) -> Result<(), OutOfMemory>
+        ensures { OnOk result ((files : Files) (x : TreePath) (all : List Gathered)
+            → AreJoined parts.old (gathered_at_end files (lists_in self.old) (gathered_in self.old, x)).0 all
+            → AreJoined parts.new (gathered_at_end files (lists_in self.new) (gathered_in self.new, x)).0 all) }
+    {
+        if !self.has_enough() {
+            return Ok(());
+        }
+        parts.append(mem::replace(&mut self.all, Vec::new(alloc)))?;
+        Ok(())
     }
 
     /// Does what is to be done at the end of a list of components. `way` leads to their parent.

@@ -1,5 +1,5 @@
 -- What is gathered, when the lists of components that are open are gathered to their ends.
-use Rattle.std.specs.Prelude.{ℕ, List, [], ◌∷◌, ◌++◌, drop, Option}
+use Rattle.std.specs.Prelude.{◌≡◌, ℕ, List, [], ◌∷◌, ◌++◌, drop, Option}
 use Rattle.rnc_model.specs.declarations.FileTree as tree
 use Rattle.rnc_model.specs.declarations.FileTree.{FileTree, components_of}
 use Rattle.rnc_model.specs.loading.Places.{TreePath, Gathered}
@@ -21,6 +21,12 @@ pub record OpenList : Type 0 where
   pub number : ℕ
   pub left : List tree.Component
   pub at_end : AtEnd
+
+-- one list is open, with nothing to do at its end
+pub record IsLast (os : List OpenList) : Type 0 where
+  pub list : OpenList
+  pub alone : os ≡ list ∷ []
+  pub ends : list.at_end ≡ nothing
 
 -- the trees of the files by name
 abbrev pub Files : Type 0

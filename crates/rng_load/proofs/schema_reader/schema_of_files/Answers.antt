@@ -1,18 +1,11 @@
-use Rattle.std.proofs.Common.{map}
 use Rattle.rng_model.specs.views.SchemaView.{place_of}
 use Rattle.rnc_grammar.specs.views.View.{file_of}
 use Rattle.rng_load.specs.views.FilesView.{taken_files_of}
-use Rattle.rng_load.specs.views.GatheredComponents.{gathered_of}
 use Rattle.rnc_model.specs.loading.Loading.{tree_in}
 use Rattle.rng_load.specs.views.PlacedGrammars.{grammars_of}
-use Rattle.rng_load.proofs.ReaderEnds.{main_gathered, whole}
+use Rattle.rng_load.proofs.ReaderEnds.{whole}
 use Rattle.rng_load.proofs.WellPlaced.{well_placed}
 use Rattle.rng_load.proofs.schema_reader.schema_of_files.Goals as goal
-
-pub grammars-requires-clause-there : goal.grammars-requires-clause-there
-grammars-requires-clause-there c =
-    main_gathered (tree_in (taken_files_of c.args.trees.now)) (file_of c.args.main.now) (map gathered_of c.in_ok-components.components.items)
-    c.in_ok-components.ensures
 
 pub returns : goal.returns
 returns c =

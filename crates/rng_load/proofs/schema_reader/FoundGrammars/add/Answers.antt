@@ -1,8 +1,7 @@
 use Rattle.std.proofs.Common.{◌≡◌, ◌∙◌, ◌∷◌, ◌++◌, [], ap, map, option_map, sym}
 use Rattle.std.proofs.lemmas.List.{map_push}
-use Rattle.rng_model.specs.views.SchemaView.{place_of}
+use Rattle.rng_model.specs.views.SchemaView.{place_of, schema_component_of}
 use Rattle.rng_load.specs.plain.FoundGrammars.{left_by, pending_in}
-use Rattle.rng_load.specs.views.GatheredComponents.{gathered_of}
 use Rattle.rng_load.specs.views.PendingGrammars.{pending_of}
 use Rattle.rng_load.specs.views.ReadPatterns.{nested_of}
 use Rattle.rng_load.proofs.ReaderEnds.{nested_moves, put_at}
@@ -26,8 +25,8 @@ inner-preserved c =
     }
 
 pub returns-clause-put : goal.returns-clause-put
-returns-clause-put c =
+returns-clause-put c = λ all are.
     put_at c.put.result c.args.self.now.grammars.entries c.inner.self.grammars.entries c.put.new.map.entries c.args.place
-    (record { components = c.in_ok-components.components; outer = _ }) (map gathered_of c.args.all.items)
+    (record { components = c.shrink_to_fit.new.self; outer = _ }) all
     (ap (λ m. m.entries) c.inner.invariant.grammars) c.put.ensures (ap (λ o. option_map place_of o) c.inner.invariant.outer)
-    c.in_ok-components.ensures.components
+    (ap (map schema_component_of) c.shrink_to_fit.ensures.items ∙ are.components)
