@@ -1,5 +1,5 @@
 -- Parts of a grammar that are moved on as they are gathered.
-use Rattle.std.proofs.Common.{◌≡◌, ◌∙◌, ap, sym, refl, List, [], ◌++◌, map, drop, append_assoc}
+use Rattle.std.proofs.Common.{◌≡◌, ◌∙◌, ap, sym, List, [], ◌++◌, map, drop, append_assoc}
 use Rattle.std.proofs.lemmas.List.{map-append}
 use Rattle.rng_model.specs.views.SchemaView.{schema_component_of}
 use Rattle.rnc_model.specs.loading.Places.{Gathered, TreePath}

@@ -1,5 +1,4 @@
 use Rattle.std.proofs.Common.{◌≡◌, ◌∙◌, ◌++◌, [], ap, map, subst, sym}
-use Rattle.rng_load.specs.plain.FoundGrammars.{nested_in}
 use Rattle.rng_load.specs.plain.OpenComponents.{gathered_at_end}
 use Rattle.rng_load.specs.views.GatheredComponents.{gathered_of, lists_in}
 use Rattle.rng_load.specs.views.GrammarParts.{AreJoined}
