@@ -20,5 +20,6 @@ mod OpenedChoices
 pub mod Taking
 mod Renumbering
 mod CopiedPatterns
+mod Regrouped
 mod SelectedNumbers
 mod MarkedNumbers

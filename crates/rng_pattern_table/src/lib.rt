@@ -14,6 +14,7 @@ mod grammar;
 mod making;
 mod pattern;
 mod pattern_table;
+mod regrouping;
 mod selecting;
 mod skips;
 mod uses;
