@@ -11,6 +11,7 @@ mod copies;
 mod covering;
 mod deep_parts;
 mod grammar;
+mod joining;
 mod making;
 mod pattern;
 mod pattern_table;
