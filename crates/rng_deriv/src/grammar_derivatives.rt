@@ -125,7 +125,7 @@ impl Derivatives for GrammarDerivatives<'_> {
             return Err(OutOfMemory);
         }
         self.learned.lost = true;
-        let number = self.learned.table.choice(alloc, members)?;
+        let number = self.learned.table.joined(alloc, members)?;
         self.learned.lost = false;
         Ok(number)
     }

@@ -18,7 +18,7 @@ use Rattle.rng_deriv_laws.specs.plain.Restricted.{IsTyped}
 use Rattle.rng_deriv_laws.proofs.KeptRestrictions.{none_is_ungrouped}
 use Rattle.rng_pattern_table.specs.declared.uses.Use.{Use}
 use Rattle.rng_pattern_table.specs.plain.AskedFor.{HasNumber, HasPart, IsAskedFor, IsNoChoice, IsOwn}
-use Rattle.rng_pattern_table.specs.plain.Kept.{AreKeptAt, AreRestrictedAlike, HasContentWithin, HasNoLists, IsChoiceOf, IsChoiceTaken, IsInterleaveOf, IsMadeOver}
+use Rattle.rng_pattern_table.specs.plain.Kept.{AreKeptAt, AreRestrictedAlike, HasContentWithin, HasNoLists, IsChoiceOf, IsChoiceTaken, IsInterleaveOf, IsMadeOver, IsRegrouped}
 use Rattle.rng_pattern_table.specs.plain.Kept.{IsTakenAs, KeepsRestrictions, by_members, by_parts, unnumbered}
 use Rattle.rng_pattern_table.specs.views.Node.{Node}
 use Rattle.rng_pattern_table.specs.views.PatternTable.{Longer}
@@ -100,7 +100,7 @@ repeat_content p u c e h =
 
 -- ---- what is made from members
 
-group_kept : (p q made other : Simple ℕ) → KeepsRestrictions p made → KeepsRestrictions q other
+pub group_kept : (p q made other : Simple ℕ) → KeepsRestrictions p made → KeepsRestrictions q other
     → KeepsRestrictions (s_joined group p q) (joined_of group made other)
 group_kept p q made other h i = record {
   bare = λ o. joined_has HasNoAttribute group made other tt (h.bare o.0) (i.bare o.1) (h.bare o.0, i.bare o.1);
@@ -265,13 +265,29 @@ row_kept t us old new numbers row n kept below found parts numbered (unnumbered 
 
 -- ---- all rows
 
--- one more
-pub one_kept : (t : Table) (us : List Use) (old new : List Node) (numbers more : List PatternNumber) (number : PatternNumber) (row : rows.Simple)
+-- what obeys what another pattern obeys
+pub kept_through : {p q r : Simple ℕ} → KeepsRestrictions p q → KeepsRestrictions q r → KeepsRestrictions p r
+kept_through {p} {q} {r} k l = record {
+  bare = λ h. l.bare (k.bare h);
+  ungrouped = λ h. l.ungrouped (k.ungrouped h);
+  repeats = λ h. l.repeats (k.repeats h);
+  texts = λ h. l.texts (k.texts h);
+  unlisted = λ h. l.unlisted (k.unlisted h);
+  content = λ c e. ⊎_elim
+      (λ a. content_wider r a.0 c (λ x f. subst (λ z. greater x z ≡ z) a.2 (within_first x a.0 c f)) (l.content a.0 a.1))
+      (λ none. inr (l.not_allowed none))
+      (k.content c e);
+  not_allowed = λ e. l.not_allowed (k.not_allowed e);
+}
+
+-- one more, which may be regrouped once it is taken over
+pub one_kept : (t : Table) (us : List Use) (old mid new : List Node) (numbers more : List PatternNumber) (first number : PatternNumber) (row : rows.Simple)
     → AreTakenAt (HasNumber t us) t old numbers → AreKeptAt (HasNumber t us) t old numbers → Longer old new → more ≡ numbers ++ number ∷ []
     → AreChildrenBelow (length numbers) row → slice_get t.patterns (length numbers) ≡ Some row
     → tree_at t.patterns (record { 0 = length numbers }) ≡ tree_over (tree_at t.patterns) row → ((k : ℕ) → HasPart row k → IsOwn us k)
-    → IsTakenAs t us numbers (length numbers) row old new number.0 → AreKeptAt (HasNumber t us) t new more
-one_kept t us old new numbers more number row taken kept longer added below found is parts own =
+    → IsTakenAs t us numbers (length numbers) row old mid first.0 → IsRegrouped (tree_of t mid first.0) (tree_of t new number.0)
+    → AreKeptAt (HasNumber t us) t new more
+one_kept t us old mid new numbers more first number row taken kept longer added below found is parts own regrouped =
     subst (AreKeptAt (HasNumber t us) t new) (sym added) (λ i h has. ⊎_elim
     (λ l. let stays = get_or_append_left numbers (number ∷ []) (record { 0 = 0 }) i l in
     subst (KeepsRestrictions (tree_at t.patterns (record { 0 = i })))
@@ -281,7 +297,7 @@ one_kept t us old new numbers more number row taken kept longer added below foun
     subst (KeepsRestrictions (tree_at t.patterns (record { 0 = i }))) (sym (ap (λ (k : PatternNumber). tree_of t new k.0) end))
     (subst (λ j. KeepsRestrictions (tree_at t.patterns (record { 0 = j })) (tree_of t new number.0)) (sym here)
     (subst (λ p. KeepsRestrictions p (tree_of t new number.0)) (sym is)
-    (row_kept t us old new numbers row number.0 kept below found parts (subst (HasNumber t us) here has) own))))
+    (kept_through (row_kept t us old mid numbers row first.0 kept below found parts (subst (HasNumber t us) here has) own) regrouped.kept))))
     (cases_lt i (length numbers)))
 
 typed_kept : (p made : Simple ℕ) → KeepsRestrictions p made → IsTyped p → IsTyped made

@@ -20,5 +20,7 @@ mod OpenedChoices
 pub mod Taking
 mod Renumbering
 mod CopiedPatterns
+mod JoinedSides
+mod Regrouped
 mod SelectedNumbers
 mod MarkedNumbers

@@ -68,7 +68,7 @@ module _ (ns : List Node) (ms : List ℕ) where
             elements t e (subst (λ n. HasElement e (tree_of t ns n)) same_member has);
       }
 
-same_number : (a b : PatternNumber) → same.ghosts.eq a b ≡ true → a ≡ b
+pub same_number : (a b : PatternNumber) → same.ghosts.eq a b ≡ true → a ≡ b
 same_number a b e = ap (λ k. record { 0 = k }) ((Decides-eqb a.0 b.0).0 e)
 
 -- skips are those that were there, or those that were put at the number

@@ -1,5 +1,5 @@
 -- A pattern that is put into the table takes what the grammar's pattern takes.
-use Rattle.std.proofs.Common.{◌≡◌, ℕ, zero, suc, ◌+◌, ◌<◌, ◌≤◌, List, [], ◌∷◌, ◌++◌, length, map, get_or, slice_get, slice_index_or, Some, None, refl, sym, ap, ◌∙◌}
+use Rattle.std.proofs.Common.{◌≡◌, ℕ, zero, suc, ◌<◌, ◌≤◌, List, [], ◌∷◌, ◌++◌, length, map, get_or, slice_get, slice_index_or, Some, None, refl, sym, ap, ◌∙◌}
 use Rattle.std.proofs.Common.{◌↔◌, inl, inr, subst, ⊎_elim, arith, All, Contains, length-append}
 use Rattle.std.proofs.lemmas.Bool.{cases_lt}
 use Rattle.std.proofs.lemmas.List.{get_or_append_left, get_or-map, length-map}
@@ -19,7 +19,7 @@ use Rattle.rng_deriv_laws.specs.plain.Taking as t
 use Rattle.rng_deriv_laws.proofs.SamePatterns.{same, same_group, same_interleave, same_repeat, same_through}
 use Rattle.rng_pattern_table.specs.declared.uses.Use.{Use}
 use Rattle.rng_pattern_table.specs.plain.AskedFor.{HasNumber, HasPart, IsNoChoice, IsOwn}
-use Rattle.rng_pattern_table.specs.plain.Kept.{IsChoiceTaken, IsTakenAs, by_members, by_parts, unnumbered}
+use Rattle.rng_pattern_table.specs.plain.Kept.{IsChoiceTaken, IsRegrouped, IsTakenAs, by_members, by_parts, unnumbered}
 use Rattle.rng_pattern_table.specs.views.Choices.{SomeTakes}
 use Rattle.rng_pattern_table.specs.views.Node.{Node}
 use Rattle.rng_pattern_table.specs.views.PatternTable.{Longer}
@@ -156,13 +156,14 @@ row_same t us old new numbers row n g taken below found parts numbered (by_membe
 row_same t us old new numbers row n g taken below found parts numbered (unnumbered first second e none) =
     absurd (⊎_elim (λ plain. subst IsNoChoice e plain) (λ own. none own) (numbered row found))
 
--- one more
-pub one_taken : (t : Table) (us : List Use) (old new : List Node) (numbers more : List PatternNumber) (number : PatternNumber) (row : Simple)
+-- one more, which may be regrouped once it is taken over
+pub one_taken : (t : Table) (us : List Use) (old mid new : List Node) (numbers more : List PatternNumber) (first number : PatternNumber) (row : Simple)
     → AreTakenAt (HasNumber t us) t old numbers → Longer old new
     → more ≡ numbers ++ number ∷ [] → number.0 < length new → AreChildrenBelow (length numbers) row → slice_get t.patterns (length numbers) ≡ Some row
     → tree_at t.patterns (record { 0 = length numbers }) ≡ tree_over (tree_at t.patterns) row → ((k : ℕ) → HasPart row k → IsOwn us k)
-    → IsTakenAs t us numbers (length numbers) row old new number.0 → AreTakenAt (HasNumber t us) t new more
-one_taken t us old new numbers more number row kept longer added inside below found is parts own =
+    → IsTakenAs t us numbers (length numbers) row old mid first.0 → IsRegrouped (tree_of t mid first.0) (tree_of t new number.0)
+    → AreTakenAt (HasNumber t us) t new more
+one_taken t us old mid new numbers more first number row kept longer added inside below found is parts own regrouped =
     subst (AreTakenAt (HasNumber t us) t new) (sym added) (record {
       inside = λ i h. ⊎_elim
           (λ l. let stays = get_or_append_left numbers (number ∷ []) (record { 0 = 0 }) i l in let was = kept.inside i l in
@@ -178,7 +179,8 @@ one_taken t us old new numbers more number row kept longer added inside below fo
           let here : i ≡ length numbers = last i h l in
           subst (λ k. P k i) (sym (at_end i h l)) (subst (P number) (sym here)
           (subst (λ p. Same g (tree_of t new number.0) p) (sym is)
-          (row_same t us old new numbers row number.0 g kept below found parts (subst (HasNumber t us) here has) own))))
+          (same_through g (regrouped.same g)
+          (row_same t us old mid numbers row first.0 g kept below found parts (subst (HasNumber t us) here has) own)))))
           (cases_lt i (length numbers));
     })
   where
@@ -187,6 +189,13 @@ one_taken t us old new numbers more number row kept longer added inside below fo
 
     at_end : (i : ℕ) → i < length (numbers ++ number ∷ []) → length numbers ≤ i → get_or (numbers ++ number ∷ []) i (record { 0 = 0 }) ≡ number
     at_end i h l = ap (λ j. get_or (numbers ++ number ∷ []) j (record { 0 = 0 })) (last i h l) ∙ get_or-append_seam numbers number [] (record { 0 = 0 })
+
+-- each number is below a bound
+pub each_inside : (bound : ℕ) (numbers : List PatternNumber) → ((i : ℕ) → i < length numbers → (slice_index_or numbers i (record { 0 = 0 })).0 < bound)
+    → All (λ n. n.0 < bound) numbers
+each_inside bound [] f k d h = absurd (omega (arith, h))
+each_inside bound (n ∷ ns) f zero d h = f zero (omega arith)
+each_inside bound (n ∷ ns) f (suc k) d h = each_inside bound ns (λ i l. f (suc i) (omega (arith, l))) k d (omega (arith, h))
 
 -- with numbers at fewer positions
 pub taken_where : (Has Fewer : ℕ → Type 0) (t : Table) (ns : List Node) (numbers : List PatternNumber) → ((k : ℕ) → Fewer k → Has k)

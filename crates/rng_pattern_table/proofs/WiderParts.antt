@@ -81,7 +81,7 @@ module _ (P : PatternNumber → Type 0) where
       (λ c. (h.0, Contains-append_right left next h.0 c, h.2))
       (Contains-append_cases (take i ms) next h.0 (subst (λ ns. Contains ns h.0) (take_more ms i d inside) h.1))
 
-  of_two : (m n : PatternNumber) → Some_of (m ∷ n ∷ []) → P m ⊎ P n
+  pub of_two : (m n : PatternNumber) → Some_of (m ∷ n ∷ []) → P m ⊎ P n
   of_two m n h = ⊎_elim (λ c. inl (subst P (sym (only_one m h.0 c)) h.2)) (λ c. inr (subst P (sym (only_one n h.0 c)) h.2))
       (Contains-append_cases (m ∷ []) (n ∷ []) h.0 h.1)
 

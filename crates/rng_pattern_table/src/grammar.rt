@@ -15,6 +15,7 @@ use crate::pattern_table::PatternTable;
 use crate::uses::Uses;
 use rng_model::{OutOfMemory, PatternId, Simple, SimpleGrammar};
 use std::alloc::Global;
+use std::collections::HashMap;
 
 impl PatternTable {
     /// Returns a table with the patterns of a grammar, and a number for each position.
@@ -24,6 +25,8 @@ impl PatternTable {
     /// section 7). A choice that is only a side of another choice has no pattern of its own, so that a choice of many
     /// members costs what its members cost. Fails only when out of memory. The cost is a look-up for each pattern, and a
     /// sort of the members of each choice that has a pattern.
+    ///
+    /// Groups are nested in another way where that puts copies of an option next to each other (`regrouped`).
     pub fn of(
         alloc: Global,
         grammar: &SimpleGrammar,
@@ -35,8 +38,12 @@ impl PatternTable {
         let uses = Uses::of(alloc, grammar)?;
         let mut table = PatternTable::new(alloc);
         let mut numbers = Vec::new(alloc);
+        let mut options = HashMap::new(alloc);
+        // The first number, so that an option has empty as its first member.
+        table.empty()?;
         'rows: while let Some(row) = grammar.pattern(PatternId(numbers.len())) {
             let number = table.take_row(alloc, &uses, numbers.as_slice(), row)?;
+            let number = table.regrouped(&mut options, number)?;
             numbers.push(number)?;
         }
         Ok((table, numbers))

@@ -118,7 +118,7 @@ fn single_skips(
     requires { All (λ m. m.0 < length table.now) members.now }
     ensures { IfOk result (λ skips. AreSkipsOf table.now (map (λ m. m.0) members.now) skips.items) }
 {
-    let mut skips = Vec::new(alloc);
+    let mut skips = Vec::with_capacity(alloc, members.len())?;
     'members: for (position, member) in members.iter().enumerate() {
         skips.push(Skip {
             elements: table.facts(*member).elements,

@@ -67,6 +67,11 @@ pub record KeepsRestrictions (p made : tree.Simple ℕ) : Type 0 where
   pub content : (c : ContentType) → content_type p ≡ Some c → HasContentWithin c made
   pub not_allowed : p ≡ tree.s_not_allowed → made ≡ tree.s_not_allowed
 
+-- a pattern that takes the same as the first one, and obeys the restrictions that it obeys
+pub record IsRegrouped (p made : tree.Simple ℕ) : Type 0 where
+  pub same : (g : Reading) → Same g made p
+  pub kept : KeepsRestrictions p made
+
 -- the patterns of the table with these numbers obey what the grammar's patterns obey, at positions with a property
 abbrev pub AreKeptAt : (ℕ → Type 0) → Table → List Node → List PatternNumber → Type 0
 AreKeptAt Has t ns numbers = (i : ℕ) → i < length numbers → Has i

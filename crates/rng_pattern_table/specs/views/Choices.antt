@@ -1,5 +1,5 @@
 -- The alternatives of several patterns.
-use Rattle.std.specs.Prelude.{◌≡◌, ◌⊎◌, ℕ, ◌<◌, List, Bool, true, false}
+use Rattle.std.specs.Prelude.{◌≡◌, ◌⊎◌, ◌↔◌, ℕ, ◌<◌, List, Bool, true, false}
 use Rattle.std.specs.List.{Contains}
 use Rattle.rng_model.specs.simple.Tree.{Simple, s_not_allowed}
 use Rattle.rng_model.specs.matching.Document.{Attribute, Item}
@@ -39,3 +39,7 @@ pub record IsOnlyMember (ns : List Node) (members : List PatternNumber) (only : 
   pub member : Contains members only
   pub others : (t : Table) (m : PatternNumber) → Contains members m → (m ≡ only) ⊎ (tree_of t ns m.0 ≡ s_not_allowed)
   pub reduced : (t : Table) → IsReducedChoice (tree_of t ns only.0)
+
+-- the whole takes what one of the two takes
+abbrev pub IsEither : Simple ℕ → Simple ℕ → Simple ℕ → Type 0
+IsEither p q whole = (g : Reading) (xs : List Attribute) (ns : List Item) → Takes g whole xs ns ↔ (Takes g p xs ns ⊎ Takes g q xs ns)

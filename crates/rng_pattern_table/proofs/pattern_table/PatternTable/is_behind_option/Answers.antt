@@ -1,10 +1,7 @@
-use Rattle.std.proofs.Common.{Some, ap, arith, subst, ◌∙◌, ◌≡◌, eqb-true, sym, ℕ}
-use Rattle.rng_model.specs.matching.Document.{Attribute, Item}
+use Rattle.std.proofs.Common.{Some, ap, arith, subst, ◌∙◌, eqb-true, sym, ℕ}
 use Rattle.rng_deriv_laws.specs.plain.Taking.{Takes}
-use Rattle.rng_pattern_table.specs.views.Choices.{Covers}
 use Rattle.rng_pattern_table.specs.views.Node.{node_of}
 use Rattle.rng_pattern_table.specs.views.Trees.{tree_of}
-use Rattle.rng_pattern_table.specs.declared.pattern.PatternNumber.{PatternNumber}
 use Rattle.rng_pattern_table.proofs.WiderParts.{second_side_covered}
 use Rattle.rng_pattern_table.proofs.pattern_table.PatternTable.is_behind_option.Goals as goal
 

@@ -1,6 +1,7 @@
 use Rattle.std.proofs.Common.{◌≤◌, ◌-◌, length}
 use Rattle.rng_pattern_table.specs.plain.AskedFor.{HasNumber}
 use Rattle.rng_pattern_table.specs.plain.Kept.{AreKeptAt}
+use Rattle.rng_pattern_table.specs.views.Options.{AreOptions}
 use Rattle.rng_pattern_table.specs.views.Taking.{AreTakenAt}
 use Rattle.rng_pattern_table.proofs.pattern_table.PatternTable.of.Given as goal
 
@@ -9,6 +10,7 @@ invariant-rows l = record {
   within : length l.numbers.items ≤ length l.grammar.patterns;
   taken : AreTakenAt (HasNumber l.grammar l.uses.by_position.items) l.grammar l.table l.numbers.items;
   kept : AreKeptAt (HasNumber l.grammar l.uses.by_position.items) l.grammar l.table l.numbers.items;
+  options : AreOptions l.table l.options;
 }
 
 abbrev pub decreases-rows : goal.decreases-rows

@@ -1,6 +1,5 @@
 use Rattle.std.proofs.Common.{◌<◌, length, subst}
 use Rattle.std.specs.List.{Contains}
-use Rattle.rng_pattern_table.specs.declared.pattern.PatternNumber.{PatternNumber}
 use Rattle.rng_pattern_table.proofs.Choices.{all_within}
 use Rattle.rng_pattern_table.proofs.pattern_table.PatternTable.remove_covered.Goals as goal
 

@@ -7,7 +7,7 @@ use Rattle.rng_pattern_table.specs.plain.Kept.{IsChoiceTaken}
 use Rattle.rng_pattern_table.specs.views.Choices.{IsAlternativeOf, SomeTakes}
 use Rattle.rng_pattern_table.specs.views.Taking.{numbers_at}
 use Rattle.rng_pattern_table.specs.views.Trees.{tree_of}
-use Rattle.rng_pattern_table.proofs.Choices.{both_ok, if_ok}
+use Rattle.rng_pattern_table.proofs.Choices.{both_ok}
 use Rattle.rng_pattern_table.proofs.OpenedChoices.{each_below}
 use Rattle.rng_pattern_table.proofs.Taking.{all_numbers_at}
 use Rattle.rng_pattern_table.proofs.pattern_table.PatternTable.take_choice.Goals as goal

@@ -1,5 +1,4 @@
-use Rattle.std.proofs.Common.{length}
-use Rattle.rng_pattern_table.specs.plain.Kept.{IsChoiceTaken, IsTakenAs, by_members, unnumbered}
+use Rattle.rng_pattern_table.specs.plain.Kept.{by_members, unnumbered}
 use Rattle.rng_pattern_table.proofs.Choices.{if_ok}
 use Rattle.rng_pattern_table.proofs.pattern_table.PatternTable.take_row.Goals as goal
 
