@@ -79,6 +79,7 @@ fn grammar_of_schema(alloc: Global, schema: &[u8]) -> io::Result<SimpleGrammar>
     let bytes = Vec::from_slice(alloc, schema)?;
     match compiled(alloc, &[(name, bytes)]) {
         Ok(grammar) => Ok(grammar),
+        Err(SchemaFault::Memory) => Err(io::Error::from(io::ErrorKind::OutOfMemory)),
         Err(_) => Err(io::Error::from(io::ErrorKind::InvalidData)),
     }
 }
