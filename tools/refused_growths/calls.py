@@ -5,24 +5,27 @@ CRATES is the folder of the crates: the program NAME_cases is NAME_cases/out/NAM
 of `calls.txt`. They make the public calls of the crates.
 
 If a growth was refused, the program must write a beginning of the answer and then report out of memory, with nothing after that. It does so in a line, or
-by its exit status if it had no memory for the case itself. After a refused shrink, the answer is allowed too. The same holds for a few growths of the
-reader of documents, which keeps buffers for later lines only if there is room. test.sh builds the shim and calls this.
+by its exit status if it had no memory for its own work. After a refused shrink, the answer is allowed too. The same holds for a few other growths (SPARED).
+A program that is not built is reported. If the variable RNCV_AFTER_CI is set, that is a failure. test.sh builds the shim and calls this.
 """
 import os
 import pathlib
 import shutil
+import signal
 import sys
 import tempfile
 from urllib.parse import unquote_to_bytes
 
-from rows import HERE, Count, Row, Runner, refuse_each
+from rows import HERE, SECONDS, Count, Row, Runner, refuse_each, too_long
 
 OUT_OF_MEMORY = b"out of memory\n"
-# The beginning of the line by which a command line reports it.
-STATUS = b"ExitCode(unix_exit_status(4)) rncv: "
+# What may stand before it in its line: the status of a command line, and what a program writes that had no memory for the tables of a row.
+BEFORE = b"ExitCode(unix_exit_status(4)) rncv: ", b"no grammar, or ", b"no document, or "
 # The end of a program that had no memory for its own work: exit status and standard error.
 NO_MEMORY = 1, b"Error: Kind(OutOfMemory)\n"
-SPARED = {"pyx_cases": 8, "rng_matcher_cases": 8, "rncv_run_cases": 8, "rncv_cli_cases": 8}
+# How many refused growths of a case, other than shrinks, may leave the answer as it is: buffers of the reader of documents, room that the standard library
+# reserves ahead, and, in rng_rules_cases, what is read of a row and not used.
+SPARED = {"parts_cases": 1, "pyx_cases": 4, "rng_matcher_cases": 3, "rncv_run_cases": 1, "rng_rules_cases": 10}
 
 
 class Case(Row):
@@ -33,7 +36,7 @@ class Case(Row):
         self.program, self.rows, self.spared = program, {}, SPARED.get(program, 0)
 
     def __str__(self):
-        return f"{self.program}: {next(iter(self.rows.values()))[:80]}"
+        return f"{self.program}: {next(iter(self.rows.values())).strip()[:80]}"
 
     def reports(self, answer):
         """Whether a run wrote a beginning of the answer, and then only that it ran out of memory."""
@@ -41,7 +44,10 @@ class Case(Row):
         if (status, errors) == NO_MEMORY:
             return self.wanted[1].startswith(out)
         front = out.removesuffix(OUT_OF_MEMORY)
-        return (status, errors) == (0, b"") and front != out and self.wanted[1].startswith(front.removesuffix(STATUS))
+        is_told = (status, errors) == (0, b"") and front != out
+        for before in BEFORE:
+            front = front.removesuffix(before)
+        return is_told and self.wanted[1].startswith(front)
 
 
 def cases_of(path):
@@ -66,24 +72,31 @@ def lay_out(case, data):
             shutil.copy(path, path.name)
 
 
+def try_case(case, program, shim, count):
+    """Runs a program for a case, in a folder of its own."""
+    with tempfile.TemporaryDirectory() as folder, tempfile.TemporaryDirectory() as room:
+        os.chdir(folder)
+        lay_out(case, program.parents[1] / "data")
+        refuse_each(Runner(program, shim, room), case, count)
+        os.chdir("/")
+
+
 def main(crates, shim):
     """Tries all cases, and returns the exit status."""
-    crates, shim, count, missing = pathlib.Path(crates).resolve(), os.path.abspath(shim), Count(), set()
-    cases = cases_of(HERE / "calls.txt")
-    for case in cases:
+    signal.signal(signal.SIGALRM, too_long)
+    signal.alarm(SECONDS)
+    crates, shim, count, done, missing = pathlib.Path(crates).resolve(), os.path.abspath(shim), Count(), 0, set()
+    for case in cases_of(HERE / "calls.txt"):
         program = crates / case.program / "out" / case.program
-        if not os.access(program, os.X_OK):
+        if os.access(program, os.X_OK):
+            try_case(case, program, shim, count)
+            done += 1
+        else:
             missing.add(case.program)
-            continue
-        with tempfile.TemporaryDirectory() as folder, tempfile.TemporaryDirectory() as room:
-            os.chdir(folder)
-            lay_out(case, crates / case.program / "data")
-            refuse_each(Runner(program, shim, room), case, count)
-            os.chdir("/")
-    for program in sorted(missing):
-        print(f"tools/refused_growths: {program} is not built")
-    print(f"calls: {len(cases)} cases, {count.refused} growths refused, {count.left} of them left the answer, {count.wrong} wrong")
-    return 1 if count.wrong or missing else 0
+    if missing:
+        print(f"tools/refused_growths: not built: {', '.join(sorted(missing))}")
+    print(f"programs of cases: {done} cases, {count.refused} growths refused, {count.left} of them left the answer, {count.wrong} wrong")
+    return 1 if count.wrong or (missing and os.environ.get("RNCV_AFTER_CI")) else 0
 
 
 if __name__ == "__main__":

@@ -2,8 +2,9 @@
 # Runs the built program with each growth of memory refused in turn, on all rows of rows.txt:   tools/refused_growths/test.sh [PROGRAM]
 #
 # PROGRAM is the built rncv, else crates/rncv/out/rncv. The C library runs the same rows (by_library.c); RNCV_LIBRARY names it, else it is in
-# build/library. It needs Python 3, and a C compiler and glibc for the shim (refuse.c). What is missing is reported and skipped. If the variable
-# RNCV_REQUIRED is set, a missing program is a failure.
+# build/library. The programs of cases that `rt ci` built make the public calls of the crates (calls.txt). It needs Python 3, and a C compiler and glibc for
+# the shim (refuse.c). What is missing is reported and skipped. If the variable RNCV_REQUIRED is set, a missing rncv is a failure, and if RNCV_AFTER_CI is
+# set, a missing program of cases.
 set -eu
 here=$(cd "$(dirname "$0")" && pwd)
 program=${1:-$here/../../crates/rncv/out/rncv}
@@ -34,4 +35,5 @@ if [ -f "$library/lib/librncv.a" ]; then
 else
     echo "tools/refused_growths: no librncv in $library: it does not run the rows"
 fi
+python3 -B "$here/calls.py" "$here/../../crates" "$room/refuse.so" || status=1
 exit "$status"
