@@ -1,10 +1,10 @@
 //! Prints the status that `run` returns and what it writes for each row of `data/cases.txt`, `data/sizes.txt` and
 //! `data/files.txt`, with a reader that returns everything at once. Readers that return at most 1, 2, 3 and 4,096 bytes
-//! at a time must give the same; any other result is printed after it. Then it prints a line for each document of
-//! `data/documents.txt`, with a letter for each schema of `data/schemas.txt`: V for valid and I for invalid. If
-//! validators that judge all these documents one after the other, in pieces, differ, their letters follow. Last it prints
-//! for each row of `devices.txt` what a run over devices that fail returns, how many reads and writes failed, how many
-//! bytes are unread, and what is written.
+//! at a time must give the same; any other result is printed after it. For each row of `data/devices.txt` it prints what
+//! a run over devices that fail returns, how many reads and writes failed, how many bytes are unread, and what is
+//! written. Then it prints a line for each document of `data/documents.txt`, with a letter for each schema of
+//! `data/schemas.txt`: V for valid and I for invalid. If validators that judge all these documents one after the other,
+//! in pieces, differ, their letters follow.
 //!
 //! The documents, the schemas and their letters come from a second program, `tools/all_splits`.
 #![tactic(auto)]
@@ -35,6 +35,9 @@ fn main(rt: HostRuntime) -> io::Result<()> {
         let line = line_over(rt.alloc(), &row, files.as_slice(), row.bytes(1)?)?;
         print!(rt; "{line}")?;
     }
+    for row in rows(&rt, "devices.txt")? {
+        print_over_devices(&rt, &row)?;
+    }
     let schemas = rows(&rt, "schemas.txt")?;
     let mut validators = validators_of(rt.alloc(), schemas.as_slice())?;
     for document in rows(&rt, "documents.txt")? {
@@ -44,9 +47,6 @@ fn main(rt: HostRuntime) -> io::Result<()> {
         if letters.as_str() != others.as_str() {
             println!(rt; "by validators {others}")?;
         }
-    }
-    for row in rows(&rt, "devices.txt")? {
-        print_over_devices(&rt, &row)?;
     }
     Ok(())
 }
