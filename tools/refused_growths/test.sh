@@ -23,17 +23,30 @@ compiled() {
 }
 compiled -shared -fPIC -o "$room/refuse.so" "$here/refuse.c"
 
+# beside NAME COMMAND..: runs a command beside the others. What it prints goes to the file NAME, and its status to NAME.status
+beside() {
+    name=$1
+    shift
+    { status=0; "$@" > "$room/$name" 2>&1 || status=$?; echo "$status" > "$room/$name.status"; } &
+}
 if [ -x "$program" ]; then
-    python3 -B "$here/rows.py" "$program" "$room/refuse.so" || status=1
+    beside program python3 -B "$here/rows.py" "$program" "$room/refuse.so"
 else
     echo "tools/refused_growths: no program at $program"
     [ -z "${RNCV_REQUIRED:-}" ] || status=1
 fi
 if [ -f "$library/lib/librncv.a" ]; then
     compiled -I"$library/include" -o "$room/by_library" "$here/by_library.c" "$library/lib/librncv.a" -lpthread
-    python3 -B "$here/rows.py" "$room/by_library" "$room/refuse.so" || status=1
+    beside library python3 -B "$here/rows.py" "$room/by_library" "$room/refuse.so"
 else
     echo "tools/refused_growths: no librncv in $library: it does not run the rows"
 fi
-python3 -B "$here/calls.py" "$here/../../crates" "$room/refuse.so" || status=1
+beside cases python3 -B "$here/calls.py" "$here/../../crates" "$room/refuse.so"
+wait
+for name in program library cases; do
+    if [ -f "$room/$name.status" ]; then
+        cat "$room/$name"
+        [ "$(cat "$room/$name.status")" = 0 ] || status=1
+    fi
+done
 exit "$status"
