@@ -35,6 +35,10 @@ class Row:
     def __str__(self):
         return " ".join(os.fsdecode(word) for word in self.words)[:60]
 
+    def reports(self, answer):
+        """Whether a run answered that it ran out of memory, and nothing else."""
+        return answer == NO_MEMORY
+
     @classmethod
     def read(cls, line):
         """The row in a line of `rows.txt`."""
@@ -83,7 +87,7 @@ class Count:
         if answer == row.wanted and (letter == b"s" or row.spared > 0):
             self.left += 1
             row.spared -= letter == b"g"
-        elif answer != NO_MEMORY:
+        elif not row.reports(answer):
             self.wrong += 1
             print(f"growth {growth} ({letter.decode()}) of {row}: {answer}, and not out of memory")
 

@@ -2,8 +2,9 @@
 # Runs the built program with each growth of memory refused in turn, on all rows of rows.txt:   tools/refused_growths/test.sh [PROGRAM]
 #
 # PROGRAM is the built rncv, else crates/rncv/out/rncv. The C library runs the same rows (by_library.c); RNCV_LIBRARY names it, else it is in
-# build/library. It needs Python 3, and a C compiler and glibc for the shim (refuse.c). What is missing is reported and skipped. If the variable
-# RNCV_REQUIRED is set, a missing program is a failure.
+# build/library. The programs of cases that `rt ci` built make the public calls of the crates (calls.txt). It needs Python 3, and a C compiler and glibc for
+# the shim (refuse.c). What is missing is reported and skipped. If the variable RNCV_REQUIRED is set, a missing rncv is a failure, and if RNCV_AFTER_CI is
+# set, a missing program of cases.
 set -eu
 here=$(cd "$(dirname "$0")" && pwd)
 program=${1:-$here/../../crates/rncv/out/rncv}
@@ -22,16 +23,30 @@ compiled() {
 }
 compiled -shared -fPIC -o "$room/refuse.so" "$here/refuse.c"
 
+# beside NAME COMMAND..: runs a command beside the others. What it prints goes to the file NAME, and its status to NAME.status
+beside() {
+    name=$1
+    shift
+    { status=0; "$@" > "$room/$name" 2>&1 || status=$?; echo "$status" > "$room/$name.status"; } &
+}
 if [ -x "$program" ]; then
-    python3 -B "$here/rows.py" "$program" "$room/refuse.so" || status=1
+    beside program python3 -B "$here/rows.py" "$program" "$room/refuse.so"
 else
     echo "tools/refused_growths: no program at $program"
     [ -z "${RNCV_REQUIRED:-}" ] || status=1
 fi
 if [ -f "$library/lib/librncv.a" ]; then
     compiled -I"$library/include" -o "$room/by_library" "$here/by_library.c" "$library/lib/librncv.a" -lpthread
-    python3 -B "$here/rows.py" "$room/by_library" "$room/refuse.so" || status=1
+    beside library python3 -B "$here/rows.py" "$room/by_library" "$room/refuse.so"
 else
     echo "tools/refused_growths: no librncv in $library: it does not run the rows"
 fi
+beside cases python3 -B "$here/calls.py" "$here/../../crates" "$room/refuse.so"
+wait
+for name in program library cases; do
+    if [ -f "$room/$name.status" ]; then
+        cat "$room/$name"
+        [ "$(cat "$room/$name.status")" = 0 ] || status=1
+    fi
+done
 exit "$status"

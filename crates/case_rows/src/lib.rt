@@ -4,10 +4,12 @@
 //! are not rows. In a field `%` with two hexadecimal digits is a byte, so a field can hold any bytes.
 #![tactic(auto)]
 
+mod devices;
 mod file;
 mod row;
 mod schema_files;
 
+pub use devices::{Pace, Sink, Source};
 pub use file::rows;
 pub use row::Row;
 pub use schema_files::files_of;

@@ -56,10 +56,10 @@ fn print_judged(
     requires { IfSome grammar.now (λ g. All IsOfFirstKind g.patterns) }
 {
     let Some(grammar) = grammar else {
-        return println!(rt; "no grammar");
+        return println!(rt; "no grammar, or out of memory");
     };
     let Some(root) = read_document(rt.alloc(), lines) else {
-        return println!(rt; "no document");
+        return println!(rt; "no document, or out of memory");
     };
     if !is_well_formed(&root) {
         return println!(rt; "not well formed");

@@ -49,5 +49,8 @@ fn print_overlap(
     let second = class_in(rt.alloc(), second)?;
     let there = overlap(rt.alloc(), first, &second);
     let back = overlap(rt.alloc(), &second, first);
-    println!(rt; "{there:?} {back:?}")
+    match (there, back) {
+        (Ok(there), Ok(back)) => println!(rt; "{there} {back}"),
+        _ => println!(rt; "out of memory"),
+    }
 }

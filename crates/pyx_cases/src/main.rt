@@ -3,7 +3,8 @@
 //!
 //! A row is a document. Or it is a front, a count, a part that is repeated so often, and an end, where the part may
 //! have the same form. It prints the events with their lines, then the number of bytes held before the end if there are
-//! some, and then the outcome. For pieces of other sizes it only prints whether the result differs.
+//! some, and then the outcome. For pieces of other sizes it only prints whether the result differs. After a fault it
+//! calls the reader again, and an answer other than the fault is the outcome.
 #![tactic(auto)]
 
 ghost use Rattle.std.specs.Prelude.{◌<◌};
@@ -76,6 +77,9 @@ const DOCUMENT_LIMIT: u64 = 1 << 40;
 
 const PIECE_LIMIT: usize = 1 << 20;
 
+/// The outcome of a document for which there was no memory.
+const OUT_OF_MEMORY: &str = "out of memory";
+
 fn read(
     alloc: Global,
     document: &[u8],
@@ -90,10 +94,46 @@ fn read(
         if reader.fed() > DOCUMENT_LIMIT || piece.len() > PIECE_LIMIT {
             return Err(PyxFault::Memory);
         }
-        reader.feed(piece, log)?;
+        if let Err(fault) = reader.feed(piece, log) {
+            return answer_after(reader, fault, log, held);
+        }
     }
     *held = reader.held();
     reader.finish(log)
+}
+
+/// Returns what a reader answers after a fault: the same fault, by each call, and nothing is held. Any other answer is
+/// returned in its place.
+fn answer_after(
+    mut reader: Reader,
+    fault: PyxFault,
+    log: &mut Log,
+    held: &mut u64,
+) -> Result<(), PyxFault> {
+    if reader.fed() > DOCUMENT_LIMIT {
+        return Err(PyxFault::Memory);
+    }
+    *held = reader.held();
+    let again = reader.feed(b"(a\n)a\n", log);
+    if !is_fault(again, fault) {
+        return again;
+    }
+    reader.finish(log)
+}
+
+/// Returns whether an answer is this fault.
+fn is_fault(answer: Result<(), PyxFault>, fault: PyxFault) -> bool {
+    match (answer, fault) {
+        (Err(PyxFault::Memory), PyxFault::Memory) => true,
+        (
+            Err(PyxFault::At { clause, line }),
+            PyxFault::At {
+                clause: wanted,
+                line: at,
+            },
+        ) => clause == wanted && line == at,
+        _ => false,
+    }
 }
 
 /// What the reader hands out and returns.
@@ -116,7 +156,7 @@ fn answer_to(alloc: Global, document: &[u8], size: usize) -> io::Result<Answer>
     let outcome = match read(alloc, document, size, &mut log, &mut held) {
         Ok(()) => format!(in alloc; "document")?,
         Err(PyxFault::At { clause, line }) => format!(in alloc; "P{clause} line {line}")?,
-        Err(PyxFault::Memory) => format!(in alloc; "out of memory")?,
+        Err(PyxFault::Memory) => String::from_str(alloc, OUT_OF_MEMORY)?,
     };
     Ok(Answer {
         events: log.text,
@@ -168,6 +208,9 @@ fn document_of(alloc: Global, row: &Row) -> io::Result<Vec<u8>> {
 fn print_answer(rt: &(impl Print + AllocGlobal), document: &[u8]) -> io::Result<()> {
     let whole = answer_to(rt.alloc(), document, 4096)?;
     let outcome = whole.outcome.as_str();
+    if outcome == OUT_OF_MEMORY {
+        return println!(rt; "{OUT_OF_MEMORY}");
+    }
     if whole.events.len() > 2000 {
         println!(rt; ".. {outcome}")?;
     } else if whole.held > 0 {
@@ -177,6 +220,9 @@ fn print_answer(rt: &(impl Print + AllocGlobal), document: &[u8]) -> io::Result<
     }
     for size in 1..4 {
         let pieces = answer_to(rt.alloc(), document, size)?;
+        if pieces.outcome.as_str() == OUT_OF_MEMORY {
+            return println!(rt; "{OUT_OF_MEMORY}");
+        }
         if pieces != whole {
             println!(rt; "in pieces of {size}: {}{}", pieces.events, pieces.outcome)?;
         }

@@ -1,33 +1,23 @@
 //! Prints the status that `run` returns and what it writes for each row of `data/cases.txt`, `data/sizes.txt` and
 //! `data/files.txt`, with a reader that returns everything at once. Readers that return at most 1, 2, 3 and 4,096 bytes
-//! at a time must give the same; any other result is printed after it. Then it prints a line for each document of
-//! `data/documents.txt`, with a letter for each schema of `data/schemas.txt`: V for valid and I for invalid. If
-//! validators that judge all these documents one after the other, in pieces, differ, their letters follow.
+//! at a time must give the same; any other result is printed after it. For each row of `data/devices.txt` it prints what
+//! a run over devices that fail returns, how many reads and writes failed, how many bytes are unread, and what is
+//! written. Then it prints a line for each document of `data/documents.txt`, with a letter for each schema of
+//! `data/schemas.txt`: V for valid and I for invalid. If validators that judge all these documents one after the other,
+//! in pieces, differ, their letters follow.
 //!
 //! The documents, the schemas and their letters come from a second program, `tools/all_splits`.
 #![tactic(auto)]
 
-use case_rows::{Row, rows};
+mod failures;
+
+use case_rows::{Pace, Row, Source, rows};
+use failures::print_over_devices;
 use rncv_run::{Command, Status, run};
 use rncv_validator::{Validator, Verdict};
 use rng_model::Device;
 use std::alloc::Global;
 use std::io;
-use std::io::Read;
-
-/// A reader that returns a few bytes in each call.
-#[derive(Drop)]
-struct Pieces<'a> {
-    bytes: &'a [u8],
-    most: usize,
-}
-
-impl Read for Pieces<'_> {
-    fn read(&mut self, buf: &mut [u8]) -> io::Result<usize> {
-        let most = self.most.min(buf.len());
-        self.bytes.read(&mut buf[..most])
-    }
-}
 
 fn main(rt: HostRuntime) -> io::Result<()> {
     for row in rows(&rt, "cases.txt")? {
@@ -41,9 +31,12 @@ fn main(rt: HostRuntime) -> io::Result<()> {
         print!(rt; "{line}")?;
     }
     for row in rows(&rt, "files.txt")? {
-        let files = files_of(rt.alloc(), &row)?;
+        let files = files_of(rt.alloc(), &row, 2)?;
         let line = line_over(rt.alloc(), &row, files.as_slice(), row.bytes(1)?)?;
         print!(rt; "{line}")?;
+    }
+    for row in rows(&rt, "devices.txt")? {
+        print_over_devices(&rt, &row)?;
     }
     let schemas = rows(&rt, "schemas.txt")?;
     let mut validators = validators_of(rt.alloc(), schemas.as_slice())?;
@@ -70,10 +63,7 @@ fn outcome(
         return Err(io::Error::from(io::ErrorKind::InvalidData));
     }
     let mut written = Vec::new(alloc);
-    let mut input = Device::new(Pieces {
-        bytes: document,
-        most,
-    });
+    let mut input = Device::new(Source::new(document, Pace::of(most)));
     let mut output = Device::new(&mut written);
     match run(alloc, command, files, &mut input, &mut output) {
         Ok(status) => Ok((status, written)),
@@ -89,10 +79,10 @@ fn file_of(alloc: Global, name: &str, schema: &[u8]) -> io::Result<(String, Vec<
     ))
 }
 
-/// Returns the files from the third field on.
-fn files_of(alloc: Global, row: &Row) -> io::Result<Vec<(String, Vec<u8>)>> {
+/// Returns the files from a field on.
+fn files_of(alloc: Global, row: &Row, first: usize) -> io::Result<Vec<(String, Vec<u8>)>> {
     let mut files = Vec::new(alloc);
-    for field in (2..row.field_count()).step_by(3) {
+    for field in (first..row.field_count()).step_by(3) {
         let mut bytes = Vec::new(alloc);
         for _ in 0..times_of(row, field.wrapping_add(2)) {
             bytes.extend_from_slice(row.bytes(field.wrapping_add(1))?)?;
@@ -109,6 +99,15 @@ fn line_of(alloc: Global, row: &Row, schema: &[u8], document: &[u8]) -> io::Resu
     line_over(alloc, row, &[file], document)
 }
 
+/// Returns the command at the start of a row.
+fn command_of(row: &Row) -> io::Result<Command> {
+    Ok(match row.text(0)? {
+        "check" => Command::Check,
+        "simple" => Command::Simple,
+        _ => Command::Valid,
+    })
+}
+
 /// Returns the status and the output of a run, with the command at the start of a row.
 fn line_over(
     alloc: Global,
@@ -116,11 +115,7 @@ fn line_over(
     files: &[(String, Vec<u8>)],
     document: &[u8],
 ) -> io::Result<String> {
-    let command = match row.text(0)? {
-        "check" => Command::Check,
-        "simple" => Command::Simple,
-        _ => Command::Valid,
-    };
+    let command = command_of(row)?;
     let mut lines = line_by(alloc, command, files, document, usize::MAX)?;
     for most in [1, 2, 3, 4096] {
         let other = line_by(alloc, command, files, document, most)?;

@@ -38,11 +38,15 @@ fn print_place(rt: &(impl Print + AllocGlobal), row: &Row) -> io::Result<()> {
         }
     }
     for clause in 0..=9 {
-        if let Ok(Some(place)) = place_of(rt.alloc(), file.as_slice(), clause) {
-            return println!(rt;
-                "S{clause} {} {}:{}",
-                place.offset, place.line, place.column
-            );
+        match place_of(rt.alloc(), file.as_slice(), clause) {
+            Ok(None) => {}
+            Ok(Some(place)) => {
+                return println!(rt;
+                    "S{clause} {} {}:{}",
+                    place.offset, place.line, place.column
+                );
+            }
+            Err(OutOfMemory) => return println!(rt; "out of memory"),
         }
     }
     println!(rt; "none")

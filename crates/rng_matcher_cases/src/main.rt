@@ -1,16 +1,18 @@
-//! Prints what the matcher returns for each row of `cases.txt`. Then it prints a line for each document of
+//! Prints what the matcher returns for each row of `cases.txt`. A matcher that begins anew must return the same; any other
+//! outcome is printed after it. Then it prints a line for each document of
 //! `documents.txt`, with a letter for each schema of `schemas.txt`: V for valid and I for invalid.
 //!
 //! A row of `cases.txt` has a schema and a document, possibly in pieces, each followed by how often it is repeated. The
 //! schemas of `schemas.txt`, the documents and their letters come from a second program, `tools/all_splits`.
 #![tactic(auto)]
 
+mod watched;
+
 ghost use Rattle.std.specs.Prelude.{All, IfOk};
 ghost use Rattle.rng_model.specs.restrictions.BreaksNone.{BreaksNone};
 ghost use Rattle.rng_model.specs.simple.Table.{grammar_of};
 
 use case_rows::{Row, rows};
-use pyx::Reader;
 use rng_deriv::{Matcher, Outcome};
 use rng_load::load;
 use rng_model::{SchemaFault, SimpleGrammar};
@@ -18,9 +20,7 @@ use rng_rules::restrict;
 use rng_simple::simplify;
 use std::alloc::Global;
 use std::io;
-
-/// The most bytes that a document may have.
-const DOCUMENT_LIMIT: usize = 1 << 30;
+use watched::taken;
 
 fn main(rt: HostRuntime) -> io::Result<()> {
     for row in rows(&rt, "cases.txt")? {
@@ -38,7 +38,19 @@ fn main(rt: HostRuntime) -> io::Result<()> {
 fn print_case(rt: &(impl Print + AllocGlobal), row: &Row) -> io::Result<()> {
     let grammar = grammar_of_schema(rt.alloc(), row.bytes(0)?)?;
     let document = joined(rt.alloc(), row)?;
-    match judged(rt.alloc(), &grammar, document.as_slice())? {
+    let outcome = judged(rt.alloc(), &grammar, document.as_slice(), false)?;
+    print_outcome(rt, outcome)?;
+    let again = judged(rt.alloc(), &grammar, document.as_slice(), true)?;
+    if again != outcome {
+        print!(rt; "anew: ")?;
+        print_outcome(rt, again)?;
+    }
+    Ok(())
+}
+
+/// Prints an outcome.
+fn print_outcome(rt: &impl Print, outcome: Outcome) -> io::Result<()> {
+    match outcome {
         Outcome::Valid => println!(rt; "valid"),
         Outcome::Invalid(line) => println!(rt; "invalid line {line}"),
     }
@@ -67,6 +79,7 @@ fn grammar_of_schema(alloc: Global, schema: &[u8]) -> io::Result<SimpleGrammar>
     let bytes = Vec::from_slice(alloc, schema)?;
     match compiled(alloc, &[(name, bytes)]) {
         Ok(grammar) => Ok(grammar),
+        Err(SchemaFault::Memory) => Err(io::Error::from(io::ErrorKind::OutOfMemory)),
         Err(_) => Err(io::Error::from(io::ErrorKind::InvalidData)),
     }
 }
@@ -92,21 +105,30 @@ fn grammars_of(alloc: Global, schemas: &[Row]) -> io::Result<Vec<SimpleGrammar>>
     Ok(grammars)
 }
 
-/// Returns the outcome of a document.
-fn judged(alloc: Global, grammar: &SimpleGrammar, document: &[u8]) -> io::Result<Outcome>
+/// Returns the outcome of a document, for a new matcher or for one that begins anew after it judged the document.
+fn judged(
+    alloc: Global,
+    grammar: &SimpleGrammar,
+    document: &[u8],
+    anew: bool,
+) -> io::Result<Outcome>
     requires { BreaksNone (grammar_of grammar.now) }
 {
-    let bad = io::ErrorKind::InvalidData;
-    let Ok(mut matcher) = Matcher::new(alloc, grammar) else {
+    let Ok(matcher) = Matcher::new(alloc, grammar) else {
         return Err(io::Error::from(io::ErrorKind::OutOfMemory));
     };
-    let mut reader = Reader::new(alloc);
-    if document.len() > DOCUMENT_LIMIT || reader.feed(document, &mut matcher).is_err() {
-        return Err(io::Error::from(bad));
+    let matcher = taken(alloc, matcher, document, anew)?;
+    if !anew {
+        return ended(matcher);
     }
-    if reader.finish(&mut matcher).is_err() {
-        return Err(io::Error::from(bad));
-    }
+    let Ok(matcher) = matcher.begin_anew() else {
+        return Err(io::Error::from(io::ErrorKind::OutOfMemory));
+    };
+    ended(taken(alloc, matcher, document, anew)?)
+}
+
+/// Returns the outcome of a matcher that has taken all events.
+fn ended(matcher: Matcher<'_>) -> io::Result<Outcome> {
     match matcher.finish() {
         Ok(outcome) => Ok(outcome),
         Err(_) => Err(io::Error::from(io::ErrorKind::OutOfMemory)),
@@ -119,7 +141,7 @@ fn letters_of(alloc: Global, grammars: &[SimpleGrammar], document: &[u8]) -> io:
 {
     let mut letters = String::new(alloc);
     'grammars: for grammar in grammars {
-        letters.push(match judged(alloc, grammar, document)? {
+        letters.push(match judged(alloc, grammar, document, false)? {
             Outcome::Valid => 'V',
             Outcome::Invalid(_) => 'I',
         })?;

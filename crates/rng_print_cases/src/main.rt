@@ -43,7 +43,7 @@ fn print_case(rt: &(impl Print + AllocGlobal), row: &Row) -> io::Result<()> {
 /// Prints the text of the grammar with these tables, and whether it is printed as the same text.
 fn print_table(rt: &(impl Print + AllocGlobal), count: &str, tables: &str) -> io::Result<()> {
     let Some(grammar) = read_grammar(rt.alloc(), count, tables) else {
-        return println!(rt; "no grammar");
+        return println!(rt; "no grammar, or out of memory");
     };
     print_answer(rt, "text", text_of_grammar(rt.alloc(), &grammar))
 }

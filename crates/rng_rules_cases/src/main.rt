@@ -19,7 +19,7 @@ fn main(rt: HostRuntime) -> io::Result<()> {
 /// Prints the result for a grammar.
 fn print_answer(rt: &(impl Print + AllocGlobal), count: &str, tables: &str) -> io::Result<()> {
     let Some(grammar) = read_grammar(rt.alloc(), count, tables) else {
-        return println!(rt; "no grammar");
+        return println!(rt; "no grammar, or out of memory");
     };
     match restrict(rt.alloc(), &grammar) {
         Ok(()) => println!(rt; "ok"),

@@ -130,6 +130,7 @@ def main():
             sys.exit(f"{command} {files} {document[:200]}: {answer!r}, but the program answers {left[:80]!r}")
         left = left[len(answer) :]
         count += 1
+    left = left.split("\n", len(list(rows("devices.txt"))))[-1]  # the lines of devices that fail, of which C has none
     for answer in letters(program, [*rows("schemas.txt")]):
         if not left.startswith(answer):
             sys.exit(f"document {count}: {answer!r}, but the program answers {left[:80]!r}")
