@@ -1,6 +1,7 @@
 mod RestsOfWays
 mod LeafKinds
 mod ListPieces
+mod JoinedRests
 mod TagAttributes
 mod SettledRests
 mod PlannedRests

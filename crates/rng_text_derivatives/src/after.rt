@@ -5,10 +5,11 @@ ghost use Rattle.rng_model.specs.datatypes.Blanks.{pieces};
 ghost use Rattle.rng_model.specs.documents.DocumentViews.{attribute_of};
 ghost use Rattle.rng_model.specs.matching.Document.{a_text};
 ghost use Rattle.rng_model.specs.matching.GrammarReading.{reading_of};
-ghost use Rattle.rng_model.specs.simple.Table.{tree_at};
+ghost use Rattle.rng_model.specs.matching.Reading.{Reading};
+ghost use Rattle.rng_model.specs.simple.Table.{Table, tree_at};
 ghost use Rattle.rng_deriv_laws.specs.plain.LevelStates.{IsAfterText};
 ghost use Rattle.rng_deriv_laws.specs.plain.Restricted.{IsRestricted, MayBeListed};
-ghost use Rattle.rng_deriv_laws.specs.plain.Taking.{Takes, WeaklyTakes};
+ghost use Rattle.rng_deriv_laws.specs.plain.Taking.{Same, Takes, WeaklyTakes};
 ghost use Rattle.rng_pattern_table.specs.plain.AskedFor.{IsAskedFor};
 ghost use Rattle.rng_pattern_table.specs.declared.pattern.PatternNumber.{PatternNumber};
 ghost use Rattle.rng_pattern_table.specs.views.PatternTable.{Longer};
@@ -39,6 +40,7 @@ use rng_pattern_derivatives::{
 };
 use rng_pattern_table::{Pattern, PatternNumber, PatternTable};
 use smallvec::SmallVec;
+use std::alloc::Global;
 
 /// Returns the ways of a pattern to take this first, and whatever else is asked in the same way.
 fn ways_for(
@@ -149,9 +151,52 @@ pub fn after_tag(
 {
     let mut rest = number;
     'attrs: for attr in attrs {
-        rest = after(context, table, known, First::Attribute(attr), rest)?;
+        rest = after_attribute(context, table, known, attr, rest)?;
     }
     close(context.alloc, table, &mut known.rests, rest)
+}
+
+/// Returns what is left of a pattern after an attribute. If that is two alternatives, and they have a side in common,
+/// they are joined.
+fn after_attribute(
+    context: &Context,
+    table: &mut PatternTable,
+    known: &mut Known,
+    attr: &Attr,
+    number: PatternNumber,
+) -> Result<PatternNumber, OutOfMemory>
+    requires inside { number.0 < length table.old }
+    requires ready { IsReady context.now.grammar.now table.old context.now.numbers.now }
+    requires known { AreAllKnown context.now.grammar.now context.now.keys.now table.old known.old }
+    ensures longer { OnOk result (Longer table.old table.new) }
+    ensures known { OnOk result (AreAllKnown context.now.grammar.now context.now.keys.now table.new known.new) }
+    ensures left { IfOk result (IsLeft context.now.grammar.now table.old table.new (firsts.Attribute attr.entry) number) }
+{
+    let rest = after(context, table, known, First::Attribute(attr), number)?;
+    with_sides_joined(context.alloc, table, rest)
+}
+
+/// Returns a pattern that takes the same as this one. A choice of two that have a side in common becomes one group or
+/// interleave.
+fn with_sides_joined(
+    alloc: Global,
+    table: &mut PatternTable,
+    number: PatternNumber,
+) -> Result<PatternNumber, OutOfMemory>
+    requires { number.0 < length table.old }
+    ensures longer { OnOk result (Longer table.old table.new) }
+    ensures inside { IfOk result (λ n. n.0 < length table.new) }
+    ensures same { IfOk result (λ n. (t : Table) (g : Reading) → Same g (tree_of t table.new n.0) (tree_of t table.old number.0)) }
+    ensures restricted { IfOk result (λ n. (t : Table) → IsRestricted (tree_of t table.old number.0) → IsRestricted (tree_of t table.new n.0)) }
+{
+    let Pattern::Choice(members) = table.pattern(number) else {
+        return Ok(number);
+    };
+    let [first, second] = members.as_slice() else {
+        return Ok(number);
+    };
+    let (first, second) = (*first, *second);
+    table.joined(alloc, &[first, second])
 }
 
 /// Returns what is left of a pattern after this.

@@ -6,13 +6,13 @@ use Rattle.rng_pattern_derivatives.proofs.StartBodies.{ready_longer}
 use Rattle.rng_text_derivatives.proofs.TagAttributes.{one_behind_more, tag_behind}
 use Rattle.rng_text_derivatives.proofs.after.after_tag.Goals as goal
 
-pub after-requires-clause-ready : goal.after-requires-clause-ready
-after-requires-clause-ready c =
+pub after_attribute-requires-clause-ready : goal.after_attribute-requires-clause-ready
+after_attribute-requires-clause-ready c =
     ready_longer c.args.context.now.grammar.now c.args.table.now c.attrs.table c.args.context.now.numbers.now c.attrs.invariant.behind.longer c.requires.ready
 
 pub attrs-preserved : goal.attrs-preserved
 attrs-preserved c = record {
-  behind = one_behind_more c.args.context.now.grammar.now c.args.table.now c.attrs.table c.after.new.table c.args.attrs.now c.attrs.attr-index c.attr-item.result _
+  behind = one_behind_more c.args.context.now.grammar.now c.args.table.now c.attrs.table c.after_attribute.new.table c.args.attrs.now c.attrs.attr-index c.attr-item.result _
       c.args.number c.attrs.rest c.in_ok-rest.rest c.attrs-test.true c.attrs.invariant.behind c.in_ok-rest.ensures.longer (search rules) c.in_ok-rest.ensures.left;
   known = c.in_ok-rest.ensures.known;
 }
@@ -25,8 +25,8 @@ returns-clause-after c =
     if_ok c.close.result _ _ (λ n h. tag_behind c.args.context.now.grammar.now c.args.table.now c.attrs.table c.close.new.table c.args.attrs.now
     c.attrs.attr-index c.args.number c.attrs.rest n c.attrs-test.false c.attrs.invariant.behind h) c.close.ensures.closed
 
-pub after-requires-clause-known : goal.after-requires-clause-known
-after-requires-clause-known c = c.attrs.invariant.known
+pub after_attribute-requires-clause-known : goal.after_attribute-requires-clause-known
+after_attribute-requires-clause-known c = c.attrs.invariant.known
 
 pub returns-clause-known : goal.returns-clause-known
 returns-clause-known c =
