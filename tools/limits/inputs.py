@@ -163,6 +163,12 @@ def long_group(factor):
     return [f"element doc {{ {members} }}"], root("".join(f"({short(i)}\n){short(i)}\n" for i in range(count)))
 
 
+def two_bodies_in_each_side(factor):
+    count = max(1, int(16 * factor))
+    sides = " & ".join(f"((element a{i} {{ empty }}, element b{i} {{ empty }}) | (element a{i} {{ text }}, element c{i} {{ empty }}))" for i in range(count))
+    return [f"element doc {{ {sides} }}"], root("".join(f"({name}{i}\n){name}{i}\n" for name in "ac" for i in range(count)))
+
+
 def other_bodies(factor):
     count = int(900 * factor)
     members = ", ".join(f"element b {{ text, element c{i} {{ empty }}? }}?" for i in range(count))
@@ -340,6 +346,10 @@ ROWS = [
     ("300 levels `(x, x) | (x, c?) | x` over `b`, 100 children", "valid", None, levels(300, "(#, #) | (#, c?) | #", "element b { empty }", 100)),
     ("300 levels `(x, x) | (x, c?) | x` over `b?`, 100 children", "valid", None, levels(300, "(#, #) | (#, c?) | #", "element b { empty }?", 100)),
     ("60 levels `(x, x?)` over `b`, 300 children", "valid", None, levels(60, "(#, #?)", "element b { empty }", 300)),
+    ("60 levels `(x?, x)` over `b`, 300 children", "valid", None, levels(60, "(#?, #)", "element b { empty }", 300)),
+    ("60 levels `(x, x?, x?)` over `b`, 300 children", "valid", None, levels(60, "(#, #?, #?)", "element b { empty }", 300)),
+    ("60 levels `(x, (x, x?)?)` over `b`, 300 children", "valid", None, levels(60, "(#, (#, #?)?)", "element b { empty }", 300)),
+    ("16 sides `((ai, bi) | (ai, ci))`, interleaved, the bodies of `ai` different", "valid", None, two_bodies_in_each_side),
     ("a group of 2,000, and as many children", "valid", None, long_group),
     ("900 members of one name with different bodies, and as many children", "valid", None, other_bodies),
     ("2,000 tags of 255 declarations, the last with two of one prefix", "valid", None, prefix_declared_twice),
