@@ -2,6 +2,8 @@
 
 The function takes a factor: 1, or a tenth for quick runs. It returns the texts of the files, which are named f0.rnc, f1.rnc and so on, and the document.
 """
+import random
+
 MEBIBYTE = 1_048_576
 LIST = 500
 DIGITS = "0123456789abcdefghijklmnopqrstuvwxyz"
@@ -150,6 +152,52 @@ def levels(count, rule, last, children):
         size = int(count * factor)
         rules = "".join(f"x{i} = {rule.replace('#', f'x{i + 1}')}\n" for i in range(size))
         return [f"start = element doc {{ x0 }}\n{rules}x{size} = {last}\nc = element c {{ empty }}\n"], root("(b\n)b\n" * int(children * factor))
+    return make
+
+
+def children(names):
+    return "".join(f"({name}\n){name}\n" for name in names)
+
+
+def defined(names):
+    return "".join(f"{name} = element {name} {{ empty }}\n" for name in names)
+
+
+def levels_over_two(rule, count, pairs):
+    """Definitions, each made from the next one by the rule, the innermost `b, c?`, and a document of children `b` and `c` in turn."""
+    def make(factor):
+        [schema], _ = levels(count, rule, "(b, c?)", 0)(factor)
+        return [schema + defined("b")], root(children("bc" * int(pairs * factor)))
+    return make
+
+
+def members_behind_a_repetition(members, count):
+    """A list of `a | b` behind `(a | b)*, a`, and a document of random children. Half of the members are alternatives behind each child."""
+    def make(factor):
+        behind = lists(",", ["(a | b)"] * int(members * factor))
+        chance = random.Random(1)
+        return ([f"start = element doc {{ (a | b)*, a, {behind or 'empty'} }}\n{defined('ab')}"],
+                root(children(chance.choice("ab") for _ in range(int(count * factor)))))
+    return make
+
+
+def sides_of_two_bodies(count):
+    """An interleave, where two elements of one name with different bodies begin each side, and a document that suits both."""
+    def make(factor):
+        numbers = range(max(1, int(count * factor)))
+        sides = " & ".join(f"((element a{i} {{ empty }}, b{i}) | (element a{i} {{ text }}, c{i}))" for i in numbers)
+        schema = f"start = element doc {{ {sides} }}\n" + defined(f"{name}{i}" for name in "bc" for i in numbers)
+        return [schema], root(children(f"{name}{i}" for name in "ac" for i in numbers))
+    return make
+
+
+def sides_of_two_attributes(count, sign):
+    """Sides that two attributes of one name begin, with different values, and a document that suits both."""
+    def make(factor):
+        numbers = range(max(1, int(count * factor)))
+        sides = sign.join(f'((attribute a{i} {{ "1" }}, b{i}?) | (attribute a{i} {{ text }}, c{i}?))' for i in numbers)
+        schema = f"start = element doc {{ {sides} }}\n" + defined(f"{name}{i}" for name in "bc" for i in numbers)
+        return [schema], root("".join(f"Aa{i} 1\n" for i in numbers) + children(f"c{i}" for i in numbers))
     return make
 
 
@@ -340,6 +388,13 @@ ROWS = [
     ("300 levels `(x, x) | (x, c?) | x` over `b`, 100 children", "valid", None, levels(300, "(#, #) | (#, c?) | #", "element b { empty }", 100)),
     ("300 levels `(x, x) | (x, c?) | x` over `b?`, 100 children", "valid", None, levels(300, "(#, #) | (#, c?) | #", "element b { empty }?", 100)),
     ("60 levels `(x, x?)` over `b`, 300 children", "valid", None, levels(60, "(#, #?)", "element b { empty }", 300)),
+    ("20 levels `(x, x?)` over `b`, 100 children", "valid", None, levels(20, "(#, #?)", "element b { empty }", 100)),
+    ("20 levels `(x+, x?)` over `b`, 50 children", "valid", None, levels(20, "(#+, #?)", "element b { empty }", 50)),
+    ("60 levels `(x*, c*)` over `b, c?`, 40 children", "valid", None, levels_over_two("(#*, c*)", 60, 20)),
+    ("1,000 members `(a | b)` behind `(a | b)*, a`, 10,000 children", "valid", None, members_behind_a_repetition(1_000, 10_000)),
+    ("20 sides `(a, b) | (a, c)` with two bodies of `a` each, interleaved, 40 children", "valid", None, sides_of_two_bodies(20)),
+    ("18 sides `(a, b?) | (a, c?)` with two values of an attribute `a` each, in a group", "valid", None, sides_of_two_attributes(18, ", ")),
+    ("18 sides `(a, b?) | (a, c?)` with two values of an attribute `a` each, interleaved", "valid", None, sides_of_two_attributes(18, " & ")),
     ("a group of 2,000, and as many children", "valid", None, long_group),
     ("900 members of one name with different bodies, and as many children", "valid", None, other_bodies),
     ("2,000 tags of 255 declarations, the last with two of one prefix", "valid", None, prefix_declared_twice),
