@@ -172,12 +172,14 @@ def levels_over_two(rule, count, pairs):
 
 
 def members_behind_a_repetition(members, count):
-    """A list of `a | b` behind `(a | b)*, a`, and a document of random children. Half of the members are alternatives behind each child."""
+    """A list of `a | b` behind `(a | b)*, a`, and a valid document of random children. Half of the members are alternatives behind each child."""
     def make(factor):
-        behind = lists(",", ["(a | b)"] * int(members * factor))
+        behind = int(members * factor)
+        listed = lists(",", ["(a | b)"] * behind) or "empty"
         chance = random.Random(1)
-        return ([f"start = element doc {{ (a | b)*, a, {behind or 'empty'} }}\n{defined('ab')}"],
-                root(children(chance.choice("ab") for _ in range(int(count * factor)))))
+        names = [chance.choice("ab") for _ in range(int(count * factor))]
+        names[-behind - 1] = "a"
+        return [f"start = element doc {{ (a | b)*, a, {listed} }}\n{defined('ab')}"], root(children(names))
     return make
 
 
