@@ -103,6 +103,12 @@ def excepts_and_names(factor):
     return [f"element a {{ attribute * - ({names(count)}) {{ text }}+, attribute {names(count)} {{ text }}+ }}"], ""
 
 
+def attributes_beside_excepted(factor):
+    """Classes without brackets. A choice of names is as deep as it has names."""
+    listed = "|".join(short(i) for i in range(max(2, int(900 * factor))))
+    return [f"element a {{ attribute * - ({listed}) {{ text }}+, attribute {listed} {{ text }}+ }}"], ""
+
+
 def any_other(factor):
     count = int(20_000 * factor)
     beside = lists("&", (f"element {short(i)} {{ empty }}" for i in range(count)))
@@ -346,6 +352,7 @@ NESTED = [
 ] + [
     ("64 files of 126 `div` in one another, each file included in the one before", "check",
      nested_files("div { ", " }", "start = element a { empty }", 64, "include")),
+    ("attributes of `* - (900 names)`, and of these names", "check", attributes_beside_excepted),
     ("a file of 60 excepts of name classes in one another", "check",
      lambda factor: (["element " + "(* - (a | " * 60 + "b" + "))" * 60 + " { empty }"], "")),
     ("a file of 120 excepts of data in one another", "check",
