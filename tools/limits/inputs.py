@@ -2,6 +2,8 @@
 
 The function takes a factor: 1, or a tenth for quick runs. It returns the texts of the files, which are named f0.rnc, f1.rnc and so on, and the document.
 """
+import random
+
 MEBIBYTE = 1_048_576
 LIST = 500
 DIGITS = "0123456789abcdefghijklmnopqrstuvwxyz"
@@ -101,6 +103,12 @@ def excepts_and_names(factor):
     return [f"element a {{ attribute * - ({names(count)}) {{ text }}+, attribute {names(count)} {{ text }}+ }}"], ""
 
 
+def attributes_beside_excepted(factor):
+    """Classes without brackets. A choice of names is as deep as it has names."""
+    listed = "|".join(short(i) for i in range(max(2, int(900 * factor))))
+    return [f"element a {{ attribute * - ({listed}) {{ text }}+, attribute {listed} {{ text }}+ }}"], ""
+
+
 def any_other(factor):
     count = int(20_000 * factor)
     beside = lists("&", (f"element {short(i)} {{ empty }}" for i in range(count)))
@@ -153,6 +161,54 @@ def levels(count, rule, last, children):
     return make
 
 
+def children(names):
+    return "".join(f"({name}\n){name}\n" for name in names)
+
+
+def defined(names):
+    return "".join(f"{name} = element {name} {{ empty }}\n" for name in names)
+
+
+def levels_over_two(rule, count, pairs):
+    """Definitions, each made from the next one by the rule, the innermost `b, c?`, and a document of children `b` and `c` in turn."""
+    def make(factor):
+        [schema], _ = levels(count, rule, "(b, c?)", 0)(factor)
+        return [schema + defined("b")], root(children("bc" * int(pairs * factor)))
+    return make
+
+
+def members_behind_a_repetition(members, count):
+    """A list of `a | b` behind `(a | b)*, a`, and a valid document of random children. Half of the members are alternatives behind each child."""
+    def make(factor):
+        behind = int(members * factor)
+        listed = lists(",", ["(a | b)"] * behind) or "empty"
+        chance = random.Random(1)
+        names = [chance.choice("ab") for _ in range(int(count * factor))]
+        names[-behind - 1] = "a"
+        return [f"start = element doc {{ (a | b)*, a, {listed} }}\n{defined('ab')}"], root(children(names))
+    return make
+
+
+def sides_of_two_bodies(count):
+    """An interleave, where two elements of one name with different bodies begin each side, and a document that suits both."""
+    def make(factor):
+        numbers = range(max(1, int(count * factor)))
+        sides = " & ".join(f"((element a{i} {{ empty }}, b{i}) | (element a{i} {{ text }}, c{i}))" for i in numbers)
+        schema = f"start = element doc {{ {sides} }}\n" + defined(f"{name}{i}" for name in "bc" for i in numbers)
+        return [schema], root(children(f"{name}{i}" for name in "ac" for i in numbers))
+    return make
+
+
+def sides_of_two_attributes(count, sign):
+    """Sides that two attributes of one name begin, with different values, and a document that suits both."""
+    def make(factor):
+        numbers = range(max(1, int(count * factor)))
+        sides = sign.join(f'((attribute a{i} {{ "1" }}, b{i}?) | (attribute a{i} {{ text }}, c{i}?))' for i in numbers)
+        schema = f"start = element doc {{ {sides} }}\n" + defined(f"{name}{i}" for name in "bc" for i in numbers)
+        return [schema], root("".join(f"Aa{i} 1\n" for i in numbers) + children(f"c{i}" for i in numbers))
+    return make
+
+
 def root(inner, name="doc"):
     return f"({name}\n{inner}){name}\n"
 
@@ -161,12 +217,6 @@ def long_group(factor):
     count = int(2_000 * factor)
     members = lists(",", (f"element {short(i)} {{ empty }}" for i in range(count)))
     return [f"element doc {{ {members} }}"], root("".join(f"({short(i)}\n){short(i)}\n" for i in range(count)))
-
-
-def two_bodies_in_each_side(factor):
-    count = max(1, int(16 * factor))
-    sides = " & ".join(f"((element a{i} {{ empty }}, element b{i} {{ empty }}) | (element a{i} {{ text }}, element c{i} {{ empty }}))" for i in range(count))
-    return [f"element doc {{ {sides} }}"], root("".join(f"({name}{i}\n){name}{i}\n" for name in "ac" for i in range(count)))
 
 
 def other_bodies(factor):
@@ -302,6 +352,7 @@ NESTED = [
 ] + [
     ("64 files of 126 `div` in one another, each file included in the one before", "check",
      nested_files("div { ", " }", "start = element a { empty }", 64, "include")),
+    ("attributes of `* - (900 names)`, and of these names", "check", attributes_beside_excepted),
     ("a file of 60 excepts of name classes in one another", "check",
      lambda factor: (["element " + "(* - (a | " * 60 + "b" + "))" * 60 + " { empty }"], "")),
     ("a file of 120 excepts of data in one another", "check",
@@ -349,7 +400,12 @@ ROWS = [
     ("60 levels `(x?, x)` over `b`, 300 children", "valid", None, levels(60, "(#?, #)", "element b { empty }", 300)),
     ("60 levels `(x, x?, x?)` over `b`, 300 children", "valid", None, levels(60, "(#, #?, #?)", "element b { empty }", 300)),
     ("60 levels `(x, (x, x?)?)` over `b`, 300 children", "valid", None, levels(60, "(#, (#, #?)?)", "element b { empty }", 300)),
-    ("16 sides `((ai, bi) | (ai, ci))`, interleaved, the bodies of `ai` different", "valid", None, two_bodies_in_each_side),
+    ("12 levels `(x+, x?)` over `b`, 50 children", "valid", None, levels(12, "(#+, #?)", "element b { empty }", 50)),
+    ("60 levels `(x*, c*)` over `b, c?`, 40 children", "valid", None, levels_over_two("(#*, c*)", 60, 20)),
+    ("1,000 members `(a | b)` behind `(a | b)*, a`, 10,000 children", "valid", None, members_behind_a_repetition(1_000, 10_000)),
+    ("20 sides `(a, b) | (a, c)` with two bodies of `a` each, interleaved, 40 children", "valid", None, sides_of_two_bodies(20)),
+    ("18 sides `(a, b?) | (a, c?)` with two values of an attribute `a` each, in a group", "valid", None, sides_of_two_attributes(18, ", ")),
+    ("18 sides `(a, b?) | (a, c?)` with two values of an attribute `a` each, interleaved", "valid", None, sides_of_two_attributes(18, " & ")),
     ("a group of 2,000, and as many children", "valid", None, long_group),
     ("900 members of one name with different bodies, and as many children", "valid", None, other_bodies),
     ("2,000 tags of 255 declarations, the last with two of one prefix", "valid", None, prefix_declared_twice),

@@ -59,7 +59,6 @@ def cell(text):
 
 def parsed(words):
     """The options, with the program as a whole path. Ends this process if there is no such program."""
-    words.add_argument("--only", default="")
     words.add_argument("program", nargs="?", type=pathlib.Path, default=HERE.parents[1] / "crates/rncv/out/rncv")
     given = words.parse_args()
     given.program = given.program.resolve()
@@ -70,6 +69,7 @@ def parsed(words):
 
 def main():
     words = argparse.ArgumentParser(description=__doc__.splitlines()[0])
+    words.add_argument("--only", default="")
     words.add_argument("--quick", action="store_true")
     words.add_argument("--seconds", type=int, default=120)
     words.add_argument("--megabytes", type=int, default=4_096)

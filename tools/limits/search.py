@@ -3,61 +3,89 @@
 
     tools/limits/search.py --minutes N [--seed S] [--keep FOLDER] [PROGRAM]
 
-The default PROGRAM is `crates/rncv/out/rncv`. Schemas of at most 10 KB are made of nested `?`, `*`, `+`, `&`, `|`, lists and attributes. Documents of
-100 KB to 1 MB are drawn at random from the names and values of the schema. The schemas whose documents take the most time a byte are kept and changed
-further. At the end the worst ones are printed after records of short elements, and written to FOLDER (default: build/limits-search).
+The default PROGRAM is `crates/rncv/out/rncv`. Schemas of at most 10 KB are made of nested `?`, `*`, `+`, `&`, `|`, lists and attributes. Some have 24 levels
+of definitions, each made from the next one by a random rule. Others have 14 random sides, alike but for their names. Documents of 100 KB to 1 MB, or of 10 KB
+by levels and sides, are drawn at random by the schema. A run gets 10 seconds of a processor and 4 GiB of addresses. The schemas whose documents take the most
+time a byte are kept and changed further. At the end the worst ones are printed after records of short elements, and written to FOLDER (default:
+build/limits-search).
 """
 import argparse
-import os
 import pathlib
 import random
-import subprocess
 import sys
 import tempfile
-import threading
 import time
+import types
+
+from run import judged, parsed
 
 HERE = pathlib.Path(__file__).resolve().parent
-SECONDS = 30
-LEAST, MOST, SCHEMA = 100_000, 1_000_000, 10_000
+SECONDS, MEBIBYTES = 10, 4_096
+LEAST, MOST, SHORT, SCHEMA = 100_000, 1_000_000, 10_000, 10_000
 NAMES = ["a", "b", "c", "d"]
+LEVELS, SIDES = 24, 14
+STEPS, ROWS = 3_000, 60
 KEPT = 12
 RECORDS = ("element doc { element record { attribute id { xsd:integer }, attribute kind { 'new' | 'open' }, element name { text }, "
            "element tags { list { token* } }, element note { text }* }* }")
 
 
 class Maker:
-    """Makes random patterns. A pattern is (sign, members), ("element", name), ("attribute", name) or ("value", text)."""
+    """Makes random patterns. A pattern is (sign, members), or a leaf: ("element", name), ("attribute", name), ("value", text) or ("next", "").
+
+    An element `a.text` has the name `a` and another body, and an attribute `x.one` has the name `x` and the value 1. ("levels", [rule, last]) are
+    definitions, each of which is the rule with the next definition in place of the leaf `next`. ("sides", [side]) is an interleave of sides that have names
+    of their own, and ("both", [side]) a group of them.
+    """
 
     def __init__(self, chance):
         self.chance = chance
 
-    def pattern(self, depth):
+    def pattern(self, depth, next_one=0.0):
+        """A random pattern. A leaf is `next` with the given chance."""
         pick = self.chance.random()
         if depth == 0 or pick < 0.15:
-            return ("element", self.chance.choice(NAMES))
+            return self.leaf(next_one)
         if pick < 0.5:
-            return (self.chance.choice("?*+"), [self.pattern(depth - 1)])
-        if pick < 0.58:
+            return (self.chance.choice("?*+"), [self.pattern(depth - 1, next_one)])
+        if pick < 0.58 and not next_one:
             return (self.chance.choice("?*+"), [("attribute", self.chance.choice(["*", "x", "y"]))])
         sign = self.chance.choice([",", ",", "|", "&"])
-        return (sign, [self.pattern(depth - 1) for _ in range(self.chance.choice([2, 2, 3, 5]))])
+        return (sign, [self.pattern(depth - 1, next_one) for _ in range(self.chance.choice([2, 2] if next_one else [2, 2, 3, 5]))])
 
-    def values(self, depth):
-        """A random pattern for the content of a list."""
+    def leaf(self, next_one):
+        if self.chance.random() < next_one:
+            return ("next", "")
+        return ("element", self.chance.choice(NAMES) + self.chance.choice(["", "", "", ".text"]))
+
+    def values(self, depth, next_one=0.0):
+        """A random pattern for the content of a list. A leaf is `next` with the given chance."""
         if depth == 0:
-            return ("value", self.chance.choice("abc"))
+            return ("next", "") if self.chance.random() < next_one else ("value", self.chance.choice("abc"))
         sign = self.chance.choice(["?", "*", "+", ",", ",", "|"])
-        return (sign, [self.values(depth - 1) for _ in range(1 if sign in "?*+" else self.chance.choice([2, 3, 6]))])
+        return (sign, [self.values(depth - 1, next_one) for _ in range(1 if sign in "?*+" else self.chance.choice([2, 2] if next_one else [2, 3, 6]))])
+
+    def side(self):
+        """A choice of two ways to go on after an attribute or an element of one name."""
+        name = self.chance.choice("xy")
+        firsts = [("attribute", name), ("attribute", f"{name}.one")] if self.chance.random() < 0.4 else [("element", "a"), ("element", "a.text")]
+        return ("|", [(",", [first, self.pattern(self.chance.randrange(2))]) for first in firsts])
 
     def seed(self):
-        if self.chance.random() < 0.2:
+        pick = self.chance.random()
+        if pick < 0.15:
             return ("list", [self.values(self.chance.randrange(2, 6))])
+        if pick < 0.25:
+            return ("list", [("levels", [self.values(self.chance.randrange(1, 4), 0.7), self.values(1)])])
+        if pick < 0.5:
+            return ("levels", [self.pattern(self.chance.randrange(1, 4), 0.7), self.pattern(self.chance.randrange(2))])
+        if pick < 0.65:
+            return (self.chance.choice(["sides", "both"]), [self.chance.choice([self.side, lambda: self.pattern(2)])()])
         return self.pattern(self.chance.randrange(2, 7))
 
     def changed(self, pattern):
         """The pattern with one part changed."""
-        if len(pattern) < 2 or isinstance(pattern[1], str) or self.chance.random() < 0.2:
+        if isinstance(pattern[1], str) or self.chance.random() < 0.2:
             return self.replaced(pattern)
         members = list(pattern[1])
         at = self.chance.randrange(len(members))
@@ -66,7 +94,7 @@ class Maker:
             members *= self.chance.choice([2, 2, 4])
         elif pick < 0.4 and pattern[0] in (",", "|", "&"):
             members.insert(at, self.chance.choice(members))
-        elif pick < 0.5 and len(members) > 1:
+        elif pick < 0.5 and pattern[0] in (",", "|", "&") and len(members) > 1:
             del members[at]
         else:
             members[at] = self.changed(members[at])
@@ -75,8 +103,8 @@ class Maker:
     def replaced(self, pattern):
         in_list = is_of_list(pattern)
         pick = self.chance.random()
-        if pattern[0] == "list":
-            return ("list", [self.changed(pattern[1][0])])
+        if pattern[0] in OUTER:
+            return (pattern[0], [self.changed(pattern[1][0]), *pattern[1][1:]])
         if pick < 0.5:
             return (self.chance.choice("?*+"), [pattern])
         if pick < 0.8:
@@ -84,69 +112,122 @@ class Maker:
         return self.values(2) if in_list else self.pattern(2)
 
 
+OUTER = ("list", "levels", "sides", "both")
+
+
 def is_of_list(pattern):
     return pattern[0] in ("value", "list") or not isinstance(pattern[1], str) and any(map(is_of_list, pattern[1]))
 
 
-def written(pattern):
+def is_of_many(pattern):
+    """Whether the pattern has levels or sides."""
+    return pattern[0] in ("levels", "sides", "both") or pattern[0] == "list" and is_of_many(pattern[1][0])
+
+
+def named(name, copy):
+    """The name of an element or attribute in a side: the number of the side comes before the dot."""
+    front, dot, back = name.partition(".")
+    return f"{front}{copy}{dot}{back}"
+
+
+def written(pattern, copy="", following=""):
     sign, parts = pattern
     if sign == "element":
-        return parts
+        return named(parts, copy)
     if sign == "attribute":
-        return f"attribute {parts} {{ text }}"
+        front, _, back = named(parts, copy if parts != "*" else "").partition(".")
+        return f"attribute {front} {{ {'text' if not back else repr('1')} }}"
     if sign == "value":
         return f"'{parts}'"
+    if sign == "next":
+        return following
+    if sign == "levels":
+        return "x0"
+    if sign in ("sides", "both"):
+        return (" & " if sign == "sides" else ", ").join(f"({written(parts[0], number)})" for number in range(SIDES))
     if sign == "list":
         return f"list {{ {written(parts[0])} }}"
     if sign in "?*+":
-        return f"({written(parts[0])}){sign}"
-    return "(" + f" {sign} ".join(map(written, parts)) + ")"
+        return f"({written(parts[0], copy, following)})" + sign
+    return "(" + f" {sign} ".join(written(part, copy, following) for part in parts) + ")"
+
+
+def levels_of(pattern):
+    """The definitions of the levels that are in the pattern."""
+    sign, parts = pattern
+    if sign == "list":
+        return levels_of(parts[0])
+    if sign != "levels":
+        return ""
+    return "".join(f"x{at} = {written(parts[0], following=f'x{at + 1}')}\n" for at in range(LEVELS)) + f"x{LEVELS} = {written(parts[1])}\n"
 
 
 def schema_of(pattern):
-    defined = "".join(f"{it} = element {it} {{ empty }}\n" for it in NAMES)
-    return f"start = element doc {{ row* }}\nrow = element row {{ {written(pattern)} }}\n{defined}"
+    copies = range(SIDES) if pattern[0] in ("sides", "both") else [""]
+    defined = "".join(f"{it}{copy} = element {it}{copy} {{ empty }}\n{it}{copy}.text = element {it}{copy} {{ text }}\n" for it in NAMES for copy in copies)
+    return f"start = element doc {{ row* }}\nrow = element row {{ {written(pattern)} }}\n{levels_of(pattern)}{defined}"
 
 
-def drawn(pattern, chance, room):
-    """Random attributes and children by the pattern. The children of an interleave are shuffled."""
-    sign, parts = pattern
-    if sign in ("element", "value"):
-        return [], [parts]
-    if sign == "attribute":
-        return [f"a{chance.randrange(99)}" if parts == "*" else parts], []
-    if sign == "?" and chance.random() < 0.5:
-        return [], []
-    if sign == "|":
-        return drawn(chance.choice(parts), chance, room)
-    times = chance.choice([1, 2, 3, 8]) if sign in "*+" and room > 0 else 1
-    attributes, children = [], []
-    for part in parts * times:
-        one, other = drawn(part, chance, room - len(children))
-        attributes += one
-        children += other
-        if len(children) > 5_000:
-            break
-    if sign == "&":
-        chance.shuffle(children)
-    return attributes, children
+def merged(sides, chance):
+    """The items of all sides. Those of each side stay in their order."""
+    places = [at for at, side in enumerate(sides) for _ in side]
+    chance.shuffle(places)
+    each = [iter(side) for side in sides]
+    return [next(each[at]) for at in places]
+
+
+class Sampler:
+    """Draws random attributes and children of a row. After so many steps it draws no more, since levels lead to very many."""
+
+    def __init__(self, chance, steps=STEPS):
+        self.chance, self.left = chance, steps
+
+    def drawn(self, pattern, levels=None, level=0):
+        """A list of pairs: whether it is an attribute, and its name."""
+        sign, parts = pattern
+        self.left -= 1
+        if self.left < 0:
+            return []
+        if sign in ("element", "value"):
+            return [(False, parts.partition(".")[0])]
+        if sign == "attribute":
+            return [(True, f"a{self.chance.randrange(99)}" if parts == "*" else parts.partition(".")[0])]
+        if sign == "levels":
+            return self.drawn(("next", ""), pattern)
+        if sign == "next":
+            return self.drawn(levels[1][level == LEVELS], levels, level + 1)
+        if sign == "|":
+            return self.drawn(self.chance.choice(parts), levels, level)
+        if sign in ("sides", "both"):
+            sides = [[(is_attribute, named(name, at)) for is_attribute, name in self.drawn(parts[0])] for at in range(SIDES)]
+            return merged(sides, self.chance) if sign == "sides" else sum(sides, [])
+        if sign == "?" and self.chance.random() < 0.5:
+            return []
+        times = self.chance.choice([1, 2, 3, 8]) if sign in "*+" else 1
+        sides = [self.drawn(part, levels, level) for part in parts * times]
+        return merged(sides, self.chance) if sign == "&" else sum(sides, [])
+
+
+def row_of(pattern, chance):
+    """A random row by the pattern, or one with a child less."""
+    items = Sampler(chance).drawn(pattern)
+    children = [name for is_attribute, name in items if not is_attribute]
+    if chance.random() < 0.1 and len(children) > 1:
+        children.pop(chance.randrange(len(children)))
+    tag = "(row\n" + "".join(f"A{it} 1\n" for it in list(dict.fromkeys(name for is_attribute, name in items if is_attribute))[:200])
+    if is_of_list(pattern):
+        return tag + "-" + " ".join(children) + " \n)row\n"
+    return tag + "".join(f"({it}\n){it}\n" for it in children) + ")row\n"
 
 
 def document_of(pattern, chance):
-    size = chance.choice([LEAST, LEAST, LEAST * 3, MOST])
-    rows, written_size = ["(doc\n"], 0
+    """A document of random rows. At most ROWS of them differ."""
+    size = SHORT if is_of_many(pattern) else chance.choice([LEAST, LEAST, LEAST * 3, MOST])
+    rows, written_size = [], 0
     while written_size < size:
-        attributes, children = drawn(pattern, chance, 2_000)
-        if chance.random() < 0.1 and len(children) > 1:
-            children.pop(chance.randrange(len(children)))
-        tag = "(row\n" + "".join(f"A{it} 1\n" for it in list(dict.fromkeys(attributes))[:200])
-        if is_of_list(pattern):
-            body = "".join("-" + " ".join(children[at:at + 20_000]) + " \n" for at in range(0, len(children), 20_000))
-        else:
-            body = "".join(f"({it}\n){it}\n" for it in children)
-        rows.append(tag + body + ")row\n")
+        rows.append(row_of(pattern, chance) if len(rows) < ROWS else chance.choice(rows[:ROWS]))
         written_size += len(rows[-1])
-    return "".join(rows) + ")doc\n"
+    return "(doc\n" + "".join(rows) + ")doc\n"
 
 
 class Measured:
@@ -166,24 +247,15 @@ class Measured:
 
 class Judge:
     def __init__(self, program, room):
-        self.program, self.room, self.runs = program, pathlib.Path(room), 0
+        self.room, self.runs = pathlib.Path(room), 0
+        self.given = types.SimpleNamespace(program=program, seconds=SECONDS, megabytes=MEBIBYTES)
 
     def measure(self, pattern, schema, document):
         (self.room / "s.rnc").write_text(schema)
         (self.room / "document.pyx").write_text(document)
         self.runs += 1
-        with open(self.room / "document.pyx", "rb") as source:
-            child = subprocess.Popen([self.program, "valid", "s.rnc"], cwd=self.room, stdin=source, stdout=subprocess.PIPE, stderr=subprocess.STDOUT)
-            alarm = threading.Timer(SECONDS, child.kill)
-            alarm.start()
-            said = child.stdout.read().decode().strip()
-            _, status, used = os.wait4(child.pid, 0)
-            alarm.cancel()
-            child.stdout.close()
-        child.returncode = os.waitstatus_to_exitcode(status)
-        if child.returncode < 0:
-            said = f"ended by signal {-child.returncode}"
-        return Measured(pattern, schema, document, said, used.ru_utime + used.ru_stime, used.ru_maxrss / 1024)
+        answer, seconds, memory = judged(self.given, "valid", None, self.room, ["s.rnc"])
+        return Measured(pattern, schema, document, answer.strip("`"), seconds, memory)
 
 
 def records(chance):
@@ -215,14 +287,11 @@ def main():
     words.add_argument("--minutes", type=float, required=True)
     words.add_argument("--seed", default=str(random.randrange(10**6)))
     words.add_argument("--keep", type=pathlib.Path, default=HERE.parents[1] / "build/limits-search")
-    words.add_argument("program", nargs="?", type=pathlib.Path, default=HERE.parents[1] / "crates/rncv/out/rncv")
-    given = words.parse_args()
-    if not os.access(given.program, os.X_OK):
-        sys.exit(f"{given.program} is not there, or is no program")
+    given = parsed(words)
     sys.setrecursionlimit(20_000)
     chance = random.Random(given.seed)
     with tempfile.TemporaryDirectory(prefix="limits-search-") as room:
-        judge = Judge(str(given.program.resolve()), room)
+        judge = Judge(given.program, room)
         plain = judge.measure(None, RECORDS, records(chance))
         kept = search(judge, chance, time.monotonic() + 60 * given.minutes)
     print(f"seed {given.seed}, {judge.runs:,} runs\n")

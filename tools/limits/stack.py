@@ -41,6 +41,7 @@ def least_stack(given, command, make):
 
 def main():
     words = argparse.ArgumentParser(description=__doc__.splitlines()[0])
+    words.add_argument("--only", default="")
     words.add_argument("--most", type=int, default=65_536)
     given = parsed(words)
     given.seconds, given.megabytes = 120, 4_096
