@@ -196,7 +196,22 @@ fn with_sides_joined(
         return Ok(number);
     };
     let (first, second) = (*first, *second);
+    if !have_side_in_common(table, first, second) {
+        return Ok(number);
+    }
     table.joined(alloc, &[first, second])
+}
+
+/// Returns whether two patterns are groups or interleaves with a side in common. Allocates nothing.
+fn have_side_in_common(table: &PatternTable, first: PatternNumber, second: PatternNumber) -> bool
+    requires first { first.0 < length table.now }
+    requires second { second.0 < length table.now }
+{
+    match (table.pattern(first), table.pattern(second)) {
+        (Pattern::Group(a, b), Pattern::Group(c, d)) => a == c || b == d,
+        (Pattern::Interleave(a, b), Pattern::Interleave(c, d)) => a == c || b == d,
+        _ => false,
+    }
 }
 
 /// Returns what is left of a pattern after this.

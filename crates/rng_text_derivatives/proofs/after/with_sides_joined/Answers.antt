@@ -11,6 +11,30 @@ use Rattle.rng_pattern_table.proofs.Choices.{if_ok}
 use Rattle.rng_text_derivatives.proofs.JoinedRests.{all_of_two, choice_of_two, restricted_sides, two_there}
 use Rattle.rng_text_derivatives.proofs.after.with_sides_joined.Goals as goal
 
+pub have_side_in_common-requires-clause-first : goal.have_side_in_common-requires-clause-first
+have_side_in_common-requires-clause-first c =
+    let ns = c.args.table.now in
+    let ms = c.as_slice.result.now in
+    let found : slice_get ns c.args.number.0 ≡ Some (node.choice (map (λ (m : PatternNumber). m.0) ms)) =
+    c.pattern.ensures.found ∙ ap (λ p. Some (node_of p)) c.in-Choice.is
+    ∙ ap (λ (ms : List PatternNumber). Some (node.choice (map (λ (m : PatternNumber). m.0) ms))) (sym c.as_slice.ensures.value) in
+    let there = two_there ns c.args.number.0 ms (record { 0 = 0 }) (record { 0 = 0 }) c.pattern.ensures.table found c.in-len2.len_at_least c.in-len2.len_below in
+    let below = there.0 in
+    let inside = c.requires in
+    omega (arith, below, inside)
+
+pub have_side_in_common-requires-clause-second : goal.have_side_in_common-requires-clause-second
+have_side_in_common-requires-clause-second c =
+    let ns = c.args.table.now in
+    let ms = c.as_slice.result.now in
+    let found : slice_get ns c.args.number.0 ≡ Some (node.choice (map (λ (m : PatternNumber). m.0) ms)) =
+    c.pattern.ensures.found ∙ ap (λ p. Some (node_of p)) c.in-Choice.is
+    ∙ ap (λ (ms : List PatternNumber). Some (node.choice (map (λ (m : PatternNumber). m.0) ms))) (sym c.as_slice.ensures.value) in
+    let there = two_there ns c.args.number.0 ms (record { 0 = 0 }) (record { 0 = 0 }) c.pattern.ensures.table found c.in-len2.len_at_least c.in-len2.len_below in
+    let below = there.1 in
+    let inside = c.requires in
+    omega (arith, below, inside)
+
 pub joined-requires : goal.joined-requires
 joined-requires c =
     let ns = c.args.table.now in
