@@ -48,6 +48,8 @@ pub fn place_of_code<'a>(
 }
 
 /// Appends a part. Fails only when out of memory.
+// Not inlined, so that `put_class`, which calls itself as deep as a class nests, has a small frame.
+#[inline(never)]
 #[tactic(auto, using(crate::proofs::LabelCodes::put_part))]
 pub fn put<'a>(code: &mut Vec<LabelPart<'a>>, part: LabelPart<'a>) -> Result<(), AllocError>
     ensures { OnOk result (map part_of code.new.items ≡ map part_of code.old.items ++ part_of part.entry ∷ []) }

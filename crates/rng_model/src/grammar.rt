@@ -35,7 +35,8 @@ impl Model for SimpleGrammar {
 }
 
 impl SimpleGrammar {
-    /// Creates the grammar with these tables. Allocates nothing.
+    /// Creates the grammar with these tables, which meet what the type says of positions, refs, name classes and datatypes
+    /// (RELAX NG Specification, section 5). Allocates nothing.
     pub fn new(
         patterns: Vec<Simple>,
         elements: Vec<(NameClass, PatternId)>,

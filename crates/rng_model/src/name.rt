@@ -14,7 +14,7 @@ pub struct Name {
 ///
 /// RELAX NG Specification, section 6.1; Compact Syntax, "Syntax". A choice has its members in the order in which they
 /// are written. A choice of no members holds no name. Any class may occur in an except.
-#[derive(Debug, Drop)]
+#[derive(Debug)]
 pub enum NameClass {
     /// Every name: `*`.
     Any,
@@ -28,4 +28,26 @@ pub enum NameClass {
     Name(Name),
     /// The names of each member: members joined by `|`.
     Choice(Vec<NameClass>),
+}
+
+impl Drop for NameClass {
+    // A class nests as deep as a list of names is long, so what is not on the way down a list has a function of its own.
+    #[cycle(drops)]
+    fn drop(self) {
+        match self {
+            NameClass::Any => {}
+            NameClass::AnyExcept(except) => drop_except(except),
+            NameClass::Ns(_ns) => {}
+            NameClass::NsExcept(_ns, except) => drop_except(except),
+            NameClass::Name(_name) => {}
+            NameClass::Choice(_members) => {}
+        }
+    }
+}
+
+/// Drops the class of an except.
+#[cycle(drops)]
+#[inline(never)]
+fn drop_except(except: Box<NameClass>) {
+    let _class = Box::into_inner(except);
 }

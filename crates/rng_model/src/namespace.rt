@@ -20,10 +20,17 @@ use std::sync::Arc;
 /// Names share its text, also across threads. Namespaces compare as their texts. To hash one does not read its text.
 ///
 /// Namespaces in XML 1.0, section 2.1.
-#[derive(Drop)]
 pub struct Namespace {
     /// No text if it is empty.
     text: Option<Arc<HashedText>>,
+}
+
+impl Drop for Namespace {
+    // Not inlined, so that the drop of a name class, which calls itself as deep as the class nests, has a small frame.
+    #[inline(never)]
+    fn drop(self) {
+        let Namespace { text: _text } = self;
+    }
 }
 
 impl Namespace {
