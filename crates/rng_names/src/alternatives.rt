@@ -47,6 +47,7 @@ impl<'a> Alternatives<'a> {
 
     /// Adds the alternatives of a class, and to the tables one for each except in it. Fails only when out of memory. Linear
     /// in its size, apart from hashing.
+    #[cycle(additions)]
     pub(crate) fn add(
         &mut self,
         alloc: Global,
@@ -64,15 +65,9 @@ impl<'a> Alternatives<'a> {
             }
             NameClass::Ns(ns) => self.add_written(ns.as_str(), None),
             NameClass::Name(name) => self.add_written(name.ns.as_str(), Some(name.local.as_str())),
-            NameClass::AnyExcept(except) => {
-                let mut inner = Alternatives::new(alloc, except);
-                inner.add(alloc, tables, except)?;
-                self.add_except(tables, None, inner)
-            }
+            NameClass::AnyExcept(except) => self.add_excepting(alloc, tables, None, except),
             NameClass::NsExcept(ns, except) => {
-                let mut inner = Alternatives::new(alloc, except);
-                inner.add(alloc, tables, except)?;
-                self.add_except(tables, Some(ns.as_str()), inner)
+                self.add_excepting(alloc, tables, Some(ns.as_str()), except)
             }
             NameClass::Choice(members) => {
                 'members: for member in members {
@@ -83,7 +78,29 @@ impl<'a> Alternatives<'a> {
         }
     }
 
+    /// Adds all names, or those of a namespace, except those of a class, and to the tables one for this class and for each
+    /// except in it.
+    // Not inlined, so that `add`, which calls itself as deep as a class nests, has a small frame.
+    #[cycle(additions)]
+    #[inline(never)]
+    fn add_excepting(
+        &mut self,
+        alloc: Global,
+        tables: &mut Vec<Alternatives<'a>>,
+        ns: Option<&'a str>,
+        except: &'a NameClass,
+    ) -> Result<(), OutOfMemory>
+        ensures adds { OnOk result (Adds self.old self.new (λ test. test (excepting (seen ns.entry) (class_of except.now)))) }
+        ensures grows { OnOk result (Grows tables.old.items tables.new.items) }
+        ensures linked { OnOk result (Linked tables.old.items self.old → Linked tables.new.items self.new) }
+    {
+        let mut inner = Alternatives::new(alloc, except);
+        inner.add(alloc, tables, except)?;
+        self.add_except(tables, ns, inner)
+    }
+
     /// Adds a name, or all names of a namespace.
+    #[inline(never)]
     fn add_written(&mut self, ns: &'a str, local: Option<&'a str>) -> Result<(), OutOfMemory>
         ensures class { OnOk result (self.new.class ≡ self.old.class) }
         ensures any { OnOk result (self.new.any ≡ self.old.any) }

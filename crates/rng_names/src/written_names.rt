@@ -91,6 +91,9 @@ impl WrittenNames {
     }
 
     /// Adds a name that is written in this region, and its namespace.
+    // Neither this nor `add_namespace` is inlined, so that `add_class`, which calls itself as deep as a class nests, has a small
+    // frame.
+    #[inline(never)]
     fn add_name(&mut self, alloc: Global, name: &Name, region: usize) -> Result<(), OutOfMemory>
         ensures grows { OnOk result (Grows (written_in self.old) (written_in self.new)) }
         ensures knows { OnOk result (Knows (written_in self.new) (names.name_is (name_of name.now))) }
@@ -103,6 +106,7 @@ impl WrittenNames {
     }
 
     /// Adds a namespace in which a local name of this many bytes is written.
+    #[inline(never)]
     fn add_namespace(&mut self, ns: &Namespace, bytes: usize) -> Result<(), OutOfMemory>
         ensures grows { OnOk result (Grows (written_in self.old) (written_in self.new)) }
         ensures names { OnOk result (self.new.names ≡ self.old.names) }
