@@ -37,7 +37,8 @@ impl PatternTable {
 
     /// Returns the sides of the first side of a group, if this one is reassociated. A group of copies of a pattern that
     /// may be left out is, down to one copy, if more copies follow. Any other group is not where that would unfold a
-    /// shared side, as in a nullable group of groups. Allocates nothing.
+    /// shared side: in a nullable group of groups, and in what is left of a group. What is left of a part, and of all that
+    /// is in it, so remains one pattern, and is not one alternative for each way through the part. Allocates nothing.
     fn opened(
         &self,
         first: PatternNumber,
@@ -61,7 +62,8 @@ impl PatternTable {
                 return None;
             }
         }
-        if self.facts(*outer).nullable && self.is_group(*inner) {
+        let is_whole = self.is_of_grammar(first) && !self.is_group(*inner);
+        if self.facts(*outer).nullable && !is_whole {
             return None;
         }
         Some((*outer, *inner))

@@ -46,6 +46,7 @@ impl PatternTable {
             let number = table.regrouped(&mut options, number)?;
             numbers.push(number)?;
         }
+        table.end_grammar();
         Ok((table, numbers))
     }
 

@@ -26,6 +26,8 @@ pub struct PatternTable {
     units: Vec<u32>,
     not_allowed: Option<PatternNumber>,
     empty: Option<PatternNumber>,
+    /// The number of patterns of the grammar, which are the first ones.
+    of_grammar: usize,
 }
 
 impl Model for PatternTable {
@@ -55,7 +57,20 @@ impl PatternTable {
             units: Vec::new(alloc),
             not_allowed: None,
             empty: None,
+            of_grammar: 0,
         }
+    }
+
+    /// Notes that all patterns so far are those of the grammar. Allocates nothing.
+    pub(crate) fn end_grammar(&mut self)
+        ensures { self.new ≡ self.old }
+    {
+        self.of_grammar = self.rows.len();
+    }
+
+    /// Returns whether a pattern is one of the grammar, and not what is left of one. Allocates nothing.
+    pub(crate) fn is_of_grammar(&self, number: PatternNumber) -> bool {
+        number.0 < self.of_grammar
     }
 
     /// Returns the number of patterns. Allocates nothing.

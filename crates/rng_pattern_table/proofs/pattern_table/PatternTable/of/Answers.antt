@@ -4,7 +4,8 @@ use Rattle.std.proofs.lemmas.Option.{slice_get_within}
 use Rattle.rng_model.specs.simple.Table.{AreChildrenBelow, Table, tree_at, tree_over}
 use Rattle.rng_pattern_table.specs.declared.pattern.PatternNumber.{PatternNumber}
 use Rattle.rng_pattern_table.specs.plain.AskedFor.{HasNumber, IsAskedFor, as_part}
-use Rattle.rng_pattern_table.specs.plain.Kept.{IsTakenAs}
+use Rattle.rng_pattern_table.specs.plain.Kept.{AreRestrictedAlike, IsTakenAs}
+use Rattle.rng_pattern_table.specs.views.Taking.{AreTakenAt}
 use Rattle.rng_pattern_table.proofs.KeptRestrictions.{one_kept, restricted_alike}
 use Rattle.rng_pattern_table.proofs.Regrouped.{options_longer}
 use Rattle.rng_pattern_table.proofs.Trees.{Longer-trans}
@@ -73,11 +74,13 @@ returns-clause-long c =
 pub returns-clause-taken : goal.returns-clause-taken
 returns-clause-taken c =
     let us = c.in_ok-uses.uses.by_position.items in
-    taken_where (HasNumber c.args.grammar.now us) (IsAskedFor c.args.grammar.now) c.args.grammar.now c.rows.table c.rows.numbers.items
-    (λ k asked p found. inr (c.in_ok-uses.ensures.own k asked)) c.rows.invariant.taken
+    subst (λ table. AreTakenAt (IsAskedFor c.args.grammar.now) c.args.grammar.now table c.rows.numbers.items) (sym c.end_grammar.ensures)
+    (taken_where (HasNumber c.args.grammar.now us) (IsAskedFor c.args.grammar.now) c.args.grammar.now c.rows.table c.rows.numbers.items
+    (λ k asked p found. inr (c.in_ok-uses.ensures.own k asked)) c.rows.invariant.taken)
 
 pub returns-clause-restricted : goal.returns-clause-restricted
 returns-clause-restricted c =
     let us = c.in_ok-uses.uses.by_position.items in
-    restricted_alike (HasNumber c.args.grammar.now us) c.args.grammar.now c.rows.table c.rows.numbers.items
-    (λ k asked p found. inr (c.in_ok-uses.ensures.own k asked)) c.rows.invariant.kept
+    subst (λ table. AreRestrictedAlike c.args.grammar.now table c.rows.numbers.items) (sym c.end_grammar.ensures)
+    (restricted_alike (HasNumber c.args.grammar.now us) c.args.grammar.now c.rows.table c.rows.numbers.items
+    (λ k asked p found. inr (c.in_ok-uses.ensures.own k asked)) c.rows.invariant.kept)
