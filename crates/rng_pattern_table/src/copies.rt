@@ -36,9 +36,9 @@ impl PatternTable {
     }
 
     /// Returns the sides of the first side of a group, if this one is reassociated. A group of copies of a pattern that
-    /// may be left out is, down to one copy, if more copies follow. Any other group is not where that would unfold a
-    /// shared side: in a nullable group of groups, and in what is left of a group. What is left of a part, and of all that
-    /// is in it, so remains one pattern, and is not one alternative for each way through the part. Allocates nothing.
+    /// may be left out is, down to one copy, if more copies follow. A group of the grammar is, but not a nullable group of
+    /// groups, where that would unfold a shared side. What is left of a group is not: it remains one pattern, and does not
+    /// become a pattern for each way through its parts. Allocates nothing.
     fn opened(
         &self,
         first: PatternNumber,
@@ -62,8 +62,8 @@ impl PatternTable {
                 return None;
             }
         }
-        let is_whole = self.is_of_grammar(first) && !self.is_group(*inner);
-        if self.facts(*outer).nullable && !is_whole {
+        let is_nullable = self.facts(*outer).nullable;
+        if is_nullable && self.is_group(*inner) || !self.is_of_grammar(first) {
             return None;
         }
         Some((*outer, *inner))

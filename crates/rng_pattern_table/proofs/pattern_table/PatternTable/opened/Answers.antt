@@ -13,8 +13,8 @@ returns-then-ne-clause-sides c =
     (group_there c.args.self.now c.args.first.0 c.pattern.result.now c.in-Group.outer c.in-Group.inner c.pattern.ensures.table
     c.pattern.ensures.found c.in-Group.is).2
 
-pub facts-requires-2 : goal.facts-requires-2
-facts-requires-2 c =
+pub facts-is_nullable-requires : goal.facts-is_nullable-requires
+facts-is_nullable-requires c =
     let below = (group_there c.args.self.now c.args.first.0 c.pattern.result.now c.in-Group.outer c.in-Group.inner c.pattern.ensures.table
     c.pattern.ensures.found c.in-Group.is).0 in
     let inside = c.requires.first in
