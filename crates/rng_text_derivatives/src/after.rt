@@ -9,7 +9,7 @@ ghost use Rattle.rng_model.specs.matching.Reading.{Reading};
 ghost use Rattle.rng_model.specs.simple.Table.{Table, tree_at};
 ghost use Rattle.rng_deriv_laws.specs.plain.LevelStates.{IsAfterText};
 ghost use Rattle.rng_deriv_laws.specs.plain.Restricted.{IsRestricted, MayBeListed};
-ghost use Rattle.rng_deriv_laws.specs.plain.Taking.{Same, Takes, WeaklyTakes};
+ghost use Rattle.rng_deriv_laws.specs.plain.Taking.{Takes, WeaklyTakes};
 ghost use Rattle.rng_pattern_table.specs.plain.AskedFor.{IsAskedFor};
 ghost use Rattle.rng_pattern_table.specs.declared.pattern.PatternNumber.{PatternNumber};
 ghost use Rattle.rng_pattern_table.specs.views.PatternTable.{Longer};
@@ -28,6 +28,7 @@ ghost use Rattle.rng_text_derivatives.specs.declared.first.First.TheVariants as 
 
 use crate::context::Context;
 use crate::first::First;
+use crate::joined_sides::with_sides_joined;
 use crate::leaf_tests::{data_takes, is_blank, is_leaf_for, list_body};
 use crate::plans::{TakenPlan, asked, keep_piece, kept_piece, plan_of, rest_by};
 use crate::settled::{Rest, left_by_few, settled};
@@ -174,44 +175,6 @@ fn after_attribute(
 {
     let rest = after(context, table, known, First::Attribute(attr), number)?;
     with_sides_joined(context.alloc, table, rest)
-}
-
-/// Returns a pattern that takes the same as this one. A choice of two that have a side in common becomes one group or
-/// interleave.
-fn with_sides_joined(
-    alloc: Global,
-    table: &mut PatternTable,
-    number: PatternNumber,
-) -> Result<PatternNumber, OutOfMemory>
-    requires { number.0 < length table.old }
-    ensures longer { OnOk result (Longer table.old table.new) }
-    ensures inside { IfOk result (λ n. n.0 < length table.new) }
-    ensures same { IfOk result (λ n. (t : Table) (g : Reading) → Same g (tree_of t table.new n.0) (tree_of t table.old number.0)) }
-    ensures restricted { IfOk result (λ n. (t : Table) → IsRestricted (tree_of t table.old number.0) → IsRestricted (tree_of t table.new n.0)) }
-{
-    let Pattern::Choice(members) = table.pattern(number) else {
-        return Ok(number);
-    };
-    let [first, second] = members.as_slice() else {
-        return Ok(number);
-    };
-    let (first, second) = (*first, *second);
-    if !have_side_in_common(table, first, second) {
-        return Ok(number);
-    }
-    table.joined(alloc, &[first, second])
-}
-
-/// Returns whether two patterns are groups or interleaves with a side in common. Allocates nothing.
-fn have_side_in_common(table: &PatternTable, first: PatternNumber, second: PatternNumber) -> bool
-    requires first { first.0 < length table.now }
-    requires second { second.0 < length table.now }
-{
-    match (table.pattern(first), table.pattern(second)) {
-        (Pattern::Group(a, b), Pattern::Group(c, d)) => a == c || b == d,
-        (Pattern::Interleave(a, b), Pattern::Interleave(c, d)) => a == c || b == d,
-        _ => false,
-    }
 }
 
 /// Returns what is left of a pattern after this.

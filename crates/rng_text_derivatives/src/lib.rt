@@ -8,6 +8,7 @@
 mod after;
 mod context;
 mod first;
+mod joined_sides;
 mod leaf_tests;
 mod plans;
 mod settled;
