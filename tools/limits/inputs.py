@@ -105,7 +105,7 @@ def excepts_and_names(factor):
 
 def attributes_beside_excepted(factor):
     """Classes without brackets. A choice of names is as deep as it has names."""
-    listed = "|".join(short(i) for i in range(max(2, int(900 * factor))))
+    listed = "|".join(short(i) for i in range(max(2, int(990 * factor))))
     return [f"element a {{ attribute * - ({listed}) {{ text }}+, attribute {listed} {{ text }}+ }}"], ""
 
 
@@ -196,6 +196,17 @@ def sides_of_two_bodies(count):
         sides = " & ".join(f"((element a{i} {{ empty }}, b{i}) | (element a{i} {{ text }}, c{i}))" for i in numbers)
         schema = f"start = element doc {{ {sides} }}\n" + defined(f"{name}{i}" for name in "bc" for i in numbers)
         return [schema], root(children(f"{name}{i}" for name in "ac" for i in numbers))
+    return make
+
+
+def sides_of_three_contents(count, sign):
+    """Sides that begin with one of three contents of an attribute, each followed by another attribute that is left out, and values that suit all three."""
+    def make(factor):
+        numbers = range(max(1, int(count * factor)))
+        contents = {"b": "'1'", "c": "token", "d": "text"}
+        sides = (" | ".join(f"(attribute a{i} {{ {content} }}, attribute {name}{i} {{ text }}?)" for name, content in contents.items()) for i in numbers)
+        schema = f"start = element doc {{ {sign.join(f'({side})' for side in sides)} }}\n"
+        return [schema], "(doc\n" + "".join(f"Aa{i} 1\n" for i in numbers) + ")doc\n"
     return make
 
 
@@ -352,7 +363,7 @@ NESTED = [
 ] + [
     ("64 files of 126 `div` in one another, each file included in the one before", "check",
      nested_files("div { ", " }", "start = element a { empty }", 64, "include")),
-    ("attributes of `* - (900 names)`, and of these names", "check", attributes_beside_excepted),
+    ("attributes of `* - (990 names)`, and of these names", "check", attributes_beside_excepted),
     ("a file of 60 excepts of name classes in one another", "check",
      lambda factor: (["element " + "(* - (a | " * 60 + "b" + "))" * 60 + " { empty }"], "")),
     ("a file of 120 excepts of data in one another", "check",
@@ -400,12 +411,15 @@ ROWS = [
     ("60 levels `(x?, x)` over `b`, 300 children", "valid", None, levels(60, "(#?, #)", "element b { empty }", 300)),
     ("60 levels `(x, x?, x?)` over `b`, 300 children", "valid", None, levels(60, "(#, #?, #?)", "element b { empty }", 300)),
     ("60 levels `(x, (x, x?)?)` over `b`, 300 children", "valid", None, levels(60, "(#, (#, #?)?)", "element b { empty }", 300)),
-    ("12 levels `(x+, x?)` over `b`, 50 children", "valid", None, levels(12, "(#+, #?)", "element b { empty }", 50)),
+    ("60 levels `(x+, x?)` over `b`, 50 children", "valid", None, levels(60, "(#+, #?)", "element b { empty }", 50)),
+    ("60 levels `(x, x) | c*` over `b`, 50 children", "valid", None, levels(60, "((#, #) | c*)", "element b { empty }", 50)),
     ("60 levels `(x*, c*)` over `b, c?`, 40 children", "valid", None, levels_over_two("(#*, c*)", 60, 20)),
     ("1,000 members `(a | b)` behind `(a | b)*, a`, 10,000 children", "valid", None, members_behind_a_repetition(1_000, 10_000)),
     ("20 sides `(a, b) | (a, c)` with two bodies of `a` each, interleaved, 40 children", "valid", None, sides_of_two_bodies(20)),
     ("18 sides `(a, b?) | (a, c?)` with two values of an attribute `a` each, in a group", "valid", None, sides_of_two_attributes(18, ", ")),
     ("18 sides `(a, b?) | (a, c?)` with two values of an attribute `a` each, interleaved", "valid", None, sides_of_two_attributes(18, " & ")),
+    ("60 sides with three contents of an attribute each, in a group", "valid", None, sides_of_three_contents(60, ", ")),
+    ("60 sides with three contents of an attribute each, interleaved", "valid", None, sides_of_three_contents(60, " & ")),
     ("a group of 2,000, and as many children", "valid", None, long_group),
     ("900 members of one name with different bodies, and as many children", "valid", None, other_bodies),
     ("2,000 tags of 255 declarations, the last with two of one prefix", "valid", None, prefix_declared_twice),
