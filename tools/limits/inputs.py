@@ -364,6 +364,7 @@ NESTED = [
     ("64 files of 126 `div` in one another, each file included in the one before", "check",
      nested_files("div { ", " }", "start = element a { empty }", 64, "include")),
     ("attributes of `* - (990 names)`, and of these names", "check", attributes_beside_excepted),
+    ("attributes of `* - (990 names)`, and of these names", "simple", attributes_beside_excepted),
     ("a file of 60 excepts of name classes in one another", "check",
      lambda factor: (["element " + "(* - (a | " * 60 + "b" + "))" * 60 + " { empty }"], "")),
     ("a file of 120 excepts of data in one another", "check",
