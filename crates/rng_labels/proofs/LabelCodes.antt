@@ -183,11 +183,14 @@ put_after old mid new c p e f =
 pub put_part : (ps qs : List LabelPart) (p : LabelPart) → qs ≡ ps ++ p ∷ [] → map part_of qs ≡ map part_of ps ++ part_of p ∷ []
 put_part ps qs p e = ap (map part_of) e ∙ map-append part_of ps (p ∷ [])
 
-pub put_none : (old mid new : List Part) (cs : List declared.NameClass) → length cs < 1 → mid ≡ old ++ any ∷ [] → new ≡ mid ++ any_but ∷ []
+pub put_two : (old mid new : List Part) (p q : Part) → mid ≡ old ++ p ∷ [] → new ≡ mid ++ q ∷ [] → new ≡ old ++ p ∷ (q ∷ [])
+put_two old mid new p q e f = f ∙ ap (λ ps. ps ++ q ∷ []) e ∙ append_assoc old (p ∷ []) (q ∷ [])
+
+pub of_none : (old new : List Part) (cs : List declared.NameClass) → length cs < 1 → new ≡ old ++ any ∷ (any_but ∷ [])
     → new ≡ old ++ class_code (some_of (map class_of cs)) []
 unfolding class_code
-put_none old mid new [] n e f = f ∙ ap (λ ps. ps ++ any_but ∷ []) e ∙ append_assoc old (any ∷ []) (any_but ∷ [])
-put_none old mid new (c ∷ cs) n e f = absurd (omega arith)
+of_none old new [] n e = e
+of_none old new (c ∷ cs) n e = absurd (omega arith)
 
 any_except_of : (b : Box declared.NameClass Global) → class_of (classes.AnyExcept b) ≡ any_except (class_of b.value)
 any_except_of b = search (rules, the_lemmas)

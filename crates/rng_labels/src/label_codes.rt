@@ -4,6 +4,7 @@ ghost use Rattle.rng_model.specs.names.Names.{some_of};
 ghost use Rattle.rng_model.specs.schema.Patterns.{without_parameters};
 ghost use Rattle.rng_model.specs.datatypes.DatatypeViews.{datatype_of};
 ghost use Rattle.rng_model.specs.names.NameViews.{class_of};
+ghost use Rattle.rng_labels.specs.plain.LabelCodes.{any, any_but, either};
 ghost use Rattle.rng_labels.specs.plain.LabelCodes.{AreCodesApart, IsPlaced, class_code, codes_of, datatype_code, part_of, value_code};
 
 use indexmap::IndexSet;
@@ -48,7 +49,6 @@ pub fn place_of_code<'a>(
 }
 
 /// Appends a part. Fails only when out of memory.
-// Not inlined, so that `put_class`, which calls itself as deep as a class nests, has a small frame.
 #[inline(never)]
 #[tactic(auto, using(crate::proofs::LabelCodes::put_part))]
 pub fn put<'a>(code: &mut Vec<LabelPart<'a>>, part: LabelPart<'a>) -> Result<(), AllocError>
@@ -59,7 +59,9 @@ pub fn put<'a>(code: &mut Vec<LabelPart<'a>>, part: LabelPart<'a>) -> Result<(),
 }
 
 /// Appends the parts of a name class. Fails only when out of memory.
+// Not inlined, as its frame is large: it has room for a part at each call of `put`.
 #[cycle(codes)]
+#[inline(never)]
 #[tactic(auto, using(crate::proofs::LabelCodes::put_after), unfolding(crate::specs::plain::LabelCodes::class_code))]
 pub fn put_class<'a>(code: &mut Vec<LabelPart<'a>>, class: &'a NameClass) -> Result<(), AllocError>
     ensures { OnOk result (map part_of code.new.items ≡ map part_of code.old.items ++ class_code (class_of class.now) []) }
@@ -84,7 +86,7 @@ pub fn put_class<'a>(code: &mut Vec<LabelPart<'a>>, class: &'a NameClass) -> Res
 
 /// Appends the parts of a choice of these members. A choice of none is every name except every name.
 #[cycle(codes)]
-#[tactic(auto, using(crate::proofs::LabelCodes::put_none))]
+#[tactic(auto, using(crate::proofs::LabelCodes::of_none))]
 fn put_members<'a>(
     code: &mut Vec<LabelPart<'a>>,
     members: &'a [NameClass],
@@ -92,16 +94,46 @@ fn put_members<'a>(
     ensures { OnOk result (map part_of code.new.items ≡ map part_of code.old.items ++ class_code (some_of (map class_of members.now)) []) }
 {
     let [first, rest @ ..] = members else {
-        put(code, LabelPart::Any)?;
-        put(code, LabelPart::AnyBut)?;
-        return Ok(());
+        return put_none(code);
     };
-    put_class(code, first)?;
+    put_member(code, first)?;
     for member in rest {
-        put_class(code, member)?;
-        put(code, LabelPart::Either)?;
+        put_member(code, member)?;
+        put_either(code)?;
     }
     Ok(())
+}
+
+/// Appends the parts of a member of a choice.
+// A list of names nests as deep as it is long (RELAX NG Specification, section 4.12). So a choice in a choice does not
+// go through `put_class`.
+#[cycle(codes)]
+#[tactic(auto, unfolding(crate::specs::plain::LabelCodes::class_code))]
+fn put_member<'a>(code: &mut Vec<LabelPart<'a>>, member: &'a NameClass) -> Result<(), AllocError>
+    ensures { OnOk result (map part_of code.new.items ≡ map part_of code.old.items ++ class_code (class_of member.now) []) }
+{
+    match member {
+        NameClass::Choice(members) => put_members(code, members),
+        _ => put_class(code, member),
+    }
+}
+
+/// Appends the parts of every name except every name.
+#[inline(never)]
+#[tactic(auto, using(crate::proofs::LabelCodes::put_two))]
+fn put_none<'a>(code: &mut Vec<LabelPart<'a>>) -> Result<(), AllocError>
+    ensures { OnOk result (map part_of code.new.items ≡ map part_of code.old.items ++ any ∷ (any_but ∷ [])) }
+{
+    put(code, LabelPart::Any)?;
+    put(code, LabelPart::AnyBut)
+}
+
+/// Appends the part of a choice of two classes.
+#[inline(never)]
+fn put_either<'a>(code: &mut Vec<LabelPart<'a>>) -> Result<(), AllocError>
+    ensures { OnOk result (map part_of code.new.items ≡ map part_of code.old.items ++ either ∷ []) }
+{
+    put(code, LabelPart::Either)
 }
 
 /// Appends the parts of a datatype. Fails only when out of memory.

@@ -100,6 +100,7 @@ impl<'a> Alternatives<'a> {
     }
 
     /// Adds a name, or all names of a namespace.
+    // Not inlined, so that `add` has a small frame.
     #[inline(never)]
     fn add_written(&mut self, ns: &'a str, local: Option<&'a str>) -> Result<(), OutOfMemory>
         ensures class { OnOk result (self.new.class ≡ self.old.class) }

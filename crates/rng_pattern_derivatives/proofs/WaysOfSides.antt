@@ -1,5 +1,5 @@
 -- Ways of a whole, from those of its sides: the law, and what is kept.
-use Rattle.std.proofs.Common.{◌≡◌, ℕ, List, [], ◌∷◌, ◌++◌, map, refl, sym, ap, subst, arith, true, false, cond}
+use Rattle.std.proofs.Common.{◌≡◌, ℕ, List, [], ◌∷◌, ◌++◌, map, refl, sym, ap, subst, arith, false, cond}
 use Rattle.std.proofs.lemmas.List.{append-nil}
 use Rattle.rng_model.specs.simple.Tree.{Simple, choice, group, s_not_allowed}
 use Rattle.rng_model.specs.simple.Tree.{s_one_or_more, s_joined}
@@ -30,7 +30,7 @@ use Rattle.rng_pattern_derivatives.specs.declared.way.Kind.TheVariants as kinds
 use Rattle.rng_pattern_derivatives.specs.declared.way.Place.{Place}
 use Rattle.rng_pattern_derivatives.proofs.KeptRestrictions.{Obeys-hereditary, each_both}
 use Rattle.rng_pattern_derivatives.proofs.WayLists.{inside_longer, law_moves, ways_stay}
-use Rattle.rng_pattern_derivatives.proofs.NumberedWays.{behind-whole, stands_as, stands_itself, stands_longer, stands_more}
+use Rattle.rng_pattern_derivatives.proofs.NumberedWays.{behind-whole, stands_as, stands_itself, stands_more}
 use Rattle.rng_pattern_derivatives.proofs.WaysOfLeaves.{no_law}
 
 -- numbered ways that represent ways of a pattern are ways of it
@@ -170,39 +170,6 @@ both_made t n2 n3 n4 kind joint first second p q firsts seconds none some all or
 
     Whole : Table → List Way
     Whole t = Before t ++ After t
-
--- a first side, and the second if the first is nullable
-pub group_made : (t : Table) (n1 n2 n3 n4 : List Node) (kind : Kind) (second : PatternNumber) (p q : Simple ℕ)
-    (firsts seconds none some all : List numbered.LeafWay)
-    → IsOfItems kind → is_nullable p ≡ true → none ≡ [] → tree_of t n1 second.0 ≡ q
-    → AreWaysOf t n1 kind p firsts → AreWaysOf t n3 kind q seconds → Longer n2 n3
-    → StandFor n2 some (λ t. ways_by (tree_of t n1) none ++ behind (filled (tree_of t n1) (holes.First joints.Group second)) (ways_by (tree_of t n1) firsts))
-    → StandFor n4 all (λ t. ways_by (tree_of t n3) some ++ behind (filled (tree_of t n3) holes.Whole) (ways_by (tree_of t n3) seconds))
-    → AreWaysOf t n4 kind (s_joined group p q) all
-group_made t n1 n2 n3 n4 kind second p q firsts seconds none some all item nullable empty second_is a b longer s u =
-    made t n4 kind (s_joined group p q) all (λ t. Before t ++ After t) (stands_more n3 n4 some all Before After (stands_longer n2 n3 some Before longer s) u)
-    (subst (λ ns. AreWays (reading_of t) kind (s_joined group p q) ((ways_by (tree_of t n1) ns ++ Side) ++ After t)) (sym empty)
-    (subst (λ vs. AreWays (reading_of t) kind (s_joined group p q) (Side ++ vs)) (sym (behind-whole (ways_by (tree_of t n3) seconds)))
-    (subst (λ b. AreWays (reading_of t) kind (s_joined group p q) (Side ++ cond b (ways_by (tree_of t n3) seconds) [])) nullable
-    (group_law (reading_of t) kind p q (λ r. group_of r (tree_of t n1 second.0)) (ways_by (tree_of t n1) firsts) (ways_by (tree_of t n3) seconds) item
-    (λ r. subst (λ o. Same (reading_of t) (group_of r o) (s_joined group r q)) (sym second_is) (group_of-same (reading_of t) r q)) a.law b.law))))
-    (λ place o.
-    let sides = (Obeys-hereditary place).sides group p q o in
-    subst (λ ns. AreKept kind place ((ways_by (tree_of t n1) ns ++ Side) ++ After t)) (sym empty)
-    (subst (λ vs. AreKept kind place (Side ++ vs)) (sym (behind-whole (ways_by (tree_of t n3) seconds)))
-    (each_both _ _ Side (ways_by (tree_of t n3) seconds)
-    (behind_kept kind place _ (λ r k. joined_obeys joints.Group place r (tree_of t n1 second.0) k (subst (Obeys place) (sym second_is) sides.1))
-    (ways_by (tree_of t n1) firsts) (a.kept place sides.0))
-    (b.kept place sides.1))))
-  where
-    Side : List Way
-    Side = behind (λ r. group_of r (tree_of t n1 second.0)) (ways_by (tree_of t n1) firsts)
-
-    Before : Table → List Way
-    Before t = ways_by (tree_of t n1) none ++ behind (filled (tree_of t n1) (holes.First joints.Group second)) (ways_by (tree_of t n1) firsts)
-
-    After : Table → List Way
-    After t = behind (filled (tree_of t n3) holes.Whole) (ways_by (tree_of t n3) seconds)
 
 some_ways : Kind → Simple ℕ → List Way
 some_ways kind q = item_ways q

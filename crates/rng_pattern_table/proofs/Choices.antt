@@ -14,7 +14,7 @@ use Rattle.rng_pattern_table.specs.views.Choices.{IsAlternativeOf, SomeTakes}
 use Rattle.rng_pattern_table.specs.views.Trees.{choice_over}
 use Rattle.rng_pattern_table.specs.declared.pattern.PatternNumber.{PatternNumber}
 
-abbrev numbers : List PatternNumber → List ℕ
+abbrev pub numbers : List PatternNumber → List ℕ
 numbers ms = map (λ (m : PatternNumber). m.0) ms
 
 pub only_one : (m n : PatternNumber) → Contains (m ∷ []) n → m ≡ n

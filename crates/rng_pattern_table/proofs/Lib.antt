@@ -10,7 +10,7 @@ mod PatternKinds
 pub mod Choices
 pub mod Alternatives
 mod AbsorbedAlternatives
-mod WiderParts
+pub mod WiderParts
 mod OnlyMember
 mod ContentTypes
 mod KeptRestrictions

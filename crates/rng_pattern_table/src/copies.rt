@@ -11,9 +11,9 @@ use crate::pattern_table::PatternTable;
 use rng_model::OutOfMemory;
 
 impl PatternTable {
-    /// Returns the sides of a group of these two after its first side is reassociated to the right. If copies of a pattern
-    /// that may be left out are at the front, this goes down to a first copy: the sides are that copy, and everything
-    /// after it. Fails only when out of memory. The cost is one look-up for each group that is opened.
+    /// Returns the sides of a group of these two after its first side is reassociated to the right. If copies of an
+    /// option are at the front, the sides are the first copy, and all that follows it. Fails only when out of memory. The
+    /// cost is one look-up for each group that is opened.
     pub fn reassociated(
         &mut self,
         first: PatternNumber,
@@ -35,10 +35,10 @@ impl PatternTable {
         Ok((front, rest))
     }
 
-    /// Returns the sides of the first side of a group, if this one is reassociated. A group of copies of a pattern that
-    /// may be left out is, down to one copy, if more copies follow. A group of the grammar is, but not a nullable group of
-    /// groups, where that would unfold a shared side. What is left of a group is not: it remains one pattern, and does not
-    /// become a pattern for each way through its parts. Allocates nothing.
+    /// Returns the sides of the first side of a group, if the first side is to be reassociated. Copies of an option are
+    /// reassociated down to one copy, if more copies follow. A group of the grammar is reassociated, except a nullable
+    /// group of groups, since that would unfold a shared side. What is left of a group is not reassociated, so that it
+    /// remains one pattern instead of one for each way through its parts. Allocates nothing.
     fn opened(
         &self,
         first: PatternNumber,
@@ -76,8 +76,8 @@ impl PatternTable {
         matches!(self.pattern(number), Pattern::Group(_, _))
     }
 
-    /// Returns what is in a pattern after the copies of `unit` with which it begins, or `None` if it consists only of
-    /// such copies. Allocates nothing. The cost is one comparison for each group of copies at the front.
+    /// Returns what follows the copies of `unit` at the front of a pattern, or `None` if the pattern consists of such
+    /// copies alone. Allocates nothing. The cost is one comparison for each group of copies at the front.
     pub fn behind_copies(&self, unit: PatternNumber, number: PatternNumber) -> Option<PatternNumber>
         requires unit { unit.0 < length self.now }
         requires number { number.0 < length self.now }

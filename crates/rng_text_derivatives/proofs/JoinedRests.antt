@@ -18,13 +18,11 @@ use Rattle.rng_pattern_table.specs.views.Node as node
 use Rattle.rng_pattern_table.specs.views.PatternTable.{IsPatternTable, Longer}
 use Rattle.rng_pattern_table.specs.views.Trees.{choice_over, tree_of}
 use Rattle.rng_pattern_table.specs.declared.pattern.PatternNumber.{PatternNumber}
-use Rattle.rng_pattern_table.proofs.Choices.{all_within, of_choice, only_one, takes_some}
+use Rattle.rng_pattern_table.proofs.Choices.{all_within, numbers, of_choice, only_one, takes_some}
 use Rattle.rng_pattern_table.proofs.Trees.{Longer-refl, Longer-trans, tree_of-over_parts, tree_stays}
+use Rattle.rng_pattern_table.proofs.WiderParts.{of_two}
 use Rattle.rng_text_derivatives.specs.plain.After.{IsLeft}
 use Rattle.rng_text_derivatives.specs.declared.first.First.TheVariants as firsts
-
-abbrev numbers : List PatternNumber → List ℕ
-numbers ms = map (λ (m : PatternNumber). m.0) ms
 
 -- the members of a choice are before it, and it is a choice of their trees
 pub choice_there : (ns : List Node) (i : ℕ) (ms : List PatternNumber) → IsPatternTable ns → slice_get ns i ≡ Some (node.choice (numbers ms))
@@ -84,11 +82,6 @@ first_joined old ms d some below =
       );
       restricted = λ t all. All-contains (λ (k : PatternNumber). IsRestricted (tree_of t old k.0)) (m ∷ []) m all (Contains-push [] m);
     })
-
--- one of two
-of_two : (P : PatternNumber → Type 0) (m n : PatternNumber) → ((k : PatternNumber) × Contains (m ∷ n ∷ []) k × P k) → P m ⊎ P n
-of_two P m n h = ⊎_elim (λ c. inl (subst P (sym (only_one m h.0 c)) h.2)) (λ c. inr (subst P (sym (only_one n h.0 c)) h.2))
-    (Contains-append_cases (m ∷ []) (n ∷ []) h.0 h.1)
 
 pub all_of_two : (P : PatternNumber → Type 0) (m n : PatternNumber) → P m → P n → All P (m ∷ n ∷ [])
 all_of_two P m n p q zero d h = p

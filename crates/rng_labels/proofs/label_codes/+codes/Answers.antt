@@ -13,8 +13,8 @@ put_members-loop-member-init t c =
     let rest = take (length c.args.members.now - 1) (drop 1 c.args.members.now) in
     let whole : c.first-item.result ∷ rest ≡ c.args.members.now =
     ap (λ first. first ∷ rest) c.first-item.is ∙ sym (first_rest c.args.members.now c.first-item.result (omega (arith, c.in-len1-up.len_at_least))) in
-    starts (map part_of c.args.code.now.items) (map part_of c.put_class.new.code.items) (class_of c.first-item.result) (map class_of rest)
-    c.in_ok-put_class.ensures ∙ ap (λ cs. map part_of c.args.code.now.items ++ class_code (some_of (map class_of cs)) []) whole
+    starts (map part_of c.args.code.now.items) (map part_of c.put_member.new.code.items) (class_of c.first-item.result) (map class_of rest)
+    c.in_ok-put_member.ensures ∙ ap (λ cs. map part_of c.args.code.now.items ++ class_code (some_of (map class_of cs)) []) whole
 
 pub put_members-loop-member-preserved : goal.put_members-loop-member-preserved
 put_members-loop-member-preserved t c =
@@ -22,8 +22,8 @@ put_members-loop-member-preserved t c =
     let i = c.loop-member.member-index in
     let next : drop i rest ≡ c.member-item.result ∷ drop (i + 1) rest =
     drop_more rest i c.member-item.result c.loop-member-test.true ∙ ap (λ y. y ∷ drop (i + 1) rest) (sym c.member-item.is) in
-    goes_on (map part_of c.loop-member.code.items) (map part_of c.put_class-in-loop-member.new.code.items) (map part_of c.put-in-loop-member.new.code.items)
-    (class_of c.member-item.result) (map class_of (drop (i + 1) rest)) c.in_ok-put_class-2.ensures c.in_ok-put-3.ensures
+    goes_on (map part_of c.loop-member.code.items) (map part_of c.put_member-in-loop-member.new.code.items) (map part_of c.put_either.new.code.items)
+    (class_of c.member-item.result) (map class_of (drop (i + 1) rest)) c.in_ok-put_member-2.ensures c.in_ok-put_either.ensures
     ∙ ap (λ es. map part_of c.loop-member.code.items ++ more_code (classes_of (map class_of es)) []) (sym next) ∙ c.loop-member.invariant
 
 pub put_members-returns : goal.put_members-returns
