@@ -177,6 +177,15 @@ def levels_over_two(rule, count, pairs):
     return make
 
 
+def interleaved_levels(count):
+    """Definitions, each a repetition of the next one beside a child of its own, and a document of these children, the innermost first."""
+    def make(factor):
+        names = [f"c{i}" for i in range(int(count * factor))]
+        rules = "".join(f"x{i} = (x{i + 1} & {name}?)*\n" for i, name in enumerate(names))
+        return [f"start = element doc {{ x0 }}\n{rules}x{len(names)} = empty\n{defined(names)}"], root(children(reversed(names)))
+    return make
+
+
 def members_behind_a_repetition(members, count):
     """A list of `a | b` behind `(a | b)*, a`, and a valid document of random children. Half of the members are alternatives behind each child."""
     def make(factor):
@@ -415,6 +424,7 @@ ROWS = [
     ("60 levels `(x+, x?)` over `b`, 50 children", "valid", None, levels(60, "(#+, #?)", "element b { empty }", 50)),
     ("60 levels `(x, x) | c*` over `b`, 50 children", "valid", None, levels(60, "((#, #) | c*)", "element b { empty }", 50)),
     ("60 levels `(x*, c*)` over `b, c?`, 40 children", "valid", None, levels_over_two("(#*, c*)", 60, 20)),
+    ("160 levels `(x & c1?)*` with a name each, and a child of each, the innermost first", "valid", None, interleaved_levels(160)),
     ("1,000 members `(a | b)` behind `(a | b)*, a`, 10,000 children", "valid", None, members_behind_a_repetition(1_000, 10_000)),
     ("20 sides `(a, b) | (a, c)` with two bodies of `a` each, interleaved, 40 children", "valid", None, sides_of_two_bodies(20)),
     ("18 sides `(a, b?) | (a, c?)` with two values of an attribute `a` each, in a group", "valid", None, sides_of_two_attributes(18, ", ")),

@@ -16,9 +16,9 @@ use Rattle.rng_pattern_table.specs.views.Choices.{Covers}
 use Rattle.rng_pattern_table.specs.views.Node.{Node}
 use Rattle.rng_pattern_table.specs.views.Node as node
 use Rattle.rng_pattern_table.specs.views.PatternTable.{IsPatternTable}
-use Rattle.rng_pattern_table.specs.views.Trees.{tree_of, tree_over}
+use Rattle.rng_pattern_table.specs.views.Trees.{choice_over, tree_of, tree_over}
 use Rattle.rng_pattern_table.specs.declared.pattern.PatternNumber.{PatternNumber}
-use Rattle.rng_pattern_table.proofs.Choices.{only_one}
+use Rattle.rng_pattern_table.proofs.Choices.{numbers, of_choice, only_one, takes_some}
 use Rattle.rng_pattern_table.proofs.Trees.{tree_of-over_parts}
 
 module _ (ns : List Node) (table : IsPatternTable ns) where
@@ -31,6 +31,11 @@ module _ (ns : List Node) (table : IsPatternTable ns) where
   empty_covered outer inner part none = λ t g xs is d. only t g xs is (subst (λ (p : Simple ℕ). Takes g p xs is) (over t inner _ part) d) where
     only : (t : Table) (g : Reading) (xs : List Attribute) (is : List Item) → Takes g s_empty xs is → Takes g (tree_of t ns outer.0) xs is
     only t g xs is taking.empty_is = none t g
+
+  pub choice_covers : (outer inner : PatternNumber) (ms : List PatternNumber) → slice_get ns outer.0 ≡ Some (node.choice (numbers ms)) → Contains ms inner
+      → Covers ns outer inner
+  choice_covers outer inner ms whole among = λ t g xs is d. subst (λ (p : Simple ℕ). Takes g p xs is) (sym (over t outer _ whole))
+      ((takes_some g (tree_of t ns) ms (choice_over (tree_of t ns) (numbers ms)) (of_choice (tree_of t ns) ms) xs is).1 (inner, among, d))
 
   module _ (outer first second : PatternNumber) where
     pub group_covers : (inner front rest : PatternNumber) → slice_get ns outer.0 ≡ Some (node.group first.0 second.0)

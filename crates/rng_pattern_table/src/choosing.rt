@@ -24,9 +24,9 @@ use std::collections::HashSet;
 impl PatternTable {
     /// Returns a choice of the members: notAllowed if there are none, and the member itself if there is one. The order
     /// of members, and how often each occurs, make no difference. If `p` may be left out, `q` is dropped beside `p, q`.
-    /// Of two alternatives, one that the other covers is dropped, as `a & c` beside `a & b? & c`. The same holds for
-    /// two such alternatives that are followed by the same pattern. If `p` may be left out, `q, r` is dropped next to
-    /// `(p, q), r`.
+    /// Of two alternatives, one that the other covers is dropped, as `a & c` beside `a & b? & c` or `(a | b) & c`. The
+    /// same holds for two such alternatives that are followed by the same pattern. If `p` may be left out, `q, r` is
+    /// dropped next to `(p, q), r`.
     ///
     /// RELAX NG Specification, sections 6.2.1 and 4.20. The result obeys the restrictions of section 7 if all members
     /// do. Fails only when out of memory. The cost is a sort of all alternatives, or one pass over the members if those

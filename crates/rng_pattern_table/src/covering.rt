@@ -139,8 +139,9 @@ impl PatternTable {
     }
 
     /// Returns whether a pattern covers another one. Groups and interleaves are compared part by part, where a part
-    /// that the other one lacks may be left out. False means that it is not known. Allocates nothing. The cost is at
-    /// most one pass over the parts of the first pattern.
+    /// that the other one lacks may be left out. A choice covers its members. False means that it is not known.
+    /// Allocates nothing. The cost is at most one pass over the parts of the first pattern, and for a choice the
+    /// logarithm of the number of its members.
     fn covers(&self, outer: PatternNumber, inner: PatternNumber) -> bool
         requires outer { outer.0 < length self.now }
         requires inner { inner.0 < length self.now }
@@ -150,6 +151,7 @@ impl PatternTable {
             return true;
         }
         match self.pattern(outer) {
+            Pattern::Choice(members) => is_among(members.as_slice(), inner),
             Pattern::Group(first, second) => match self.pattern(inner) {
                 Pattern::Group(front, rest) if rest == second => self.covers(*first, *front),
                 _ => false,
@@ -187,4 +189,12 @@ impl PatternTable {
             && !other.elements.may_meet(inner.elements)
             && inner.members <= self.facts(side).members
     }
+}
+
+/// Returns true only if a pattern is one of these, whose numbers rise. Allocates nothing. The cost is the logarithm of
+/// how many there are.
+fn is_among(members: &[PatternNumber], number: PatternNumber) -> bool
+    ensures { IsTrue result → Contains members.now number }
+{
+    members.binary_search(&number).is_ok()
 }

@@ -1,7 +1,8 @@
-use Rattle.std.proofs.Common.{◌≡◌, ◌∙◌, Option, Some, ap, arith, eqb-true, refl, sym}
+use Rattle.std.proofs.Common.{◌≡◌, ◌∙◌, Option, Some, ap, arith, eqb-true, refl, subst, sym}
+use Rattle.std.specs.List.{Contains}
 use Rattle.rng_pattern_table.specs.views.Node.{Node, node_of}
 use Rattle.rng_pattern_table.specs.declared.pattern.Pattern.{Pattern}
-use Rattle.rng_pattern_table.proofs.WiderParts.{first_covers, group_covers, interleave_covers, second_covers}
+use Rattle.rng_pattern_table.proofs.WiderParts.{choice_covers, first_covers, group_covers, interleave_covers, second_covers}
 use Rattle.rng_pattern_table.proofs.pattern_table.PatternTable.+covers.Goals as goal
 
 is_there : {row : Option Node} {p q : Pattern} → row ≡ Some (node_of p) → p ≡ q → row ≡ Some (node_of q)
@@ -110,3 +111,8 @@ returns-then-covers t c = λ yes.
     interleave_covers c.args.self.now c.pattern.ensures.table c.args.outer c.in-Interleave.first c.in-Interleave.second whole c.args.inner
     c.in-Interleave-pattern.one c.in-Interleave-pattern.other part (c.if-covers.ensures refl)
     (c.covers-then-covers.ensures yes)
+
+pub returns-in-Choice : goal.returns-in-Choice
+returns-in-Choice t c = λ yes.
+    choice_covers c.args.self.now c.pattern.ensures.table c.args.outer c.args.inner c.in-Choice.members.items
+    (is_there c.pattern.ensures.found c.in-Choice.is) (subst (λ ms. Contains ms c.args.inner) c.as_slice.ensures.value (c.is_among.ensures yes))
