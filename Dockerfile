@@ -5,7 +5,7 @@
 #   docker run --rm -v "$PWD:/work" rncv schema.rnc document.xml
 #
 # The context is the folder of the package: nothing is built here. The base has to be the Debian that the package was built on, or a later one.
-# Installing it takes expat and Python from Debian's archive. Other programs: docker run --rm -i --entrypoint rncv rncv ..
+# Installing it takes libxml2 and Python from Debian's archive. Other programs: docker run --rm -i --entrypoint rncv rncv ..
 ARG BASE=debian:12-slim
 FROM $BASE
 COPY rncv_*.deb /tmp/

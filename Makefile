@@ -9,12 +9,13 @@
 #
 # docs/INSTALL.md says what is installed where.
 
-PREFIX = /usr/local
-DESTDIR =
+# Each of these is taken from the command line, else from the environment: packagers write `DESTDIR=/stage make install`.
+PREFIX ?= /usr/local
+DESTDIR ?=
 # Where things are built.
-PROGRAM = crates/rncv/out/rncv
-LIBRARY = build/library
-XML_PROGRAMS = build/xml
+PROGRAM ?= crates/rncv/out/rncv
+LIBRARY ?= build/library
+XML_PROGRAMS ?= build/xml
 
 # Commands see these by their environment, so that blanks in them need no care.
 export DESTDIR PROGRAM LIBRARY XML_PROGRAMS
@@ -26,13 +27,15 @@ all: build
 build:
 	cd crates/rncv && rt run -- valid ../../examples/first/s.rnc < ../../examples/first/document.pyx
 	PREFIX= tools/library/build.sh "$$LIBRARY"
+	PREFIX= RNCV_LIBRARY= tools/xml/library.sh "$$LIBRARY"
 	RNCV_LIBRARY="$$LIBRARY" tools/xml/build.sh "$$XML_PROGRAMS"
 
 try:
 	cd crates/rncv && rt try --data s.rnc=../../examples/letter/s.rnc -- valid s.rnc < ../../examples/letter/document.pyx
 
+# PREFIX of the environment is for `make install`; what tests build names the folder where it is
 test:
-	.ci/run
+	PREFIX= .ci/run
 
 install:
 	@tools/package/install.sh install

@@ -1,7 +1,7 @@
 #!/bin/sh
 # Installs what the tools want, on Debian and its kin:   tools/setup.sh
 #
-# That is a C compiler, binutils, make, Python 3, and the headers of expat. What is there is left alone. It prints the command that it runs, and
+# That is a C compiler, binutils, make, Python 3, and the headers of libxml2. What is there is left alone. It prints the command that it runs, and
 # changes nothing else. Where it cannot install (it is not root, there is no apt-get, or no network), it says what is missing. Its status is 0 then too.
 set -eu
 
@@ -38,13 +38,14 @@ look() {
   Python 3.9 or later (python3)"
         packages="$packages python3"
     }
-    printf '#include <expat.h>\n#if XML_MAJOR_VERSION * 100 + XML_MINOR_VERSION < 204\n#error\n#endif\nint main(void) { return !XML_ExpatVersion(); }\n' > "$room/expat.c"
-    if command -v "$cc" > /dev/null && $cc -o "$room/expat" "$room/expat.c" -lexpat 2> "$room/log"; then
+    printf '#include <libxml/parser.h>\n#if LIBXML_VERSION < 20910\n#error\n#endif\nint main(void) { xmlInitParser(); return 0; }\n' > "$room/xml.c"
+    # shellcheck disable=SC2046  # these are words
+    if command -v "$cc" > /dev/null && $cc $(xml2-config --cflags 2> "$room/log" || echo -I/usr/include/libxml2) -o "$room/xml" "$room/xml.c" -lxml2 2> "$room/log"; then
         :
     else
         missing="$missing
-  expat 2.4 or later, with its headers"
-        packages="$packages libexpat1-dev"
+  libxml2 2.9.10 or later, with its headers"
+        packages="$packages libxml2-dev"
     fi
 }
 

@@ -2,7 +2,7 @@
 # Tests of all that is around the program:   tools/test.sh [PROGRAM]     (PROGRAM: the built rncv, else crates/rncv/out/rncv, where `rt ci` and `rt run`
 # leave it). RNCV_LIBRARY names the folder of the built library, else build/library.
 #
-# They want Python 3 and no package; tools/xml wants a C compiler, the headers of expat and the library. What is not installed is reported, and what wants
+# They want Python 3 and no package; tools/xml wants a C compiler, the headers of libxml2 and the library. What is not installed is reported, and what wants
 # it is skipped. The parts run side by side, in some two minutes, and what they print comes in order. The tests of the library come after them: they
 # build it once more, by the other compiler, which takes minutes and wants `rt`. RNCV_SKIP=library leaves them out.
 here=$(cd "$(dirname "$0")" && pwd)
@@ -16,7 +16,7 @@ RNCV_XML_PROGRAMS=$room/programs
 export RNCV_XML_PROGRAMS
 failed=
 
-# what wants expat, the library or a C compiler is skipped where these are missing; the script says which
+# what wants libxml2, the library or a C compiler is skipped where these are missing; the script says which
 "$here/xml/build.sh" "$RNCV_XML_PROGRAMS"
 case $? in
   0) built=1 ;;

@@ -142,3 +142,43 @@ def renamed(pattern):
     for at, it in enumerate(inner):
         for other in renamed(it):
             yield with_children(pattern, inner[:at] + [other] + inner[at + 1:])
+
+
+def reduced_parts(parts, fails, end):
+    """The shortest list of parts with the fault that is found until `end`. It removes runs of parts, long ones first, and then two parts that are apart."""
+    size = len(parts) // 2
+    while size > 0 and time.monotonic() < end:
+        at, before = 0, len(parts)
+        while at + size <= len(parts) and time.monotonic() < end:
+            fewer = parts[:at] + parts[at + size:]
+            if fails(fewer):
+                parts = fewer
+            else:
+                at += size if size > 8 else 1
+        if size > 8:
+            size //= 2
+        elif len(parts) == before:
+            size -= 1
+    return without_pairs(parts, fails, end) if len(parts) < 60 else parts
+
+
+def without_pairs(parts, fails, end):
+    """Removes two parts at once, such as the tags of an element."""
+    first = 0
+    while first < len(parts):
+        for second in range(first + 2, len(parts)):
+            fewer = parts[:first] + parts[first + 1:second] + parts[second + 1:]
+            if time.monotonic() < end and fails(fewer):
+                parts = fewer
+                break
+        else:
+            first += 1
+    return parts
+
+
+def reduced_bytes(data, splits, fails, seconds=SECONDS):
+    """The smallest bytes with the fault that are found in time. Each of `splits` gives the parts of bytes: large parts are removed first."""
+    end = time.monotonic() + seconds
+    for split in splits:
+        data = b"".join(reduced_parts(split(data), lambda parts: fails(b"".join(parts)), end))
+    return data

@@ -1,7 +1,8 @@
 #!/usr/bin/env python3
 """A quick test of the fuzz tool:   tools/fuzz/test.py [PROGRAM]
 
-Some cases of a fixed seed find nothing. In a program with a planted fault the fault is found, and the case is made small.
+Some cases of a fixed seed find nothing. In a program with a planted fault the fault is found, and the case is made small. The same holds of documents in
+XML, for the `rncv-xml` in the folder that RNCV_XML_PROGRAMS names.
 """
 import os
 import pathlib
@@ -10,8 +11,14 @@ import sys
 import tempfile
 import unittest
 
+import xml_differences
+import xml_documents
+import xml_judges
+import xml_run
+
 HERE = pathlib.Path(__file__).resolve().parent
 PROGRAM = HERE.parents[1] / "crates/rncv/out/rncv"
+RNCV_XML = pathlib.Path(os.environ.get("RNCV_XML_PROGRAMS", HERE.parents[1] / "build/xml")).resolve() / "rncv-xml"
 # It calls a valid document invalid if the schema has an interleave.
 FAULTY = """#!/bin/sh
 answer=$("$REAL_PROGRAM" "$@")
@@ -29,6 +36,15 @@ answer=$("$REAL_PROGRAM" "$@")
 status=$?
 printf '%s\\n' "$answer" | sed 's/^invalid line .*/invalid line 1/'
 exit $status
+"""
+
+
+# It ends by a signal if a document has a section of CDATA.
+CRASHING = """#!/bin/sh
+for name; do
+  case $name in *.xml) grep -q 'CDATA' "$name" && kill -SEGV $$ ;; esac
+done
+exec "$REAL_PROGRAM" "$@"
 """
 
 
@@ -64,6 +80,58 @@ class FuzzTest(unittest.TestCase):
     def test_that_a_hasty_line_is_found(self):
         schema, _, report = self.found(HASTY, "continuations")
         self.assertLess(len(schema), 80, report)
+
+
+class XmlTest(unittest.TestCase):
+    """`xml_run.py` without jing: the runs of rncv-xml alone are looked at."""
+
+    def test_that_parts_join_to_the_document(self):
+        for number in range(50):
+            data = xml_documents.mutant(number)
+            for split in (xml_documents.markup, xml_documents.tokens, xml_documents.characters):
+                self.assertEqual(b"".join(split(data)), data)
+            self.assertEqual(data, xml_documents.mutant(number))
+
+    def test_that_each_explanation_is_in_the_table(self):
+        table = (HERE.parents[1] / "docs/XML.md").read_text(encoding="utf-8")
+        self.assertEqual([key for key in sorted(xml_differences.KEYS) if f"\n| `{key}` | " not in table], [])
+
+    def test_that_a_difference_is_explained(self):
+        said = xml_judges.Said
+        for ours, theirs, data, agreed, key in (
+                (said("outside", "external entity 's.ent' is not loaded: outside the profile"), said("valid"), b"<a/>", None, "unread"),
+                (said("valid"), said("malformed"), "<\ua000/>".encode(), "valid", "names"),
+                (said("valid"), said("malformed"), "<\ua000/>".encode(), "malformed", None),
+                (said("valid"), said("malformed"), b"<?xml version='1.7'?><a/>", "valid", "versions"),
+                (said("malformed"), said("valid"), b"<?xml version='1.0' encoding='EUC-JP'?><a>\xa4</a>", None, "jing-bytes"),
+                (said("malformed"), said("valid"), b"<a/>", None, None)):
+            found = xml_differences.explanation(data, xml_run.Difference("any.rnc", ours, theirs), lambda changed, agreed=agreed: agreed)
+            self.assertEqual(found, key)
+
+    def judged(self, program, *words):
+        with tempfile.TemporaryDirectory() as room:
+            run = subprocess.run([sys.executable, "-B", HERE / "xml_run.py", "--no-jing", "--seed", "test", "--program", program, "--found", room,
+                                  *map(str, words)], capture_output=True, text=True, check=False,
+                                 env={**os.environ, "REAL_PROGRAM": str(RNCV_XML)})
+            found = [it.read_bytes() for it in sorted(pathlib.Path(room).glob("*.xml"))]
+            return run.returncode, run.stdout + run.stderr, found
+
+    def test_that_each_document_is_answered(self):
+        if not RNCV_XML.exists():
+            self.skipTest(f"there is no {RNCV_XML}")
+        status, told, _ = self.judged(RNCV_XML, "--count", 100, "--mutants", 100)
+        self.assertEqual(status, 0, told)
+        self.assertIn("0 differences without an explanation", told)
+
+    def test_that_a_crash_is_found_and_made_small(self):
+        if not RNCV_XML.exists():
+            self.skipTest(f"there is no {RNCV_XML}")
+        with tempfile.TemporaryDirectory() as room:
+            crashing = pathlib.Path(room, "rncv-xml")
+            crashing.write_text(CRASHING)
+            crashing.chmod(0o755)
+            status, told, found = self.judged(crashing, "--count", 20, "--mutants", 0, "--most", 1)
+        self.assertEqual((status, found), (1, [b"CDATA"]), told)
 
 
 if __name__ == "__main__":

@@ -39,7 +39,9 @@ objcopy --wildcard --keep-global-symbol='rncv_*' "$folder/rncv.o"
 cp "$here/include/rncv.h" "$folder/include/rncv.h"
 ar rcs "$folder/lib/librncv.a" "$folder/rncv.o"
 major=$(number MAJOR)
-$cc -shared -o "$folder/lib/librncv.so.$version" "$folder/rncv.o" -Wl,-soname,"librncv.so.$major" -Wl,-z,defs -Wl,-z,text
+# shellcheck disable=SC2046  # flags are words
+$cc -shared -o "$folder/lib/librncv.so.$version" "$folder/rncv.o" -Wl,-soname,"librncv.so.$major" -Wl,-z,defs -Wl,-z,text \
+    $("$top/tools/package/hardening.sh" library)
 ln -sf "librncv.so.$version" "$folder/lib/librncv.so.$major"
 ln -sf "librncv.so.$major" "$folder/lib/librncv.so"
 sed -e "s|@prefix@|$prefix|" -e "s|@version@|$version|" "$here/rncv.pc.in" > "$folder/lib/pkgconfig/rncv.pc"

@@ -24,7 +24,13 @@ room=$(mktemp -d)
 trap 'rm -rf "$room"' EXIT
 root=$room/root
 
-RNCV_REQUIRED=1 PREFIX=/usr DESTDIR=$root ZSHDIR=share/zsh/vendor-completions PYTHON=/usr/bin/python3 "$top/tools/package/install.sh" install 2> "$room/log" || {
+# Libraries are in a folder of their architecture, as far as someone knows its name. The Python package is where Debian's python3 finds it.
+multiarch=$(dpkg-architecture -q DEB_HOST_MULTIARCH 2> "$room/log" || "${CC:-cc}" -print-multiarch 2> "$room/log" || true)
+libdir=lib${multiarch:+/$multiarch}
+python=lib/python3/dist-packages
+
+RNCV_REQUIRED=1 PREFIX=/usr DESTDIR=$root LIBDIR=$libdir PYTHONDIR=$python ZSHDIR=share/zsh/vendor-completions PYTHON=/usr/bin/python3 \
+    "$top/tools/package/install.sh" install 2> "$room/log" || {
     cat "$room/log" >&2
     # a package without the language server is still a package
     [ "$(grep -c '^  ' "$room/log")" = 1 ] && grep -q '^  rncv-lsp:' "$room/log" || exit 1
@@ -33,12 +39,12 @@ RNCV_REQUIRED=1 PREFIX=/usr DESTDIR=$root ZSHDIR=share/zsh/vendor-completions PY
 # only those who build need symbols, and pages are compressed
 elf() { [ "$(head -c 4 "$1" | tr -d '\177')" = ELF ]; }
 if command -v strip > /dev/null; then
-    for file in "$root"/usr/bin/* "$root/usr/lib/librncv.so.$version"; do
+    for file in "$root"/usr/bin/* "$root/usr/$libdir/librncv.so.$version" "$root/usr/$libdir/librncv_xml.so.$version"; do
         if [ ! -L "$file" ] && elf "$file"; then
             strip --strip-unneeded --remove-section=.comment --remove-section=.note "$file"
         fi
     done
-    strip --strip-debug --enable-deterministic-archives "$root/usr/lib/librncv.a"
+    strip --strip-debug --remove-section=.comment --enable-deterministic-archives "$root/usr/$libdir/librncv.a" "$root/usr/$libdir/librncv_xml.a"
 fi
 find "$root/usr/share/man" -type f -exec gzip -9n {} +
 
@@ -47,21 +53,36 @@ doc=$root/usr/share/doc/rncv
 if [ -f "$top/LICENSE" ]; then
     mv "$doc/LICENSE" "$doc/copyright"
 else
-    cat > "$doc/copyright" << 'END'
+    cat > "$doc/copyright" << END
 rncv, a RELAX NG validator.
 
-The authors have the copyright. This version names no licence: its repository has no file LICENSE.
+Copyright $(date -u -d "@$date" +%Y) The rncv authors
+
+This version names no licence: its repository has no file LICENSE.
 Ask the owner of the repository before you pass the package on.
 END
 fi
 printf 'rncv (%s) unstable; urgency=medium\n\n  * Version %s.\n\n -- %s  %s\n' "$version" "$version" "$maintainer" \
     "$(LC_ALL=C date -u -d "@$date" '+%a, %d %b %Y %H:%M:%S +0000')" | gzip -9nc > "$doc/changelog.gz"
 
-# The toolchain decides how the program is linked. If the program loads no library, lintian has to know that this is intended.
+# What is intended, and lintian would warn of: programs, the library and what is needed to link it are in one small package.
+overrides=$root/usr/share/lintian/overrides/rncv
+mkdir -p "${overrides%/*}"
+cat > "$overrides" << END
+# one small package has the programs and the library with what is needed to build with it
+rncv: package-name-doesnt-match-sonames librncv-xml${version%%.*} librncv${version%%.*}
+rncv: link-to-shared-library-in-wrong-package usr/$libdir/librncv.so.$version [usr/$libdir/librncv.so]
+rncv: link-to-shared-library-in-wrong-package usr/$libdir/librncv_xml.so.$version [usr/$libdir/librncv_xml.so]
+END
+# The toolchain decides how the proved program is linked, and may link it without any library.
 if command -v readelf > /dev/null && elf "$root/usr/bin/rncv" && ! LC_ALL=C readelf -l "$root/usr/bin/rncv" | grep -q INTERP; then
-    mkdir -p "$root/usr/share/lintian/overrides"
-    printf '# the toolchain of the proved program links it so\nrncv: statically-linked-binary [usr/bin/rncv]\n' > "$root/usr/share/lintian/overrides/rncv"
+    printf '# the toolchain of the proved program links it so\nrncv: statically-linked-binary [usr/bin/rncv]\n' >> "$overrides"
 fi
+
+mkdir -p "$root/DEBIAN"
+for name in librncv librncv_xml; do
+    echo "$name ${version%%.*} rncv (>= $version)"
+done > "$root/DEBIAN/shlibs"
 
 # The packages from which the programs load libraries. dpkg-shlibdeps knows which versions are needed. Without it, the oldest that work are named.
 depends=
@@ -69,17 +90,17 @@ if command -v dpkg-shlibdeps > /dev/null; then
     mkdir -p "$room/source/debian"
     printf 'Source: rncv\n\nPackage: rncv\nArchitecture: any\n' > "$room/source/debian/control"
     set --
-    for file in "$root"/usr/bin/* "$root/usr/lib/librncv.so.$version"; do
+    for file in "$root"/usr/bin/* "$root/usr/$libdir/librncv.so.$version" "$root/usr/$libdir/librncv_xml.so.$version"; do
         if [ ! -L "$file" ] && elf "$file"; then
             set -- "$@" "-e$file"
         fi
     done
-    depends=$(cd "$room/source" && dpkg-shlibdeps -O "$@" 2> "$room/log" | sed -n 's/^shlibs:Depends=//p')
+    # one library of the package uses the other: the package does not depend on itself
+    depends=$(cd "$room/source" && dpkg-shlibdeps -O -xrncv "-S$root" "-l$root/usr/lib" "$@" 2> "$room/log" | sed -n 's/^shlibs:Depends=//p')
     [ -n "$depends" ] || cat "$room/log" >&2
 fi
-[ -n "$depends" ] || depends="libc6 (>= 2.36), libexpat1 (>= 2.4.0)"
+[ -n "$depends" ] || depends="libc6 (>= 2.36), libxml2 (>= 2.9.10)"
 
-mkdir -p "$root/DEBIAN"
 cat > "$root/DEBIAN/control" << END
 Package: rncv
 Version: $version
@@ -95,17 +116,17 @@ Description: proved RELAX NG validator
  proved to be those of the standard.
  .
  The package has rncv, rncv-xml for XML documents, xml2pyx, rncv-profile, the
- language server rncv-lsp, and the library librncv for C and Python.
+ language server rncv-lsp, and the libraries librncv and librncv_xml for C and
+ Python.
 END
-echo "librncv ${version%%.*} rncv (>= $version)" > "$root/DEBIAN/shlibs"
 echo "activate-noawait ldconfig" > "$root/DEBIAN/triggers"
-cat > "$root/DEBIAN/prerm" << 'END'
+cat > "$root/DEBIAN/prerm" << END
 #!/bin/sh
 set -e
 # what Python wrote beside its modules
-if [ -d /usr/share/rncv ]; then
-    find /usr/share/rncv -depth -type d -name __pycache__ -exec rm -rf {} \;
-fi
+for folder in /usr/share/rncv /usr/$python/rncv; do
+    [ ! -d "\$folder" ] || find "\$folder" -depth -type d -name __pycache__ -exec rm -rf {} \\;
+done
 END
 chmod 755 "$root/DEBIAN/prerm"
 (cd "$root" && find usr -type f | LC_ALL=C sort | while IFS= read -r file; do md5sum "$file"; done > DEBIAN/md5sums)

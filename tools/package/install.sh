@@ -9,7 +9,11 @@
 #   LIBRARY       build/library, the folder of the built library
 #   XML_PROGRAMS  build/xml, the folder of rncv-xml and xml2pyx
 #   PYTHON        the interpreter in the first line of the Python programs; by default what they name, the python3 of PATH
+#   LIBDIR        lib, below PREFIX, where the library is
+#   PYTHONDIR     share/rncv/python, below PREFIX, where the Python package is
 #   ZSHDIR        share/zsh/site-functions, below PREFIX
+#
+# To uninstall is to remove the same files, and each folder that is empty then. The folders that every PREFIX has are left, such as bin and share.
 set -eu
 umask 022
 
@@ -32,9 +36,11 @@ root=${DESTDIR:-}$prefix
 program=${PROGRAM:-crates/rncv/out/rncv}
 library=${LIBRARY:-build/library}
 xml=${XML_PROGRAMS:-build/xml}
+share=share/rncv
+libdir=${LIBDIR:-lib}
+python=${PYTHONDIR:-$share/python}
 zsh=${ZSHDIR:-share/zsh/site-functions}
 version=$(cat VERSION)
-share=share/rncv
 doc=share/doc/rncv
 lacking=
 
@@ -48,10 +54,25 @@ lacks() {
   $1"
 }
 
+# Removes a folder if it is empty, and then the one around it, up to a folder that every PREFIX has.
+leave() {
+    folder=$1
+    while [ "$folder" != "$root" ]; do
+        case ${folder#"$root"/} in
+        bin | include | lib | share | share/man | "$libdir") return 0 ;;
+        esac
+        rmdir "$folder" 2> /dev/null || return 0
+        folder=${folder%/*}
+    done
+}
+
 # Removes an old file, and makes the folder for a new one. False: it is only to be removed, and is.
 room_for() {
     # the caller tests the status, so `set -e` does not end this function
-    rm -f "$1" || exit 1
+    if [ -e "$1" ] || [ -L "$1" ]; then
+        rm -f "$1" || exit 1
+        [ "$action" = install ] || leave "${1%/*}"
+    fi
     [ "$action" = install ] || return 1
     [ -d "${1%/*}" ] || mkdir -p "${1%/*}" || exit 1
 }
@@ -95,6 +116,13 @@ modules() {
     done
 }
 
+# what Python wrote beside its modules, which would keep their folders
+if [ "$action" = uninstall ]; then
+    for folder in "$share" "$python/rncv"; do
+        [ ! -d "$root/$folder" ] || find "$root/$folder" -depth -type d -name __pycache__ -exec rm -rf {} \;
+    done
+fi
+
 # a program that was compiled
 if [ "$action" = uninstall ] || [ -f "$program" ]; then
     put 755 "$program" bin/rncv
@@ -104,28 +132,46 @@ fi
 for name in rncv-xml xml2pyx; do
     if [ "$action" = uninstall ] || [ -f "$xml/$name" ]; then
         put 755 "$xml/$name" "bin/$name"
-        else
+    else
         lacks "$name: not in $xml"
     fi
 done
 
+# for_pkg_config TEXT: as a replacement of sed, where \, & and the | between its parts are special characters; in a path of rncv.pc a blank is one
+for_pkg_config() { printf '%s\n' "$1" | sed -e 's/ /\\ /g' -e 's/[\\&|]/\\&/g'; }
+
 # the library, its header, and what pkg-config says about it
 if [ "$action" = uninstall ] || [ -f "$library/lib/librncv.so.$version" ]; then
-    put 644 "$library/lib/librncv.so.$version" "lib/librncv.so.$version"
-    link "librncv.so.$version" "lib/librncv.so.${version%%.*}"
-    link "librncv.so.${version%%.*}" lib/librncv.so
-    put 644 "$library/lib/librncv.a" lib/librncv.a
+    put 644 "$library/lib/librncv.so.$version" "$libdir/librncv.so.$version"
+    link "librncv.so.$version" "$libdir/librncv.so.${version%%.*}"
+    link "librncv.so.${version%%.*}" "$libdir/librncv.so"
+    put 644 "$library/lib/librncv.a" "$libdir/librncv.a"
     put 644 "$library/include/rncv.h" include/rncv.h
-    if room_for "$root/lib/pkgconfig/rncv.pc"; then
-        # in a replacement of sed \, & and the | between its parts are special characters; in a path of rncv.pc a blank is one
-        plain=$(printf '%s\n' "$prefix" | sed -e 's/ /\\ /g' -e 's/[\\&|]/\\&/g')
-        sed -e "s|@prefix@|$plain|" -e "s|@version@|$version|" tools/library/rncv.pc.in > "$root/lib/pkgconfig/rncv.pc"
-        chmod 644 "$root/lib/pkgconfig/rncv.pc"
+    if room_for "$root/$libdir/pkgconfig/rncv.pc"; then
+        sed -e "s|@prefix@|$(for_pkg_config "$prefix")|" -e "s|@version@|$version|" -e "s|^\(libdir=.*/\)lib\$|\1$(for_pkg_config "$libdir")|" \
+            tools/library/rncv.pc.in > "$root/$libdir/pkgconfig/rncv.pc"
+        chmod 644 "$root/$libdir/pkgconfig/rncv.pc"
     fi
 elif [ -f "$library/lib/librncv.a" ]; then
     lacks "librncv: what is in $library is not of version $version"
 else
     lacks "librncv: not in $library"
+fi
+
+# the library that judges XML, which uses the other one
+if [ "$action" = uninstall ] || [ -f "$library/lib/librncv_xml.so.$version" ]; then
+    put 644 "$library/lib/librncv_xml.so.$version" "$libdir/librncv_xml.so.$version"
+    link "librncv_xml.so.$version" "$libdir/librncv_xml.so.${version%%.*}"
+    link "librncv_xml.so.${version%%.*}" "$libdir/librncv_xml.so"
+    put 644 "$library/lib/librncv_xml.a" "$libdir/librncv_xml.a"
+    put 644 "$library/include/rncv_xml.h" include/rncv_xml.h
+    if room_for "$root/$libdir/pkgconfig/rncv_xml.pc"; then
+        sed -e "s|^prefix=.*|prefix=$(for_pkg_config "$prefix")|" -e "s|^\(libdir=.*/\)lib\$|\1$(for_pkg_config "$libdir")|" \
+            "$library/lib/pkgconfig/rncv_xml.pc" > "$root/$libdir/pkgconfig/rncv_xml.pc"
+        chmod 644 "$root/$libdir/pkgconfig/rncv_xml.pc"
+    fi
+else
+    lacks "librncv_xml: not in $library (tools/xml/library.sh builds it)"
 fi
 
 # the programs and the packages in Python, which are not built. They find each other in share as they do in tools
@@ -137,8 +183,8 @@ if [ "$action" = uninstall ] || [ -f tools/lsp/rncv-lsp ]; then
 else
     lacks "rncv-lsp: there is no tools/lsp/rncv-lsp"
 fi
-for name in __init__.py py.typed; do
-    put 644 "tools/python/rncv/$name" "$share/python/rncv/$name"
+for name in __init__.py _schema_files.py _xml.py py.typed; do
+    put 644 "tools/python/rncv/$name" "$python/rncv/$name"
 done
 modules tools/xml/second_opinion "$share/xml/second_opinion"
 
@@ -178,15 +224,6 @@ find examples -type f | while IFS= read -r source; do
     put 644 "$source" "$doc/$source"
 done
 
-if [ "$action" = uninstall ]; then
-    # what Python wrote there, and our own folders, which are empty now
-    for folder in "$share" "$doc"; do
-        [ -d "$root/$folder" ] || continue
-        find "$root/$folder" -depth -type d -name __pycache__ -exec rm -rf {} \;
-        find "$root/$folder" -depth -type d -exec rmdir {} \; 2> /dev/null || true
-    done
-    exit 0
-fi
 if [ -n "$lacking" ]; then
     echo "install.sh: not built, and so not installed:$lacking" >&2
     [ -z "${RNCV_REQUIRED:-}" ] || exit 1

@@ -1,5 +1,5 @@
 #!/bin/sh
-# Tests of what is installed, in less than 20 seconds:   tools/package/test.sh [PROGRAM]     (PROGRAM: the built rncv, else crates/rncv/out/rncv)
+# Tests of what is installed, in less than half a minute:   tools/package/test.sh [PROGRAM]     (PROGRAM: the built rncv, else crates/rncv/out/rncv)
 #
 # It installs into empty folders, some with a blank in their names, and uses what is there. It makes, checks and unpacks the Debian package.
 # RNCV_LIBRARY names the folder of the library, by default build/library or build/library-tests/llvm. RNCV_XML_PROGRAMS names that of rncv-xml and
@@ -45,6 +45,7 @@ if [ -z "$library" ]; then
     [ -f "$library/lib/librncv.so.$version" ] || library=$top/build/library-tests/llvm
 fi
 built=1
+has_xml_library=0
 if [ ! -f "$library/lib/librncv.so.$version" ]; then
     [ -z "${RNCV_REQUIRED:-}" ] || { echo "tools/package/test.sh: no library of version $version in $library" >&2; exit 1; }
     built=0
@@ -59,13 +60,39 @@ if [ "$built" = 1 ] && [ -z "$xml" ]; then
     RNCV_LIBRARY=$library "$top/tools/xml/build.sh" "$xml" || { [ -z "${RNCV_REQUIRED:-}" ] || exit 1; }
 fi
 xml=${xml:-$room/xml}
+if [ "$built" = 1 ] && [ ! -f "$library/lib/librncv_xml.so.$version" ]; then
+    # the library for XML is made beside a copy of the other one
+    cp -R "$library" "$room/library"
+    env -u RNCV_LIBRARY -u PREFIX "$top/tools/xml/library.sh" "$room/library" || { [ -z "${RNCV_REQUIRED:-}" ] || exit 1; }
+    library=$room/library
+fi
+if [ -f "$library/lib/librncv_xml.so.$version" ]; then
+    has_xml_library=1
+else
+    skip "what wants the library for XML, since it is not built"
+fi
 [ -x "$xml/rncv-xml" ] || { built=0; skip "what wants rncv-xml, since it is not in $xml"; }
 [ ! -d "$xml" ] || xml=$(absolute "$xml")
+
+# The variables of the Makefile and of install.sh are those that a test gives, and none of the environment.
+unset PREFIX DESTDIR PROGRAM LIBRARY XML_PROGRAMS LIBDIR PYTHONDIR ZSHDIR
 
 # make TARGET [VARIABLE=VALUE..]: the Makefile, with what is built; what it says is in `said`
 makes() {
     env -u MAKEFLAGS -u MAKELEVEL -u RNCV_REQUIRED make -s -C "$top" "$@" PROGRAM="$program" LIBRARY="$library" XML_PROGRAMS="$xml" > "$room/said" 2>&1
 }
+
+# runs_judges NAME.md HOME [ROOT]: the two programs of README.md and the commands for them, where rncv is installed
+runs_judges() {
+    if has cc && has pkg-config; then
+        python3 -B "$here/judge_example.py" "$@"
+    else
+        skip "judge.c and judge.py of README.md, since pkg-config or cc is not installed"
+    fi
+}
+
+# left_in PREFIX: what is there beside the folders that every PREFIX has, without `./`
+left_in() { (cd "$1" && find . -mindepth 1 | LC_ALL=C sort | sed -E -e 's|^\./||' -e '/^(bin|include|lib|share|share\/man)$/d'); }
 
 # --- the Debian package, beside what follows
 
@@ -82,7 +109,7 @@ installs_in() {
 }
 
 debian_package() {
-    if [ "$built" = 0 ] || ! has dpkg-deb; then
+    if [ "$built" = 0 ] || [ "$has_xml_library" = 0 ] || ! has dpkg-deb; then
         skip "the Debian package, since dpkg-deb or what is to be in it is not there"
         return
     fi
@@ -92,18 +119,21 @@ debian_package() {
     fi
     package=$(cat "$room/name")
     same "the name of the package" "rncv_${version}_$(dpkg --print-architecture).deb" "$(basename "$package")"
-    for name in libc6 libexpat1 python3; do
+    for name in libc6 libxml2 python3; do
         dpkg-deb -f "$package" Depends | grep -qE "(^|, )$name( |,|\$)" || fail "the package does not depend on $name"
     done
     if has lintian; then
         if [ "$(id -u)" = 0 ]; then set -- --allow-root; else set --; fi
-        lintian --no-cfg --fail-on error "$@" "$package" > "$room/lintian" 2>&1 || fail "lintian: $(cat "$room/lintian")"
+        lintian --no-cfg --fail-on error,warning "$@" "$package" > "$room/lintian" 2>&1 || fail "lintian: $(cat "$room/lintian")"
     else
         skip "lintian, which is not installed"
     fi
     mkdir "$room/unpacked"
     dpkg-deb -x "$package" "$room/unpacked"
     same "the first line of rncv-profile" "#!/usr/bin/python3" "$(sed -n 1p "$room/unpacked/usr/share/rncv/schema/rncv-profile")"
+    [ -f "$room/unpacked/usr/lib/python3/dist-packages/rncv/__init__.py" ] || fail "the Python package is not where Debian's python3 finds it"
+    mkdir "$room/someone"
+    runs_judges "$room/unpacked/usr/share/doc/rncv/README.md" "$room/someone" "$room/unpacked" || fail "the programs of README.md behind the package"
     roots=$room/unpacked
     if [ "$(id -u)" = 0 ]; then
         installs_in "$room/empty root" && roots="$roots
@@ -160,7 +190,7 @@ grep -q "nothing is built" "$room/said" || fail "make install with nothing built
 
 if env -u MAKEFLAGS -u MAKELEVEL -u RNCV_REQUIRED make -s -C "$top" install DESTDIR="$room/some" PROGRAM="$program" LIBRARY="$room/none" XML_PROGRAMS="$room/none" \
     > "$room/said" 2>&1 && [ -x "$room/some/usr/local/bin/rncv" ]; then
-    for name in rncv-xml xml2pyx librncv; do
+    for name in rncv-xml xml2pyx librncv librncv_xml; do
         grep -q "^  $name: not in" "$room/said" || fail "make install does not say that $name is missing"
     done
 else
@@ -176,6 +206,7 @@ makes install DESTDIR="$root" || fail "make install fails: $(cat "$room/said")"
 installed=$root/usr/local
 while IFS= read -r path; do
     case $path in
+    *rncv_xml.*) [ "$has_xml_library" = 1 ] || continue ;;
     lib/* | include/* | bin/rncv-xml | bin/xml2pyx) [ "$built" = 1 ] || continue ;;
     esac
     [ -f "$installed/$path" ] || fail "not installed: $path"
@@ -185,10 +216,16 @@ bin/rncv-profile
 bin/rncv-xml
 bin/xml2pyx
 include/rncv.h
+include/rncv_xml.h
 lib/librncv.a
 lib/librncv.so
 lib/librncv.so.${version%%.*}
 lib/librncv.so.$version
+lib/librncv_xml.a
+lib/librncv_xml.so
+lib/librncv_xml.so.${version%%.*}
+lib/librncv_xml.so.$version
+lib/pkgconfig/rncv_xml.pc
 lib/pkgconfig/rncv.pc
 share/bash-completion/completions/rncv
 share/bash-completion/completions/rncv-lsp
@@ -222,6 +259,8 @@ share/man/man3/rncv_compile.3
 share/man/man3/rncv_document_feed.3
 share/man/man5/rncv-pyx.5
 share/rncv/python/rncv/__init__.py
+share/rncv/python/rncv/_schema_files.py
+share/rncv/python/rncv/_xml.py
 share/rncv/python/rncv/py.typed
 share/rncv/schema/compact_tokens.py
 share/rncv/schema/rncv-profile
@@ -239,6 +278,55 @@ fi
 if [ "$built" = 1 ]; then
     same "the prefix of rncv.pc" "prefix=/usr/local" "$(sed -n 1p "$installed/lib/pkgconfig/rncv.pc")"
     same "the version of rncv.pc" "Version: $version" "$(grep '^Version' "$installed/lib/pkgconfig/rncv.pc")"
+fi
+
+# --- variables in the environment, as packagers write them: DESTDIR=/stage make install
+
+# The Makefile first calls a stand-in for install.sh. If it took no variable from the environment, an installation would change the machine.
+mkdir -p "$room/makefile/tools/package"
+cp "$top/Makefile" "$room/makefile"
+cat > "$room/makefile/tools/package/install.sh" << 'END'
+#!/bin/sh
+printf '%s|' "$1" "$PREFIX" "$DESTDIR" "$PROGRAM" "$LIBRARY" "$XML_PROGRAMS"
+END
+chmod 755 "$room/makefile/tools/package/install.sh"
+# taken MAKE-VARIABLE.. -- NAME=VALUE..: what the Makefile takes, by these words of its command line and this environment
+taken() {
+    words=
+    while [ "$1" != -- ]; do words="$words $1"; shift; done
+    shift
+    # shellcheck disable=SC2086  # the variables have no blanks here
+    env -u MAKEFLAGS -u MAKELEVEL "$@" make -s -C "$room/makefile" install $words
+}
+before=$status
+same "what make install takes by default" "install|/usr/local||crates/rncv/out/rncv|build/library|build/xml|" "$(taken --)"
+same "what make install takes from the environment" "install|/a prefix|/a stage|/a program|/a library|/the xml|" \
+    "$(taken -- PREFIX="/a prefix" DESTDIR="/a stage" PROGRAM="/a program" LIBRARY="/a library" XML_PROGRAMS="/the xml")"
+same "what make install takes from its command line" "install|/right|/stage|here/rncv|here/library|here/xml|" \
+    "$(taken PREFIX=/right DESTDIR=/stage PROGRAM=here/rncv LIBRARY=here/library XML_PROGRAMS=here/xml -- \
+        PREFIX=/wrong DESTDIR=/wrong PROGRAM=/wrong LIBRARY=/wrong XML_PROGRAMS=/wrong)"
+if [ "$status" = "$before" ]; then
+    stage="$room/a stage"
+    live=$room/live
+    # by_environment TARGET NAME=VALUE..: without a word on the command line
+    by_environment() {
+        target=$1
+        shift
+        env -u MAKEFLAGS -u MAKELEVEL -u RNCV_REQUIRED DESTDIR="$stage" PROGRAM="$program" LIBRARY="$library" XML_PROGRAMS="$xml" "$@" \
+            make -s -C "$top" "$target" > "$room/said" 2>&1 || fail "make $target by the environment fails: $(cat "$room/said")"
+    }
+    touch "$room/mark"
+    by_environment install PREFIX="$live"
+    [ ! -e "$live" ] || fail "make install with DESTDIR and PREFIX in the environment writes outside DESTDIR"
+    [ -x "$stage$live/bin/rncv" ] || fail "make install with DESTDIR and PREFIX in the environment installs nothing there"
+    by_environment uninstall PREFIX="$live"
+    same "what make uninstall leaves in DESTDIR" "" "$(left_in "$stage$live")"
+    by_environment install
+    [ -x "$stage/usr/local/bin/rncv" ] || fail "make install with DESTDIR in the environment does not install to /usr/local there"
+    same "what make install with DESTDIR in the environment writes outside" "" "$(find /usr/local -name '*rncv*' -newer "$room/mark" 2> "$room/log")"
+    # what `make` builds for a checkout names the checkout, wherever it is installed later
+    same "PREFIX where the library is built" "PREFIX= tools/library/build.sh \"\$LIBRARY\"" \
+        "$(PREFIX=$live env -u MAKEFLAGS -u MAKELEVEL make -n -C "$top" build | grep library/build.sh)"
 fi
 
 # --- the programs that are installed
@@ -265,6 +353,33 @@ if [ "$built" = 1 ]; then
     same "rncv-xml --version" "rncv-xml $version (librncv $version)" "$(inside rncv-xml --version)"
     same "xml2pyx --version" "xml2pyx $version" "$(inside xml2pyx --version)"
     same "rncv-xml" "letter.xml: valid" "$(cd "$examples/letter" && inside rncv-xml --all s.rnc letter.xml)"
+fi
+
+# --- the C programs and the library are hardened, as far as the compiler has flags for it
+
+# hardened FILE KIND: whether what is compiled or linked shows each flag of hardening.sh
+hardened() {
+    LC_ALL=C readelf -hldW --dyn-syms "$1" > "$room/parts"
+    for flag in $("$here/hardening.sh" "$2"); do
+        case $flag in
+        -D_FORTIFY_SOURCE=2) shown='__[a-z]+_chk(@|$)' ;;
+        -fstack-protector-strong) shown='__stack_chk_fail' ;;
+        -fPIE | -pie) shown='Type: +DYN' ;;
+        -Wl,-z,relro) shown='GNU_RELRO' ;;
+        -Wl,-z,now) shown='\(FLAGS\).*NOW' ;;
+        *) shown="a sign of $flag" ;;
+        esac
+        grep -qE "$shown" "$room/parts" || fail "$1 does not show $flag: was it built by these scripts?"
+    done
+}
+if [ "$built" = 1 ] && has readelf && has "${CC:-cc}"; then
+    for name in rncv-xml xml2pyx; do
+        hardened "$installed/bin/$name" objects
+        hardened "$installed/bin/$name" program
+    done
+    hardened "$installed/lib/librncv.so.$version" library
+else
+    skip "what hardens the C programs, since they, readelf or a C compiler are not there"
 fi
 
 # --- a prefix with a blank: C and Python use what is there
@@ -303,10 +418,58 @@ END
     same "the Python package" "$version valid" "$(env -i PATH=/usr/bin:/bin PYTHONPATH="$prefix/share/rncv/python" python3 -c '
 import rncv
 print(rncv.__version__, rncv.compile({"s.rnc": b"element a { text }"}).validate(b"(a\n)a\n"))' 2>&1)"
+    if [ "$has_xml_library" = 1 ]; then
+        same "the Python package, for XML" "valid" "$(env -i PATH=/usr/bin:/bin PYTHONPATH="$prefix/share/rncv/python" python3 -c '
+import rncv
+print(rncv.compile({"s.rnc": b"element a { text }"}).validate_xml(b"<a/>"))' 2>&1)"
+        same "the prefix of rncv_xml.pc" "prefix=$room/a\\ prefix" "$(sed -n 1p "$prefix/lib/pkgconfig/rncv_xml.pc")"
+    fi
     makes uninstall PREFIX="$prefix" || fail "make uninstall fails: $(cat "$room/said")"
-    same "what make uninstall leaves" "" "$(find "$prefix" ! -type d)"
-    [ ! -e "$prefix/share/rncv" ] || fail "make uninstall leaves share/rncv"
+    same "what make uninstall leaves" "" "$(left_in "$prefix")"
+
+    # README's lines, behind its own installation
+    mkdir "$room/home"
+    makes install PREFIX="$room/home/.local" || fail "make install PREFIX=\$HOME/.local fails: $(cat "$room/said")"
+    runs_judges "$room/home/.local/share/doc/rncv/README.md" "$room/home" || fail "the programs of README.md behind make install PREFIX=\$HOME/.local"
 fi
+
+# --- make uninstall, where others have files and folders
+
+prefix="$room/shared prefix"
+mkdir -p "$prefix"
+# shared_files: what others have, below PREFIX
+shared_files() {
+    cat << 'END'
+lib/pkgconfig/other.pc
+share/bash-completion/completions/other
+share/doc/other/README.md
+share/doc/rncv/examples/mine/own.xml
+share/emacs/site-lisp/other.el
+share/fish/vendor_completions.d/other.fish
+share/man/man1/other.1
+share/rncv/schema/mine.txt
+share/vim/vimfiles/compiler/other.vim
+share/zsh/site-functions/_other
+END
+}
+shared_files | while IFS= read -r path; do
+    mkdir -p "$prefix/${path%/*}"
+    echo other > "$prefix/$path"
+done
+mkdir "$prefix/share/applications"
+makes install PREFIX="$prefix" || fail "make install where others have files fails: $(cat "$room/said")"
+mkdir -p "$prefix/share/rncv/schema/__pycache__" "$prefix/share/rncv/python/rncv/__pycache__"
+touch "$prefix/share/rncv/schema/__pycache__/compact_tokens.pyc" "$prefix/share/rncv/python/rncv/__pycache__/__init__.pyc"
+makes uninstall PREFIX="$prefix" || fail "make uninstall where others have files fails: $(cat "$room/said")"
+same "the files of others that make uninstall leaves" "$(shared_files)" "$(cd "$prefix" && find . ! -type d | LC_ALL=C sort | sed 's|^\./||')"
+same "the folders that make uninstall leaves, without their files" "share/applications" "$(cd "$prefix" && find share lib -type d -empty)"
+# a second time there is nothing to remove, and a folder that was empty before is not the installation's
+mkdir -p "$prefix/share/zsh/empty" "$prefix/lib/empty"
+rm -r "$prefix/share/zsh/site-functions" "$prefix/lib/pkgconfig/other.pc"
+makes uninstall PREFIX="$prefix" || fail "a second make uninstall fails: $(cat "$room/said")"
+for folder in share/zsh/empty lib/empty lib/pkgconfig share/applications bin; do
+    [ -d "$prefix/$folder" ] || fail "a second make uninstall removes $folder, which is not of the installation"
+done
 
 # --- man pages
 
@@ -322,6 +485,22 @@ elif has man; then
 else
     skip "the man pages, since neither mandoc nor man is installed"
 fi
+# see_also PAGE: the pages that it names at its end, as NAME.SECTION
+see_also() { sed -n -e '1,/^\.SH SEE ALSO$/d' -e 's/\\-/-/g' -e 's/^\.BR \([a-z0-9-]*\) (\([1-8]\)).*/\1.\2/p' "$1"; }
+# each page names that of the proved program, which names it
+see_also "$pages/man1/rncv.1" > "$room/named"
+for page in "$pages"/man[1-8]/*; do
+    name=${page##*/}
+    case $name in
+    rncv.1 | rncv_*) continue ;;
+    xml2pyx.1) ;; # it is rncv-xml(1)
+    *) see_also "$page" | grep -qxF rncv.1 || fail "$name does not name rncv(1) under SEE ALSO" ;;
+    esac
+    grep -qxF "$name" "$room/named" || fail "rncv(1) does not name $name under SEE ALSO"
+done
+while IFS= read -r name; do
+    [ -f "$pages/man${name##*.}/$name" ] || fail "rncv(1) names $name, and there is no such page"
+done < "$room/named"
 for clause in 1 2 3 4 5 6 7 8 9 10 11 12 13; do
     grep -q "^\.B P$clause\$" "$pages/man5/rncv-pyx.5" || fail "rncv-pyx(5) does not have P$clause"
 done
@@ -410,7 +589,7 @@ fi
 # --- what is written for a shell
 
 if has shellcheck; then
-    shellcheck "$top/tools/setup.sh" "$here/install.sh" "$here/deb.sh" "$here/test.sh" || fail "shellcheck"
+    shellcheck "$top/tools/setup.sh" "$here/hardening.sh" "$here/install.sh" "$here/deb.sh" "$here/test.sh" || fail "shellcheck"
     shellcheck -s bash "$here/completions/rncv.bash" || fail "shellcheck"
 else
     skip "shellcheck, which is not installed"

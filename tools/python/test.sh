@@ -1,7 +1,7 @@
 #!/bin/sh
 # Tests of the Python package:   tools/python/test.sh [LIBRARY]     (LIBRARY: the built librncv.so, else that of build/library)
 # They need Python 3.9 or newer and no package. Without the library they are skipped with a message. If the variable RNCV_REQUIRED is set, that is a
-# failure. If there is a program `rncv` (the variable RNCV names it, else crates/rncv/out/rncv), its answers are compared too.
+# failure. Those of XML are skipped if librncv_xml.so is not beside it; tools/xml/tests/library_test.py builds it and runs them. If there is a program `rncv` (the variable RNCV names it, else crates/rncv/out/rncv), its answers are compared too.
 here=$(cd "$(dirname "$0")" && pwd)
 library=${1:-$here/../../build/library/lib/librncv.so}
 if [ ! -f "$library" ]; then

@@ -2,6 +2,7 @@
  *
  * If REFUSE_TO names an open descriptor, the shim writes a letter to it when it refuses: `s` if the old block has room for the new size (a shrink),
  * else `g`. So the caller sees whether the program had a growth of that number at all. */
+#include <errno.h>
 #include <malloc.h>
 #include <stdlib.h>
 #include <sys/syscall.h>
@@ -27,11 +28,11 @@ static int is_refused(const void *old, size_t size) {
         const char *text = getenv("REFUSE");
         wanted = text ? atol(text) : 0;
     }
-    counted++;
-    if (counted != wanted) {
+    if (__atomic_add_fetch(&counted, 1, __ATOMIC_RELAXED) != wanted) { /* threads have no order */
         return 0;
     }
     tell(old != NULL && malloc_usable_size((void *)old) >= size ? 's' : 'g');
+    errno = ENOMEM;
     return 1;
 }
 

@@ -2,13 +2,15 @@
 # Runs the built program with each growth of memory refused in turn, on all rows of rows.txt:   tools/refused_growths/test.sh [PROGRAM]
 #
 # PROGRAM is the built rncv, else crates/rncv/out/rncv. The C library runs the same rows (by_library.c); RNCV_LIBRARY names it, else it is in
-# build/library. The programs of cases that `rt ci` built make the public calls of the crates (calls.txt). It needs Python 3, and a C compiler and glibc for
-# the shim (refuse.c). What is missing is reported and skipped. If the variable RNCV_REQUIRED is set, a missing rncv is a failure, and if RNCV_AFTER_CI is
-# set, a missing program of cases.
+# build/library. The programs of cases that `rt ci` built make the public calls of the crates (calls.txt). rncv-xml and xml2pyx run cases of their own
+# (xml.py); RNCV_XML_PROGRAMS names their folder, else it is build/xml. It needs Python 3, and a C compiler and glibc for the shim (refuse.c). What is
+# missing is reported and skipped. If the variable RNCV_REQUIRED is set, a missing rncv is a failure, and if RNCV_AFTER_CI is set, a missing program of
+# cases.
 set -eu
 here=$(cd "$(dirname "$0")" && pwd)
 program=${1:-$here/../../crates/rncv/out/rncv}
 library=${RNCV_LIBRARY:-$here/../../build/library}
+xml=${RNCV_XML_PROGRAMS:-$here/../../build/xml}
 cc=${CC:-cc}
 status=0
 
@@ -41,9 +43,14 @@ if [ -f "$library/lib/librncv.a" ]; then
 else
     echo "tools/refused_growths: no librncv in $library: it does not run the rows"
 fi
+if [ -x "$xml/rncv-xml" ] && [ -x "$xml/xml2pyx" ]; then
+    beside xml python3 -B "$here/xml.py" "$xml" "$room/refuse.so"
+else
+    echo "tools/refused_growths: no rncv-xml and xml2pyx in $xml: their growths are not refused"
+fi
 beside cases python3 -B "$here/calls.py" "$here/../../crates" "$room/refuse.so"
 wait
-for name in program library cases; do
+for name in program library xml cases; do
     if [ -f "$room/$name.status" ]; then
         cat "$room/$name"
         [ "$(cat "$room/$name.status")" = 0 ] || status=1

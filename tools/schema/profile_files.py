@@ -1,13 +1,15 @@
 """Reads the files of a schema and the files that they mention, compares them with the profile, and writes copies. Nothing here is proved."""
 import os
 import pathlib
+import re
 import urllib.parse
 
 from compact_tokens import LINE_END, NoToken, Places, decoded, tokens
 from profile_reader import Edit, Finding, Reader, Traits
-from profile_types import BOTH, MORE, SAME
+from profile_types import BOTH, LESS, MORE, SAME
 
 SIZE, COUNT = 1_048_576, 64
+MARK = re.compile(r"^# rncv-profile: [0-9]+ datatypes? (?:loosened|tightened), see ", re.M)
 UNSURE = "the same if they were ISO 8859-1"
 
 
@@ -23,6 +25,7 @@ class SchemaFile:
         encoding = decoded(data)
         self.text, self.places = encoding.text, Places(encoding.text)
         self.findings, self.edits, self.mentions, self.reader = [], [], [], None
+        self.is_cut_short = False
         if encoding.told:
             self.findings.append(Finding(encoding.at, encoding.told, encoding.change, SAME if encoding.sure else UNSURE))
         if len(data) > SIZE:
@@ -38,6 +41,7 @@ class SchemaFile:
             found, escapes = tokens(self.text)
         except NoToken as fault:
             self.findings.append(Finding(fault.offset, f"{fault.what}: the file is not read further"))
+            self.is_cut_short = True
             return
         for escape in escapes:
             if escape.shorter:
@@ -142,7 +146,7 @@ def read_all(schemas):
     for file in files.values():
         file.name = names[file.path]
         if file.reader:
-            file.reader.judge_types(traits)
+            file.reader.judge_types(traits, MARK.search(file.text) is not None)
         file.collect()
         judge_mentions(file, names)
     if len(files) > COUNT:
@@ -150,31 +154,55 @@ def read_all(schemas):
     return list(files.values()), missing
 
 
-def loosened(file):
-    """The findings for which the copy accepts more than the original."""
-    return [finding for finding in file.findings if finding.change and finding.effect in (MORE, BOTH)]
+# The words for copies that accept more documents than the original, and for those that accept fewer. `rncv-xml` looks for them in the copies.
+MARKS = {"loosened": (MORE, BOTH), "tightened": (LESS, BOTH)}
+
+
+def changed(file, mark):
+    """The findings for which the copy accepts more than the original, or less."""
+    return [finding for finding in file.findings if finding.change and finding.effect in MARKS[mark]]
 
 
 def marked(file, profile):
-    """The copy's text. If it accepts more than the original, a comment at its end says so; `rncv-xml` looks for that comment."""
-    count, text = len(loosened(file)), file.copy()
-    if count == 0:
-        return text
-    gap = "" if text == "" or text.endswith("\n") else "\n"
-    return f"{text}{gap}# rncv-profile: {count} datatype{'s' if count > 1 else ''} loosened, see {profile}\n"
+    """The copy's text. A comment at its end says if it accepts more than the original, and another one if it accepts less."""
+    text = file.copy()
+    for mark in MARKS:
+        count = len(changed(file, mark))
+        gap = "" if text == "" or text.endswith("\n") else "\n"
+        text += f"{gap}# rncv-profile: {count} datatype{'s' if count > 1 else ''} {mark}, see {profile}\n" if count else ""
+    return text
 
 
 def profile_lines(files):
-    """A line for each finding for which a copy accepts more than the original."""
+    """A line for each finding for which a copy accepts more than the original, or less."""
     for file in files:
-        for finding in sorted(loosened(file), key=lambda finding: finding.at):
-            row, column = file.places.of(finding.at)
-            yield f"{file.path}:{row}:{column}: {finding.what}; the copy has {finding.change}, and accepts {finding.effect}\n"
+        for finding in sorted(file.findings, key=lambda finding: finding.at):
+            if finding.change and finding.effect in (MORE, LESS, BOTH):
+                row, column = file.places.of(finding.at)
+                yield f"{file.path}:{row}:{column}: {finding.what}; the copy has {finding.change}, and accepts {finding.effect}\n"
+
+
+def write_whole(pairs):
+    """Writes files so that nobody reads a part of one: each beside its place first, and then all are renamed. A file that has its bytes stays as it is."""
+    beside = []
+    try:
+        for number, (target, data) in enumerate(pairs):
+            if not target.is_symlink() and target.is_file() and target.read_bytes() == data:
+                continue
+            new = target.with_name(f".rncv-profile.{os.getpid()}.{number}")
+            beside.append((new, target))
+            new.write_bytes(data)
+        while beside:
+            os.replace(*beside[0])
+            beside.pop(0)
+    finally:
+        for new, _ in beside:
+            new.unlink(missing_ok=True)
 
 
 def copied(files, folder):
     """Writes the copies and returns their paths, the main file first. Does not overwrite any file of the schema. If a copy accepts more than the
-    original, a file beside the copies says so, and its path is the last one."""
+    original, or less, a file beside the copies says so, and its path is the last one."""
     folder.mkdir(parents=True, exist_ok=True)
     profile = os.path.splitext(files[0].name)[0] + ".profile.txt"
     lines = "".join(profile_lines(files))
@@ -182,8 +210,6 @@ def copied(files, folder):
     for target in targets:
         if target.exists() and any(os.path.samefile(target, file.path) for file in files):
             raise OutsideCopy(f"{target} is a file of the schema; copies go to another directory")
-    for file, target in zip(files, targets):
-        target.write_bytes(marked(file, profile).encode("utf-8", "replace"))
-    if lines:
-        targets[-1].write_bytes(lines.encode("utf-8", "replace"))
+    texts = [marked(file, profile) for file in files] + [lines] * bool(lines)
+    write_whole([(target, text.encode("utf-8", "replace")) for target, text in zip(targets, texts)])
     return [str(target) for target in targets]

@@ -6,7 +6,7 @@ import dataclasses
 import itertools
 
 from compact_tokens import KEYWORDS
-from profile_types import BOTH, SAME, TURNED, XSD, Param, TypeUse, judged
+from profile_types import BOTH, SAME, TURNED, XSD, Param, TypeUse, Within, judged
 
 NESTING = 128
 LIBRARIES = {"xsd": XSD}
@@ -49,7 +49,7 @@ class Traits:
 
 
 class Reader:
-    """One pass over the tokens. `uses` are the datatypes, each with its last token's end and whether it is in an except."""
+    """One pass over the tokens. `uses` are the datatypes, each with its last token's end and the excepts around it."""
 
     def __init__(self, tokens):
         self.tokens = tokens
@@ -57,8 +57,9 @@ class Reader:
         self.due = False            # a pattern or name class must come next
         self.in_class = False       # after `element` or `attribute`, before the brace
         self.opens = "pattern"      # what the next brace contains
-        self.open = []              # for each open bracket: what it contains, and whether it is in the except of a datatype
+        self.open = []              # for each open bracket: what it contains, and the excepts of datatypes around that
         self.except_due = False
+        self.around = Within()      # the excepts around the keyword whose brace comes next
         self.libraries = dict(LIBRARIES)
         self.findings, self.edits, self.mentions, self.uses = [], [], [], []
         self.lists = self.excepts = self.except_refs = False
@@ -158,21 +159,24 @@ class Reader:
         """An opening brace or parenthesis."""
         holds = self.opens if token.text == "{" else "class" if self.in_class else "pattern"
         self.in_class = self.in_class and token.text == "("
-        self.open.append((holds, self.takes_except()))
+        self.open.append((holds, self.around if token.text == "{" else self.takes_except()))
         self.due = holds != "components"
 
     def takes_except(self):
-        """Whether the next token is in the except of a datatype: it is the except's first token, or the bracket around it is in one."""
-        taken = self.except_due or bool(self.open) and self.open[-1][1]
+        """The excepts of datatypes around the next token: those around the bracket that it is in, and one more if it is the first token of one."""
+        around = self.open[-1][1] if self.open else Within()
+        if self.except_due:
+            around = Within(not around.odd, bool(self.uses) and self.uses[-1][0].is_integer())
+            self.except_refs |= self.at().is_keyword("external")
         self.except_due = False
-        return taken
+        return around
 
     def operand(self, token):
         """A word, a CName or a literal outside name classes."""
-        in_except = self.takes_except()
+        within = self.around = self.takes_except()
         self.due = False
         if token.kind == "cname" or token.is_keyword("string", "token"):
-            self.type_use(token, in_except)
+            self.type_use(token, within)
             return
         self.next += 1
         if token.is_keyword("element", "attribute"):
@@ -188,7 +192,7 @@ class Reader:
         elif token.is_keyword("parent"):
             self.due = True
         elif token.kind != "literal" and not (token.kind == "word" and token.text in KEYWORDS):
-            self.except_refs |= in_except
+            self.except_refs |= within != Within()
 
     def literal(self):
         """The text of a literal with its joined segments, and its end; None if no literal is here."""
@@ -227,7 +231,7 @@ class Reader:
             elif keyword.text == "datatypes" and names:
                 self.libraries[names[-1]] = uri
 
-    def type_use(self, token, in_except):
+    def type_use(self, token, within):
         """A datatype with its parameters, or with a value."""
         prefix, _, name = token.text.rpartition(":")
         library = self.libraries.get(prefix) if prefix else ""
@@ -238,7 +242,7 @@ class Reader:
         elif self.at() and self.at().kind == "literal":
             value, _ = self.literal()
         if library is not None:
-            self.uses.append((TypeUse(library, name, token.start, tuple(params), value, self.sees("-")), end, in_except))
+            self.uses.append((TypeUse(library, name, token.start, tuple(params), value, self.sees("-"), within), end, within))
 
     def params(self):
         """The parameters in braces, and where the braces end. Skips annotations between them."""
@@ -262,12 +266,14 @@ class Reader:
     def traits(self):
         return Traits(self.lists, self.excepts, self.except_refs)
 
-    def judge_types(self, traits):
-        """Finds the datatypes that are not served, when the traits of all files are known. In an except, more becomes less."""
-        for use, end, in_except in self.uses:
-            text, told = judged(use, not (traits.lists or traits.excepts))
+    def judge_types(self, traits, is_copy=False):
+        """Finds the datatypes that are not served, when the traits of all files are known. In an except more becomes less, and in one of that more again.
+        In a copy, its mark says what `integer` does not serve."""
+        for use, end, within in self.uses:
+            tells_digits = not is_copy and (within.odd and not within.integers or traits.except_refs)
+            text, told = judged(use, not (traits.lists or traits.excepts), tells_digits)
             for each in told:
-                effect = TURNED[each.effect] if in_except and each.effect else each.effect
+                effect = TURNED[each.effect] if within.odd and each.effect else each.effect
                 effect = BOTH if traits.except_refs and effect not in ("", SAME) else effect
                 self.findings.append(Finding(each.at, each.what, each.change, effect))
             if text:

@@ -7,6 +7,7 @@ XSD = "http://www.w3.org/2001/XMLSchema-datatypes"
 COMPATIBILITY = "http://relaxng.org/ns/compatibility/datatypes/1.0"
 SAME, MORE, LESS, BOTH = "the same", "more", "less", "more and less"
 TURNED = {SAME: SAME, MORE: LESS, LESS: MORE, BOTH: BOTH}
+EFFECTS = {(False, False): SAME, (True, False): MORE, (False, True): LESS, (True, True): BOTH}
 
 TEXTS = ("string", "token", "NCName", "NMTOKEN")
 SERVED = (*TEXTS, "boolean", "integer")
@@ -28,6 +29,7 @@ INTEGERS = {"long": signed(64), "int": signed(32), "short": signed(16), "byte": 
 UNSIGNED = {"unsignedLong": (0, 2 ** 64 - 1), "unsignedInt": (0, 2 ** 32 - 1), "unsignedShort": (0, 2 ** 16 - 1), "unsignedByte": (0, 2 ** 8 - 1)}
 # Lists by the type of their items.
 LISTS = {"NMTOKENS": "NMTOKEN", "IDREFS": "NCName", "ENTITIES": "NCName"}
+BOUNDS = ("minInclusive", "maxInclusive", "minExclusive", "maxExclusive")
 FACETS = frozenset("length minLength maxLength pattern minInclusive maxInclusive minExclusive maxExclusive totalDigits fractionDigits".split())
 
 
@@ -40,8 +42,9 @@ class Nearest:
     lengths: bool = True
 
 
+# What `ID`, `IDREF` and `ENTITY` refer to is not looked up, for a value neither.
 NEAREST = {"normalizedString": Nearest("string", SAME, LESS), "anyURI": Nearest("token"), "language": Nearest("NMTOKEN"), "Name": Nearest("NMTOKEN"),
-           "ID": Nearest("NCName"), "IDREF": Nearest("NCName"), "ENTITY": Nearest("NCName"),
+           "ID": Nearest("NCName", MORE, MORE), "IDREF": Nearest("NCName", MORE, MORE), "ENTITY": Nearest("NCName", MORE, MORE),
            "QName": Nearest("NMTOKEN", MORE, BOTH, False), "NOTATION": Nearest("NMTOKEN", MORE, BOTH, False)}
 NEAREST.update((name, Nearest("token", MORE, LESS, False)) for name in (
     "decimal float double duration dateTime date time gYear gYearMonth gMonth gMonthDay gDay hexBinary base64Binary").split())
@@ -56,14 +59,25 @@ class Param:
 
 
 @dataclasses.dataclass(frozen=True)
+class Within:
+    """The excepts of datatypes around a place: whether their number is odd, and whether the innermost one is that of an integer type."""
+    odd: bool = False
+    integers: bool = False
+
+
+@dataclasses.dataclass(frozen=True)
 class TypeUse:
-    """A datatype as it is written: `name` of `library`, with parameters or with a value. `has_except` says that ` - ` follows."""
+    """A datatype as it is written: `name` of `library`, with parameters or with a value. `has_except` says that ` - ` follows, `within` where it is."""
     library: str
     name: str
     at: int
     params: tuple = ()
     value: str = None
     has_except: bool = False
+    within: Within = Within()
+
+    def is_integer(self):
+        return self.library == XSD and (self.name == "integer" or self.name in INTEGERS or self.name in UNSIGNED)
 
 
 @dataclasses.dataclass(frozen=True)
@@ -159,9 +173,17 @@ def integer_param_told(param, bounds):
                 else f"the parameter {param.name} has more than {DIGITS} digits", written("integer", joined([bounds])), SAME)
 
 
+def check_bound(param, use, own):
+    """By the published rules too, the parameters of a type only narrow it: a bound is a number of the type."""
+    if param.name in BOUNDS and not is_within(number(param, True), own):
+        raise NotBroughtOver(Told(param.at, f"xsd:{use.name} does not allow the {param.name} {param.value!r}"))
+
+
 def integer_use(use, own):
     """The facets of an integer with its own bounds, and what is reported about its parameters."""
     bounds = [own, *(integer_bounds(param, use.name) for param in use.params)]
+    for param in use.params:
+        check_bound(param, use, own)
     told = [integer_param_told(param, bound) for param, bound in zip(use.params, bounds[1:])]
     return joined(bounds), [each for each in told if each]
 
@@ -191,50 +213,62 @@ def data_use(use, base, own, lengths):
     return written(base, facets), told
 
 
-def is_within(text, bounds):
+def is_within(size, bounds):
     lower, upper = bounds
-    return (lower is None or lower <= int(text)) and (upper is None or int(text) <= upper)
+    return (lower is None or lower <= size) and (upper is None or size <= upper)
 
 
 def value_told(use, base, own, effect, known):
     """The text that replaces a value's type (empty: the type stays), and what is reported. `own` are the type's bounds, and `base` replaces the type."""
-    if not allows(base, use.value) or base == "integer" and not is_within(use.value, own):
+    if not allows(base, use.value) or base == "integer" and not is_within(int(use.value), own):
         return "", [Told(use.at, f"xsd:{use.name} does not allow the value {use.value!r}")]
     if known:
         return "", []
     return f"xsd:{base}", [Told(use.at, f"the datatype xsd:{use.name} is not served", f"xsd:{base}", effect)]
 
 
-def schema_type(use, lists):
+def nearest_integer(use):
+    """What replaces an integer type. A copy accepts a sign where the type has none, and no number of more than 38 digits, not even of zeros. In the
+    except of an integer type those numbers do not matter, since the type around the except has none of them either."""
+    effect = EFFECTS[use.name in UNSIGNED, not use.within.integers]
+    return Nearest("integer", effect, effect)
+
+
+def digits_told(use, tells_digits):
+    """What is reported about an `integer` that stays, if its limit of digits matters."""
+    return [Told(use.at, f"integers of more than {DIGITS} digits are not served", "xsd:integer", LESS)] if tells_digits and use.name == "integer" else []
+
+
+def schema_type(use, lists, tells_digits):
     """The text that replaces a type of XML Schema (empty: it stays), and what is reported."""
     name, known = use.name, use.name in SERVED
     own, base, near = (None, None), name, Nearest(name, SAME, SAME)
     if name in INTEGERS or name in UNSIGNED:
-        own, base = (INTEGERS | UNSIGNED)[name], "integer"
-        near = Nearest(base, MORE if name in UNSIGNED else SAME)
+        own, near, base = (INTEGERS | UNSIGNED)[name], nearest_integer(use), "integer"
     elif name in NEAREST:
         near, base = NEAREST[name], NEAREST[name].base
     elif name in LISTS:
         if lists and use.value is None and not use.params and not use.has_except:
             text = f"list {{ xsd:{LISTS[name]}+ }}"
             return text, [Told(use.at, f"the datatype xsd:{name} is not served", text, SAME if name == "NMTOKENS" else MORE)]
-        near, base = Nearest("token", lengths=False), "token"
+        near, base = Nearest("token", MORE, SAME if name == "NMTOKENS" else MORE, False), "token"
     elif not known:
         return "", [Told(use.at, f"xsd:{name} is not a datatype of XML Schema")]
     if use.value is not None:
-        return value_told(use, base, own, near.value, known)
-    own_told = [] if known else [Told(use.at, f"the datatype xsd:{name} is not served", written(base, joined([own])), near.data)]
+        text, told = value_told(use, base, own, near.value, known)
+        return text, told or digits_told(use, tells_digits)
+    own_told = digits_told(use, tells_digits) if known else [Told(use.at, f"the datatype xsd:{name} is not served", written(base, joined([own])), near.data)]
     try:
         text, told = data_use(use, base, own, near.lengths)
     except NotBroughtOver as fault:
         return "", [*(Told(each.at, each.what) for each in own_told), fault.told]
-    return text if told or own_told else "", own_told + told
+    return text if told or not known else "", own_told + told
 
 
-def other_type(use, lists):
+def other_type(use, lists, tells_digits):
     """The same for a type of another library than XML Schema's."""
     if use.library == COMPATIBILITY and use.name in ("ID", "IDREF", "IDREFS"):
-        return schema_type(dataclasses.replace(use, library=XSD), lists)
+        return schema_type(dataclasses.replace(use, library=XSD), lists, tells_digits)
     if use.library == "" and use.name in ("string", "token"):
         told = [Told(param.at, f"{use.name} takes no parameter {param.name}; xsd:{use.name} takes lengths") for param in use.params]
         return "", told
@@ -244,6 +278,7 @@ def other_type(use, lists):
     return "xsd:string", [Told(use.at, what, "xsd:string", MORE)]
 
 
-def judged(use, lists):
-    """The text that replaces a datatype (empty: it stays), and what is reported about it. `lists` says that a type may become a list pattern."""
-    return schema_type(use, lists) if use.library == XSD else other_type(use, lists)
+def judged(use, lists, tells_digits=False):
+    """The text that replaces a datatype (empty: it stays), and what is reported about it. `lists` says that a type may become a list pattern, and
+    `tells_digits` that a number which `integer` does not serve may make the copy accept more."""
+    return (schema_type if use.library == XSD else other_type)(use, lists, tells_digits)

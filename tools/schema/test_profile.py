@@ -1,10 +1,14 @@
 """Tests of rncv-profile. See test.sh."""
+import os
 import pathlib
+import queue
 import random
 import re
+import signal
 import subprocess
 import sys
 import tempfile
+import threading
 import unittest
 from urllib.parse import unquote_to_bytes
 
@@ -21,6 +25,7 @@ SERVED = [
     b'start = n [ x = "1" ] n = [ a:x [ "y" ~ """z""" [ ] ] ] element \\start { empty } div { [ a = "b" ] n |= element b { text } }',
     b'datatypes d = "http://www.w3.org/2001/XMLSchema-datatypes" element grammar { d:integer { minInclusive = " -1 " } }',
     b'start = grammar { start = parent a } a = element list { mixed { b } } b = element b { token { } - string "a" }',
+    b'element a { xsd:integer - (xsd:integer "1" | xsd:integer { minInclusive = "5" }) }',
     b'element \\x{61} { "\\x{22} ~ "a" ~ \'\\x{A}\' }',
 ]
 FINDINGS = [
@@ -45,8 +50,29 @@ FINDINGS = [
      ["1:9: an escape with more than one x or more than 6 digits is not served; the copy has \\x{61}, and accepts the same",
       "1:21: an escape with more than one x or more than 6 digits is not served; the copy has \\x{61}, and accepts the same"]),
     ("integers", b"element a { xsd:byte | xsd:unsignedByte }",
-     ['1:13: the datatype xsd:byte is not served; the copy has xsd:integer { minInclusive = "-128" maxInclusive = "127" }, and accepts the same',
-      '1:24: the datatype xsd:unsignedByte is not served; the copy has xsd:integer { minInclusive = "0" maxInclusive = "255" }, and accepts more']),
+     ['1:13: the datatype xsd:byte is not served; the copy has xsd:integer { minInclusive = "-128" maxInclusive = "127" }, and accepts less',
+      '1:24: the datatype xsd:unsignedByte is not served; the copy has xsd:integer { minInclusive = "0" maxInclusive = "255" }, '
+      'and accepts more and less']),
+    ("integers as values", b'element a { xsd:int "1" | xsd:unsignedInt "2" | xsd:integer "3" }',
+     ["1:13: the datatype xsd:int is not served; the copy has xsd:integer, and accepts less",
+      "1:27: the datatype xsd:unsignedInt is not served; the copy has xsd:integer, and accepts more and less"]),
+    ("integers in an except", b'element a { xsd:token - (xsd:integer | xsd:long "1" | xsd:integer "2" | xsd:unsignedInt) }',
+     ["1:26: integers of more than 38 digits are not served; the copy has xsd:integer, and accepts more",
+      "1:40: the datatype xsd:long is not served; the copy has xsd:integer, and accepts more",
+      "1:55: integers of more than 38 digits are not served; the copy has xsd:integer, and accepts more",
+      '1:73: the datatype xsd:unsignedInt is not served; the copy has xsd:integer { minInclusive = "0" maxInclusive = "4294967295" }, '
+      'and accepts more and less']),
+    ("an integer in an except that stays as it is",
+     b'datatypes d = "http://www.w3.org/2001/XMLSchema-datatypes" element a { token - d:integer { minInclusive = "+5" } }',
+     ["1:80: integers of more than 38 digits are not served; the copy has xsd:integer, and accepts more"]),
+    ("integers in an except of integers", b'element a { xsd:int - (xsd:integer "1" | xsd:short "2" | xsd:unsignedInt "3") }',
+     ['1:13: the datatype xsd:int is not served; the copy has xsd:integer { minInclusive = "-2147483648" maxInclusive = "2147483647" }, and accepts less',
+      "1:42: the datatype xsd:short is not served; the copy has xsd:integer, and accepts the same",
+      "1:58: the datatype xsd:unsignedInt is not served; the copy has xsd:integer, and accepts less"]),
+    ("references as values", b'element a { xsd:ENTITY "a" | xsd:IDREFS "b" | xsd:NMTOKENS "c" }',
+     ["1:13: the datatype xsd:ENTITY is not served; the copy has xsd:NCName, and accepts more",
+      "1:30: the datatype xsd:IDREFS is not served; the copy has xsd:token, and accepts more",
+      "1:47: the datatype xsd:NMTOKENS is not served; the copy has xsd:token, and accepts the same"]),
     ("nearest", b'element a { xsd:date | xsd:QName "a:b" | xsd:anyURI { length = "3" } }',
      ["1:13: the datatype xsd:date is not served; the copy has xsd:token, and accepts more",
       "1:24: the datatype xsd:QName is not served; the copy has xsd:NMTOKEN, and accepts more and less",
@@ -57,9 +83,25 @@ FINDINGS = [
     ("value", b'element a { xsd:decimal "1.0" }', ["1:13: the datatype xsd:decimal is not served; the copy has xsd:token, and accepts less"]),
     ("except", b"element a { xsd:token - (xsd:language | xsd:byte) }",
      ["1:26: the datatype xsd:language is not served; the copy has xsd:NMTOKEN, and accepts less",
-      '1:41: the datatype xsd:byte is not served; the copy has xsd:integer { minInclusive = "-128" maxInclusive = "127" }, and accepts the same']),
-    ("except with a reference", b"start = element a { xsd:token - b } b = xsd:Name",
-     ["1:41: the datatype xsd:Name is not served; the copy has xsd:NMTOKEN, and accepts more and less"]),
+      '1:41: the datatype xsd:byte is not served; the copy has xsd:integer { minInclusive = "-128" maxInclusive = "127" }, and accepts more']),
+    ("except with a reference", b"start = element a { xsd:token - b } b = xsd:Name | xsd:integer",
+     ["1:41: the datatype xsd:Name is not served; the copy has xsd:NMTOKEN, and accepts more and less",
+      "1:52: integers of more than 38 digits are not served; the copy has xsd:integer, and accepts more and less"]),
+    ("except of a value", b'element a { xsd:string - xsd:normalizedString "a" } | element b { xsd:decimal "1" }',
+     ["1:26: the datatype xsd:normalizedString is not served; the copy has xsd:string, and accepts more",
+      "1:67: the datatype xsd:decimal is not served; the copy has xsd:token, and accepts less"]),
+    ("except in an except", b"element a { xsd:token - (xsd:token - (xsd:language | xsd:int)) } | element b { xsd:Name }",
+     ["1:39: the datatype xsd:language is not served; the copy has xsd:NMTOKEN, and accepts more",
+      '1:54: the datatype xsd:int is not served; the copy has xsd:integer { minInclusive = "-2147483648" maxInclusive = "2147483647" }, and accepts less',
+      "1:80: the datatype xsd:Name is not served; the copy has xsd:NMTOKEN, and accepts more"]),
+    ("grammar in an except", b"element a { xsd:token - grammar { start = xsd:language } } | element b { xsd:Name }",
+     ["1:43: the datatype xsd:language is not served; the copy has xsd:NMTOKEN, and accepts less",
+      "1:74: the datatype xsd:Name is not served; the copy has xsd:NMTOKEN, and accepts more"]),
+    ("except of a name class", b"element * - a { xsd:language }",
+     ["1:17: the datatype xsd:language is not served; the copy has xsd:NMTOKEN, and accepts more"]),
+    ("bounds within those of the type", b'element a { xsd:byte { minInclusive = "-5" maxExclusive = "127" } }',
+     ['1:13: the datatype xsd:byte is not served; the copy has xsd:integer { minInclusive = "-128" maxInclusive = "127" }, and accepts less',
+      '1:44: the parameter maxExclusive is not served; the copy has xsd:integer { maxInclusive = "126" }, and accepts the same']),
     ("library", b'datatypes d = "u" element a { d:t { p = "1" } }',
      ["1:31: the datatype library 'u' is not served; the copy has xsd:string, and accepts more"]),
     ("pattern", b'element a { xsd:NCName { pattern = "a" } }', ["1:26: the parameter pattern is not served; the copy has no pattern, and accepts more"]),
@@ -77,6 +119,12 @@ LEFT = [
     ("no type", b"element a { xsd:number }", ["1:13: xsd:number is not a datatype of XML Schema"]),
     ("no built-in", b'datatypes d = "" element a { d:text }', ["1:30: text is not a built-in datatype"]),
     ("value of a library", b'datatypes d = "u" element a { d:t "1" }', ["1:31: the datatype library 'u' is not served"]),
+    ("bound above the type", b'element a { xsd:nonPositiveInteger { minInclusive = "5" } }',
+     ["1:13: the datatype xsd:nonPositiveInteger is not served", "1:38: xsd:nonPositiveInteger does not allow the minInclusive '5'"]),
+    ("bound weaker than the type", b'element a { xsd:byte { minInclusive = "1" maxInclusive = "1000" } }',
+     ["1:13: the datatype xsd:byte is not served", "1:43: xsd:byte does not allow the maxInclusive '1000'"]),
+    ("exclusive bound beside the type", b'element a { xsd:nonNegativeInteger { minExclusive = "-1" } }',
+     ["1:13: the datatype xsd:nonNegativeInteger is not served", "1:38: xsd:nonNegativeInteger does not allow the minExclusive '-1'"]),
     ("no parameter", b'element a { xsd:int { minLength = "1" } }',
      ["1:13: the datatype xsd:int is not served", "1:23: xsd:int takes no parameter minLength"]),
     ("parameter of token", b'element a { token { maxLength = "1" } }', ["1:21: token takes no parameter maxLength; xsd:token takes lengths"]),
@@ -97,7 +145,7 @@ LEFT = [
 ]
 
 
-class Profile(unittest.TestCase):
+class InFolder(unittest.TestCase):
     """The program, in a fresh folder."""
 
     def setUp(self):
@@ -117,6 +165,10 @@ class Profile(unittest.TestCase):
     def profile(self, *words):
         return self.run_in(HERE / "rncv-profile", *words)
 
+
+class Profile(InFolder):
+    """What is found and copied."""
+
     def checked(self, *names):
         """Wants that the program finds no broken clause in the copies."""
         if PROGRAM.exists():
@@ -134,7 +186,7 @@ class Profile(unittest.TestCase):
             with self.subTest(name):
                 self.write("s.rnc", source)
                 out, errors, status = self.profile("--write", "copy", "s.rnc")
-                written = "written: copy/s.rnc" + " copy/s.profile.txt" * any(line.endswith((" more", " more and less")) for line in lines)
+                written = "written: copy/s.rnc" + " copy/s.profile.txt" * any(line.endswith((" more", " less")) for line in lines)
                 self.assertEqual((out.splitlines(), errors, status), ([*(f"s.rnc:{line}" for line in lines), written], "", 1))
                 self.assertEqual(self.profile("copy/s.rnc"), ("", "", 0))
                 self.checked("copy/s.rnc")
@@ -203,16 +255,121 @@ class Profile(unittest.TestCase):
         self.assertTrue(self.profile("--write", "copy", "s.rnc")[0].endswith("\nwritten: copy/s.rnc copy/b.rnc copy/s.profile.txt\n"))
         copies = [(self.folder / "copy" / name).read_text().splitlines()[-1] for name in ("s.rnc", "b.rnc")]
         self.assertEqual(copies[0], "# rncv-profile: 2 datatypes loosened, see s.profile.txt")
-        self.assertNotIn("rncv-profile", copies[1])
+        self.assertEqual(copies[1], "# rncv-profile: 1 datatype tightened, see s.profile.txt")
         told = "the datatype xsd:date is not served; the copy has xsd:token, and accepts more\n"
         self.assertEqual((self.folder / "copy/s.profile.txt").read_text().splitlines(True)[0], f"s.rnc:2:24: {told}")
         self.assertEqual(self.profile("--write", "again", "copy/s.rnc")[0], "written: again/s.rnc again/b.rnc\n")
         self.assertEqual((self.folder / "again/s.rnc").read_text(), (self.folder / "copy/s.rnc").read_text())
 
+    def test_what_a_copy_accepts_less_is_marked_beside_what_it_accepts_more(self):
+        self.write("s.rnc", b'include "b.rnc"\nstart = element a { xsd:decimal "1.0" | xsd:unsignedInt | xsd:date | n }')
+        self.write("b.rnc", b'n = element n { xsd:token }\n')
+        self.assertEqual(self.profile("--write", "copy", "s.rnc")[2], 1)
+        marks = "# rncv-profile: 2 datatypes loosened, see s.profile.txt\n# rncv-profile: 2 datatypes tightened, see s.profile.txt\n"
+        self.assertTrue((self.folder / "copy/s.rnc").read_text().endswith("| n }\n" + marks))
+        self.assertNotIn("rncv-profile", (self.folder / "copy/b.rnc").read_text())
+        told = (self.folder / "copy/s.profile.txt").read_text().splitlines()
+        self.assertEqual([line.rpartition(" accepts ")[2] for line in told], ["less", "more and less", "more"])
+
+    def test_an_external_in_an_except(self):
+        self.write("s.rnc", b'element a { xsd:token - external "b.rnc" }')
+        self.write("b.rnc", b"xsd:language")
+        self.assertEqual(self.profile("--write", "copy", "s.rnc")[0].splitlines()[0],
+                         "b.rnc:1:1: the datatype xsd:language is not served; the copy has xsd:NMTOKEN, and accepts more and less")
+
     def test_examples_of_the_repository(self):
         for folder in sorted(path for path in (TOP / "examples").iterdir() if path.name != "broken"):
             with self.subTest(folder.name):
                 self.assertEqual(self.profile(*sorted(folder.glob("*.rnc"))), ("", "", 0))
+
+
+class Watching(InFolder):
+    """The program with --watch, which is given half a minute for each line."""
+
+    def start(self, *words):
+        """Starts the program; `lines` gets what it prints on both streams. Ctrl-C ends it even if these tests run in the background."""
+        self.lines = queue.Queue()
+        self.program = subprocess.Popen([str(HERE / "rncv-profile"), *words], cwd=self.folder, stdout=subprocess.PIPE, stderr=subprocess.STDOUT,
+                                        preexec_fn=lambda: signal.signal(signal.SIGINT, signal.SIG_DFL))
+        reader = threading.Thread(target=lambda: [self.lines.put(line.decode()) for line in self.program.stdout], daemon=True)
+        reader.start()
+        self.addCleanup(self.program.stdout.close)
+        self.addCleanup(reader.join, 30)
+        self.addCleanup(self.program.wait, 30)
+        self.addCleanup(self.program.kill)
+
+    def write(self, name, data):
+        """Writes a file at once, so that the program never reads a part of it."""
+        super().write(f"{name}.new", data)
+        os.replace(self.folder / f"{name}.new", self.folder / name)
+
+    def line(self):
+        return self.lines.get(timeout=30)
+
+    def is_quiet(self, seconds=2):
+        """Wants that the program prints nothing in so many seconds."""
+        with self.assertRaises(queue.Empty):
+            self.lines.get(timeout=seconds)
+
+    def test_a_copy_after_each_change(self):
+        self.write("s.rnc", b'include "parts/b.rnc"\nstart = element a { b, xsd:date }')
+        self.write("parts/b.rnc", b"b = attribute b { xsd:token }")
+        self.start("--watch", "--write", "copy", "s.rnc")
+        self.assertEqual(self.line(), "written: copy/s.rnc copy/b.rnc copy/s.profile.txt, 2 findings, 1 datatype loosened\n")
+        self.write("parts/b.rnc", b"b = attribute b { xsd:int }")
+        self.assertEqual(self.line(), "written: copy/s.rnc copy/b.rnc copy/s.profile.txt, 3 findings, 1 datatype loosened, 1 datatype tightened\n")
+        self.assertIn("tightened", (self.folder / "copy/b.rnc").read_text())
+        self.write("s.rnc", b"start = element a { xsd:token }\n")
+        self.assertEqual(self.line(), "written: copy/s.rnc, 0 findings\n")
+        self.assertEqual(sorted(os.listdir(self.folder / "copy")), ["s.rnc"])
+        self.write("parts/b.rnc", b"b = attribute c { xsd:int }")
+        self.is_quiet()
+        self.program.send_signal(signal.SIGINT)
+        self.assertEqual(self.program.wait(30), 130)
+        self.is_quiet(0)
+
+    def test_a_file_that_is_broken_for_a_moment(self):
+        self.write("s.rnc", b'include "b.rnc"\nstart = element a { b }\n')
+        self.write("b.rnc", b"b = empty\n")
+        self.start("--watch", "--write", "copy", "s.rnc")
+        self.assertEqual(self.line(), "written: copy/s.rnc copy/b.rnc, 0 findings\n")
+        (self.folder / "b.rnc").unlink()
+        self.assertEqual(self.line(), "s.rnc:1:9: cannot read 'b.rnc': No such file or directory; the copies stay as they are\n")
+        self.write("s.rnc", b'include "b.rnc"\nstart = element c { b }\n')
+        self.is_quiet()
+        self.assertEqual((self.folder / "copy/b.rnc").read_bytes(), b"b = empty\n")
+        self.write("b.rnc", b'b = "open')
+        self.assertEqual(self.line(), "written: copy/s.rnc copy/b.rnc, 1 finding, b.rnc:1:5: no token begins here: the file is not read further\n")
+        self.write("b.rnc", b'b = "open"')
+        self.assertEqual(self.line(), "written: copy/s.rnc copy/b.rnc, 0 findings\n")
+        self.assertEqual((self.folder / "copy/s.rnc").read_bytes(), b'include "b.rnc"\nstart = element c { b }\n')
+
+    def test_a_schema_that_is_not_there_yet(self):
+        self.start("--watch", "--write", "copy", "s.rnc")
+        self.assertEqual(self.line(), "s.rnc: cannot read 's.rnc': No such file or directory; the copies stay as they are\n")
+        self.write("s.rnc", b"element a { empty }\n")
+        self.assertEqual(self.line(), "written: copy/s.rnc, 0 findings\n")
+
+    def test_what_is_the_same_is_not_written_again(self):
+        self.write("s.rnc", b'include "b.rnc"\nstart = element a { b }\n')
+        self.write("b.rnc", b"b = empty\n")
+        self.start("--watch", "--write", "copy", "s.rnc")
+        self.line()
+        before = os.stat(self.folder / "copy/s.rnc")
+        self.write("b.rnc", b"b = text\n")
+        self.line()
+        after = os.stat(self.folder / "copy/s.rnc")
+        self.assertEqual((after.st_ino, after.st_mtime_ns), (before.st_ino, before.st_mtime_ns))
+        self.assertEqual((self.folder / "copy/b.rnc").read_bytes(), b"b = text\n")
+
+    def test_command_lines_that_cannot_work(self):
+        self.write("s.rnc", b"xsd:date")
+        out, errors, status = self.profile("--watch", "s.rnc")
+        self.assertEqual((out, errors.splitlines()[-1], status), ("", "rncv-profile: error: --watch needs --write DIR", 4))
+        self.assertEqual(self.profile("--watch", "--write", ".", "s.rnc"), (
+            "", "rncv-profile: s.rnc is a file of the schema; copies go to another directory\n", 4))
+        self.write("file", b"")
+        self.assertEqual(self.profile("--watch", "--write", "file", "s.rnc")[2], 4)
 
 
 class Tokens(unittest.TestCase):

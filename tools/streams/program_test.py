@@ -2,12 +2,16 @@
 import errno
 import os
 import resource
+import select
+import subprocess
 import unittest
 
-from harness import RNCV, SIMPLE, InFolder, WithCalls, closed_pipe_is_told, closed_pipe_kills
+from harness import RNCV, SECONDS, SIMPLE, InFolder, WithCalls, closed_pipe_is_told, closed_pipe_kills
 
 READ_FAILED = 4, b"", b"rncv: read failed\n"
 WRITE_FAILED = 4, None, b"rncv: write failed\n"
+WAITING = b"rncv: reading the document, PYX lines, from standard input\n"
+END_OF_INPUT = b"\x04"  # Ctrl-D at the beginning of a line
 USAGE = 5, b"", b"usage: rncv valid|check|simple FILES..\n"
 VALID, OK, FORM, REFUSED = ((0, b"valid\n", b""), (0, b"schema ok\n", b""), (0, SIMPLE, b""), (3, b"refused S6 file broken.rnc\n", b""))
 # An answer of each kind: the arguments, the document, and the answer.
@@ -71,6 +75,56 @@ class Inputs(Program):
         """An answer does not wait for the end of an endless input."""
         self.assertEqual(self.run_rncv("valid", "s.rnc", stdin=self.device("/dev/zero", "rb")), (2, b"malformed P10 line 1\n", b""))
         self.assertEqual(self.run_rncv("valid", "s.rnc", given=b"(a\n)b\n" + b"?x\n" * 1_000_000), (2, b"malformed P8 line 2\n", b""))
+
+
+class Typed(Program):
+    """A document that is typed on a terminal. A line on standard error says what the program waits for."""
+
+    def terminal(self):
+        """A keyboard and its terminal."""
+        ends = os.openpty()
+        for end in ends:
+            self.addCleanup(os.close, end)
+        return ends
+
+    def typed(self, *words, document=b"(a\n)a\n", **more):
+        """A run in which the document is typed, and then the end of the input."""
+        keyboard, terminal = self.terminal()
+        os.write(keyboard, document + END_OF_INPUT)
+        return self.run_rncv(*words, stdin=terminal, **more)
+
+    def test_the_line_is_printed_once(self):
+        for words, document, (status, out, errors) in ANSWERS:
+            wanted = WAITING if words == ("valid", "s.rnc") else errors
+            self.assertEqual(self.typed(*words, document=document), (status, out, wanted), (words, document))
+
+    def test_before_the_document(self):
+        """The line is there before anything is typed."""
+        keyboard, terminal = self.terminal()
+        with subprocess.Popen([RNCV, "valid", "s.rnc"], cwd=self.folder, stdin=terminal, stdout=subprocess.PIPE, stderr=subprocess.PIPE) as run:
+            is_there, _, _ = select.select([run.stderr], [], [], SECONDS)
+            found = run.stderr.readline() if is_there else b""
+            os.write(keyboard, b"(a\n)a\n" + END_OF_INPUT)
+            self.assertEqual((found, *run.communicate(timeout=SECONDS)), (WAITING, b"valid\n", b""))
+
+    def test_faults_before_the_document(self):
+        for name in ("none.rnc", "."):
+            self.assertEqual(self.typed("valid", "s.rnc", name), (4, b"", f"rncv: cannot read file {name}\n".encode()))
+        for words in ((), ("valid",), ("valid", "--"), ("valid", "-x")):
+            self.assertEqual(self.typed(*words), USAGE, words)
+
+    def test_other_terminals(self):
+        """What is written to a terminal is the same as elsewhere."""
+        for name, written in (("stdout", b"valid\r\n"), ("stderr", b"")):
+            screen, terminal = self.terminal()
+            *_, errors = self.run_rncv("valid", "s.rnc", **{name: terminal})
+            is_there, _, _ = select.select([screen], [], [], 0)
+            self.assertEqual((errors or b"", os.read(screen, 100) if is_there else b""), (b"", written), name)
+
+    def test_no_errors(self):
+        """If standard error accepts nothing, the document is judged all the same."""
+        self.assertEqual(self.typed("valid", "s.rnc", closed=[2]), (0, b"valid\n", None))
+        self.assertEqual(self.typed("valid", "s.rnc", stderr=self.full()), (0, b"valid\n", None))
 
 
 class Outputs(Program):

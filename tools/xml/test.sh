@@ -1,7 +1,7 @@
 #!/bin/sh
 # Tests of rncv-xml and xml2pyx, in less than a minute:   tools/xml/test.sh [PROGRAM]     (PROGRAM: the built rncv, else crates/rncv/out/rncv)
 #
-# It builds the programs into a temporary folder, unless RNCV_XML_PROGRAMS names one where they are. They need a C compiler, the headers of expat, and
+# It builds the programs into a temporary folder, unless RNCV_XML_PROGRAMS names one where they are. They need a C compiler, the headers of libxml2, and
 # librncv (RNCV_LIBRARY, by default build/library). What is missing is reported and skipped. With the variable RNCV_REQUIRED set that is a failure.
 # RNCV_XML_DOCUMENTS says on how many generated documents, and mutants of them, the converters in C and in Python are compared, by default 300.
 here=$(cd "$(dirname "$0")" && pwd)
@@ -36,9 +36,12 @@ judge() {
         return
     fi
     status=0
-    for part in judging schema recipes; do
+    python3 -B "$here/tests/library_test.py" >"$room/library" 2>&1 & library=$!
+    for part in judging schema hints robust recipes cases; do
         python3 -B "$here/tests/${part}_test.py" || status=1
     done
+    wait "$library" || status=1
+    cat "$room/library"
     return "$status"
 }
 

@@ -4,7 +4,7 @@ from __future__ import annotations
 import dataclasses
 import threading
 import time
-from typing import Any, Dict, List, Optional, Tuple
+from typing import Any, Dict, List, Optional, Set, Tuple
 
 from rncv_lsp.documents import Document, Documents, uri_of
 from rncv_lsp.findings import INFORMATION, Finding, diagnostic
@@ -14,14 +14,15 @@ from rncv_lsp.publishing import Publisher
 from rncv_lsp.rpc import Connection, told
 from rncv_lsp.schema_files import Disk, FileView, SchemaFile, SchemaSet, collected, main_files, opened, state_of
 from rncv_lsp.schemas import Outcome, Schemas, findings_of, refusal
-from rncv_lsp.settings import Settings, schema_by_rule
+from rncv_lsp.settings import Settings
 from rncv_lsp.texts import Text
 from rncv_lsp.xml_judging import judged, well_formed
-from rncv_lsp.xml_model import Named, schema_named
-from rncv_lsp.xml_source import GivenUp
+from rncv_lsp.xml_model import Named, not_served, schema_named
+from rncv_lsp.xml_source import Cancelled, GivenUp
 
-# How long the server waits for more messages before it judges, and how often it checks whether the files that it used have changed.
-SETTLE_SECONDS, MOST_SETTLE_SECONDS, POLL_SECONDS = 0.03, 0.3, 1.0
+# How long the server waits for more messages before it judges: longer for a large document, of so many characters in a second more. How long that may take
+# in all, as a multiple. How often it checks whether the files that it used have changed.
+SETTLE_SECONDS, SETTLE_LENGTH, MOST_SETTLE_SECONDS, MOST_SETTLES, POLL_SECONDS = 0.03, 20_000_000, 0.5, 10, 1.0
 
 
 @dataclasses.dataclass(frozen=True)
@@ -49,8 +50,9 @@ class Coordinator:
         self._publisher = Publisher(connection)
         self._jobs = Jobs(lambda error: connection.log(1, told(error)))
         self._disk, self._schemas = Disk(), Schemas()
-        self._changed = threading.Condition()
-        self._is_dirty = self._is_told = False
+        self._changed = threading.Event()
+        self._changed_at, self._settle = 0.0, SETTLE_SECONDS
+        self._told: Set[str] = set()
         self._states: Dict[str, Any] = {}
         self._tasks: Dict[str, Task] = {}
         self._validators: Dict[str, Tuple[str, rncv.Validator]] = {}
@@ -59,11 +61,12 @@ class Coordinator:
         """Starts to judge."""
         start_thread(self._work, "coordinator")
 
-    def touch(self) -> None:
-        """Records that something has changed."""
-        with self._changed:
-            self._is_dirty = True
-            self._changed.notify()
+    def touch(self, document: Optional[Document] = None) -> None:
+        """Records that something has changed: this document, or something else. The caller never waits."""
+        if document is not None:
+            self._settle = max(self._settle, min(SETTLE_SECONDS + document.lines.length / SETTLE_LENGTH, MOST_SETTLE_SECONDS))
+        self._changed_at = time.monotonic()
+        self._changed.set()
 
     def _work(self) -> None:
         """Judges again and again."""
@@ -76,22 +79,20 @@ class Coordinator:
 
     def _wait(self) -> None:
         """Waits until something has changed, and then until no more messages come."""
-        with self._changed:
-            while not self._is_dirty:
-                self._changed.wait(POLL_SECONDS if self._states else None)
-                if not self._is_dirty and any(state_of(path) != state for path, state in self._states.items()):
-                    break
-            limit = time.monotonic() + MOST_SETTLE_SECONDS
-            self._is_dirty = False
-            while self._changed.wait(SETTLE_SECONDS) and time.monotonic() < limit:
-                self._is_dirty = False
-            self._is_dirty = False
+        while not self._changed.wait(POLL_SECONDS if self._states else None):
+            if any(state_of(path) != state for path, state in self._states.items()):
+                self.touch()
+        limit = time.monotonic() + MOST_SETTLES * self._settle
+        while (left := min(self._changed_at + self._settle, limit) - time.monotonic()) > 0:
+            time.sleep(left)
+        self._settle = SETTLE_SECONDS
+        self._changed.clear()
 
     def _go_over(self) -> None:
         """Judges the open documents as they are now."""
         documents = self._documents.snapshot()
         view = FileView(documents, self._disk)
-        named = {document.uri: self._named(document) for document in documents if not document.is_schema}
+        named = {document.uri: schema_named(document, self.settings, self.roots) for document in documents if document.is_xml}
         mains = {each.path: view.find(each.path) for each in named.values() if each is not None and each.path is not None}
         sets = {file.key: collected(file, view) for file in mains.values() if file is not None}
         reached = [key for schema in sets.values() for key in schema.keys]
@@ -103,28 +104,28 @@ class Coordinator:
         self._publish_schemas([(sets[key], outcomes[key]) for key in judged_ones], documents)
         for document in documents:
             each = named.get(document.uri)
-            if each is not None or (document.uri in named and document.is_xml):
-                file = mains.get(each.path) if each is not None and each.path is not None else None
-                task = task_of(document, each, sets.get(file.key) if file else None, outcomes)
-                self._put(dataclasses.replace(task, clauses_url=self.settings.clauses_url))
-        self._forget(documents, named, outcomes, view)
-
-    def _named(self, document: Document) -> Optional[Named]:
-        """The schema of a document, if it is XML or the settings give it a schema."""
-        by_rule = document.path is not None and schema_by_rule(self.settings, document.path, self.roots) is not None
-        return schema_named(document, self.settings, self.roots) if by_rule or document.is_xml else None
+            if each is not None:
+                file = mains[each.path] if each.path is not None else None
+                self._put(task_of(document, each, sets[file.key] if file else None, outcomes))
+            elif document.uri in named:
+                self._put(Task(document, findings=not_served(document, view)))
+        self._forget(named, outcomes, view)
 
     def _outcome(self, schema: SchemaSet) -> Outcome:
         """The result of compiling a schema; an empty result if there is no library or no memory."""
         try:
             return self._schemas.outcome(schema)
         except rncv.LibraryError as error:
-            if not self._is_told:
-                self._connection.notify("window/showMessage", {"type": 1, "message": f"rncv-lsp: cannot read schemas: {error}"})
-            self._is_told = True
+            self._tell_once(f"rncv-lsp: cannot read schemas: {error}")
         except MemoryError as error:
             self._connection.log(1, told(error))
         return Outcome("")
+
+    def _tell_once(self, what: str) -> None:
+        """Shows the user that a library is missing."""
+        if what not in self._told:
+            self._told.add(what)
+            self._connection.notify("window/showMessage", {"type": 1, "message": what})
 
     def _publish_schemas(self, schemas: List[Tuple[SchemaSet, Outcome]], documents: List[Document]) -> None:
         """Publishes what is found in the files of schemas. An open file always gets a list, even an empty one."""
@@ -142,7 +143,7 @@ class Coordinator:
 
     def _put(self, task: Task) -> None:
         """Starts to judge a document, unless that was done for an equal task."""
-        uri = task.document.uri
+        uri, task = task.document.uri, dataclasses.replace(task, clauses_url=self.settings.clauses_url)
         if not task.is_like(self._tasks.get(uri)):
             self._tasks[uri] = task
             self._jobs.put(uri, lambda: self._judge(task))
@@ -156,14 +157,20 @@ class Coordinator:
             return self._tasks.get(document.uri) is not task or not self._documents.is_current(document)
 
         try:
-            if task.outcome is not None and task.outcome.validator is not None:
-                found = judged(document, self._validator(document.uri, task.outcome), task.outcome.literals, is_cancelled)
-            else:
-                found = well_formed(document, is_cancelled)
+            found = self._found(task, is_cancelled)
         except GivenUp:
             return
         told_of = [self._diagnostic(document.lines, finding) for finding in (*task.findings, *found)]
         self._publisher.set_one(f"xml:{document.uri}", document.uri, told_of, lambda: None if is_cancelled() else document.version)
+
+    def _found(self, task: Task, is_cancelled: Cancelled) -> List[Finding]:
+        """What is found in a document. Without the library for XML it is only judged whether the document is well formed."""
+        if task.outcome is not None and task.outcome.validator is not None:
+            try:
+                return judged(task.document, self._validator(task.document.uri, task.outcome), task.outcome, is_cancelled)
+            except rncv.LibraryError as error:
+                self._tell_once(f"rncv-lsp: cannot judge XML by schemas: {error}")
+        return well_formed(task.document, is_cancelled)
 
     def _validator(self, uri: str, outcome: Outcome) -> rncv.Validator:
         """The validator of a document. It is kept while the document's schema stays the same."""
@@ -173,13 +180,12 @@ class Coordinator:
             self._validators[uri] = known
         return known[1]
 
-    def _forget(self, documents: List[Document], named: Dict[str, Optional[Named]], outcomes: Dict[str, Outcome], view: FileView) -> None:
-        """Forgets what belongs to closed documents, and to schemas that are not used."""
-        uris = {document.uri for document in documents if named.get(document.uri) is not None or (document.uri in named and document.is_xml)}
-        for uri in [uri for uri in self._tasks if uri not in uris]:
+    def _forget(self, named: Dict[str, Optional[Named]], outcomes: Dict[str, Outcome], view: FileView) -> None:
+        """Forgets what belongs to closed documents, and to schemas that are not used. `named` has the open documents in XML."""
+        for uri in [uri for uri in self._tasks if uri not in named]:
             del self._tasks[uri]
             self._validators.pop(uri, None)
-        self._publisher.drop(lambda name: name.startswith("xml:") and name[4:] not in uris)
+        self._publisher.drop(lambda name: name.startswith("xml:") and name[4:] not in named)
         self._schemas.keep([outcome.name for outcome in outcomes.values()])
         self._disk.keep(view.states)
         self._states = view.states
@@ -190,10 +196,8 @@ def uri_of_file(file: SchemaFile) -> str:
     return file.document.uri if file.document else uri_of(file.path)
 
 
-def task_of(document: Document, named: Optional[Named], schema: Optional[SchemaSet], outcomes: Dict[str, Outcome]) -> Task:
-    """The task for a document."""
-    if named is None:
-        return Task(document)
+def task_of(document: Document, named: Named, schema: Optional[SchemaSet], outcomes: Dict[str, Outcome]) -> Task:
+    """The task for a document that names this schema."""
     if named.path is None:
         return Task(document, None, (Finding(named.start, named.end, f"the schema {named.words} is not fetched", "schema", severity=INFORMATION),))
     if schema is None:

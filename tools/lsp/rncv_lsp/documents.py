@@ -5,17 +5,19 @@ import dataclasses
 import functools
 import os
 import pathlib
-import re
 import threading
 import urllib.parse
-from typing import Any, Dict, List, Optional
+from typing import Any, Dict, List, Optional, Tuple
 
 from rncv_lsp.rpc import INVALID_PARAMS, RpcFault, member
-from rncv_lsp.texts import Text, edited
+from rncv_lsp.texts import Text
+from rncv_lsp.xml_prolog import Model, models_in
 
 SCHEMA_LANGUAGES = ("rnc", "relaxng-compact", "relax-ng-compact", "relaxng", "rnc-mode")
-XML_LANGUAGES = ("xml", "nxml", "xhtml", "svg", "xsl", "xslt", "xsd", "docbook", "rng", "dita", "maven-pom")
-XML_BEGINS = re.compile("\ufeff?<\\?xml[ \t\r\n]")
+# The ends of names of files that are parts of DTDs. Some editors have one language for these and for documents.
+DTD_ENDS = (".dtd", ".ent", ".mod")
+# One more than a file of a schema may have. A longer file is refused, and the rest of it does not matter.
+CONTENT_LENGTH = 1_048_577
 
 
 def path_of(uri: str) -> Optional[str]:
@@ -43,28 +45,29 @@ class Document:
     key: str
     language: str
     version: int
-    text: str
-
-    @functools.cached_property
-    def lines(self) -> Text:
-        """The text with its lines."""
-        return Text(self.text)
+    lines: Text
 
     @functools.cached_property
     def content(self) -> bytes:
-        """The bytes that the document would have as a file in UTF-8."""
-        return self.text.encode("utf-8", "surrogatepass")
+        """The first bytes that the document would have as a file in UTF-8: as many as a file of a schema may have, and more."""
+        return self.lines.slice(0, CONTENT_LENGTH).encode("utf-8", "surrogatepass")
+
+    @functools.cached_property
+    def models(self) -> Tuple[Model, ...]:
+        """The instructions `xml-model` before the root."""
+        return models_in(self.lines)
 
     @property
     def is_schema(self) -> bool:
-        """Whether this is a schema in the compact syntax."""
-        return self.language in SCHEMA_LANGUAGES or (self.path or self.uri).lower().endswith(".rnc")
+        """Whether this is a schema in the compact syntax. Some editors have one language for all that they send to a server, so what begins with `<` is XML,
+        unless its name says that it is a schema."""
+        is_named = (self.path or self.uri).lower().endswith(".rnc")
+        return is_named or (self.language in SCHEMA_LANGUAGES and not self.lines.begins_with_tag)
 
     @property
     def is_xml(self) -> bool:
-        """Whether this is XML by its language, its name or its first characters."""
-        has_name = self.language in XML_LANGUAGES or (self.path or self.uri).lower().endswith((".xml", ".xhtml", ".svg"))
-        return not self.is_schema and (has_name or bool(XML_BEGINS.match(self.text)))
+        """Whether this is XML: all else is, except parts of DTDs. Editors have many names for the languages of XML."""
+        return not self.is_schema and not (self.path or self.uri).lower().endswith(DTD_ENDS)
 
 
 def new_document(item: Any) -> Document:
@@ -74,13 +77,13 @@ def new_document(item: Any) -> Document:
     language = item.get("languageId")
     key = os.path.realpath(path) if path is not None else uri
     name = language.lower() if isinstance(language, str) else ""
-    return Document(uri, path, key, name, version_in(item, 0), member(item, "text", str))
+    return Document(uri, path, key, name, version_in(item, 0), Text(member(item, "text", str)))
 
 
 def version_in(item: Any, otherwise: int) -> int:
     """The version that a client sends; `otherwise` if it sends none."""
     found = item.get("version")
-    return found if isinstance(found, int) else otherwise
+    return found if isinstance(found, int) and not isinstance(found, bool) else otherwise
 
 
 class Documents:
@@ -97,18 +100,20 @@ class Documents:
             self._open.pop(document.uri, None)
             self._open[document.uri] = document
 
-    def change(self, item: Any, changes: List[Any]) -> None:
-        """Changes a document. If one of the changes is bad, nothing is changed."""
+    def change(self, item: Any, changes: List[Any]) -> Document:
+        """Changes a document, and returns it as it is then. If one of the changes is bad, nothing is changed."""
         uri = member(item, "uri", str)
         document = self.current(uri)
         if document is None:
             raise RpcFault(INVALID_PARAMS, f"a change of a document that is not open: {uri}")
-        text = document.text
+        lines = document.lines
         for change in changes:
             words = member(change, "text", str)
-            text = words if change.get("range") is None else edited(text, checked(change), self.encoding)
+            lines = Text(words) if change.get("range") is None else lines.edited(checked(change), self.encoding)
+        changed = dataclasses.replace(document, version=version_in(item, document.version), lines=lines)
         with self._lock:
-            self._open[uri] = dataclasses.replace(document, version=version_in(item, document.version), text=text)
+            self._open[uri] = changed
+        return changed
 
     def close(self, uri: str) -> None:
         """Removes a document."""

@@ -2,13 +2,15 @@
 from __future__ import annotations
 
 import json
+import math
 import threading
-from typing import Any, BinaryIO, Callable, Dict, List, Optional
+from typing import Any, BinaryIO, Callable, Dict, List, NoReturn, Optional
 
 from rncv_lsp.framing import write_message
 
 PARSE_ERROR, INVALID_REQUEST, METHOD_NOT_FOUND, INVALID_PARAMS, INTERNAL_ERROR = -32700, -32600, -32601, -32602, -32603
 NOT_INITIALIZED = -32002
+MOST_DIGITS = 300
 
 Handler = Callable[[Any], Any]
 
@@ -34,12 +36,35 @@ def error_answer(identity: Any, fault: RpcFault) -> Dict[str, Any]:
     return {"jsonrpc": "2.0", "id": identity, "error": {"code": fault.code, "message": fault.what}}
 
 
+def no_constant(name: str) -> NoReturn:
+    """Refuses NaN and Infinity, which Python reads and JSON does not have."""
+    raise ValueError(name)
+
+
+def whole_number(words: str) -> int:
+    """A number without a fraction. Long ones are refused, since to read them takes long."""
+    if len(words) > MOST_DIGITS:
+        raise ValueError("a number with too many digits")
+    return int(words)
+
+
+def number(words: str) -> float:
+    """Another number. One that is too large is refused: Python reads it as Infinity, and JSON has no form of that."""
+    found = float(words)
+    if math.isinf(found):
+        raise ValueError("a number that is too large")
+    return found
+
+
+DECODER = json.JSONDecoder(parse_constant=no_constant, parse_int=whole_number, parse_float=number)
+
+
 def parsed(data: bytes) -> Any:
     """The value of a message."""
     try:
-        return json.loads(data.decode("utf-8"))
+        return DECODER.decode(data.decode("utf-8"))
     except (ValueError, RecursionError):
-        raise RpcFault(PARSE_ERROR, "the message is not JSON in UTF-8") from None
+        raise RpcFault(PARSE_ERROR, "the message is not JSON in UTF-8, or has a number that is too large") from None
 
 
 class Connection:
@@ -54,7 +79,7 @@ class Connection:
 
     def send(self, message: Any) -> None:
         """Sends a message, or a list of them. Drops it if the other side is gone; the end of the input will show that."""
-        data = json.dumps(message, separators=(",", ":")).encode("ascii")
+        data = json.dumps(message, separators=(",", ":"), allow_nan=False).encode("ascii")
         with self._lock:
             try:
                 if not self._is_closed:
@@ -93,19 +118,20 @@ class Dispatcher:
         self.requests: Dict[str, Handler] = {}
         self.notifications: Dict[str, Handler] = {}
 
-    def take(self, data: bytes) -> None:
-        """Takes the bytes of a message, or of a batch, and sends the answers to it."""
+    def take(self, data: bytes) -> bool:
+        """Takes the bytes of a message, or of a batch, and sends the answers to it. False: the bytes are not JSON."""
         try:
             value = parsed(data)
         except RpcFault as fault:
             self.refuse(fault)
-            return
+            return False
         if isinstance(value, list) and value:
             self._take_batch(value)
-            return
+            return True
         answer = self._answer(value)
         if answer is not None:
             self._connection.send(answer)
+        return True
 
     def _take_batch(self, values: List[Any]) -> None:
         """Takes the messages of a batch. Messages before one that ends the server are answered too."""

@@ -16,7 +16,7 @@ from rncv_lsp.texts import Text
 MOST_FILES = 64
 SCHEME = re.compile(r"([A-Za-z][-+.0-9A-Za-z]+):")
 # The name of the main file. No file can mention it, since XML does not allow its first character.
-MAIN = "\x01main"
+MAIN = "\uffffmain"
 
 
 @dataclasses.dataclass(frozen=True)

@@ -1,15 +1,13 @@
-"""The tokens of a schema's file: the files it mentions, its literals, and where the token at a place ends."""
+"""The tokens of a schema's file: the files it mentions, and where the token at a place ends."""
 from __future__ import annotations
 
 import dataclasses
 import functools
-from typing import Iterator, List, Optional, Sequence, Tuple
+from typing import Iterator, Optional, Sequence, Tuple
 
 from rncv_lsp.outside import ESCAPE, TOKEN, NoToken, Token, meaning, tokens
 
 FILE_BYTES = 1_048_576
-MOST_LITERALS = 100
-LITERAL_LENGTH = 100
 
 
 @dataclasses.dataclass(frozen=True)
@@ -66,12 +64,6 @@ def mentions_of(text: str) -> Tuple[Mention, ...]:
         if mention is not None:
             mentions.append(mention)
     return tuple(mentions)
-
-
-def literals_of(texts: Sequence[str]) -> List[str]:
-    """The first short literals of a schema's files, as values to try."""
-    found = dict.fromkeys(token.text for text in texts for token in tokens_of(text) if token.kind == "literal" and len(token.text) <= LITERAL_LENGTH)
-    return list(found)[:MOST_LITERALS]
 
 
 def has_start(text: str) -> bool:

@@ -7,8 +7,8 @@ from typing import Any, BinaryIO, List, Optional
 from rncv_lsp import __version__
 from rncv_lsp.coordinator import Coordinator
 from rncv_lsp.documents import Documents, new_document, path_of
-from rncv_lsp.framing import FramingFault, read_message
-from rncv_lsp.rpc import INVALID_REQUEST, NOT_INITIALIZED, PARSE_ERROR, Connection, Dispatcher, RpcFault, member
+from rncv_lsp.framing import FramingFault, MessageReader
+from rncv_lsp.rpc import INTERNAL_ERROR, INVALID_REQUEST, NOT_INITIALIZED, PARSE_ERROR, Connection, Dispatcher, RpcFault, member
 from rncv_lsp.settings import settings_of
 from rncv_lsp.texts import CODECS
 
@@ -23,7 +23,7 @@ class Server:
     """One client's server. `run` reads its messages until it ends."""
 
     def __init__(self, source: BinaryIO, sink: BinaryIO) -> None:
-        self._source = source
+        self._reader = MessageReader(source)
         self._connection = Connection(sink)
         self._documents = Documents()
         self._coordinator = Coordinator(self._documents, self._connection)
@@ -46,18 +46,24 @@ class Server:
     def run(self) -> int:
         """Reads messages until the client sends `exit` or is gone. Returns the exit status: 0 after a request `shutdown`, else 1."""
         try:
-            while True:
-                try:
-                    data = read_message(self._source)
-                except FramingFault as fault:
-                    self._dispatcher.refuse(RpcFault(PARSE_ERROR, str(fault)))
-                    continue
-                if data is None:
-                    break
-                self._dispatcher.take(data)
+            while self._take_next():
+                pass
         except Exit:
             pass
         return 0 if self._state == "down" else 1
+
+    def _take_next(self) -> bool:
+        """Takes the next message. False: the input has ended."""
+        try:
+            data = self._reader.read()
+            if data is not None:
+                self._reader.is_lost = not self._dispatcher.take(data)
+            return data is not None
+        except FramingFault as fault:
+            self._dispatcher.refuse(RpcFault(PARSE_ERROR, str(fault)))
+        except MemoryError:
+            self._dispatcher.refuse(RpcFault(INTERNAL_ERROR, "out of memory"))
+        return True
 
     def _allow(self, method: str, is_request: bool) -> bool:
         """Whether a notification is accepted now. Raises RpcFault for a request that is not accepted."""
@@ -73,7 +79,7 @@ class Server:
     def _initialize(self, params: Any) -> Any:
         """Agrees on what both sides can do."""
         offered = within(params, "capabilities", "general", "positionEncodings")
-        known = [each for each in offered if each in CODECS] if isinstance(offered, list) else []
+        known = [each for each in offered if isinstance(each, str) and each in CODECS] if isinstance(offered, list) else []
         self._documents.encoding = known[0] if known else "utf-16"
         self._asks_settings = within(params, "capabilities", "workspace", "configuration") is True
         self._coordinator.roots = tuple(folders_of(params))
@@ -99,13 +105,14 @@ class Server:
 
     def _opened(self, params: Any) -> None:
         """A document is open."""
-        self._documents.open(new_document(member(params, "textDocument", dict)))
-        self._coordinator.touch()
+        document = new_document(member(params, "textDocument", dict))
+        self._documents.open(document)
+        self._coordinator.touch(document)
 
     def _changed(self, params: Any) -> None:
         """A document has changed."""
-        self._documents.change(member(params, "textDocument", dict), member(params, "contentChanges", list))
-        self._coordinator.touch()
+        document = self._documents.change(member(params, "textDocument", dict), member(params, "contentChanges", list))
+        self._coordinator.touch(document)
 
     def _closed(self, params: Any) -> None:
         """A document is closed."""

@@ -2,21 +2,15 @@
 from __future__ import annotations
 
 import dataclasses
-import html
 import os
-import re
 import urllib.parse
-from typing import List, Optional, Tuple
+from typing import Optional, Tuple
 
 from rncv_lsp.documents import Document, path_of
-from rncv_lsp.findings import first_line
-from rncv_lsp.schema_files import SCHEME
+from rncv_lsp.findings import WARNING, Finding, first_line
+from rncv_lsp.schema_files import SCHEME, FileView
+from rncv_lsp.schemas import XML_SYNTAX
 from rncv_lsp.settings import Settings, schema_by_rule
-from rncv_lsp.xml_source import Place, bytes_of, instructions, offset_of
-
-ATTRIBUTE = re.compile(r"""([^\s=]+)\s*=\s*(?:"([^"]*)"|'([^']*)')""")
-TYPE = "application/relax-ng-compact-syntax"
-PROLOG_BYTES = 1_048_576
 
 
 @dataclasses.dataclass(frozen=True)
@@ -31,33 +25,21 @@ class Named:
 
 def schema_named(document: Document, settings: Settings, roots: Tuple[str, ...]) -> Optional[Named]:
     """The schema of a document, if it has one."""
-    found: List[Named] = []
-
-    def take(target: str, words: str, place: Place) -> None:
-        """Takes the first instruction that names a schema."""
-        if target == "xml-model" and not found:
-            named = by_instruction(document, words, place)
-            found.extend([named] if named else [])
-
-    if "xml-model" in document.text:
-        instructions(bytes_of(document.text, True)[:PROLOG_BYTES], take)
-    if found:
-        return found[0]
+    model = next((model for model in document.models if model.is_compact), None)
+    if model is not None:
+        return Named(model.href, path_beside(document, model.file), model.start, model.end)
     path = schema_by_rule(settings, document.path, roots) if document.path else None
     return Named(path, path, *first_line(document.lines)) if path else None
 
 
-def by_instruction(document: Document, words: str, place: Place) -> Optional[Named]:
-    """The schema of an instruction `xml-model`, if it is in the compact syntax."""
-    values = {found[1]: html.unescape(found[2] if found[2] is not None else found[3]) for found in ATTRIBUTE.finditer(words)}
-    href = values.get("href", "")
-    plain = re.split("[?#]", href)[0]
-    kind = values.get("type", "").partition(";")[0].strip().lower()
-    if not href or (kind != TYPE if kind else not plain.lower().endswith(".rnc")):
-        return None
-    start = offset_of(document.text, place, document.lines.at)
-    end = document.text.find("?>", start)
-    return Named(href, path_beside(document, plain), start, end + 2 if end >= 0 else len(document.text))
+def not_served(document: Document, view: FileView) -> Tuple[Finding, ...]:
+    """The finding about the first instruction that names a schema in the XML syntax."""
+    model = next((model for model in document.models if model.is_xml_syntax), None)
+    if model is None:
+        return ()
+    path = path_beside(document, model.file)
+    lack = f"there is no schema {path}, and " if path is not None and view.find(path) is None else ""
+    return (Finding(model.start, model.end, f"{lack}the schema {model.href} {XML_SYNTAX}", "schema", severity=WARNING),)
 
 
 def path_beside(document: Document, href: str) -> Optional[str]:

@@ -15,9 +15,22 @@ from typing import Any, Callable, Dict, List, Optional, Set
 
 TOP = pathlib.Path(__file__).resolve().parents[3]
 SERVER = TOP / "tools/lsp/rncv-lsp"
+sys.path.insert(0, str(TOP / "tools/python"))
+import rncv  # noqa: E402
+
+NO_XML_LIBRARY = "no library for XML beside librncv (tools/xml/library.sh builds it)"
 # How long to wait for the server. A busy machine may take long.
 SECONDS = 120.0
 SCHEMA = "start = element list { element item { attribute at { xsd:integer }, text }* }\n"
+
+
+def has_xml_library() -> bool:
+    """Whether there is a library for XML."""
+    try:
+        rncv._xml_library()
+    except rncv.LibraryError:
+        return False
+    return True
 
 
 def framed(message: Any) -> bytes:

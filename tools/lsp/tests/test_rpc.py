@@ -1,5 +1,7 @@
 """Tests of messages: their framing, the answers, and the end of the server."""
 import json
+import os
+import random
 import shutil
 import subprocess
 import sys
@@ -43,9 +45,39 @@ class Ends(WithServer):
         self.assertEqual(self.client.ended(), 0)
 
     def test_the_input_ends_in_a_message(self):
-        self.client.write(b'Content-Length: 100\r\n\r\n{"js')
-        self.client.process.stdin.close()
-        self.assertEqual(self.client.ended(), 1)
+        for data in (b'Content-Length: 100\r\n\r\n{"js', b"Content-Length: 1000000000\r\n\r\n{}", b"Content-Length: 7\r\n", b"\xff" * 200_000, b"\r\n\r\n"):
+            client = self.started()
+            client.write(data)
+            client.process.stdin.close()
+            self.assertEqual(client.ended(), 1)
+            self.assertEqual(client.process.stderr.read(), b"", data)
+
+    def test_bytes_at_random(self):
+        chosen = random.Random(7)
+        parts = [framed({"jsonrpc": "2.0", "id": 1, "method": "x"}), b"Content-Length: ", b"Content-Length: 9\r\n\r\n", b"99999999999", b"\r\n",
+                 b"\r\n\r\n", b"{", b"\xff", b"\0", b'"id":NaN', b"[[[[", b":", b"content-length:3\n\n{}]"]
+        for _ in range(8):
+            data = b"".join(chosen.choice(parts) for _ in range(chosen.randrange(40)))
+            run = subprocess.run([sys.executable, str(SERVER)], input=data, capture_output=True, timeout=120, check=False)
+            self.assertEqual((run.returncode, run.stderr), (1, b""), data)
+
+    @unittest.skipUnless(os.path.exists("/dev/full"), "no /dev/full here")
+    def test_output_that_cannot_be_written(self):
+        for words in (["--version"], ["--help"]):
+            with open("/dev/full", "wb") as full:
+                run = subprocess.run([sys.executable, str(SERVER), *words], stdout=full, stderr=subprocess.PIPE, timeout=120, check=False,
+                                     env={name: value for name, value in os.environ.items() if name != "PYTHONUNBUFFERED"})
+            self.assertEqual((run.returncode, run.stderr.count(b"\n")), (1, 1), run.stderr)
+
+    @unittest.skipUnless(sys.platform == "linux", "the limit of memory holds on Linux only")
+    def test_little_memory(self):
+        code = "import resource, runpy, sys; resource.setrlimit(resource.RLIMIT_AS, (200_000_000, 200_000_000)); sys.argv = sys.argv[1:]; "
+        data = b"Content-Length: 150000000\r\n\r\n" + b" " * 150_000_000 + framed({"id": 1, "method": "x"})
+        run = subprocess.run([sys.executable, "-c", code + "runpy.run_path(sys.argv[0], run_name='__main__')", str(SERVER)], input=data, capture_output=True,
+                             timeout=120, check=False)
+        self.assertEqual((run.returncode, run.stderr), (1, b""))
+        self.assertIn(b'"message":"out of memory"', run.stdout)
+        self.assertIn(b'"id":1,', run.stdout)
 
     def test_shutdown_and_exit_in_a_batch(self):
         self.client.write(framed([{"jsonrpc": "2.0", "id": "s", "method": "shutdown"}, {"jsonrpc": "2.0", "method": "exit"}]))
@@ -76,6 +108,23 @@ class NotInitialized(WithServer):
         self.assertEqual(self.client.request("initialize", {})["error"]["code"], -32600)
         self.assertEqual(self.client.stop(), 0)
         self.assertEqual(self.client.diagnostics, {})
+
+    def test_odd_parameters(self):
+        odd = [None, 5, "x", [], {}, [[]], {"a": []}, "file:///%00", "\ud800"]
+        for value in odd:
+            client = self.started()
+            folders = [value, {"uri": value}]
+            capabilities = {"general": {"positionEncodings": [value, "utf-8"]}, "workspace": value}
+            answer = client.request("initialize", {"processId": value, "rootUri": value, "rootPath": value, "workspaceFolders": folders,
+                                                   "initializationOptions": value, "capabilities": capabilities})
+            self.assertEqual(answer["result"]["capabilities"]["positionEncoding"], "utf-8", value)
+            client.notify("workspace/didChangeConfiguration", settings={"rncv": {"schemas": value, "clausesUrl": value}})
+            client.notify("workspace/didChangeWorkspaceFolders", event={"added": folders, "removed": value})
+            client.open("file:///none/a.xml", "<a>", language=value, version=value)
+            client.until(lambda message: message.get("method") == "textDocument/publishDiagnostics")
+            self.assertEqual([each["code"] for each in client.diagnostics["file:///none/a.xml"]], ["malformed"])
+            self.assertEqual(client.stop(), 0)
+            self.assertEqual([message for message in client.other if "internal error" in str(message)], [])
 
     def test_exit(self):
         self.client.notify("exit")
@@ -136,6 +185,37 @@ class Messages(WithServer):
         for value in (1, None, '"text"', [], {}, {"id": 1}, {"method": 5, "id": 1}, {"method": "x", "id": {}}, {"method": "x", "id": True}):
             self.assertEqual(self.error(framed(value)), -32600)
         self.assertEqual(self.client.request("x")["error"]["code"], -32601)
+
+    def test_numbers_that_json_does_not_have(self):
+        for words in ("NaN", "Infinity", "-Infinity", "1e999", "-1e999", "1" * 400, "-" + "1" * 400, "01", "1.", "0x1", "\\u0031"):
+            self.client.write(framed('{"jsonrpc": "2.0", "method": "x", "id": %s}' % words))
+            answer = self.client.next_answer()
+            self.assertEqual((answer["id"], answer["error"]["code"]), (None, -32700), words)
+        self.assertEqual(self.error(framed('{"jsonrpc": "2.0", "method": "x", "params": [NaN]}')), -32700)
+
+    def test_large_identities(self):
+        for identity in (10**299, -10**298, 1e300, 0.5, "x" * 3_000_000, "\0\ud800\U0001F600"):
+            self.client.write(framed({"jsonrpc": "2.0", "id": identity, "method": "x"}))
+            answer = self.client.next_answer()
+            self.assertEqual((answer["id"] == identity, answer["error"]["code"]), (True, -32601), str(identity)[:40])
+
+    def test_lengths_that_lie(self):
+        ask = b'{"jsonrpc": "2.0", "id": 9, "method": "x"}'
+        for head in (b"Content-Length: 5\r\n\r\n", b"Content-Length: 45\r\n\r\n", b"Content-Length: 52\r\n\r\n", b"Content-Length: 1\r\n\r\n" + b"x" * 70_000,
+                     b"Content-Length: 0\r\n\r\n", b"Content-Length: 999999999999\r\n\r\nx\r\n\r\ny\r\n\r\n", b"Content-Length: -1\r\n\r\n",
+                     b"Content-Length:\r\n\r\n", b"Content-Length: 5 5\r\n\r\n", b"Content-Length: 9999999999999999999999\r\n\r\n", b"\r\n\xff\r\n\r\n"):
+            self.client.write(head + ask)
+            self.client.write(framed({"jsonrpc": "2.0", "id": "lost", "method": "x"}) + framed({"jsonrpc": "2.0", "id": "last", "method": "x"}))
+            answers = [self.client.next_answer()]
+            while answers[-1]["id"] != "last":
+                answers.append(self.client.next_answer())
+            told = [(answer["id"], answer["error"]["code"]) for answer in answers if answer["id"] != "lost"]
+            self.assertEqual(told, [(None, -32700), ("last", -32601)], head[:60])
+
+    def test_a_header_in_a_message(self):
+        uri = self.uri("s.rnc")
+        self.client.open(uri, "# Content-Length: 5\r\n\r\n# Content-Length: 7\nelement a { text }")
+        self.assertEqual(self.client.found(uri), [])
 
     def test_batch(self):
         ask = {"jsonrpc": "2.0", "id": "b", "method": "x"}

@@ -1,11 +1,14 @@
 """Tests of what is found in schemas."""
 import os
+import pathlib
 import random
 import re
+import shutil
+import tempfile
 import time
 import unittest
 
-from client import SCHEMA, WithServer, span
+from client import NO_XML_LIBRARY, SCHEMA, WithServer, has_xml_library, rncv, span
 
 S6 = "S6: the tokens are a sentence of the grammar (CS 2)"
 
@@ -57,12 +60,22 @@ class Places(WithServer):
             self.assertEqual((told["code"], span(told)), (code, place), text)
 
     def test_clauses_of_all_files(self):
-        told = self.one("# first\nstart = element a { b, c }\nb = text")
-        self.assertEqual((told["code"], span(told)), ("S15", (0, 0, 0, 7)))
-        told = self.one("element a { xsd:decimal }\r\n")
-        self.assertEqual((told["code"], span(told)), ("S12", (0, 0, 0, 25)))
+        told = self.one("# first\nelement a { empty" + " | text" * 1_000 + " }")
+        self.assertEqual((told["code"], span(told), told["message"]), ("S17", (0, 0, 0, 7), "S17: patterns are at most 1,000 deep (profile)"))
         told = self.one("#" + "x" * 1_048_576)
         self.assertEqual(told["code"], "S2")
+
+    @unittest.skipUnless(has_xml_library(), NO_XML_LIBRARY)
+    def test_hints(self):
+        for text, code, place, hint in (
+                ("# first\nstart = element a { b, c }\nb = text", "S15", (1, 23, 1, 24), "c is not defined"),
+                ("# \U0001F600\relement \\x{61} { # \u00e9\r\n\tlist { text } }\r\n", "S20", (2, 8, 2, 12), "text is inside list"),
+                ("element a { attribute \u00e9 { text }, attribute \u00e9 { text } }", "S24", (0, 34, 0, 43),
+                 "attribute \u00e9 is there twice in element a (the other is at 1:13)"),
+                ("start = grammar { b = text }", "S14", (0, 8, 0, 15), "the grammar that begins here has no start")):
+            told = self.one(text)
+            self.assertEqual((told["code"], told["severity"], span(told)), (code, 1, place), text)
+            self.assertTrue(told["message"].startswith(f"{code}: ") and told["message"].endswith(f": hint: {hint}"), told["message"])
 
     def test_parts_of_schemas(self):
         told = self.one("b = element b { text }")
@@ -126,10 +139,16 @@ class Edits(WithServer):
         self.assertEqual(len(self.client.found("untitled:one")), 1)
         self.client.change("untitled:one", 2, 'include "b.rnc"')
         self.assertEqual(self.client.found("untitled:one", 2)[0]["code"], "S1")
-        self.client.open(self.uri("s.txt"), "element a {", "plaintext")
         self.client.open(self.uri("odd%20%C3%A9.rnc").replace("%25", "%"), "element a {")
         self.assertEqual(len(self.client.found(self.uri("odd%20%C3%A9.rnc").replace("%25", "%"))), 1)
-        self.assertNotIn(self.uri("s.txt"), self.client.versions)
+        for language in ("rnc", "RNC", "rnc-mode", "relaxng-compact"):
+            self.client.close(self.uri("s.txt"))
+            self.client.open(self.uri("s.txt"), "element a {", language)
+            self.client.codes(self.uri("s.txt"), ["S6"])
+        for language in ("conf", "plaintext", "xml", ""):
+            self.client.close(self.uri("t.rnc"))
+            self.client.open(self.uri("t.rnc"), "element a {", language)
+            self.client.codes(self.uri("t.rnc"), ["S6"])
 
 
 class Files(WithServer):
@@ -157,6 +176,18 @@ class Files(WithServer):
         self.write("parts/b.rnc", "b = element b { text } #")
         self.client.notify("workspace/didChangeWatchedFiles", changes=[])
         self.client.codes(part, [])
+
+    @unittest.skipUnless(has_xml_library(), NO_XML_LIBRARY)
+    def test_a_hint_in_another_file(self):
+        main, part = self.uri("main.rnc"), self.write("parts/a.rnc", "a = element a {\n  b }")
+        self.client.open(main, "include 'parts/a.rnc'\nstart = a")
+        told = self.client.codes(part, ["S15"])[0]
+        self.assertEqual((span(told), told["message"].partition(": hint: ")[2]), ((1, 2, 1, 3), "b is not defined"))
+        self.client.change(main, 2, "include 'parts/a.rnc'\nstart = a\nb = empty")
+        self.client.codes(part, [])
+        self.client.change(main, 3, "start = a\nb = empty\n a = empty\ninclude 'parts/a.rnc'\n")
+        told = self.client.codes(part, ["S13"])[0]
+        self.assertEqual(told["message"].partition(": hint: ")[2], "a is defined twice with = (the other is at main.rnc:3:2)")
 
     def test_a_file_that_changes_on_the_disk(self):
         part, main = self.write("parts/b.rnc", "b ="), self.uri("main.rnc")
@@ -291,6 +322,32 @@ class NoLibrary(WithServer):
         self.assertEqual(self.client.stop(), 0)
         shown = [message for message in self.client.other if message.get("method") == "window/showMessage"]
         self.assertEqual(len(shown), 1)
+
+
+class NoXmlLibrary(WithServer):
+    """The server with the library for schemas alone."""
+
+    def setUp(self):
+        room = tempfile.TemporaryDirectory()
+        self.addCleanup(room.cleanup)
+        self.folder = pathlib.Path(room.name).resolve()
+        shutil.copy(rncv._library()._name, self.folder / "librncv.so")
+        self.client = self.started(RNCV_LIBRARY=str(self.folder / "librncv.so"))
+        self.client.initialize(None, self.folder)
+
+    def test_it_goes_on(self):
+        self.client.open(self.uri("s.rnc"), "element a { b }")
+        found = self.client.codes(self.uri("s.rnc"), ["S15"])
+        self.assertEqual((span(found[0]), found[0]["message"]), ((0, 0, 0, 15), "S15: what is referred to is defined (4.18)"))
+        self.client.change(self.uri("s.rnc"), 2, "element a { empty }")
+        self.client.codes(self.uri("s.rnc"), [])
+        for name, text, codes in (("a.xml", "<b/>", []), ("b.xml", "<a><b></a>", ["malformed"])):
+            self.client.open(self.uri(name), f"<?xml-model href='s.rnc'?>{text}")
+            self.client.codes(self.uri(name), codes)
+        self.assertEqual(self.client.stop(), 0)
+        shown = [message["params"]["message"] for message in self.client.other if message.get("method") == "window/showMessage"]
+        self.assertEqual(len(shown), 1)
+        self.assertIn("cannot judge XML by schemas: no library of rncv for XML: there is no librncv_xml.so beside ", shown[0])
 
 
 if __name__ == "__main__":

@@ -7,23 +7,41 @@ import re
 import sys
 import time
 import unittest
+import unittest.mock
 
-from client import TOP
+from client import NO_XML_LIBRARY, TOP, has_xml_library
 
-sys.path.insert(0, str(TOP / "tools/lsp"))
+sys.path[:0] = [str(TOP / "tools/lsp"), str(TOP / "tools/xml/second_opinion")]
+from pyx_writer import convert  # noqa: E402
 from rncv_lsp.coordinator import Coordinator  # noqa: E402
 from rncv_lsp.documents import Document, Documents  # noqa: E402
 from rncv_lsp.findings import slug  # noqa: E402
-from rncv_lsp.framing import read_message  # noqa: E402
+from rncv_lsp.framing import MessageReader  # noqa: E402
 from rncv_lsp.jobs import Jobs  # noqa: E402
-from rncv_lsp.outside import OutsideProfile, convert, rncv  # noqa: E402
+from rncv_lsp.outside import rncv  # noqa: E402
 from rncv_lsp.rpc import Connection, Dispatcher  # noqa: E402
+from rncv_lsp.schemas import Outcome  # noqa: E402
 from rncv_lsp.settings import matches  # noqa: E402
-from rncv_lsp.texts import CODECS, Text, edited, units  # noqa: E402
+from rncv_lsp.texts import CODECS, PIECE_LENGTH, Text, units  # noqa: E402
 from rncv_lsp.xml_judging import judged  # noqa: E402
+from xml_feed import OutsideProfile  # noqa: E402
 
 TEXTS = ("1", "t", " ", "\n", "<!-- c -->", "<?p?>", "&amp;", "")
 LETTERS = ["a", "\u00e9", "\u20ac", "\U0001F600", "\r", "\n", "\r\n", "\ud800", ""]
+
+
+def plain_offset(text, line, character, encoding):
+    """The offset of a position, by the definition: line by line, and character by character."""
+    starts = [0, *(end.end() for end in re.finditer("\r\n|\r|\n", text))]
+    if line >= len(starts):
+        return len(text)
+    at = starts[line]
+    while at < len(text) and text[at] not in "\r\n":
+        character -= units(text[at], encoding)
+        if character < 0:
+            return at
+        at += 1
+    return at
 
 
 class Units(unittest.TestCase):
@@ -47,9 +65,46 @@ class Units(unittest.TestCase):
         self.assertEqual((text.offset(1, 9, "utf-16"), text.offset(2, 0, "utf-16"), text.offset(10**30, 10**30, "utf-16")), (6, 6, 6))
         self.assertEqual(units("\U0001F600\ud800", "utf-16"), 3)
 
+    def test_edits_at_random(self):
+        chosen, letters = random.Random(6), [*LETTERS, "\udc00", "abc", "\r\r\n\n"]
+
+        def words(most):
+            return "".join(chosen.choice(letters) for _ in range(chosen.randrange(most)))
+
+        for length in (1, 2, 5, 4_096):
+            with unittest.mock.patch("rncv_lsp.texts.PIECE_LENGTH", length):
+                for _ in range(40):
+                    plain = words(40)
+                    text = Text(plain)
+                    for _ in range(15):
+                        encoding = chosen.choice(list(CODECS))
+                        places = [{"line": chosen.randrange(-1, 12), "character": chosen.randrange(9)} for _ in range(2)]
+                        new = words(chosen.choice((2, 30)))
+                        start, end = (plain_offset(plain, max(0, place["line"]), place["character"], encoding) for place in places)
+                        text = text.edited({"range": {"start": places[0], "end": places[1]}, "text": new}, encoding)
+                        plain = plain[:start] + new + plain[max(start, end):]
+                        self.assertEqual((text.text, text.length), (plain, len(plain)))
+                        self.assertTrue(all(piece.text for piece in text.pieces) or len(text.pieces) == 1)
+                        start, end = sorted(chosen.randrange(len(plain) + 1) for _ in range(2))
+                        self.assertEqual(text.slice(start, end), plain[start:end])
+                        line = sum(found.end() <= start for found in re.finditer("\r\n|\r|\n", plain))
+                        begin = plain_offset(plain, line, 0, encoding)
+                        self.assertEqual(text.position(start, encoding), {"line": line, "character": units(plain[begin:start], encoding)})
+                        self.assertEqual(text.at(line + 1, 2), min(begin + 1, len(plain)))
+
+    def test_pieces_keep_their_size(self):
+        text = Text("")
+        for number in range(3_000):
+            place = {"line": number % 7 * (number // 20), "character": number % 11}
+            text = text.edited({"range": {"start": place, "end": place}, "text": "some words\n" * (number % 5) + "\U0001F600"}, "utf-16")
+        lengths = [piece.length for piece in text.pieces]
+        self.assertGreater(len(lengths), 10)
+        self.assertLess(max(lengths), 3 * PIECE_LENGTH)
+        self.assertGreater(sorted(lengths)[len(lengths) // 4], PIECE_LENGTH // 4)
+
     def test_edits(self):
         change = {"range": {"start": {"line": 0, "character": 3}, "end": {"line": 0, "character": 1}}, "text": "x"}
-        self.assertEqual(edited("abcd", change, "utf-16"), "abcxd")
+        self.assertEqual(Text("abcd").edited(change, "utf-16").text, "abcxd")
 
     def test_patterns(self):
         roots = ("/home/site",)
@@ -71,6 +126,7 @@ class Units(unittest.TestCase):
         self.assertEqual(slug("P5: the escapes are `\\n`, `\\t` and `\\\\` (profile)"), "p5-the-escapes-are-n-t-and--profile")
 
 
+@unittest.skipUnless(has_xml_library(), NO_XML_LIBRARY)
 class Verdicts(unittest.TestCase):
     """The findings in a document agree with the library's verdict on the same lines."""
 
@@ -87,14 +143,14 @@ class Verdicts(unittest.TestCase):
         return f"<{name}{attributes}>{''.join(self.chosen.choice(kinds)() for _ in range(self.chosen.randrange(4)))}</{name}>"
 
     def test_generated_documents(self):
-        kinds = set()
+        kinds, outcome = set(), Outcome("s")
         with rncv.compile({"s.rnc": self.SCHEMA}) as validator:
             for _ in range(400):
                 text = self.element("a", 0)
                 if self.chosen.random() < 0.2:
                     cut = self.chosen.randrange(len(text))
                     text = text[:cut] + self.chosen.choice('<>&"x') + text[cut + 1:]
-                found = judged(Document("u", "/u", "/u", "xml", 1, text), validator, lambda: ["1", "2"], lambda: False)
+                found = judged(Document("u", "/u", "/u", "xml", 1, Text(text)), validator, outcome, lambda: False)
                 codes = [finding.code for finding in found]
                 lines = []
                 try:
@@ -127,8 +183,8 @@ class Faults(unittest.TestCase):
 
     def sent(self):
         """The messages that were sent."""
-        source = io.BytesIO(self.sink.getvalue())
-        return [json.loads(data) for data in iter(lambda: read_message(source), None)]
+        reader = MessageReader(io.BytesIO(self.sink.getvalue()))
+        return [json.loads(data) for data in iter(reader.read, None)]
 
     def test_handlers(self):
         dispatcher = Dispatcher(self.connection, lambda method, is_request: True)

@@ -45,9 +45,9 @@ class Documents(WithServer):
                 ("<letter\n to='c'><title>1</title><body/></letter>", (2, 1, 2, 7), "at attribute to"),
                 ("<letter to='a' at = 'c'><title>1</title><body/></letter>", (1, 15, 1, 23), "at attribute at"),
                 ("<letter other='\U0001F600' to='b'/>", (1, 8, 1, 18), "at attribute other"),
-                ("<letter><title>\n <!-- \U0001F600 -->\U0001F600\n</title><body/></letter>", (2, 1, 2, 14), 'at text "<!-- \U0001F600 -->\U0001F600"'),
-                ("<letter><title>1<![CDATA[\U0001F600]]>x</title><body/></letter>", (1, 15, 1, 31), 'at text "1<![CDATA[\U0001F600]]>x"'),
-                ("<letter><title>&#120;&amp;</title><body/></letter>", (1, 15, 1, 26), 'at text "&#120;&amp;"'),
+                ("<letter><title>\n <!-- \U0001F600 -->\U0001F600\n</title><body/></letter>", (2, 12, 2, 14), 'at text "\U0001F600\\n"'),
+                ("<letter><title>1<![CDATA[\U0001F600]]>x</title><body/></letter>", (1, 15, 1, 31), 'at text "1\U0001F600x"'),
+                ("<letter><title>&#120;&amp;</title><body/></letter>", (1, 15, 1, 26), 'at text "x&"'),
                 ("<letter>text<title>1</title><body/></letter>", (1, 8, 1, 12), 'at text "text"'),
                 ("<letter><title>1</title>\n</letter >", (2, 0, 2, 10), "at the end of <letter>"),
                 ("<letter/>", (1, 0, 1, 7), "at the end of <letter>"),
@@ -68,20 +68,27 @@ class Documents(WithServer):
                          ("invalid", (2, 0, 2, 7), "invalid: at attribute to"))
 
     def test_not_well_formed(self):
-        self.assertEqual(self.one("<letter><title>5</title>\n<body></letter>"), ("malformed", (2, 8, 2, 14), "malformed XML: mismatched tag"))
+        self.assertEqual(self.one("<letter><title>5</title>\n<body></letter>"),
+                         ("malformed", (2, 6, 2, 15), "malformed XML: mismatched tag: </letter> where <body> is open"))
         self.assertEqual(self.one("<letter><title>5</title>\n<body>\U0001F600<</body></letter>")[:2], ("malformed", (2, 9, 2, 16)))
         self.assertEqual(self.one("<letter><title>5</title><body>")[0], "malformed")
         self.assertEqual(self.found("")[0][0], "malformed")
-        both = self.found(MODEL + "<letter><b/>\n<")
-        self.assertEqual([(code, place[:2]) for code, place, _ in both], [("malformed", (2, 0)), ("invalid", (1, 8))])
+        self.assertEqual([code for code, _, _ in self.found(MODEL + "<letter><b/>\n<")], ["malformed", "invalid"])
+        self.assertEqual(self.found(MODEL + "<letter><b/>\n<")[0][:2], ("malformed", (2, 1, 2, 1)))
 
     def test_outside_the_profile(self):
         code, place, words = self.one("<!DOCTYPE letter [<!ENTITY e SYSTEM 'e.xml'>]>\n<letter>&e;</letter>")
         self.assertEqual((code, place), ("outside", (2, 8, 2, 11)))
         self.assertIn("external entity 'e.xml' is not loaded: outside the profile", words)
-        note = self.one("<!DOCTYPE letter SYSTEM 'letter.dtd'>\n<letter><title>5</title><body/></letter>")
-        self.assertEqual(note[0], "note")
-        self.assertEqual(self.client.diagnostics[self.uri("a.xml")][0]["severity"], 3)
+
+    def test_an_external_dtd(self):
+        for model, told in ((MODEL, "its entities and attribute defaults are not there"), ("<!-- no schema -->\n", "its entities are not known")):
+            for words, place in (("<!DOCTYPE letter SYSTEM 'letter.dtd'>", (1, 0, 1, 36)), ("<!DOCTYPE letter\n PUBLIC '-' 'letter.dtd' \n>", (1, 0, 2, 24)),
+                                 ("<!-- \u00e9 --> <!DOCTYPE letter SYSTEM 'letter.dtd' [\n<!ENTITY e 'e'> ]>", (1, 11, 1, 47))):
+                found = self.found(f"{model}{words}\n<letter><title>5</title><body/></letter>")
+                self.assertEqual(found, [("note", place, f"the external DTD 'letter.dtd' is not loaded: {told}")], (model, words))
+                self.assertEqual(self.client.diagnostics[self.uri("a.xml")][0]["severity"], 3)
+        self.assertEqual(self.found("<!DOCTYPE letter [<!ENTITY e 'e'>]><letter/>"), [])
 
     def test_malformed(self):
         self.assertEqual(self.one("<p:letter/>")[:2], ("P11", (1, 0, 1, 9)))
@@ -90,12 +97,29 @@ class Documents(WithServer):
         self.assertIn("more than 512 elements are open", words)
 
     def test_encodings_that_are_declared(self):
-        for encoding in ("ISO-8859-1", "UTF-16", "utf-8"):
-            found = self.found(f'<?xml version="1.0" encoding="{encoding}"?><?xml-model href="s.rnc"?><letter><!--\u00e9--><b/></letter>')
-            self.assertEqual(found, [("invalid", (0, 75 + len(encoding), 0, 77 + len(encoding)), "invalid: at <b>")])
-        code, place, words = self.found('<?xml version="1.0" encoding="bogus"?><?xml-model href="s.rnc"?><letter/>')[0]
-        self.assertEqual((code, place[:2], words), ("outside", (0, 0), "the encoding 'bogus' is not served"))
+        for encoding in ("ISO-8859-1", "UTF-16", "utf-8", "EUC-JP", "Shift_JIS", "GB18030", "bogus"):
+            for before, after in (('version="1.0" encoding="', '"'), ("version = '1.0'\tencoding = '", "' standalone='no' ")):
+                declaration = f"<?xml {before}{encoding}{after}?>"
+                found = self.found(declaration + '<?xml-model href="s.rnc"?><letter><!--\u00e9\u3042--><b/></letter>')
+                at = len(declaration) + 43
+                self.assertEqual(found, [("invalid", (0, at, 0, at + 2), "invalid: at <b>")], declaration)
+                self.assertEqual(self.found(declaration + "<letter>\u00e9\u3042</letter>"), [])
+        self.assertEqual(self.found('<?xml version="1.0"\r\nencoding=\n"EUC-JP"?>\n<?xml-model href="s.rnc"?><b/>'),
+                         [("invalid", (3, 26, 3, 28), "invalid: at <b>")])
         self.assertEqual(self.found("\ufeff<?xml-model href='s.rnc'?><b/>"), [("invalid", (0, 27, 0, 29), "invalid: at <b>")])
+        self.assertEqual(self.found("\ufeff<?xml version='1.0' encoding='EUC-JP'?><?xml-model href='s.rnc'?><b/>"),
+                         [("invalid", (0, 66, 0, 68), "invalid: at <b>")])
+
+    def test_declarations_that_are_malformed(self):
+        for words in ('version="1.0" encoding=""', 'version="1.0" encoding="\u00e9"', 'version="1.0" encoding="1"', 'encoding="EUC-JP"',
+                      'version="1.0"encoding="UTF-8"', 'version="1.0" standalone="no" encoding="UTF-8"',
+                      'version="1.0" encoding="UTF-8" encoding="UTF-8"', 'version="1.0" encoding=\'UTF-8"'):
+            for model in ("", '<?xml-model href="s.rnc"?>'):
+                self.assertEqual([code for code, _, _ in self.found(f"<?xml {words}?>{model}<letter><title>5</title><body/></letter>")], ["malformed"], words)
+        wide = "\0".join("<letter/>")
+        for text in (f"{wide}\0", f"\0{wide}", "\ufeff\ufeff<letter/>", "\xff\xfe<letter/>"):
+            for model in ("", MODEL):
+                self.assertEqual([code for code, _, _ in self.found(text.replace("<letter", model + "<letter"))][:1], ["malformed"], text)
 
     def test_changed_many_times(self):
         uri = self.uri("a.xml")
@@ -147,6 +171,81 @@ class Schemas(WithServer):
             self.client.close(uri)
             self.client.open(uri, text, "xml", version)
             self.assertEqual([told["code"] for told in self.client.found(uri, version)], ["invalid"] if is_found else [], words)
+
+    def test_the_xml_syntax(self):
+        self.write("d/s.rng", "<element name='a' xmlns='http://relaxng.org/ns/structure/1.0'><empty/></element>")
+        self.write("d/s.xml", "<element name='a' xmlns='http://relaxng.org/ns/structure/1.0'><empty/></element>")
+        space, uri, version = 'schematypens="http://relaxng.org/ns/structure/1.0"', self.uri("d/a.xml"), 0
+        for words, lack in (('href="s.rng"', ""), (f'href="s.xml" type="application/xml" {space}', ""), ('href="s.rng" type="application/xml"', ""),
+                            (f'href="S.RNG?x#y" {space}', f"there is no schema {self.folder / 'd/S.RNG'}, and "),
+                            ('href="../none.rng"', f"there is no schema {self.folder / 'none.rng'}, and "), (f'href="http://none.example/s" {space}', ""),
+                            (f'href="s.rng"?><?xml-model href="none.xml" {space}', "")):
+            version += 1
+            self.client.close(uri)
+            self.client.open(uri, f"<?xml version='1.0'?>\n<?xml-model {words}?><b/>", "xml", version)
+            found, href = self.client.found(uri, version), words.split('"')[1]
+            self.assertEqual([(told["code"], told["severity"], told["message"]) for told in found], [
+                ("schema", 2, f"{lack}the schema {href} is in the XML syntax of RELAX NG, which is not served: `trang` converts it to the compact syntax")])
+            self.assertEqual(span(found[0]), (1, 0, 1, len(f"<?xml-model {words.split('?>')[0]}?>")))
+        self.client.change(uri, version + 1, "<?xml-model href='none.rng'?><b>")
+        self.assertEqual([told["code"] for told in self.client.found(uri, version + 1)], ["schema", "malformed"])
+        self.write("d/none.rng", "<x/>")
+        while "there is no schema" in self.client.diagnostics[uri][0]["message"]:
+            self.client.take()
+        self.client.change(uri, version + 2, "<?xml-model href='s.rng' type='application/relax-ng-compact-syntax'?><b/>")
+        self.assertEqual([(told["severity"], told["message"]) for told in self.client.found(uri, version + 2)], [
+            (1, f"the schema {self.folder / 'd/s.rng'} is in the XML syntax of RELAX NG, which is not served: `trang` converts it to the compact syntax")])
+        self.write("d/s.rnc", "element b { empty }")
+        for text in ("<?xml-model href='s.rng'?><?xml-model href='s.rnc'?><b/>",
+                     "<?xml-model href='s.xsd' schematypens='http://www.w3.org/2001/XMLSchema'?><b/>",
+                     "<?xml-model href='s.rng' schematypens='http://purl.oclc.org/dsdl/schematron'?><b/>", "<?xml-model href=''?><b/>"):
+            version += 3
+            self.client.change(uri, version, text)
+            self.assertEqual(self.client.found(uri, version), [], text)
+
+    def test_copies_that_are_not_the_same(self):
+        uri, version = self.uri("a.xml"), 0
+        b_mark = "# rncv-profile: 2 datatypes loosened, see b.profile.txt\n"
+        self.write("b.rnc", f"b = element b {{ xsd:integer }} # rncv-profile: 9 datatypes loosened, see no.txt\n{b_mark}")
+        for mark, words in (("# rncv-profile: 1 datatype loosened, see s.profile.txt", "3 datatypes were loosened in (see s.profile.txt)"),
+                            ("# rncv-profile: 1 datatype tightened, see s.profile.txt\r",
+                             "2 datatypes were loosened in and 1 datatype was tightened in (see s.profile.txt)"),
+                            ("", "2 datatypes were loosened in (see b.profile.txt)")):
+            self.write("s.rnc", f'include "b.rnc" start = element a {{ b }}\n{mark}\n')
+            for text, codes, place in (("<!-- x -->\n<a><b>1</b></a>", [], (2, 0, 2, 2)), ("<a><b/></a>", ["invalid"], (1, 0, 1, 2)),
+                                       ("<!-- -->", ["malformed"], (0, 0, 0, 26)), ("<?p?>" * 300 + "<a><b>1</b></a>", [], (1, 1500, 1, 1502))):
+                version += 1
+                self.client.close(uri)
+                self.client.open(uri, MODEL + text, "xml", version)
+                found = self.client.found(uri, version)
+                self.assertEqual(sorted(told["code"] for told in found), sorted(["profile", *codes]))
+                told = next(told for told in found if told["code"] == "profile")
+                self.assertEqual((told["severity"], told["message"], span(told)), (3, f"judged by a schema that {words}", place))
+        self.write("b.rnc", f"b = element b {{ xsd:integer }}\n {b_mark}# rncv-profile: many datatypes loosened, see x\n")
+        self.client.change(uri, version + 1, MODEL + "<a><b>1</b></a>")
+        self.client.codes(uri, [])
+
+    def test_any_language_is_xml(self):
+        for language in ("docbk", "docbook", "xslt", "xsd", "rng", "svg", "ant", "mhtml", "sgml", "nxml", "xhtml", "html", "conf", "plaintext", "", 5, None):
+            for name in ("a.xml", "a", "a.txt"):
+                uri = self.uri(name)
+                self.client.open(uri, "<a>", language)
+                self.client.codes(uri, ["malformed"])
+                self.client.close(uri)
+                self.client.found(uri, None)
+        uri = self.uri("b.xml")
+        self.client.open(uri, "\r\n <a>", "rnc")
+        self.client.codes(uri, ["malformed"])
+        self.client.change(uri, 2, "element")
+        self.client.codes(uri, ["S6"])
+        self.client.change(uri, 3, "<a/>")
+        self.client.codes(uri, [])
+        self.client.close(uri)
+        for name in ("a.dtd", "B.MOD", "c.ent"):
+            self.client.open(self.uri(name), "<!ELEMENT a EMPTY>", "sgml")
+        self.client.open(uri, "<a>")
+        self.client.codes(uri, ["malformed"])
+        self.assertEqual([name for name in ("a.dtd", "B.MOD", "c.ent") if self.uri(name) in self.client.versions], [])
 
     def test_an_instruction_that_names_nothing(self):
         uri = self.uri("a.xml")
@@ -200,7 +299,7 @@ class Schemas(WithServer):
     def test_no_schema(self):
         uri = self.uri("a.xml")
         self.client.open(uri, "<!DOCTYPE a SYSTEM 'a.dtd'><a b='&c;'>&d;</a>")
-        self.assertEqual(self.client.found(uri), [])
+        self.assertEqual([told["code"] for told in self.client.found(uri)], ["note"])
         self.client.change(uri, 2, "<a>\U0001F600</b>")
         self.assertEqual([span(told) for told in self.client.found(uri, 2)], [(0, 7, 0, 8)])
         self.client.change(uri, 3, "<a xmlns:b=''/>")

@@ -38,7 +38,7 @@ _rncv_xml() {
     esac
     case $2 in
     -*)
-        _rncv_words "--recursive -r --glob --files-from --stdin-name --jobs -j --map --strict-profile --all --verbose -v --quiet -q --format --color --help -h --version" "$2"
+        _rncv_words "--recursive -r --glob --files-from --null -0 --stdin-name --jobs -j --map --dtd --strict --strict-profile --all --verbose -v --quiet -q --format --color --help -h --version" "$2"
         return
         ;;
     esac
@@ -60,7 +60,7 @@ _xml2pyx() {
     --lines) _rncv_files "$2" '*'; return ;;
     esac
     case $2 in
-    -*) _rncv_words "--lines --help -h --version" "$2" ;;
+    -*) _rncv_words "--dtd --lines --help -h --version" "$2" ;;
     *) _rncv_files "$2" '*.xml' ;;
     esac
 }
@@ -70,7 +70,7 @@ _rncv_profile() {
     --write) compopt -o dirnames; COMPREPLY=(); return ;;
     esac
     case $2 in
-    -*) _rncv_words "--write --help -h" "$2" ;;
+    -*) _rncv_words "--watch --write --help -h" "$2" ;;
     *) _rncv_files "$2" '*.rnc' ;;
     esac
 }

@@ -5,12 +5,13 @@
     with rncv.compile("examples/letter/s.rnc") as validator, open("examples/letter/document.pyx", "rb") as document:
         print(validator.validate(document))
 
-A schema is a set of files in the RELAX NG Compact Syntax. A document is in PYX, one event a line (docs/XML.md says how to make it from XML). A schema
-is compiled once, and then judges documents, one after another.
+A schema is a set of files in the RELAX NG Compact Syntax. A document is XML (`Validator.validate_xml`), or PYX, one event a line (`Validator.validate`;
+docs/XML.md says how to make it from XML). A schema is compiled once, and then judges documents, one after another.
 
 The variable RNCV_LIBRARY names the library, or a folder that has `lib/librncv.so`. Without it the module searches beside this package, in
 `build/library/lib` of the checkout that has this package, where `make install` put the library, and where the system keeps libraries. It loads the
-library at the first call that needs it.
+library at the first call that needs it. The library for XML, `librncv_xml.so`, is beside it. Without that one `validate_xml` raises LibraryError, and all
+else works.
 
 Threads. A validator judges one document at a time: a second one at the same time is a RuntimeError. `Validator.share` makes another validator for the
 same schema, for example for another thread. The library runs without the lock of the interpreter. No object of this module can be copied or pickled. After
@@ -28,24 +29,28 @@ import os
 import pathlib
 import threading
 import weakref
-from collections.abc import Generator, Iterable, Iterator, Mapping
+from collections.abc import Callable, Generator, Iterable, Iterator, Mapping
 from types import TracebackType
 from typing import Any, BinaryIO, NoReturn, Optional, Type, Union, overload
 
-__all__ = ["Document", "LibraryError", "SchemaError", "Validator", "Verdict", "clause_title", "compile"]
+from . import _schema_files, _xml
+from ._xml import XmlVerdict
+
+__all__ = ["Document", "LibraryError", "SchemaError", "Validator", "Verdict", "XmlVerdict", "clause_title", "compile"]
 __version__ = "0.9.0"
 
 Bytes = Union[bytes, bytearray, memoryview]
 Path = Union[str, "os.PathLike[str]"]
 
-# One more than a file of a schema may have. A longer file breaks S2, and no more of it is read.
-_FILE_BYTES = 1_048_577
-# How much is read at once from the file of a document.
+# How much is read at once from the file of a document, and up to how much small pieces are joined.
 _READ_BYTES = 65_536
 # How much is passed to the library in one call. Between two calls the interpreter handles signals.
 _CALL_BYTES = 1_048_576
 # The size of the first buffer for a simple form. For a longer form the library is called twice.
 _TEXT_BYTES = 65_536
+
+# From this clause on a schema breaks it as a whole: the proved library knows no place.
+_FIRST_HINTED = 9
 
 _DONE, _REFUSED, _MALFORMED, _MEMORY, _MISUSE, _SPACE = range(6)
 _KINDS = ("valid", "invalid", "malformed")
@@ -53,15 +58,22 @@ _NAMES = ("librncv.so", "librncv.so.0", "librncv.dylib")
 
 
 class LibraryError(OSError):
-    """The C library was not found, or does not fit this module."""
+    """The C library, or the one for XML, was not found, or does not fit this module."""
 
 
 class SchemaError(ValueError):
     """The files are not a schema: they break a clause, S1 to S27.
 
-    `clause` is its number, and `title` says in English what it requires. `file` is the name of the file that breaks it, and `index` the position of the
-    first file with this name. Both are None if the clause is not about one file, or if that file was not given. For S3 to S8 `offset`, in bytes
-    from 0, and `line` and `column`, from 1, say where the file breaks the clause. For the other clauses these are None.
+    `clause` is its number, and `title` says in English what it requires. `file` is the path or the name of the file that breaks it, and `index` the position
+    of the first file with this name: those that were given come first, and then those that were found. Both are None if the clause is not about one file,
+    or if that file was neither given nor found. For S3 to S8 `offset`, in bytes from 0, and `line` and `column`, from 1, say where the file breaks the
+    clause. For the other clauses these are None.
+
+    If a file is mentioned and is not there (S1), `missing` is the path where it was looked for, or else its name. `mentioned_at` is then the file, the line
+    and the column of the mention. Otherwise these two are None.
+
+    For S9 to S27 `hint` says, in a few words, what most likely breaks the clause, and `hint_file`, `hint_line` and `hint_column` where. `hint_file` is the
+    path or the name of the file. A hint is a guess outside the proof. All four are None if none is known, or if there is no library for XML.
     """
 
     def __init__(
@@ -73,14 +85,25 @@ class SchemaError(ValueError):
         offset: Optional[int] = None,
         line: Optional[int] = None,
         column: Optional[int] = None,
+        missing: Optional[str] = None,
+        mentioned_at: Optional[tuple[str, int, int]] = None,
+        hint: Optional[str] = None,
+        hint_file: Optional[str] = None,
+        hint_line: Optional[int] = None,
+        hint_column: Optional[int] = None,
     ) -> None:
-        super().__init__(clause, title, file, index, offset, line, column)
+        super().__init__(clause, title, file, index, offset, line, column, missing, mentioned_at, hint, hint_file, hint_line, hint_column)
         self.clause, self.title, self.file, self.index = clause, title, file, index
         self.offset, self.line, self.column = offset, line, column
+        self.missing, self.mentioned_at = missing, mentioned_at
+        self.hint, self.hint_file, self.hint_line, self.hint_column = hint, hint_file, hint_line, hint_column
 
     def __str__(self) -> str:
         file = "" if self.file is None else f" file {self.file}"
-        return f"refused S{self.clause}{file}: {self.title}"
+        missing = "" if self.missing is None else f": there is no {self.missing}"
+        place = "" if self.mentioned_at is None else " ({}:{}:{})".format(*self.mentioned_at)
+        hint = "" if self.hint is None else f": hint: {self.hint} ({self.hint_file}:{self.hint_line}:{self.hint_column})"
+        return f"refused S{self.clause}{file}: {self.title}{missing}{place}{hint}"
 
 
 @dataclasses.dataclass(frozen=True)
@@ -157,24 +180,28 @@ class Validator:
     is freed with or without `close`. Every call on a closed validator raises ValueError.
     """
 
-    def __init__(self, handle: _Schema) -> None:
+    def __init__(self, handle: _Schema, texts: tuple[bytes, ...] = ()) -> None:
         if not isinstance(handle, _Schema):
             raise TypeError("a validator is made by rncv.compile")
         self._library = _library()
         self._handle = handle
+        # The first XML document makes the judge. From the files of the schema it takes values to try, and then they are not needed.
+        self._judge: Optional[_xml.Judge] = None
+        self._texts = texts
         # Each call on the handle holds this lock. A destructor or a signal may make another call in the same thread, before or after such a call.
         self._lock = threading.RLock()
-        self._document: Optional[weakref.ReferenceType[Document]] = None
+        self._document: Optional[Callable[[], Any]] = None
         self._closed = False
         self._free = weakref.finalize(self, self._library.rncv_schema_free, handle)
         # Do not free it at the end of the process: a thread may still be in a call.
         self._free.atexit = False
 
     def validate(self, document: Union[Bytes, BinaryIO, Iterable[Bytes]]) -> Verdict:
-        """Judges a document: bytes, a binary file, or pieces that come one after another. A file is read from its position to its end.
+        """Judges a document in PYX: bytes, a binary file, or pieces that come one after another, such as lines. A file is read from its position to its end.
 
-        Once the document is malformed, no more of a file or of the pieces is read. An exception from the file or the pieces goes to the caller, and
-        the validator can judge the next document. RuntimeError: another document is in progress. MemoryError: out of memory.
+        Once the document is malformed, no more of a file is read, and of the pieces at most 65,536 bytes more: small ones are joined, since a call of the
+        library for each line would take longer than the line. An exception from the file or the pieces goes to the caller, and the validator can judge the
+        next document. RuntimeError: another document is in progress. MemoryError: out of memory.
         """
         pieces = _pieces_of(document)
         with self.begin() as begun:
@@ -183,8 +210,30 @@ class Validator:
                     break
             return begun.finish()
 
+    def validate_xml(self, document: Union[Path, Bytes, BinaryIO]) -> XmlVerdict:
+        """Judges an XML document: the path of a file, bytes, or a binary file. A binary file is read from its position to its end, in pieces of 64 KiB.
+
+        OSError: the file cannot be read. An exception from a binary file goes to the caller, and the validator can judge the next document. LibraryError:
+        there is no library for XML. RuntimeError: another document is in progress. MemoryError: out of memory.
+        """
+        with self._lock:
+            if self._closed or self._document is not None:
+                self._want_free()
+            judge = self._judge or self._new_judge()
+            self._document = _in_progress
+        try:
+            verdict = judge.of_bytes(document) if type(document) is bytes else _judged_xml(judge, document)
+        finally:
+            with self._lock:
+                self._document = None
+                if self._closed:
+                    judge.free()
+        if self._closed:
+            self._want_open()
+        return verdict
+
     def begin(self) -> Document:
-        """Begins a document. It is then fed piece by piece.
+        """Begins a document in PYX. It is then fed piece by piece.
 
         RuntimeError: another document is in progress, that is, not finished, not closed, and still referred to. MemoryError: out of memory.
         """
@@ -207,7 +256,10 @@ class Validator:
             self._let_go()
             other = _Schema()
             _want_done(self._library.rncv_schema_share(self._handle, other))
-            return Validator(other)
+            validator = Validator(other, self._texts)
+            if self._judge is not None:
+                validator._keep_judge(self._judge.share())
+            return validator
 
     def simple_text(self) -> bytes:
         """Returns the printed simple form of the schema. This is a schema in the compact syntax too.
@@ -228,8 +280,12 @@ class Validator:
     def close(self) -> None:
         """Frees the schema, and drops a document in progress. A second call does nothing."""
         with self._lock:
+            is_judging = self._document is _in_progress
             self._closed, self._document = True, None
             self._free()
+            # A judge that is judging is freed at the end of that call.
+            if self._judge is not None and not is_judging:
+                self._judge.free()
 
     @property
     def closed(self) -> bool:
@@ -256,6 +312,18 @@ class Validator:
         if self._document is not None and self._document() is not None:
             raise RuntimeError("a document is in progress: a validator judges one at a time, and Validator.share makes another one")
         self._document = None
+
+    def _new_judge(self) -> _xml.Judge:
+        """Makes the judge for XML documents."""
+        library = _xml_library()
+        self._let_go()
+        files = (_File * len(self._texts))(*[_File(b"", 0, text, len(text)) for text in self._texts])
+        return self._keep_judge(_xml.Judge.of_schema(library, self._handle, files))
+
+    def _keep_judge(self, judge: _xml.Judge) -> _xml.Judge:
+        self._judge, self._texts = judge, ()
+        weakref.finalize(self, judge.free).atexit = False
+        return judge
 
     def _let_go(self) -> None:
         """Drops a document that is no longer referred to. Raises an error if another document is in progress."""
@@ -350,32 +418,29 @@ def compile(*paths: Path) -> Validator: ...
 def compile(*files: Any) -> Validator:
     """Compiles the schema of these files. The first file is the main one.
 
-    They are paths, or one mapping of names to bytes. Other files mention a file by its name, byte for byte: the path as it was given, or the name in
-    the mapping. (`pathlib` gives `./a.rnc` as `a.rnc`.) At most 1,048,577 bytes of a file are read, since a longer file is refused. Files that are nested
-    very deeply may need more stack than the thread has, and that ends the process: docs/LIBRARY.md has figures.
+    They are paths, or one mapping of names to bytes. With paths the main file is enough, whatever folder the process is in: a file that another one mentions
+    is found beside that one, as for `rncv-xml` (docs/XML.md). Nothing is fetched. Further paths are files too, and a mention of such a path, byte for byte,
+    means that file. (`pathlib` gives `./a.rnc` as `a.rnc`.) In a mapping a file is mentioned by its name, byte for byte, and nothing is read. At most
+    1,048,577 bytes of a file are read, since a longer file is refused. Files that are nested very deeply may need more stack than the thread has, and that
+    ends the process: docs/LIBRARY.md has figures.
 
-    SchemaError: the files break a clause. OSError: a file cannot be read. ValueError: there is no file, or a name is not UTF-8. MemoryError: out of
-    memory. LibraryError: there is no library.
+    SchemaError: the files break a clause. OSError: a file cannot be read. ValueError: there is no file, a name is not UTF-8, or a mention may mean several
+    files. MemoryError: out of memory. LibraryError: there is no library.
     """
     library = _library()
     if len(files) == 1 and isinstance(files[0], Mapping):
-        pairs = [(name, _whole(text)) for name, text in files[0].items()]
+        sources = _sources_of(files[0])
     else:
-        pairs = [(_name_of(path), _beginning_of(path)) for path in files]
-    if not pairs:
+        sources = _sources_found(files)
+    if not sources.names:
         raise ValueError("a schema has at least one file")
-    # The array below points into these objects.
-    kept = [(_utf8_of(name), text) for name, text in pairs]
-    given = (_File * len(kept))(*[_File(name, len(name), text, len(text)) for name, text in kept])
+    given = (_File * len(sources.names))(*[_File(name, len(name), text, len(text)) for name, text in zip(sources.names, sources.texts)])
     handle, fault = _Schema(), _Fault()
     status = library.rncv_compile(given, len(given), handle, fault)
     if status == _REFUSED:
-        index = _known(fault.file)
-        name = None if index is None else pairs[index][0]
-        title = clause_title("S", fault.clause) or ""
-        raise SchemaError(fault.clause, title, name, index, _known(fault.offset), _known(fault.line), _known(fault.column))
+        raise _refusal(fault, given, sources)
     _want_done(status)
-    return Validator(handle)
+    return Validator(handle, tuple(sources.texts))
 
 
 def clause_title(group: str, clause: int) -> Optional[str]:
@@ -384,6 +449,51 @@ def clause_title(group: str, clause: int) -> Optional[str]:
         return None
     title: Optional[bytes] = _library().rncv_clause_title(group.encode("ascii"), clause)
     return None if title is None else title.decode("utf-8")
+
+
+@dataclasses.dataclass
+class _Sources:
+    """The files of a schema: their names for the library, their names for people, and their texts. `missing` finds a mention of a file that is not there."""
+
+    names: list[bytes]
+    shown: list[str]
+    texts: list[bytes]
+    missing: Callable[[], Optional[_schema_files.Missing]]
+
+
+def _sources_of(files: Mapping[Any, Any]) -> _Sources:
+    """The files of a mapping of names to bytes."""
+    texts = [_whole(text) for text in files.values()]
+    shown = list(files)
+    return _Sources([_utf8_of(name) for name in shown], shown, texts, lambda: _schema_files.missing_in(dict(zip(shown, texts))))
+
+
+def _sources_found(paths: Iterable[Any]) -> _Sources:
+    """The files at these paths, and those that are found beside them."""
+    shown = [_name_of(path) for path in paths]
+    finder = _schema_files.Finder([(_utf8_of(path), path) for path in shown])
+    files = finder.files[:_schema_files.MOST_FILES + 1]
+    return _Sources([file.name for file in files], [file.path for file in files], [file.content for file in files], lambda: finder.missing)
+
+
+def _refusal(fault: _Fault, given: Any, sources: _Sources) -> SchemaError:
+    """The error for files that the library refuses."""
+    index = _known(fault.file)
+    name = None if index is None else sources.shown[index]
+    missing = sources.missing() if fault.clause == 1 and index is None else None
+    title = clause_title("S", fault.clause) or ""
+    told = (None, None) if missing is None else (missing.what, (missing.file, missing.line, missing.column))
+    hint = _hint(fault, given, sources) if fault.clause >= _FIRST_HINTED else ()
+    return SchemaError(fault.clause, title, name, index, _known(fault.offset), _known(fault.line), _known(fault.column), *told, *hint)
+
+
+def _hint(fault: _Fault, given: Any, sources: _Sources) -> tuple[Any, ...]:
+    """The words and the place of a hint: the text, the file, the line and the column; nothing if there is none, or no library for XML."""
+    try:
+        found = _xml.hint_of(_xml_library(), given, sources.shown, fault.clause)
+    except (LibraryError, MemoryError):
+        return ()
+    return () if found is None else (found.text, sources.shown[found.file], found.line, found.column)
 
 
 def _known(number: int) -> Optional[int]:
@@ -404,12 +514,6 @@ def _name_of(path: Any) -> str:
     if not isinstance(name, str):
         raise TypeError(f"a path is text, and not {type(name).__name__}")
     return name
-
-
-def _beginning_of(path: Any) -> bytes:
-    """The beginning of the file: as much as is ever read."""
-    with open(path, "rb") as file:
-        return file.read(_FILE_BYTES)
 
 
 def _utf8_of(name: Any) -> bytes:
@@ -453,7 +557,25 @@ def _pieces_of(document: Any) -> Iterator[Any]:
         return iter([document])
     if hasattr(document, "read"):
         return _read_pieces(document)
-    return iter([document]) if _is_buffer(document) else iter(document)
+    return iter([document]) if _is_buffer(document) else _joined(iter(document))
+
+
+def _joined(pieces: Iterator[Any]) -> Iterator[Any]:
+    """The pieces, with small ones joined. Only those of type `bytes` are: others may change once the next one is asked for."""
+    waiting: list[bytes] = []
+    size = 0
+    for piece in pieces:
+        is_small = type(piece) is bytes and len(piece) < _READ_BYTES
+        if is_small and piece:
+            waiting.append(piece)
+            size += len(piece)
+        if waiting and (size >= _READ_BYTES or not is_small):
+            yield b"".join(waiting)
+            waiting, size = [], 0
+        if not is_small:
+            yield piece
+    if waiting:
+        yield b"".join(waiting)
 
 
 def _read_pieces(file: Any) -> Iterator[Any]:
@@ -476,6 +598,37 @@ def _is_buffer(document: Any) -> bool:
     except TypeError:
         return False
     return True
+
+
+def _in_progress() -> bool:
+    """Takes the place of a document while an XML document is judged."""
+    return True
+
+
+def _judged_xml(judge: _xml.Judge, document: Any) -> XmlVerdict:
+    """The verdict on an XML document, in whatever form it was given."""
+    if isinstance(document, (str, os.PathLike)):
+        return judge.of_path(_name_of(document))
+    if not isinstance(document, (bytes, bytearray, memoryview)) and hasattr(document, "read"):
+        return judge.of_file(document)
+    if _is_buffer(document):
+        return judge.of_bytes(_whole(document))
+    raise TypeError(f"an XML document is a path, bytes or a binary file, and not {type(document).__name__}")
+
+
+@functools.lru_cache(maxsize=None)
+def _xml_library() -> ctypes.CDLL:
+    """The library for XML, which is beside the other one and uses it."""
+    other = _library()._name
+    folder, name = os.path.split(other)
+    there = [path for path in (os.path.join(folder, name) for name in _xml.NAMES) if os.path.exists(path)]
+    path = (there[0] if there else None) if folder else ctypes.util.find_library("rncv_xml")
+    if path is None:
+        raise LibraryError(f"no library of rncv for XML: there is no {_xml.NAMES[0]} beside {other}. tools/xml/library.sh builds it")
+    try:
+        return _xml.typed(ctypes.CDLL(path))
+    except (OSError, AttributeError) as error:
+        raise LibraryError(f"the library of rncv for XML cannot be used: {path}: {error}") from None
 
 
 @functools.lru_cache(maxsize=None)

@@ -120,9 +120,43 @@ class Documents(unittest.TestCase):
             with open(os.dup(file.fileno()), "rb", buffering=0) as raw:
                 self.assertTrue(validator.validate(raw))
             # a malformed document is not read further once that is known
-            pieces = iter([b"text\n"] * 3)
+            with open(os.dup(file.fileno()), "rb", buffering=0) as raw:
+                file.write(b"text\n" * 100_000)
+                raw.seek(0)
+                self.assertEqual(str(validator.validate(raw)), "malformed P4 line 1")
+                self.assertEqual(raw.tell(), 65_536)
+
+    def test_small_pieces(self):
+        """Small pieces are joined up to 64 KiB, so that there are few calls. Once the document is malformed, no more than that is read."""
+        with rncv.compile(A) as validator:
+            pieces = iter([b"text\n"] * 100_000)
             self.assertEqual(str(validator.validate(pieces)), "malformed P4 line 1")
-            self.assertEqual(len(list(pieces)), 2)
+            self.assertEqual(100_000 - len(list(pieces)), 65_536 // 5 + 1)
+            pieces = iter([b"x" * 70_000, b"(a\n"])
+            self.assertEqual(validator.validate(pieces).kind, "malformed")
+            self.assertEqual(len(list(pieces)), 1)
+            begun = validator._library.rncv_document_feed
+            long = [b"(a\n", *[b"(b\n)b\n"] * 70_000, b")a\n"]
+            for count, document in [(1, GOOD.splitlines(True)), (3, [GOOD[:5], bytearray(GOOD[5:9]), GOOD[9:]]), (7, long)]:
+                with mock.patch.object(validator._library, "rncv_document_feed", side_effect=begun) as fed:
+                    self.assertTrue(validator.validate(iter(document)))
+                self.assertEqual(fed.call_count, count)
+            # a caller may use one buffer again and again
+            room = bytearray(4)
+
+            def through_room():
+                for at in range(0, len(GOOD), 4):
+                    room[:] = GOOD[at:at + 4].ljust(4)
+                    yield memoryview(room)[:len(GOOD[at:at + 4])]
+
+            self.assertTrue(validator.validate(through_room()))
+
+            def without_end():
+                while True:
+                    yield b"text\n"
+                    yield b""
+
+            self.assertEqual(str(validator.validate(without_end())), "malformed P4 line 1")
 
     def test_five_megabytes(self):
         record = b"(b\n-some words\n)b\n"
@@ -202,6 +236,10 @@ class Schemas(unittest.TestCase):
         self.assertEqual((error.offset, error.line, error.column), (2, 1, 3))
         error = self.refused({"m.rnc": main, "./bad.rnc": b"x = empty"})
         self.assertEqual((error.clause, error.file, error.index), (1, None, None))
+        self.assertEqual((error.missing, error.mentioned_at), ("bad.rnc", ("m.rnc", 2, 9)))
+        self.assertTrue(str(error).endswith(": there is no bad.rnc (m.rnc:2:9)"))
+        again = pickle.loads(pickle.dumps(error))
+        self.assertEqual((str(again), again.missing, again.mentioned_at), (str(error), error.missing, error.mentioned_at))
         error = self.refused(TOP / "examples/broken/s.rnc")
         self.assertEqual(str(error).split(":")[0], f"refused S6 file {TOP / 'examples/broken/s.rnc'}")
         again = pickle.loads(pickle.dumps(error))
@@ -216,7 +254,8 @@ class Schemas(unittest.TestCase):
                 self.assertTrue(validator.validate(b"(b\n)b\n"))
             with rncv.compile(pathlib.Path("./m.rnc"), pathlib.Path("parts/b.rnc")) as validator:
                 self.assertTrue(validator.validate(b"(b\n)b\n"))
-            self.assertEqual(self.refused("m.rnc", "./parts/b.rnc").clause, 1)
+            with rncv.compile("m.rnc", "./parts/b.rnc") as validator:
+                self.assertTrue(validator.validate(b"(b\n)b\n"))
             error = self.refused("m.rnc", "parts/b.rnc", "parts/b.rnc")
             self.assertEqual((error.clause, error.file, error.index), (1, "parts/b.rnc", 1))
             with self.assertRaises(FileNotFoundError):
@@ -518,7 +557,8 @@ class Library(unittest.TestCase):
         """A copy of the package alone."""
         room.mkdir(parents=True)
         (room / "rncv").mkdir()
-        (room / "rncv/__init__.py").write_bytes((TOP / "tools/python/rncv/__init__.py").read_bytes())
+        for module in (TOP / "tools/python/rncv").glob("*.py"):
+            (room / "rncv" / module.name).write_bytes(module.read_bytes())
         return room
 
     def test_places(self):

@@ -45,7 +45,7 @@ class PyxWriter:
 
     def __init__(self, put, place, tell):
         self.put, self.place = put, place
-        self.held, self.held_size, self.held_place = [], 0, None
+        self.held, self.held_size, self.held_place, self.is_blank = [], 0, None, True
         self.begun_tag = self.begun_text = None
         parser = xml.parsers.expat.ParserCreate()
         parser.ordered_attributes = True
@@ -97,8 +97,12 @@ class PyxWriter:
         self.line(b")" + name.encode("utf-8"), self.here())
 
     def text(self, text):
-        """Holds a piece of text. Some 64 KiB are held at most."""
-        if not self.held:
+        """Holds a piece of text. Some 64 KiB are held at most. Its place is that of its first character that is no blank, if it has one."""
+        blanks = len(text) - len(text.lstrip(" \t\n\r"))
+        if self.is_blank and blanks < len(text):
+            line, column = self.here()
+            self.held_place, self.is_blank = (line, column + blanks), False
+        elif not self.held:
             self.held_place = self.here()
         self.held.append(text)
         self.held_size += len(text)
@@ -110,7 +114,7 @@ class PyxWriter:
         if self.held:
             for piece in cut("".join(self.held)):
                 self.line(b"-" + piece, self.held_place)
-            self.held, self.held_size = [], 0
+            self.held, self.held_size, self.is_blank = [], 0, True
 
     def instruction(self, target, data):
         """A processing instruction vanishes. It has a line so that texts join across it. A long line is cut."""

@@ -6,7 +6,7 @@
 
 enum {
     SLOTS = 16,           /* the most pieces that wait */
-    STACK_BYTES = 8388608 /* for the thread that converts: expat calls itself for an entity in an entity */
+    STACK_BYTES = 8388608 /* for the thread that converts: libxml2 calls itself for an entity in an entity */
 };
 
 /* A copy of a piece. */

@@ -10,7 +10,7 @@ enum { LINE_BYTES = 65536 };
 struct piece {
     const char *bytes;
     size_t length;
-    const struct place *places;
+    const struct place *places; /* of each line. A text is at its first character that is no blank, or where it begins */
     size_t count;
     uint64_t first; /* the number of the first line, from 1 */
 };
@@ -26,6 +26,7 @@ struct taker {
 struct giver {
     bool (*read)(void *context, char *bytes, size_t size, size_t *length, struct fault *fault);
     void *context;
+    const char *beside; /* the path of the document, beside which its external DTD and entities are read; NULL: they are not */
 };
 
 /* Converts a document. If there is no fault, the taker has received all of it. */

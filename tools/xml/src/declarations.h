@@ -1,38 +1,77 @@
-/* Finds what expat silently leaves out of a document, and refuses it.
+/* What a document's DTD declares, and what is left out of the document since a part of its DTD is not read.
  *
- * Once a document has an external DTD or a reference to a parameter entity, expat drops some references in attributes: those to entities that are not
- * declared. After a parameter entity that is not read, it drops declarations. */
+ * No file is opened for an entity, unless the giver says beside which path. A document that needs one that was not read is refused. */
 #ifndef DECLARATIONS_H
 #define DECLARATIONS_H
 
 #include "feed.h"
 
-struct declarations {
-    struct feed *feed;
-    struct entities entities;
-    bool is_alone;  /* the document says that it is standalone: then expat drops nothing */
-    bool drops;     /* expat may drop references */
-    bool is_unread; /* a parameter entity was not read: after it, expat drops declarations */
-    bool has_external;
-    struct bytes system; /* the identifiers of the external DTD */
-    struct bytes public;
-    bool in_list; /* an attribute list is being read */
-    struct bytes list;
-    struct place list_place;
-    void (*note)(void *context, struct place place, const char *what); /* reports what is left out without harm to the document's form */
-    void *context;
+#include <libxml/hash.h>
+
+/* A declaration of a namespace that an element has by default. */
+struct namespace_default {
+    char *element;
+    char *name; /* `xmlns` or `xmlns:p` */
+    char *value;
 };
 
-/* The handlers of expat. Each needs the declarations that belong to the parser. */
-void declarations_begin(struct declarations *declarations, const char *system, const char *public);
-void declarations_end(struct declarations *declarations);
-void declarations_token(struct declarations *declarations, const char *text, size_t length);
-void declarations_entity(struct declarations *declarations, const char *name, bool is_parameter, struct span text);
-void declarations_external(struct declarations *declarations, const char *context, const char *system, const char *public);
-void declarations_skipped(struct declarations *declarations, const char *name, bool is_parameter);
+/* An entity of our own beside one of libxml2: the text of an external entity, or a second copy of a parameter entity.
+ *
+ * libxml2 takes it for an error if a declaration ends at the place in memory at which the one before it ended. So a parameter entity is read from two places
+ * in turn, and an empty one from many. */
+struct twin {
+    xmlEntity entity;
+    bool is_next;
+    struct twin *before; /* the twin that was made before this one */
+};
 
-/* Refuses the current tag if one of its attributes refers to an entity that is not declared. The tag has attributes. */
-void declarations_check_tag(struct declarations *declarations, struct place place);
+struct declarations {
+    struct feed *feed;
+    const struct taker *taker; /* gets notes */
+    uint64_t doctype;          /* the offset of the document type */
+    bool has_dropped;          /* libxml2 has dropped a parameter entity, so that a later declaration of it would count */
+    bool is_unread;            /* a parameter entity was not read: what is declared after it may not count */
+    size_t referring;          /* how many entities refer to others */
+    uint64_t loaded;           /* the bytes of external entities that were read */
+    uint64_t expanded;         /* the bytes of entities that were put in the place of references, and the cost of that */
+    struct namespace_default *defaults;
+    size_t default_count;
+    size_t default_capacity;
+    xmlHashTablePtr counts; /* how many attributes with defaults an element has, and which attributes it has */
+    xmlEntity nothing;      /* is read instead of a parameter entity that is not loaded, or that has blanks alone */
+    xmlChar *ends;          /* the ends of texts, at which it is read in turn */
+    size_t next_end;
+    struct twin *twins;
+    xmlEntity plain;        /* an entity of text alone, which libxml2 takes as it takes `&lt;` */
+};
+
+/* False: out of memory. */
+bool declarations_open(struct declarations *declarations, struct feed *feed, const struct taker *taker);
 void declarations_free(struct declarations *declarations);
+
+/* Reads the external DTD, if that is wanted. */
+void declarations_external(struct declarations *declarations, const xmlChar *name, const xmlChar *public, const xmlChar *system);
+
+/* The input that libxml2 is to read for the external DTD. */
+xmlParserInputPtr declarations_input(struct declarations *declarations, const xmlChar *public, const xmlChar *system);
+
+/* The handlers of libxml2 for declarations. */
+void declarations_subset(struct declarations *declarations, const xmlChar *name, const xmlChar *public, const xmlChar *system);
+void declarations_entity(struct declarations *declarations, bool is_parameter, const xmlChar *text);
+
+/* Notes that libxml2 has the entity: a document that stands alone may not refer to one that is declared in a parameter entity. */
+void declarations_declared(struct declarations *declarations, const xmlChar *name);
+void declarations_names(struct declarations *declarations, const xmlChar *element, const xmlElementContent *content);
+void declarations_attribute(struct declarations *declarations, const xmlChar *element, const xmlChar *name, const xmlChar *value);
+
+/* The entity to read for a reference; NULL: there is none, or it is not read, and then there is a fault. */
+xmlEntityPtr declarations_general(struct declarations *declarations, const xmlChar *name);
+xmlEntityPtr declarations_parameter(struct declarations *declarations, const xmlChar *name);
+
+/* Whether each entity that is referred to has to be declared in the document itself (XML 1.0, 4.1, WFC: Entity Declared). */
+bool declarations_are_all(const struct declarations *declarations);
+
+/* The place of the reference, the declaration or the tag at which libxml2 is. */
+struct place declarations_place(struct declarations *declarations);
 
 #endif

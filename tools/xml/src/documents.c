@@ -9,8 +9,8 @@
 
 enum {
     MOST_DEPTH = 1000, /* of folders */
-    LOOKED_AT = 65536, /* bytes of a list of names, to find what separates them */
-    MOST_NAME = 1048576
+    LIST_BYTES = 65536, /* of a list of names, to read at once */
+    MOST_NAME = 1048576 /* bytes of a name in a list */
 };
 
 struct names {
@@ -132,7 +132,7 @@ static bool enter(struct documents *documents, const char *folder, struct docume
     }
     struct names *names = names_of(folder);
     if (names == NULL) {
-        return fails(document, strerror(errno));
+        return fails(document, errno == ENOMEM ? "out of memory" : strerror(errno));
     }
     names->folder = strdup(folder);
     if (names->folder == NULL) {
@@ -156,7 +156,8 @@ static bool is_wanted(const struct options *options, const char *name) {
     return false;
 }
 
-/* Looks at the next name in the innermost folder. A link to a folder is not followed: it may lead in a circle. False: it gives no document. */
+/* Looks at the next name in the innermost folder. A link to a folder is not followed: it may lead in a circle. What is neither a file nor a link to one,
+ * as a pipe, is no document: to open it may take for ever. False: it gives no document. */
 static bool next_in_folder(struct documents *documents, struct document *document) {
     struct names *names = documents->folders[documents->depth - 1];
     struct stat found;
@@ -169,9 +170,11 @@ static bool next_in_folder(struct documents *documents, struct document *documen
     struct bytes path = NO_BYTES;
     size_t length = strlen(names->folder);
     bytes_format(&path, "%s%s%s", names->folder, length > 0 && names->folder[length - 1] == '/' ? "" : "/", name);
-    document->name = strdup(bytes_text(&path));
+    const char *text = bytes_text(&path);
+    bool is_cut = path.failed;
+    document->name = strdup(is_cut ? names->folder : text);
     bytes_free(&path);
-    if (document->name == NULL || document->name[0] == '\0') {
+    if (document->name == NULL || is_cut) {
         return fails(document, "out of memory");
     }
     bool is_there = lstat(document->name, &found) == 0;
@@ -181,71 +184,97 @@ static bool next_in_folder(struct documents *documents, struct document *documen
     if (!is_wanted(documents->options, name)) {
         return false;
     }
-    return !is_there || stat(document->name, &found) != 0 || !S_ISDIR(found.st_mode);
+    return !is_there || stat(document->name, &found) != 0 || S_ISREG(found.st_mode);
 }
 
-/* Reads more of the list of names. False: there is no more, or `document` says what failed. */
+/* Reads what there is of the list of names, and waits if there is nothing. False: there is no more, or `document` says what failed. */
 static bool read_list(struct documents *documents, struct document *document) {
     struct fault fault = NO_FAULT;
+    struct bytes *waiting = &documents->waiting;
     size_t length = 0;
-    bool is_good = bytes_reserve(&documents->waiting, LOOKED_AT) &&
-                   source_read(&documents->list, documents->waiting.data + documents->waiting.length, LOOKED_AT, &length, &fault);
+    bytes_cut_front(waiting, documents->used);
+    documents->used = 0;
+    bool is_good = bytes_reserve(waiting, LIST_BYTES) && source_read(&documents->list, waiting->data + waiting->length, LIST_BYTES, &length, &fault);
     if (!is_good) {
         fails(document, fault.kind == FAULT_NONE ? "out of memory" : bytes_text(&fault.what));
     }
-    documents->waiting.length += length;
+    waiting->length += length;
     documents->list_has_ended = length == 0;
     fault_free(&fault);
     return length > 0;
 }
 
-/* Opens the list, and finds in its first bytes what separates the names. False: `document` says what failed. */
+/* Opens the list. False: `document` says what failed. */
 static bool begin_list(struct documents *documents, struct document *document) {
     struct fault fault = NO_FAULT;
     documents->list_is_begun = true;
+    documents->is_separated = documents->options->has_zeros;
     if (!source_open(&documents->list, documents->options->files_from, documents->streams, &fault)) {
         documents->list_has_ended = true;
         fails(document, bytes_text(&fault.what));
-        fault_free(&fault);
-        return false;
     }
-    documents->separator = '\n';
-    do {
-        if (documents->waiting.length > 0 && memchr(documents->waiting.data, '\0', documents->waiting.length) != NULL) {
-            documents->separator = '\0';
-            break;
-        }
-    } while (documents->waiting.length < LOOKED_AT && read_list(documents, document));
+    fault_free(&fault);
     return !document->is_failed;
+}
+
+/* Finds what separates the names, once the first of them has ended. It is a zero byte if there is one so far, since a line has none; else a line feed. */
+static void find_separator(struct documents *documents) {
+    const struct bytes *waiting = &documents->waiting;
+    if (!documents->is_separated && waiting->length > 0) {
+        bool has_zero = memchr(waiting->data, '\0', waiting->length) != NULL;
+        documents->is_separated = has_zero || memchr(waiting->data, '\n', waiting->length) != NULL;
+        documents->separator = has_zero ? '\0' : '\n';
+    }
+}
+
+/* Reads the list until it has a whole name, which may be empty. No data: there is none, or `document` says what failed. */
+static struct span whole_name(struct documents *documents, struct document *document) {
+    struct bytes *waiting = &documents->waiting;
+    for (;;) {
+        size_t left = waiting->length - documents->used;
+        const char *begin = left > 0 ? waiting->data + documents->used : NULL;
+        find_separator(documents);
+        const char *end = documents->is_separated && begin != NULL ? memchr(begin, documents->separator, left) : NULL;
+        if (end != NULL || (documents->list_has_ended && left > 0)) {
+            size_t length = end == NULL ? left : (size_t)(end - begin);
+            documents->used += length + (end != NULL);
+            return (struct span){begin, length};
+        }
+        if (documents->list_has_ended) {
+            return (struct span){NULL, 0};
+        }
+        if (left > MOST_NAME) {
+            fails(document, "a name in it has more than 1,048,576 bytes");
+            return (struct span){NULL, 0};
+        }
+        if (!read_list(documents, document) && document->is_failed) {
+            return (struct span){NULL, 0};
+        }
+    }
 }
 
 /* Gets the next name of the list. False: there is none. */
 static bool next_in_list(struct documents *documents, struct document *document) {
-    if (!documents->list_is_begun && !begin_list(documents, document)) {
+    struct span name = {NULL, 0};
+    if (documents->list_is_begun || begin_list(documents, document)) {
+        do {
+            name = whole_name(documents, document);
+        } while (name.data != NULL && name.length == 0);
+    }
+    if (document->is_failed) {
+        documents->list_has_ended = true;
+        documents->used = documents->waiting.length;
         document->name = strdup(documents->options->files_from);
         return true;
     }
-    for (;;) {
-        struct bytes *waiting = &documents->waiting;
-        const char *end = waiting->length == 0 ? NULL : memchr(waiting->data, documents->separator, waiting->length);
-        if (end == NULL && !documents->list_has_ended && waiting->length < MOST_NAME) {
-            if (!read_list(documents, document) && document->is_failed) {
-                documents->list_has_ended = true;
-                document->name = strdup(documents->options->files_from);
-                return true;
-            }
-            continue;
-        }
-        size_t length = end == NULL ? waiting->length : (size_t)(end - waiting->data);
-        if (length == 0 && end == NULL) {
-            return false;
-        }
-        document->name = length == 0 ? NULL : strndup(waiting->data, length);
-        bytes_cut_front(waiting, length + (end != NULL));
-        if (length > 0) {
-            return document->name != NULL || fails(document, "out of memory");
-        }
+    if (name.data == NULL) {
+        return false;
     }
+    document->name = strndup(name.data, name.length);
+    if (document->name != NULL && memchr(name.data, '\0', name.length) != NULL) {
+        return fails(document, "a line of the list has a zero byte in it: with --null zero bytes separate the names");
+    }
+    return document->name != NULL || fails(document, "out of memory");
 }
 
 /* Takes a name that is given or in the list. A folder is searched. Standard input is read once. False: the name gives no document yet. */

@@ -21,7 +21,9 @@ struct documents {
     struct source list;  /* of --files-from */
     bool list_is_begun;
     bool list_has_ended;
-    struct bytes waiting; /* the bytes of the list that were read and not used yet */
+    struct bytes waiting; /* bytes of the list that were read */
+    size_t used;          /* how many of these were names that came already */
+    bool is_separated;    /* what separates the names is known */
     char separator;
     struct names **folders; /* those that are being searched, the innermost last */
     size_t depth;
@@ -33,7 +35,8 @@ struct documents {
 
 void documents_open(struct documents *documents, const struct options *options, struct streams streams);
 
-/* Gets the next document, which the caller then owns. False: there is none. */
+/* Gets the next document, which the caller then owns. False: there is none. A name of a list is there as soon as it was read with its end, so a call
+ * may wait for the next one. */
 bool documents_next(struct documents *documents, struct document *document);
 void documents_close(struct documents *documents);
 void document_free(struct document *document);

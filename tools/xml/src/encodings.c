@@ -39,14 +39,18 @@ static bool keeps_ascii(struct transcoder *transcoder) {
     return true;
 }
 
-bool transcoder_open(struct transcoder *transcoder, const char *encoding) {
+bool transcoder_open_any(struct transcoder *transcoder, const char *encoding) {
     *transcoder = (struct transcoder){(iconv_t)-1, NO_BYTES, false};
     /* these two are not names of encodings: they depend on the machine */
     if (strcasecmp(encoding, "char") == 0 || strcasecmp(encoding, "wchar_t") == 0) {
         return false;
     }
     transcoder->descriptor = iconv_open("UTF-8", encoding);
-    if (transcoder->descriptor == (iconv_t)-1) {
+    return transcoder->descriptor != (iconv_t)-1;
+}
+
+bool transcoder_open(struct transcoder *transcoder, const char *encoding) {
+    if (!transcoder_open_any(transcoder, encoding)) {
         return false;
     }
     if (!keeps_ascii(transcoder)) {

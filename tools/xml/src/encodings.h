@@ -1,4 +1,4 @@
-/* Decodes, by iconv, the encodings that expat does not know. */
+/* Decodes, by iconv, the encodings other than UTF-8. */
 #ifndef ENCODINGS_H
 #define ENCODINGS_H
 
@@ -21,6 +21,9 @@ struct transcoder {
 /* Opens the transcoder. False: the encoding is not served. It is served if iconv knows it and ASCII is itself in it, so that the declaration was read
  * as it is meant. The bytes of `\` and `~` may be other characters. */
 bool transcoder_open(struct transcoder *transcoder, const char *encoding);
+
+/* Opens the transcoder for any encoding that iconv knows. */
+bool transcoder_open_any(struct transcoder *transcoder, const char *encoding);
 
 /* Adds the bytes as UTF-8 to `text`. Bytes that the encoding does not have become a byte 0xFF, which no UTF-8 has. */
 enum decoded transcoder_add(struct transcoder *transcoder, const char *bytes, size_t length, struct bytes *text);

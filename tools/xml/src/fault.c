@@ -14,6 +14,8 @@ void fault_set(struct fault *fault, enum fault_kind kind, struct place place, co
     int length = vsnprintf(NULL, 0, format, values);
     va_end(values);
     if (length < 0 || !bytes_reserve(&fault->what, (size_t)length + 1)) {
+        fault->kind = FAULT_MEMORY;
+        fault->place = (struct place){0, 0};
         return;
     }
     va_start(values, format);

@@ -29,7 +29,7 @@ struct fault {
 
 #define NO_FAULT {FAULT_NONE, {0, 0}, NO_BYTES}
 
-/* Sets the first fault. A later one changes nothing. */
+/* Sets the first fault. A later one changes nothing. Without memory for its words, the fault is that memory ran out. */
 void fault_set(struct fault *fault, enum fault_kind kind, struct place place, const char *format, ...) __attribute__((format(printf, 4, 5)));
 void fault_free(struct fault *fault);
 

@@ -1,74 +1,87 @@
-/* Passes a document's bytes to expat, in time that grows with the document alone.
+/* Gives a document's text to libxml2 as it reads, and knows the place of each offset in the text.
  *
- * Expat may read an unfinished token again from its start at each call. So a long comment or instruction is passed as several, which vanish as one
- * does. The pieces of any other token get larger while it lasts, and such a token has a limit. */
+ * The text is what `decoding.h` makes of the document, so libxml2 sees UTF-8 with a line feed for each line end, whatever the document's encoding. */
 #ifndef FEED_H
 #define FEED_H
 
-#include "encodings.h"
-#include "entities.h"
-#include "fault.h"
+#include "conversion.h"
+#include "decoding.h"
 
-#define XML_DTD 1 /* then expat.h declares the limits on amplification */
-#include <expat.h>
+#include <libxml/parser.h>
 
-#if XML_MAJOR_VERSION * 100 + XML_MINOR_VERSION < 204
-#error "expat 2.4 or later is wanted: earlier ones have no limit on amplification"
-#endif
+enum { MOST_ATTRIBUTES = 256 }; /* with declarations of namespaces: PYX has no more in a tag */
 
-/* The target of an instruction that continues a long one. It has no line in the PYX. */
-#define GOES_ON "rncv-xml-goes-on"
-
-/* How the characters of a document are written, as expat reads them. */
-enum units {
-    UNITS_NOT_KNOWN,
-    UNITS_BYTES, /* UTF-8, or another encoding in which ASCII is itself */
-    UNITS_16_LITTLE,
-    UNITS_16_BIG
+/* The start tag that is being read: how many attributes it has. It is scanned while its text comes, before libxml2 compares them in pairs. */
+struct tag_scan {
+    uint64_t tag; /* its offset */
+    uint64_t next; /* the offset from which on it is not scanned */
+    char quote;   /* the quote of the value that is being read; 0: none */
+    unsigned count;
+    bool has_ended;
 };
 
 struct feed {
-    XML_Parser parser;
+    const struct giver *giver;
     struct fault *fault;
-    struct bytes kept; /* the bytes from the start of the token that expat has not read to its end */
-    XML_Index begin;   /* the place of the first of these, as expat counts */
-    struct bytes first; /* the first bytes, until there are enough to know the units */
-    enum units units;
-    bool is_latin;   /* the document declares ISO-8859-1 */
-    bool is_marked;  /* a byte order mark of UTF-8 comes first */
-    uint64_t shift_line; /* the line with a byte order mark or a seam, and (`shift`) by how many columns that shifts it */
-    uint64_t shift;
-    XML_Index cut_at; /* the end of the last part that was cut off a long token, and (`cut_place`) where that token began; -1: there is none */
-    struct place cut_place;
-    struct bytes unknown; /* an encoding that expat does not know and iconv does */
-    struct transcoder transcoder;
-    bool is_transcoded;
-    struct bytes text; /* the output of the transcoder */
-    void (*install)(XML_Parser parser, void *context); /* sets the handlers of a parser */
+    xmlParserCtxtPtr parser; /* of the document itself; an entity's text may have a parser of its own */
+    struct decoding decoding;
+    struct bytes text;  /* what is kept of the text */
+    uint64_t begin;     /* the offset of its first byte */
+    size_t given;       /* how many of its bytes libxml2 has */
+    bool has_ended;     /* there is no more of the document */
+    uint64_t place_at;  /* an offset, and its place */
+    struct place place;
+    bool is_away;       /* libxml2 reads the external DTD, and the parser's first input is that (`away_at`: where it is in the document) */
+    uint64_t away_at;
+    uint64_t markup;    /* the offset after the blanks at `next`, as far as they are known */
+    uint64_t settled;   /* the last offset up to which references that gave nothing were passed */
+    uint64_t choices_at;    /* the offset from which on the choices of a declaration are not counted */
+    size_t choices;         /* how many there are before that */
+    uint64_t choices_next;  /* where the counting began */
+    uint64_t next;      /* the offset of the markup or the text that is being read */
+    struct tag_scan scan;
+    struct bytes room;  /* where the document's bytes are read */
+    void (*before_read)(void *context); /* is called before more of the document is read, which may take long */
     void *context;
 };
 
-/* False: out of memory, and the fault says so. */
-bool feed_open(struct feed *feed, struct fault *fault, void (*install)(XML_Parser parser, void *context), void *context);
+void feed_open(struct feed *feed, const struct giver *giver, struct fault *fault);
 void feed_close(struct feed *feed);
 
-/* The line and the column at which the parser is. */
-struct place feed_here(const struct feed *feed);
+/* Reads for libxml2, as its input callback. */
+int feed_read(void *feed, char *bytes, int length);
 
-/* Takes the encoding that the document declares. */
-void feed_declared(struct feed *feed, const char *encoding);
+/* The offset at which libxml2 is in the document. */
+uint64_t feed_offset(const struct feed *feed);
 
-/* How many bytes to pass next. */
-size_t feed_wants(const struct feed *feed);
+/* Whether the pointer is into the text of the document as libxml2 has it. Then sets its offset. */
+bool feed_offset_of(const struct feed *feed, const xmlChar *pointer, uint64_t *offset);
 
-/* Passes bytes, or says that there are no more. False: there is a fault. */
-bool feed_take(struct feed *feed, const char *bytes, size_t length);
-bool feed_end(struct feed *feed);
+/* The byte at the offset; 0: it is not kept. */
+char feed_byte(const struct feed *feed, uint64_t offset);
 
-/* Gets the quoted values of the tag at which the parser is, as UTF-8. False: out of memory. */
-bool feed_tag_values(const struct feed *feed, struct bytes *values);
+/* The last offset before `end`, and not before what is kept, at which the text is; `end` if there is none. */
+uint64_t feed_last(const struct feed *feed, uint64_t end, const char *text);
 
-/* Stops the reading with a fault of the document. */
-void feed_refuse(struct feed *feed, enum fault_kind kind, struct place place, const char *what);
+/* The place of an offset. Offsets before the last one that was asked for have its place. */
+struct place feed_place(struct feed *feed, uint64_t offset);
+
+/* Moves on: what is before the offset was read. */
+void feed_move(struct feed *feed, uint64_t next);
+
+/* The offset of the markup that is being read, after blanks. */
+uint64_t feed_markup(struct feed *feed);
+
+/* Moves on to the text or markup that ends at or before `end`, over references that gave nothing. Returns its offset. */
+uint64_t feed_settle(struct feed *feed, uint64_t end);
+
+/* Whether a tag in the text has more attributes than PYX has. */
+bool has_too_many_attributes(struct span text);
+
+/* Whether a declaration in the text has more choices than are read. */
+bool has_too_many_choices(struct span text);
+
+extern const char too_many_attributes[];
+extern const char too_many_choices[];
 
 #endif

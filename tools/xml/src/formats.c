@@ -18,43 +18,76 @@ void add_text(struct bytes *line, const struct result *result, bool has_color) {
     bytes_add_text(line, has_color ? "\033[0m\n" : "\n");
 }
 
-/* Adds a string of JSON. A byte that is not UTF-8 is written as `\udcXX`, which Python's file names turn back into the byte. */
-static void add_string(struct bytes *line, const char *text, size_t length) {
+/* The length of the character that begins here; 0 if none does. */
+static size_t character_length(const char *text, size_t left) {
+    unsigned char byte = (unsigned char)text[0];
+    size_t size = byte < 0x80 ? 1 : byte < 0xE0 ? 2 : byte < 0xF0 ? 3 : 4;
+    return size <= left && is_utf_8(text, size) ? size : 0;
+}
+
+/* Adds a character to a string of JSON. What may end a line for some reader is escaped. */
+static void add_character(struct bytes *line, const char *text, size_t size) {
+    unsigned char byte = (unsigned char)text[0];
+    bool is_control = size == 2 && byte == 0xC2 && (unsigned char)text[1] < 0xA0;
+    bool is_separator = size == 3 && memcmp(text, "\xE2\x80", 2) == 0 && ((unsigned char)text[2] & 0xFE) == 0xA8;
+    if (byte == '"' || byte == '\\') {
+        bytes_format(line, "\\%c", byte);
+    } else if (byte < ' ' || byte == 0x7F) {
+        bytes_format(line, "\\u%04x", byte);
+    } else if (is_control) {
+        bytes_format(line, "\\u%04x", (unsigned char)text[1]);
+    } else if (is_separator) {
+        bytes_format(line, "\\u20%02x", (unsigned char)text[2] - 0x80);
+    } else {
+        bytes_add(line, text, size);
+    }
+}
+
+/* Adds a string of JSON. A byte that is not UTF-8 is written as U+FFFD, or, in the name of a file, as `\udcXX`, which Python's file names turn back into
+ * the byte. */
+static void add_string(struct bytes *line, const char *text, size_t length, bool is_file) {
     bytes_add_byte(line, '"');
     for (size_t at = 0; at < length;) {
-        unsigned char byte = (unsigned char)text[at];
-        size_t size = 1;
-        while (size < 4 && at + size < length && ((unsigned char)text[at + size] & 0xC0) == 0x80) {
-            size++;
-        }
-        if (byte >= 0x80 && !is_utf_8(text + at, size)) {
-            bytes_format(line, "\\udc%02x", byte);
-            size = 1;
-        } else if (byte == '"' || byte == '\\') {
-            bytes_add_byte(line, '\\');
-            bytes_add(line, text + at, 1);
-            size = 1;
-        } else if (byte < ' ' || byte == 0x7F) {
-            bytes_format(line, "\\u%04x", byte);
-            size = 1;
+        size_t size = character_length(text + at, length - at);
+        if (size > 0) {
+            add_character(line, text + at, size);
+        } else if (is_file) {
+            bytes_format(line, "\\udc%02x", (unsigned char)text[at]);
         } else {
-            size = byte < 0x80 ? 1 : size;
-            bytes_add(line, text + at, size);
+            bytes_add_text(line, "\\ufffd");
         }
-        at += size;
+        at += size > 0 ? size : 1;
     }
     bytes_add_byte(line, '"');
 }
 
 static void add_member(struct bytes *line, const char *name, const char *text) {
     bytes_format(line, ", \"%s\": ", name);
-    add_string(line, text, strlen(text));
+    add_string(line, text, strlen(text), false);
+}
+
+/* Adds an array of the notes, if there is one. */
+static void add_notes(struct bytes *line, const struct result *result) {
+    const char *before = ", \"notes\": [";
+    for (size_t at = 0; at < result->note_count; at++) {
+        struct note *note = &result->notes[at];
+        bytes_format(line, "%s{\"line\": %" PRIu64 ", \"column\": %" PRIu64, before, note->place.line, note->place.column);
+        add_member(line, "message", bytes_text(&note->what));
+        bytes_add_byte(line, '}');
+        before = ", ";
+    }
+    if (result->schema_note[0] != '\0') {
+        bytes_format(line, "%s{\"message\": ", before);
+        add_string(line, result->schema_note, strlen(result->schema_note), false);
+        bytes_add_byte(line, '}');
+    }
+    bytes_add_text(line, result->note_count > 0 || result->schema_note[0] != '\0' ? "]" : "");
 }
 
 void add_json(struct bytes *line, const struct result *result) {
     static const char *const stands[] = {"unknown", "element", "attribute", "text", "end"};
     bytes_add_text(line, "{\"file\": ");
-    add_string(line, result->file, strlen(result->file));
+    add_string(line, result->file, strlen(result->file), true);
     add_member(line, "verdict", result->verdict);
     if (result->place.line > 0) {
         bytes_format(line, ", \"line\": %" PRIu64 ", \"column\": %" PRIu64, result->place.line, result->place.column);
@@ -62,7 +95,7 @@ void add_json(struct bytes *line, const struct result *result) {
     if (result->stands != STANDS_NOT_KNOWN && result->name != NULL) {
         add_member(line, "at", stands[result->stands]);
         bytes_add_text(line, ", \"name\": ");
-        add_string(line, result->name->data, result->name->length);
+        add_string(line, result->name->data, result->name->length, false);
     }
     if (result->group != 0) {
         bytes_format(line, ", \"clause\": \"%c%d\"", result->group, result->clause);
@@ -70,6 +103,7 @@ void add_json(struct bytes *line, const struct result *result) {
     if (result->message[0] != '\0') {
         add_member(line, "message", result->message);
     }
+    add_notes(line, result);
     bytes_add_text(line, "}\n");
 }
 
@@ -86,7 +120,7 @@ static void add_command_text(struct bytes *line, const char *text, bool is_prope
 }
 
 void add_github(struct bytes *line, const struct result *result) {
-    bytes_add_text(line, "::error file=");
+    bytes_add_text(line, result->is_note ? "::notice file=" : "::error file=");
     add_command_text(line, result->file, true);
     if (result->place.line > 0) {
         bytes_format(line, ",line=%" PRIu64 ",col=%" PRIu64, result->place.line, result->place.column);
@@ -118,7 +152,7 @@ static void add_uri(struct bytes *line, const char *path) {
 }
 
 void add_sarif_head(struct bytes *line) {
-    static const char *const rules[] = {"invalid", "malformed", "outside", "failed", "refused"};
+    static const char *const rules[] = {"invalid", "malformed", "outside", "failed", "refused", "note"};
     bytes_add_text(line, "{\"version\": \"2.1.0\", \"$schema\": \"https://json.schemastore.org/sarif-2.1.0.json\", \"runs\": [{\"tool\": "
                          "{\"driver\": {\"name\": \"rncv-xml\", \"version\": \"" PROGRAM_VERSION "\", \"rules\": [");
     for (size_t at = 0; at < sizeof rules / sizeof *rules; at++) {
@@ -128,8 +162,9 @@ void add_sarif_head(struct bytes *line) {
 }
 
 void add_sarif(struct bytes *line, const struct result *result, bool is_first) {
-    bytes_format(line, "%s\n{\"ruleId\": \"%s\", \"level\": \"error\", \"message\": {\"text\": ", is_first ? "" : ",", result->verdict);
-    add_string(line, result->message, strlen(result->message));
+    bytes_format(line, "%s\n{\"ruleId\": \"%s\", \"level\": \"%s\", \"message\": {\"text\": ", is_first ? "" : ",", result->verdict,
+                 result->is_note ? "note" : "error");
+    add_string(line, result->message, strlen(result->message), false);
     bytes_add_text(line, "}, \"locations\": [{\"physicalLocation\": {\"artifactLocation\": {\"uri\": ");
     add_uri(line, result->file);
     bytes_add_byte(line, '}');

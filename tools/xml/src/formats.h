@@ -14,6 +14,10 @@ struct result {
     const struct bytes *name; /* of what is at the place; may be NULL */
     char group;               /* of the clause; 0: there is none */
     int clause;
+    bool is_note; /* it is no fault */
+    struct note *notes;
+    size_t note_count;
+    const char *schema_note; /* what the schema's file says about the schema; empty if that is nothing */
 };
 
 /* `FILE:LINE:COLUMN: MESSAGE`, with the line feed. */

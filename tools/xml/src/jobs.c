@@ -6,7 +6,7 @@
 
 enum {
     WINDOW_OF_EACH = 32,  /* for each thread, the documents that may be done before the next one is reported */
-    STACK_BYTES = 8388608 /* for a thread: expat calls itself for an entity in an entity */
+    STACK_BYTES = 8388608 /* for a thread: libxml2 calls itself for an entity in an entity */
 };
 
 /* A document and its answer, until it is reported. */
@@ -16,9 +16,11 @@ struct slot {
     bool is_done;
 };
 
+/* A thread that takes a document has the turn, and may wait for the document's name: so it does not have the lock meanwhile, and the others report. */
 struct jobs {
-    pthread_mutex_t lock;
-    pthread_cond_t room; /* a slot has become free */
+    pthread_mutex_t turn;
+    pthread_mutex_t lock; /* of what is below `documents` */
+    pthread_cond_t room;  /* a slot has become free */
     struct documents *documents;
     struct shared *shared;
     struct report *report;
@@ -43,20 +45,29 @@ static void tell_one(struct report *report, struct slot *slot) {
     document_free(&slot->document);
 }
 
-/* Takes the next document into a slot. NULL: there is none. */
-static struct slot *take(struct jobs *jobs) {
-    struct document document;
-    struct slot *slot = NULL;
+/* Waits for a free slot. */
+static void wait_for_room(struct jobs *jobs) {
     pthread_mutex_lock(&jobs->lock);
     while (jobs->taken - jobs->told >= jobs->window) {
         pthread_cond_wait(&jobs->room, &jobs->lock);
     }
+    pthread_mutex_unlock(&jobs->lock);
+}
+
+/* Takes the next document into a slot. NULL: there is none. */
+static struct slot *take(struct jobs *jobs) {
+    struct document document;
+    struct slot *slot = NULL;
+    pthread_mutex_lock(&jobs->turn);
+    wait_for_room(jobs);
     if (documents_next(jobs->documents, &document)) {
+        pthread_mutex_lock(&jobs->lock);
         slot = &jobs->slots[jobs->taken++ % jobs->window];
         slot->document = document;
         slot->is_done = false;
+        pthread_mutex_unlock(&jobs->lock);
     }
-    pthread_mutex_unlock(&jobs->lock);
+    pthread_mutex_unlock(&jobs->turn);
     return slot;
 }
 
@@ -138,6 +149,27 @@ static bool run_side_by_side(struct jobs *jobs, unsigned count) {
     return is_good;
 }
 
+/* Makes the locks and the condition. False: nothing is left of them. */
+static bool open_locks(struct jobs *jobs) {
+    if (pthread_mutex_init(&jobs->turn, NULL) != 0) {
+        return false;
+    }
+    if (pthread_mutex_init(&jobs->lock, NULL) == 0) {
+        if (pthread_cond_init(&jobs->room, NULL) == 0) {
+            return true;
+        }
+        pthread_mutex_destroy(&jobs->lock);
+    }
+    pthread_mutex_destroy(&jobs->turn);
+    return false;
+}
+
+static void close_locks(struct jobs *jobs) {
+    pthread_cond_destroy(&jobs->room);
+    pthread_mutex_destroy(&jobs->lock);
+    pthread_mutex_destroy(&jobs->turn);
+}
+
 bool jobs_run(struct documents *documents, struct shared *shared, struct report *report, unsigned threads) {
     struct jobs jobs;
     if (threads <= 1 || documents->known == 1) {
@@ -150,15 +182,10 @@ bool jobs_run(struct documents *documents, struct shared *shared, struct report 
     jobs.report = report;
     jobs.window = (uint64_t)WINDOW_OF_EACH * threads;
     shared->jobs = &jobs;
-    if (pthread_mutex_init(&jobs.lock, NULL) != 0) {
-        return run_alone(documents, shared, report);
-    }
-    if (pthread_cond_init(&jobs.room, NULL) != 0) {
-        pthread_mutex_destroy(&jobs.lock);
+    if (!open_locks(&jobs)) {
         return run_alone(documents, shared, report);
     }
     bool is_good = run_side_by_side(&jobs, threads);
-    pthread_cond_destroy(&jobs.room);
-    pthread_mutex_destroy(&jobs.lock);
+    close_locks(&jobs);
     return is_good || run_alone(documents, shared, report);
 }

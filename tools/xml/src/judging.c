@@ -3,7 +3,7 @@
 #include "belt.h"
 #include "probes.h"
 
-#include <inttypes.h>
+#include <stdlib.h>
 #include <string.h>
 
 enum {
@@ -20,10 +20,11 @@ struct judging {
     struct fault *fault;
     uint64_t invalid_line; /* 0: not known */
     struct told told;
-    struct place broken_place; /* where the document breaks a clause */
-    char broken_kind;
+    struct told broken; /* the line with which the document breaks a clause */
     rncv_verdict verdict;
     bool is_broken;
+    bool has_begun; /* a byte of the document was read, and this is the first one */
+    char first;
 };
 
 bool judge_open(struct judge *judge, struct shared *shared) {
@@ -34,6 +35,7 @@ bool judge_open(struct judge *judge, struct shared *shared) {
 
 void judge_close(struct judge *judge) {
     rncv_schema_free(&judge->schema);
+    rncv_schema_free(&judge->marked);
     bytes_free(&judge->prefix);
     trail_free(&judge->trail);
 }
@@ -41,7 +43,14 @@ void judge_close(struct judge *judge) {
 void answer_free(struct answer *answer) {
     bytes_free(&answer->name);
     bytes_free(&answer->message);
-    bytes_free(&answer->notes);
+    for (size_t at = 0; at < answer->note_count; at++) {
+        bytes_free(&answer->notes[at].what);
+    }
+    free(answer->notes);
+    if (answer->earlier != NULL) {
+        answer_free(answer->earlier);
+        free(answer->earlier);
+    }
 }
 
 int status_of(enum verdict verdict) {
@@ -79,7 +88,10 @@ void add_shown(struct bytes *line, const char *text, size_t length, size_t limit
             bytes_add_text(line, "..");
             return;
         }
-        if (byte == '\n' || byte == '\t' || byte == '\r') {
+        bool is_separator = size == 3 && memcmp(text + at, "\xE2\x80", 2) == 0 && ((unsigned char)text[at + 2] & 0xFE) == 0xA8;
+        if (is_separator) {
+            bytes_add_text(line, (unsigned char)text[at + 2] == 0xA8 ? "\\u2028" : "\\u2029");
+        } else if (byte == '\n' || byte == '\t' || byte == '\r') {
             bytes_add_text(line, byte == '\n' ? "\\n" : byte == '\t' ? "\\t" : "\\r");
         } else if (byte < ' ' || byte == 0x7F) {
             bytes_format(line, "\\x%02x", byte);
@@ -94,31 +106,27 @@ void add_shown(struct bytes *line, const char *text, size_t length, size_t limit
 
 /* Keeps the first lines of the document. */
 static void keep(struct judge *judge, const struct piece *piece) {
-    judge->prefix_is_all = judge->prefix_is_all && judge->prefix.length + piece->length <= PREFIX_BYTES;
-    if (judge->prefix_is_all) {
+    judge->prefix_is_full |= judge->prefix.failed || judge->prefix.length + piece->length > PREFIX_BYTES;
+    if (!judge->prefix_is_full) {
         bytes_add(&judge->prefix, piece->bytes, piece->length);
-        judge->prefix_is_all = !judge->prefix.failed;
     }
 }
 
-/* The document breaks a clause. Notes where, and at what kind of line. */
+/* The document breaks a clause. Notes at which line. */
 static void break_off(struct judging *judging, const struct piece *piece) {
-    struct told told;
     if (rncv_document_end(&judging->judge->schema, &judging->verdict) != RNCV_DONE) {
         fault_set(judging->fault, FAULT_MEMORY, (struct place){0, 0}, "out of memory");
         return;
     }
     judging->is_broken = true;
-    trail_find(&judging->judge->trail, piece, judging->verdict.line, &told);
-    judging->broken_place = told.kind == '-' && told.has_text ? told.text_place : told.own;
-    judging->broken_kind = told.kind;
-    told_free(&told);
+    trail_find(&judging->judge->trail, piece, judging->verdict.line, &judging->broken);
 }
 
 /* Passes the lines to the library. False: no more are wanted. */
 static bool take_piece(void *context, const struct piece *piece) {
     struct judging *judging = context;
     struct judge *judge = judging->judge;
+    keep(judge, piece);
     int32_t status = rncv_document_feed(&judge->schema, (const uint8_t *)piece->bytes, piece->length);
     if (status == RNCV_MALFORMED) {
         break_off(judging, piece);
@@ -128,9 +136,6 @@ static bool take_piece(void *context, const struct piece *piece) {
     if (status != RNCV_DONE || rncv_document_invalid_since(&judge->schema, &since) != RNCV_DONE) {
         fault_set(judging->fault, FAULT_MEMORY, (struct place){0, 0}, "out of memory");
         return false;
-    }
-    if (judging->invalid_line == 0) {
-        keep(judge, piece);
     }
     if (since != 0 && judging->invalid_line == 0) {
         judging->invalid_line = since;
@@ -144,13 +149,19 @@ static bool take_piece(void *context, const struct piece *piece) {
 }
 
 static void take_note(void *context, struct place place, const char *what) {
-    struct judging *judging = context;
-    struct answer *answer = judging->answer;
-    if (answer->note_count++ < MOST_NOTES) {
-        bytes_format(&answer->notes, "%" PRIu64 ":%" PRIu64 ": note: ", place.line, place.column);
-        add_shown(&answer->notes, what, strlen(what), SIZE_MAX);
-        bytes_add_byte(&answer->notes, '\n');
+    struct answer *answer = ((struct judging *)context)->answer;
+    if (answer->note_count == MOST_NOTES) {
+        return;
     }
+    struct note *notes = realloc(answer->notes, (answer->note_count + 1) * sizeof *notes);
+    if (notes == NULL) {
+        answer->notes_failed = true;
+        return;
+    }
+    answer->notes = notes;
+    notes[answer->note_count] = (struct note){place, NO_BYTES};
+    add_shown(&notes[answer->note_count].what, what, strlen(what), SIZE_MAX);
+    answer->notes_failed |= notes[answer->note_count++].what.failed;
 }
 
 static bool read_counted(void *context, char *bytes, size_t size, size_t *length, struct fault *fault) {
@@ -158,6 +169,10 @@ static bool read_counted(void *context, char *bytes, size_t size, size_t *length
     struct shared *shared = judging->judge->shared;
     if (!source_read(&judging->source, bytes, size, length, fault)) {
         return false;
+    }
+    if (!judging->has_begun && *length > 0) {
+        judging->has_begun = true;
+        judging->first = bytes[0];
     }
     atomic_fetch_add_explicit(&shared->bytes_read, *length, memory_order_relaxed);
     shared->tick(shared->context);
@@ -174,18 +189,30 @@ static const char *limit_of(char kind) {
     case '-':
         return "a text has more than 1,048,576 bytes";
     default:
-        return rncv_clause_title('P', 10);
+        return "a line of its PYX has more than 65,536 bytes";
     }
 }
 
+/* Answers with the clause that the document breaks, in the words of XML. A limit of this program says nothing about the XML. */
 static void answer_broken(const struct judging *judging) {
     struct answer *answer = judging->answer;
-    int clause = (int)judging->verdict.clause;
-    const char *title = clause == 10 ? limit_of(judging->broken_kind) : rncv_clause_title('P', judging->verdict.clause);
+    const struct told *broken = &judging->broken;
+    answer->clause = (int)judging->verdict.clause;
+    answer->place = broken->kind == '-' && broken->has_text ? broken->text_place : broken->own;
+    if (answer->clause == 10) {
+        answer->verdict = VERDICT_OUTSIDE;
+        bytes_format(&answer->message, "over a limit of this program: %s", limit_of(broken->kind));
+        return;
+    }
     answer->verdict = VERDICT_MALFORMED;
-    answer->clause = clause;
-    answer->place = judging->broken_place;
-    bytes_format(&answer->message, "malformed P%d: %s, see docs/CLAUSES.md", clause, title == NULL ? "" : title);
+    bytes_format(&answer->message, "malformed P%d: ", answer->clause);
+    size_t length = answer->message.length;
+    probe_clause(judging->judge, broken, &judging->verdict, &answer->message);
+    if (answer->message.length == length) {
+        const char *title = rncv_clause_title('P', judging->verdict.clause);
+        bytes_add_text(&answer->message, title == NULL ? "" : title);
+    }
+    bytes_add_text(&answer->message, ", see docs/CLAUSES.md");
 }
 
 /* Answers `invalid`, and what is at the place. */
@@ -201,10 +228,28 @@ static void answer_invalid(struct judging *judging) {
 }
 
 /* The answer for a fault of the conversion. */
-static void answer_fault(const struct fault *fault, struct answer *answer) {
+static void answer_fault(const struct judging *judging) {
+    const struct fault *fault = judging->fault;
+    struct answer *answer = judging->answer;
     answer->verdict = fault->kind == FAULT_MALFORMED ? VERDICT_MALFORMED : fault->kind == FAULT_OUTSIDE ? VERDICT_OUTSIDE : VERDICT_FAILED;
     answer->place = fault->place;
     add_shown(&answer->message, fault->what.data, fault->what.length, SIZE_MAX);
+    bool is_first = fault->kind == FAULT_MALFORMED && fault->place.line == 1 && fault->place.column == 1;
+    if (is_first && judging->has_begun && judging->first == '(') {
+        bytes_add_text(&answer->message, "; this looks like PYX: rncv reads PYX");
+    }
+}
+
+/* A document is outside the profile if a part of it was not read, and the user wants none like that. */
+static void refuse_notes(struct answer *answer) {
+    bool has_answer = answer->verdict == VERDICT_VALID || answer->verdict == VERDICT_INVALID;
+    if (has_answer && answer->note_count > 0) {
+        answer->verdict = VERDICT_OUTSIDE;
+        answer->place = answer->notes[0].place;
+        answer->stands = STANDS_NOT_KNOWN;
+        bytes_clear(&answer->message);
+        bytes_add(&answer->message, answer->notes[0].what.data, answer->notes[0].what.length);
+    }
 }
 
 /* Ends the document, after the whole of it was passed. */
@@ -217,31 +262,57 @@ static void end_document(struct judging *judging) {
     }
     if (judging->verdict.kind == RNCV_BROKEN) {
         judging->is_broken = true;
-        judging->broken_place = judge->trail.last;
+        judging->broken.own = judge->trail.last;
     } else if (judging->verdict.kind == RNCV_INVALID && judging->invalid_line == 0) {
         judging->invalid_line = judging->verdict.line;
         trail_find(&judge->trail, &nothing, judging->verdict.line, &judging->told);
     }
 }
 
+/* Adds where the document was invalid before the place of the answer. */
+static void add_earlier(struct judging *judging) {
+    static const struct answer none = NO_ANSWER;
+    struct answer *answer = judging->answer;
+    bool is_known = judging->invalid_line != 0 && (answer->verdict == VERDICT_MALFORMED || answer->verdict == VERDICT_OUTSIDE);
+    if (!judging->judge->shared->wants_earlier || !is_known) {
+        return;
+    }
+    answer->earlier = malloc(sizeof *answer->earlier);
+    if (answer->earlier == NULL) {
+        answer->notes_failed = true;
+        return;
+    }
+    *answer->earlier = none;
+    judging->answer = answer->earlier;
+    answer_invalid(judging);
+    judging->answer = answer;
+}
+
 static void answer_all(struct judging *judging) {
-    if (judging->is_broken) {
+    /* without memory something may have been left out before the place that is broken */
+    if (judging->is_broken && judging->fault->kind != FAULT_MEMORY) {
         answer_broken(judging);
     } else if (judging->fault->kind != FAULT_NONE) {
-        answer_fault(judging->fault, judging->answer);
+        answer_fault(judging);
     } else if (judging->verdict.kind == RNCV_INVALID) {
         answer_invalid(judging);
     } else if (judging->verdict.kind == RNCV_VALID && judging->invalid_line == 0) {
         judging->answer->verdict = VERDICT_VALID;
     } else {
         fault_set(judging->fault, FAULT_DEVICE, (struct place){0, 0}, "the library gave no verdict");
-        answer_fault(judging->fault, judging->answer);
+        answer_fault(judging);
+    }
+    add_earlier(judging);
+    if (judging->judge->shared->is_strict) {
+        refuse_notes(judging->answer);
     }
 }
 
-void judge_document(struct judge *judge, const char *name, struct answer *answer) {
+/* Judges what the giver gives, or the document of this name if there is no giver. */
+static void judge_either(struct judge *judge, const struct giver *given, const char *name, struct answer *answer) {
     struct fault fault = NO_FAULT;
     struct judging judging;
+    struct taker taker = {take_piece, take_note, &judging};
     memset(&judging, 0, sizeof judging);
     judging.judge = judge;
     judging.answer = answer;
@@ -249,12 +320,13 @@ void judge_document(struct judge *judge, const char *name, struct answer *answer
     judging.verdict.kind = -1;
     trail_clear(&judge->trail);
     bytes_clear(&judge->prefix);
-    judge->prefix_is_all = !judge->prefix.failed;
+    judge->prefix_is_full = false;
     if (rncv_document_begin(&judge->schema) != RNCV_DONE) {
         fault_set(&fault, FAULT_MEMORY, (struct place){0, 0}, "out of memory");
+    } else if (given != NULL) {
+        convert(given, &taker, &fault);
     } else if (source_open(&judging.source, name, judge->shared->streams, &fault)) {
-        struct giver giver = {read_counted, &judging};
-        struct taker taker = {take_piece, take_note, &judging};
+        struct giver giver = {read_counted, &judging, judge->shared->loads_dtd ? beside(name) : NULL};
         (judge->shared->is_by_two && judging.source.is_large ? belt_convert : convert)(&giver, &taker, &fault);
         source_close(&judging.source);
     }
@@ -262,9 +334,18 @@ void judge_document(struct judge *judge, const char *name, struct answer *answer
         end_document(&judging);
     }
     answer_all(&judging);
-    if (answer->message.failed || answer->notes.failed || answer->name.failed) {
+    if (answer->message.failed || answer->notes_failed || answer->name.failed) {
         answer->verdict = answer->verdict == VERDICT_VALID ? VERDICT_FAILED : answer->verdict;
     }
     told_free(&judging.told);
+    told_free(&judging.broken);
     fault_free(&fault);
+}
+
+void judge_document(struct judge *judge, const char *name, struct answer *answer) {
+    judge_either(judge, NULL, name, answer);
+}
+
+void judge_by(struct judge *judge, const struct giver *giver, struct answer *answer) {
+    judge_either(judge, giver, NULL, answer);
 }

@@ -26,6 +26,12 @@ enum stands {
     STANDS_END
 };
 
+/* What is left out of a document. */
+struct note {
+    struct place place;
+    struct bytes what;
+};
+
 struct answer {
     enum verdict verdict;
     struct place place; /* line 0: none */
@@ -33,12 +39,14 @@ struct answer {
     struct bytes name;    /* the name of the element or the attribute, or the first characters of the text */
     int clause;           /* 1 to 13 if the document breaks P1 to P13; else 0 */
     struct bytes message; /* what is said about the document, without the place; empty if it is valid */
-    struct bytes notes;   /* lines about what is left out of it, each ended by a line feed, without the document's name */
+    struct note *notes;
     size_t note_count;
+    bool notes_failed; /* memory ran out for a note */
+    struct answer *earlier; /* where the document was invalid before it was malformed or outside, if the judge is asked for that; else NULL */
 };
 
 /* No verdict yet. It is not VERDICT_VALID, so nothing is valid by accident. */
-#define NO_ANSWER {VERDICT_FAILED, {0, 0}, STANDS_NOT_KNOWN, NO_BYTES, 0, NO_BYTES, NO_BYTES, 0}
+#define NO_ANSWER {VERDICT_FAILED, {0, 0}, STANDS_NOT_KNOWN, NO_BYTES, 0, NO_BYTES, NULL, 0, false, NULL}
 
 struct jobs;
 
@@ -49,6 +57,9 @@ struct shared {
     size_t value_count;
     struct streams streams;
     atomic_ullong bytes_read;
+    bool is_strict;    /* a document with a note is outside the profile */
+    bool wants_earlier; /* an answer that is malformed or outside also says where the document was invalid before */
+    bool loads_dtd;    /* external DTDs and entities are read, from files */
     bool is_by_two;    /* one thread converts a large document, and another judges it */
     struct jobs *jobs; /* the jobs that the threads work on; NULL for one thread */
     void (*tick)(void *context); /* is called now and then while a document is read */
@@ -59,8 +70,10 @@ struct shared {
 struct judge {
     struct shared *shared;
     rncv_schema schema;
+    rncv_schema marked; /* allows an element wherever the schema allows text */
+    bool marked_is_tried;
     struct bytes prefix; /* the first lines of the document, to try changes to it */
-    bool prefix_is_all;
+    bool prefix_is_full; /* no more lines are kept */
     struct trail trail;
 };
 
@@ -70,12 +83,15 @@ void judge_close(struct judge *judge);
 
 /* Judges the document of this name. */
 void judge_document(struct judge *judge, const char *name, struct answer *answer);
+/* Judges the document that the giver gives. */
+void judge_by(struct judge *judge, const struct giver *giver, struct answer *answer);
 void answer_free(struct answer *answer);
 
 /* The exit status for a verdict. */
 int status_of(enum verdict verdict);
 
-/* Adds the text with its control characters written as `\n`, `\x85` and the like, so that it stays on its line. Shows at most `limit` characters. */
+/* Adds the text with its control characters and line separators written as `\n`, `\x85`, `\u2028` and the like, so that it stays on its line. Shows at most
+ * `limit` characters. */
 void add_shown(struct bytes *line, const char *text, size_t length, size_t limit);
 
 #endif

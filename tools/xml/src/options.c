@@ -9,11 +9,14 @@ enum name {
     NAME_RECURSIVE,
     NAME_GLOB,
     NAME_FILES_FROM,
+    NAME_NULL,
     NAME_STDIN_NAME,
     NAME_MAP,
     NAME_ALL,
     NAME_VERBOSE,
     NAME_QUIET,
+    NAME_DTD,
+    NAME_STRICT,
     NAME_STRICT_PROFILE,
     NAME_FORMAT,
     NAME_COLOR,
@@ -33,11 +36,14 @@ static const struct option known[] = {
     {"--recursive", 'r', false, NAME_RECURSIVE},
     {"--glob", 0, true, NAME_GLOB},
     {"--files-from", 0, true, NAME_FILES_FROM},
+    {"--null", '0', false, NAME_NULL},
     {"--stdin-name", 0, true, NAME_STDIN_NAME},
     {"--map", 0, true, NAME_MAP},
     {"--all", 0, false, NAME_ALL},
     {"--verbose", 'v', false, NAME_VERBOSE},
     {"--quiet", 'q', false, NAME_QUIET},
+    {"--dtd", 0, false, NAME_DTD},
+    {"--strict", 0, false, NAME_STRICT},
     {"--strict-profile", 0, false, NAME_STRICT_PROFILE},
     {"--format", 0, true, NAME_FORMAT},
     {"--color", 0, true, NAME_COLOR},
@@ -56,11 +62,14 @@ const char *options_help(void) {
            "  -r, --recursive      judge the documents in folders\n"
            "      --glob PATTERN   the names to take in folders; can be repeated (else *.xml)\n"
            "      --files-from FILE  names of documents, a line each, or ended by a zero byte each; `-` is standard input\n"
+           "  -0, --null           a zero byte ends each of these names, also if a line feed comes before the first one\n"
            "      --stdin-name NAME  how standard input is called in what is printed\n"
            "  -j, --jobs N         judge N documents at once, 64 at most (else the number of processors)\n"
+           "      --dtd            read the external DTD and external entities of a document, from files\n"
+           "      --strict         a document with a note, such as an external DTD that is not read, is outside the profile\n"
            "Schema:\n"
            "      --map HREF=FILE  the file that HREF means in an include or external; can be repeated\n"
-           "      --strict-profile  a schema that rncv-profile loosened is refused (status 3)\n"
+           "      --strict-profile  a schema that rncv-profile loosened or tightened is refused (status 3)\n"
            "Output:\n"
            "      --all            a line for each document, `FILE: valid` too\n"
            "  -v, --verbose        the same, with the files of the schema and a closing line\n"
@@ -72,14 +81,20 @@ const char *options_help(void) {
            "\n"
            "A line is `FILE:LINE:COLUMN: invalid: at <b>`, with what is at the place; a valid document has no line.\n"
            "Exit status, the greatest of: 0 all valid; 1 some invalid; 2 some malformed or outside the profile; 3 the schema is refused;\n"
-           "4 a file or a device failed; 5 wrong words. 130 after Ctrl-C, 141 if the output is a closed pipe.\n";
+           "4 a file or a device failed; 5 wrong words. 130 after Ctrl-C, 141 if the output is a closed pipe.\n"
+           "`man rncv-xml` has more. `man rncv` is about the proved program.\n";
+}
+
+static bool out_of_memory(struct options *options) {
+    options->failed = true;
+    return false;
 }
 
 /* Adds a word to a list. */
-static bool add_word(const char ***list, size_t *count, const char *word) {
+static bool add_word(struct options *options, const char ***list, size_t *count, const char *word) {
     const char **longer = realloc(*list, (*count + 1) * sizeof *longer);
     if (longer == NULL) {
-        return false;
+        return out_of_memory(options);
     }
     longer[(*count)++] = word;
     *list = longer;
@@ -89,7 +104,7 @@ static bool add_word(const char ***list, size_t *count, const char *word) {
 static bool is_wrong(struct options *options, const char *what, const char *word) {
     bytes_clear(&options->wrong);
     bytes_format(&options->wrong, what, word);
-    return false;
+    return options->wrong.failed ? out_of_memory(options) : false;
 }
 
 /* The index of the word in a list that ends in NULL; -1 if it is not there. */
@@ -123,7 +138,7 @@ static bool take_mapping(struct options *options, const char *value) {
     }
     longer = realloc(options->mappings, (options->mapping_count + 1) * sizeof *longer);
     if (longer == NULL) {
-        return is_wrong(options, "%s", "out of memory");
+        return out_of_memory(options);
     }
     longer[options->mapping_count++] = (struct mapping){value, (size_t)(equal - value), equal + 1};
     options->mappings = longer;
@@ -155,7 +170,7 @@ static bool take_value(struct options *options, enum name name, const char *valu
     case NAME_JOBS:
         return take_jobs(options, value);
     case NAME_GLOB:
-        return add_word(&options->globs, &options->glob_count, value) || is_wrong(options, "%s", "out of memory");
+        return add_word(options, &options->globs, &options->glob_count, value);
     case NAME_FILES_FROM:
         options->files_from = value;
         return true;
@@ -175,10 +190,13 @@ static bool take_value(struct options *options, enum name name, const char *valu
 
 static void take_flag(struct options *options, enum name name) {
     options->is_recursive |= name == NAME_RECURSIVE;
+    options->has_zeros |= name == NAME_NULL;
     options->tells_all |= name == NAME_ALL || name == NAME_VERBOSE;
     options->is_verbose |= name == NAME_VERBOSE;
     options->is_quiet |= name == NAME_QUIET;
     options->is_strict |= name == NAME_STRICT_PROFILE;
+    options->refuses_notes |= name == NAME_STRICT;
+    options->loads_dtd |= name == NAME_DTD;
     options->wants_help |= name == NAME_HELP;
     options->wants_version |= name == NAME_VERSION;
 }
@@ -235,8 +253,8 @@ static bool read_sides(struct options *options, int count, char **words, struct 
             if (!take_option(options, words, count, &at)) {
                 return false;
             }
-        } else if (!add_word(&sides->list[sides->are_parted], &sides->count[sides->are_parted], word)) {
-            return is_wrong(options, "%s", "out of memory");
+        } else if (!add_word(options, &sides->list[sides->are_parted], &sides->count[sides->are_parted], word)) {
+            return false;
         }
     }
     return true;
@@ -250,12 +268,13 @@ static bool part_words(struct options *options, struct sides *sides) {
     if (sides->count[side] == 0) {
         return is_wrong(options, "%s", "no schema is named");
     }
-    options->schemas = sides->list[side];
+    options->schemas = sides->list[side]; /* the options own the list from here on */
+    sides->list[side] = NULL;
     options->schema_count = is_first ? 1 : sides->count[side];
     if (is_first) {
         for (size_t at = 1; at < sides->count[side]; at++) {
-            if (!add_word(&options->documents, &options->document_count, sides->list[side][at])) {
-                return is_wrong(options, "%s", "out of memory");
+            if (!add_word(options, &options->documents, &options->document_count, options->schemas[at])) {
+                return false;
             }
         }
     } else {
@@ -263,20 +282,28 @@ static bool part_words(struct options *options, struct sides *sides) {
         options->document_count = sides->count[1];
         sides->list[1] = NULL;
     }
-    sides->list[side] = NULL;
     return true;
+}
+
+static bool has_word(const char *const *list, size_t count, const char *word) {
+    for (size_t at = 0; at < count; at++) {
+        if (strcmp(list[at], word) == 0) {
+            return true;
+        }
+    }
+    return false;
 }
 
 /* Whether the options go together. If not, `wrong` says why. */
 static bool is_sound(struct options *options) {
-    bool has_input = false;
-    for (size_t at = 0; at < options->document_count; at++) {
-        has_input |= strcmp(options->documents[at], "-") == 0;
-    }
+    bool has_input = has_word(options->documents, options->document_count, "-");
     if (options->files_from != NULL && strcmp(options->files_from, "-") == 0 && has_input) {
         return is_wrong(options, "%s", "standard input cannot be both a document and the names of documents");
     }
-    if (strcmp(options->schemas[0], "-") == 0) {
+    if (options->files_from == NULL && options->has_zeros) {
+        return is_wrong(options, "%s", "--null goes together with --files-from");
+    }
+    if (has_word(options->schemas, options->schema_count, "-")) {
         return is_wrong(options, "%s", "the schema is a file, and not standard input");
     }
     if (options->is_quiet && options->tells_all) {

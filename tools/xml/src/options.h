@@ -35,16 +35,20 @@ struct options {
     enum format format;
     enum when color;
     bool is_recursive;
+    bool has_zeros; /* a zero byte ends each name of `files_from` */
     bool tells_all;
     bool is_verbose;
     bool is_quiet;
-    bool is_strict;
+    bool is_strict; /* about the schema: a copy that rncv-profile changed is refused */
+    bool refuses_notes;
+    bool loads_dtd;
     bool wants_help;
     bool wants_version;
     struct bytes wrong; /* what is wrong with the words */
+    bool failed;        /* memory ran out */
 };
 
-/* False: the words are wrong, and `wrong` says what is wrong; or memory ran out. */
+/* False: memory ran out, as `failed` says; or the words are wrong, and `wrong` says why. */
 bool options_read(struct options *options, int count, char **words);
 void options_free(struct options *options);
 const char *options_help(void);

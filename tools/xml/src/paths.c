@@ -115,17 +115,17 @@ static struct bytes *add_way(struct ways *ways, struct span words, const char *p
     return way;
 }
 
-void ways_of(struct ways *ways, const struct bytes *words, const char *path) {
+bool ways_of(struct ways *ways, const struct bytes *words, const char *path) {
     *ways = (struct ways){{NO_BYTES, NO_BYTES}, 0};
     size_t scheme = words->length == 0 ? 0 : scheme_length(words->data, words->length);
     struct span plain = {words->data, words->length};
     if (scheme > 0) {
         plain = local_path(words->data, words->length, scheme);
         if (plain.data == NULL) {
-            return;
+            return true;
         }
     } else if (words->length == 0 || memchr(words->data, '\0', words->length) != NULL) {
-        return;
+        return true;
     } else {
         bytes_add(add_way(ways, plain, path), plain.data, plain.length);
     }
@@ -133,8 +133,15 @@ void ways_of(struct ways *ways, const struct bytes *words, const char *path) {
         struct bytes unquoted = NO_BYTES;
         add_unquoted(&unquoted, plain.data, plain.length);
         bytes_add(add_way(ways, (struct span){unquoted.data, unquoted.length}, path), unquoted.data, unquoted.length);
+        bool is_cut = unquoted.failed;
         bytes_free(&unquoted);
+        if (is_cut) {
+            return false;
+        }
     }
+    bytes_text(&ways->list[0]); /* the room for a zero after each */
+    bytes_text(&ways->list[1]);
+    return !ways->list[0].failed && !ways->list[1].failed;
 }
 
 void ways_free(struct ways *ways) {

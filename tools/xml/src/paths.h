@@ -20,7 +20,8 @@ struct ways {
     size_t count;
 };
 
-void ways_of(struct ways *ways, const struct bytes *words, const char *path);
+/* False: out of memory. */
+bool ways_of(struct ways *ways, const struct bytes *words, const char *path);
 void ways_free(struct ways *ways);
 
 /* Adds the path without `.`, `..` and doubled slashes, as far as these can be left out of the text. */

@@ -8,4 +8,8 @@
  * library reports. If the first lines of the document were kept, judges them again. No document is in progress when this is called. */
 void probe(struct judge *judge, const struct told *told, uint64_t line, struct answer *answer);
 
+/* Says in the words of XML which names break this clause at the line: P6, P11 or P12. Adds nothing if that is not known. No document is in progress when
+ * this is called. */
+void probe_clause(struct judge *judge, const struct told *told, const rncv_verdict *verdict, struct bytes *words);
+
 #endif

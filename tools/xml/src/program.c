@@ -62,9 +62,12 @@ static bool write_all(int file, const char *bytes, size_t length) {
 
 void tell_line(const char *line) {
     struct bytes bytes = NO_BYTES;
-    bytes_format(&bytes, "%s\n", line);
+    bytes_add_text(&bytes, line);
+    bytes_add_byte(&bytes, '\n');
     if (!bytes.failed) {
         write_all(2, bytes.data, bytes.length);
+    } else if (write_all(2, line, strlen(line))) {
+        write_all(2, "\n", 1);
     }
     bytes_free(&bytes);
 }
@@ -76,8 +79,11 @@ static void end_of_output(const struct output *output, const char *why, int erro
         _exit(STATUS_CLOSED_PIPE);
     }
     bytes_format(&line, "%s: %s", output->program, why);
-    tell_line(bytes_text(&line));
-    bytes_free(&line);
+    const char *text = bytes_text(&line);
+    if (line.failed && write_all(2, output->program, strlen(output->program)) && write_all(2, ": ", 2)) {
+        text = why;
+    }
+    tell_line(text);
     _exit(STATUS_FAILED);
 }
 
@@ -137,4 +143,8 @@ void source_close(struct source *source) {
         close(source->file);
     }
     source->is_open = false;
+}
+
+const char *beside(const char *name) {
+    return strcmp(name, "-") == 0 ? "./-" : name;
 }

@@ -60,4 +60,7 @@ bool source_open(struct source *source, const char *name, struct streams streams
 bool source_read(void *source, char *bytes, size_t size, size_t *length, struct fault *fault);
 void source_close(struct source *source);
 
+/* The path beside which the files are that a document of this name mentions. Those of standard input are in the current folder. */
+const char *beside(const char *name);
+
 #endif

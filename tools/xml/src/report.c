@@ -62,19 +62,21 @@ static void put(struct report *report, const struct result *result) {
     }
 }
 
-/* Prints the notes of a document, each on a line with the document's name. */
-static void put_notes(struct report *report, const char *file, struct answer *answer) {
-    size_t begin = 0;
-    for (size_t at = 0; at < answer->notes.length; at++) {
-        if (answer->notes.data[at] == '\n') {
-            struct bytes line = NO_BYTES;
-            add_shown(&line, file, strlen(file), SIZE_MAX);
-            bytes_add_byte(&line, ':');
-            bytes_add(&line, answer->notes.data + begin, at - begin);
-            report_note(report, bytes_text(&line));
-            bytes_free(&line);
-            begin = at + 1;
-        }
+/* Prints a note of a document, or of the schema, by itself. As text it is for people, on standard error. An object of JSON has the notes in it. */
+static void put_note(struct report *report, const char *file, struct place place, const char *what) {
+    struct result result = {.file = file, .verdict = "note", .message = what, .place = place, .is_note = true, .schema_note = ""};
+    if (report->options->format == FORMAT_TEXT) {
+        struct bytes line = NO_BYTES;
+        struct bytes message = NO_BYTES;
+        bytes_format(&message, "note: %s", what);
+        result.message = bytes_text(&message);
+        add_text(&line, &result, false);
+        line.length -= line.length > 0; /* tell_line adds the line feed */
+        report_note(report, bytes_text(&line));
+        bytes_free(&message);
+        bytes_free(&line);
+    } else if (report->options->format != FORMAT_JSON) {
+        put(report, &result);
     }
 }
 
@@ -85,13 +87,15 @@ void report_answer(struct report *report, const char *name, struct answer *answe
         message = "out of memory";
     }
     struct result result = {file, verdicts[answer->verdict], message, answer->place, answer->stands, &answer->name, answer->clause == 0 ? 0 : 'P',
-                            answer->clause};
+                            answer->clause, false, answer->notes, answer->note_count, bytes_text(&report->schema_note)};
     int status = status_of(answer->verdict);
     report->counts[answer->verdict]++;
     report->status = status > report->status ? status : report->status;
     atomic_fetch_add(&report->progress->done, 1);
     if (!report->options->is_quiet) {
-        put_notes(report, file, answer);
+        for (size_t at = 0; at < answer->note_count; at++) {
+            put_note(report, file, answer->notes[at].place, bytes_text(&answer->notes[at].what));
+        }
         put(report, &result);
     }
     progress_tick(report->progress);
@@ -99,7 +103,7 @@ void report_answer(struct report *report, const char *name, struct answer *answe
 
 void report_schema(struct report *report, const struct schema_fault *fault) {
     struct result result = {fault->path, fault->status == STATUS_REFUSED ? "refused" : "failed", fault->message, fault->place, STANDS_NOT_KNOWN, NULL,
-                            fault->clause == 0 ? 0 : 'S', fault->clause};
+                            fault->clause == 0 ? 0 : 'S', fault->clause, false, NULL, 0, ""};
     report->status = fault->status > report->status ? fault->status : report->status;
     if (!report->options->is_quiet) {
         put(report, &result);
@@ -110,6 +114,13 @@ void report_schema(struct report *report, const struct schema_fault *fault) {
     line.length -= line.length > 0; /* tell_line adds the line feed */
     tell_line(bytes_text(&line));
     bytes_free(&line);
+}
+
+void report_schema_note(struct report *report, const char *path, const struct bytes *note) {
+    bytes_add(&report->schema_note, note->data, note->length);
+    if (!report->options->is_quiet && report->options->format != FORMAT_TEXT) {
+        put_note(report, path, (struct place){0, 0}, bytes_text(&report->schema_note));
+    }
 }
 
 void report_note(struct report *report, const char *line) {
@@ -125,4 +136,5 @@ void report_close(struct report *report) {
     }
     progress_hide(report->progress);
     output_flush(report->output);
+    bytes_free(&report->schema_note);
 }

@@ -14,6 +14,7 @@ struct report {
     bool has_begun; /* whether a result was printed */
     unsigned long long counts[VERDICT_FAILED + 1];
     int status; /* the greatest so far */
+    struct bytes schema_note;
 };
 
 /* What is reported about the schema, and where in it. */
@@ -30,6 +31,9 @@ void report_open(struct report *report, const struct options *options, struct ou
 /* Reports a document's answer. With several threads, the caller must let in one at a time. */
 void report_answer(struct report *report, const char *name, struct answer *answer);
 void report_schema(struct report *report, const struct schema_fault *fault);
+
+/* Reports what the file of this name says about the schema. Each later answer has it too. */
+void report_schema_note(struct report *report, const char *path, const struct bytes *note);
 
 /* Writes a line for people to standard error. */
 void report_note(struct report *report, const char *line);

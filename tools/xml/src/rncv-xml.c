@@ -1,11 +1,58 @@
 /* rncv-xml: judges XML documents by a RELAX NG schema in the compact syntax. */
 #include "jobs.h"
+#include "schema_hints.h"
 
 #include <inttypes.h>
+#include <stdlib.h>
 #include <string.h>
 #include <unistd.h>
 
 static const char page[] = "see docs/CLAUSES.md";
+static const char no_memory[] = "rncv-xml: out of memory";
+
+/* Prints a line that belongs to no file. */
+static void tell_failure(struct report *report, const char *what, int status) {
+    struct bytes line = NO_BYTES;
+    bytes_add_text(&line, "rncv-xml: ");
+    add_shown(&line, what, strlen(what), SIZE_MAX);
+    const char *text = bytes_text(&line);
+    status = line.failed ? STATUS_FAILED : status;
+    report->status = status > report->status ? status : report->status;
+    progress_hide(report->progress);
+    tell_line(line.failed ? no_memory : text);
+    bytes_free(&line);
+}
+
+/* Reports what is wrong with the schema. */
+static void tell_schema(struct report *report, struct schema_fault *fault, struct bytes *message) {
+    fault->message = bytes_text(message);
+    if (message->failed) {
+        tell_failure(report, "out of memory", STATUS_FAILED);
+    } else {
+        report_schema(report, fault);
+    }
+}
+
+/* Adds the name of a file as it is shown. */
+static void add_name(struct bytes *line, struct bytes *name) {
+    add_shown(line, name->data, name->length, SIZE_MAX);
+}
+
+/* Adds a hint: where the schema most likely breaks the clause, and by what. */
+static void add_hint(struct bytes *message, struct schema_files *files, struct schema_fault *told) {
+    struct schema_hint_file *list = calloc(files->count, sizeof *list);
+    struct schema_hint hint;
+    for (size_t at = 0; list != NULL && at < files->count; at++) {
+        struct schema_file *file = &files->list[at];
+        list[at] = (struct schema_hint_file){file->name.data, file->name.length, file->content.data, file->content.length, bytes_text(&file->path)};
+    }
+    if (list != NULL && told->place.line == 0 && schema_hint_find(list, files->count, told->clause, &hint)) {
+        told->path = list[hint.file].shown;
+        told->place = (struct place){hint.line, hint.column};
+        bytes_format(message, ": hint: %s", hint.text);
+    }
+    free(list);
+}
 
 /* Reports which clause the schema breaks, where, and where the clause is explained. */
 static void tell_refusal(struct report *report, struct schema_files *files, const rncv_fault *fault) {
@@ -24,59 +71,96 @@ static void tell_refusal(struct report *report, struct schema_files *files, cons
         bool is_sought = missing->sought.length > 0;
         told.path = bytes_text(&missing->path);
         told.place = missing->place;
-        bytes_format(&message, ": there is no %s", is_sought ? bytes_text(&missing->sought) : bytes_text(&missing->name));
+        bytes_add_text(&message, ": there is no ");
+        add_name(&message, is_sought ? &missing->sought : &missing->name);
         bytes_add_text(&message, is_sought ? "" : ", and nothing is fetched (--map HREF=FILE)");
     }
+    add_hint(&message, files, &told);
     bytes_format(&message, ", %s", page);
-    told.message = bytes_text(&message);
-    report_schema(report, &told);
+    tell_schema(report, &told, &message);
     bytes_free(&message);
 }
 
-/* Prints a line that belongs to no file. */
-static void tell_failure(struct report *report, const char *what, int status) {
-    report->status = status > report->status ? status : report->status;
-    struct bytes line = NO_BYTES;
-    bytes_add_text(&line, "rncv-xml: ");
-    add_shown(&line, what, strlen(what), SIZE_MAX);
-    progress_hide(report->progress);
-    tell_line(bytes_text(&line));
-    bytes_free(&line);
+/* Reports why the files make no schema. */
+static void tell_problem(struct report *report, struct schema_files *files) {
+    if (files->failed) {
+        tell_failure(report, "out of memory", STATUS_FAILED);
+    } else if (files->problem_path.length > 0) {
+        struct schema_fault told = {bytes_text(&files->problem_path), {0, 0}, 0, "", files->problem_status};
+        tell_schema(report, &told, &files->problem);
+    } else {
+        tell_failure(report, bytes_text(&files->problem), files->problem_status);
+    }
 }
 
-/* The file in which rncv-profile says what more a copy of a schema accepts: `main.profile.txt` for `main.rnc`. */
-static void add_profile_name(struct bytes *name, struct schema_files *files) {
+/* Whether the file has the name of a schema in the compact syntax. */
+static bool is_named_schema(const char *path) {
+    size_t length = strlen(path);
+    return length > 4 && strcmp(path + length - 4, ".rnc") == 0;
+}
+
+/* Adds that something was done to so many datatypes. */
+static void add_change(struct bytes *line, unsigned long long count, const char *what) {
+    bytes_add_count(line, count);
+    bytes_add_text(line, count == 1 ? " datatype was " : " datatypes were ");
+    bytes_add_text(line, what);
+}
+
+/* Adds what rncv-profile changed in the schema, and the file in which it says where: `main.profile.txt` for `main.rnc`. */
+static void add_changes(struct bytes *line, struct schema_files *files, const char *where) {
     const char *path = bytes_text(&files->list[0].path);
     size_t length = strlen(path);
-    bool has_end = length > 4 && strcmp(path + length - 4, ".rnc") == 0;
-    bytes_add(name, path, has_end ? length - 4 : length);
-    bytes_add_text(name, ".profile.txt");
+    if (files->loosened > 0) {
+        add_change(line, files->loosened, "loosened");
+    }
+    bytes_add_text(line, files->loosened > 0 && files->tightened > 0 ? " and " : "");
+    if (files->tightened > 0) {
+        add_change(line, files->tightened, "tightened");
+    }
+    bytes_format(line, " %s (see ", where);
+    add_shown(line, path, is_named_schema(path) ? length - 4 : length, SIZE_MAX);
+    bytes_add_text(line, ".profile.txt)");
 }
 
-/* Refuses a schema that was loosened, if that is wanted. */
+static bool is_changed(const struct schema_files *files) {
+    return files->loosened > 0 || files->tightened > 0;
+}
+
+/* Reports that rncv-profile changed the schema. False: such a schema is refused. */
 static bool is_strict_enough(struct report *report, struct schema_files *files) {
-    if (!report->options->is_strict || files->loosened == 0) {
-        return true;
-    }
     struct bytes message = NO_BYTES;
     struct schema_fault told = {bytes_text(&files->list[0].path), {0, 0}, 0, "", STATUS_REFUSED};
-    bytes_add_count(&message, files->loosened);
-    bytes_add_text(&message, files->loosened == 1 ? " datatype was loosened in it (see " : " datatypes were loosened in it (see ");
-    add_profile_name(&message, files);
-    bytes_add_text(&message, ")");
-    told.message = bytes_text(&message);
-    report_schema(report, &told);
+    bool is_refused = is_changed(files) && report->options->is_strict;
+    if (is_changed(files)) {
+        add_changes(&message, files, is_refused ? "in it" : "in the schema");
+    }
+    if (is_refused) {
+        tell_schema(report, &told, &message);
+    } else if (is_changed(files)) {
+        report_schema_note(report, told.path, &message);
+    }
     bytes_free(&message);
-    return false;
+    return !is_refused;
+}
+
+/* The first word after the main file that has the name of a schema; NULL: there is none. */
+static const char *later_schema(const struct options *options) {
+    for (size_t at = 1; at < options->schema_count + options->document_count; at++) {
+        const char *word = at < options->schema_count ? options->schemas[at] : options->documents[at - options->schema_count];
+        if (is_named_schema(word)) {
+            return word;
+        }
+    }
+    return NULL;
 }
 
 /* Reads the schema's files and compiles them. False: what is wrong was reported. */
 static bool compile(struct report *report, struct schema_files *files, rncv_schema *schema) {
     const struct options *options = report->options;
-    struct schema_request request = {options->schemas, options->schema_count, options->mappings, options->mapping_count};
+    struct schema_request request = {options->schemas, options->schema_count, options->mappings, options->mapping_count, later_schema(options)};
     rncv_fault fault;
     if (!schema_files_collect(files, &request)) {
-        tell_failure(report, files->failed ? "out of memory" : bytes_text(&files->problem), files->problem_status);
+        tell_problem(report, files);
         return false;
     }
     switch (schema_files_compile(files, schema, &fault)) {
@@ -92,16 +176,27 @@ static bool compile(struct report *report, struct schema_files *files, rncv_sche
     }
 }
 
+/* Prints a note to standard error. */
+static void tell_note(struct report *report, struct bytes *line) {
+    const char *text = bytes_text(line);
+    if (line->failed) {
+        tell_failure(report, "out of memory", STATUS_FAILED);
+    } else {
+        report_note(report, text);
+    }
+}
+
 static void tell_files(struct report *report, struct schema_files *files) {
     for (size_t at = 0; at < files->count; at++) {
         struct bytes line = NO_BYTES;
-        bytes_format(&line, "rncv-xml: schema file %s", bytes_text(&files->list[at].path));
-        report_note(report, bytes_text(&line));
+        bytes_add_text(&line, "rncv-xml: schema file ");
+        add_name(&line, &files->list[at].path);
+        tell_note(report, &line);
         bytes_free(&line);
     }
 }
 
-/* Prints a closing line: how many documents have each verdict, and that the schema was loosened. */
+/* Prints a closing line: how many documents have each verdict, and that the schema was changed. With --quiet it says only the latter. */
 static void tell_closing(struct report *report, struct schema_files *files) {
     static const char *const words[] = {"valid", "invalid", "malformed", "outside the profile", "not read"};
     struct bytes line = NO_BYTES;
@@ -114,15 +209,14 @@ static void tell_closing(struct report *report, struct schema_files *files) {
             is_first = false;
         }
     }
-    if (files->loosened > 0) {
+    if (is_changed(files)) {
         bytes_add_text(&line, ", by a schema that ");
-        bytes_add_count(&line, files->loosened);
-        bytes_add_text(&line, files->loosened == 1 ? " datatype was loosened in (see " : " datatypes were loosened in (see ");
-        add_profile_name(&line, files);
-        bytes_add_text(&line, ")");
+        add_changes(&line, files, "in");
     }
-    if (files->loosened > 0 || report->options->is_verbose) {
-        report_note(report, bytes_text(&line));
+    if (is_changed(files) && report->options->is_quiet) {
+        tell_failure(report, bytes_text(&report->schema_note), STATUS_VALID);
+    } else if (is_changed(files) || report->options->is_verbose) {
+        tell_note(report, &line);
     }
     bytes_free(&line);
 }
@@ -158,7 +252,8 @@ static int run(const struct options *options, struct streams streams) {
     struct progress progress;
     struct report report;
     struct documents documents;
-    struct shared shared = {.schema = RNCV_NOTHING, .streams = streams, .tick = progress_tick, .context = &progress};
+    struct shared shared = {.schema = RNCV_NOTHING, .streams = streams, .is_strict = options->refuses_notes, .loads_dtd = options->loads_dtd,
+                            .tick = progress_tick, .context = &progress};
     atomic_init(&shared.bytes_read, 0);
     documents_open(&documents, options, streams);
     progress_open(&progress, !options->is_quiet && isatty(2), documents.known, &shared.bytes_read);
@@ -180,17 +275,25 @@ static int print(const char *text, struct streams streams) {
     return STATUS_VALID;
 }
 
+/* Says what is wrong with the words, or that memory ran out. Returns the exit status. */
+static int tell_wrong(struct options *options) {
+    struct bytes line = NO_BYTES;
+    bytes_add_text(&line, "rncv-xml: ");
+    add_shown(&line, options->wrong.data, options->wrong.length, SIZE_MAX);
+    bytes_add_text(&line, "\nusage: rncv-xml [OPTIONS] SCHEMA.rnc [DOCUMENT.xml | FOLDER | -]..    (--help says more)");
+    const char *text = bytes_text(&line);
+    bool is_failed = options->failed || line.failed;
+    tell_line(is_failed ? no_memory : text);
+    bytes_free(&line);
+    return is_failed ? STATUS_FAILED : STATUS_USAGE;
+}
+
 int main(int count, char **words) {
     struct streams streams = program_begins();
     struct options options;
     int status;
     if (!options_read(&options, count, words)) {
-        struct bytes line = NO_BYTES;
-        bytes_format(&line, "rncv-xml: %s\nusage: rncv-xml [OPTIONS] SCHEMA.rnc [DOCUMENT.xml | FOLDER | -]..    (--help says more)",
-                     bytes_text(&options.wrong));
-        tell_line(bytes_text(&line));
-        bytes_free(&line);
-        status = STATUS_USAGE;
+        status = tell_wrong(&options);
     } else if (options.wants_help) {
         status = print(options_help(), streams);
     } else if (options.wants_version) {

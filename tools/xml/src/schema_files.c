@@ -1,5 +1,6 @@
 #include "schema_files.h"
 
+#include "judging.h"
 #include "paths.h"
 #include "program.h"
 #include "schema_tokens.h"
@@ -10,6 +11,7 @@
 enum {
     MOST_FILES = 64,         /* with one more the library says S2 */
     MOST_BYTES = 1048576,    /* of a file; with one more the same */
+    MARK_BYTES = 3,          /* of a byte order mark, which the library does not get */
     MOST_VALUES = 100,       /* literals that are kept */
     MOST_VALUE_BYTES = 100
 };
@@ -43,11 +45,23 @@ static bool out_of_memory(struct schema_files *files) {
     return false;
 }
 
+/* Notes the first problem. */
 static void problem(struct schema_files *files, int status, const struct bytes *line) {
     if (files->problem_status == 0) {
         files->problem_status = status;
         add_bytes(&files->problem, line);
+        bytes_text(&files->problem);
     }
+    if (line->failed || files->problem.failed) {
+        out_of_memory(files);
+    }
+}
+
+/* Adds the path of a file, and makes room for the zero after it. The file `-` is no standard input. */
+static void add_path(struct bytes *to, const char *path) {
+    bytes_add_text(to, strcmp(path, "-") == 0 ? "./" : "");
+    bytes_add_text(to, path);
+    bytes_text(to);
 }
 
 /* Adds a file that the library gets under this name. */
@@ -64,27 +78,31 @@ static bool add_file(struct schema_files *files, const struct bytes *name, const
     struct schema_file *file = &files->list[files->count++];
     *file = (struct schema_file){NO_BYTES, NO_BYTES, NO_BYTES};
     add_bytes(&file->name, name);
-    bytes_add_text(&file->path, path);
-    return file->name.failed || file->path.failed || *bytes_text(&file->path) != *path ? out_of_memory(files) : true;
+    add_path(&file->path, path);
+    return file->name.failed || file->path.failed ? out_of_memory(files) : true;
 }
 
-/* Reads the file, but at most one byte more than a file may have. */
+/* Reads the file, but at most one byte more than a file may have, and drops its byte order mark. */
 static bool read_content(struct schema_files *files, struct schema_file *file) {
     struct fault fault = NO_FAULT;
     struct source source;
     size_t length = 1;
     bool is_open = source_open(&source, bytes_text(&file->path), (struct streams){false, false}, &fault);
     bool is_good = is_open && bytes_reserve(&file->content, 4096);
-    while (is_good && length > 0 && file->content.length <= MOST_BYTES) {
-        size_t room = MOST_BYTES + 1 - file->content.length;
+    while (is_good && length > 0 && file->content.length <= MOST_BYTES + MARK_BYTES) {
+        size_t room = MOST_BYTES + MARK_BYTES + 1 - file->content.length;
         size_t wanted = room < 65536 ? room : 65536;
         is_good = bytes_reserve(&file->content, wanted) &&
                   source_read(&source, file->content.data + file->content.length, wanted, &length, &fault);
         file->content.length += is_good ? length : 0;
     }
-    if (!is_good) {
+    if (is_good) {
+        bytes_cut_front(&file->content, mark_length(file->content.data, file->content.length));
+    } else if (fault.kind != FAULT_DEVICE) {
+        out_of_memory(files);
+    } else {
         struct bytes line = NO_BYTES;
-        bytes_format(&line, "cannot read file %s: %s", bytes_text(&file->path), fault.kind == FAULT_NONE ? "out of memory" : bytes_text(&fault.what));
+        bytes_format(&line, "cannot read file %s: %s", bytes_text(&file->path), bytes_text(&fault.what));
         problem(files, STATUS_FAILED, &line);
         bytes_free(&line);
     }
@@ -95,11 +113,11 @@ static bool read_content(struct schema_files *files, struct schema_file *file) {
     return is_good;
 }
 
-/* Keeps a literal of the schema as a value to try. It is written as in the PYX. */
-static void keep_value(struct schema_files *files, const struct bytes *literal) {
+/* Keeps a literal of the schema as a value to try. It is written as in the PYX. False: out of memory. */
+static bool keep_value(struct schema_files *files, const struct bytes *literal) {
     struct bytes value = NO_BYTES;
     if (files->value_count == MOST_VALUES || literal->length > MOST_VALUE_BYTES) {
-        return;
+        return true;
     }
     for (size_t at = 0; at < literal->length; at++) {
         char byte = literal->data[at];
@@ -109,35 +127,50 @@ static void keep_value(struct schema_files *files, const struct bytes *literal) 
         bytes_add_byte(&value, byte == '\n' ? 'n' : byte == '\t' ? 't' : byte);
     }
     const char *text = bytes_text(&value);
-    bool is_kept = value.failed;
+    bool is_failed = value.failed;
+    bool is_kept = is_failed;
     for (size_t at = 0; at < files->value_count && !is_kept; at++) {
-        is_kept = files->values[at] == NULL || strcmp(files->values[at], text) == 0;
+        is_kept = strcmp(files->values[at], text) == 0;
     }
     if (is_kept) {
         bytes_free(&value);
-        return;
+    } else {
+        files->values[files->value_count++] = value.data; /* the list owns the bytes from here on */
     }
-    files->values[files->value_count++] = value.data; /* the list owns the bytes from here on */
+    return is_failed ? out_of_memory(files) : true;
 }
 
-/* How many datatypes were loosened in the file, as rncv-profile writes into it. */
-static unsigned long long loosened_of(const struct bytes *content) {
+/* Adds the counts of a line `N datatypes loosened, see ..` or `N datatypes tightened, see ..`. Each may be followed by the other. */
+static void add_changes(struct schema_files *files, struct span line) {
+    static const char word[] = "tightened";
+    const char *end = line.data + line.length;
+    for (const char *at = line.data; at < end && *at >= '0' && *at <= '9';) {
+        unsigned long long count = 0;
+        for (; at < end && *at >= '0' && *at <= '9'; at++) {
+            count = count < 100000000 ? count * 10 + (unsigned long long)(*at - '0') : count;
+        }
+        const char *comma = memchr(at, ',', (size_t)(end - at));
+        const char *last = comma == NULL ? end : comma;
+        bool is_tightened = (size_t)(last - at) > sizeof word - 1 && memcmp(last - (sizeof word - 1), word, sizeof word - 1) == 0;
+        files->tightened += is_tightened ? count : 0;
+        files->loosened += is_tightened ? 0 : count;
+        at = comma == NULL ? end : comma + 1 + (comma + 1 < end && comma[1] == ' ');
+    }
+}
+
+/* Adds how many datatypes were changed in the file, as rncv-profile writes into it. */
+static void take_changes(struct schema_files *files, const struct bytes *content) {
     static const char mark[] = "# rncv-profile: ";
-    unsigned long long sum = 0;
     const char *end = content->data + content->length;
     for (const char *line = content->data; line != NULL && line < end;) {
-        size_t left = (size_t)(end - line);
-        if (left > sizeof mark && memcmp(line, mark, sizeof mark - 1) == 0) {
-            unsigned long long count = 0;
-            for (const char *at = line + sizeof mark - 1; at < end && *at >= '0' && *at <= '9' && count < 100000000; at++) {
-                count = count * 10 + (unsigned long long)(*at - '0');
-            }
-            sum += count;
+        const char *feed = memchr(line, '\n', (size_t)(end - line));
+        size_t length = (size_t)((feed == NULL ? end : feed) - line);
+        length -= length > 0 && line[length - 1] == '\r';
+        if (length > sizeof mark && memcmp(line, mark, sizeof mark - 1) == 0) {
+            add_changes(files, (struct span){line + sizeof mark - 1, length - (sizeof mark - 1)});
         }
-        const char *feed = memchr(line, '\n', left);
         line = feed == NULL ? NULL : feed + 1;
     }
-    return sum;
 }
 
 static const char *mapped(const struct schema_request *request, const struct bytes *words) {
@@ -162,8 +195,8 @@ static bool is_given(const struct schema_request *request, const struct bytes *w
 /* Takes one more file that the words may mean. False: they may mean two, and the problem is noted. */
 static bool add_candidate(struct collecting *collecting, struct meaning *meaning, const char *path) {
     if (meaning->file.length == 0) {
-        bytes_add_text(&meaning->file, path);
-        return true;
+        add_path(&meaning->file, path);
+        return meaning->file.failed ? out_of_memory(collecting->files) : true;
     }
     if (is_same(bytes_text(&meaning->file), path)) {
         return true;
@@ -176,54 +209,70 @@ static bool add_candidate(struct collecting *collecting, struct meaning *meaning
     return false;
 }
 
+static bool try_path(struct collecting *collecting, struct meaning *meaning, const char *path) {
+    return !is_file(path) || add_candidate(collecting, meaning, path);
+}
+
 /* Finds the file that the words mean. There may be none. False: there is a problem. */
 static bool find_meaning(struct collecting *collecting, struct meaning *meaning) {
     const char *file = mapped(collecting->request, &meaning->words);
     struct ways ways;
     struct bytes normal = NO_BYTES;
-    bool is_good = true;
     if (file != NULL) {
-        bytes_add_text(&meaning->file, file);
-        return true;
+        return add_candidate(collecting, meaning, file);
     }
-    ways_of(&ways, &meaning->words, bytes_text(&collecting->files->list[meaning->by].path));
+    bool is_good = ways_of(&ways, &meaning->words, bytes_text(&collecting->files->list[meaning->by].path)) || out_of_memory(collecting->files);
     for (size_t at = 0; at < ways.count && is_good; at++) {
         const char *way = bytes_text(&ways.list[at]);
         add_normal(&normal, way);
-        is_good = (!is_file(way) || add_candidate(collecting, meaning, way)) &&
-                  (!is_file(bytes_text(&normal)) || add_candidate(collecting, meaning, bytes_text(&normal)));
+        const char *shorter = bytes_text(&normal);
+        is_good = normal.failed ? out_of_memory(collecting->files)
+                                : try_path(collecting, meaning, way) && try_path(collecting, meaning, shorter);
     }
-    if (is_good && is_given(collecting->request, &meaning->words) && is_file(bytes_text(&meaning->words))) {
-        is_good = add_candidate(collecting, meaning, bytes_text(&meaning->words));
+    if (is_good && is_given(collecting->request, &meaning->words)) {
+        const char *words = bytes_text(&meaning->words);
+        is_good = meaning->words.failed ? out_of_memory(collecting->files) : try_path(collecting, meaning, words);
     }
+    /* a path that was cut short by that would be another one */
+    bool has_failed = meaning->words.failed || meaning->file.failed || ways.list[0].failed || ways.list[1].failed || normal.failed;
     ways_free(&ways);
     bytes_free(&normal);
-    return is_good;
+    return has_failed ? out_of_memory(collecting->files) : is_good;
 }
 
-/* Notes where a missing file was looked for, if it is the first one. */
-static void keep_missing(struct collecting *collecting, const struct meaning *meaning, size_t at) {
+/* The place of the byte in the file. */
+static struct place place_of(const struct bytes *content, size_t at) {
+    struct place place = {1, 1};
+    for (size_t byte = 0; byte < at && byte < content->length; byte++) {
+        char here = content->data[byte];
+        bool ends = here == '\n' || (here == '\r' && (byte + 1 >= content->length || content->data[byte + 1] != '\n'));
+        place.line += ends;
+        place.column = ends ? 1 : place.column + (((unsigned char)here & 0xC0) != 0x80);
+    }
+    return place;
+}
+
+/* Notes where a missing file was looked for, if it is the first one. False: out of memory. */
+static bool keep_missing(struct collecting *collecting, const struct meaning *meaning, size_t at) {
     struct missing *missing = &collecting->files->missing;
     struct schema_file *by = &collecting->files->list[meaning->by];
     struct ways ways;
     if (missing->is_there) {
-        return;
+        return true;
     }
     missing->is_there = true;
+    missing->place = place_of(&by->content, at);
     add_bytes(&missing->name, &meaning->words);
-    add_bytes(&missing->path, &by->path);
-    ways_of(&ways, &meaning->words, bytes_text(&by->path));
+    add_path(&missing->path, bytes_text(&by->path));
+    bool is_good = ways_of(&ways, &meaning->words, bytes_text(&by->path));
     if (ways.count > 0) {
         add_normal(&missing->sought, bytes_text(&ways.list[ways.count - 1]));
     }
     ways_free(&ways);
-    missing->place = (struct place){1, 1};
-    for (size_t byte = 0; byte < at && byte < by->content.length; byte++) {
-        char here = by->content.data[byte];
-        bool ends = here == '\n' || (here == '\r' && (byte + 1 >= by->content.length || by->content.data[byte + 1] != '\n'));
-        missing->place.line += ends;
-        missing->place.column = ends ? 1 : missing->place.column + (((unsigned char)here & 0xC0) != 0x80);
-    }
+    bytes_text(&missing->name); /* the room for a zero after each */
+    bytes_text(&missing->sought);
+    is_good = is_good && !missing->name.failed && !missing->path.failed && !missing->sought.failed;
+    return is_good || out_of_memory(collecting->files);
 }
 
 /* Adds what the words mean, for a line. */
@@ -278,13 +327,16 @@ static bool hand_in(struct collecting *collecting, struct meaning *meaning) {
         add_bytes(&name, &files->list[0].name);
         bytes_free(&files->list[0].name);
         files->list[0].name = name;
+        if (name.failed) {
+            return out_of_memory(files);
+        }
     }
     for (size_t at = 0; at < files->count; at++) {
         if (is_equal(&files->list[at].name, &meaning->words)) {
             /* a file that is given by these words and does not exist is taken from beside the file that mentions it */
             if (at > 0 && !is_same(bytes_text(&files->list[at].path), path)) {
                 bytes_clear(&files->list[at].path);
-                bytes_add_text(&files->list[at].path, path);
+                add_path(&files->list[at].path, path);
             }
             return files->list[at].path.failed ? out_of_memory(files) : true;
         }
@@ -294,6 +346,9 @@ static bool hand_in(struct collecting *collecting, struct meaning *meaning) {
 
 /* Takes one mention, which is at this offset in the file. */
 static bool take_mention(struct collecting *collecting, struct meaning *meaning, size_t at) {
+    if (meaning->words.failed) {
+        return out_of_memory(collecting->files);
+    }
     if (!is_utf_8(meaning->words.data, meaning->words.length)) {
         return true; /* the library refuses the file */
     }
@@ -309,8 +364,7 @@ static bool take_mention(struct collecting *collecting, struct meaning *meaning,
         return false;
     }
     if (meaning->file.length == 0) {
-        keep_missing(collecting, meaning, at);
-        return true;
+        return keep_missing(collecting, meaning, at);
     }
     return hand_in(collecting, meaning);
 }
@@ -340,8 +394,7 @@ static bool take_mentions(struct collecting *collecting, size_t index, struct to
         size_t at = token.at;
         if (token.kind == TOKEN_LITERAL) {
             read_literal(tokens, &token, &meaning.words);
-            keep_value(collecting->files, &meaning.words);
-            is_good = !is_mention || take_mention(collecting, &meaning, at);
+            is_good = keep_value(collecting->files, &meaning.words) && (!is_mention || take_mention(collecting, &meaning, at));
             is_mention = false;
         } else {
             depth += is_sign(&token, '[') - is_sign(&token, ']');
@@ -354,17 +407,72 @@ static bool take_mentions(struct collecting *collecting, size_t index, struct to
     return is_good;
 }
 
+/* Adds a command that makes a schema in the compact syntax of one in the XML syntax. */
+static void add_trang(struct bytes *line, const char *path) {
+    size_t length = strlen(path);
+    bool has_end = length > 4 && strcmp(path + length - 4, ".rng") == 0;
+    bytes_add_text(line, has_end ? "trang " : "trang -I rng ");
+    add_shown(line, path, length, SIZE_MAX);
+    bytes_add_byte(line, ' ');
+    add_shown(line, path, has_end ? length - 4 : length, SIZE_MAX);
+    bytes_add_text(line, ".rnc");
+}
+
+/* Says that the file is XML and no schema, and if it is the main file, that the schema comes first. */
+static void add_document(struct bytes *line, const struct collecting *collecting, size_t index) {
+    bytes_add_text(line, "this is an XML document and no schema");
+    if (index == 0) {
+        const char *later = collecting->request->later;
+        bytes_add_text(line, ": the schema comes first");
+        if (later != NULL) {
+            bytes_add_text(line, "; the words are swapped (");
+            add_shown(line, later, strlen(later), SIZE_MAX);
+            bytes_add_text(line, " comes after it)");
+        }
+    }
+}
+
+/* Whether the file may be a schema in the compact syntax, in UTF-8. If not, notes what it is. */
+static bool is_compact(struct collecting *collecting, size_t index) {
+    struct schema_file *file = &collecting->files->list[index];
+    const char *path = bytes_text(&file->path);
+    enum writing writing;
+    struct bytes line = NO_BYTES;
+    if (!writing_of(file->content.data, file->content.length, &writing)) {
+        return out_of_memory(collecting->files);
+    }
+    if (writing == WRITING_COMPACT) {
+        return true;
+    }
+    if (writing == WRITING_UTF_16) {
+        bytes_add_text(&line, "this is UTF-16; rncv-xml reads schemas in UTF-8 (iconv -f UTF-16 -t UTF-8 converts it)");
+    } else if (writing == WRITING_RELAX_NG || (file->path.length > 4 && strcmp(path + file->path.length - 4, ".rng") == 0)) {
+        bytes_add_text(&line, "this is a schema in the XML syntax; rncv-xml reads the compact syntax (");
+        add_trang(&line, path);
+        bytes_add_text(&line, " converts it)");
+    } else if (writing == WRITING_XML_SCHEMA) {
+        bytes_add_text(&line, "this is a W3C XML Schema; rncv-xml reads RELAX NG in the compact syntax");
+    } else {
+        add_document(&line, collecting, index);
+    }
+    add_path(&collecting->files->problem_path, path);
+    line.failed |= collecting->files->problem_path.failed;
+    problem(collecting->files, STATUS_REFUSED, &line);
+    bytes_free(&line);
+    return false;
+}
+
 /* Reads a file, and takes what it mentions. From a file that is too large it takes nothing: the library refuses it. */
 static bool take_file(struct collecting *collecting, size_t index) {
     struct tokens tokens;
     struct schema_file *file = &collecting->files->list[index];
-    if (!read_content(collecting->files, file)) {
+    if (!read_content(collecting->files, file) || !is_compact(collecting, index)) {
         return false;
     }
     if (file->content.length > MOST_BYTES) {
         return true;
     }
-    collecting->files->loosened += loosened_of(&file->content);
+    take_changes(collecting->files, &file->content);
     bool is_good = tokens_open(&tokens, file->content.data, file->content.length) || out_of_memory(collecting->files);
     is_good = is_good && take_mentions(collecting, index, &tokens);
     tokens_close(&tokens);
@@ -397,7 +505,7 @@ bool schema_files_collect(struct schema_files *files, const struct schema_reques
     for (size_t at = 0; is_good && at < sizeof simple / sizeof *simple; at++) {
         struct bytes value = NO_BYTES;
         bytes_add_text(&value, simple[at]);
-        keep_value(files, &value);
+        is_good = value.failed ? out_of_memory(files) : keep_value(files, &value);
         bytes_free(&value);
     }
     for (size_t at = 0; is_good && at < files->count && at <= MOST_FILES; at++) {
@@ -409,6 +517,23 @@ bool schema_files_collect(struct schema_files *files, const struct schema_reques
     }
     free(collecting.meanings);
     return is_good && !files->failed;
+}
+
+bool schema_files_add_values(struct schema_files *files, const char *text, size_t length) {
+    struct tokens tokens;
+    bool is_good = tokens_open(&tokens, text, length);
+    for (struct token token = is_good ? tokens_next(&tokens) : (struct token){.kind = TOKEN_NONE}; token.kind != TOKEN_NONE;) {
+        struct bytes literal = NO_BYTES;
+        if (token.kind == TOKEN_LITERAL) {
+            read_literal(&tokens, &token, &literal);
+            keep_value(files, &literal);
+        } else {
+            token = tokens_next(&tokens);
+        }
+        bytes_free(&literal);
+    }
+    tokens_close(&tokens);
+    return is_good;
 }
 
 int32_t schema_files_compile(const struct schema_files *files, rncv_schema *schema, rncv_fault *fault) {
@@ -448,5 +573,6 @@ void schema_files_free(struct schema_files *files) {
     bytes_free(&files->missing.name);
     bytes_free(&files->missing.sought);
     bytes_free(&files->problem);
+    bytes_free(&files->problem_path);
     memset(files, 0, sizeof *files);
 }

@@ -35,10 +35,12 @@ struct schema_files {
     size_t capacity;
     struct missing missing; /* the first one, in the order in which the library needs files */
     struct bytes problem;   /* why no schema can be made from the files: a line without the program's name */
+    struct bytes problem_path; /* the file that the problem is about; empty: it is not about one file */
     int problem_status;     /* the exit status for that */
     char **values;          /* literals of the files, as values of attributes in the PYX */
     size_t value_count;
-    unsigned long long loosened; /* how many datatypes were loosened in the files, as rncv-profile says in them */
+    unsigned long long loosened;  /* how many datatypes were loosened in the files, as rncv-profile says in them */
+    unsigned long long tightened; /* .. and tightened */
     bool failed;            /* memory ran out */
 };
 
@@ -48,10 +50,14 @@ struct schema_request {
     size_t given_count;
     const struct mapping *mappings;
     size_t mapping_count;
+    const char *later; /* a later word that has the name of a schema; NULL: there is none */
 };
 
 /* False: `problem` says why. */
 bool schema_files_collect(struct schema_files *files, const struct schema_request *request);
+
+/* Adds the literals of a text to the values. False: out of memory. */
+bool schema_files_add_values(struct schema_files *files, const char *text, size_t length);
 
 /* Compiles the files. Returns the status of the library, or RNCV_MEMORY if there is no memory for the call. */
 int32_t schema_files_compile(const struct schema_files *files, rncv_schema *schema, rncv_fault *fault);

@@ -1,11 +1,116 @@
 #include "schema_tokens.h"
 
+#include "conversion.h"
+
 #include <stdlib.h>
 #include <string.h>
 
 /* What an escaped line feed and an escaped carriage return are while tokens are read: they end no line and no literal. XML has neither of these two
  * characters. */
 enum { HIDDEN_FEED = 1, HIDDEN_RETURN = 2 };
+
+enum { LINES_BYTES = 65536 }; /* of PYX, to find the tag of a root in */
+
+size_t mark_length(const char *bytes, size_t length) {
+    return length >= 3 && memcmp(bytes, "\xEF\xBB\xBF", 3) == 0 ? 3 : 0;
+}
+
+/* Whether the first bytes are a byte order mark of UTF-16, or two ASCII characters in UTF-16. */
+static bool is_utf_16(const char *bytes, size_t length) {
+    bool is_marked = length >= 2 && (memcmp(bytes, "\xFF\xFE", 2) == 0 || memcmp(bytes, "\xFE\xFF", 2) == 0);
+    bool is_little = length >= 4 && bytes[0] != '\0' && bytes[1] == '\0' && bytes[2] != '\0' && bytes[3] == '\0';
+    bool is_big = length >= 4 && bytes[0] == '\0' && bytes[1] != '\0' && bytes[2] == '\0' && bytes[3] != '\0';
+    return is_marked || is_little || is_big;
+}
+
+/* XML that is read up to its root element. */
+struct reading {
+    struct span left;
+    struct bytes lines; /* of its PYX */
+};
+
+static bool give(void *context, char *bytes, size_t size, size_t *length, struct fault *fault) {
+    struct reading *reading = context;
+    (void)fault;
+    *length = reading->left.length < size ? reading->left.length : size;
+    memcpy(bytes, reading->left.data, *length);
+    reading->left = (struct span){reading->left.data + *length, reading->left.length - *length};
+    return true;
+}
+
+static bool take(void *context, const struct piece *piece) {
+    struct reading *reading = context;
+    bytes_add(&reading->lines, piece->bytes, piece->length);
+    return reading->lines.length < LINES_BYTES && !reading->lines.failed;
+}
+
+static void drop_note(void *context, struct place place, const char *what) {
+    (void)context;
+    (void)place;
+    (void)what;
+}
+
+/* The namespace of the root, up to the line's end, if its tag declares it; else an empty text. */
+static const char *root_namespace(const char *lines) {
+    const char *prefix = NULL;
+    size_t length = 0;
+    for (const char *line = lines; *line == '?' || *line == '(' || *line == 'A'; line += strcspn(line, "\n"), line += *line == '\n') {
+        if (*line == '(') {
+            if (prefix != NULL) {
+                break; /* an element in the root */
+            }
+            prefix = line + 1;
+            length = strcspn(prefix, ":\n");
+            length = prefix[length] == ':' ? length : 0;
+        } else if (prefix != NULL && *line == 'A' && strncmp(line + 1, "xmlns", 5) == 0) {
+            const char *declared = line + 6 + (length > 0 && line[6] == ':');
+            if (strncmp(declared, prefix, length) == 0 && declared[length] == ' ') {
+                return declared + length + 1;
+            }
+        }
+    }
+    return "";
+}
+
+static bool is_line(const char *line, const char *text) {
+    return strncmp(line, text, strlen(text)) == 0 && line[strlen(text)] == '\n';
+}
+
+/* Finds out what kind of XML it is. If it is not well formed before the root's tag ends, it is any kind. */
+static bool xml_of(const char *bytes, size_t length, enum writing *writing) {
+    struct reading reading = {{bytes, length}, NO_BYTES};
+    struct fault fault = NO_FAULT;
+    convert(&(struct giver){give, &reading, NULL}, &(struct taker){take, drop_note, &reading}, &fault);
+    const char *uri = root_namespace(bytes_text(&reading.lines));
+    *writing = is_line(uri, "http://relaxng.org/ns/structure/1.0") ? WRITING_RELAX_NG
+               : is_line(uri, "http://www.w3.org/2001/XMLSchema")  ? WRITING_XML_SCHEMA
+                                                                   : WRITING_XML;
+    bool is_good = !reading.lines.failed && fault.kind != FAULT_MEMORY;
+    bytes_free(&reading.lines);
+    fault_free(&fault);
+    return is_good;
+}
+
+/* The XML in the bytes, without blanks before it; nothing if there is none. */
+static struct span xml_in(const char *bytes, size_t length, bool is_wide) {
+    size_t at = 0;
+    if (is_wide) {
+        at = (unsigned char)bytes[0] >= 0xFE ? 2 : 0; /* behind the mark */
+        bool is_xml = at + 1 < length && (memcmp(bytes + at, "<\0", 2) == 0 || memcmp(bytes + at, "\0<", 2) == 0);
+        return (struct span){bytes, is_xml ? length : 0};
+    }
+    while (at < length && (bytes[at] == ' ' || bytes[at] == '\t' || bytes[at] == '\n' || bytes[at] == '\r')) {
+        at++;
+    }
+    return (struct span){bytes + at, at < length && bytes[at] == '<' ? length - at : 0};
+}
+
+bool writing_of(const char *bytes, size_t length, enum writing *writing) {
+    bool is_wide = length > 0 && is_utf_16(bytes, length);
+    *writing = is_wide ? WRITING_UTF_16 : WRITING_COMPACT;
+    struct span xml = length > 0 ? xml_in(bytes, length, is_wide) : (struct span){NULL, 0};
+    return xml.length == 0 || xml_of(xml.data, xml.length, writing);
+}
 
 static int digit_of(char byte) {
     return byte >= '0' && byte <= '9' ? byte - '0' : byte >= 'a' && byte <= 'f' ? byte - 'a' + 10 : byte >= 'A' && byte <= 'F' ? byte - 'A' + 10 : -1;

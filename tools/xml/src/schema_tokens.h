@@ -1,10 +1,24 @@
-/* The tokens of a schema's file in the compact syntax, as far as they are needed to find the files that it mentions. */
+/* How a schema's file is written, and its tokens in the compact syntax, as far as they are needed to find the files that it mentions. */
 #ifndef SCHEMA_TOKENS_H
 #define SCHEMA_TOKENS_H
 
 #include "bytes.h"
 
 #include <stdint.h>
+
+enum writing {
+    WRITING_COMPACT,    /* as far as the first bytes say */
+    WRITING_UTF_16,
+    WRITING_XML,
+    WRITING_RELAX_NG,   /* the XML syntax of RELAX NG */
+    WRITING_XML_SCHEMA  /* W3C XML Schema */
+};
+
+/* The length of the byte order mark of UTF-8 at the start; 0 if there is none. */
+size_t mark_length(const char *bytes, size_t length);
+
+/* Finds out how a file is written from its first bytes, and from the namespace of the root if it is XML. False: out of memory. */
+bool writing_of(const char *bytes, size_t length, enum writing *writing);
 
 enum token_kind {
     TOKEN_NONE, /* the end, or something that is no token: the library says which */

@@ -12,9 +12,11 @@ struct trail {
     bool has_tag; /* the tag may have more lines */
     struct place tag_place;
     struct bytes tag;
+    struct bytes lines; /* of the tag: those of declarations are whole, and of other attributes there is only the name */
     bool has_text;
     struct place text_place;
-    struct bytes text; /* its first characters, as in the PYX */
+    struct bytes text; /* its first characters from one that is no blank, as in the PYX; empty if all are blanks */
+    bool is_full;      /* no more of it is kept */
     bool has_before;   /* a text is directly before the last tag */
     struct place before_place;
     struct bytes before;
@@ -30,8 +32,9 @@ struct told {
     struct bytes tag; /* the element's name */
     bool has_text;    /* before the tag, if it reports one */
     struct place text_place;
-    struct bytes text;
+    struct bytes text; /* empty if it is blank */
     struct bytes name; /* of the line itself */
+    struct bytes lines; /* of the tag that the line belongs to, up to this line, as in the trail */
 };
 
 /* Finds what the line with this number reports. `trail` is that of the start of the piece. */

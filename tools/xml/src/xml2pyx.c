@@ -7,13 +7,14 @@
 #include <string.h>
 #include <unistd.h>
 
-static const char usage[] = "usage: xml2pyx [--lines FILE] DOCUMENT.xml";
+static const char usage[] = "usage: xml2pyx [--dtd] [--lines FILE] DOCUMENT.xml";
 
 static const char help[] =
-    "usage: xml2pyx [--lines FILE] DOCUMENT.xml\n"
+    "usage: xml2pyx [--dtd] [--lines FILE] DOCUMENT.xml\n"
     "\n"
     "Writes the PYX of an XML document to standard output. `-` is standard input.\n"
     "\n"
+    "  --dtd         read the external DTD and external entities, from files\n"
     "  --lines FILE  write here, for each line of the PYX, `LINE COLUMN` of the XML\n"
     "  --help        this text\n"
     "  --version     the version\n"
@@ -25,12 +26,13 @@ struct options {
     const char *document;
     const char *lines;
     const char *told; /* a text to print instead */
+    bool loads_dtd;
 };
 
 /* False: the words are wrong. */
 static bool options_of(int count, char **words, struct options *options) {
     bool is_option = true;
-    *options = (struct options){NULL, NULL, NULL};
+    *options = (struct options){NULL, NULL, NULL, false};
     for (int at = 1; at < count; at++) {
         const char *word = words[at];
         if (is_option && strcmp(word, "--") == 0) {
@@ -39,6 +41,8 @@ static bool options_of(int count, char **words, struct options *options) {
             options->told = help;
         } else if (is_option && strcmp(word, "--version") == 0) {
             options->told = "xml2pyx " PROGRAM_VERSION "\n";
+        } else if (is_option && strcmp(word, "--dtd") == 0) {
+            options->loads_dtd = true;
         } else if (is_option && strcmp(word, "--lines") == 0 && at + 1 < count) {
             options->lines = words[++at];
         } else if (is_option && strncmp(word, "--lines=", 8) == 0) {
@@ -56,6 +60,7 @@ struct writing {
     const char *document;
     struct output pyx;
     struct output lines; /* without a file if no places are wanted */
+    bool is_note_lost;   /* for want of memory */
 };
 
 static bool put(void *context, const struct piece *piece) {
@@ -72,34 +77,41 @@ static bool put(void *context, const struct piece *piece) {
 }
 
 static void note(void *context, struct place place, const char *what) {
-    const struct writing *writing = context;
+    struct writing *writing = context;
     struct bytes line = NO_BYTES;
     bytes_format(&line, "%s:%" PRIu64 ":%" PRIu64 ": note: %s", writing->document, place.line, place.column, what);
-    tell_line(bytes_text(&line));
+    const char *text = bytes_text(&line);
+    writing->is_note_lost |= line.failed;
+    if (!line.failed) {
+        tell_line(text);
+    }
     bytes_free(&line);
 }
 
 /* Reports a fault, and returns the exit status. */
 static int told(const char *document, struct fault *fault) {
     struct bytes line = NO_BYTES;
-    bool is_document = fault->kind == FAULT_MALFORMED || fault->kind == FAULT_OUTSIDE;
     if (fault->kind == FAULT_NONE) {
         return STATUS_VALID;
     }
+    const char *what = fault->kind == FAULT_MEMORY ? "out of memory" : bytes_text(&fault->what);
+    bool is_document = fault->kind == FAULT_MALFORMED || fault->kind == FAULT_OUTSIDE;
     if (is_document) {
-        bytes_format(&line, "%s:%" PRIu64 ":%" PRIu64 ": %s", document, fault->place.line, fault->place.column, bytes_text(&fault->what));
+        bytes_format(&line, "%s:%" PRIu64 ":%" PRIu64 ": %s", document, fault->place.line, fault->place.column, what);
     } else if (strcmp(document, "-") == 0) {
-        bytes_format(&line, "xml2pyx: %s", bytes_text(&fault->what));
+        bytes_format(&line, "xml2pyx: %s", what);
     } else {
-        bytes_format(&line, "xml2pyx: %s: %s", bytes_text(&fault->what), document);
+        bytes_format(&line, "xml2pyx: %s: %s", what, document);
     }
-    tell_line(bytes_text(&line));
+    const char *text = bytes_text(&line);
+    tell_line(line.failed ? "xml2pyx: out of memory" : text);
+    is_document &= !line.failed;
     bytes_free(&line);
     return is_document ? STATUS_MALFORMED : STATUS_FAILED;
 }
 
 static int run(const struct options *options, struct streams streams) {
-    struct writing writing = {options->document, {"xml2pyx", 1, streams.output_is_closed, NO_BYTES}, {"xml2pyx", -1, false, NO_BYTES}};
+    struct writing writing = {options->document, {"xml2pyx", 1, streams.output_is_closed, NO_BYTES}, {"xml2pyx", -1, false, NO_BYTES}, false};
     struct fault fault = NO_FAULT;
     struct source source;
     if (options->lines != NULL) {
@@ -112,11 +124,14 @@ static int run(const struct options *options, struct streams streams) {
         }
     }
     if (source_open(&source, options->document, streams, &fault)) {
-        convert(&(struct giver){source_read, &source}, &(struct taker){put, note, &writing}, &fault);
+        convert(&(struct giver){source_read, &source, options->loads_dtd ? beside(options->document) : NULL}, &(struct taker){put, note, &writing}, &fault);
         source_close(&source);
     }
     if (writing.lines.file >= 0 && close(writing.lines.file) != 0) {
         fault_set(&fault, FAULT_DEVICE, (struct place){0, 0}, "%s", strerror(errno));
+    }
+    if (writing.is_note_lost) {
+        fault_set(&fault, FAULT_MEMORY, (struct place){0, 0}, "out of memory");
     }
     int status = told(options->document, &fault);
     bytes_free(&writing.pyx.waiting);

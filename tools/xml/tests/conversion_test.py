@@ -5,6 +5,7 @@ import subprocess
 import time
 import unittest
 
+import differences
 import generated
 from testing import HERE, TOP, XML2PYX, InFolder, peak_of, processor_seconds
 
@@ -85,7 +86,7 @@ class Conversion(Converted):
         self.assertEqual(self.fault(f'<{"a" * 65_536}/>'), (1, 1, "name of more than 65,536 bytes: outside the profile"))
 
     def test_malformed(self):
-        self.assertEqual(self.fault("<a>\n</b>"), (2, 3, "malformed XML: mismatched tag"))
+        self.assertEqual(self.fault("<a>\n</b>"), (2, 1, "malformed XML: mismatched tag: </b> where <a> is open"))
 
     def test_pieces_of_one_byte(self):
         for data in ("<?xml version='1.0'?><a x='1'>\u00e9<![CDATA[]]]]>&lt;</a>".encode(), "<a>\u20ac<b/></a>".encode("utf-16"),
@@ -126,14 +127,14 @@ class Encodings(Converted):
                 found = self.fault(f'<?xml version="1.0" encoding="{encoding}"?><a>~{{+AGE-</a>')
                 self.assertEqual(found, (1, 1, f"the encoding '{encoding}' is not served"))
         found = self.fault('<?xml version="1.0" encoding="UTF-16"?><a/>')[2]
-        self.assertEqual(found, "malformed XML: encoding specified in XML declaration is incorrect")
+        self.assertEqual(found, "malformed XML: the document is not in the encoding that its declaration names")
 
     def test_what_is_not_of_the_encoding(self):
         for encoding, text in (("EUC-JP", b"\xa4"), ("EUC-JP", b"\xff"), ("Shift_JIS", b"\x82"), ("GB18030", b"\x81\x20"), ("windows-1252", b"\x81")):
             data = b'<?xml version="1.0" encoding="' + encoding.encode() + b'"?>\n<a>ab' + text + b"</a>"
             with self.subTest(encoding=encoding, text=text):
                 row, column, what = self.fault(data)
-                self.assertEqual((row, column, what), (2, 6, "malformed XML: not well-formed (invalid token)"))
+                self.assertEqual((row, column, what), (2, 6, "malformed XML: bytes that are no character of the encoding"))
 
     def test_bytes_that_are_read_in_two_ways(self):
         declared = b'<?xml version="1.0" encoding="Shift_JIS"?><a>'
@@ -181,8 +182,8 @@ class UnreadDtd(Converted):
 
     def test_entities_in_entities(self):
         self.undeclared('<!DOCTYPE a SYSTEM "d" [<!ENTITY e "&f;"><!ENTITY f "&#38;ext;">]><a x="&e;"/>', (1, 67))
-        self.undeclared('<!DOCTYPE a SYSTEM "d" [<!ENTITY e "<b x=\'&ext;\'/>">]><a>&e;</a>', (1, 36))
-        self.undeclared('<!DOCTYPE a SYSTEM "d" [<!ENTITY e "&#60;b y=\'\' x=\'&#38;ext;\'/>">]><a>&e;</a>', (1, 36))
+        self.undeclared('<!DOCTYPE a SYSTEM "d" [<!ENTITY e "<b x=\'&ext;\'/>">]><a>&e;</a>', (1, 58))
+        self.undeclared('<!DOCTYPE a SYSTEM "d" [<!ENTITY e "&#60;b y=\'\' x=\'&#38;ext;\'/>">]><a>&e;</a>', (1, 71))
 
     def test_entities_in_text(self):
         found = self.fault('<!DOCTYPE a [<!ENTITY e SYSTEM "f.xml">]><a>&e;</a>')[2]
@@ -217,23 +218,23 @@ class UnreadDtd(Converted):
 
     def test_entities_that_grow(self):
         laughs = '<!ENTITY e0 "ha">' + "".join(f'<!ENTITY e{number + 1} "{f"&e{number};" * 20}">' for number in range(9))
-        self.assertRegex(self.fault(f"<!DOCTYPE a [{laughs}]><a>&e9;</a>")[2], "not read: limit on input amplification")
+        self.assertRegex(self.fault(f"<!DOCTYPE a [{laughs}]><a>&e9;</a>")[2], "entities of more than 100 times the document's length: outside the profile")
         self.assertEqual(self.fault('<!DOCTYPE a [<!ENTITY e "&f;"><!ENTITY f "&e;">]><a x="&e;"/>')[2], "malformed XML: recursive entity reference")
 
     def test_entities_that_are_deep(self):
-        for count in (999, 1_001, 100_000):
+        for count in (499, 501, 100_000):
             for mark, name in (("&#38;", ""), ("&#37;", "% ")):
                 chain = f'<!ENTITY {name}e0 "">' + "".join(f'<!ENTITY {name}e{number + 1} "{mark}e{number};">' for number in range(count))
                 last = f"]><a>&e{count};</a>" if name == "" else f"%e{count};]><a/>"
                 _, _, told, status = self.converted(f"<!DOCTYPE a [{chain}{last}")
-                limit = "more than 1000 entities that refer to others: outside the profile"
-                self.assertEqual((status, told[-1:] == [] or told[-1].endswith(limit)), (0 if count < 1_000 else 2, True), told)
+                limit = "more than 500 entities that refer to others: outside the profile"
+                self.assertEqual((status, told[-1:] == [] or told[-1].endswith(limit)), (0 if count < 500 else 2, True), told)
 
     def test_a_document_that_stands_alone(self):
         declared = '<?xml version="1.0" standalone="yes"?>'
         subset = '<!ENTITY % p SYSTEM "d">%p;<!ATTLIST a own CDATA "d">'
         self.assertEqual(self.converted(f'{declared}<!DOCTYPE a [{subset}]><a/>')[0], b"(a\nAown d\n)a\n")
-        self.assertEqual(self.fault(f'{declared}<!DOCTYPE a SYSTEM "d"><a x="&ext;"/>')[2], "malformed XML: undefined entity")
+        self.assertEqual(self.fault(f'{declared}<!DOCTYPE a SYSTEM "d"><a x="&ext;"/>')[2], "malformed XML: entity 'ext' is not declared")
 
     def test_what_is_not_loaded_is_told(self):
         for subset, notes in (('SYSTEM "d"', 1), ('[<!ENTITY % p SYSTEM "e">%p;]', 1), ('SYSTEM "d" [<!ENTITY % p SYSTEM "e">%p;]', 2), ("[%p;]", 1),
@@ -242,20 +243,112 @@ class UnreadDtd(Converted):
             self.assertEqual((len(told), status), (notes, 0), subset)
 
 
+class Declared(Converted):
+    """What the declarations of a document mean, where libxml2 reads them otherwise or takes long."""
+
+    def test_the_first_declaration_counts(self):
+        self.assertEqual(self.pyx('<!DOCTYPE a [<!ATTLIST a xmlns CDATA #IMPLIED><!ATTLIST a xmlns CDATA "u" x CDATA "1" x CDATA "2">]><a/>'), b"(a\nAx 1\n)a\n")
+        self.assertEqual(self.pyx('<!DOCTYPE a [<!ATTLIST a xmlns:p CDATA "u"><!ATTLIST a xmlns:p CDATA "v">]><a/>'), b"(a\nAxmlns:p u\n)a\n")
+
+    def test_system_identifiers_that_are_no_uri(self):
+        for identifier in ("a b", "a|b", "<!ENTITY x |"):
+            found = self.fault(f'<!DOCTYPE a [<!ENTITY % p SYSTEM "{identifier}"><!ENTITY % p "<!ENTITY f \'y\'>">%p;]><a>&f;</a>')[2]
+            self.assertEqual(found, "a reference behind a parameter entity whose system identifier is no URI: outside the profile")
+            self.assertEqual(self.pyx(f'<!DOCTYPE a [<!ENTITY % p SYSTEM "{identifier}">]><a/>'), b"(a\n)a\n")
+            self.assertEqual(self.pyx(f'<!DOCTYPE a [<!ENTITY e SYSTEM "{identifier}">]><a/>'), b"(a\n)a\n")
+
+    def test_entities_that_are_declared_again(self):
+        declared = '<?xml version="1.0" standalone="yes"?><!DOCTYPE a [{}<!ENTITY % p "<!ENTITY e \'y\'>">%p;]><a>&e;</a>'
+        self.assertEqual(self.pyx(declared.format('<!ENTITY e "x">')), b"(a\n-x\n)a\n")
+        self.assertRegex(self.fault(declared.format(""))[2], "entity 'e' is declared in a parameter entity, and the document stands alone")
+
+    def test_markup_in_entities(self):
+        self.assertEqual(self.pyx(f'<!DOCTYPE a [<!ENTITY e "<!-- {"=" * 300} -->">]><a>&e;</a>'), b"(a\n)a\n")
+        attributes = " ".join(f"a{number}=''" for number in range(60_000))
+        begun = processor_seconds()
+        for before in ("", "<!-- ' -->", "<?p '?>", "<![CDATA[']]>"):
+            found = self.fault(f'<!DOCTYPE a [<!ENTITY e "{before}<x {attributes}/>">]><a>&e;</a>')[2]
+            self.assertEqual(found, "over a limit of this program: a tag has more than 256 attributes and declarations")
+        self.assertLess(processor_seconds() - begun, 3)
+
+    def test_long_declarations(self):
+        choices = "|".join(f"n{number}" for number in range(100_000))
+        blanks = "\n" * 4_000_000
+        begun = processor_seconds()
+        for text in (f"<!DOCTYPE a [<!ATTLIST a x ({choices}) #IMPLIED>]><a/>", f"<!DOCTYPE a [<!ENTITY % p '<!ATTLIST a x ({choices}) #IMPLIED>'>%p;]><a/>"):
+            self.assertEqual(self.fault(text)[2], "over a limit of this program: a declaration has more than 10,000 choices")
+        for text in (f"<a/>{blanks}", f"<!DOCTYPE a [{blanks}]><a/>", f"<!-- -->{blanks}<a/>"):
+            self.assertEqual(self.pyx(text), b"(a\n)a\n")
+        self.assertLess(processor_seconds() - begun, 4)
+
+
+class LoadedDtd(Converted):
+    """With `--dtd` the external DTD and external entities are read, from files."""
+
+    FILES = {
+        "d.dtd": b"<?xml encoding='UTF-8'?>\n<!ENTITY % atts \"x CDATA 'dx'\">\n<!ENTITY % more SYSTEM 'low%20er/more.ent'>\n%more;\n"
+                 b"<![%inc;[<!ATTLIST a %atts;>]]>\n<![IGNORE[<!ATTLIST a bad CDATA 'no'>]]>\n<!ENTITY ext 'from dtd'>\n"
+                 b"<!ENTITY chapter SYSTEM 'low%20er/chapter.xml'>\n",
+        "low er/more.ent": b"<!ENTITY % inc 'INCLUDE'>\n<!ENTITY near SYSTEM 'near.xml'>\n",
+        "low er/chapter.xml": "<?xml version='1.0' encoding='ISO-8859-1'?>\r\n<p>caf\u00e9\r\n&ext;</p>".encode("latin-1"),
+        "low er/near.xml": b"near&#13;!",
+    }
+
+    def loaded(self, text, folder="."):
+        """What `xml2pyx --dtd` makes of a document in a folder, and its status."""
+        for name, data in self.FILES.items():
+            (self.folder / name).parent.mkdir(exist_ok=True)
+            self.write(name, data)
+        self.write("d.xml", text)
+        run = subprocess.run([XML2PYX, "--dtd", os.path.relpath(self.folder / "d.xml", self.folder / folder)], cwd=self.folder / folder,
+                             capture_output=True, timeout=60, check=False)
+        return run.stdout.decode(), run.stderr.decode(), run.returncode
+
+    def test_what_is_read(self):
+        text = '<!DOCTYPE a SYSTEM "d.dtd">\n<a t="&ext;">&ext; &chapter;&near;&chapter;</a>'
+        chapter = "(p\n-caf\u00e9\\nfrom dtd\n)p\n"
+        wanted = f"(a\nAt from dtd\nAx dx\n-from dtd \\n\n{chapter}-near\r!\\n\n{chapter})a\n", "", 0
+        self.assertEqual(self.loaded(text), wanted)
+        self.assertEqual(self.loaded(text, "low er"), wanted)
+        self.assertEqual(self.loaded('<!DOCTYPE a [<!ENTITY % d SYSTEM "d.dtd">%d;<!ATTLIST a y CDATA "own">]><a/>'), ("(a\nAx dx\nAy own\n)a\n", "", 0))
+        self.assertEqual(self.loaded('<!DOCTYPE a [<!ENTITY e SYSTEM "low%20er/chapter.xml"><!ENTITY ext "own">]><a>&e;</a>')[0].count("own"), 1)
+
+    def test_what_is_not_read(self):
+        self.write("large.dtd", b" " * 17_000_000)
+        os.mkfifo(self.folder / "pipe")
+        (self.folder / "low er").mkdir()
+        for system, why in (("none.dtd", "No such file or directory"), ("http://example.org/d.dtd", "nothing is fetched"), ("pipe", "it is no file"),
+                            ("low%20er", "it is no file"), ("large.dtd", "it has more than 16,777,216 bytes")):
+            for text in (f'<!DOCTYPE a SYSTEM "{system}"><a/>', f'<!DOCTYPE a [<!ENTITY e SYSTEM "{system}">]><a>&e;</a>',
+                         f'<!DOCTYPE a [<!ENTITY % e SYSTEM "{system}">%e;]><a/>'):
+                out, errors, status = self.loaded(text)
+                self.assertEqual((errors.split(": ", 1)[1], status), (f"'{system}' is not loaded, {why}: outside the profile\n", 2), text)
+
+    def test_what_is_malformed_there(self):
+        for name, data in (("d.dtd", b"\xef\xbb\xbf" * 2), ("d.dtd", b"<?xml encoding='UTF-8'?>" * 2), ("d.dtd", b"<!ELEMENT a"), ("d.dtd", b"\xff"), ("d.dtd", b"<?xml version='1.0'?>"), ("d.dtd", b"%d;<!ENTITY % d SYSTEM 'd.dtd'>%d;"),
+                           ("low er/near.xml", b"<p>"), ("low er/near.xml", b"&near;"), ("low er/near.xml", b"\0")):
+            self.FILES = {**LoadedDtd.FILES, name: data}
+            self.assertEqual(self.loaded('<!DOCTYPE a SYSTEM "d.dtd"><a>&near;</a>')[2], 2, data)
+
+    def test_entities_that_grow(self):
+        self.FILES = {**LoadedDtd.FILES, "large.xml": b"x" * 100_000}
+        entities = '<!ENTITY e0 SYSTEM "large.xml">' + "".join(f'<!ENTITY e{number + 1} "{f"&e{number};" * 20}">' for number in range(6))
+        self.assertRegex(self.loaded(f"<!DOCTYPE a [{entities}]><a>&e6;</a>")[1], "entities of more than 100 times")
+
+
 class SecondOpinion(Converted):
     """The converter in Python gives the same."""
 
     def same(self, data, what):
         out, places, told, status = self.converted(data)
         wanted, wanted_told, wanted_status = second_opinion(data)
-        if any("encoding" in line or "byte order mark" in line for line in (*told, *wanted_told)):
-            return  # more encodings are served here
-        with self.subTest(what):
-            self.assertEqual(status, wanted_status, (told, wanted_told))
-            self.assertEqual([line for line in told if "note" not in line], [line for line in wanted_told if "note" not in line])
+        if differences.has_lone_surrogates(data):
+            self.assertEqual(status, 2, what)
+        elif status != wanted_status:
+            self.assertTrue(differences.is_explained(data, told, wanted and wanted[0], wanted_told), (what, told, wanted_told))
+        elif status == 0:
             self.assertEqual(len(told), len(wanted_told))
-            if wanted is not None:
-                self.assert_same((out, places), wanted, what)
+            self.assert_same(differences.unordered(out, places), differences.unordered(*wanted), what)
 
     def test_generated_documents_and_their_mutants(self):
         for seed in range(DOCUMENTS):
@@ -282,17 +375,18 @@ class Costs(Converted):
     """Time and memory grow with the document as they should."""
 
     def test_time_of_long_markup(self):
-        for begin, end in (("<a><!--", "--></a>"), ("<a><?t ", "?></a>"), ("<!DOCTYPE a [<!--", "-->]><a/>"), ("<a><![CDATA[", "]]></a>"),
-                           ("<a>", "</a>")):
+        # a comment, an instruction and CDATA are held as a whole, and a text is not
+        for begin, end, most in (("<a><!--", "--></a>", 131_072), ("<a><?t ", "?></a>", 131_072), ("<!DOCTYPE a [<!--", "-->]><a/>", 131_072),
+                                 ("<a><![CDATA[", "]]></a>", 131_072), ("<a>", "</a>", 16_384)):
             path = self.write("long.xml", begin + "x" * 20_000_000 + end)
             begun = processor_seconds()
             peak, status = peak_of([XML2PYX, path])
             self.assertEqual(status, 0)
             self.assertLess(processor_seconds() - begun, 3, begin)
-            self.assertLess(peak, 16_384, begin)
+            self.assertLess(peak, most, begin)
 
     def test_limit_of_markup(self):
-        for begin, unit in (('<a x="', " "), ("<a ", " "), ("<b", "b"), ("<?xml version='1.0' ", " "), ("<!DOCTYPE a [<!ENTITY e '", "x"),
+        for begin, unit in (('<a x="', " "), ("<a ", " "), ("<b", "b"), ("<!DOCTYPE a [<!ENTITY e '", "x"),
                             ("<a>&", "e")):
             begun = processor_seconds()
             self.assertRegex(self.fault(begin + unit * 20_000_000)[2], "markup of more than 16,777,216 bytes", begin)
@@ -311,7 +405,7 @@ class Programs(InFolder):
         out, _, status = self.run_in(XML2PYX, "good.xml", "--lines", "places")
         self.assertEqual((out, status), ("(a\nAx 1\n-\\n  \n(b\n)b\n-\\n\n)a\n", 0))
         self.assertEqual((self.folder / "places").read_text(), "2 1\n2 1\n2 10\n3 3\n3 7\n3 7\n4 1\n")
-        self.assertEqual(self.run_in(XML2PYX, "cut.xml")[1:], ("cut.xml:3:3: malformed XML: mismatched tag\n", 2))
+        self.assertEqual(self.run_in(XML2PYX, "cut.xml")[1:], ("cut.xml:3:1: malformed XML: mismatched tag: </a> where <b> is open\n", 2))
 
     def test_words(self):
         self.assertEqual(self.run_in(XML2PYX)[2], 5)

@@ -7,6 +7,7 @@ ENCODINGS = ("utf-8", "utf-8", "utf-8", "utf-8-sig", "utf-16", "utf-16-le", "iso
 LATIN = str.maketrans({"\u4e2d": "c", "\u6587": "d", "\u0436": "z", "\u20ac": "e", "\U0001f600": "f", "\u0301": "g"})
 ASCII = str.maketrans({"\u00e9": "e"})
 CHARACTERS = "abc  xyz019.,;:-_?!\n\n\t\\'\u00e9\u4e2d\u20ac\U0001f600\u0301"
+EVERY = frozenset("".join((*NAMES, CHARACTERS)))
 REFERENCES = ("&lt;", "&amp;", "&gt;", "&quot;", "&apos;", "&#9;", "&#10;", "&#x41;", "&#92;", "&#x20AC;")
 
 

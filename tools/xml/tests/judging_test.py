@@ -38,7 +38,44 @@ class Lines(InFolder):
         self.invalid('element a { element b { "x" } }', "<a>\n <b/></a>", "2:2: invalid: at the end of <b>")
         self.invalid("element a { element b { empty }, element c { empty } }", "<a>\n <b/>\n </a>", "3:2: invalid: at the end of <a>")
         self.invalid("element a { mixed { element b { empty } } }", "<a>\n text </a>", "2:7: invalid: at the end of <a>")
-        self.invalid("element a { element b { empty }* }", "<a>\n <b/> text <b/></a>", '2:6: invalid: at text " text "')
+        self.invalid("element a { element b { empty }* }", "<a>\n <b/> text <b/></a>", '2:7: invalid: at text "text "')
+
+    def test_a_text_begins_behind_its_blanks(self):
+        listed = "element a { element b { empty }* }"
+        self.invalid(listed, "<a>\n <b/>\n\n\t  stray\n<b/></a>", '4:4: invalid: at text "stray\\n"')
+        self.invalid(listed, "<a>\r\n <b/>\r\n\r  stray</a>", '4:3: invalid: at text "stray"')
+        self.invalid(listed, "<a>\n t&#228;xt &amp; \u00e9</a>", '2:2: invalid: at text "t\u00e4xt & \u00e9"')
+        self.invalid(listed, "<a>\n <?i\n?>\n <?i?> <?i?>\n  stray<?i?> and more<b/></a>", '5:3: invalid: at text "stray and more"')
+        self.invalid(listed, f"<a>{' ' * 100_000}\n stray</a>", '2:2: invalid: at text "stray"')
+        self.invalid(listed, f"<a>\n{'&#13; ' * 50_000}\n stray</a>", '3:2: invalid: at text "stray"')
+        self.invalid("element a { element b { xsd:integer } }", "<a><b>\n  12x</b></a>", '2:3: invalid: at text "12x"')
+        self.invalid("element a { element b { xsd:integer } }", "<a><b>\n \t</b></a>", "2:3: invalid: at the end of <b>")
+
+    def test_a_text_is_never_told_beyond_its_line(self):
+        """Blanks that are written as references, or come from an entity, do not move a line down."""
+        listed = "element a { element b { empty }* }"
+        for xml in ("<a>\n<b/>&#10;&#10;stray</a>", "<a>\n<b/>&#10; stray\n\n\n</a>", "<a>\n<b/>&blanks;stray</a>", "<a>\n<b/>&all;</a>",
+                    "<a>\n<b/>&all;<b/></a>", "<a>\n<b/><![CDATA[ stray]]></a>", "<a>\n<b/>&tags;</a>"):
+            self.write("t.rnc", listed)
+            entities = "<!DOCTYPE a [<!ENTITY blanks '&#10;&#10; '><!ENTITY all '&#10;&#10; stray'><!ENTITY tags '&#10; stray<b/>'>]>"
+            self.write("d.xml", entities + xml)
+            out, status = self.judge("t.rnc", "d.xml")
+            self.assertEqual(status, 1)
+            self.assertRegex(out, r'^d\.xml:2:\d+: invalid: at text "stray(\\n){0,3}"\n$', xml)
+
+    def test_a_text_that_is_not_allowed_at_an_end(self):
+        """The text before an end tag is told if it is wrong whatever follows it, and the end if something is missing after it."""
+        text, end = '2:5: invalid: at text "two"', "2:8: invalid: at the end of <i>"
+        for content, told in (("empty", text), ("element j { empty }", text), ("element j { empty }*", text), ("element j { empty }, text", text),
+                              ("xsd:NCName { minLength = '100' }", text), ("xsd:NCName { minLength = '100' } | element j { empty }", text),
+                              ("list { xsd:NCName, xsd:integer, xsd:integer, xsd:integer }", text), ("attribute x { text }?", text),
+                              ("text, element j { empty }", end), ("mixed { element j { empty } }", end), ("mixed { element * { empty } }", end),
+                              ("mixed { element * - (j | k) { empty } }", end), ("mixed { element * - j { empty } }", end),
+                              ("mixed { element j { attribute k { text } } }", end), ('element j { " text " }, element text { text }', text)):
+            self.invalid(f"element a {{ element i {{ {content} }} }}", "<a>\n <i>two</i></a>", told)
+        twice = "element a { mixed { element j { empty }, element k { empty } } }"
+        self.invalid(twice, "<a>one<j/>two</a>", "1:14: invalid: at the end of <a>")
+        self.invalid("element a { text, element j { empty }, element k { empty } }", "<a>one<j/>two</a>", '1:11: invalid: at text "two"')
 
     def test_attributes(self):
         hours = 'element a { attribute at { xsd:integer { minInclusive = "0" maxInclusive = "23" } }, attribute k { "on" | "off" }? }'
@@ -52,20 +89,88 @@ class Lines(InFolder):
     def test_long_texts_are_shown_by_their_beginning(self):
         self.invalid("element a { xsd:integer }", f"<a>{'x' * 100}</a>", f'1:4: invalid: at text "{"x" * 40}.."')
 
+    def test_a_long_text_is_cut_between_characters(self):
+        for before in range(5):
+            for unit in ("\u00e9", "\u20ac", "\U0001f600", "\t", "\\", "\n"):
+                text = "x" * (before + 1) + unit * 600
+                self.write("t.rnc", "element a { xsd:integer }")
+                self.write("d.xml", f"<a>{text}</a>")
+                out, _ = self.judge("--format", "json", "t.rnc", "d.xml")
+                name = json.loads(out)["name"]
+                self.assertTrue(len(name) > 100 and text.startswith(name), name)
+                name.encode("utf-8")
+
     def test_malformed(self):
-        self.assertEqual(self.judge("s.rnc", "cut.xml"), ("cut.xml:3:3: malformed XML: mismatched tag\n", 2))
+        self.assertEqual(self.judge("s.rnc", "cut.xml"), ("cut.xml:3:1: malformed XML: mismatched tag: </a> where <b> is open\n", 2))
         self.assertEqual(self.line(SCHEMA, '<a x="1">\n<p:b/></a>'), (
+            "d.xml:2:1: malformed P11: the prefix 'p' is not declared (NS 5), see docs/CLAUSES.md\n", 2))
+        self.assertEqual(self.line(SCHEMA, '<a x="1">\n<c/></b>'), ("d.xml:2:5: malformed XML: mismatched tag: </b> where <a> is open\n", 2))
+
+    def test_clauses_in_the_words_of_xml(self):
+        for document, told in (
+                ("<p:a:b/>", "P6: the name of the element 'p:a:b' is no QName (NS 4)"),
+                ("<a p:x:y=''/>", "P6: the name of the attribute 'p:x:y' is no QName (NS 4)"),
+                ("<a y='' :x='' z=''/>", "P6: the name of the attribute ':x' is no QName (NS 4)"),
+                ("<a xmlns:p='u' p:x='' q:y=''/>", "P11: the prefix 'q' is not declared (NS 5)"),
+                (f"<a q='{'u' * 100_000}'/>", "attribute of more than 65,536 bytes: outside the profile"),
+                ("<a y='' xmlns:p='u' p:x='' xmlns:q='u' q:x=''/>", "P12: the attributes 'p:x' and 'q:x' have one name (NS 6.3)")):
+            wanted = f"malformed {told}, see docs/CLAUSES.md" if told[0] == "P" else told
+            self.assertEqual(self.line("element a { empty }", document), (f"d.xml:1:1: {wanted}\n", 2))
+
+    def test_the_first_fault_counts(self):
+        """What the reader of PYX refuses comes before what is malformed behind it."""
+        self.assertEqual(self.line("element a { empty }", "<a><p:b/></b>"), (
+            "d.xml:1:4: malformed P11: the prefix 'p' is not declared (NS 5), see docs/CLAUSES.md\n", 2))
+
+    def test_forbidden_declarations(self):
+        xml, xmlns = "http://www.w3.org/XML/1998/namespace", "http://www.w3.org/2000/xmlns/"
+        for declaration in ("xmlns:p=''", "xmlns:xml='u'", f"xmlns:p='{xml}'", f"xmlns='{xml}'", f"xmlns='{xmlns}'", f"xmlns:p='{xmlns}'", "xmlns:xmlns='u'"):
+            self.assertRegex(self.line("element a { empty }", f"<a {declaration}/>")[0], "malformed XML: ")
+        self.assertEqual(self.line("element a { empty }", f"<a xmlns:xml='{xml}'/>"), ("", 0))
+
+    def test_the_prefix_that_is_not_declared(self):
+        """Of several prefixes that the tag does not declare itself, the one that no tag around it declares."""
+        page = "<a xmlns:s='s'>{}<b xmlns:t='t'><t:c/></b>\n<s:b xml:lang='' s:x='' {}=''/></a>"
+        for filling in ("", "<!-- -->" * 3_000, "<b y='1'>text</b>" * 3_000):
+            self.assertEqual(self.line("element a { empty }", page.format(filling, "t:x")), (
+                "d.xml:2:1: malformed P11: the prefix 't' is not declared (NS 5), see docs/CLAUSES.md\n", 2))
+        twice = "<a xmlns:s='s' xmlns:t='s' xmlns:v='v'>{}\n<s:b v:x='' t:x='' v:y='' s:x=''/></a>"
+        for filling in ("", "<b y='1'>text</b>" * 3_000):
+            self.assertEqual(self.line("element a { empty }", twice.format(filling)), (
+                "d.xml:2:1: malformed P12: the attributes 't:x' and 's:x' have one name (NS 6.3), see docs/CLAUSES.md\n", 2))
+        many = "<b y='1'>text and more text</b>" * 60_000
+        self.assertEqual(self.line("element a { empty }", page.format(many, "t:x")), (
             "d.xml:2:1: malformed P11: prefixes are declared, and no declaration is a forbidden one (NS 3, 5), see docs/CLAUSES.md\n", 2))
-        self.assertEqual(self.line(SCHEMA, '<a x="1">\n<c/></b>'), ("d.xml:2:7: malformed XML: mismatched tag\n", 2))
+        self.assertEqual(self.line("element a { empty }", f"<a>{many}\n<t:b/></a>"), (
+            "d.xml:2:1: malformed P11: the prefix 't' is not declared (NS 5), see docs/CLAUSES.md\n", 2))
+
+    def test_a_tag_in_several_pieces(self):
+        """The names are known also if the tag's lines come in several pieces, or its last line ends a piece."""
+        for size in (*range(21_830, 21_845), 60_000):
+            values = " ".join(f"x{number}='{'y' * size}'" for number in range(3))
+            self.assertEqual(self.line("element a { empty }", f"<a>\n<b {values} p:z=''/></a>"), (
+                "d.xml:2:1: malformed P11: the prefix 'p' is not declared (NS 5), see docs/CLAUSES.md\n", 2), size)
 
     def test_limits_say_which(self):
+        over = "over a limit of this program:"
         self.assertEqual(self.line("start = a a = element a { a? }", "<a>" * 513 + "</a>" * 513), (
-            "d.xml:1:1537: malformed P10: more than 512 elements are open, see docs/CLAUSES.md\n", 2))
+            f"d.xml:1:1537: {over} more than 512 elements are open\n", 2))
         attributes = " ".join(f'a{number}=""' for number in range(257))
         self.assertEqual(self.line("element a { attribute * { text }* }", f"<a {attributes}/>"), (
-            "d.xml:1:1: malformed P10: a tag has more than 256 attributes and declarations, see docs/CLAUSES.md\n", 2))
+            f"d.xml:1:1: {over} a tag has more than 256 attributes and declarations\n", 2))
         self.assertEqual(self.line("element a { text }", f"<a>{'x' * 1_100_000}</a>"), (
-            "d.xml:1:4: malformed P10: a text has more than 1,048,576 bytes, see docs/CLAUSES.md\n", 2))
+            f"d.xml:1:4: {over} a text has more than 1,048,576 bytes\n", 2))
+        found = json.loads(self.judge("--format", "json", "t.rnc", "d.xml")[0])
+        self.assertEqual((found["verdict"], found["clause"]), ("outside", "P10"))
+
+    def test_pyx_is_not_xml(self):
+        self.write("pyx", "(a\nAx 1\n)a\n")
+        self.write("other", "a\n(a\n")
+        out, status = self.judge("s.rnc", "pyx", "other", "cut.xml")
+        lines = out.splitlines()
+        self.assertEqual(status, 2)
+        self.assertRegex(lines[0], r"^pyx:1:1: malformed XML: .*; this looks like PYX: rncv reads PYX$")
+        self.assertEqual([line for line in lines[1:] if "PYX" in line], [])
 
     def test_outside_the_profile(self):
         self.write("e.rnc", 'element a { attribute x { "" }? }\n')
@@ -78,7 +183,20 @@ class Lines(InFolder):
             "behind.xml:1:49: a declaration behind a parameter entity that is not loaded: outside the profile\n"
             "plain.xml: valid\n", 2))
         self.assertEqual(errors.splitlines()[-1],
-                         "plain.xml:1:29: note: the external DTD 'def.dtd' is not loaded: its entities and attribute defaults are not there")
+                         "plain.xml:1:1: note: the external DTD 'def.dtd' is not loaded: its entities and attribute defaults are not there")
+
+    def test_strict(self):
+        self.write("e.rnc", 'element a { attribute x { "" }? }\n')
+        self.write("plain.xml", '<!DOCTYPE a SYSTEM "def.dtd"><a x=""/>')
+        self.write("wrong.xml", '<!DOCTYPE a SYSTEM "def.dtd"><a y=""/>')
+        self.write("cut.xml", '<!DOCTYPE a SYSTEM "def.dtd"><a>')
+        self.write("own.xml", '<!DOCTYPE a [<!ATTLIST a x CDATA "">]><a/>')
+        words = "the external DTD 'def.dtd' is not loaded: its entities and attribute defaults are not there"
+        self.assertEqual(self.judge("--all", "--strict", "e.rnc", "plain.xml", "wrong.xml", "own.xml"), (
+            f"plain.xml:1:1: {words}\nwrong.xml:1:1: {words}\nown.xml: valid\n", 2))
+        self.assertEqual(self.judge("-q", "--strict", "e.rnc", "plain.xml"), ("", 2))
+        self.assertEqual(self.judge("-q", "e.rnc", "plain.xml"), ("", 0))
+        self.assertRegex(self.judge("--strict", "e.rnc", "cut.xml")[0], r"^cut\.xml:1:\d+: malformed XML: ")
 
     def test_the_words_of_today(self):
         self.assertEqual(self.judge("--all", "s.rnc", "--", "good.xml"), ("good.xml: valid\n", 0))
@@ -114,7 +232,7 @@ class Batches(InFolder):
             self.assertEqual((status, len(lines)), (4, len(self.names)))
             self.assertEqual(lines[:2] + lines[4:5] + lines[6:], [
                 "bogus.xml:1:1: the encoding 'bogus' is not served", "utf7.xml:1:1: the encoding 'UTF-7' is not served",
-                "empty.xml:1:1: malformed XML: no element found", "folder.xml: it is a folder: --recursive judges the documents in folders",
+                "empty.xml:1:1: malformed XML: no root element", "folder.xml: it is a folder: --recursive judges the documents in folders",
                 "none.xml: No such file or directory", "Shift_JIS.xml: valid", "EUC-JP.xml: valid", "GB18030.xml: valid", "good.xml: valid"])
             self.assertNotIn("Traceback", out)
 
@@ -174,7 +292,7 @@ class Batches(InFolder):
 
     def test_standard_input(self):
         self.assertEqual(self.judge("--all", "s.rnc", "-", given=b'<a x=""/>'), ("-: valid\n", 0))
-        self.assertEqual(self.judge("--stdin-name", "page.xml", "s.rnc", "-", given=b"<a>\n</b>"), ("page.xml:2:3: malformed XML: mismatched tag\n", 2))
+        self.assertEqual(self.judge("--stdin-name", "page.xml", "s.rnc", "-", given=b"<a>\n</b>"), ("page.xml:2:1: malformed XML: mismatched tag: </b> where <a> is open\n", 2))
         twice = "-: standard input is named twice, and can be read only once\n"
         for jobs in ("1", "3"):
             self.assertEqual(self.judge("-j", jobs, "--all", "s.rnc", "-", "-", "good.xml", given=b'<a x=""/>'), (
@@ -213,7 +331,61 @@ class Formats(InFolder):
         self.write("a,b:c.xml", "<a>\n</b>")
         self.assertEqual(self.judge("--format", "github", "s.rnc", "bad.xml", "a,b:c.xml", "good.xml"), (
             "::error file=bad.xml,line=3,col=3,title=invalid::invalid: at <c>\n"
-            "::error file=a%2Cb%3Ac.xml,line=2,col=3,title=malformed::malformed XML: mismatched tag\n", 2))
+            "::error file=a%2Cb%3Ac.xml,line=2,col=1,title=malformed::malformed XML: mismatched tag: </b> where <a> is open\n", 2))
+
+    def test_notes(self):
+        """What was not read is told in each format; as text it is for people, on standard error."""
+        self.write("e.rnc", 'element a { attribute x { "" }? }\n')
+        self.write("noted.xml", '<!DOCTYPE a SYSTEM "def.dtd">\n<a y=""/>')
+        self.write("plain.xml", "<a/>")
+        words = "the external DTD 'def.dtd' is not loaded: its entities and attribute defaults are not there"
+        line = f"noted.xml:1:1: note: {words}\n"
+        self.assertEqual(self.run_in(RNCV_XML, "e.rnc", "noted.xml"), ("noted.xml:2:1: invalid: at attribute y\n", line, 1))
+        out, errors, _ = self.run_in(RNCV_XML, "--format", "json", "e.rnc", "noted.xml", "plain.xml")
+        found = [json.loads(each) for each in out.splitlines()]
+        self.assertEqual((found[0]["notes"], errors), ([{"line": 1, "column": 1, "message": words}], ""))
+        self.assertEqual(found[1], {"file": "plain.xml", "verdict": "valid"})
+        results = json.loads(self.judge("--format", "sarif", "e.rnc", "noted.xml", "plain.xml")[0])["runs"][0]["results"]
+        self.assertEqual([(each["level"], each["ruleId"]) for each in results], [("note", "note"), ("error", "invalid")])
+        self.assertEqual(results[0]["locations"][0]["physicalLocation"], {
+            "artifactLocation": {"uri": "noted.xml"}, "region": {"startLine": 1, "startColumn": 1}})
+        self.assertEqual(self.judge("--format", "github", "e.rnc", "noted.xml", "plain.xml"), (
+            f"::notice file=noted.xml,line=1,col=1,title=note::{words}\n"
+            "::error file=noted.xml,line=2,col=1,title=invalid::invalid: at attribute y\n", 1))
+        found = json.loads(self.judge("--format", "json", "--strict", "e.rnc", "noted.xml")[0])
+        self.assertEqual((found["verdict"], found["line"], found["message"], len(found["notes"])), ("outside", 1, words, 1))
+        self.assertNotIn("at", found)
+
+    def test_a_line_stays_a_line(self):
+        """No reader of lines divides what is printed for a document, and JSON is UTF-8 without halves of characters."""
+        strange = "\u2028\u2029\x85\x7f\u009f\u20ac"
+        self.write("t.rnc", "element a { xsd:integer }")
+        for name, text in ((f"d{strange}\n.xml", f"<a>x{strange}</a>"), ("e.xml", f"<!DOCTYPE a SYSTEM '{strange}'><a>1</a>")):
+            self.write(name, text)
+            for form in ("text", "json", "github", "sarif"):
+                out, errors, _ = self.run_in(RNCV_XML, "--all", "--format", form, "t.rnc", name)
+                if form == "json":
+                    self.assertEqual(len(out.splitlines()), 1)
+                    found = json.loads(out)
+                    self.assertEqual(found["file"], name)
+                    self.assertEqual(found.get("name", ""), f"x{strange}" if "name" in found else "")
+                    json.dumps(found, ensure_ascii=False).encode("utf-8")
+                elif form == "text":
+                    self.assertEqual([len(each.splitlines()) for each in (out, errors) if each], [1] * (1 + (name == "e.xml")))
+                elif form == "sarif":
+                    json.loads(out)
+
+    def test_bytes_that_are_no_utf_8(self):
+        """Only the name of a file has halves of characters in JSON, for its bytes that are no UTF-8."""
+        for name in (b"n\xe2\x82.xml", b"n\xff\xe2\x80\xa8\xe2\x82\xac\x80.xml"):
+            (self.folder / os.fsdecode(name)).write_text("<b/>")
+            found = json.loads(self.judge("--format", "json", "s.rnc", name)[0])
+            self.assertEqual(os.fsencode(found.pop("file")), name)
+            json.dumps(found, ensure_ascii=False).encode("utf-8")
+        (self.folder / os.fsdecode(b"t\xff.rnc")).write_text(f"{SCHEMA}# rncv-profile: 1 datatype loosened, see t.profile.txt\n")
+        found = json.loads(self.judge("--format", "json", b"t\xff.rnc", "good.xml")[0])
+        json.dumps(found, ensure_ascii=False).encode("utf-8")
+        self.assertEqual(found["verdict"], "valid")
 
     def test_color(self):
         self.assertEqual(self.judge("s.rnc", "bad.xml")[0], "bad.xml:3:3: invalid: at <c>\n")
@@ -233,7 +405,7 @@ class Formats(InFolder):
         run = subprocess.run(["script", "-qec", f"sh -c '{command}'", "/dev/null"], cwd=self.folder, stdin=subprocess.DEVNULL, capture_output=True,
                              check=False, env={**os.environ, "NO_COLOR": "1"})
         self.assertIn(b" of 3 documents, 0 MB", run.stdout)
-        self.assertTrue(run.stdout.rstrip().endswith(b"\r\x1b[Kcut.xml:3:3: malformed XML: mismatched tag"), run.stdout)
+        self.assertTrue(run.stdout.rstrip().endswith(b"\r\x1b[Kcut.xml:3:1: malformed XML: mismatched tag: </a> where <b> is open"), run.stdout)
 
 
 class Words(InFolder):
@@ -254,6 +426,7 @@ class Words(InFolder):
             self.assertIn(option.replace("-", "\\-"), page)
         self.assertRegex(self.run_in(RNCV_XML, "--version")[0], r"^rncv-xml \d+\.\d+\.\d+ \(librncv \d+\.\d+\.\d+\)\n$")
         self.assertEqual(self.run_in(RNCV_XML, "-h")[0], out)
+        self.assertEqual(out.splitlines()[-1], "`man rncv-xml` has more. `man rncv` is about the proved program.")
 
     def test_values(self):
         for words in (("-j2",), ("-j", "2"), ("--jobs=2",), ("--jobs", "2")):
@@ -291,7 +464,7 @@ class Ends(InFolder):
         self.write("large.xml", '<a x="1"><!--' + "x" * 3_000_000 + f"--><b/>{' ' * 300_000}<c/></a>")
         self.write("tag.xml", f'<a x="{"y" * 60_000}"><b z="{"q" * 3_000_000}"/></a>')
         seen = set()
-        for size in range(3_000, 60_000, 1_500):
+        for size in range(3_000, 160_000, 3_500):
             run = subprocess.run([sys.executable, "-c", bounded, str(size), RNCV_XML, "-j1", "s.rnc", "large.xml", "tag.xml"], cwd=self.folder,
                                  capture_output=True, check=False)
             seen.add(run.returncode)

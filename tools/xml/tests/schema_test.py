@@ -1,4 +1,5 @@
 """Tests of how `rncv-xml` finds the files of a schema, and of what it says about a schema."""
+import json
 import os
 import unittest
 
@@ -149,7 +150,7 @@ class SchemaFiles(InFolder):
         for texts in ({"c": "c.rnc"}, {"c": "./c.rnc"}, {"c": "d.rnc", "d": "./c.rnc"}, {"c": "../sch/c.rnc"}):
             for name, mention in texts.items():
                 self.schema(f"sch/{name}.rnc", f'include "{mention}"')
-            self.assertRegex(self.answer("sch/c.rnc")[0], "^sch/c.rnc: S9 ")
+            self.assertRegex(self.answer("sch/c.rnc")[0], r"^sch/\S*[cd]\.rnc:1:9: S9 .*: hint: (the file mentions itself|files mention one another): sch/\S*[cd]\.rnc -> ")
         for number in range(65):
             self.schema(f"sch/n{number}.rnc", f'include "n{number + 1}.rnc"')
         self.schema("sch/n65.rnc", f"start = a {ELEMENT}")
@@ -165,8 +166,8 @@ class SchemaFiles(InFolder):
         self.assertEqual(self.run_in(RNCV_XML, "--quiet", "t.rnc", "good.xml"), ("", out, 3))
 
 
-class Loosened(InFolder):
-    """A schema that `rncv-profile` loosened says so."""
+class Changed(InFolder):
+    """A schema that `rncv-profile` loosened or tightened says so."""
 
     def setUp(self):
         super().setUp()
@@ -182,7 +183,31 @@ class Loosened(InFolder):
         many = "feed.xml\n" * 2_000
         self.assertEqual(self.run_in(RNCV_XML, "--files-from", "-", "main.rnc", "good.xml", given=many.encode())[1:], (
             f"2,000 valid, 1 invalid, {told}\n", 1))
-        self.assertEqual(self.run_in(RNCV_XML, "--quiet", "main.rnc", "feed.xml"), ("", "", 0))
+        self.assertEqual(self.run_in(RNCV_XML, "--quiet", "main.rnc", "feed.xml"), (
+            "", "rncv-xml: 3 datatypes were loosened in the schema (see main.profile.txt)\n", 0))
+
+    def test_tightened(self):
+        self.write("b.rnc", "# rncv-profile: 1 datatype tightened, see main.profile.txt\na = attribute x { xsd:token }, attribute y { xsd:token }\n")
+        told = "1 datatype was loosened and 1 datatype was tightened"
+        self.assertEqual(self.run_in(RNCV_XML, "main.rnc", "feed.xml")[1], f"1 valid, by a schema that {told} in (see main.profile.txt)\n")
+        self.assertEqual(self.judge("--strict-profile", "main.rnc", "feed.xml"), (f"main.rnc: {told} in it (see main.profile.txt)\n", 3))
+        for mark in ("# rncv-profile: 2 datatypes tightened, see t.profile.txt\n", "# rncv-profile: 2 tightened\r\n"):
+            self.write("t.rnc", mark + SCHEMA)
+            told = "2 datatypes were tightened"
+            self.assertEqual(self.run_in(RNCV_XML, "t.rnc", "good.xml")[1], f"1 valid, by a schema that {told} in (see t.profile.txt)\n")
+            self.assertEqual(self.judge("--strict-profile", "t.rnc", "good.xml"), (f"t.rnc: {told} in it (see t.profile.txt)\n", 3))
+        self.write("t.rnc", "# rncv-profile: 1 datatype loosened, 2 datatypes tightened, see 3 tightened.profile.txt\n" + SCHEMA)
+        told = "1 datatype was loosened and 2 datatypes were tightened"
+        self.assertEqual(self.judge("--strict-profile", "t.rnc", "good.xml"), (f"t.rnc: {told} in it (see t.profile.txt)\n", 3))
+
+    def test_a_note_in_each_format(self):
+        words = "3 datatypes were loosened in the schema (see main.profile.txt)"
+        out, _, status = self.run_in(RNCV_XML, "--format", "json", "main.rnc", "feed.xml", "good.xml")
+        self.assertEqual(([json.loads(line)["notes"] for line in out.splitlines()], status), ([[{"message": words}]] * 2, 1))
+        results = json.loads(self.judge("--format", "sarif", "main.rnc", "feed.xml")[0])["runs"][0]["results"]
+        self.assertEqual(results, [{"ruleId": "note", "level": "note", "message": {"text": words},
+                                    "locations": [{"physicalLocation": {"artifactLocation": {"uri": "main.rnc"}}}]}])
+        self.assertEqual(self.judge("--format", "github", "main.rnc", "feed.xml"), (f"::notice file=main.rnc,title=note::{words}\n", 0))
 
     def test_strict_profile(self):
         self.assertEqual(self.run_in(RNCV_XML, "--strict-profile", "main.rnc", "feed.xml"), (

@@ -1,0 +1,29 @@
+# Finds the parser of XML, libxml2. It is read by build.sh and library.sh, and sets parser_flags and parser_libs, unless the variables XML2_CFLAGS and XML2_LIBS
+# say where it is, and parser_parts: the sources that convert XML to PYX.
+if [ -n "${XML2_LIBS:-}" ]; then
+    parser_flags=${XML2_CFLAGS:-}
+    parser_libs=$XML2_LIBS
+elif pkg-config --exists libxml-2.0 2> /dev/null; then
+    parser_flags=$(pkg-config --cflags libxml-2.0)
+    parser_libs=$(pkg-config --libs libxml-2.0)
+elif command -v xml2-config > /dev/null; then
+    parser_flags=$(xml2-config --cflags)
+    parser_libs=$(xml2-config --libs)
+else
+    parser_flags=-I/usr/include/libxml2
+    parser_libs=-lxml2
+fi
+parser_parts="bytes fault encodings xml_declaration decoding feed declarations parser_memory parser_words external conversion"
+
+# Whether it is there, and new enough, as a program of a few lines finds in a folder.
+has_parser() {
+    cat > "$1/parser.c" << 'EOF'
+#include <libxml/parser.h>
+#if LIBXML_VERSION < 20910
+#error "too old"
+#endif
+int main(void) { xmlInitParser(); return 0; }
+EOF
+    # shellcheck disable=SC2086  # these are words
+    $cc $parser_flags -o "$1/parser" "$1/parser.c" $parser_libs 2> "$1/parser.log"
+}

@@ -1,0 +1,340 @@
+#include "decoding.h"
+
+#include <string.h>
+
+enum { DECLARATION_BYTES = 65536 };
+
+static void refuse(struct decoding *decoding, enum fault_kind kind, const char *what) {
+    fault_set(&decoding->fault, kind, (struct place){0, 0}, "%s", what);
+}
+
+static void out_of_memory(struct decoding *decoding) {
+    refuse(decoding, FAULT_MEMORY, "out of memory");
+}
+
+/* How long the byte order mark is, and what the first bytes show. */
+static size_t mark_of(const struct bytes *first, enum family *family) {
+    static const struct {
+        enum family family;
+        size_t mark;
+        size_t length;
+        char bytes[5];
+    } starts[] = {
+        {FAMILY_UTF_32_LITTLE, 4, 4, "\xFF\xFE\0\0"}, {FAMILY_UTF_32_BIG, 4, 4, "\0\0\xFE\xFF"}, {FAMILY_UTF_8, 3, 3, "\xEF\xBB\xBF"},
+        {FAMILY_UTF_16_LITTLE, 2, 2, "\xFF\xFE"},     {FAMILY_UTF_16_BIG, 2, 2, "\xFE\xFF"},     {FAMILY_UTF_32_LITTLE, 0, 4, "<\0\0\0"},
+        {FAMILY_UTF_32_BIG, 0, 4, "\0\0\0<"},         {FAMILY_UTF_16_LITTLE, 0, 4, "<\0?\0"},    {FAMILY_UTF_16_BIG, 0, 4, "\0<\0?"},
+        {FAMILY_EBCDIC, 0, 4, "\x4C\x6F\xA7\x94"},
+    };
+    for (size_t at = 0; at < sizeof starts / sizeof *starts; at++) {
+        if (first->length >= starts[at].length && memcmp(first->data, starts[at].bytes, starts[at].length) == 0) {
+            *family = starts[at].family;
+            return starts[at].mark;
+        }
+    }
+    *family = FAMILY_BYTES;
+    return 0;
+}
+
+/* The name that iconv has for the encoding of a family's declaration; NULL: bytes of ASCII. */
+static const char *encoding_of(enum family family) {
+    static const char *const names[] = {NULL, NULL, "UTF-16LE", "UTF-16BE", "UTF-32LE", "UTF-32BE", "CP037"};
+    return names[family];
+}
+
+/* Whether a document of UTF-16 or UTF-32 may declare the encoding. */
+static bool fits_wide(enum family family, struct span encoding) {
+    bool is_little = family == FAMILY_UTF_16_LITTLE || family == FAMILY_UTF_32_LITTLE;
+    if (family == FAMILY_UTF_16_LITTLE || family == FAMILY_UTF_16_BIG) {
+        return is_named(encoding, "utf-16") || is_named(encoding, is_little ? "utf-16le" : "utf-16be") || is_named(encoding, "iso-10646-ucs-2");
+    }
+    return is_named(encoding, "utf-32") || is_named(encoding, is_little ? "utf-32le" : "utf-32be") || is_named(encoding, "iso-10646-ucs-4");
+}
+
+static bool is_utf_8_name(struct span encoding) {
+    return is_named(encoding, "utf-8") || is_named(encoding, "utf8");
+}
+
+static void not_served(struct decoding *decoding, struct span encoding) {
+    fault_set(&decoding->fault, FAULT_OUTSIDE, (struct place){0, 0}, "the encoding '%.*s' is not served", (int)encoding.length, encoding.data);
+}
+
+/* Opens the transcoder for the encoding that the document declares. The bytes of its declaration are ASCII, or EBCDIC. */
+static void open_declared(struct decoding *decoding, struct span encoding) {
+    char name[64];
+    static const char *const wide[] = {"utf-16", "utf-16le", "utf-16be", "iso-10646-ucs-2"};
+    for (size_t at = 0; at < sizeof wide / sizeof *wide; at++) {
+        if (is_named(encoding, wide[at])) {
+            refuse(decoding, FAULT_MALFORMED, "malformed XML: the document is not in the encoding that its declaration names");
+            return;
+        }
+    }
+    if (encoding.length >= sizeof name) {
+        not_served(decoding, encoding);
+        return;
+    }
+    memcpy(name, encoding.data, encoding.length);
+    name[encoding.length] = '\0';
+    bool is_open = decoding->family == FAMILY_EBCDIC ? transcoder_open_any(&decoding->transcoder, name) : transcoder_open(&decoding->transcoder, name);
+    decoding->is_transcoded = is_open;
+    if (!is_open) {
+        not_served(decoding, encoding);
+    }
+}
+
+/* Sets the encoding, after the declaration was read. UTF-16 and UTF-32 have a byte order mark, or the declaration names them. */
+static void set_encoding(struct decoding *decoding, const struct xml_declaration *declaration, bool is_marked) {
+    struct span encoding = declaration->encoding;
+    const char *wide = encoding_of(decoding->family);
+    if (declaration->wrong != NULL) {
+        fault_set(&decoding->fault, FAULT_MALFORMED, (struct place){0, 0}, "malformed XML: %s", declaration->wrong);
+    } else if (declaration->is_there && is_named(declaration->version, "1.1")) {
+        refuse(decoding, FAULT_OUTSIDE, "XML 1.1: outside the profile");
+    } else if (decoding->family == FAMILY_EBCDIC) {
+        open_declared(decoding, encoding.data == NULL ? (struct span){"cp037", 5} : encoding);
+    } else if (wide != NULL && encoding.data == NULL && !is_marked) {
+        fault_set(&decoding->fault, FAULT_MALFORMED, (struct place){0, 0},
+                  "malformed XML: %.6s without a byte order mark, which its declaration does not name", wide);
+    } else if (wide != NULL && encoding.data != NULL && !fits_wide(decoding->family, encoding)) {
+        refuse(decoding, FAULT_MALFORMED, "malformed XML: the document is not in the encoding that its declaration names");
+    } else if (wide != NULL) {
+        decoding->is_transcoded = transcoder_open_any(&decoding->transcoder, wide);
+        if (!decoding->is_transcoded) {
+            not_served(decoding, (struct span){wide, strlen(wide)});
+        }
+    } else if (decoding->family == FAMILY_UTF_8 && encoding.data != NULL && !is_utf_8_name(encoding)) {
+        fault_set(&decoding->fault, FAULT_OUTSIDE, (struct place){0, 0},
+                  "the byte order mark says UTF-8, and the declaration %.*s: outside the profile", (int)encoding.length, encoding.data);
+    } else if (encoding.data != NULL && !is_utf_8_name(encoding)) {
+        open_declared(decoding, encoding);
+    }
+}
+
+/* Adds the start of the document to `text`, in ASCII where its family has ASCII. False: out of memory. */
+static bool add_start(const struct decoding *decoding, size_t mark, struct bytes *text) {
+    const char *encoding = encoding_of(decoding->family);
+    struct transcoder transcoder;
+    if (encoding == NULL) {
+        bytes_add(text, decoding->first.data + mark, decoding->first.length - mark);
+        return !text->failed;
+    }
+    if (transcoder_open_any(&transcoder, encoding)) {
+        bool is_good = transcoder_add(&transcoder, decoding->first.data + mark, decoding->first.length - mark, text) != DECODED_NO_MEMORY;
+        transcoder_close(&transcoder);
+        return is_good;
+    }
+    return !text->failed;
+}
+
+/* Whether the text may be the start of an XML declaration, and is too short to tell. */
+static bool may_begin(const struct bytes *text) {
+    static const char start[] = "<?xml ";
+    return text->length < sizeof start - 1 && (text->length == 0 || memcmp(text->data, start, text->length) == 0);
+}
+
+/* Finds the encoding in the first bytes, if they are enough. */
+static void find_encoding(struct decoding *decoding, bool is_end) {
+    struct bytes text = NO_BYTES;
+    if (decoding->first.length < 4 && !is_end) {
+        return;
+    }
+    size_t mark = mark_of(&decoding->first, &decoding->family);
+    if (!add_start(decoding, mark, &text)) {
+        out_of_memory(decoding);
+    } else if (is_end || !may_begin(&text)) {
+        struct xml_declaration declaration = xml_declaration_of((struct span){text.data, text.length}, decoding->is_external);
+        decoding->is_known = is_end || !declaration.is_there || declaration.is_whole;
+        if (decoding->is_known) {
+            set_encoding(decoding, &declaration, mark > 0);
+            decoding->dropped = decoding->is_external ? declaration.length : 0;
+            bytes_cut_front(&decoding->first, mark);
+        } else if (decoding->first.length > DECLARATION_BYTES) {
+            refuse(decoding, FAULT_OUTSIDE, "an XML declaration of more than 65,536 bytes: outside the profile");
+        }
+    }
+    bytes_free(&text);
+}
+
+/* The length of the character of UTF-8 that begins with the byte; 0: none does. */
+static size_t length_of(unsigned char byte) {
+    return byte < 0x80 ? 1 : byte < 0xC2 ? 0 : byte < 0xE0 ? 2 : byte < 0xF0 ? 3 : byte < 0xF5 ? 4 : 0;
+}
+
+/* The character that the bytes are; 0: they are none that XML allows. The first byte gives the length. */
+static unsigned code_of(const char *bytes, size_t length) {
+    static const unsigned least[] = {0, 0, 0x80, 0x800, 0x10000};
+    unsigned code = (unsigned char)bytes[0] & (length == 1 ? 0x7FU : 0x7FU >> length);
+    for (size_t at = 1; at < length; at++) {
+        if (((unsigned char)bytes[at] & 0xC0) != 0x80) {
+            return 0;
+        }
+        code = code << 6 | ((unsigned char)bytes[at] & 0x3F);
+    }
+    bool is_character = code >= least[length] && (code >= 0x20 || code == '\t' || code == '\n') && code <= 0x10FFFF && code != 0xFFFE && code != 0xFFFF &&
+                        (code < 0xD800 || code > 0xDFFF);
+    return is_character ? code : 0;
+}
+
+static bool is_plain(char byte) {
+    return (unsigned char)byte < 0x80 && ((unsigned char)byte >= ' ' || byte == '\n' || byte == '\t');
+}
+
+/* Whether the next eight bytes are all from a space on and in ASCII. */
+static bool are_plain(const char *bytes) {
+    uint64_t word;
+    memcpy(&word, bytes, sizeof word);
+    return ((word | (word - UINT64_C(0x2020202020202020))) & UINT64_C(0x8080808080808080)) == 0;
+}
+
+/* How many bytes from here on are characters of ASCII that need no care. */
+static size_t plain_length(const char *bytes, size_t length) {
+    size_t at = 0;
+    size_t stop = 0;
+    while (at == stop && at < length) {
+        while (length - at >= 8 && are_plain(bytes + at)) {
+            at += 8;
+        }
+        stop = length - at > 8 ? at + 8 : length;
+        while (at < stop && is_plain(bytes[at])) {
+            at++;
+        }
+    }
+    return at;
+}
+
+/* Adds the character at the start of the bytes, which is no plain one. Returns how many bytes it has; 0: it is not whole, or there is a fault. */
+static size_t add_character(struct decoding *decoding, const char *bytes, size_t length, struct bytes *text) {
+    if (bytes[0] == '\r') {
+        decoding->after_return = true;
+        bytes_add_byte(text, '\n');
+        return 1;
+    }
+    size_t size = length_of((unsigned char)bytes[0]);
+    if (size > length && !decoding->is_transcoded) {
+        return 0;
+    }
+    if (size == 0 || size > length || code_of(bytes, size) == 0) {
+        refuse(decoding, FAULT_MALFORMED, size <= 1 && (unsigned char)bytes[0] < 0x80 ? "malformed XML: a character that XML does not allow"
+                                          : decoding->is_transcoded ? "malformed XML: bytes that are no character of the encoding"
+                                                                    : "malformed XML: bytes that are no character of UTF-8");
+        return 0;
+    }
+    bytes_add(text, bytes, size);
+    return size;
+}
+
+/* Adds UTF-8 to the text. Returns how many bytes were taken: all but the start of a character at the end, unless there is a fault. */
+static size_t add_text(struct decoding *decoding, const char *bytes, size_t length, struct bytes *text) {
+    size_t at = 0;
+    while (at < length && decoding->fault.kind == FAULT_NONE) {
+        if (decoding->after_return) {
+            decoding->after_return = false;
+            at += bytes[at] == '\n';
+        }
+        size_t plain = plain_length(bytes + at, length - at);
+        bytes_add(text, bytes + at, plain);
+        at += plain;
+        if (at < length) {
+            size_t size = add_character(decoding, bytes + at, length - at, text);
+            if (size == 0) {
+                break;
+            }
+            at += size;
+        }
+    }
+    return at;
+}
+
+/* Adds UTF-8 that comes in pieces, of which a character may have several. */
+static void add_piece(struct decoding *decoding, const char *bytes, size_t length, struct bytes *text) {
+    size_t dropped = decoding->dropped < length ? decoding->dropped : length;
+    decoding->dropped -= dropped;
+    bytes += dropped;
+    length -= dropped;
+    while (decoding->begun_length > 0 && length > 0 && decoding->fault.kind == FAULT_NONE) {
+        decoding->begun[decoding->begun_length++] = *bytes++;
+        length--;
+        if (decoding->begun_length >= length_of((unsigned char)decoding->begun[0])) {
+            add_text(decoding, decoding->begun, decoding->begun_length, text);
+            decoding->begun_length = 0;
+        }
+    }
+    size_t taken = add_text(decoding, bytes, length, text);
+    if (decoding->fault.kind == FAULT_NONE && taken < length) {
+        decoding->begun_length = length - taken;
+        memcpy(decoding->begun, bytes + taken, length - taken);
+    }
+}
+
+/* Adds bytes of the encoding, which is known. */
+static void add_bytes(struct decoding *decoding, const char *bytes, size_t length, struct bytes *text) {
+    if (!decoding->is_transcoded) {
+        add_piece(decoding, bytes, length, text);
+        return;
+    }
+    bytes_clear(&decoding->decoded);
+    enum decoded decoded = transcoder_add(&decoding->transcoder, bytes, length, &decoding->decoded);
+    add_piece(decoding, decoding->decoded.data, decoding->decoded.length, text);
+    if (decoded == DECODED_NO_MEMORY) {
+        out_of_memory(decoding);
+    } else if (decoded == DECODED_DOUBTFUL) {
+        refuse(decoding, FAULT_OUTSIDE, "a byte that programs read in different ways in this encoding: outside the profile");
+    }
+}
+
+/* Adds the first bytes, once the encoding is known. */
+static void add_first(struct decoding *decoding, struct bytes *text) {
+    if (decoding->is_known && decoding->fault.kind == FAULT_NONE) {
+        add_bytes(decoding, decoding->first.data, decoding->first.length, text);
+    }
+    if (decoding->is_known) {
+        bytes_free(&decoding->first);
+    }
+}
+
+void decoding_take(struct decoding *decoding, const char *bytes, size_t length, struct bytes *text) {
+    if (decoding->fault.kind != FAULT_NONE) {
+        return;
+    }
+    if (decoding->is_known) {
+        add_bytes(decoding, bytes, length, text);
+    } else {
+        bytes_add(&decoding->first, bytes, length);
+        if (decoding->first.failed) {
+            out_of_memory(decoding);
+            return;
+        }
+        find_encoding(decoding, false);
+        add_first(decoding, text);
+    }
+    if (text->failed) {
+        out_of_memory(decoding);
+    }
+}
+
+void decoding_end(struct decoding *decoding, struct bytes *text) {
+    if (!decoding->is_known && decoding->fault.kind == FAULT_NONE) {
+        find_encoding(decoding, true);
+        add_first(decoding, text);
+    }
+    if (decoding->fault.kind == FAULT_NONE && decoding->is_transcoded) {
+        bytes_clear(&decoding->decoded);
+        enum decoded decoded = transcoder_end(&decoding->transcoder, &decoding->decoded);
+        add_piece(decoding, decoding->decoded.data, decoding->decoded.length, text);
+        if (decoded == DECODED_NO_MEMORY) {
+            out_of_memory(decoding);
+        }
+    }
+    if (decoding->fault.kind == FAULT_NONE && decoding->begun_length > 0) {
+        refuse(decoding, FAULT_MALFORMED, "malformed XML: bytes that are no character of UTF-8");
+    }
+    if (text->failed) {
+        out_of_memory(decoding);
+    }
+}
+
+void decoding_free(struct decoding *decoding) {
+    transcoder_close(&decoding->transcoder);
+    bytes_free(&decoding->first);
+    bytes_free(&decoding->decoded);
+    fault_free(&decoding->fault);
+}

@@ -1,0 +1,45 @@
+/* Decodes a document: finds how its characters are written (XML 1.0, 4.3.3 and appendix F), and gives them as UTF-8 with a line feed for each line end
+ * (2.11). Each character that it gives is one that XML allows. */
+#ifndef DECODING_H
+#define DECODING_H
+
+#include "encodings.h"
+#include "fault.h"
+#include "xml_declaration.h"
+
+/* How the first bytes show that the characters are written. */
+enum family {
+    FAMILY_BYTES, /* ASCII is itself */
+    FAMILY_UTF_8, /* the same, with a byte order mark */
+    FAMILY_UTF_16_LITTLE,
+    FAMILY_UTF_16_BIG,
+    FAMILY_UTF_32_LITTLE,
+    FAMILY_UTF_32_BIG,
+    FAMILY_EBCDIC
+};
+
+struct decoding {
+    bool is_external; /* it is an external entity. Its text declaration is no part of its text */
+    size_t dropped;   /* how many bytes of UTF-8 are still to be dropped for that */
+    struct bytes first; /* the first bytes, until they show the encoding */
+    bool is_known;
+    enum family family;
+    struct transcoder transcoder;
+    bool is_transcoded;
+    struct bytes decoded; /* what the transcoder gives */
+    char begun[4];        /* the first bytes of a character of UTF-8 whose other bytes have not come */
+    size_t begun_length;
+    bool after_return;    /* the last character was a carriage return: a line feed behind it belongs to it */
+    struct fault fault;   /* why nothing comes after the text that was given. Its place is the end of that text */
+};
+
+#define NO_DECODING {false, 0, NO_BYTES, false, FAMILY_BYTES, {(iconv_t)-1, NO_BYTES, false}, false, NO_BYTES, {0}, 0, false, NO_FAULT}
+
+/* Adds the characters of the bytes to the text. Once there is a fault, no more are added. */
+void decoding_take(struct decoding *decoding, const char *bytes, size_t length, struct bytes *text);
+
+/* Adds the characters that are held back at the end of the input. */
+void decoding_end(struct decoding *decoding, struct bytes *text);
+void decoding_free(struct decoding *decoding);
+
+#endif

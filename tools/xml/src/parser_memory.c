@@ -1,0 +1,173 @@
+#include "parser_memory.h"
+
+#include <libxml/parser.h>
+#include <pthread.h>
+#include <stdint.h>
+#include <stdlib.h>
+#include <string.h>
+
+static _Thread_local struct parser_memory *current = NULL; /* that of this thread's conversion */
+static pthread_once_t is_prepared = PTHREAD_ONCE_INIT;
+static bool preparation_failed = false;
+
+static size_t slot_of(uintptr_t block) {
+    uint64_t hash = (uint64_t)block * UINT64_C(0x9E3779B97F4A7C15);
+    return (size_t)(hash >> 32) & (current->capacity - 1);
+}
+
+/* Puts a block into a table with room for it. */
+static void put(void *block) {
+    size_t at = slot_of((uintptr_t)block);
+    while (current->slots[at] != NULL) {
+        at = (at + 1) & (current->capacity - 1);
+    }
+    current->slots[at] = block;
+}
+
+static bool grow(void) {
+    void **old = current->slots;
+    size_t old_capacity = current->capacity;
+    size_t capacity = old_capacity == 0 ? 256 : 2 * old_capacity;
+    void **slots = calloc(capacity, sizeof *slots);
+    if (slots == NULL) {
+        return false;
+    }
+    current->slots = slots;
+    current->capacity = capacity;
+    for (size_t at = 0; at < old_capacity; at++) {
+        if (old[at] != NULL) {
+            put(old[at]);
+        }
+    }
+    free(old);
+    return true;
+}
+
+/* Takes a block into the table, and notes it if there is none. */
+static void *taken(void *block) {
+    if (current == NULL || !current->is_open) {
+        return block;
+    }
+    if (block == NULL) {
+        current->has_failed = true;
+        return block;
+    }
+    if (2 * (current->count + 1) > current->capacity && !grow()) {
+        current->has_failed = true;
+        return block;
+    }
+    put(block);
+    current->count++;
+    return block;
+}
+
+/* Takes the block at this slot out of the table, and moves those behind it to where they are looked for. */
+static void empty(size_t hole) {
+    size_t at = hole;
+    current->slots[hole] = NULL;
+    current->count--;
+    while (current->slots[at = (at + 1) & (current->capacity - 1)] != NULL) {
+        size_t wanted = slot_of((uintptr_t)current->slots[at]);
+        if (((at - wanted) & (current->capacity - 1)) >= ((at - hole) & (current->capacity - 1))) {
+            current->slots[hole] = current->slots[at];
+            current->slots[at] = NULL;
+            hole = at;
+        }
+    }
+}
+
+/* Lets a block go, if it is in the table. One that another user of libxml2 has made is not. */
+static void let_go(uintptr_t block) {
+    if (current == NULL || current->count == 0 || block == 0) {
+        return;
+    }
+    size_t at = slot_of(block);
+    while (current->slots[at] != NULL && (uintptr_t)current->slots[at] != block) {
+        at = (at + 1) & (current->capacity - 1);
+    }
+    if (current->slots[at] != NULL) {
+        empty(at);
+    }
+}
+
+static void *allocate(size_t size) {
+    return taken(malloc(size));
+}
+
+/* If it fails, the block stays, and stays in the table. */
+static void *resize(void *block, size_t size) {
+    uintptr_t old = (uintptr_t)block;
+    void *larger = realloc(block, size);
+    if (larger == NULL) {
+        taken(NULL);
+    } else if ((uintptr_t)larger != old) {
+        let_go(old);
+        taken(larger);
+    }
+    return larger;
+}
+
+static char *copy(const char *text) {
+    return taken(strdup(text));
+}
+
+static void release(void *block) {
+    let_go((uintptr_t)block);
+    free(block);
+}
+
+#if LIBXML_VERSION >= 21200
+static void ignore(void *context, const xmlError *error) {
+#else
+static void ignore(void *context, xmlError *error) {
+#endif
+    (void)context;
+    (void)error;
+}
+
+/* The functions for memory stay those of the process if it has set its own. */
+static void prepare(void) {
+    struct parser_memory memory = {NULL, 0, 0, true, false, NULL};
+    xmlFreeFunc old_free;
+    xmlMallocFunc old_allocate;
+    xmlReallocFunc old_resize;
+    xmlStrdupFunc old_copy;
+    if (xmlMemGet(&old_free, &old_allocate, &old_resize, &old_copy) == 0 && old_allocate == malloc && old_free == free) {
+        xmlMemSetup(release, allocate, resize, copy);
+    }
+    xmlStructuredErrorFunc old_report = xmlStructuredError;
+    void *old_context = xmlStructuredErrorContext;
+    xmlSetStructuredErrorFunc(NULL, ignore);
+    current = &memory;
+    xmlInitParser();
+    current = NULL;
+    xmlSetStructuredErrorFunc(old_context, old_report);
+    preparation_failed = memory.has_failed;
+    free(memory.slots); /* what it took stays with the process */
+}
+
+bool parser_memory_prepare(void) {
+    return pthread_once(&is_prepared, prepare) == 0 && !preparation_failed;
+}
+
+void parser_memory_begin(struct parser_memory *memory) {
+    xmlResetLastError(); /* so that what it keeps in this thread is of no conversion */
+    *memory = (struct parser_memory){NULL, 0, 0, true, false, current};
+    current = memory;
+}
+
+void parser_memory_pause(bool is_paused) {
+    if (current != NULL) {
+        current->is_open = !is_paused;
+    }
+}
+
+void parser_memory_end(struct parser_memory *memory) {
+    xmlResetLastError();
+    current = memory->outer;
+    for (size_t at = 0; at < memory->capacity; at++) {
+        free(memory->slots[at]);
+    }
+    free(memory->slots);
+    memory->slots = NULL;
+}
