@@ -161,38 +161,69 @@ record AreCut (all : List Line) (n : ℕ) (events : List Event) : Type 0 where
   in_time : AreBetween 0 n (all_read (take n all) nothing_read).1
   behind : AreBetween n (length all) later
 
-cut_all : (all : List Line) (n : ℕ) (u : State) (events : List Event) → n ≤ length all → document_read all ≡ (Ok u, events) → AreCut all n events
+-- the events that are handed out when these lines are read
+cut_read : (all : List Line) (n : ℕ) → n ≤ length all → AreCut all n (document_read all).1
 unfolding document_read
-cut_all all n u events le e = go (all_read (take n all) nothing_read).0 (all_read (take n all) nothing_read).1 refl whole where
+cut_read all n le = subst (AreCut all n) (sym whole) (go (all_read (take n all) nothing_read).0 (all_read (take n all) nothing_read).1 refl) where
   long : length (take n all) ≡ n
   long = long_enough n all le
 
-  whole : followed (followed (all_read (take n all) nothing_read) (all_read (drop n all))) all_ended ≡ (Ok u, events)
-  whole = ap (λ t. followed t all_ended) (sym (all_append (take n all) (drop n all) nothing_read) ∙ ap (λ ls. all_read ls nothing_read)
-      (take-append-drop n all)) ∙ e
+  whole : (followed (all_read all nothing_read) all_ended).1 ≡ (followed (all_read (take n all) nothing_read) (all_read (drop n all))).1
+  whole = end_silent (all_read all nothing_read) ∙ ap (λ (t : Turn State). t.1) (ap (λ ls. all_read ls nothing_read) (sym (take-append-drop n all))
+      ∙ all_append (take n all) (drop n all) nothing_read)
 
   in_time : AreBetween 0 n (all_read (take n all) nothing_read).1
   in_time = between_wider (all_read (take n all) nothing_read).1 (omega arith) (omega (arith, long)) (all_between (take n all) nothing_read)
 
-  go : (r : Result State Fault) (es : List Event) → all_read (take n all) nothing_read ≡ (r, es)
-      → followed (go_on r es (all_read (drop n all))) all_ended ≡ (Ok u, events)
-      → AreCut all n events
-  go (Ok t) es is h =
+  go : (r : Result State Fault) (es : List Event) → all_read (take n all) nothing_read ≡ (r, es) → AreCut all n (go_on r es (all_read (drop n all))).1
+  go (Ok t) es is =
       let counted = all_counted (take n all) nothing_read t (ap (λ x. x.0) is) in
       let sizes = ap length (take-append-drop n all) in
       let both = length-append (take n all) (drop n all) in
       record {
         later = (all_read (drop n all) t).1;
-        parts = sym (ap (λ x. x.1) h) ∙ end_silent (go_on (Ok t) es (all_read (drop n all)))
-            ∙ ap (λ l. l ++ (all_read (drop n all) t).1) (sym (ap (λ x. x.1) is));
+        parts = ap (λ l. l ++ (all_read (drop n all) t).1) (sym (ap (λ x. x.1) is));
         in_time = in_time;
         behind = between_wider (all_read (drop n all) t).1 (omega (arith, counted, long)) (omega (arith, counted, long, sizes, both))
             (all_between (drop n all) t);
       }
-  go (Err f) es is h = let bad = ap (λ x. x.0) h in absurd (cc)
+  go (Err f) es is = record { later = []; parts = sym (ap (λ x. x.1) is) ∙ sym (append-nil (all_read (take n all) nothing_read).1); in_time = in_time; behind = tt }
 
-cut_at : (bytes : List ℕ) (d : Placed) (n : ℕ) → IsPyxDocument bytes d → n ≤ length (lines bytes) → AreCut (lines bytes) n (events_of d)
-cut_at bytes d n is le = let read = complete bytes d is in cut_all (lines bytes) n read.last (events_of d) le read.is
+-- these are the events that are handed out when the bytes are read, whether or not they are a document
+abbrev pub AreReported : List ℕ → List Event → Type 0
+AreReported bytes events = (document_read (lines bytes)).1 ≡ events
+
+pub reported_of : (bytes : List ℕ) (d : Placed) → IsPyxDocument bytes d → AreReported bytes (events_of d)
+reported_of bytes d is = ap (λ (t : Turn State). t.1) (complete bytes d is).is
+
+cut_at : (bytes : List ℕ) (events : List Event) (n : ℕ) → AreReported bytes events → n ≤ length (lines bytes) → AreCut (lines bytes) n events
+cut_at bytes events n is le = subst (AreCut (lines bytes) n) is (cut_read (lines bytes) n le)
+
+-- those of the first n lines, and the others, which come at later lines
+pub record AreParted (bytes : List ℕ) (n : ℕ) (events : List Event) : Type 0 where
+  pub later : List Event
+  pub parts : events ≡ (all_read (take n (lines bytes)) nothing_read).1 ++ later
+  pub behind : All (λ e. n < e.line) later
+
+after : (n m : ℕ) (es : List Event) → AreBetween n m es → AllByRecursion (λ e. n < e.line) es
+after n m [] h = tt
+after n m (e ∷ es) h = (h.0.0, after n m es h.1)
+
+pub parted_at : (bytes : List ℕ) (events : List Event) (n : ℕ) → AreReported bytes events → n ≤ length (lines bytes) → AreParted bytes n events
+parted_at bytes events n is le =
+    let cut = cut_at bytes events n is le in
+    record { later = cut.later; parts = cut.parts; behind = All-from_recursion (λ e. n < e.line) cut.later (after n (length (lines bytes)) cut.later cut.behind) }
+
+-- if the first n members are the same, and one list has at least n members, so has the other
+pub as_long : (n : ℕ) (xs ys : List Line) → take n xs ≡ take n ys → n ≤ length ys → n ≤ length xs
+as_long zero xs ys e le = omega arith
+as_long (suc n) [] [] e le = le
+as_long (suc n) [] (y ∷ ys) e le = absurd (cc)
+as_long (suc n) (x ∷ xs) [] e le = absurd (omega (arith, le))
+as_long (suc n) (x ∷ xs) (y ∷ ys) e le =
+    let rest : take n xs ≡ take n ys = cc in
+    let more = as_long n xs ys rest (omega (arith, le)) in
+    omega (arith, more)
 
 -- ---- one event of a document
 
@@ -222,21 +253,25 @@ not_before n (x ∷ xs) ys [] e behind h all lt = let same : x ≡ e = cc in let
 not_before n (x ∷ xs) ys (b ∷ before) e behind h all lt = let rest : xs ++ ys ≡ before ++ e ∷ behind = cc in not_before n xs ys before e behind rest all.1 lt
 
 -- no line before it, and all of them
-all_cut : (bytes : List ℕ) (d : Placed) → IsPyxDocument bytes d → AreBetween 0 (length (lines bytes)) (events_of d)
-all_cut bytes d is = let cut = cut_at bytes d 0 is (omega arith) in
+all_cut : (bytes : List ℕ) (events : List Event) → AreReported bytes events → AreBetween 0 (length (lines bytes)) events
+all_cut bytes events is = let cut = cut_at bytes events 0 is (omega arith) in
     subst (AreBetween 0 (length (lines bytes))) (sym cut.parts) (between_both 0 (length (lines bytes))
     (all_read (take 0 (lines bytes)) nothing_read).1 cut.later
     (between_wider (all_read (take 0 (lines bytes)) nothing_read).1 (omega arith) (omega arith) cut.in_time)
     cut.behind)
 
 -- it comes at one of the lines
-pub event_line : (bytes : List ℕ) (d : Placed) (before : List Event) (e : Event) (after : List Event) → IsPyxDocument bytes d
-    → events_of d ≡ before ++ e ∷ after → (1 ≤ e.line) × (e.line ≤ length (lines bytes))
-event_line bytes d before e after is parts =
-    let all = subst (AreBetween 0 (length (lines bytes))) parts (all_cut bytes d is) in
+pub reported_line : (bytes : List ℕ) (events before : List Event) (e : Event) (after : List Event) → AreReported bytes events
+    → events ≡ before ++ e ∷ after → (1 ≤ e.line) × (e.line ≤ length (lines bytes))
+reported_line bytes events before e after is parts =
+    let all = subst (AreBetween 0 (length (lines bytes))) parts (all_cut bytes events is) in
     let at = there (λ e. (0 < e.line) × (e.line ≤ length (lines bytes))) before after e all in
     let first = at.0 in
     (omega (arith, first), at.1)
+
+pub event_line : (bytes : List ℕ) (d : Placed) (before : List Event) (e : Event) (after : List Event) → IsPyxDocument bytes d
+    → events_of d ≡ before ++ e ∷ after → (1 ≤ e.line) × (e.line ≤ length (lines bytes))
+event_line bytes d before e after is parts = reported_line bytes (events_of d) before e after (reported_of bytes d is) parts
 
 late : (n m : ℕ) (es : List Event) → AreBetween n m es → AllByRecursion (λ u. n + 1 ≤ u.line) es
 late n m [] h = tt
@@ -256,7 +291,7 @@ lines_rise bytes d before e after is parts = go e.line refl where
   go zero h = let first = at.0 in absurd (omega (arith, h, first))
   go (suc n) h =
       let last = at.1 in
-      let cut = cut_at bytes d n is (omega (arith, h, last)) in
+      let cut = cut_at bytes (events_of d) n (reported_of bytes d is) (omega (arith, h, last)) in
       let mid = not_before n (all_read (take n (lines bytes)) nothing_read).1 cut.later before e after (sym cut.parts ∙ parts) cut.in_time (omega (arith, h)) in
       let all = subst (AreBetween n (length (lines bytes))) mid.1 cut.behind in
       All-from_recursion (λ u. e.line ≤ u.line) after
@@ -264,15 +299,21 @@ lines_rise bytes d before e after is parts = go e.line refl where
       (late n (length (lines bytes)) after (behind_all (λ u. (n < u.line) × (u.line ≤ length (lines bytes))) mid.0 after e all)))
 
 -- a document with the same lines up to its line has the same events up to it
-pub same_front : (bytes bytes' : List ℕ) (d d' : Placed) (n : ℕ) (before : List Event) (e : Event) (after : List Event) → IsPyxDocument bytes d
-    → IsPyxDocument bytes' d' → n ≤ length (lines bytes) → n ≤ length (lines bytes') → take n (lines bytes) ≡ take n (lines bytes')
-    → events_of d ≡ before ++ e ∷ after → e.line ≤ n → (more : List Event) × (events_of d' ≡ (before ++ e ∷ []) ++ more)
-same_front bytes bytes' d d' n before e after is is' le le' same parts at =
-    let cut = cut_at bytes d n is le in
-    let cut' = cut_at bytes' d' n is' le' in
+pub reported_front : (bytes bytes' : List ℕ) (events : List Event) (d' : Placed) (n : ℕ) (before : List Event) (e : Event) (after : List Event)
+    → AreReported bytes events → IsPyxDocument bytes' d' → n ≤ length (lines bytes) → n ≤ length (lines bytes')
+    → take n (lines bytes) ≡ take n (lines bytes') → events ≡ before ++ e ∷ after → e.line ≤ n
+    → (more : List Event) × (events_of d' ≡ (before ++ e ∷ []) ++ more)
+reported_front bytes bytes' events d' n before e after is is' le le' same parts at =
+    let cut = cut_at bytes events n is le in
+    let cut' = cut_at bytes' (events_of d') n (reported_of bytes' d' is') le' in
     let front = not_behind n (length (lines bytes)) (all_read (take n (lines bytes)) nothing_read).1 cut.later before e after
     (sym cut.parts ∙ parts) cut.behind at in (
       front.0 ++ cut'.later,
       cut'.parts ∙ ap (λ ls. (all_read ls nothing_read).1 ++ cut'.later) (sym same) ∙ ap (λ l. l ++ cut'.later) front.1
           ∙ append_assoc before (e ∷ front.0) cut'.later ∙ sym (append_assoc before (e ∷ []) (front.0 ++ cut'.later)),
     )
+
+pub same_front : (bytes bytes' : List ℕ) (d d' : Placed) (n : ℕ) (before : List Event) (e : Event) (after : List Event) → IsPyxDocument bytes d
+    → IsPyxDocument bytes' d' → n ≤ length (lines bytes) → n ≤ length (lines bytes') → take n (lines bytes) ≡ take n (lines bytes')
+    → events_of d ≡ before ++ e ∷ after → e.line ≤ n → (more : List Event) × (events_of d' ≡ (before ++ e ∷ []) ++ more)
+same_front bytes bytes' d d' n before e after is = reported_front bytes bytes' (events_of d) d' n before e after (reported_of bytes d is)

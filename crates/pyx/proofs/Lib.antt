@@ -45,3 +45,4 @@ pub mod WholeVerdict
 pub mod ReaderOutcome
 pub mod HeldBytes
 pub mod EventLines
+pub mod FedLines

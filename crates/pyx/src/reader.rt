@@ -1,5 +1,5 @@
 // The reader of documents.
-ghost use Rattle.std.specs.Prelude.{◌≡◌, ◌+◌, ◌<◌, ◌≤◌, ◌^◌, [], length, IfSome, IfErr, is_ok, if◌then◌else◌, Some, None, Err};
+ghost use Rattle.std.specs.Prelude.{◌≡◌, ◌+◌, ◌<◌, ◌≤◌, ◌^◌, [], length, IfSome, IfErr, OnOk, is_ok, if◌then◌else◌, Some, None, Err};
 ghost use Rattle.pyx.specs.views.HeldCalls.{IsHeld};
 ghost use Rattle.pyx.specs.plain.Pieces.{weight};
 ghost use Rattle.pyx.specs.views.Calls.{Ends, Extends, IsFaultAfter, UnlessMemory};
@@ -77,6 +77,7 @@ impl Reader {
         requires { self.old.fed + length piece.now < 2 ^ 63 }
         ensures stands { UnlessMemory result (Extends (Hands E.stands events.old events.new) self.old self.new piece.now) }
         ensures fault { IfErr result (λ f. (self.new.fault ≡ Some f) × IsFaultAfter self.new f) }
+        ensures working { OnOk result (self.new.fault ≡ None) }
         ensures sticky { IfSome self.old.fault (λ f. (result ≡ Err f) × (self.new ≡ self.old)) }
         ensures fed { self.new.fed ≡ self.old.fed + (if is_ok result then length piece.now else 0) }
     {
