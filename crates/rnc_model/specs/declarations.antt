@@ -1,5 +1,6 @@
 -- File trees, and declarations.
 pub mod DeclarationRules
 pub mod Declarations
+pub mod FaultyTokens
 pub mod FileTree
 pub mod Parsing

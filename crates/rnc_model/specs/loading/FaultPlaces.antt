@@ -5,7 +5,7 @@ use Rattle.rnc_model.specs.declared.file_place.FilePlace.{FilePlace}
 use Rattle.rnc_model.specs.characters.Characters.{byte_length}
 use Rattle.rnc_model.specs.characters.Decoding.{IsDecoded, IsSpelling, BreaksUtf8At, BreaksCharactersAt}
 use Rattle.rnc_model.specs.characters.FilePlaces.{IsPlaceBetween, IsPlaceBehind}
-use Rattle.rnc_model.specs.declarations.Parsing.{BreaksDeclarations}
+use Rattle.rnc_model.specs.declarations.FaultyTokens.{BreaksDeclarationsAt}
 use Rattle.rnc_model.specs.grammar.Sentence.{BreaksGrammarAt, nesting_limit, openings, closings}
 use Rattle.rnc_model.specs.loading.SchemaFile.{AreTokensOf}
 use Rattle.rnc_model.specs.tokens.Cut.{Token, BreaksTokensAt}
@@ -25,8 +25,7 @@ pub record IsTooDeepAt (ts : List Lexeme) (number : ℕ) : Type 0 where
   pub exceeds : closings (take number ts) + nesting_limit < openings (take number ts)
   pub first : (k : ℕ) → k < number → openings (take k ts) ≤ closings (take k ts) + nesting_limit
 
--- The bytes break this clause, at this place. For a declaration or a prefix that breaks a rule (8), the place is the
--- place of a token.
+-- the bytes break this clause, at this place
 pub data BreaksClauseAt (bytes : List ℕ) (k : ℕ) (p : FilePlace) : Type 0 where
   -- the first byte that is not UTF-8
   not_utf8 : (front : List ℕ) → BreaksUtf8At bytes p.offset → IsSpelling (take p.offset bytes) front → IsPlaceBetween front [] p → k ≡ 3
@@ -42,5 +41,6 @@ pub data BreaksClauseAt (bytes : List ℕ) (k : ℕ) (p : FilePlace) : Type 0 wh
   -- the first bracket that is too many
   too_deep : (ts : List Token) (number : ℕ) → AreTokensOf bytes ts → IsTooDeepAt (lexemes ts) number → IsPlaceOfToken bytes ts number p → k ≡ 7
       → BreaksClauseAt bytes k p
-  bad_declarations : (ts : List Token) (number : ℕ) → AreTokensOf bytes ts → BreaksDeclarations (lexemes ts) → IsPlaceOfToken bytes ts number p → k ≡ 8
-      → BreaksClauseAt bytes k p
+  -- the first declaration that breaks a rule, or otherwise the first prefix that is not declared
+  bad_declarations : (ts : List Token) (number : ℕ) → AreTokensOf bytes ts → BreaksDeclarationsAt (lexemes ts) number → IsPlaceOfToken bytes ts number p
+      → k ≡ 8 → BreaksClauseAt bytes k p
