@@ -87,9 +87,9 @@ module _ {R W : Type 0} (remaining : R → Option (List ℕ)) (contents : W → 
         → (IsErrOf {T = A} (Err cause) causes.Read → device_failures input_old < device_failures input_new)
         → (IsErrOf {T = A} (Err cause) causes.Write → device_failures output_old < device_failures output_new)
         → (IsErrOf {T = A} (Err cause) causes.Memory →
-            (device_failures input_new ≡ device_failures input_old) × (device_failures output_new ≡ device_failures output_old))
+        (device_failures input_new ≡ device_failures input_old) × (device_failures output_new ≡ device_failures output_old))
         → WrittenAfter (answers (remaining (device_inner input_old)) (remaining (device_inner input_new))) cause
-            (contents (device_inner output_old)) (contents (device_inner output_new))
+        (contents (device_inner output_old)) (contents (device_inner output_new))
         → Ends (Err fault)
     run_failed A causes.Memory fault is read write memory written =
         rw is (record { answer = tt; flushed = tt; calm = tt; fault = tt; shown = memory refl; written = written })
@@ -101,7 +101,7 @@ module _ {R W : Type 0} (remaining : R → Option (List ℕ)) (contents : W → 
     -- a run wrote its answer, and left the output so
     module _ (output_mid : Device W) (status : Status)
         (wrote : WritesAnswer (answers (remaining (device_inner input_old)) (remaining (device_inner input_new))) status
-            (contents (device_inner output_old)) (contents (device_inner output_mid)))
+        (contents (device_inner output_old)) (contents (device_inner output_mid)))
         (calm : device_failures output_mid ≡ device_failures output_old)
         (kept : Keeps (contents (device_inner output_mid)) (contents (device_inner output_new))) where
       -- the flush after it failed

@@ -36,8 +36,8 @@ pub fn run_program<O: Fn(&str) -> io::Result<T>, T: Read + Drop, R: Read, W: Wri
     requires output { device_failures output.old < 2 ^ 64 - 1 }
     ensures end { (end : Result Status Fault) × (exit_status result ≡ exit_status_of end)
         × HasEnded input.old input.new output.old output.new R.remaining W.contents
-            (IsAnswerTo (IsReadBy O.Fn open_file T.remaining) (IsGivenLine given))
-            (IsFaultTo (IsReadBy O.Fn open_file T.remaining) (IsUnreadBy O.Fn open_file) (IsGivenLine given)) end }
+        (IsAnswerTo (IsReadBy O.Fn open_file T.remaining) (IsGivenLine given))
+        (IsFaultTo (IsReadBy O.Fn open_file T.remaining) (IsUnreadBy O.Fn open_file) (IsGivenLine given)) end }
     // The words are not given.
     ensures none { IfErr given (λ error. error_kind error ≢ ErrorKind.OutOfMemory → exit_status result ≡ 5) }
     ensures memory { IfErr given (λ error. error_kind error ≡ ErrorKind.OutOfMemory → exit_status result ≡ 4) }
