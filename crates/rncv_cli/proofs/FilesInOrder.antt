@@ -39,11 +39,11 @@ module _ (reads : Text → List ℕ → Type 0) where
     is_unreadable names name fault P first (inl memory) = rw memory tt
     is_unreadable names name fault P first (inr file) = rw (file.0) (first file.1)
 
-same_error : {A : Type 0} (e f : Error) → Err {T = A} e ≡ Err f → e ≡ f
-same_error e f h = cc
+same_error : (A : Type 0) (e f : Error) → ◌≡◌ {A = Result A Error} (Err e) (Err f) → e ≡ f
+same_error A e f h = cc
 
 -- the error of what was opened is this one, if there is one
-pub not_memory : {R A : Type 0} (opened : Result R Error) (error : Error) → error_kind error ≢ OutOfMemory →
-    IfErr opened (λ e. Err {T = A} error ≡ Err e) → IfErr opened (λ e. error_kind e ≢ OutOfMemory)
-not_memory (Ok reader) error other same = tt
-not_memory (Err e) error other same = subst (λ x. error_kind x ≢ OutOfMemory) (same_error error e same) other
+pub not_memory : {R : Type 0} (A : Type 0) (opened : Result R Error) (error : Error) → error_kind error ≢ OutOfMemory →
+    IfErr opened (λ e. ◌≡◌ {A = Result A Error} (Err error) (Err e)) → IfErr opened (λ e. error_kind e ≢ OutOfMemory)
+not_memory A (Ok reader) error other same = tt
+not_memory A (Err e) error other same = subst (λ x. error_kind x ≢ OutOfMemory) (same_error A error e same) other

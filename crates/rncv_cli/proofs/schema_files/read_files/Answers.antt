@@ -29,5 +29,5 @@ returns-in-Err-clause-fault g c =
     is_unreadable (IsReadBy g.O.Fn c.args.open_file g.T.Read.remaining) (IsUnreadBy g.O.Fn c.args.open_file) c.args.names.items c.in-Some.name c.fault_of.result _
     (λ other. is_first_unread (IsReadBy g.O.Fn c.args.open_file g.T.Read.remaining) (IsUnreadBy g.O.Fn c.args.open_file) c.args.names.items c.loop-name.yielded
     _ _ c.loop-name.files.items c.in-Some.name so_far.all c.in-Some.ensures.steps.0 so_far.are_read
-    (record { opened = c.open_file.result; is_opened = opened; is_other = not_memory c.open_file.result c.in-Err.error other c.in-Err.ensures.error }))
+    (record { opened = c.open_file.result; is_opened = opened; is_other = not_memory _ c.open_file.result c.in-Err.error other c.in-Err.ensures.error }))
     c.fault_of.ensures.either
