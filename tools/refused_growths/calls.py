@@ -19,8 +19,10 @@ from urllib.parse import unquote_to_bytes
 from rows import HERE, SECONDS, Count, Row, Runner, refuse_each, too_long
 
 OUT_OF_MEMORY = b"out of memory\n"
-# What may stand before it in its line: the status of a command line, and what a program writes that had no memory for the tables of a row.
-BEFORE = b"ExitCode(unix_exit_status(4)) rncv: ", b"no grammar, or ", b"no document, or "
+# What may stand before it in its line: what the program `rncv` says ahead of it, and what a program writes that had no memory for the tables of a row.
+BEFORE = b"rncv: ", b"no grammar, or ", b"no document, or "
+# The line that may follow it: the exit status of the program `rncv`.
+AFTER = b"ExitCode(unix_exit_status(4))\n"
 # The end of a program that had no memory for its own work: exit status and standard error.
 NO_MEMORY = 1, b"Error: Kind(OutOfMemory)\n"
 # How many refused growths of a case, other than shrinks, may leave the answer as it is: buffers of the reader of documents, room that the standard library
@@ -43,8 +45,9 @@ class Case(Row):
         status, out, errors = answer
         if (status, errors) == NO_MEMORY:
             return self.wanted[1].startswith(out)
-        front = out.removesuffix(OUT_OF_MEMORY)
-        is_told = (status, errors) == (0, b"") and front != out
+        told = out.removesuffix(AFTER)
+        front = told.removesuffix(OUT_OF_MEMORY)
+        is_told = (status, errors) == (0, b"") and front != told
         for before in BEFORE:
             front = front.removesuffix(before)
         return is_told and self.wanted[1].startswith(front)

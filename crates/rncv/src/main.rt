@@ -6,7 +6,8 @@
 //! for a document.
 #![tactic(auto)]
 
-use rncv_cli::{answer_command_line, exit_of};
+use rncv_cli::run_program;
+use rng_model::Device;
 use std::io::{IsTerminal, Read};
 use std::process::ExitCode;
 use std::{env, fs, io};
@@ -38,17 +39,13 @@ fn announce_document(rt: &HostRuntime, is_due: bool) {
 }
 
 fn main(rt: HostRuntime) -> ExitCode {
-    let open_file = |name: &str| fs::open(&rt, name);
-    let given = env::args(&rt);
     let reader = DocumentReader {
         rt: &rt,
         reader: rt.reader(),
         is_due: rt.stdin().is_terminal(),
     };
-    let (answer, _) = answer_command_line(rt.alloc(), given, open_file, reader, io::writer(&rt));
-    if let Err(fault) = &answer {
-        // If standard error fails too, only the exit status reports the fault.
-        let _ = eprintln!(rt; "{fault}");
-    }
-    exit_of(&answer)
+    let mut input = Device::new(reader);
+    let mut output = Device::new(io::writer(&rt));
+    let open_file = |name: &str| fs::open(&rt, name);
+    run_program(&rt, env::args(&rt), open_file, &mut input, &mut output)
 }

@@ -5,3 +5,4 @@ mod CommandLineExamples
 mod ClapWalk
 mod ClapMatches
 mod WordKinds
+mod ProgramEnds

@@ -1,3 +1,4 @@
 -- Views of types, and invariants.
 pub mod ExitStatus
 pub mod Faults
+pub mod ProgramEnds

@@ -1,28 +1,32 @@
 // Why the program ends without an answer.
-ghost use Rattle.std.specs.Prelude.{◌≡◌, ◌≢◌, ◌↔◌, IsTrue, Some};
+ghost use Rattle.std.specs.Prelude.{◌≡◌, ◌≢◌, ◌↔◌, IsTrue};
 ghost use Rattle.std.specs.IoError.{error_kind};
 ghost use Rattle.rncv_cli.specs.views.ExitStatus.{fault_status};
-ghost use Rattle.rncv_cli.specs.views.Faults.{fault_of_run, fault_text};
+ghost use Rattle.rncv_cli.specs.views.Faults.{IsMemoryOrUsage, fault_of_run};
 
 use rncv_run::RunFault;
-use std::error::Error;
-use std::fmt::{Display, Formatter, Write};
+use std::io;
 use std::io::ErrorKind;
-use std::{fmt, io};
+use thiserror::Error;
 
-/// Why the program ends without an answer. It is printed as a line on standard error, here without the LF (`fault_text`
-/// of `specs/`).
-#[derive(Debug, Drop)]
+/// Why the program ends without an answer. It is printed as a line on standard error. No contract says what the line
+/// is.
+#[derive(Debug, Drop, Error)]
 pub enum Fault {
     /// The program ran out of memory.
+    #[error("rncv: out of memory")]
     Memory,
     /// A read of the document failed.
+    #[error("rncv: read failed")]
     Read,
-    /// A write of the answer failed.
+    /// A write of the answer failed, or a flush of it.
+    #[error("rncv: write failed")]
     Write,
     /// The file of this name cannot be read. The name is printed as it is, also an LF in it.
+    #[error("rncv: cannot read file {0}")]
     File(String),
     /// The words are no command line of the program.
+    #[error("usage: rncv valid|check|simple FILES..")]
     Usage,
 }
 
@@ -38,22 +42,6 @@ impl Fault {
         }
     }
 }
-
-impl Display for Fault {
-    ghost output = { λ fault. Some (fault_text fault) };
-
-    fn fmt<W: Write>(&self, f: &mut Formatter<W>) -> fmt::Result {
-        match self {
-            Fault::Memory => f.write_str("rncv: out of memory"),
-            Fault::Read => f.write_str("rncv: read failed"),
-            Fault::Write => f.write_str("rncv: write failed"),
-            Fault::File(name) => write!(f, "rncv: cannot read file {name}"),
-            Fault::Usage => f.write_str("usage: rncv valid|check|simple FILES.."),
-        }
-    }
-}
-
-impl Error for Fault {}
 
 impl From<RunFault> for Fault {
     ghost from_gives = { λ cause fault. fault ≡ fault_of_run cause };
@@ -71,6 +59,7 @@ impl From<RunFault> for Fault {
 pub fn fault_of_words(error: &io::Error) -> Fault
     ensures memory { error_kind error.now ≡ ErrorKind.OutOfMemory → result ≡ Fault.Memory }
     ensures usage { error_kind error.now ≢ ErrorKind.OutOfMemory → result ≡ Fault.Usage }
+    ensures either { IsMemoryOrUsage result }
 {
     if is_want_of_memory(error) {
         return Fault::Memory;

@@ -1,7 +1,7 @@
 // Reading the files that the command line names.
-ghost use Rattle.std.specs.Prelude.{◌≡◌, ◌≢◌, ◌≤◌, ◌⊎◌, take, length, IfOk, IfErr, IfSome};
+ghost use Rattle.std.specs.Prelude.{◌≡◌, ◌≢◌, ◌≤◌, ◌⊎◌, Err, take, length, IfOk, IfErr, IfSome};
 ghost use Rattle.std.specs.IoError.{error_kind};
-ghost use Rattle.rncv_cli.specs.plain.Answering.{AreRead, IsReadBy, IsReadOf, read_limit};
+ghost use Rattle.rncv_cli.specs.plain.Answering.{AreRead, IsReadBy, IsReadOf, IsUnreadBy, read_limit};
 ghost use Rattle.rncv_cli.specs.views.Faults.{IsUnreadable};
 
 use crate::fault::{Fault, is_want_of_memory};
@@ -15,8 +15,9 @@ const READ_LIMIT: usize = 1_048_577;
 /// Reads the files of these names, in order, and returns each name with the beginning of its file: at most 1,048,577
 /// bytes. `open_file` opens the file with a name, and is called once for each.
 ///
-/// Fails with `File` and the name of the first file that cannot be opened or read, and opens no file after it. Fails
-/// with `Memory` when this call, `open_file` or a reader is out of memory. Costs time and memory in the order of the
+/// Fails with `File` and the name of the first file that cannot be opened or read, and opens no file after it:
+/// `open_file` was called for that name too, and did not return out of memory. Fails with `Memory` when this call,
+/// `open_file` or a reader is out of memory. Costs time and memory in the order of the
 /// bytes that are read.
 pub fn read_files<O: Fn(&str) -> io::Result<T>, T: Read + Drop>(
     alloc: Global,
@@ -25,7 +26,7 @@ pub fn read_files<O: Fn(&str) -> io::Result<T>, T: Read + Drop>(
 ) -> Result<Vec<(String, Vec<u8>)>, Fault>
     requires { O.IsAlwaysCallable open_file }
     ensures read { IfOk result (λ files. AreRead (IsReadBy O.Fn open_file T.remaining) names.items files.items) }
-    ensures fault { IfErr result (IsUnreadable (IsReadBy O.Fn open_file T.remaining) names.items) }
+    ensures fault { IfErr result (IsUnreadable (IsReadBy O.Fn open_file T.remaining) (IsUnreadBy O.Fn open_file) names.items) }
 {
     let mut files = Vec::new(alloc);
     for name in names {
@@ -41,7 +42,7 @@ pub fn read_files<O: Fn(&str) -> io::Result<T>, T: Read + Drop>(
 fn fault_of(error: &io::Error, name: String) -> Fault
     ensures memory { error_kind error.now ≡ ErrorKind.OutOfMemory → result ≡ Fault.Memory }
     ensures file { error_kind error.now ≢ ErrorKind.OutOfMemory → result ≡ Fault.File name }
-    ensures either { (result ≡ Fault.Memory) ⊎ (result ≡ Fault.File name) }
+    ensures either { (result ≡ Fault.Memory) ⊎ ((result ≡ Fault.File name) × (error_kind error.now ≢ ErrorKind.OutOfMemory)) }
 {
     if is_want_of_memory(error) {
         return Fault::Memory;
@@ -51,7 +52,8 @@ fn fault_of(error: &io::Error, name: String) -> Fault
 
 /// Returns the beginning of the file that was opened.
 fn bytes_of<T: Read + Drop>(alloc: Global, opened: io::Result<T>) -> io::Result<Vec<u8>>
-    ensures { IfOk result (λ bytes. IsReadOf T.remaining opened bytes.items) }
+    ensures bytes { IfOk result (λ bytes. IsReadOf T.remaining opened bytes.items) }
+    ensures error { IfErr opened (λ error. result ≡ Err error) }
 {
     beginning_of(alloc, opened?)
 }

@@ -1,14 +1,18 @@
-//! Prints for each row of `data/runs.txt` the exit status of a run of the program, what it wrote, and the line of its
-//! fault.
+//! Prints for each row of `data/runs.txt` what a run of the program prints on standard error, and in the next line its
+//! exit status and what it wrote.
 //!
 //! The files that the words name are in `data/` too.
 #![tactic(auto)]
 
 mod environment;
+mod errors;
 
 use case_rows::{Pace, Row, Sink, Source, rows};
 use environment::Environment;
-use rncv_cli::{answer_command_line, exit_of};
+use errors::Errors;
+use rncv_cli::run_program;
+use rng_model::Device;
+use std::process::ExitCode;
 use std::rt::Files;
 use std::{env, fs, io};
 
@@ -19,19 +23,31 @@ fn main(rt: HostRuntime) -> io::Result<()> {
     Ok(())
 }
 
-/// Prints the exit status of a run over the devices and with the words of a row, and what it writes.
+/// Prints the line of a fault of a run over the devices and with the words of a row, and in the next line the exit
+/// status of the run and what it writes.
 fn print_run(rt: &(impl Files + Print + AllocGlobal), row: &Row) -> io::Result<()> {
     let device = row.text(0)?;
     let source = Source::new(row.bytes(1)?, pace_of(device, "read "));
     let sink = Sink::new(rt.alloc(), pace_of(device, "write "), device == "flush")?;
+    let mut input = Device::new(source);
+    let mut output = Device::new(sink);
     let given = env::args(&(Environment(row), rt.alloc()));
     let open_file = |name: &str| fs::open(rt, name);
-    let (answer, sink) = answer_command_line(rt.alloc(), given, open_file, source, sink);
-    print!(rt; "{:?} {}", exit_of(&answer), sink.text()?)?;
-    match answer {
-        Ok(_) => Ok(()),
-        Err(fault) => println!(rt; "{fault}"),
+    let errors = (Errors(rt), rt.alloc());
+    let exit_code = run_program(&errors, given, open_file, &mut input, &mut output);
+    print_end(rt, exit_code, output.into_inner().text()?)
+}
+
+/// Prints an exit status and what was written, ended by a line feed.
+fn print_end(rt: &impl Print, exit_code: ExitCode, written: &str) -> io::Result<()> {
+    print!(rt; "{exit_code:?}")?;
+    if !written.is_empty() {
+        print!(rt; " {written}")?;
     }
+    if !written.ends_with('\n') {
+        println!(rt;)?;
+    }
+    Ok(())
 }
 
 /// Returns the pace that is written after a word. The device has no limits if this is not its word.

@@ -1,6 +1,6 @@
 // From files and a document to an answer.
-ghost use Rattle.std.specs.Prelude.{◌≡◌, ◌≢◌, ◌-◌, ◌^◌, ◌<◌, Some, length, true, IfOk, IfErr, OnOk, IsErrOf};
-ghost use Rattle.rng_model.specs.devices.Device.{device_inner, device_failures, device_flushed};
+ghost use Rattle.std.specs.Prelude.{◌≡◌, ◌≢◌, ◌-◌, ◌^◌, ◌<◌, Some, length, IfOk, IfErr, OnOk, IsErrOf};
+ghost use Rattle.rng_model.specs.devices.Device.{device_inner, device_failures};
 ghost use Rattle.rncv_run.specs.views.AnswerView.{answer_of, refusal_of};
 ghost use Rattle.rnc_model.specs.loading.Files.{named_files};
 ghost use Rattle.rnc_model.specs.loading.Loading.{FilesVerdict, FilesHaveOnlyVerdict};
@@ -18,8 +18,8 @@ use rng_model::{Device, OutOfMemory, write_whole};
 use std::alloc::Global;
 use std::io::{Read, Write};
 
-/// Runs the command on the schema of these files, the first of which is the main one, writes the answer, and flushes
-/// the output. The answer is one line, or a simple form.
+/// Runs the command on the schema of these files, the first of which is the main one, and writes the answer. The answer
+/// is one line, or a simple form. The output is not flushed.
 ///
 /// The line is one of these, the first that applies:
 ///
@@ -41,10 +41,10 @@ use std::io::{Read, Write};
 ///
 /// Fails with `RunFault::Read` or `RunFault::Write` only if that device counted a failed call, and with
 /// `RunFault::Memory` only if neither did. After `Read` and `Memory` nothing is written. After `Write` a beginning of
-/// the answer is written, or all of it if the flush failed.
+/// the answer is written.
 ///
-/// The document is read to its end, or in pieces of 32,768 bytes up to the piece with the first fault. Only a tag, a
-/// text, the open elements, and what the matcher keeps are held of it. The files are held whole. Costs the time of
+/// The document is read to its end, unless it is malformed. Only a tag, a text, the open elements, and what the matcher
+/// keeps are held of it. The files are held whole. Costs the time of
 /// `load`, then of `simplify` and `restrict`, and of `Matcher` for each event.
 pub fn run<R: Read, W: Write>(
     alloc: Global,
@@ -64,8 +64,6 @@ pub fn run<R: Read, W: Write>(
         (IsAnswer command (named_files files.now) (main_name files.now) (R.remaining (device_inner input.old)) (R.remaining (device_inner input.new)))
         status (W.contents (device_inner output.old)) (W.contents (device_inner output.new))) }
 
-    ensures flushed { OnOk result (device_flushed output.new ≡ true) }
-
     // If the files say that no document is judged, no document is read.
     ensures unread { (verdict : FilesVerdict) → FilesHaveOnlyVerdict (named_files files.now) (main_name files.now) verdict → JudgesNone command (main_name files.now) verdict → input.new ≡ input.old }
 
@@ -84,9 +82,6 @@ pub fn run<R: Read, W: Write>(
         return Err(RunFault::Memory);
     };
     if write_whole(output, text.as_slice()).is_err() {
-        return Err(RunFault::Write);
-    }
-    if output.flush().is_err() {
         return Err(RunFault::Write);
     }
     Ok(status)

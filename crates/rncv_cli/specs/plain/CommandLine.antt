@@ -1,5 +1,7 @@
 -- The command lines of the program: a command, and the names of one file or more.
-use Rattle.std.specs.Prelude.{◌≡◌, ◌<◌, ◌++◌, ℕ, List, [], ◌∷◌, codes, drop, length, map, string_bytes}
+use Rattle.std.specs.Prelude.{◌≡◌, ◌<◌, ◌++◌, ℕ, List, [], ◌∷◌, Result, Ok, Err, codes, drop, length, map, string_bytes}
+use Rattle.std.specs.Vec.Iter.{into_iter_items}
+use Rattle.std.specs.declared.vec.IntoIter.{IntoIter}
 use Rattle.std.proofs.Common.{String, Global}
 use Rattle.rncv_model.specs.declared.command.Command.{Command}
 use Rattle.rncv_model.specs.declared.command.Command.TheVariants.{Valid, Check, Simple}
@@ -32,3 +34,8 @@ name_of Simple = codes "simple"
 pub record IsCommandLine (words : List Text) (command : Command) (files : List Text) : Type 0 where
   pub arguments : WithoutDashes words (name_of command ∷ files)
   pub some : 0 < length files
+
+-- the words of the process are a command line, if they are given
+abbrev pub IsGivenLine : {E : Type 0} → Result (IntoIter (String Global) Global) E → Command → List Text → Type 0
+IsGivenLine (Ok words) command files = IsCommandLine (words_behind_name (into_iter_items words)) command files
+IsGivenLine (Err error) command files = ⊥
