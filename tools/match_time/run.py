@@ -196,6 +196,32 @@ def other_optionals(count):
     return lambda draw: (f"element doc {{ {members_of} }}", root([element("b")] * count))
 
 
+def lists_of(members, pieces, count):
+    """Lists of 50 pieces. The pattern is any number of these members."""
+    def workload(draw):
+        lines = (element("row", f"-{' '.join(draw.choice(pieces) for _ in range(50))}\n") for _ in range(count))
+        return f"element doc {{ element row {{ list {{ ({' | '.join(members)})* }} }}* }}", root(lines)
+    return workload
+
+
+def words(count):
+    return [f"word{i:03}" for i in range(count)]
+
+
+def values(count, given):
+    return lists_of([f'"{word}"' for word in words(count)], words(given), 400)
+
+
+def integers(count, given):
+    numbers = [str(i) for i in range(count)]
+    return lists_of([f'xsd:integer "{number}"' for number in numbers], numbers[-given:], 200)
+
+
+def ranges(count, given):
+    bounds = [f'xsd:integer {{ minInclusive = "{10 * i}" maxInclusive = "{10 * i + 5}" }}' for i in range(count)]
+    return lists_of(bounds, [str(10 * i) for i in range(given)], 100)
+
+
 def doubled(count, last, choices, times):
     """Definitions, each the next one twice. The document has, `times` times, the children of one of the choices, named by its letters."""
     rules = [f"x{i} = x{i + 1}, x{i + 1}" for i in range(count)]
@@ -212,6 +238,13 @@ WORKLOADS = [
     ("64 interleaved groups of two", pairs(64)),
     ("64 interleaved groups of two that may be left out", optional_groups(64)),
     ("rounds of 16 interleaved members that may be left out", rounds(16)),
+    ("400 lists of 50 pieces, of 40 values", values(40, 40)),
+    ("400 lists of 50 pieces, of 300 values", values(300, 300)),
+    ("400 lists of 50 pieces, of 8 of 300 values", values(300, 8)),
+    ("200 lists of 50 pieces, of 300 integers as values", integers(300, 300)),
+    ("200 lists of 50 pieces, of 8 of 300 integers as values", integers(300, 8)),
+    ("100 lists of 50 pieces, of 100 ranges of integers", ranges(100, 100)),
+    ("100 lists of 50 pieces, of 8 of 100 ranges of integers", ranges(100, 8)),
     ("20,000 children, each one of 10", one_of(10)),
     ("20,000 children, each one of 950", one_of(950)),
     ("300 elements of 256 attributes of any name", any_attributes),

@@ -26,8 +26,8 @@ use std::sync::Arc;
 
 /// A compiled schema, with what its matcher has learned from the documents that it has judged.
 ///
-/// What a validator keeps from one document to the next makes the next one cheaper and changes no verdict. Its size is
-/// bounded as for one document.
+/// What a validator keeps from one document to the next makes the next one cheaper and changes no verdict. It has no
+/// name, text or attribute value of a document. Its size is bounded as for one document.
 #[derive(Drop)]
 pub struct Validator {
     pub(crate) grammar: Arc<SimpleGrammar>,

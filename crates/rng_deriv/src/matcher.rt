@@ -19,9 +19,10 @@ use std::marker::Model;
 
 /// A matcher. It takes the events of a document one by one, and reports whether the document is valid by a grammar.
 ///
-/// RELAX NG Specification, sections 6.2, 6.3 and 7. It keeps only numbers of patterns of a document: the alternatives
-/// for what remains of the innermost open element, and for each open element the ways out of it. After a call runs out
-/// of memory, each call fails with that error.
+/// RELAX NG Specification, sections 6.2, 6.3 and 7. Of a document it keeps numbers of patterns alone: the alternatives
+/// for what remains of the innermost open element, and for each open element the ways out of it. No name, text or
+/// attribute value is copied. What it learns about the grammar depends on keys of names and on outcomes of tests. After
+/// a call runs out of memory, each call fails with that error.
 #[derive(Drop)]
 pub struct Matcher<'a> {
     matcher: EventMatcher<GrammarDerivatives<'a>>,

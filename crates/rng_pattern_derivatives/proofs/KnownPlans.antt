@@ -14,14 +14,12 @@ use Rattle.rng_pattern_table.specs.views.Trees.{tree_of}
 use Rattle.rng_pattern_table.specs.declared.pattern.PatternNumber.{PatternNumber}
 use Rattle.rng_pattern_table.proofs.Trees.{Longer-length, tree_stays}
 use Rattle.rng_pattern_derivatives.specs.contracts.plans.AskedPartialEq.TheImpl as same
-use Rattle.rng_pattern_derivatives.specs.plain.Kinds.{Obeys}
 use Rattle.rng_pattern_derivatives.specs.plain.Ways.{AreWaysOf}
-use Rattle.rng_pattern_derivatives.specs.views.Plans.{ArePlans, HasPlan, IsAfterPiece, IsChoiceOf, IsIndex, IsOutcome, IsPlan, IsPlanFor, TakesOnly, number_of}
+use Rattle.rng_pattern_derivatives.specs.views.Plans.{ArePlans, HasPlan, IsChoiceOf, IsIndex, IsOutcome, IsPlan, IsPlanFor, TakesOnly, number_of}
 use Rattle.rng_pattern_derivatives.specs.declared.plans.Asked.{Asked}
 use Rattle.rng_pattern_derivatives.specs.declared.plans.Plan.{Plan}
 use Rattle.rng_pattern_derivatives.specs.declared.plans.ValueIndex.{ValueIndex}
 use Rattle.rng_pattern_derivatives.specs.declared.way.LeafWay.{LeafWay}
-use Rattle.rng_pattern_derivatives.specs.declared.way.Place.TheVariants as places
 use Rattle.rng_pattern_derivatives.proofs.WaysOfSides.{side_law}
 
 module _ (P : PatternNumber → Type 0) where
@@ -89,20 +87,6 @@ module _ (t : Table) (old new : List Node) (longer : Longer old new) where
     outcomes = λ o c. outcome_longer plan.ways.items plan.leaves.items o.taken.items o.rest (h.outcomes o c);
   }
 
-  piece_longer : (s : List ℕ) (n : ℕ) (rest : PatternNumber) → n < length old → IsAfterPiece t old s n rest → IsAfterPiece t new s n rest
-  piece_longer s n rest there h =
-      let long = Longer-length old new longer in
-      let inside = h.inside in
-      let whole = tree_stays t old new n longer there in
-      let left = tree_stays t old new rest.0 longer inside in record {
-        inside = omega (arith, inside, long);
-        law = λ o ks bare. let e = h.law (subst (Obeys places.List) whole o) ks bare in (
-          λ d. subst (λ p. Takes (reading_of t) p [] (a_text s ∷ ks)) (sym whole) (e.0 (subst (λ p. Takes (reading_of t) p [] ks) left d)),
-          λ d. subst (λ p. Takes (reading_of t) p [] ks) (sym left) (e.1 (subst (λ p. Takes (reading_of t) p [] (a_text s ∷ ks)) whole d)),
-        );
-        kept = λ o. subst (Obeys places.List) (sym left) (h.kept (subst (Obeys places.List) whole o));
-      }
-
   pub plan_for_longer : (keys : Keys) (a : Asked) (plan : Plan) → IsPlanFor t keys old a plan → IsPlanFor t keys new a plan
   plan_for_longer keys a plan h =
       let long = Longer-length old new longer in
@@ -112,7 +96,6 @@ module _ (t : Table) (old new : List Node) (longer : Longer old new) where
         ways = λ kind is. subst (λ p. AreWaysOf t new kind p plan.ways.items) (sym (tree_stays t old new (number_of a) longer h.inside))
             (side_law t old new kind (tree_of t old (number_of a)) plan.ways.items longer (h.ways kind is));
         right = plan_longer plan h.right;
-        pieces = λ p c. piece_longer (string_bytes p.text) (number_of a) p.rest h.inside (h.pieces p c);
       }
 
   pub plans_longer : {Z : Type 0} (keys : Keys) (plans : HashMap Asked Plan Z) → ArePlans t keys old plans → ArePlans t keys new plans

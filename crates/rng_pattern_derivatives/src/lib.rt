@@ -30,7 +30,7 @@ pub use datatypes::Datatypes;
 pub use known::{Known, KnownByKey, KnownWays, LastByPattern, LastWays, known_ways, last_ways};
 pub use leaf_ways::{attribute_ways, text_ways};
 pub use leaves::rest_of_leaf;
-pub use plans::{Asked, Leaves, Outcome, Piece, Plan, Plans, Tests, ValueIndex};
+pub use plans::{Asked, Leaves, Outcome, Plan, Plans, Tests, ValueIndex};
 pub use rests::KnownRests;
 pub use starting::{number_at, start};
 pub use takers::Takers;

@@ -1,4 +1,4 @@
-// What is kept of patterns that leave more than two rests: by the outcome of tests, and by the pieces of a list.
+// What is kept of patterns that leave more than two rests: what the tests of their leaves leave.
 use crate::way::Ways;
 use rng_names::NameKey;
 use rng_pattern_table::PatternNumber;
@@ -25,13 +25,6 @@ pub struct Outcome {
     pub rest: PatternNumber,
 }
 
-/// A string that was tried in a list, and what is left of the pattern after it.
-#[derive(Drop)]
-pub struct Piece {
-    pub text: String,
-    pub rest: PatternNumber,
-}
-
 /// Ways of a pattern, where those are found by hash whose leaves are values that a text can be equal to.
 #[derive(Drop)]
 pub struct ValueIndex {
@@ -48,8 +41,6 @@ pub struct Plan {
     pub ways: Ways,
     pub leaves: Leaves,
     pub outcomes: Vec<Outcome>,
-    /// Strings that were tried in a list.
-    pub pieces: Vec<Piece>,
     /// The ways by the texts that their leaves take, if there are many leaves that may take a string.
     pub values: Option<Box<ValueIndex>>,
 }

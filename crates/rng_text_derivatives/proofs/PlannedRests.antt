@@ -21,11 +21,10 @@ use Rattle.rng_pattern_table.specs.declared.pattern.PatternNumber.{PatternNumber
 use Rattle.rng_pattern_table.proofs.Trees.{Longer-length, Longer-refl, tree_stays}
 use Rattle.rng_pattern_derivatives.specs.plain.Kinds.{Obeys}
 use Rattle.rng_pattern_derivatives.specs.plain.Ways.{AreInside, AreWaysOf, Offers}
-use Rattle.rng_pattern_derivatives.specs.views.Plans.{AreRestsBy, IsAfterPiece, IsChoiceOf, IsIndex, IsKindAsked, IsOutcome, IsPlan, IsPlanFor, no_ways, number_of, one_left_out, one_taken}
+use Rattle.rng_pattern_derivatives.specs.views.Plans.{AreRestsBy, IsChoiceOf, IsIndex, IsKindAsked, IsOutcome, IsPlan, IsPlanFor, no_ways, number_of, one_left_out, one_taken}
 use Rattle.rng_pattern_derivatives.specs.declared.plans.Asked.{Asked}
 use Rattle.rng_pattern_derivatives.specs.declared.plans.Asked.TheVariants as asked
 use Rattle.rng_pattern_derivatives.specs.declared.plans.Outcome.{Outcome}
-use Rattle.rng_pattern_derivatives.specs.declared.plans.Piece.{Piece}
 use Rattle.rng_pattern_derivatives.specs.declared.plans.Plan.{Plan}
 use Rattle.rng_pattern_derivatives.specs.declared.way.Kind.{Kind}
 use Rattle.rng_pattern_derivatives.specs.declared.way.Kind.TheVariants as kinds
@@ -36,7 +35,7 @@ use Rattle.rng_pattern_derivatives.proofs.KnownPlans.{all_inside, choice_longer,
 use Rattle.rng_pattern_derivatives.proofs.LikeAttributes.{ways_alike}
 use Rattle.rng_pattern_derivatives.proofs.WayLists.{inside_longer, ways_stay}
 use Rattle.rng_text_derivatives.specs.plain.After.{AreFor, AreRests, AreThoseBehind, AreWaysFor, IsLeft, TellsTaken, attributes_of, items_of, place_of}
-use Rattle.rng_text_derivatives.specs.plain.Asking.{AreTests, IsAskedBy, IsPieceOf}
+use Rattle.rng_text_derivatives.specs.plain.Asking.{AreTests, IsAskedBy}
 use Rattle.rng_text_derivatives.specs.plain.Settling.{AreLeft, IsSettled}
 use Rattle.rng_text_derivatives.specs.declared.settled.Rest.{Rest}
 use Rattle.rng_text_derivatives.specs.declared.first.First.{First}
@@ -247,26 +246,9 @@ left_earlier t old ns new first number rest longer inside h =
       kept = subst (λ p. Obeys (place_of first) p → Obeys (place_of first) (tree_of t new rest.0)) is h.kept;
     }
 
--- ---- pieces of a list
-
-pub kept_left : (t : Table) (ns : List Node) (first : First) (s : List ℕ) (number rest : PatternNumber) → IsPieceOf first s → IsAfterPiece t ns s number.0 rest
-    → IsLeft t ns ns first number rest
-kept_left t ns (firsts.Text places.Content text) s number rest is h = absurd is
-kept_left t ns (firsts.Attribute attr) s number rest is h = absurd is
-kept_left t ns (firsts.Text places.List text) s number rest is h =
-    let own : IsAfterPiece t ns text.now number.0 rest = subst (λ s. IsAfterPiece t ns s number.0 rest) is h in
-    record { inside = own.inside; law = own.law; kept = own.kept }
-
-pub left_kept : (t : Table) (ns : List Node) (first : First) (s : List ℕ) (number rest : PatternNumber) → IsPieceOf first s
-    → IsLeft t ns ns first number rest → IsAfterPiece t ns s number.0 rest
-left_kept t ns (firsts.Text places.Content text) s number rest is h = absurd is
-left_kept t ns (firsts.Attribute attr) s number rest is h = absurd is
-left_kept t ns (firsts.Text places.List text) s number rest is h =
-    subst (λ s. IsAfterPiece t ns s number.0 rest) (sym is) (record { inside = h.inside; law = h.law; kept = h.kept })
-
 -- ---- plans
 
--- a plan without outcomes and pieces
+-- a plan without outcomes
 module _ (t : Table) (keys : Keys) (old ns : List Node) (longer : Longer old ns) (first : First) (number : PatternNumber) (there : number.0 < length old)
     (ws : List LeafWay)
     (all : (a : Asked) → IsAskedBy keys first number a → (kind : Kind) → IsKindAsked keys a kind → AreWaysOf t ns kind (tree_of t old number.0) ws)
@@ -298,9 +280,9 @@ module _ (t : Table) (keys : Keys) (old ns : List Node) (longer : Longer old ns)
     pub new_settled : (r : Rest) → AreLeft t ns first ws r → IsSettled t ns first (tree_of t ns number.0) r
     new_settled r left = settled_by t ns first (tree_of t ns number.0) ws r asked_ways left
 
-    pub new_plan_right : (plan : Plan) → plan.ways.items ≡ ws → plan.pieces.items ≡ [] → IsPlan t ns plan → (a : Asked) → IsAskedBy keys first number a
+    pub new_plan_right : (plan : Plan) → plan.ways.items ≡ ws → IsPlan t ns plan → (a : Asked) → IsAskedBy keys first number a
         → IsPlanFor t keys ns a plan
-    new_plan_right plan are none right a asks =
+    new_plan_right plan are right a asks =
         let is = number_asked t keys ns number first a asks in
         let long = Longer-length old ns longer in
         let stays : tree_of t ns (number_of a) ≡ tree_of t old number.0 = ap (tree_of t ns) is ∙ tree_stays t old ns number.0 longer there in
@@ -309,31 +291,15 @@ module _ (t : Table) (keys : Keys) (old ns : List Node) (longer : Longer old ns)
           ways = λ kind k. subst (λ p. AreWaysOf t ns kind p plan.ways.items) (sym stays)
               (subst (AreWaysOf t ns kind (tree_of t old number.0)) (sym are) (all a asks kind k));
           right = right;
-          pieces = λ p c. absurd (nothing p (subst (λ ps. Contains ps p) none c));
         }
-      where
-        nothing : (p : Piece) → Contains [] p → ⊥
-        nothing p (i, h, e) = omega (arith, h)
 
--- a plan after what is left is kept
-pub plan_again : (t : Table) (keys : Keys) (n1 n2 : List Node) → Longer n1 n2 → (first : First) (number rest : PatternNumber) (a : Asked)
-    → IsAskedBy keys first number a → (before middle after : Plan) → IsPlanFor t keys n1 a before → middle.ways ≡ before.ways → middle.pieces ≡ before.pieces
-    → IsPlan t n2 middle → after.ways ≡ middle.ways → (IsPlan t n2 middle → IsPlan t n2 after)
-    → ((p : Piece) → Contains after.pieces.items p → Contains middle.pieces.items p ⊎ (IsPieceOf first (string_bytes p.text) × (p.rest ≡ rest)))
-    → IsLeft t n1 n2 first number rest → IsPlanFor t keys n2 a after
-plan_again t keys n1 n2 longer first number rest a asks before middle after own ways pieces right last_ways more within left =
+-- a plan after its leaves were tested
+pub plan_again : (t : Table) (keys : Keys) (n1 n2 : List Node) → Longer n1 n2 → (a : Asked) (before after : Plan) → IsPlanFor t keys n1 a before
+    → after.ways ≡ before.ways → IsPlan t n2 after → IsPlanFor t keys n2 a after
+plan_again t keys n1 n2 longer a before after own ways right =
     let then = plan_for_longer t n1 n2 longer keys a before own in
-    let is = number_asked t keys n1 number first a asks in
-    let inside = own.inside in
-    let there : number.0 < length n1 = omega (arith, is, inside) in
-    let same = ap (λ (v : SmallVec LeafWay). v.items) (last_ways ∙ ways) in
-    let later = left_later t n1 n2 first number rest longer there left in
     record {
       inside = then.inside;
-      ways = λ kind k. subst (AreWaysOf t n2 kind (tree_of t n2 (number_of a))) (sym same) (then.ways kind k);
-      right = more right;
-      pieces = λ p c. ⊎_elim
-          (λ was. then.pieces p (subst (λ (ps : List Piece). Contains ps p) (ap (λ v. v.items) pieces) was))
-          (λ new. subst (λ n. IsAfterPiece t n2 (string_bytes p.text) n p.rest) (sym is) (subst (IsAfterPiece t n2 (string_bytes p.text) number.0) (sym new.1)
-          (left_kept t n2 first (string_bytes p.text) number rest new.0 later))) (within p c);
+      ways = λ kind k. subst (AreWaysOf t n2 kind (tree_of t n2 (number_of a))) (sym (ap (λ (v : SmallVec LeafWay). v.items) ways)) (then.ways kind k);
+      right = right;
     }

@@ -29,7 +29,7 @@ use crate::context::Context;
 use crate::first::First;
 use crate::joined_sides::with_sides_joined;
 use crate::leaf_tests::{data_takes, is_blank, is_leaf_for, list_body};
-use crate::plans::{TakenPlan, asked, keep_piece, kept_piece, plan_of, rest_by};
+use crate::plans::{TakenPlan, asked, plan_of, rest_by};
 use crate::settled::{Rest, left_by_few, settled};
 use crate::value_index::ways_to_test;
 use rng_model::{Attr, OutOfMemory, PatternId, Pieces, Simple};
@@ -274,7 +274,7 @@ fn after_new_ways(
     after_taken_plan(context, table, known, first, TakenPlan { asked, plan })
 }
 
-/// The same by the plan of the pattern, which is kept with what is left.
+/// The same by the plan of the pattern, which is kept.
 #[cycle(after)]
 fn after_taken_plan(
     context: &Context,
@@ -293,12 +293,7 @@ fn after_taken_plan(
         → IsLeft context.now.grammar.now table.old table.new first.entry n rest) }
 {
     let TakenPlan { asked, mut plan } = taken;
-    if let Some(rest) = kept_piece(&plan, first) {
-        known.keep_plan(asked, plan)?;
-        return Ok(rest);
-    }
     let rest = after_plan(context, table, known, first, &mut plan)?;
-    keep_piece(context.alloc, &mut plan, first, rest)?;
     known.keep_plan(asked, plan)?;
     Ok(rest)
 }
@@ -321,7 +316,6 @@ fn after_plan(
     ensures longer { OnOk result (Longer table.old table.new) }
     ensures known { OnOk result (AreAllKnown context.now.grammar.now context.now.keys.now table.new known.new) }
     ensures ways { OnOk result (plan.new.ways ≡ plan.old.ways) }
-    ensures pieces { OnOk result (plan.new.pieces ≡ plan.old.pieces) }
     ensures plan { OnOk result (IsPlan context.now.grammar.now table.new plan.new) }
     ensures left { IfOk result (λ rest. (n : PatternNumber) → n.0 < length table.old
         → AreWaysFor context.now.grammar.now table.old first.entry (tree_of context.now.grammar.now table.old n.0) plan.old.ways.items

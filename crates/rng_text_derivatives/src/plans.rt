@@ -1,5 +1,5 @@
-// Plans: what is left of patterns, by the outcome of tests, and by the pieces of a list.
-ghost use Rattle.std.specs.Prelude.{◌≡◌, ◌⊎◌, ◌<◌, [], All, IfOk, IfSome, List, OnOk, Some, length, slice_get, string_bytes};
+// Plans: what is left of patterns, by the outcome of tests.
+ghost use Rattle.std.specs.Prelude.{◌≡◌, ◌⊎◌, ◌<◌, All, IfOk, IfSome, List, OnOk, Some, length, slice_get};
 ghost use Rattle.std.specs.List.{Contains};
 ghost use Rattle.rng_model.specs.simple.Table.{Table};
 ghost use Rattle.rng_pattern_table.specs.views.Node.{Node};
@@ -9,16 +9,14 @@ ghost use Rattle.rng_pattern_derivatives.specs.plain.Ways.{AreInside};
 ghost use Rattle.rng_pattern_derivatives.specs.views.Datatypes.{AreDatatypesOf};
 ghost use Rattle.rng_pattern_derivatives.specs.views.Plans.{AreRestsBy, IsIndex, IsOutcome, IsPlan, IsTold};
 ghost use Rattle.rng_pattern_derivatives.specs.declared.plans.Outcome.{Outcome};
-ghost use Rattle.rng_pattern_derivatives.specs.declared.plans.Piece.{Piece};
-ghost use Rattle.rng_text_derivatives.specs.plain.Asking.{IsAskedBy, IsPieceOf};
+ghost use Rattle.rng_text_derivatives.specs.plain.Asking.{IsAskedBy};
 
 use crate::context::Context;
 use crate::first::First;
-use crate::settled::FEW_WAYS;
 use crate::value_index::index_of;
 use rng_model::OutOfMemory;
 use rng_pattern_derivatives::{
-    Asked, Datatypes, LeafWay, Leaves, Outcome, Piece, Place, Plan, Rests, Tests, ValueIndex, Ways,
+    Asked, Datatypes, LeafWay, Leaves, Outcome, Plan, Rests, Tests, ValueIndex, Ways,
 };
 use rng_pattern_table::{PatternNumber, PatternTable};
 use smallvec::SmallVec;
@@ -29,12 +27,6 @@ const MOST_LEAVES: usize = 64;
 
 /// The number of outcomes that are kept for a pattern.
 const MOST_OUTCOMES: usize = 16;
-
-/// The number of pieces of a list that are kept for a pattern, until it begins anew.
-const MOST_PIECES: usize = 64;
-
-/// The length up to which a piece is kept.
-const LONGEST_PIECE: usize = 64;
 
 /// A plan that is taken out of the known ones, or a new one, and what it is the plan of.
 #[derive(Drop)]
@@ -105,7 +97,6 @@ pub fn plan_of(
     requires inside { AreInside table.now ways.items }
     requires datatypes { AreDatatypesOf context.now.grammar.now datatypes.now }
     ensures ways { IfOk result (λ plan. plan.ways.items ≡ ways.items) }
-    ensures pieces { IfOk result (λ plan. plan.pieces.items ≡ []) }
     ensures plan { IfOk result (IsPlan context.now.grammar.now table.now) }
 {
     let leaves = different_leaves(context.alloc, ways.as_slice())?;
@@ -113,7 +104,6 @@ pub fn plan_of(
         ways,
         leaves,
         outcomes: Vec::new(context.alloc),
-        pieces: Vec::new(context.alloc),
         values: None,
     };
     plan.values = values_of(context, table, datatypes, first, &plan)?;
@@ -180,7 +170,6 @@ fn kept_rest(outcomes: &[Outcome], taken: &[bool]) -> Option<PatternNumber>
 fn keep_outcome(plan: &mut Plan, taken: Tests, rest: PatternNumber) -> Result<(), OutOfMemory>
     ensures ways { OnOk result (plan.new.ways ≡ plan.old.ways) }
     ensures leaves { OnOk result (plan.new.leaves ≡ plan.old.leaves) }
-    ensures pieces { OnOk result (plan.new.pieces ≡ plan.old.pieces) }
     ensures values { OnOk result (plan.new.values ≡ plan.old.values) }
     ensures outcomes { OnOk result ((o : Outcome) → Contains plan.new.outcomes.items o
         → Contains plan.old.outcomes.items o ⊎ ((o.taken.items ≡ taken.items) × (o.rest ≡ rest))) }
@@ -204,7 +193,6 @@ pub fn rest_by(
     requires { AreInside table.old plan.old.ways.items }
     ensures longer { OnOk result (Longer table.old table.new) }
     ensures ways { OnOk result (plan.new.ways ≡ plan.old.ways) }
-    ensures pieces { OnOk result (plan.new.pieces ≡ plan.old.pieces) }
     ensures plan { OnOk result ((t : Table) → IsPlan t table.old plan.old → IsPlan t table.new plan.new) }
     ensures rest { IfOk result (λ o. IfSome o (λ rest. (t : Table) → IsPlan t table.old plan.old
         → IsOutcome t table.new plan.old.ways.items plan.old.leaves.items taken.items rest)) }
@@ -224,63 +212,4 @@ pub fn rest_by(
     let rest = table.choice(alloc, rests.as_slice())?;
     keep_outcome(plan, taken, rest)?;
     Ok(Some(rest))
-}
-
-/// Returns the rest that is kept for a text among these pieces. Allocates nothing.
-fn rest_of_piece(pieces: &[Piece], text: &str) -> Option<PatternNumber>
-    ensures { IfSome result (λ rest. (p : Piece) × Contains pieces.now p × (string_bytes p.text ≡ text.now) × (p.rest ≡ rest)) }
-{
-    'pieces: for piece in pieces {
-        if piece.text.as_str() == text {
-            return Some(piece.rest);
-        }
-    }
-    None
-}
-
-/// Returns the string, if this is a piece of a list. Allocates nothing.
-fn piece_of<'a>(first: First<'a>) -> Option<&'a str>
-    ensures { IfSome result (λ text. IsPieceOf first.entry text.now) }
-{
-    match first {
-        First::Text(Place::List, text) => Some(text),
-        _ => None,
-    }
-}
-
-/// Returns what is known to be left by a plan after this, if it is a piece of a list. Allocates nothing.
-pub fn kept_piece(plan: &Plan, first: First) -> Option<PatternNumber>
-    ensures { IfSome result (λ rest. (p : Piece) × Contains plan.now.pieces.items p × IsPieceOf first.entry (string_bytes p.text) × (p.rest ≡ rest)) }
-{
-    rest_of_piece(plan.pieces.as_slice(), piece_of(first)?)
-}
-
-/// Keeps what is left after this, if it is a short piece of a list, and the plan has many ways. Where many pieces are
-/// kept, the others are forgotten. Fails only when out of memory.
-pub fn keep_piece(
-    alloc: Global,
-    plan: &mut Plan,
-    first: First,
-    rest: PatternNumber,
-) -> Result<(), OutOfMemory>
-    ensures ways { OnOk result (plan.new.ways ≡ plan.old.ways) }
-    ensures plan { OnOk result ((t : Table) (ns : List Node) → IsPlan t ns plan.old → IsPlan t ns plan.new) }
-    ensures pieces { OnOk result ((p : Piece) → Contains plan.new.pieces.items p
-        → Contains plan.old.pieces.items p ⊎ (IsPieceOf first.entry (string_bytes p.text) × (p.rest ≡ rest))) }
-{
-    let Some(text) = piece_of(first) else {
-        return Ok(());
-    };
-    if plan.ways.len() <= FEW_WAYS || text.len() > LONGEST_PIECE {
-        return Ok(());
-    }
-    let text = String::from_str(alloc, text)?;
-    let piece = Piece { text, rest };
-    if plan.pieces.len() < MOST_PIECES {
-        plan.pieces.push(piece)?;
-        return Ok(());
-    }
-    plan.pieces.clear();
-    plan.pieces.push(piece)?;
-    Ok(())
 }

@@ -119,6 +119,7 @@ int32_t rncv_schema_share(rncv_schema *schema, rncv_schema *other);
 void rncv_schema_free(rncv_schema *schema);
 
 /* Begins a document, and drops one that is in progress. What was worked out from the schema for earlier documents is kept, and makes this one cheaper.
+ * No name, text or attribute value of those documents is kept.
  *
  * RNCV_MEMORY: out of memory; no document is in progress, and the handle still holds the schema. RNCV_MISUSE: the handle holds nothing.
  * The handle owns the document until rncv_document_end. Only one thread at a time may use the handle. */

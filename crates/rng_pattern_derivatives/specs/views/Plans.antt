@@ -1,4 +1,4 @@
--- Plans of patterns: what is left of them, by the outcome of the tests of leaves and by the pieces of a list.
+-- Plans of patterns: what is left of them, by the outcome of the tests of leaves.
 use Rattle.std.specs.Prelude.{◌≡◌, ◌⊎◌, ℕ, ◌<◌, ◌↔◌, List, [], ◌∷◌, ◌++◌, All, Bool, IfSome, String, true, false, Some, length, slice_get, string_bytes}
 use Rattle.std.specs.Global.{Global}
 use Rattle.std.specs.HashMap.{HashMap, get, get_by_text}
@@ -12,7 +12,6 @@ use Rattle.rng_model.specs.matching.Reading.{Reading}
 use Rattle.rng_model.specs.names.NameViews.{name_of}
 use Rattle.rng_model.specs.simple.Table.{Table}
 use Rattle.rng_model.specs.simple.Tree.{Simple}
-use Rattle.rng_deriv_laws.specs.plain.Blanks.{IsBare}
 use Rattle.rng_deriv_laws.specs.plain.Taking.{Takes}
 use Rattle.rng_pattern_table.specs.plain.Reduced.{HasAlternative}
 use Rattle.rng_pattern_table.specs.views.Choices.{IsAlternativeOf, SomeTakes}
@@ -20,18 +19,15 @@ use Rattle.rng_pattern_table.specs.views.Node.{Node}
 use Rattle.rng_pattern_table.specs.views.Trees.{tree_of}
 use Rattle.rng_pattern_table.specs.declared.pattern.PatternNumber.{PatternNumber}
 use Rattle.rng_pattern_derivatives.specs.contracts.plans.AskedPartialEq.TheImpl as same
-use Rattle.rng_pattern_derivatives.specs.plain.Kinds.{Obeys}
 use Rattle.rng_pattern_derivatives.specs.plain.Ways.{AreWaysOf}
 use Rattle.rng_pattern_derivatives.specs.declared.plans.Asked.{Asked}
 use Rattle.rng_pattern_derivatives.specs.declared.plans.Asked.TheVariants as asked
 use Rattle.rng_pattern_derivatives.specs.declared.plans.Outcome.{Outcome}
-use Rattle.rng_pattern_derivatives.specs.declared.plans.Piece.{Piece}
 use Rattle.rng_pattern_derivatives.specs.declared.plans.Plan.{Plan}
 use Rattle.rng_pattern_derivatives.specs.declared.plans.ValueIndex.{ValueIndex}
 use Rattle.rng_pattern_derivatives.specs.declared.way.Kind.{Kind}
 use Rattle.rng_pattern_derivatives.specs.declared.way.Kind.TheVariants as kinds
 use Rattle.rng_pattern_derivatives.specs.declared.way.LeafWay.{LeafWay}
-use Rattle.rng_pattern_derivatives.specs.declared.way.Place.TheVariants as places
 
 -- ---- what the tests of leaves say
 
@@ -61,13 +57,6 @@ pub record IsOutcome (t : Table) (ns : List Node) (ws : List LeafWay) (leaves : 
   pub are : AreRestsBy leaves taken ws rests
   pub inside : All (λ (m : PatternNumber). m.0 < length ns) rests
   pub choice : IsChoiceOf t ns ns rests rest
-
--- this is left of the pattern of this number after a string in a list (RELAX NG Specification, section 6.2.10)
-pub record IsAfterPiece (t : Table) (ns : List Node) (s : List ℕ) (n : ℕ) (rest : PatternNumber) : Type 0 where
-  pub inside : rest.0 < length ns
-  pub law : Obeys places.List (tree_of t ns n) → (ks : List Item) → IsBare (a_text s ∷ ks)
-      → Takes (reading_of t) (tree_of t ns rest.0) [] ks ↔ Takes (reading_of t) (tree_of t ns n) [] (a_text s ∷ ks)
-  pub kept : Obeys places.List (tree_of t ns n) → Obeys places.List (tree_of t ns rest.0)
 
 -- ---- ways by the texts of values
 
@@ -119,7 +108,6 @@ pub record IsPlanFor (t : Table) (keys : Keys) (ns : List Node) (a : Asked) (pla
   pub inside : number_of a < length ns
   pub ways : (kind : Kind) → IsKindAsked keys a kind → AreWaysOf t ns kind (tree_of t ns (number_of a)) plan.ways.items
   pub right : IsPlan t ns plan
-  pub pieces : (p : Piece) → Contains plan.pieces.items p → IsAfterPiece t ns (string_bytes p.text) (number_of a) p.rest
 
 -- all plans are right
 abbrev pub ArePlans : {Z : Type 0} → Table → Keys → List Node → HashMap Asked Plan Z → Type 0

@@ -1,5 +1,5 @@
 -- What a pattern is asked, and what the tests of leaves tell.
-use Rattle.std.specs.Prelude.{◌≡◌, ℕ, List, Bool}
+use Rattle.std.specs.Prelude.{◌≡◌, List, Bool}
 use Rattle.rng_names.specs.plain.Keys.{Keys, key_of}
 use Rattle.rng_names.specs.declared.name_keys.NameKey.{NameKey}
 use Rattle.rng_model.specs.matching.GrammarReading.{reading_of}
@@ -11,7 +11,6 @@ use Rattle.rng_pattern_table.specs.declared.pattern.PatternNumber.{PatternNumber
 use Rattle.rng_pattern_derivatives.specs.views.Plans.{IsTold}
 use Rattle.rng_pattern_derivatives.specs.declared.plans.Asked.{Asked}
 use Rattle.rng_pattern_derivatives.specs.declared.plans.Asked.TheVariants as asked
-use Rattle.rng_pattern_derivatives.specs.declared.way.Place.TheVariants as places
 use Rattle.rng_text_derivatives.specs.plain.After.{TellsTaken}
 use Rattle.rng_text_derivatives.specs.declared.first.First.{First}
 use Rattle.rng_text_derivatives.specs.declared.first.First.TheVariants as firsts
@@ -25,9 +24,3 @@ IsAskedBy keys (firsts.Attribute attr) n a = (k : NameKey) × (a ≡ asked.Attri
 abbrev pub AreTests : Table → List Node → First → List PatternNumber → List Bool → Type 0
 AreTests t ns first leaves taken = (leaf : PatternNumber) (b : Bool) → IsTold leaves taken leaf b
     → TellsTaken (reading_of t) first (tree_of t ns leaf.0) b
-
--- a string that is tried in a list comes first, and it is this one
-abbrev pub IsPieceOf : First → List ℕ → Type 0
-IsPieceOf (firsts.Text places.List s) text = text ≡ s.now
-IsPieceOf (firsts.Text places.Content s) text = ⊥
-IsPieceOf (firsts.Attribute attr) text = ⊥

@@ -36,13 +36,13 @@ use Rattle.rng_pattern_derivatives.proofs.GrammarRows.{decides_holds}
 use Rattle.rng_pattern_derivatives.proofs.StartBodies.{ready_longer}
 use Rattle.rng_text_derivatives.proofs.LeafKinds.{no_attribute_found, tells_of_attribute, tells_of_list, tells_of_no_attribute}
 use Rattle.rng_text_derivatives.proofs.LeafKinds.{tells_of_no_leaf, tells_of_no_string, tells_of_other_name, tells_of_text}
-use Rattle.rng_pattern_derivatives.specs.views.Plans.{IsAfterPiece, IsOutcome, IsPlan}
+use Rattle.rng_pattern_derivatives.specs.views.Plans.{IsOutcome, IsPlan}
 use Rattle.rng_pattern_derivatives.proofs.KnownPlans.{plan_longer}
 use Rattle.rng_pattern_derivatives.proofs.WayLists.{inside_longer}
 use Rattle.rng_pattern_derivatives.proofs.WaysOfSides.{side_law}
 use Rattle.rng_text_derivatives.proofs.NarrowedWays.{few_inside, rests_of_all}
 use Rattle.rng_text_derivatives.specs.plain.Asking.{AreTests, IsAskedBy}
-use Rattle.rng_text_derivatives.proofs.PlannedRests.{asked_inside, new_settled, kept_left, new_plan_right, left_earlier, no_tests, number_asked, one_more_test, outcome_left, plan_again, planned_ways, tests_later, ways_for_later}
+use Rattle.rng_text_derivatives.proofs.PlannedRests.{asked_inside, new_settled, new_plan_right, left_earlier, no_tests, number_asked, one_more_test, outcome_left, plan_again, planned_ways, tests_later, ways_for_later}
 use Rattle.rng_text_derivatives.proofs.after.+after.Goals as goal
 use Rattle.rng_text_derivatives.proofs.after.+after.Goals.{rests-then-branch+in_ok-push, rests-else-branch}
 
@@ -348,23 +348,6 @@ after_taken_plan-after_plan-requires t c =
       ),
     )
 
-pub after_taken_plan-returns-in-Some : goal.after_taken_plan-returns-in-Some
-after_taken_plan-returns-in-Some t c =
-    let t0 = c.args.context.now.grammar.now in
-    let keys = c.args.context.now.keys.now in
-    let ns = c.args.table.now in
-    let a = c.args.taken.asked in
-    let own = c.requires.plan in
-    let piece = c.in-Some.ensures in
-    let text = string_bytes piece.0.text in
-    record {
-      longer = Longer-refl ns;
-      known = c.in_ok-keep_plan.ensures t0 keys ns c.requires.known own;
-      left = λ n asks. kept_left t0 ns c.args.first text n c.in-Some.rest piece.2
-          (subst (IsAfterPiece t0 ns text n.0) piece.3
-          (subst (λ m. IsAfterPiece t0 ns text m piece.0.rest) (number_asked t0 keys ns n c.args.first a asks) (own.pieces piece.0 piece.1)));
-    }
-
 pub after_taken_plan-returns : goal.after_taken_plan-returns
 after_taken_plan-returns t c =
     let t0 = c.args.context.now.grammar.now in
@@ -378,12 +361,10 @@ after_taken_plan-returns t c =
     λ n asks. subst (λ m. m < length n1) (number_asked t0 keys n1 n c.args.first a asks) own.inside in
     let left : (n : PatternNumber) → IsAskedBy keys c.args.first n a → IsLeft t0 n1 n2 c.args.first n c.in_ok-rest.rest =
     λ n asks. told.left n (there n asks) (planned_ways t0 keys n1 n c.args.first a c.args.taken.plan asks own) in
-    let some = c.requires.asked in
     record {
       longer = told.longer;
-      known = c.in_ok-keep_plan-2.ensures t0 keys n2 told.known (plan_again t0 keys n1 n2 told.longer c.args.first some.0 c.in_ok-rest.rest
-          a some.1 c.args.taken.plan c.after_plan.new.plan c.keep_piece.new.plan own told.ways told.pieces told.plan
-          c.in_ok-keep_piece.ensures.ways (c.in_ok-keep_piece.ensures.plan t0 n2) c.in_ok-keep_piece.ensures.pieces (left some.0 some.1));
+      known = c.in_ok-keep_plan.ensures t0 keys n2 told.known
+          (plan_again t0 keys n1 n2 told.longer a c.args.taken.plan c.after_plan.new.plan own told.ways told.plan);
       left = left;
     }
 
@@ -517,7 +498,7 @@ after_new_ways-after_taken_plan-requires t c =
       (
         new_plan_right t0 keys old n2 (Longer-trans old n1 n2 longer longer') c.args.first c.args.number c.requires.inside ws
             (λ a asks kind k. side_law t0 n1 n2 kind (tree_of t0 old c.args.number.0) ws longer' (c.in_ok-ways.ensures.ways a asks kind k))
-            c.in_ok-plan.plan c.in_ok-plan.ensures.ways c.in_ok-plan.ensures.pieces c.in_ok-plan.ensures.plan c.asked-asked.result c.asked-asked.ensures,
+            c.in_ok-plan.plan c.in_ok-plan.ensures.ways c.in_ok-plan.ensures.plan c.asked-asked.result c.asked-asked.ensures,
         ((c.args.number, c.asked-asked.ensures), (ready, known)),
       ),
     )
@@ -564,7 +545,6 @@ after_plan-returns-in-Some t c =
       longer = longer;
       known = all_longer t0 keys n1 n2 told.longer c.tests.new.known tested.known;
       ways = told.ways;
-      pieces = told.pieces;
       plan = told.plan t0 right;
       left = λ n inside all. outcome_left t0 old n2 c.args.first plan.leaves.items c.in_ok-taken.taken.items n c.in-Some.rest plan.ways.items tests
           (ways_for_later t0 old n2 c.args.first (tree_of t0 old n.0) plan.ways.items longer all) (outcome t0 right);
