@@ -24,7 +24,7 @@ HERE = pathlib.Path(__file__).resolve().parent
 TOP = HERE.parents[2]
 LIBRARY = pathlib.Path(os.environ.get("RNCV_LIBRARY", TOP / "build/library")) / "lib/librncv.so"
 SOURCES = [HERE.parent / "src" / f"{name}.c" for name in (
-    "schema_hints", "schema_restrictions", "schema_words", "schema_grammars", "schema_tree", "schema_tokens", "bytes")]
+    "schema_hints", "schema_restrictions", "schema_words", "schema_grammars", "schema_tree", "schema_annotations", "schema_tokens", "paths", "bytes")]
 CLAUSES = range(9, 28)
 TOKEN = re.compile(r'"""(?:.|\n)*?"""|"[^"\n]*"|\'[^\'\n]*\'|[A-Za-z_][\w.:*-]*|\|=|&=|[^\s]|\s+')
 PIECES = ("empty|text|notAllowed|string|token|xsd:integer|\"v\"|element q { text }|attribute x { text }|attribute * { text }|list { token }|(empty, text)|"
