@@ -426,7 +426,7 @@ bool annotations_blank(char *bytes, size_t length, bool *is_changed) {
         return true;
     }
     bool is_good = tokens_open(&reader.tokens, bytes, length);
-    if (is_good) {
+    if (is_good && length > 0 && memchr(reader.tokens.text.data, '[', reader.tokens.text.length) != NULL) {
         for (int token = 0; token < 3; token++) {
             advance(&reader);
         }

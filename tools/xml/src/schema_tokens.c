@@ -267,7 +267,7 @@ static struct token literal_at(const char *text, size_t at, size_t length, size_
         }
     }
     /* three quotes without an end are an empty literal and what follows it */
-    *end = at + 2;
+    *end = is_long ? at + 2 : length;
     return (struct token){is_long ? TOKEN_LITERAL : TOKEN_NONE, {text + at + 1, 0}, at, 0};
 }
 

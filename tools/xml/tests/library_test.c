@@ -290,6 +290,7 @@ static void annotations(rncv_xml_judge *judge) {
         {"element x { empty >> b [ '\xC3\xA9' ] }", "element x { empty               }"},
         {"a:b\\x{5B} ] start = x", "            start = x"},
         {"a:b [ ] start = x >> y", "        start = x    ]"},
+        {"a:b [ ] start = \\x{41} '", "        start = \\x{41} '"},
         {"a:b [ '\x01' ] start = x", NULL},
         {"a:b [ '\xFF' ] start = x", NULL},
         {"a:b [ '\\x{FFFF}' ] start = x", NULL},
