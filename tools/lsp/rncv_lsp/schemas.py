@@ -59,7 +59,7 @@ class Schemas:
 def compiled(name: str, schema: SchemaSet) -> Outcome:
     """Compiles a schema."""
     try:
-        validator = rncv.compile({each: file.content for each, file in schema.files.items()})
+        validator = rncv.compile({each: file.content for each, file in schema.files.items()}, annotations=True)
     except rncv.SchemaError as fault:
         return Outcome(name, fault=fault)
     texts = tuple({file.key: file.lines.text for file in schema.files.values()}.values())

@@ -77,6 +77,20 @@ class Places(WithServer):
             self.assertEqual((told["code"], told["severity"], span(told)), (code, 1, place), text)
             self.assertTrue(told["message"].startswith(f"{code}: ") and told["message"].endswith(f": hint: {hint}"), told["message"])
 
+    @unittest.skipUnless(has_xml_library(), NO_XML_LIBRARY)
+    def test_annotations(self):
+        uri = self.uri("annotated.rnc")
+        self.client.open(uri, "namespace b = 'u'\nb:c [ '\u00e9' ]\r\nstart = element x { empty >> b:d [ e = '\U0001F600' ] } f [ ]\n")
+        self.assertEqual(self.client.found(uri), [])
+        self.client.close(uri)
+        self.client.found(uri, None)
+        for text, code, place in (
+                ("b [ '\u00e9' ]\r\nc [ '\u20ac\U0001F600' ] start = element x { }", "S6", (1, 32, 1, 33)),
+                ("c [ '\u00e9' ] start = element x { attribute y { text } >> c [ '\u20ac' ], attribute y { text } }", "S24", (0, 65, 0, 74)),
+                ("b [ c d ] start = element x { empty }", "S6", (0, 4, 0, 5)), ("b [ '\x01' ] start = element x { empty }", "S4", (0, 5, 0, 6))):
+            told = self.one(text)
+            self.assertEqual((told["code"], span(told)), (code, place), text)
+
     def test_parts_of_schemas(self):
         told = self.one("b = element b { text }")
         self.assertEqual((told["code"], told["severity"]), ("S14", 3))

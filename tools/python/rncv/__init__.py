@@ -408,14 +408,14 @@ class Document:
 
 
 @overload
-def compile(files: Mapping[str, Bytes], /) -> Validator: ...
+def compile(files: Mapping[str, Bytes], /, *, annotations: bool = False) -> Validator: ...
 
 
 @overload
 def compile(*paths: Path) -> Validator: ...
 
 
-def compile(*files: Any) -> Validator:
+def compile(*files: Any, annotations: bool = False) -> Validator:
     """Compiles the schema of these files. The first file is the main one.
 
     They are paths, or one mapping of names to bytes. With paths the main file is enough, whatever folder the process is in: a file that another one mentions
@@ -424,21 +424,25 @@ def compile(*files: Any) -> Validator:
     1,048,577 bytes of a file are read, since a longer file is refused. Files that are nested very deeply may need more stack than the thread has, and that
     ends the process: docs/LIBRARY.md has figures.
 
+    Annotations of the compact syntax that the library does not have (docs/XML.md) become blanks in files that are read, as for `rncv-xml`. Places are those in
+    the file as it is written. With `annotations=True` that is done for the files of a mapping too; else they are handed in as they are. It needs the library
+    for XML: without it all files are handed in as they are, and S6 refuses those annotations.
+
     SchemaError: the files break a clause. OSError: a file cannot be read. ValueError: there is no file, a name is not UTF-8, or a mention may mean several
     files. MemoryError: out of memory. LibraryError: there is no library.
     """
     library = _library()
     if len(files) == 1 and isinstance(files[0], Mapping):
-        sources = _sources_of(files[0])
+        sources = _sources_of(files[0], annotations)
     else:
         sources = _sources_found(files)
     if not sources.names:
         raise ValueError("a schema has at least one file")
-    given = (_File * len(sources.names))(*[_File(name, len(name), text, len(text)) for name, text in zip(sources.names, sources.texts)])
+    given = _array_of(sources.names, sources.texts)
     handle, fault = _Schema(), _Fault()
     status = library.rncv_compile(given, len(given), handle, fault)
     if status == _REFUSED:
-        raise _refusal(fault, given, sources)
+        raise _refusal(fault, sources)
     _want_done(status)
     return Validator(handle, tuple(sources.texts))
 
@@ -453,44 +457,64 @@ def clause_title(group: str, clause: int) -> Optional[str]:
 
 @dataclasses.dataclass
 class _Sources:
-    """The files of a schema: their names for the library, their names for people, and their texts. `missing` finds a mention of a file that is not there."""
+    """The files of a schema: their names for the library, their names for people, their texts as they are written, and as the library gets them. `missing`
+    finds a mention of a file that is not there."""
 
     names: list[bytes]
     shown: list[str]
+    written: list[bytes]
     texts: list[bytes]
     missing: Callable[[], Optional[_schema_files.Missing]]
 
 
-def _sources_of(files: Mapping[Any, Any]) -> _Sources:
+def _sources_of(files: Mapping[Any, Any], annotations: bool) -> _Sources:
     """The files of a mapping of names to bytes."""
-    texts = [_whole(text) for text in files.values()]
+    written = [_whole(text) for text in files.values()]
+    texts = [_blanked(text) for text in written] if annotations else written
     shown = list(files)
-    return _Sources([_utf8_of(name) for name in shown], shown, texts, lambda: _schema_files.missing_in(dict(zip(shown, texts))))
+    return _Sources([_utf8_of(name) for name in shown], shown, written, texts, lambda: _schema_files.missing_in(dict(zip(shown, written))))
 
 
 def _sources_found(paths: Iterable[Any]) -> _Sources:
     """The files at these paths, and those that are found beside them."""
     shown = [_name_of(path) for path in paths]
-    finder = _schema_files.Finder([(_utf8_of(path), path) for path in shown])
+    finder = _schema_files.Finder([(_utf8_of(path), path) for path in shown], _blanked)
     files = finder.files[:_schema_files.MOST_FILES + 1]
-    return _Sources([file.name for file in files], [file.path for file in files], [file.content for file in files], lambda: finder.missing)
+    names, texts = [file.name for file in files], [file.content for file in files]
+    return _Sources(names, [file.path for file in files], [file.written for file in files], texts, lambda: finder.missing)
 
 
-def _refusal(fault: _Fault, given: Any, sources: _Sources) -> SchemaError:
+def _blanked(written: bytes) -> bytes:
+    """A file with blanks for annotations; as it is written if there is no library for XML."""
+    try:
+        return _xml.blanked(_xml_library(), written)
+    except LibraryError:
+        return written
+
+
+def _array_of(names: list[bytes], texts: list[bytes]) -> Any:
+    """Files as the libraries take them."""
+    return (_File * len(names))(*[_File(name, len(name), text, len(text)) for name, text in zip(names, texts)])
+
+
+def _refusal(fault: _Fault, sources: _Sources) -> SchemaError:
     """The error for files that the library refuses."""
     index = _known(fault.file)
     name = None if index is None else sources.shown[index]
     missing = sources.missing() if fault.clause == 1 and index is None else None
     title = clause_title("S", fault.clause) or ""
     told = (None, None) if missing is None else (missing.what, (missing.file, missing.line, missing.column))
-    hint = _hint(fault, given, sources) if fault.clause >= _FIRST_HINTED else ()
-    return SchemaError(fault.clause, title, name, index, _known(fault.offset), _known(fault.line), _known(fault.column), *told, *hint)
+    hint = _hint(fault, sources) if fault.clause >= _FIRST_HINTED else ()
+    offset, line, column = _known(fault.offset), _known(fault.line), _known(fault.column)
+    if index is not None and offset is not None and sources.written[index] is not sources.texts[index]:
+        column = _schema_files.place_of(sources.written[index], offset)[1]  # a blank is a character for each byte
+    return SchemaError(fault.clause, title, name, index, offset, line, column, *told, *hint)
 
 
-def _hint(fault: _Fault, given: Any, sources: _Sources) -> tuple[Any, ...]:
+def _hint(fault: _Fault, sources: _Sources) -> tuple[Any, ...]:
     """The words and the place of a hint: the text, the file, the line and the column; nothing if there is none, or no library for XML."""
     try:
-        found = _xml.hint_of(_xml_library(), given, sources.shown, fault.clause)
+        found = _xml.hint_of(_xml_library(), _array_of(sources.names, sources.written), sources.shown, fault.clause)
     except (LibraryError, MemoryError):
         return ()
     return () if found is None else (found.text, sources.shown[found.file], found.line, found.column)

@@ -6,7 +6,7 @@ import bisect
 import os
 import re
 import stat
-from collections.abc import Iterator, Mapping, Sequence
+from collections.abc import Callable, Iterator, Mapping, Sequence
 from typing import NamedTuple, Optional
 
 # With one more file, or one more byte in a file, the library refuses the schema by S2.
@@ -54,23 +54,28 @@ class Missing(NamedTuple):
 
 
 class SchemaFile:
-    """A file of a schema: the name under which the library gets it, the path where it is, and its bytes."""
+    """A file of a schema: the name under which the library gets it, the path where it is, its bytes as they are written, and as the library gets them."""
 
-    def __init__(self, name: bytes, path: str) -> None:
+    def __init__(self, name: bytes, path: str, written: bytes = b"") -> None:
         self.name, self.path = name, path
-        self.content = b""
+        self.written = self.content = written
 
-    def read(self) -> None:
-        """Reads at most one byte more than a file may have."""
+    def read(self, blanked: Callable[[bytes], bytes]) -> None:
+        """Reads at most one byte more than a file may have. `blanked` writes blanks over annotations."""
         with open(self.path, "rb") as file:
-            self.content = file.read(_MOST_BYTES + 1)
+            self.written = file.read(_MOST_BYTES + 1)
+        self.content = blanked(self.written)
 
     def missing(self, mention: Mention, what: str) -> Missing:
         """Says that what is mentioned is not there."""
-        before = self.content[: mention.at]
-        ends = [end.end() for end in _LINE_END.finditer(before)]
-        column = len(before[ends[-1] if ends else 0:].decode("utf-8", "replace")) + 1
-        return Missing(what, self.path, len(ends) + 1, column)
+        return Missing(what, self.path, *place_of(self.written, mention.at))
+
+
+def place_of(written: bytes, at: int) -> tuple[int, int]:
+    """The line and the column of a byte in a file."""
+    before = written[:at]
+    ends = [end.end() for end in _LINE_END.finditer(before)]
+    return len(ends) + 1, len(before[ends[-1] if ends else 0:].decode("utf-8", "replace")) + 1
 
 
 def mentions_of(content: bytes) -> Iterator[Mention]:
@@ -122,8 +127,7 @@ def missing_in(files: Mapping[str, bytes]) -> Optional[Missing]:
     names = list(files)
     waiting, reached = names[:1], set(names[:1])
     for name in waiting:
-        file = SchemaFile(b"", name)
-        file.content = files[name]
+        file = SchemaFile(b"", name, files[name])
         for mention in mentions_of(file.content):
             words = mention.words.decode("utf-8", "replace")
             if words not in files:
@@ -136,12 +140,12 @@ def missing_in(files: Mapping[str, bytes]) -> Optional[Missing]:
 
 class Finder:
     """Finds the files that a schema needs, beginning with those that are given. `files` are those that were found, and `missing` is the first mention of one
-    that is not there.
+    that is not there. `blanked` writes blanks over the annotations of a file.
 
     ValueError: a mention may mean several files. OSError: a file cannot be read.
     """
 
-    def __init__(self, given: Sequence[tuple[bytes, str]]) -> None:
+    def __init__(self, given: Sequence[tuple[bytes, str]], blanked: Callable[[bytes], bytes] = bytes) -> None:
         self.files = [SchemaFile(name, path) for name, path in given]
         self.missing: Optional[Missing] = None
         self._given = {name for name, _ in given[1:]}
@@ -149,7 +153,7 @@ class Finder:
         for index, file in enumerate(self.files):
             if index > MOST_FILES:
                 break
-            file.read()
+            file.read(blanked)
             for mention in mentions_of(file.content):
                 self._take(file, mention)
 

@@ -128,6 +128,7 @@ def typed(library: ctypes.CDLL) -> ctypes.CDLL:
     """Returns the library with the types of its functions. Raises AttributeError if it lacks one."""
     pointer, size, status = ctypes.c_void_p, ctypes.c_size_t, ctypes.c_int32
     for name, kinds, kind in [
+        ("rncv_xml_annotations_blank", [pointer, size, pointer], status),
         ("rncv_xml_hint_find", [pointer, pointer, size, status, pointer], status),
         ("rncv_xml_judge_new", [pointer, pointer, size, pointer], status),
         ("rncv_xml_judge_share", [pointer, pointer], status),
@@ -141,8 +142,17 @@ def typed(library: ctypes.CDLL) -> ctypes.CDLL:
     return library
 
 
+def blanked(library: ctypes.CDLL, written: bytes) -> bytes:
+    """A file of a schema with blanks for the annotations that the other library does not have."""
+    if b"[" not in written and b"\\" not in written:
+        return written
+    text, changed = ctypes.create_string_buffer(written, len(written)), ctypes.c_int32()
+    _want_done(library.rncv_xml_annotations_blank(text, len(written), ctypes.byref(changed)))
+    return text.raw if changed.value else written
+
+
 def hint_of(library: ctypes.CDLL, files: Any, shown: Sequence[str], clause: int) -> Optional[Hint]:
-    """The hint about a clause that these files break, if one is known. The files are an array, as the other library takes them."""
+    """The hint about a clause that these files break, if one is known. The files are an array, as the other library takes them, and may have annotations."""
     names = (ctypes.c_char_p * len(shown))(*[name.encode("utf-8", "replace") for name in shown])
     found = _Hint()
     status = library.rncv_xml_hint_find(files, names, len(files), clause, ctypes.byref(found))

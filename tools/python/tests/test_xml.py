@@ -48,6 +48,55 @@ class Small(io.BytesIO):
 
 
 @unittest.skipUnless(has_library(), "no library for XML beside librncv (tools/xml/library.sh builds it)")
+class Annotations(unittest.TestCase):
+    """Annotations in schemas that the library does not have become blanks, and places are those in the files as they are written."""
+
+    GOOD = "b [ 'é' ]\r\nstart = element x { empty >> a:b [ c = 'é' ] } d [ ]\n".encode()
+    NAMESPACE = b"namespace a = 'u'\n"
+    TOLD = ("clause", "offset", "line", "column", "hint", "hint_line", "hint_column")
+
+    def refused(self, text):
+        with folder() as room, self.assertRaises(rncv.SchemaError) as caught:
+            (room / "s.rnc").write_bytes(text)
+            rncv.compile(room / "s.rnc")
+        with self.assertRaises(rncv.SchemaError) as other:
+            rncv.compile({"s.rnc": text}, annotations=True)
+        told = [[getattr(error.exception, name) for name in self.TOLD] for error in (caught, other)]
+        self.assertEqual(*told)
+        return caught.exception
+
+    def test_accepted(self):
+        with folder() as room:
+            (room / "main.rnc").write_bytes(b"a:b [ include [ 'none.rnc' ] ] include 's.rnc' " + b"a:b\\x{5B} ]\n")
+            (room / "s.rnc").write_bytes(self.NAMESPACE + self.GOOD)
+            with rncv.compile(room / "main.rnc") as validator:
+                self.assertEqual([validator.validate_xml(text).kind for text in (b"<x/>", b"<y/>")], ["valid", "invalid"])
+        with rncv.compile({"s.rnc": bytearray(self.NAMESPACE + self.GOOD)}, annotations=True) as validator:
+            self.assertTrue(validator.validate_xml(b"<x/>"))
+
+    def test_a_mapping_is_handed_in_as_it_is(self):
+        for text, place in ((b"b [ ] start = element x { empty }", (6, 1, 3)), (b"start = element x { empty } >> b [ ]", (5, 1, 29))):
+            with self.assertRaises(rncv.SchemaError) as caught:
+                rncv.compile({"s.rnc": text})
+            self.assertEqual((caught.exception.clause, caught.exception.line, caught.exception.column), place)
+
+    def test_places(self):
+        text = "b [ 'é' ] # é\r\nc [ 'é€' ] start = element x { }".encode()
+        error = self.refused(text)
+        self.assertEqual((error.clause, error.offset, error.line, error.column), (6, len(text) - 1, 2, 32))
+        error = self.refused("c [ 'é' ] start = element x { attribute y { text } >> c [ '€' ], attribute y { text } }".encode())
+        self.assertEqual((error.clause, error.hint_line, error.hint_column), (24, 1, 66))
+        self.assertIn("(the other is at 1:31)", error.hint)
+        error = self.refused("c [ 'é' ] include 'none.rnc'".encode())
+        self.assertEqual((error.clause, error.mentioned_at[1:]), (1, (1, 19)))
+        self.assertEqual(self.refused(b"b [ '\x01' ] start = element x { empty }").clause, 4)
+
+    def test_what_is_no_sentence(self):
+        for text, clause in ((b"b [ ] element x { empty }", 6), (b"element x { empty } >> b [ ]", 5), (b"b [ c d ] start = element x { empty }", 6)):
+            self.assertEqual(self.refused(text).clause, clause)
+
+
+@unittest.skipUnless(has_library(), "no library for XML beside librncv (tools/xml/library.sh builds it)")
 class Judged(unittest.TestCase):
     """The verdicts, in whatever form a document comes."""
 
@@ -423,6 +472,13 @@ class Threads(unittest.TestCase):
 class Library(unittest.TestCase):
     """Where the library for XML is searched."""
 
+    ANNOTATED = """
+import os, rncv
+try:
+    rncv.compile(os.environ["SCHEMA"])
+except rncv.SchemaError as error:
+    print(error.clause, error.line, error.column)
+"""
     CODE = """
 import rncv
 validator = rncv.compile({'s.rnc': b'element a { empty }'})
@@ -445,12 +501,15 @@ print(validator.validate(b'(a\\n)a\\n'), validator.share().validate(b'(b\\n)b\\n
                 self.assertEqual((lines[0], lines[2], run.stderr), ("valid", "valid invalid line 2", ""))
                 self.assertEqual(lines[1], f"no: no library of rncv for XML: there is no librncv_xml.so beside {room.resolve()}/lib/librncv.so. "
                                            "tools/xml/library.sh builds it")
+            (room / "s.rnc").write_text("start = element a { empty } b [ ]\n")
+            self.assertEqual(python(self.ANNOTATED, SCHEMA=str(room / "s.rnc"), RNCV_LIBRARY=str(room)).stdout, "6 1 31\n")
             (room / "lib/librncv_xml.so").write_text("no library")
             self.assertIn("no: the library of rncv for XML cannot be used: ", python(self.CODE, RNCV_LIBRARY=str(room)).stdout)
             other = built.with_name("librncv_xml.so")
             if other.exists():
                 (room / "lib/librncv_xml.so").write_bytes(other.read_bytes())
                 self.assertEqual(python(self.CODE, RNCV_LIBRARY=str(room)).stdout, "valid\nvalid\nvalid invalid line 2\n")
+                self.assertEqual(python(self.ANNOTATED, SCHEMA=str(room / "s.rnc"), RNCV_LIBRARY=str(room)).stdout, "")
 
 
 if __name__ == "__main__":

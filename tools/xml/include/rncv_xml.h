@@ -150,9 +150,20 @@ int32_t rncv_xml_files_find(const char *path, const rncv_xml_mapping *mappings, 
  * one, and the message ends in `: hint: ` and the hint's text. What `fault` held is freed. RNCV_MEMORY: out of memory. */
 int32_t rncv_xml_files_explain(const rncv_xml_files *files, const rncv_fault *refused, rncv_xml_fault *fault);
 
+/* Writes blanks over annotations in a file of a schema, in place: those that the compact syntax has and rncv_compile refuses, which are annotation elements
+ * among components and annotations that follow (`>>`). rncv_xml_files_find and rncv_xml_judge_open do so with the files that they read.
+ *
+ * Line ends stay, and so does all else, so each offset and each line is that of the file. A blank is a character for each byte: count columns in the file as
+ * it was. A file that breaks S2, S3 or S4 stays as it is, and one that is no sentence of the compact syntax is none after it. `changed` becomes 1 if a byte
+ * was changed, else 0. `bytes` may be NULL if `length` is 0.
+ *
+ * RNCV_MEMORY: out of memory. Then nothing is changed. */
+int32_t rncv_xml_annotations_blank(void *bytes, size_t length, int32_t *changed);
+
 /* Looks for the place where files that rncv_compile refuses break this clause. The first file is the main one. There are hints about S1 and S9 to S27, except
- * S17. `paths` are the names of the files for people, in UTF-8; it may be NULL, and so may each of them: then it is the name in the file. It takes a few times
- * the memory of the files, and at most about a second. If memory runs out, there is no hint. */
+ * S17. The files may have their annotations, and then the place is the one in them. `paths` are the names of the files for people, in UTF-8; it may be NULL,
+ * and so may each of them: then it is the name in the file. It takes a few times the memory of the files, and at most about a second. If memory runs out,
+ * there is no hint. */
 int32_t rncv_xml_hint_find(const rncv_file *files, const char *const *paths, size_t count, int32_t clause, rncv_xml_hint *hint);
 
 void rncv_xml_files_free(rncv_xml_files *files);

@@ -3,8 +3,10 @@
 
 #include "judging.h"
 #include "paths.h"
+#include "schema_annotations.h"
 #include "schema_files.h"
 #include "schema_hints.h"
+#include "schema_tokens.h"
 
 #include <errno.h>
 #include <fcntl.h>
@@ -237,6 +239,17 @@ int32_t rncv_xml_files_find(const char *path, const rncv_xml_mapping *mappings, 
     return status;
 }
 
+int32_t rncv_xml_annotations_blank(void *bytes, size_t length, int32_t *changed) {
+    if (changed == NULL || (bytes == NULL && length > 0)) {
+        return RNCV_MISUSE;
+    }
+    size_t mark = length > 0 ? mark_length(bytes, length) : 0;
+    bool is_changed = false;
+    bool is_good = length == mark || annotations_blank((char *)bytes + mark, length - mark, &is_changed);
+    *changed = is_changed;
+    return is_good ? RNCV_DONE : RNCV_MEMORY;
+}
+
 /* The files as the search for a hint takes them. NULL: out of memory. */
 static struct schema_hint_file *hint_files(const rncv_file *files, const char *const *paths, size_t count) {
     struct schema_hint_file *list = calloc(count, sizeof *list);
@@ -269,6 +282,20 @@ int32_t rncv_xml_hint_find(const rncv_file *files, const char *const *paths, siz
     return RNCV_DONE;
 }
 
+/* Looks for a hint about files that were found, with its place in them as they are written. */
+static void find_hint(const rncv_xml_files *files, int32_t clause, rncv_xml_hint *hint) {
+    const struct found *found = files->hidden;
+    rncv_file *written = calloc(files->count, sizeof *written);
+    for (size_t at = 0; written != NULL && at < files->count; at++) {
+        written[at] = files->list[at];
+        written[at].bytes = (const uint8_t *)schema_file_written(&found->files.list[at])->data;
+    }
+    if (written != NULL) {
+        rncv_xml_hint_find(written, files->paths, files->count, clause, hint);
+    }
+    free(written);
+}
+
 /* Says which mentioned file is not there. */
 static void explain_missing(struct missing *missing, rncv_xml_fault *fault, struct bytes *message) {
     bool is_sought = missing->sought.length > 0;
@@ -293,7 +320,7 @@ static void explain_place(const rncv_xml_files *files, const rncv_fault *refused
     fault->line = refused->line > 0 ? (uint64_t)refused->line : 0;
     fault->column = refused->line > 0 && column > 0 ? (uint64_t)column : 0;
     if (fault->line == 0) {
-        rncv_xml_hint_find(files->list, files->paths, files->count, refused->clause, &hint);
+        find_hint(files, refused->clause, &hint);
     }
     if (hint.line > 0) {
         bytes_format(message, ": hint: %s", hint.text);

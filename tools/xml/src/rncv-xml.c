@@ -44,7 +44,8 @@ static void add_hint(struct bytes *message, struct schema_files *files, struct s
     struct schema_hint hint;
     for (size_t at = 0; list != NULL && at < files->count; at++) {
         struct schema_file *file = &files->list[at];
-        list[at] = (struct schema_hint_file){file->name.data, file->name.length, file->content.data, file->content.length, bytes_text(&file->path)};
+        const struct bytes *written = schema_file_written(file);
+        list[at] = (struct schema_hint_file){file->name.data, file->name.length, written->data, written->length, bytes_text(&file->path)};
     }
     if (list != NULL && told->place.line == 0 && schema_hint_find(list, files->count, told->clause, &hint)) {
         told->path = list[hint.file].shown;

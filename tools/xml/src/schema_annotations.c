@@ -4,7 +4,10 @@
 
 #include <string.h>
 
-enum { MOST_BRACKETS = 128 }; /* in one another; with one more the library says S7 */
+enum {
+    MOST_BRACKETS = 128, /* in one another; with one more the library says S7 */
+    MOST_BYTES = 1048576 /* of a file; with one more it says S2 */
+};
 
 struct reader {
     char *bytes; /* of the file */
@@ -419,8 +422,11 @@ static void read_file(struct reader *reader) {
 bool annotations_blank(char *bytes, size_t length, bool *is_changed) {
     struct reader reader = {.bytes = bytes, .length = length};
     *is_changed = false;
+    if (length > MOST_BYTES || !is_text(bytes, length)) {
+        return true;
+    }
     bool is_good = tokens_open(&reader.tokens, bytes, length);
-    if (is_good) {
+    if (is_good && length > 0 && memchr(reader.tokens.text.data, '[', reader.tokens.text.length) != NULL) {
         for (int token = 0; token < 3; token++) {
             advance(&reader);
         }

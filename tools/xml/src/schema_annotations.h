@@ -6,7 +6,10 @@
 #include <stdbool.h>
 #include <stddef.h>
 
-/* Writes blanks over these annotations, and sets `is_changed` if there are any. Line ends stay, and so does all else: each offset and line stays true.
+/* Writes blanks over these annotations, and sets `is_changed` if there are any. Line ends stay, and so does all else: each offset and line stays true. Columns
+ * do not, where an annotation has a character of several bytes: count them in the bytes as they were.
+ *
+ * A file that the library refuses for its size or for a character (S2, S3, S4) is left as it is.
  *
  * Nothing else becomes a sentence by that: the first token that continues no sentence of the whole compact syntax becomes a `]`, which the library refuses
  * there, and what follows it becomes blank. What is in an annotation is read as far as the grammar says, and its prefixes are not looked up.

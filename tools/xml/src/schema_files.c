@@ -253,6 +253,10 @@ static struct place place_of(const struct bytes *content, size_t at) {
     return place;
 }
 
+const struct bytes *schema_file_written(const struct schema_file *file) {
+    return file->original.length > 0 ? &file->original : &file->content;
+}
+
 /* Notes where a missing file was looked for, if it is the first one. False: out of memory. */
 static bool keep_missing(struct collecting *collecting, const struct meaning *meaning, size_t at) {
     struct missing *missing = &collecting->files->missing;
@@ -262,7 +266,7 @@ static bool keep_missing(struct collecting *collecting, const struct meaning *me
         return true;
     }
     missing->is_there = true;
-    missing->place = place_of(by->original.length > 0 ? &by->original : &by->content, at);
+    missing->place = place_of(schema_file_written(by), at);
     add_bytes(&missing->name, &meaning->words);
     add_path(&missing->path, bytes_text(&by->path));
     bool is_good = ways_of(&ways, &meaning->words, bytes_text(&by->path));
@@ -466,9 +470,6 @@ static bool is_compact(struct collecting *collecting, size_t index) {
 /* Writes blanks over annotations that the library does not have. */
 static bool blank_annotations(struct schema_files *files, struct schema_file *file) {
     bool is_changed = false;
-    if (file->content.length == 0 || memchr(file->content.data, '[', file->content.length) == NULL) {
-        return true;
-    }
     add_bytes(&file->original, &file->content);
     bool is_good = !file->original.failed && annotations_blank(file->content.data, file->content.length, &is_changed);
     if (!is_changed) {

@@ -14,6 +14,9 @@ struct schema_file {
     struct bytes original; /* as it is in the file, if that is another text */
 };
 
+/* The text as it is in the file. */
+const struct bytes *schema_file_written(const struct schema_file *file);
+
 /* A mention of a file that is not there. */
 struct missing {
     bool is_there;     /* whether there is such a mention */

@@ -1,7 +1,7 @@
 /* Hints: where a schema most likely breaks a clause, and by what. The proved library reports the clause; a hint is a guess outside the proof.
  *
  * The interface is plain, so that a library and Python can use it: arrays of files, and a structure of fixed size. It needs schema_tree, schema_grammars,
- * schema_tokens and bytes, and nothing of the library. It keeps nothing, and any thread may call it. */
+ * schema_annotations, schema_tokens, paths and bytes, and nothing of the library. It keeps nothing, and any thread may call it. */
 #ifndef SCHEMA_HINTS_H
 #define SCHEMA_HINTS_H
 
@@ -14,7 +14,8 @@ extern "C" {
 
 enum { SCHEMA_HINT_BYTES = 512 };
 
-/* A file of a schema. `include` and `external` mention it by `name`, byte for byte. Only `shown` may be NULL, and `bytes` if the length is 0. */
+/* A file of a schema as it is written, with its annotations. `include` and `external` mention it by `name`, byte for byte. Only `shown` may be NULL, and
+ * `bytes` if the length is 0. */
 struct schema_hint_file {
     const char *name;
     size_t name_length;

@@ -1,6 +1,7 @@
 #include "schema_tokens.h"
 
 #include "conversion.h"
+#include "paths.h"
 
 #include <stdlib.h>
 #include <string.h>
@@ -134,6 +135,37 @@ static size_t escape_at(const char *bytes, size_t left, unsigned *code) {
     return at > digits && at < left && bytes[at] == '}' ? at + 1 : 0;
 }
 
+static bool is_character(unsigned code) {
+    return code >= 0x20 ? code <= 0xD7FF || (code >= 0xE000 && code <= 0xFFFD) || (code >= 0x10000 && code <= 0x10FFFF)
+                        : code == '\t' || code == '\n' || code == '\r';
+}
+
+/* Whether an escape begins here, and is none of a character. */
+static bool is_bad_escape(const char *bytes, size_t left) {
+    unsigned code;
+    size_t at = 1;
+    while (at < left && bytes[at] == 'x') {
+        at++;
+    }
+    bool is_escape = at > 1 && at < left && bytes[at] == '{';
+    return is_escape && (escape_at(bytes, left, &code) == 0 || !is_character(code));
+}
+
+bool is_text(const char *bytes, size_t length) {
+    bool is_good = is_utf_8(bytes, length);
+    for (size_t at = 0; at < length && is_good; at++) {
+        unsigned char byte = (unsigned char)bytes[at];
+        if (byte == '\\') {
+            is_good = !is_bad_escape(bytes + at, length - at);
+        } else if (byte == 0xEF) { /* U+FFFE and U+FFFF are no characters */
+            is_good = (unsigned char)bytes[at + 1] != 0xBF || (unsigned char)bytes[at + 2] < 0xBE;
+        } else {
+            is_good = byte >= 0x20 || is_character(byte);
+        }
+    }
+    return is_good;
+}
+
 static size_t utf_8_of(unsigned code, char *bytes) {
     if (code < 0x80) {
         bytes[0] = code == '\n' ? (char)HIDDEN_FEED : code == '\r' ? (char)HIDDEN_RETURN : (char)code;
@@ -235,7 +267,7 @@ static struct token literal_at(const char *text, size_t at, size_t length, size_
         }
     }
     /* three quotes without an end are an empty literal and what follows it */
-    *end = at + 2;
+    *end = is_long ? at + 2 : length;
     return (struct token){is_long ? TOKEN_LITERAL : TOKEN_NONE, {text + at + 1, 0}, at, 0};
 }
 

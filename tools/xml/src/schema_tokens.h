@@ -41,6 +41,9 @@ struct tokens {
     size_t next;
 };
 
+/* Whether the bytes are UTF-8 of characters of XML, also those that escapes stand for, as clauses S3 and S4 ask for. */
+bool is_text(const char *bytes, size_t length);
+
 /* False: out of memory. */
 bool tokens_open(struct tokens *tokens, const char *bytes, size_t length);
 struct token tokens_next(struct tokens *tokens);

@@ -1,5 +1,7 @@
 #include "schema_tree.h"
 
+#include "schema_annotations.h"
+
 #include <stdlib.h>
 #include <string.h>
 
@@ -303,7 +305,7 @@ static uint32_t braced(struct parser *parser, uint32_t (*inside)(struct parser *
 /* An element or an attribute. Its text is its class as it is written, without the blanks at its end. */
 static uint32_t parse_tag(struct parser *parser, enum node_kind kind) {
     uint32_t node = add_node(parser, kind, now(parser)->at);
-    const char *bytes = parser->file->given->bytes;
+    const char *bytes = parser->file->blanked.data;
     advance(parser);
     size_t begin = now(parser)->at;
     uint32_t class = parse_class(parser);
@@ -573,13 +575,20 @@ static void parse_file(struct parser *parser) {
     }
 }
 
+/* Makes the text that the library gets of a file: a hint has its places in the file as it is written. False: out of memory. */
+static bool blank_annotations(struct tree_file *file) {
+    bool is_changed;
+    bytes_add(&file->blanked, file->given->bytes, file->given->length);
+    return !file->blanked.failed && annotations_blank(file->blanked.data, file->blanked.length, &is_changed);
+}
+
 /* Reads a file. Its literals get their room at once, since the tree points into it. */
 static bool read_file(struct tree *tree, size_t number) {
     struct tree_file *file = &tree->files[number];
     struct parser parser = {.tree = tree, .file = file, .number = (uint8_t)number};
     file->is_read = true;
     tree->failed |= file->given->length > MOST_FILE;
-    if (tree->failed || !tokens_open(&file->tokens, file->given->bytes, file->given->length) ||
+    if (tree->failed || !blank_annotations(file) || !tokens_open(&file->tokens, file->blanked.data, file->blanked.length) ||
         !bytes_reserve(&file->literals, file->tokens.text.length + 1)) {
         tree->failed = true;
         return false;
@@ -625,6 +634,7 @@ void tree_close(struct tree *tree) {
     for (size_t at = 0; at < tree->file_count; at++) {
         tokens_close(&tree->files[at].tokens);
         bytes_free(&tree->files[at].literals);
+        bytes_free(&tree->files[at].blanked);
     }
     free(tree->nodes);
     free(tree->mentions);

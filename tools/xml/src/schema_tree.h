@@ -62,6 +62,7 @@ struct node {
 
 struct tree_file {
     const struct schema_hint_file *given;
+    struct bytes blanked;     /* its text with blanks for annotations, of the same length */
     struct tokens tokens;
     struct bytes literals;    /* the literals' texts; it never moves */
     uint32_t components;      /* of a file that is no grammar: one start */

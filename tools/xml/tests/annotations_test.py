@@ -104,6 +104,26 @@ class Annotations(InFolder):
         status, out = self.judged("a:b [ '\u00fc\u00fc\u00fc'\n\u00fc [ ] ]\r\na:c [ '\u20ac' ] start = element x { empty } }")
         self.assertEqual((status, out[:out.find(" ")]), (3, "a.rnc:4:41:"))
 
+    def test_columns_of_hints_stay(self):
+        status, out = self.judged("c [ '\u00fc' ] start = element x { attribute y { text } >> b [ '\u20ac' ], attribute y { text } }")
+        self.assertEqual((status, out[:out.find(" ")]), (3, "a.rnc:2:66:"))
+        self.assertIn("attribute y is there twice in element x (the other is at 2:31)", out)
+        status, out = self.judged("start = element (x >> b [ '\u20ac' ] | y) >> b [ ] { attribute y { text }, attribute y { text } }")
+        self.assertEqual((status, out[:out.find(" ")]), (3, "a.rnc:2:71:"))
+        self.assertNotIn("[", out)
+
+    def test_characters(self):
+        """What S3 and S4 refuse is refused in annotations too."""
+        for text, clause in ((b"\xff", 3), (b"\xed\xa0\x80", 3), (b"\x01", 4), (b"\0", 4), ("\uffff".encode(), 4), (b"\\x{1}", 4), (b"\\x{D800}", 4),
+                             (b"\\x{110000}", 4), (b"\\x{}", 4), (b"\\xx{41", 4)):
+            self.write("a.rnc", b"b [ '\xc3\xbc" + text + b"' ] start = element x { empty }")
+            self.write("x.xml", "<x/>")
+            run = subprocess.run([RNCV_XML, "a.rnc", "x.xml"], cwd=self.folder, capture_output=True, check=False)
+            self.assertEqual((run.returncode, run.stdout[:13]), (3, b"a.rnc:1:7: S%d" % clause), text)
+
+    def test_escaped_brackets(self):
+        self.assertEqual(self.judged("a:b \\x{5B} ] start = element x { empty }"), (0, ""))
+
     def test_brackets_that_are_deep(self):
         deep = "start = element x { empty } a:b [ " + "c [ " * 20_000 + "]" * 20_001
         self.assertEqual(self.judged(deep), (0, ""))

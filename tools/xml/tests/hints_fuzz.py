@@ -24,7 +24,13 @@ HERE = pathlib.Path(__file__).resolve().parent
 TOP = HERE.parents[2]
 LIBRARY = pathlib.Path(os.environ.get("RNCV_LIBRARY", TOP / "build/library")) / "lib/librncv.so"
 SOURCES = [HERE.parent / "src" / f"{name}.c" for name in (
-    "schema_hints", "schema_restrictions", "schema_words", "schema_grammars", "schema_tree", "schema_tokens", "bytes")]
+    "schema_hints", "schema_restrictions", "schema_words", "schema_grammars", "schema_tree", "schema_annotations", "schema_tokens", "paths", "bytes")]
+# What finds out how a file is written needs the parser of XML. It is not called here.
+STUBS = """
+#include "conversion.h"
+void convert(const struct giver *giver, const struct taker *taker, struct fault *fault) { (void)giver; (void)taker; (void)fault; }
+void fault_free(struct fault *fault) { (void)fault; }
+"""
 CLAUSES = range(9, 28)
 TOKEN = re.compile(r'"""(?:.|\n)*?"""|"[^"\n]*"|\'[^\'\n]*\'|[A-Za-z_][\w.:*-]*|\|=|&=|[^\s]|\s+')
 PIECES = ("empty|text|notAllowed|string|token|xsd:integer|\"v\"|element q { text }|attribute x { text }|attribute * { text }|list { token }|(empty, text)|"
@@ -127,19 +133,20 @@ def run(bench, seconds, seed):
     return 1 if wrong else 0
 
 
-def main():
-    """Builds the hints with the sanitizers, and begins again with those loaded."""
+def begin(script, sources, work):
+    """Builds the sources with the sanitizers, and begins again with those loaded. Then `work` gets the built file, the seconds and the seed."""
     seconds, seed = float(sys.argv[1]) if len(sys.argv) > 1 else 60, int(sys.argv[2]) if len(sys.argv) > 2 else 1
-    if "HINTS_BUILT" in os.environ:
-        return run(Bench(os.environ["HINTS_BUILT"]), seconds, seed)
+    if "FUZZ_BUILT" in os.environ:
+        return work(os.environ["FUZZ_BUILT"], seconds, seed)
     with tempfile.TemporaryDirectory() as room:
-        compiler, built = os.environ.get("CC", "cc"), f"{room}/hints.so"
+        compiler, built, stubs = os.environ.get("CC", "cc"), f"{room}/built.so", pathlib.Path(room, "stubs.c")
+        stubs.write_text(STUBS)
         subprocess.run([compiler, "-std=c17", "-D_XOPEN_SOURCE=700", "-g", "-O1", "-fPIC", "-shared", "-fsanitize=address,undefined",
-                        "-fno-sanitize-recover=all", "-o", built, *SOURCES], check=True)
+                        "-fno-sanitize-recover=all", f"-I{HERE.parent / 'src'}", "-o", built, *sources, stubs], check=True)
         loaded = subprocess.run([compiler, "-print-file-name=libasan.so"], capture_output=True, text=True, check=True).stdout.strip()
-        environment = {**os.environ, "HINTS_BUILT": built, "LD_PRELOAD": loaded, "ASAN_OPTIONS": "detect_leaks=0"}
-        return subprocess.run([sys.executable, "-B", __file__, str(seconds), str(seed)], env=environment, check=False).returncode
+        environment = {**os.environ, "FUZZ_BUILT": built, "LD_PRELOAD": loaded, "ASAN_OPTIONS": "detect_leaks=0"}
+        return subprocess.run([sys.executable, "-B", script, str(seconds), str(seed)], env=environment, check=False).returncode
 
 
 if __name__ == "__main__":
-    sys.exit(main())
+    sys.exit(begin(__file__, SOURCES, lambda built, seconds, seed: run(Bench(built), seconds, seed)))

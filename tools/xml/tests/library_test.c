@@ -165,6 +165,7 @@ static void misuse(rncv_xml_judge *judge) {
     rncv_fault refused = {1, -1, -1, -1, -1};
     rncv_file file = {NULL, 0, NULL, 0};
     rncv_xml_hint hint;
+    int32_t changed = 7;
     CHECK(rncv_xml_judge_bytes(&nothing, "", 0, &answer) == RNCV_MISUSE && answer.verdict == RNCV_XML_FAILED && answer.message[0] == '\0');
     CHECK(rncv_xml_judge_bytes(NULL, "", 0, &answer) == RNCV_MISUSE && rncv_xml_judge_bytes(judge, "", 0, NULL) == RNCV_MISUSE);
     CHECK(rncv_xml_judge_bytes(judge, NULL, 1, &answer) == RNCV_MISUSE);
@@ -181,6 +182,7 @@ static void misuse(rncv_xml_judge *judge) {
     CHECK(rncv_xml_files_explain(&files, &refused, &fault) == RNCV_MISUSE && rncv_xml_files_explain(NULL, NULL, NULL) == RNCV_MISUSE);
     CHECK(rncv_xml_hint_find(NULL, NULL, 1, 15, &hint) == RNCV_MISUSE && rncv_xml_hint_find(&file, NULL, 0, 15, &hint) == RNCV_MISUSE);
     CHECK(rncv_xml_hint_find(&file, NULL, 1, 15, NULL) == RNCV_MISUSE);
+    CHECK(rncv_xml_annotations_blank(NULL, 1, &changed) == RNCV_MISUSE && rncv_xml_annotations_blank(NULL, 0, NULL) == RNCV_MISUSE && changed == 7);
     rncv_xml_judge_free(NULL);
     rncv_xml_judge_free(&nothing);
     rncv_xml_files_free(NULL);
@@ -270,6 +272,53 @@ static void hints(rncv_xml_judge *judge) {
     CHECK(strcmp(fault.path, "hinted.rnc") == 0 && fault.missing == NULL && strstr(fault.message, ": hint: xsd:string takes no parameter") != NULL);
     judge_row(judge, &rows[0]);
     rncv_xml_fault_free(&fault);
+}
+
+/* A file with annotations, and the same with blanks; NULL: it is left as it is. */
+struct annotated {
+    const char *file;
+    const char *blanked;
+};
+
+static void annotations(rncv_xml_judge *judge) {
+    static const struct annotated cases[] = {
+        {"", NULL},
+        {"[ a:b = 'c' ] element x { empty } # >> a:b [ ]\n", NULL},
+        {"element x { \"a:b [ ] >> a:b [ ]\" }", NULL},
+        {"a:b [\r\n]\nstart = x", "     \r\n \nstart = x"},
+        {"\xEF\xBB\xBF" "a:b [ ] start = x", "\xEF\xBB\xBF" "        start = x"},
+        {"element x { empty >> b [ '\xC3\xA9' ] }", "element x { empty               }"},
+        {"a:b\\x{5B} ] start = x", "            start = x"},
+        {"a:b [ ] start = x >> y", "        start = x    ]"},
+        {"a:b [ ] start = \\x{41} '", "        start = \\x{41} '"},
+        {"a:b [ '\x01' ] start = x", NULL},
+        {"a:b [ '\xFF' ] start = x", NULL},
+        {"a:b [ '\\x{FFFF}' ] start = x", NULL},
+        {"a:b [ '\xEF\xBF\xBF' ] start = x", NULL},
+    };
+    rncv_xml_fault fault = RNCV_XML_NO_FAULT;
+    int32_t changed = 7;
+    CHECK(rncv_xml_annotations_blank(NULL, 0, &changed) == RNCV_DONE && changed == 0);
+    for (size_t at = 0; at < sizeof cases / sizeof *cases; at++) {
+        char text[100];
+        const struct annotated *row = &cases[at];
+        size_t length = strlen(row->file);
+        memcpy(text, row->file, length + 1);
+        CHECK(rncv_xml_annotations_blank(text, length, &changed) == RNCV_DONE && changed == (row->blanked != NULL));
+        if (strcmp(text, row->blanked == NULL ? row->file : row->blanked) != 0) {
+            fprintf(stderr, "%s: became %s\n", row->file, text);
+            failures += 1;
+        }
+        CHECK(rncv_xml_annotations_blank(text, length, &changed) == RNCV_DONE && changed == 0);
+    }
+    /* columns are those of the file, of a fault, of a hint, and of what a hint mentions */
+    write_file("noted.rnc", "c [ '\xC3\xA9' ] start = element x { }");
+    CHECK(rncv_xml_judge_open("noted.rnc", NULL, 0, judge, &fault) == RNCV_REFUSED && fault.clause == 6 && fault.line == 1 && fault.column == 31);
+    write_file("noted.rnc", "c [ '\xC3\xA9' ] start = element x { attribute y { text }, attribute y { text } }");
+    CHECK(rncv_xml_judge_open("noted.rnc", NULL, 0, judge, &fault) == RNCV_REFUSED && fault.clause == 24 && fault.line == 1 && fault.column == 53);
+    CHECK(strstr(fault.message, "attribute y is there twice in element x (the other is at 1:31)") != NULL);
+    rncv_xml_fault_free(&fault);
+    judge_row(judge, &rows[0]);
 }
 
 /* The next of the numbers that are the same in each run. */
@@ -433,6 +482,7 @@ int main(int count, char **words) {
     files_by_hand();
     refused_schemas(&judge);
     hints(&judge);
+    annotations(&judge);
     odd_calls();
     rncv_xml_judge_free(&judge);
     rncv_xml_fault_free(&fault);

@@ -255,10 +255,11 @@ class Found(InLibrary):
             self.calls.rncv_xml_fault_free(ctypes.byref(fault))
 
     def by_python(self, main):
+        from rncv import _xml
         from rncv._schema_files import MOST_FILES, Finder
 
         try:
-            finder = Finder([(main.encode(), main)])
+            finder = Finder([(main.encode(), main)], functools.partial(_xml.blanked, _xml.typed(self.calls)))
         except ValueError as error:
             return REFUSED, str(error)
         except OSError as error:
@@ -274,7 +275,7 @@ class Found(InLibrary):
                  "include.x '{}'", "y = '{}'", 'include # c\n\t"{}"', 'inclu\\x{{64}}e "{}"', "é = 'é' \r include '{}'", 'include inherit = b "{}"',
                  'external "" ~ "{}" ~ ""', "@ include '{}'", 'include """x"y""" include "{}"', "include:x '{}'", "a:* '{}'", 'include "\\x{{0}}{}"',
                  "'\n' include '{}'", "include [ a:b [ ] ] '{}'", '\\x{{A}}include "{}"', 'include """""" include "{}"', 'include "" "{}"',
-                 "include \\x{{27}}{}'"]
+                 "include \\x{{27}}{}'", 'a:b [ include [ "{}" ] \u00e9 [ "\u20ac" ] ]', 'x = empty >> a:b [ "]" include [ ] "{}" ]', 'b [ ] include "{}"']
         counts = dict.fromkeys(("found", "missing", "refused", "unread"), 0)
         for _ in range(400):
             for name in names:
