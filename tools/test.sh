@@ -3,8 +3,9 @@
 # leave it). RNCV_LIBRARY names the folder of the built library, else build/library.
 #
 # They want Python 3 and no package; tools/xml wants a C compiler, the headers of libxml2 and the library. What is not installed is reported, and what wants
-# it is skipped. The parts run side by side, in some two minutes, and what they print comes in order. The tests of the library come after them: they
-# build it once more, by the other compiler, which takes minutes and wants `rt`. RNCV_SKIP=library leaves them out.
+# it is skipped. If RNCV_AFTER_CI is set, as in .ci/run, a missing C compiler is a failure. The parts run side by side, in some two minutes, and what they
+# print comes in order. The tests of the library come after them: they build it once more, by the other compiler, which takes minutes and wants `rt`.
+# RNCV_SKIP=library leaves them out.
 here=$(cd "$(dirname "$0")" && pwd)
 program=${1:-$here/../crates/rncv/out/rncv}
 RNCV_LIBRARY=${RNCV_LIBRARY:-$(cd "$here/.." && pwd)/build/library}
@@ -55,6 +56,7 @@ elif command -v "${CC:-cc}" >/dev/null; then
   "$here/library/test.sh" || failed="$failed library"
 else
   echo "tools/library: not tested, since no C compiler is installed"
+  [ -z "${RNCV_AFTER_CI-}" ] || failed="$failed library"
 fi
 if [ -n "$failed" ]; then
   echo "tools/test.sh: FAILED:$failed"

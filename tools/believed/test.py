@@ -13,7 +13,8 @@ sys.dont_write_bytecode = True
 HERE = pathlib.Path(__file__).resolve().parent
 TOP = HERE.parents[1]
 sys.path.insert(0, str(HERE))
-from run import TOUR, closure_of, is_file, judged, rows, stands_right  # noqa: E402
+from run import TOUR, closure_of, judged, stands_right  # noqa: E402
+from texts import is_file, rows  # noqa: E402
 
 # A checkout of two crates: file by file.
 SMALL = {
@@ -45,8 +46,8 @@ fn inner(name: &Name) -> bool
 }
 
 
-class Small(unittest.TestCase):
-    """What is followed, and what is reported, in a checkout of two crates."""
+class SmallCheckout(unittest.TestCase):
+    """A checkout of two crates."""
 
     def setUp(self):
         self.room = tempfile.TemporaryDirectory()
@@ -67,6 +68,10 @@ class Small(unittest.TestCase):
 
     def judged(self):
         return judged(self.top, self.top)
+
+
+class Small(SmallCheckout):
+    """What is followed, and what is reported, in a checkout of two crates."""
 
     def test_closure(self):
         closure, found = self.judged()
@@ -114,8 +119,82 @@ impl Takes for Taker {
         self.assertIn("tools/believed/exceptions.txt: crates/high/specs/plain/Steps.antt is not an exception", self.judged()[1])
 
 
+# A type whose calls hand on a relation, and the file that says what the relation is.
+COUNTER = """ghost use Rattle.high.specs.plain.Steps.{Holds};
+pub struct Counter {
+    count: u64,
+}
+
+impl Counter {
+    pub fn new() -> Self
+        ensures first { Holds result [] }
+    {
+        Counter { count: 0 }
+    }
+
+    pub fn add(&mut self, text: &str) -> Result<(), Full>
+        ensures added { OnOk result ((xs : List Text) → Holds self.old xs → Holds self.new (text ∷ xs)) }
+    {
+        self.more()
+    }
+
+    pub fn count(&self) -> u64
+        ensures { (xs : List Text) → Holds self.now xs → result ≡ length xs }
+    {
+        self.count
+    }
+}
+"""
+STEPS = "pub record Holds (n : ℕ) (xs : List Text) : Type 0 where\n  pub count : n ≡ length xs\n"
+
+
+class Carried(SmallCheckout):
+    """A relation that calls hand on: it is concluded before it is a premise, and each call that changes the value concludes it."""
+
+    FILE = "crates/high/specs/plain/Steps.antt"
+
+    def setUp(self):
+        super().setUp()
+        self.write(self.FILE, STEPS)
+        self.add("crates/high/src/lib.rt", COUNTER)
+        self.write("calls.txt", "high read\nhigh Counter\n")
+        self.write("exceptions.txt", f"{self.FILE} carried because `new` gives it, `add` keeps it, and `count` takes it\n")
+
+    def without(self, old, new=""):
+        """The faults if a text of the type is another one."""
+        path = self.top / "crates/high/src/lib.rt"
+        text = path.read_text()
+        self.assertIn(old, text)
+        path.write_text(text.replace(old, new))
+        return [fault.removeprefix(f"{self.FILE}: ") for fault in self.judged()[1]]
+
+    def test_handed_on(self):
+        self.assertEqual(self.judged()[1], [])
+
+    def test_no_beginning(self):
+        self.assertEqual(self.without("ensures first { Holds result [] }"),
+                         ["Holds is a premise of the clause ensures added of high::Counter::add, and no other clause concludes it"])
+
+    def test_not_kept(self):
+        self.assertEqual(self.without("Holds self.old xs → Holds self.new (text ∷ xs)", "xs ≡ xs"),
+                         ["Holds is a premise of the clause ensures of high::Counter::count, and high::Counter::add does not conclude it of what it changes"])
+
+    def test_only_required(self):
+        self.assertEqual(self.without("ensures first { Holds result [] }", "requires { ¬ (Holds 0 []) }"),
+                         ["Holds is a premise of the clause ensures added of high::Counter::add, and no other clause concludes it"])
+
+    def test_in_a_definition_that_stays(self):
+        self.write("crates/high/specs/plain/Adding.antt", "use Rattle.high.specs.plain.Steps.{Holds}\n"
+                   "abbrev pub Adds : ℕ → ℕ → Text → Type 0\nAdds old new x = (xs : List Text) → Holds old xs\n    → Holds new (x ∷ xs)\n")
+        self.add("exceptions.txt", "crates/high/specs/plain/Adding.antt stays because it names the value\n")
+        self.add(TOUR, "| `high/specs/plain/Adding.antt` | adding |\n")
+        self.add("crates/high/src/lib.rt", "ghost use Rattle.high.specs.plain.Adding.{Adds};\n")
+        self.assertEqual(self.without("((xs : List Text) → Holds self.old xs → Holds self.new (text ∷ xs))", "(Adds self.old self.new text)"), [])
+        self.assertEqual(len(self.without("ensures first { Holds result [] }")), 1)
+
+
 class Planted(unittest.TestCase):
-    """Two faults in a copy of this checkout."""
+    """Faults in a copy of this checkout."""
 
     @classmethod
     def setUpClass(cls):
@@ -130,9 +209,9 @@ class Planted(unittest.TestCase):
         shutil.copy(TOP / TOUR, cls.top / TOUR)
         cls.closure, cls.before = judged(cls.top, HERE)
 
-    def told(self):
+    def told(self, data=HERE):
         """The faults that are new in the copy."""
-        return set(judged(self.top, HERE)[1]) - set(self.before)
+        return set(judged(self.top, data)[1]) - set(self.before)
 
     def test_the_calls_are_there(self):
         for line in rows(HERE / "calls.txt"):
@@ -156,6 +235,13 @@ class Planted(unittest.TestCase):
         (self.top / TOUR).write_text(without)
         self.addCleanup((self.top / TOUR).write_text, page)
         self.assertIn(f"{TOUR}: the tour lacks {name}", self.told())
+
+    def test_not_handed_on(self):
+        planted = "crates/rng_model/specs/restrictions/BreaksNone.antt"
+        shutil.copy(HERE / "calls.txt", self.top)
+        (self.top / "exceptions.txt").write_text((HERE / "exceptions.txt").read_text() + f"{planted} carried because `restrict` gives it\n")
+        self.assertIn(f"{planted}: BreaksNone is a premise of the clause requires of rng_deriv::Matcher::new, and no other clause concludes it",
+                      self.told(self.top))
 
 
 if __name__ == "__main__":

@@ -5,11 +5,15 @@
 
 The gate reads must-fail/ only. Without this check, nobody would notice an edit of edits/ that no longer fits its file. An edit has a line `file: PATH`,
 and then pairs of lines `old: TEXT` and `new: TEXT`. Each old text must be in that file exactly once, after the pairs above it. Each fault is printed as
-one line, and the exit status is then 1. The script first checks that it finds a planted fault.
+one line, and the exit status is then 1. The script first checks that it finds a planted fault, and that table.py writes a row by the results of rt.
 """
 import pathlib
 import sys
 import tempfile
+
+sys.dont_write_bytecode = True
+sys.path.insert(0, str(pathlib.Path(__file__).resolve().parent))
+import table  # noqa: E402
 
 
 def fault(edit, crate):
@@ -55,10 +59,25 @@ def finds_a_planted_fault():
         return number == 2 and len(found) == 1 and found[0].startswith("crates/a/edits/moved.edit")
 
 
+def writes_rows():
+    """Returns whether a row is replaced, another one added in its place, and a page without the table left alone."""
+    told = ["b/one: refused, as it must be: src/lib.rt:1:1: error", "b/two: refused, as it must be (only because a proof file names it): proofs/A.antt",
+            "b/three: refused, as it must be (only by a limit of the prover)", "b/four: NOT REFUSED: it is still proved", "b/five: NOT TRIED: killed"]
+    new = table.row("b", "2026-01-02", "12345678", told)
+    page = f"text\n\n{table.HEAD}\n|---|\n| `a` | old |\n| `b` | old |\n| `c` | old |\n\nmore\n"
+    return (new == "| `b` | 2026-01-02 | `12345678` | 5 | 3 | 1 | 1 | 1 | 1 |"
+            and table.with_row(page, "b", new) == page.replace("| `b` | old |", new)
+            and table.with_row(page.replace("| `b` | old |\n", ""), "b", new) == page.replace("| `b` | old |", new)
+            and table.with_row("no table\n", "b", new) is None)
+
+
 def main(words):
     top = pathlib.Path(words[0] if words else pathlib.Path(__file__).resolve().parents[2]).resolve()
     if not finds_a_planted_fault():
         print("tools/edits: a planted fault is not found")
+        return 1
+    if not writes_rows():
+        print("tools/edits: table.py does not write the row of a crate")
         return 1
     found, number = faults(top)
     print("\n".join([*found, f"tools/edits: {number} edits can be applied" if not found else f"tools/edits: {len(found)} of {number} edits cannot be applied"]))

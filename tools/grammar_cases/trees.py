@@ -47,7 +47,7 @@ STRING, TOKEN = datatype("", "string"), datatype("", "token")
 
 
 def value(type_name, text):
-    return f"Value {{ type_name: {type_name}, text: {string(text)} }}"
+    return f"Value(DatatypeValue {{ type_name: {type_name}, text: {string(text)} }})"
 
 
 def token(text):
@@ -56,7 +56,8 @@ def token(text):
 
 def data(type_name, *parameters, excepted=None):
     pairs = listed(f"({string(a)}, {string(b)})" for a, b in parameters)
-    return f"Data {{ type_name: {type_name}, parameters: {pairs}, except: {'None' if excepted is None else f'Some({excepted})'} }}"
+    used = f"Datatype {{ type_name: {type_name}, parameters: {pairs} }}"
+    return f"Data {{ datatype: {used}, except: {'None' if excepted is None else f'Some({excepted})'} }}"
 
 
 def mention(href, uri, place):

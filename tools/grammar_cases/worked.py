@@ -177,7 +177,7 @@ GRAMMARS = {
 
 # tokens that are not a sentence, with any declarations, each with the place of the fault
 NO_SENTENCES = {
-    "element a { foo | bar , baz }": 7,
+    "element a { foo | bar, baz }": 7,
     "element a { empty": 5,
     "x = empty y": 5,
     "element a { }": 4,

@@ -4,8 +4,8 @@
 # PROGRAM is the built rncv, else crates/rncv/out/rncv. The C library runs the same rows (by_library.c); RNCV_LIBRARY names it, else it is in
 # build/library. The programs of cases that `rt ci` built make the public calls of the crates (calls.txt). rncv-xml and xml2pyx run cases of their own
 # (xml.py); RNCV_XML_PROGRAMS names their folder, else it is build/xml. It needs Python 3, and a C compiler and glibc for the shim (refuse.c). What is
-# missing is reported and skipped. If the variable RNCV_REQUIRED is set, a missing rncv is a failure, and if RNCV_AFTER_CI is set, a missing program of
-# cases.
+# missing is reported and skipped. If the variable RNCV_REQUIRED is set, a missing rncv is a failure. If RNCV_AFTER_CI is set, as in .ci/run, so is a
+# missing C compiler, library or program of cases.
 set -eu
 here=$(cd "$(dirname "$0")" && pwd)
 program=${1:-$here/../../crates/rncv/out/rncv}
@@ -15,8 +15,9 @@ cc=${CC:-cc}
 status=0
 
 if ! command -v "$cc" > /dev/null; then
-    echo "tools/refused_growths: skipped, since no C compiler is installed"
-    exit 0
+    echo "tools/refused_growths: no C compiler '$cc' is installed: no growth is refused"
+    [ -z "${RNCV_AFTER_CI:-}" ]
+    exit
 fi
 room=$(mktemp -d)
 trap 'rm -rf "$room"' EXIT
@@ -42,6 +43,7 @@ if [ -f "$library/lib/librncv.a" ]; then
     beside library python3 -B "$here/rows.py" "$room/by_library" "$room/refuse.so"
 else
     echo "tools/refused_growths: no librncv in $library: it does not run the rows"
+    [ -z "${RNCV_AFTER_CI:-}" ] || status=1
 fi
 if [ -x "$xml/rncv-xml" ] && [ -x "$xml/xml2pyx" ]; then
     beside xml python3 -B "$here/xml.py" "$xml" "$room/refuse.so"

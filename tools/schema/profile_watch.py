@@ -75,7 +75,7 @@ class Watch:
         return True
 
     def forget(self, names):
-        """Removes what this run wrote and the schema does not have any more."""
+        """Removes the files that this run wrote, except these."""
         for path in self.written - set(names):
             try:
                 os.unlink(path)

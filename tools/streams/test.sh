@@ -3,7 +3,8 @@
 #
 # PROGRAM is the built rncv, else crates/rncv/out/rncv. program_test.py tests it. around_test.py tests the programs around it: RNCV_XML_PROGRAMS names the
 # folder with rncv-xml and xml2pyx, else build/xml. A shim makes calls fail; it needs a C compiler (calls.c). What is missing is reported and skipped. If
-# the variable RNCV_REQUIRED is set, a missing rncv is a failure. The tests take less than half a minute.
+# the variable RNCV_REQUIRED is set, a missing rncv is a failure, and if RNCV_AFTER_CI is set, as in .ci/run, a missing C compiler. The tests take less
+# than half a minute.
 here=$(cd "$(dirname "$0")" && pwd)
 RNCV_PROGRAM=${1:-$here/../../crates/rncv/out/rncv}
 RNCV_CALLS=
@@ -12,7 +13,8 @@ trap 'rm -rf "$room"' EXIT
 status=0
 
 if ! command -v "${CC:-cc}" > /dev/null; then
-    echo "tools/streams: calls that fail are skipped, since no C compiler is installed"
+    echo "tools/streams: no C compiler is installed: calls that fail are skipped"
+    [ -z "${RNCV_AFTER_CI:-}" ] || status=1
 elif "${CC:-cc}" -std=c11 -D_GNU_SOURCE -Wall -Wextra -Wconversion -Werror -O1 -shared -fPIC -o "$room/calls.so" "$here/calls.c"; then
     RNCV_CALLS=$room/calls.so
 else

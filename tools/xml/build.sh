@@ -38,7 +38,7 @@ objects() { for source in "$@"; do printf '%s ' "$work/$source.o"; done; }
 
 shared="$parser_parts program"
 hints="schema_tree schema_grammars schema_words schema_restrictions schema_hints"
-judging="belt paths schema_tokens $hints schema_files options documents trail judging probes progress formats report jobs"
+judging="belt paths schema_tokens schema_annotations $hints schema_files options documents trail judging probes progress formats report jobs"
 
 compile $shared xml2pyx
 $cc $linked ${CFLAGS:--O2} -o "$work/xml2pyx" $(objects $shared xml2pyx) $parser_libs -lpthread ${LIBS:-}

@@ -1,10 +1,10 @@
-//! Prints the status that `run` returns and what it writes for each row of `data/cases.txt`, `data/sizes.txt` and
-//! `data/files.txt`, with a reader that returns everything at once. Readers that return at most 1, 2, 3 and 4,096 bytes
-//! at a time must give the same; any other result is printed after it. For each row of `data/devices.txt` it prints what
-//! a run over devices that fail returns, how many reads and writes failed, how many bytes are unread, and what is
-//! written. Then it prints a line for each document of `data/documents.txt`, with a letter for each schema of
-//! `data/schemas.txt`: V for valid and I for invalid. If validators that judge all these documents one after the other,
-//! in pieces, differ, their letters follow.
+//! Prints the status that `run` returns and what it writes for each row of `data/cases.txt`, `data/sizes.txt`,
+//! `data/files.txt` and `data/worked.txt`, with a reader that returns everything at once. Readers that return at most 1,
+//! 2, 3 and 4,096 bytes at a time must give the same; any other result is printed after it. For each row of
+//! `data/devices.txt` it prints what a run over devices that fail returns, how many reads and writes failed, how many
+//! bytes are unread, and what is written. Then it prints a line for each document of `data/documents.txt`, with a letter
+//! for each schema of `data/schemas.txt`: V for valid and I for invalid. If validators that judge all these documents
+//! one after the other, in pieces, differ, their letters follow.
 //!
 //! The documents, the schemas and their letters come from a second program, `tools/all_splits`.
 #![tactic(auto)]
@@ -18,6 +18,7 @@ use rncv_validator::{Validator, Verdict};
 use rng_model::Device;
 use std::alloc::Global;
 use std::io;
+use std::rt::Files;
 
 fn main(rt: HostRuntime) -> io::Result<()> {
     for row in rows(&rt, "cases.txt")? {
@@ -30,11 +31,8 @@ fn main(rt: HostRuntime) -> io::Result<()> {
         let line = line_of(rt.alloc(), &row, schema.as_slice(), row.bytes(2)?)?;
         print!(rt; "{line}")?;
     }
-    for row in rows(&rt, "files.txt")? {
-        let files = files_of(rt.alloc(), &row, 2)?;
-        let line = line_over(rt.alloc(), &row, files.as_slice(), row.bytes(1)?)?;
-        print!(rt; "{line}")?;
-    }
+    print_rows_with_files(&rt, "files.txt")?;
+    print_rows_with_files(&rt, "worked.txt")?;
     for row in rows(&rt, "devices.txt")? {
         print_over_devices(&rt, &row)?;
     }
@@ -47,6 +45,16 @@ fn main(rt: HostRuntime) -> io::Result<()> {
         if letters.as_str() != others.as_str() {
             println!(rt; "by validators {others}")?;
         }
+    }
+    Ok(())
+}
+
+/// Prints what `run` returns and writes for each row of a file whose rows have a document and several files.
+fn print_rows_with_files(rt: &(impl Print + AllocGlobal + Files), path: &str) -> io::Result<()> {
+    for row in rows(rt, path)? {
+        let files = files_of(rt.alloc(), &row, 2)?;
+        let line = line_over(rt.alloc(), &row, files.as_slice(), row.bytes(1)?)?;
+        print!(rt; "{line}")?;
     }
     Ok(())
 }

@@ -19,10 +19,13 @@
  * and free it by rncv_schema_free. Do not change what is in it. Do not copy it and use both copies: rncv_schema_share makes a second one.
  *
  * Ownership. Each function copies what it keeps. The caller may free its bytes as soon as a function returns. The library allocates by `malloc`
- * and `realloc`, and frees by `free`.
+ * and `realloc`, and frees by `free`. A program that replaces these takes all three from one allocator, and aligns each block as the C library does:
+ * to each power of two up to 16 that divides its size.
  *
  * Threads. There is no global state. Calls on different handles may run in different threads at the same time. Calls on one handle may not: give
- * each thread a handle of its own by rncv_schema_share. A handle may move to another thread between two calls.
+ * each thread a handle of its own by rncv_schema_share. A handle may move to another thread between two calls, if a lock, the start of a thread, a
+ * join, or an atomic operation in sequential order (memory_order_seq_cst) is between them. Handles that share a schema count in it, so what `hidden`
+ * points to is for the library alone: do not read it, do not write to it.
  *
  * Rules for the caller. The arguments of one call are different objects. No pointer is NULL, unless a comment allows it. Do not call a function from
  * a signal handler, or in the child of a fork of a process with several threads.

@@ -103,7 +103,7 @@ def runs():
         yield command, [(name, schema)], joined(document)
     for command, name, document, *schema in rows("sizes.txt"):
         yield command, [(name, joined(schema))], document
-    for command, document, *files in rows("files.txt"):
+    for command, document, *files in (row for name in ("files.txt", "worked.txt") for row in rows(name)):
         times = [*files[2::3], b"1"]
         yield command, [(name, text * int(often or 1)) for name, text, often in zip(files[::3], files[1::3], times)], document
 

@@ -25,8 +25,9 @@
  * a zero. They are UTF-8 where the names of files are.
  *
  * Threads. There is no global state. Calls on different handles may run in different threads at the same time. Calls on one handle may not: give each
- * thread a judge of its own by rncv_xml_judge_share. A judge may move to another thread between two calls. Entities in one another take stack: 8 MiB are
- * enough for all that is accepted. Do not call a function from a signal handler, or in the child of a fork of a process with several threads.
+ * thread a judge of its own by rncv_xml_judge_share. A judge may move to another thread between two calls, if a lock, the start of a thread, a join, or an
+ * atomic operation in sequential order is between them. Entities in one another take stack: 8 MiB are enough for all that is accepted. Do not call a
+ * function from a signal handler, or in the child of a fork of a process with several threads.
  *
  * Output. The library writes nothing, sets no signal and does not end the process. It opens the files that are named to it, and those that the files of a
  * schema mention. It fetches nothing, and opens nothing for a document.

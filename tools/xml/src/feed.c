@@ -258,8 +258,8 @@ static void check_choices(struct feed *feed, uint64_t markup) {
     if (feed->parser->instate != XML_PARSER_DTD || is_at(feed, markup, "<!--") || is_at(feed, markup, "<?")) {
         return;
     }
-    if (feed->choices_next != feed->next) {
-        feed->choices_next = feed->next;
+    if (feed->choices_begin != feed->next) {
+        feed->choices_begin = feed->next;
         feed->choices_at = feed->next;
         feed->choices = 0;
     }

@@ -37,7 +37,7 @@ struct feed {
     uint64_t settled;   /* the last offset up to which references that gave nothing were passed */
     uint64_t choices_at;    /* the offset from which on the choices of a declaration are not counted */
     size_t choices;         /* how many there are before that */
-    uint64_t choices_next;  /* where the counting began */
+    uint64_t choices_begin; /* where the counting began */
     uint64_t next;      /* the offset of the markup or the text that is being read */
     struct tag_scan scan;
     struct bytes room;  /* where the document's bytes are read */

@@ -285,12 +285,13 @@ static void explain_missing(struct missing *missing, rncv_xml_fault *fault, stru
 
 /* Says where the file is refused, or else where a hint is. */
 static void explain_place(const rncv_xml_files *files, const rncv_fault *refused, rncv_xml_fault *fault, struct bytes *message) {
+    int64_t column = schema_files_column(&((struct found *)files->hidden)->files, refused);
     bool is_known = refused->file >= 0 && (uint64_t)refused->file < files->count;
     struct bytes path = NO_BYTES;
     rncv_xml_hint hint = {.line = 0};
     uint64_t file = is_known ? (uint64_t)refused->file : 0;
     fault->line = refused->line > 0 ? (uint64_t)refused->line : 0;
-    fault->column = refused->line > 0 && refused->column > 0 ? (uint64_t)refused->column : 0;
+    fault->column = refused->line > 0 && column > 0 ? (uint64_t)column : 0;
     if (fault->line == 0) {
         rncv_xml_hint_find(files->list, files->paths, files->count, refused->clause, &hint);
     }

@@ -1,6 +1,8 @@
 #include "parser_memory.h"
 
+#include <libxml/globals.h>
 #include <libxml/parser.h>
+#include <libxml/threads.h>
 #include <pthread.h>
 #include <stdint.h>
 #include <stdlib.h>
@@ -146,8 +148,27 @@ static void prepare(void) {
     free(memory.slots); /* what it took stays with the process */
 }
 
+/* libxml2 has values for each thread but the first that used it. It makes them where it needs them, and crashes if there is no memory for them. So they are
+ * made here. To report that there is none, libxml2 needs these values too, and tries again without an end. So the block is taken and freed before: malloc
+ * gives a thread the block of this size that it has freed last. */
+static bool prepare_thread(void) {
+#if LIBXML_VERSION >= 21200
+    return xmlCheckThreadLocalStorage() == 0;
+#else
+    if (xmlIsMainThread()) {
+        return true;
+    }
+    void *volatile room = malloc(sizeof(xmlGlobalState)); /* volatile: the compiler may leave out a block that nothing uses */
+    if (room == NULL) {
+        return false;
+    }
+    free(room);
+    return xmlGetGlobalState() != NULL;
+#endif
+}
+
 bool parser_memory_prepare(void) {
-    return pthread_once(&is_prepared, prepare) == 0 && !preparation_failed;
+    return pthread_once(&is_prepared, prepare) == 0 && !preparation_failed && prepare_thread();
 }
 
 void parser_memory_begin(struct parser_memory *memory) {

@@ -18,7 +18,7 @@ struct parser_memory {
     struct parser_memory *outer; /* of the conversion in whose pause this one began */
 };
 
-/* Prepares libxml2 for the process. It can be called again, and from several threads. False: memory ran out. */
+/* Prepares libxml2 for the process and for this thread. It can be called again, and from several threads. False: memory ran out. */
 bool parser_memory_prepare(void);
 
 /* Begins a conversion in this thread. */

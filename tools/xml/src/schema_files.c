@@ -3,6 +3,7 @@
 #include "judging.h"
 #include "paths.h"
 #include "program.h"
+#include "schema_annotations.h"
 #include "schema_tokens.h"
 
 #include <stdlib.h>
@@ -76,7 +77,7 @@ static bool add_file(struct schema_files *files, const struct bytes *name, const
         files->capacity = capacity;
     }
     struct schema_file *file = &files->list[files->count++];
-    *file = (struct schema_file){NO_BYTES, NO_BYTES, NO_BYTES};
+    *file = (struct schema_file){NO_BYTES, NO_BYTES, NO_BYTES, NO_BYTES};
     add_bytes(&file->name, name);
     add_path(&file->path, path);
     return file->name.failed || file->path.failed ? out_of_memory(files) : true;
@@ -261,7 +262,7 @@ static bool keep_missing(struct collecting *collecting, const struct meaning *me
         return true;
     }
     missing->is_there = true;
-    missing->place = place_of(&by->content, at);
+    missing->place = place_of(by->original.length > 0 ? &by->original : &by->content, at);
     add_bytes(&missing->name, &meaning->words);
     add_path(&missing->path, bytes_text(&by->path));
     bool is_good = ways_of(&ways, &meaning->words, bytes_text(&by->path));
@@ -462,6 +463,20 @@ static bool is_compact(struct collecting *collecting, size_t index) {
     return false;
 }
 
+/* Writes blanks over annotations that the library does not have. */
+static bool blank_annotations(struct schema_files *files, struct schema_file *file) {
+    bool is_changed = false;
+    if (file->content.length == 0 || memchr(file->content.data, '[', file->content.length) == NULL) {
+        return true;
+    }
+    add_bytes(&file->original, &file->content);
+    bool is_good = !file->original.failed && annotations_blank(file->content.data, file->content.length, &is_changed);
+    if (!is_changed) {
+        bytes_free(&file->original);
+    }
+    return is_good || out_of_memory(files);
+}
+
 /* Reads a file, and takes what it mentions. From a file that is too large it takes nothing: the library refuses it. */
 static bool take_file(struct collecting *collecting, size_t index) {
     struct tokens tokens;
@@ -473,6 +488,9 @@ static bool take_file(struct collecting *collecting, size_t index) {
         return true;
     }
     take_changes(collecting->files, &file->content);
+    if (!blank_annotations(collecting->files, file)) {
+        return false;
+    }
     bool is_good = tokens_open(&tokens, file->content.data, file->content.length) || out_of_memory(collecting->files);
     is_good = is_good && take_mentions(collecting, index, &tokens);
     tokens_close(&tokens);
@@ -536,6 +554,12 @@ bool schema_files_add_values(struct schema_files *files, const char *text, size_
     return is_good;
 }
 
+int64_t schema_files_column(const struct schema_files *files, const rncv_fault *fault) {
+    bool has_place = fault->offset >= 0 && fault->file >= 0 && (uint64_t)fault->file < files->count;
+    const struct bytes *original = has_place ? &files->list[fault->file].original : NULL;
+    return original == NULL || original->length == 0 ? fault->column : (int64_t)place_of(original, (size_t)fault->offset).column;
+}
+
 int32_t schema_files_compile(const struct schema_files *files, rncv_schema *schema, rncv_fault *fault) {
     size_t count = files->count <= MOST_FILES ? files->count : MOST_FILES + 1;
     rncv_file *list = calloc(count, sizeof *list);
@@ -549,12 +573,16 @@ int32_t schema_files_compile(const struct schema_files *files, rncv_schema *sche
     }
     int32_t status = rncv_compile(list, count, schema, fault);
     free(list);
+    if (status == RNCV_REFUSED) {
+        fault->column = schema_files_column(files, fault);
+    }
     return status;
 }
 
 void schema_files_forget(struct schema_files *files) {
     for (size_t at = 0; at < files->count; at++) {
         bytes_free(&files->list[at].content);
+        bytes_free(&files->list[at].original);
     }
 }
 
@@ -563,6 +591,7 @@ void schema_files_free(struct schema_files *files) {
         bytes_free(&files->list[at].name);
         bytes_free(&files->list[at].path);
         bytes_free(&files->list[at].content);
+        bytes_free(&files->list[at].original);
     }
     for (size_t at = 0; at < files->value_count; at++) {
         free(files->values[at]);

@@ -10,7 +10,8 @@
 struct schema_file {
     struct bytes name;    /* under which the library gets it */
     struct bytes path;    /* where it is, and the name that people see */
-    struct bytes content;
+    struct bytes content; /* as the library gets it: with blanks for the annotations that it does not have */
+    struct bytes original; /* as it is in the file, if that is another text */
 };
 
 /* A mention of a file that is not there. */
@@ -58,6 +59,9 @@ bool schema_files_collect(struct schema_files *files, const struct schema_reques
 
 /* Adds the literals of a text to the values. False: out of memory. */
 bool schema_files_add_values(struct schema_files *files, const char *text, size_t length);
+
+/* The column of a fault, in the file as it is written. Blanks for annotations have a column for each byte. */
+int64_t schema_files_column(const struct schema_files *files, const rncv_fault *fault);
 
 /* Compiles the files. Returns the status of the library, or RNCV_MEMORY if there is no memory for the call. */
 int32_t schema_files_compile(const struct schema_files *files, rncv_schema *schema, rncv_fault *fault);

@@ -228,7 +228,7 @@ static struct token literal_at(const char *text, size_t at, size_t length, size_
         bool closes = text[here] == quote && (!is_long || (here + 2 < length && text[here + 1] == quote && text[here + 2] == quote));
         if (closes) {
             *end = here + (is_long ? 3 : 1);
-            return (struct token){TOKEN_LITERAL, {text + begin, here - begin}, at};
+            return (struct token){TOKEN_LITERAL, {text + begin, here - begin}, at, 0};
         }
         if (!is_long && (text[here] == '\n' || text[here] == '\r')) {
             break;
@@ -236,7 +236,7 @@ static struct token literal_at(const char *text, size_t at, size_t length, size_
     }
     /* three quotes without an end are an empty literal and what follows it */
     *end = at + 2;
-    return (struct token){is_long ? TOKEN_LITERAL : TOKEN_NONE, {text + at + 1, 0}, at};
+    return (struct token){is_long ? TOKEN_LITERAL : TOKEN_NONE, {text + at + 1, 0}, at, 0};
 }
 
 static struct token word_at(const char *text, size_t at, size_t length, size_t *end) {
@@ -248,25 +248,26 @@ static struct token word_at(const char *text, size_t at, size_t length, size_t *
         kind = TOKEN_NAME;
     }
     *end = stop;
-    return (struct token){kind, {text + begin, stop - begin}, at};
+    return (struct token){kind, {text + begin, stop - begin}, at, 0};
 }
 
 struct token tokens_next(struct tokens *tokens) {
     const char *text = tokens->text.data;
     size_t length = tokens->text.length;
     size_t at = after_blanks(text, tokens->next, length);
-    struct token token = {TOKEN_NONE, {NULL, 0}, at};
+    struct token token = {TOKEN_NONE, {NULL, 0}, at, 0};
     size_t end = at;
     if (at < length && (text[at] == '"' || text[at] == '\'')) {
         token = literal_at(text, at, length, &end);
     } else if (at < length && (begins_name(text[at]) || (text[at] == '\\' && at + 1 < length && begins_name(text[at + 1])))) {
         token = word_at(text, at, length, &end);
     } else if (at < length && memchr(">|&[]=,?*+{}()~-", text[at], 16) != NULL) {
-        token = (struct token){TOKEN_SIGN, {text + at, 1}, at};
+        token = (struct token){TOKEN_SIGN, {text + at, 1}, at, 0};
         end = at + 1;
     }
     tokens->next = token.kind == TOKEN_NONE ? length : end;
     token.at = tokens->origins == NULL ? token.at : tokens->origins[token.at];
+    token.end = tokens->origins == NULL ? end : tokens->origins[end];
     return token;
 }
 
@@ -283,4 +284,31 @@ bool is_word(const struct token *token, const char *word) {
 
 bool is_sign(const struct token *token, char sign) {
     return token->kind == TOKEN_SIGN && token->text.data[0] == sign;
+}
+
+static bool is_keyword(const struct token *token) {
+    static const char *const words[] = {"attribute", "default", "datatypes", "div", "element", "empty", "external", "grammar", "include", "inherit",
+                                        "list", "mixed", "namespace", "notAllowed", "parent", "start", "string", "text", "token"};
+    for (size_t at = 0; at < sizeof words / sizeof *words; at++) {
+        if (is_word(token, words[at])) {
+            return true;
+        }
+    }
+    return false;
+}
+
+bool has_colon(const struct token *token) {
+    return token->text.length > 0 && memchr(token->text.data, ':', token->text.length) != NULL;
+}
+
+bool is_identifier(const struct token *token) {
+    return token->kind == TOKEN_WORD ? !is_keyword(token) : token->kind == TOKEN_NAME && !has_colon(token);
+}
+
+bool is_names(const struct token *token) {
+    return token->kind == TOKEN_NAME && token->text.length > 0 && token->text.data[token->text.length - 1] == '*';
+}
+
+bool is_name(const struct token *token) {
+    return token->kind == TOKEN_WORD || (token->kind == TOKEN_NAME && !is_names(token));
 }

@@ -32,6 +32,7 @@ struct token {
     enum token_kind kind;
     struct span text; /* for a literal, what is between its quotes */
     size_t at;        /* where it begins, in the file's bytes */
+    size_t end;       /* where it ends */
 };
 
 struct tokens {
@@ -49,5 +50,9 @@ void tokens_close(struct tokens *tokens);
 void add_literal(struct bytes *text, const struct token *token);
 bool is_word(const struct token *token, const char *word);
 bool is_sign(const struct token *token, char sign);
+bool has_colon(const struct token *token);
+bool is_identifier(const struct token *token); /* a word that is no keyword, or a quoted identifier */
+bool is_names(const struct token *token);      /* `p:*` */
+bool is_name(const struct token *token);       /* one of an element or an attribute: a keyword, an identifier or a name with a prefix */
 
 #endif

@@ -208,25 +208,6 @@ static struct node *node_of(struct parser *parser, uint32_t node) {
     return &parser->tree->nodes[node];
 }
 
-static bool is_keyword(const struct token *token) {
-    static const char *const words[] = {"attribute", "default", "datatypes", "div", "element", "empty", "external", "grammar", "include", "inherit",
-                                        "list", "mixed", "namespace", "notAllowed", "parent", "start", "string", "text", "token"};
-    for (size_t at = 0; at < sizeof words / sizeof *words; at++) {
-        if (is_word(token, words[at])) {
-            return true;
-        }
-    }
-    return false;
-}
-
-static bool has_colon(const struct token *token) {
-    return token->text.length > 0 && memchr(token->text.data, ':', token->text.length) != NULL;
-}
-
-static bool is_identifier(const struct token *token) {
-    return token->kind == TOKEN_WORD ? !is_keyword(token) : token->kind == TOKEN_NAME && !has_colon(token);
-}
-
 /* The text of a literal, with its joined segments. */
 static struct span literal(struct parser *parser) {
     struct bytes *literals = &parser->file->literals;
@@ -595,7 +576,7 @@ static void parse_file(struct parser *parser) {
 /* Reads a file. Its literals get their room at once, since the tree points into it. */
 static bool read_file(struct tree *tree, size_t number) {
     struct tree_file *file = &tree->files[number];
-    struct parser parser = {tree, file, (uint8_t)number, {{TOKEN_NONE, {NULL, 0}, 0}, {TOKEN_NONE, {NULL, 0}, 0}, {TOKEN_NONE, {NULL, 0}, 0}}, 0};
+    struct parser parser = {.tree = tree, .file = file, .number = (uint8_t)number};
     file->is_read = true;
     tree->failed |= file->given->length > MOST_FILE;
     if (tree->failed || !tokens_open(&file->tokens, file->given->bytes, file->given->length) ||

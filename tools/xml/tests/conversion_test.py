@@ -51,6 +51,26 @@ class Converted(InFolder):
         return int(row), int(column), what[1:]
 
 
+class Threads(InFolder):
+    """The conversion in threads, by the test program in C."""
+
+    BUILD = """
+    cc=${CC:-cc}
+    . "$0/parser.sh"
+    for part in $parser_parts; do sources="$sources $0/src/$part.c"; done
+    exec $cc -std=c17 -Wall -Wextra -Wconversion -Werror -pedantic -D_XOPEN_SOURCE=700 -D_FILE_OFFSET_BITS=64 -O2 -I"$0/src" $parser_flags -o "$1" \\
+        "$0/tests/thread_memory_test.c" $sources $parser_libs -lpthread
+    """
+
+    def test_refused_memory(self):
+        program = self.folder / "program"
+        build = subprocess.run(["sh", "-c", self.BUILD, HERE, program], capture_output=True, text=True, check=False)
+        self.assertEqual((build.returncode, build.stderr), (0, ""))
+        run = subprocess.run([program], capture_output=True, text=True, timeout=100, check=False)
+        self.assertRegex(run.stdout, "^thread_memory_test: ok, \\d+ growths\n$")
+        self.assertEqual(run.returncode, 0, run.stderr)
+
+
 class Conversion(Converted):
     """What is in the PYX of a document."""
 
