@@ -1,5 +1,5 @@
 -- How the program ends.
-use Rattle.std.proofs.Common.{arith, ◌≡◌, ◌+◌, ℕ, List, Option, Err, length, le_refl, take_all}
+use Rattle.std.proofs.Common.{arith, ◌≡◌, ◌∙◌, ◌+◌, ℕ, List, Option, Result, Ok, Err, IfErr, ap, length, le_refl, take_all}
 use Rattle.std.proofs.KnownBytes.{Appends-kept}
 use Rattle.std.specs.Io.KnownBytes.{Keeps}
 use Rattle.rng_model.specs.declared.device.Device.{Device}
@@ -7,7 +7,9 @@ use Rattle.rng_model.specs.devices.Device.{device_failures, device_inner}
 use Rattle.rncv_model.specs.answers.Answer.{Answer, output_of}
 use Rattle.rncv_model.specs.answers.Run.{WritesAnswer}
 use Rattle.rncv_model.specs.declared.status.Status.{Status}
+use Rattle.rncv_cli.specs.declared.fault.Fault.{Fault}
 use Rattle.rncv_cli.specs.declared.fault.Fault.TheVariants.{Write}
+use Rattle.rncv_cli.specs.views.ExitStatus.{exit_status_of}
 use Rattle.rncv_cli.specs.views.Faults.{IsFaultOfRun}
 use Rattle.rncv_cli.specs.views.ProgramEnds.{HasEnded}
 
@@ -35,3 +37,9 @@ flush_failed remaining contents answers input_old input_new output_old output_mi
     );
   };
 }
+
+-- the exit status of the end to which an error in place of the words leads
+pub status_by : {A E : Type 0} (given : Result A E) (K : E → Type 0) (end other : Result Status Fault) (status : ℕ) → IfErr given (λ e. K e → end ≡ other)
+    → status ≡ exit_status_of end → IfErr given (λ e. K e → status ≡ exit_status_of other)
+status_by (Ok x) K end other status so is = tt
+status_by (Err e) K end other status so is = λ k. is ∙ ap exit_status_of (so k)

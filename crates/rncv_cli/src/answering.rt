@@ -1,5 +1,5 @@
 // From the words of a command line to one answer.
-ghost use Rattle.std.specs.Prelude.{◌≡◌, ◌≢◌, ◌-◌, ◌^◌, ◌<◌, ℕ, List, Err, IfOk, IfErr, IsErrOf, length, map, string_bytes};
+ghost use Rattle.std.specs.Prelude.{◌≡◌, ◌≢◌, ◌-◌, ◌^◌, ◌<◌, List, Err, IfOk, IfErr, IsErrOf, length, map, string_bytes};
 ghost use Rattle.std.specs.IoError.{error_kind};
 ghost use Rattle.rng_model.specs.devices.Device.{device_failures};
 ghost use Rattle.rnc_model.specs.loading.Files.{named_files};
