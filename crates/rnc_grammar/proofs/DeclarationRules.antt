@@ -15,6 +15,9 @@ use Rattle.rnc_model.specs.declarations.DeclarationRules.{Declarable, namespace_
 use Rattle.rnc_model.specs.declarations.DeclarationRules.{at_first, later, IsPrefixIn, BreaksDeclarationRule, namespace_prefix_twice, datatype_prefix_twice}
 use Rattle.rnc_model.specs.declarations.DeclarationRules.{default_namespace_twice, xml_as_another, xsd_as_another, xmlns_declared, namespace_prefix_undeclared}
 use Rattle.rnc_model.specs.declarations.DeclarationRules.{datatype_prefix_undeclared}
+use Rattle.rnc_model.specs.declarations.FaultyTokens as faulty
+use Rattle.rnc_model.specs.declarations.FaultyTokens.{BreakDeclarationRule, IsUndeclaredPrefix}
+use Rattle.rnc_model.specs.declarations.FileTree as tree
 use Rattle.rnc_model.specs.declarations.FileTree.{FileTree, Namespace, given}
 use Rattle.rnc_grammar.proofs.UsedPrefixes.{is_known, no_body, stands_unknown}
 
@@ -358,3 +361,60 @@ module _ (f : syntax.File) where
   pub broken_where_none : file_tree f ≡ None → BreaksDeclarationRule f
   broken_where_none e =
       broken_after (with_all nothing_declared (declared_in f.declarations)) (after_all (declared_in f.declarations) nothing_declared) (sym (file_tree_is f) ∙ e)
+
+-- ---- declarations one by one, and the prefixes after them
+
+abbrev alone : List syntax.Declaration → syntax.File
+alone ds = record { declarations = ds; body = syntax.grammar_body syntax.no_components }
+
+alone_tree : (ds : List syntax.Declaration) → file_tree (alone ds) ≡ (declare_all nothing_declared ds >>= λ s. body_in s (alone ds).body)
+unfolding file_tree
+alone_tree ds = refl
+
+-- declarations that cannot be applied break a rule
+pub broken_where_stuck : (ds : List syntax.Declaration) → declare_all nothing_declared ds ≡ None → BreakDeclarationRule ds
+broken_where_stuck ds e = broken_where_none (alone ds) (alone_tree ds ∙ ap (λ o. o >>= λ s. body_in s (alone ds).body) e)
+
+-- declarations that can be applied break none
+pub kept_where_applied : (ds : List syntax.Declaration) (s : Scope) → declare_all nothing_declared ds ≡ Some s → ¬ (BreakDeclarationRule ds)
+kept_where_applied ds s e =
+    kept_where_tree (alone ds) (tree.grammar_file tree.no_components) (alone_tree ds ∙ ap (λ o. o >>= λ s. body_in s (alone ds).body) e)
+
+are_applied : (s : Scope) (es : List (Declarable × syntax.Uri)) (o : Option Scope) → o ≡ Some s → AfterAll nothing_declared es o → AreThere nothing_declared s es
+are_applied s es None e after = absurd (none-some s e)
+are_applied s es (Some t) e (are_there h) = let same : t ≡ s = cc in subst (λ t. AreThere nothing_declared t es) same h
+
+module _ (ds : List syntax.Declaration) (s : Scope) (applied : declare_all nothing_declared ds ≡ Some s) where
+  applied_there : AreThere nothing_declared s (declared_in ds)
+  applied_there =
+      are_applied s (declared_in ds) (with_all nothing_declared (declared_in ds)) (sym (all_declared ds nothing_declared) ∙ applied)
+      (after_all (declared_in ds) nothing_declared)
+
+  -- a prefix that has no uri is not declared
+  pub undeclared_where_unknown : (x : Declarable) → is_known s x ≡ false → IsUndeclaredPrefix ds x
+  undeclared_where_unknown (namespace_prefix p) e =
+      let other : p ≢ codes "xml" = λ is. true≢false (subst (λ p. is_known s (namespace_prefix p) ≡ false) is e) in
+      faulty.namespace other (undeclared (alone ds) s applied_there (namespace_prefix p) (sym (unknown_namespace s p other) ∙ e))
+  undeclared_where_unknown (datatype_prefix p) e =
+      let other : p ≢ codes "xsd" = λ is. true≢false (subst (λ p. is_known s (datatype_prefix p) ≡ false) is e) in
+      faulty.datatypes other (undeclared (alone ds) s applied_there (datatype_prefix p) (sym (unknown_datatypes s p other) ∙ e))
+  undeclared_where_unknown default_namespace e = absurd (true≢false e)
+
+  -- a prefix that has one is declared
+  pub declared_where_known : (x : Declarable) → is_known s x ≡ true → ¬ (IsUndeclaredPrefix ds x)
+  declared_where_known (namespace_prefix p) e (faulty.namespace n none) =
+      true≢false (sym e ∙ unknown_namespace s p n ∙ not_declared (alone ds) s applied_there (namespace_prefix p) none)
+  declared_where_known (datatype_prefix p) e (faulty.datatypes n none) =
+      true≢false (sym e ∙ unknown_datatypes s p n ∙ not_declared (alone ds) s applied_there (datatype_prefix p) none)
+  declared_where_known default_namespace e u = elim u [ ]
+
+  -- if another rule is broken, a prefix of the body has no uri
+  pub unknown_where_broken : (f : syntax.File) → f.declarations ≡ ds → BreaksDeclarationRule f
+      → (x : Declarable) × IsPrefixIn x f.body × (is_known s x ≡ false)
+  unknown_where_broken f same b = stands_unknown s f.body (sym (unbody (declare_all nothing_declared f.declarations) (ap (declare_all nothing_declared) same ∙ applied))
+      ∙ tree_of_file ∙ none_where_broken f b)
+    where
+      unbody : (o : Option Scope) → o ≡ Some s → (o >>= λ s. body_in s f.body) ≡ body_in s f.body
+      unbody o e = ap (λ o. o >>= λ s. body_in s f.body) e
+      tree_of_file : (declare_all nothing_declared f.declarations >>= λ s. body_in s f.body) ≡ file_tree f
+      tree_of_file = ap (λ o. o >>= λ s. body_in s f.body) (all_declared f.declarations nothing_declared) ∙ sym (file_tree_is f)

@@ -4,7 +4,8 @@
 //! and use their prefixes by the rules. Such tokens have one tree. For other tokens it reports the clause that they
 //! break: 7 before 6 before 8, and the token for clause 6. `resolve` returns the file tree of a syntax tree.
 //! `FileTree::grammar` returns the components of a file that is a grammar. `FileTree::mentioned_files` returns which
-//! other files a file mentions, in the order of their tokens. The only other failure is out of memory.
+//! other files a file mentions, in the order of their tokens. `Scope` applies declarations one by one and returns what a
+//! prefix is declared as. The only other failure is out of memory.
 #![tactic(auto)]
 
 mod fault;
@@ -22,3 +23,4 @@ pub use file_tree::{
 pub use mentions::MentionedFile;
 pub use parsing::{parse, resolve};
 pub use rng_model::Method;
+pub use scope::{Scope, ScopeFault};

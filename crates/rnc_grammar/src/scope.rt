@@ -18,11 +18,12 @@ const XML_URI: &str = "http://www.w3.org/XML/1998/namespace";
 /// The uri of the datatype prefix `xsd`.
 const XSD_URI: &str = "http://www.w3.org/2001/XMLSchema-datatypes";
 
-/// Why declarations cannot be applied.
+/// Why a declaration cannot be applied, or a prefix has no uri.
 #[derive(Clone, Copy)]
 pub enum ScopeFault {
     /// A declaration or a prefix breaks a rule.
     Broken,
+    /// Out of memory. Says nothing about the declarations.
     Memory,
 }
 
@@ -153,6 +154,11 @@ impl<'a> Scope<'a> {
     }
 
     /// Applies a declaration.
+    ///
+    /// Fails with `Broken` exactly if it breaks a rule, by itself or with those applied before: a prefix or the default
+    /// namespace is declared twice, or `xml`, `xmlns` or `xsd` is declared as what it must not represent. Copies the uri.
+    ///
+    /// RELAX NG Compact Syntax, "Declarations".
     pub fn declare(
         &mut self,
         alloc: Global,
@@ -188,7 +194,7 @@ impl<'a> Scope<'a> {
         }
     }
 
-    /// The namespace of a prefix. `xml` is predeclared.
+    /// The namespace of a prefix. `xml` is predeclared. Fails with `Broken` exactly if the prefix is not declared.
     pub fn namespace(&self, alloc: Global, prefix: &str) -> Result<Namespace, ScopeFault>
         ensures { Resolves namespace_of result (declarations.namespace_in (scope_view self.now) prefix.now) }
     {
@@ -201,7 +207,8 @@ impl<'a> Scope<'a> {
         }
     }
 
-    /// The uri of a datatype prefix. `xsd` is predeclared.
+    /// A copy of the uri of a datatype prefix. `xsd` is predeclared. Fails with `Broken` exactly if the prefix is not
+    /// declared.
     pub fn library(&self, alloc: Global, prefix: &str) -> Result<String, ScopeFault>
         ensures { Resolves string_bytes result (declarations.library_in (scope_view self.now) prefix.now) }
     {

@@ -132,7 +132,7 @@ begins_fronts ts rest b = let e = b.parts in rw e (b.fronts (b.behind ++ rest))
 begins_takes : (ts rest : List Lexeme) → Begins ts → length rest < length (ts ++ rest)
 begins_takes ts rest b = let e = b.parts in rw e (omega (arith, length-append b.behind rest))
 
-declarations_no_tilde : {ts : List Lexeme} {ds : List Declaration} → AreDeclarations ts ds → (rest : List Lexeme) → follow Tilde rest ≡ None
+pub declarations_no_tilde : {ts : List Lexeme} {ds : List Declaration} → AreDeclarations ts ds → (rest : List Lexeme) → follow Tilde rest ≡ None
     → follow Tilde (ts ++ rest) ≡ None
 declarations_no_tilde (grammar.no_declarations e) rest f = rw e f
 declarations_no_tilde (grammar.and_declaration {a = a} {b = b} p q e) rest f = rw e (begins_no_tilde a b rest (declaration_begins p))
@@ -158,7 +158,7 @@ declarations_complete {ts} (grammar.and_declaration {ds = ds} {a = a} {b = b} {d
 -- ---- bodies
 
 -- how a body begins: not with a declaration
-record NoDeclaration (ts : List Lexeme) : Type 0 where
+pub record NoDeclaration (ts : List Lexeme) : Type 0 where
   pub no_tilde : follow Tilde ts ≡ None
   pub none : declaration_front ts ≡ None
 
@@ -220,7 +220,7 @@ components_body : {ts : List Lexeme} {cs : List Component} → AreComponents con
 components_body (grammar.no_components e) = rw e (record { no_tilde = refl; none = refl })
 components_body (grammar.and_component {a = a} {b = b} p q e) = rw (e, append_assoc a b []) (component_body p (b ++ []))
 
-body_begins : {ts : List Lexeme} {b : Body} → IsBody ts b → NoDeclaration (ts ++ [])
+pub body_begins : {ts : List Lexeme} {b : Body} → IsBody ts b → NoDeclaration (ts ++ [])
 body_begins (grammar.pattern_body p) = pattern_body p
 body_begins (grammar.grammar_body p e) = components_body p
 
