@@ -37,7 +37,7 @@ compile() {
 objects() { for source in "$@"; do printf '%s ' "$work/$source.o"; done; }
 
 shared="$parser_parts program"
-hints="schema_tree schema_grammars schema_words schema_restrictions schema_hints"
+hints="xml_names schema_tree schema_grammars schema_words schema_restrictions schema_hints"
 judging="belt paths schema_tokens $hints schema_files options documents trail judging probes progress formats report jobs"
 
 compile $shared xml2pyx

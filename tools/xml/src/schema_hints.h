@@ -1,6 +1,6 @@
 /* Hints: where a schema most likely breaks a clause, and by what. The proved library reports the clause; a hint is a guess outside the proof.
  *
- * The interface is plain, so that a library and Python can use it: arrays of files, and a structure of fixed size. It needs schema_tree, schema_grammars,
+ * The interface is plain, so that a library and Python can use it: arrays of files, and a structure of fixed size. It needs xml_names, schema_tree, schema_grammars,
  * schema_tokens and bytes, and nothing of the library. It keeps nothing, and any thread may call it. */
 #ifndef SCHEMA_HINTS_H
 #define SCHEMA_HINTS_H
