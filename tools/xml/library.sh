@@ -15,8 +15,9 @@ library=${RNCV_LIBRARY:-$folder}
 cc=${CC:-cc}
 flags="-std=c17 -Wall -Wextra -Wconversion -Werror -pedantic -D_XOPEN_SOURCE=700 -D_FILE_OFFSET_BITS=64 -fPIC -ffunction-sections -fdata-sections"
 . "$here/parser.sh"
-hints="xml_names schema_tree schema_grammars schema_words schema_restrictions schema_hints"
-parts="$parser_parts program belt paths schema_tokens $hints schema_files trail judging probes library"
+rng="rng_tree rng_namespaces rng_grammar rng_uri rng_prefixes rng_words rng_patterns rng_writer"
+hints="schema_tree schema_grammars schema_words schema_restrictions schema_hints"
+parts="$parser_parts program belt paths schema_tokens xml_names origins $rng $hints schema_files schema_xml trail judging probes library"
 
 missing() { echo "tools/xml/library.sh: $1" >&2; exit 2; }
 

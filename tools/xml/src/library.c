@@ -230,7 +230,7 @@ int32_t rncv_xml_files_find(const char *path, const rncv_xml_mapping *mappings, 
     int32_t status;
     struct mapping *copies = mapped(mappings, count, &status);
     if (status == RNCV_DONE) {
-        struct schema_request request = {&given, 1, copies, count, NULL};
+        struct schema_request request = {&given, 1, copies, count, NULL, false};
         status = collect(&request, files, fault);
     }
     free(copies);
@@ -243,7 +243,7 @@ static struct schema_hint_file *hint_files(const rncv_file *files, const char *c
     for (size_t at = 0; list != NULL && at < count; at++) {
         const rncv_file *file = &files[at];
         const char *name = file->name == NULL ? "" : (const char *)file->name;
-        list[at] = (struct schema_hint_file){name, file->name_length, (const char *)file->bytes, file->length, paths == NULL ? NULL : paths[at]};
+        list[at] = (struct schema_hint_file){name, file->name_length, (const char *)file->bytes, file->length, paths == NULL ? NULL : paths[at], NULL};
     }
     return list;
 }
@@ -358,7 +358,7 @@ int32_t rncv_xml_judge_new(rncv_schema *schema, const rncv_file *files, size_t c
     }
     struct schema_files read;
     struct values *values = NULL;
-    bool is_good = schema_files_collect(&read, &(struct schema_request){NULL, 0, NULL, 0, NULL});
+    bool is_good = schema_files_collect(&read, &(struct schema_request){NULL, 0, NULL, 0, NULL, false});
     for (size_t at = 0; at < count && is_good; at++) {
         is_good = files[at].length == 0 || schema_files_add_values(&read, (const char *)files[at].bytes, files[at].length);
     }

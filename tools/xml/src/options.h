@@ -40,6 +40,7 @@ struct options {
     bool is_verbose;
     bool is_quiet;
     bool is_strict; /* about the schema: a copy that rncv-profile changed is refused */
+    bool prints_schema;
     bool refuses_notes;
     bool loads_dtd;
     bool wants_help;

@@ -3,8 +3,6 @@
 #include "rng_uri.h"
 #include "rng_writing.h"
 
-#include <stdlib.h>
-
 enum { SHORT = 4 }; /* so many elements may be on one line */
 
 const struct rng_node *rng_at(const struct rng_writer *writer, uint32_t index) {
@@ -12,14 +10,7 @@ const struct rng_node *rng_at(const struct rng_writer *writer, uint32_t index) {
 }
 
 void put_mark(struct rng_writer *writer, const struct rng_node *node) {
-    struct rng_text *out = writer->out;
-    void *list = out->marks;
-    bool has_room = rng_grow(&list, out->count, &out->capacity, sizeof *out->marks);
-    out->marks = list;
-    if (has_room) {
-        out->marks[out->count++] = (struct rng_mark){writer->text->length, node->place};
-    }
-    writer->text->failed |= !has_room;
+    writer->text->failed |= !origins_add(&writer->out->origins, writer->text->length, node->place);
 }
 
 /* The number of elements from this one on, with what is in them, but at most one more than is short. */

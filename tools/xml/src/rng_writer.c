@@ -3,8 +3,6 @@
 #include "rng_grammar.h"
 #include "rng_writing.h"
 
-#include <stdlib.h>
-
 /* Whether the pattern is nothing but a grammar once patterns of one child are that child (4.12), and is none yet. An include of it is wrong (4.7). */
 static bool is_hidden_grammar(const struct rng_tree *tree) {
     const struct rng_node *node = &tree->nodes[1];
@@ -39,15 +37,15 @@ static void join(struct rng_writer *writer, struct bytes *body) {
     size_t head = out->text.length;
     bytes_add(&out->text, body->data + blank, body->length - blank);
     out->text.failed |= body->failed;
-    for (size_t at = 0; at < out->count; at++) {
-        size_t begin = out->marks[at].at;
-        out->marks[at].at = at == 0 ? 0 : begin + head - (begin > 0 ? blank : 0);
+    for (size_t at = 0; at < out->origins.count; at++) {
+        size_t *begin = &out->origins.list[at].at;
+        *begin = at == 0 ? 0 : *begin + head - (*begin > 0 ? blank : 0);
     }
 }
 
 bool rng_write(const struct rng_tree *tree, const struct rng_naming *naming, struct rng_text *text, struct fault *fault) {
     struct bytes body = NO_BYTES;
-    *text = (struct rng_text){NO_BYTES, NULL, 0, 0};
+    *text = (struct rng_text){NO_BYTES, {NULL, 0, 0}};
     struct rng_writer writer = {.tree = tree, .naming = naming, .fault = fault, .text = &body, .out = text, .namespaces = {.stem = "ns"},
                                 .libraries = {.stem = "lib"}, .default_ns = tree->nodes[1].values[RNG_AT_NS]};
     put_root(&writer);
@@ -66,7 +64,7 @@ bool rng_write(const struct rng_tree *tree, const struct rng_naming *naming, str
 
 bool rng_convert(const struct rng_request *request, struct rng_text *text, struct fault *fault) {
     struct rng_tree tree;
-    *text = (struct rng_text){NO_BYTES, NULL, 0, 0};
+    *text = (struct rng_text){NO_BYTES, {NULL, 0, 0}};
     bool is_good = rng_tree_open(&tree, request->giver, fault);
     if (is_good && tree.note_place.line != 0 && request->note != NULL) {
         request->note(request->context, tree.note_place, bytes_text(&tree.note));
@@ -76,22 +74,7 @@ bool rng_convert(const struct rng_request *request, struct rng_text *text, struc
     return is_good;
 }
 
-struct place rng_place(const struct rng_text *text, size_t at) {
-    size_t low = 0;
-    size_t high = text->count;
-    while (high - low > 1) {
-        size_t middle = low + (high - low) / 2;
-        if (text->marks[middle].at <= at) {
-            low = middle;
-        } else {
-            high = middle;
-        }
-    }
-    return text->count == 0 ? (struct place){0, 0} : text->marks[low].place;
-}
-
 void rng_text_free(struct rng_text *text) {
     bytes_free(&text->text);
-    free(text->marks);
-    *text = (struct rng_text){NO_BYTES, NULL, 0, 0};
+    origins_free(&text->origins);
 }

@@ -2,19 +2,13 @@
 #ifndef RNG_WRITER_H
 #define RNG_WRITER_H
 
+#include "origins.h"
 #include "rng_tree.h"
 
-/* From this byte of the text on, up to the next mark, the text was written for the element at the place. */
-struct rng_mark {
-    size_t at;
-    struct place place;
-};
-
+/* The text, and the places of the elements for which its bytes were written. */
 struct rng_text {
     struct bytes text;
-    struct rng_mark *marks; /* the first one is at the byte 0 */
-    size_t count;
-    size_t capacity;
+    struct origins origins;
 };
 
 /* Says how a mention of a file is written. The href is resolved by the bases around it. False: it failed, and the fault may say why. */
@@ -35,8 +29,6 @@ struct rng_request {
 };
 bool rng_convert(const struct rng_request *request, struct rng_text *text, struct fault *fault);
 
-/* The place of the element for which a byte of the text was written. */
-struct place rng_place(const struct rng_text *text, size_t at);
 void rng_text_free(struct rng_text *text);
 
 #endif
