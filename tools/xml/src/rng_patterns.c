@@ -13,11 +13,11 @@ void put_mark(struct rng_writer *writer, const struct rng_node *node) {
     writer->text->failed |= !origins_add(&writer->out->origins, writer->text->length, node->place);
 }
 
-/* The number of elements from this one on, with what is in them, but at most one more than is short. */
+/* The number of elements from this one on, with what is in them; if it is not short, any larger number. A grammar is never short. */
 static int size_of(const struct rng_writer *writer, uint32_t first) {
     int count = 0;
     for (uint32_t at = first; at != 0 && count <= SHORT; at = rng_at(writer, at)->next) {
-        count += 1 + size_of(writer, rng_at(writer, at)->first);
+        count += rng_at(writer, at)->kind == RNG_GRAMMAR ? SHORT + 1 : 1 + size_of(writer, rng_at(writer, at)->first);
     }
     return count;
 }

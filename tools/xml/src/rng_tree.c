@@ -132,7 +132,7 @@ static bool add_node(struct reading *reading, uint32_t parent, uint32_t scope) {
     struct rng_node *node = &tree->nodes[index];
     struct rng_node *above = &tree->nodes[parent];
     *node = (struct rng_node){.place = reading->tag.place, .name = reading->tag.local, .kind = kind_of(reading->tag.local), .scope = scope,
-                              .parent = parent, .ns = above->ns, .library = above->library};
+                              .parent = parent, .text = {"", 0}, .ns = above->ns, .library = above->library};
     for (size_t at = 0; at < reading->tag.count; at++) {
         keep_attribute(node, &reading->tag.attributes[at]);
     }
@@ -184,7 +184,7 @@ static void take_text(struct reading *reading, struct span text, struct place pl
     if (!has_text || node->first != 0 || node->has_foreign) {
         return;
     }
-    if (node->text.data == NULL) {
+    if (node->text.length == 0) {
         node->text = text;
     } else {
         size_t at = (size_t)(node->text.data - reading->tree->pyx.data) + node->text.length;

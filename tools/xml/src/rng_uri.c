@@ -70,14 +70,22 @@ static struct parts parts_of(struct span uri) {
     return parts;
 }
 
+/* Whether the path is that of a folder: its last part is empty, `.` or `..`. */
+static bool is_folder(const char *path) {
+    const char *slash = strrchr(path, '/');
+    const char *last = slash == NULL ? path : slash + 1;
+    return last[0] == '\0' || strcmp(last, ".") == 0 || strcmp(last, "..") == 0;
+}
+
 /* Adds a path without `.` and `..` in it, as far as they can be taken out. What follows the path stays. */
 static void add_path(struct bytes *to, struct bytes *path, struct span rest) {
     struct bytes normal = NO_BYTES;
     const char *text = bytes_text(path);
-    if (strchr(text, '.') != NULL) {
+    if (text[0] != '\0') {
         add_normal(&normal, text);
-    } else {
-        bytes_add_text(&normal, text);
+    }
+    if (normal.length > 0 && is_folder(text) && normal.data[normal.length - 1] != '/') {
+        bytes_add_byte(&normal, '/');
     }
     bytes_add(to, normal.data, normal.length);
     bytes_add(to, rest.data, rest.length);
