@@ -4,7 +4,8 @@
     tools/fuzz/rng_run.py [--count N] [--seed S] [--found FOLDER] [--program RNG2RNC] [FILE.rng..]
 
 Random schemas of several files, and mutants of them and of the files that are named, are given to `rng2rnc`. A schema that it refuses has to be one that jing
-refuses, a schema that jing refuses has to be refused by one of them, and both forms have to be the same. It needs jing and a Java compiler.
+refuses, a schema that jing refuses has to be refused by one of them, and both forms have to be the same. The `rncv-xml` beside it has to refuse the schemas that
+jing refuses, and no others but those with datatypes that are not served. It needs jing and a Java compiler.
 """
 import argparse
 import pathlib
@@ -50,8 +51,8 @@ class Jing:
 
 class Trials:
     def __init__(self, room, program):
-        self.room, self.program, self.jing = pathlib.Path(room), program, Jing(room)
-        self.counts = dict.fromkeys(["same", "refused by both", "refused in the compact syntax", "explained"], 0)
+        self.room, self.program, self.jing = pathlib.Path(room), pathlib.Path(program).absolute(), Jing(room)
+        self.counts = dict.fromkeys(["same", "refused by both", "refused in the compact syntax", "explained", "taken by rncv-xml", "not served"], 0)
 
     def judge(self, main):
         """What is wrong with the schema's copy; None: nothing."""
@@ -76,6 +77,23 @@ class Trials:
         self.counts["same"] += 1
         return None if QNAME.sub(r"\1>\2<", form) == QNAME.sub(r"\1>\2<", copy_form) else f"another form:\n{form}\n{copy_form}"
 
+    def judge_schema(self, main, takes):
+        """What is wrong with the answer of rncv-xml; None: nothing."""
+        run = subprocess.run([self.program.with_name("rncv-xml"), main], capture_output=True, timeout=100, check=False)
+        told = (run.stdout + run.stderr).decode("utf-8", "replace")
+        clause = re.search(r": (S\d+) ", told)
+        if run.returncode not in (0, 3) or "runtime error" in told or "Sanitizer" in told:
+            return f"rncv-xml: status {run.returncode}: {told}"
+        if clause and clause[1] in ("S3", "S4", "S5", "S6", "S8"):
+            return f"what is written is no schema: {told}"
+        if clause and clause[1] in ("S12", "S17"):
+            self.counts["not served"] += 1
+        elif takes != (run.returncode == 0):
+            return f"rncv-xml: {told}"
+        elif takes:
+            self.counts["taken by rncv-xml"] += 1
+        return None
+
     def judge_refusal(self, takes, told):
         if not takes:
             self.counts["refused by both"] += 1
@@ -98,7 +116,7 @@ def schema_of(maker, given):
     return files
 
 
-def main():
+def run():
     given = argparse.ArgumentParser(description=__doc__.splitlines()[0])
     given.add_argument("--count", type=int, default=2000)
     given.add_argument("--seed", type=int, default=1)
@@ -116,7 +134,8 @@ def main():
             folder.mkdir()
             for name, tree in files.items():
                 (folder / name).write_text(tree.text() if isinstance(tree, Node) else tree, encoding="utf-8")
-            fault = trials.judge(folder / next(iter(files)))
+            main = folder / next(iter(files))
+            fault = trials.judge(main) or trials.judge_schema(main, trials.jing.ask("xml", main)[0])
             if fault:
                 faults += 1
                 shutil.copytree(folder, given.found / f"{given.seed}-{number}", dirs_exist_ok=True)
@@ -126,4 +145,4 @@ def main():
 
 
 if __name__ == "__main__":
-    sys.exit(main())
+    sys.exit(run())

@@ -2,8 +2,8 @@
 # Runs the built program with each growth of memory refused in turn, on all rows of rows.txt:   tools/refused_growths/test.sh [PROGRAM]
 #
 # PROGRAM is the built rncv, else crates/rncv/out/rncv. The C library runs the same rows (by_library.c); RNCV_LIBRARY names it, else it is in
-# build/library. The programs of cases that `rt ci` built make the public calls of the crates (calls.txt). rncv-xml and xml2pyx run cases of their own
-# (xml.py); RNCV_XML_PROGRAMS names their folder, else it is build/xml. It needs Python 3, and a C compiler and glibc for the shim (refuse.c). What is
+# build/library. The programs of cases that `rt ci` built make the public calls of the crates (calls.txt). rncv-xml, rng2rnc and xml2pyx run cases of
+# their own (xml.py); RNCV_XML_PROGRAMS names their folder, else it is build/xml. It needs Python 3, and a C compiler and glibc for the shim (refuse.c). What is
 # missing is reported and skipped. If the variable RNCV_REQUIRED is set, a missing rncv is a failure, and if RNCV_AFTER_CI is set, a missing program of
 # cases.
 set -eu
@@ -43,10 +43,10 @@ if [ -f "$library/lib/librncv.a" ]; then
 else
     echo "tools/refused_growths: no librncv in $library: it does not run the rows"
 fi
-if [ -x "$xml/rncv-xml" ] && [ -x "$xml/xml2pyx" ]; then
+if [ -x "$xml/rncv-xml" ] && [ -x "$xml/rng2rnc" ] && [ -x "$xml/xml2pyx" ]; then
     beside xml python3 -B "$here/xml.py" "$xml" "$room/refuse.so"
 else
-    echo "tools/refused_growths: no rncv-xml and xml2pyx in $xml: their growths are not refused"
+    echo "tools/refused_growths: no rncv-xml, rng2rnc and xml2pyx in $xml: their growths are not refused"
 fi
 beside cases python3 -B "$here/calls.py" "$here/../../crates" "$room/refuse.so"
 wait

@@ -180,6 +180,8 @@ static int32_t status_of_problem(struct schema_files *files, rncv_xml_fault *fau
     if (fault != NULL && !files->failed) {
         fault->path = taken(&files->problem_path);
         fault->message = taken(&files->problem);
+        fault->line = files->problem_place.line;
+        fault->column = files->problem_place.column;
     }
     return status;
 }
@@ -248,12 +250,9 @@ static struct schema_hint_file *hint_files(const rncv_file *files, const char *c
     return list;
 }
 
-int32_t rncv_xml_hint_find(const rncv_file *files, const char *const *paths, size_t count, int32_t clause, rncv_xml_hint *hint) {
-    if (files == NULL || count == 0 || hint == NULL) {
-        return RNCV_MISUSE;
-    }
+/* Looks for a hint in the list, and frees the list. */
+static void find_hint(struct schema_hint_file *list, size_t count, int32_t clause, rncv_xml_hint *hint) {
     _Static_assert(RNCV_XML_HINT_BYTES == SCHEMA_HINT_BYTES, "a text fits");
-    struct schema_hint_file *list = hint_files(files, paths, count);
     struct schema_hint found;
     hint->file = 0;
     hint->line = 0;
@@ -266,6 +265,13 @@ int32_t rncv_xml_hint_find(const rncv_file *files, const char *const *paths, siz
         memcpy(hint->text, found.text, strlen(found.text) + 1);
     }
     free(list);
+}
+
+int32_t rncv_xml_hint_find(const rncv_file *files, const char *const *paths, size_t count, int32_t clause, rncv_xml_hint *hint) {
+    if (files == NULL || count == 0 || hint == NULL) {
+        return RNCV_MISUSE;
+    }
+    find_hint(hint_files(files, paths, count), count, clause, hint);
     return RNCV_DONE;
 }
 
@@ -283,16 +289,32 @@ static void explain_missing(struct missing *missing, rncv_xml_fault *fault, stru
     fault->missing = taken(&name);
 }
 
+/* Looks for a hint in files that were found. Its places are those of the files that were read, also where the compact syntax was written of them. */
+static void find_own_hint(const rncv_xml_files *files, int32_t clause, rncv_xml_hint *hint) {
+    const struct found *found = files->hidden;
+    struct schema_hint_file *list = hint_files(files->list, files->paths, files->count);
+    for (size_t at = 0; list != NULL && at < files->count; at++) {
+        list[at].origins = &found->files.list[at].origins;
+    }
+    find_hint(list, files->count, clause, hint);
+}
+
 /* Says where the file is refused, or else where a hint is. */
 static void explain_place(const rncv_xml_files *files, const rncv_fault *refused, rncv_xml_fault *fault, struct bytes *message) {
     bool is_known = refused->file >= 0 && (uint64_t)refused->file < files->count;
     struct bytes path = NO_BYTES;
     rncv_xml_hint hint = {.line = 0};
     uint64_t file = is_known ? (uint64_t)refused->file : 0;
-    fault->line = refused->line > 0 ? (uint64_t)refused->line : 0;
-    fault->column = refused->line > 0 && refused->column > 0 ? (uint64_t)refused->column : 0;
-    if (fault->line == 0) {
-        rncv_xml_hint_find(files->list, files->paths, files->count, refused->clause, &hint);
+    if (refused->line > 0) {
+        const struct schema_file *read = &((const struct found *)files->hidden)->files.list[file];
+        struct place place = {(uint64_t)refused->line, refused->column > 0 ? (uint64_t)refused->column : 0};
+        place = place_before(read->content.data, read->content.length, &read->origins, place);
+        fault->line = place.line;
+        fault->column = place.column;
+    } else {
+        fault->line = 0;
+        fault->column = 0;
+        find_own_hint(files, refused->clause, &hint);
     }
     if (hint.line > 0) {
         bytes_format(message, ": hint: %s", hint.text);

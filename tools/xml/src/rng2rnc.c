@@ -4,11 +4,12 @@
 #include "schema_files.h"
 
 #include <errno.h>
+#include <fcntl.h>
 #include <inttypes.h>
-#include <stdio.h>
 #include <stdlib.h>
 #include <string.h>
 #include <sys/stat.h>
+#include <unistd.h>
 
 static const char usage[] = "usage: rng2rnc [-o DIR] [--map HREF=FILE].. SCHEMA.rng    (--help says more)";
 static const char no_memory[] = "rng2rnc: out of memory";
@@ -162,13 +163,13 @@ static bool is_of_schema(struct schema_files *files, const char *path) {
 }
 
 static int write_file(const char *path, const struct bytes *content) {
-    FILE *file = fopen(path, "wb");
-    if (file == NULL) {
+    int file = open(path, O_WRONLY | O_CREAT | O_TRUNC | O_CLOEXEC | O_NOCTTY, 0666);
+    if (file < 0) {
         return tell_error(path, errno);
     }
-    bool is_good = content->length == 0 || fwrite(content->data, 1, content->length, file) == content->length;
+    bool is_good = write_all(file, content->data, content->length);
     int error = errno;
-    if (fclose(file) != 0 && is_good) {
+    if (close(file) != 0 && is_good) {
         is_good = false;
         error = errno;
     }
@@ -198,7 +199,7 @@ static int write_copy(struct schema_files *files, const struct schema_file *file
 }
 
 /* Writes all files, and prints their names. */
-static int write_all(struct schema_files *files, const struct options *options, struct output *output) {
+static int write_copies(struct schema_files *files, const struct options *options, struct output *output) {
     struct bytes *line = &output->waiting;
     int status = STATUS_VALID;
     if (mkdir(options->folder, 0777) != 0 && errno != EEXIST) {
@@ -256,7 +257,7 @@ static int run(const struct options *options, struct streams streams) {
         if (files.notes.length > 0) {
             tell_line(bytes_text(&files.notes));
         }
-        status = options->folder == NULL ? print_main(&files, &output) : write_all(&files, options, &output);
+        status = options->folder == NULL ? print_main(&files, &output) : write_copies(&files, options, &output);
     }
     bytes_free(&what);
     bytes_free(&output.waiting);
