@@ -3,9 +3,9 @@
 
     tools/fuzz/rng_run.py [--count N] [--seed S] [--found FOLDER] [--program RNG2RNC] [FILE.rng..]
 
-Random schemas of several files, and mutants of them and of the files that are named, are given to `rng2rnc`. A schema that it refuses has to be one that jing
-refuses, a schema that jing refuses has to be refused by one of them, and both forms have to be the same. The `rncv-xml` beside it has to refuse the schemas that
-jing refuses, and no others but those with datatypes that are not served. It needs jing and a Java compiler.
+Random schemas of several files, and mutants of them and of the files that are named, are given to `rng2rnc`. A schema that it refuses has to be one that
+jing refuses, a schema that jing refuses has to be refused by one of them, and both forms have to be the same. The `rncv-xml` beside it has to refuse the
+schemas that jing refuses, and no others but those with datatypes that are not served. It needs jing and a Java compiler.
 """
 import argparse
 import pathlib
@@ -140,7 +140,8 @@ def run():
                 faults += 1
                 shutil.copytree(folder, given.found / f"{given.seed}-{number}", dirs_exist_ok=True)
                 print(f"{given.seed}-{number}: {fault}", flush=True)
-    print(f"tools/fuzz: seed {given.seed}: {given.count} schemas: {', '.join(f'{count} {what}' for what, count in trials.counts.items())}; {faults} faults found")
+    counts = ", ".join(f"{count} {what}" for what, count in trials.counts.items())
+    print(f"tools/fuzz: seed {given.seed}: {given.count} schemas: {counts}; {faults} faults found")
     return 1 if faults else 0
 
 

@@ -8,8 +8,8 @@ NAMES = ("a", "b", "element", "start", "x", "e\u00e9", "text")
 URIS = ("", "u", "v", "urn:w x", 'q"', "http://www.w3.org/XML/1998/namespace")
 PREFIXES = {"p": "u", "q": "v", "ns1": "urn:w x"}
 TEXTS = ("", "a", " a  b ", 'q"q', "'", "\"\"'", "\\x{41}", "\\", "a\nb", "\t", "#", "\u00e9\U00010000", "]]>")
-KINDS = ("element attribute group interleave choice optional zeroOrMore oneOrMore list mixed ref parentRef empty value data notAllowed text externalRef grammar "
-         "start define div include name anyName nsName except param").split()
+KINDS = ("element attribute group interleave choice optional zeroOrMore oneOrMore list mixed ref parentRef empty value data notAllowed text externalRef "
+         "grammar start define div include name anyName nsName except param").split()
 ATTRIBUTES = ("name", "type", "combine", "href", "ns", "datatypeLibrary", "xml:base", "other")
 
 
@@ -222,6 +222,7 @@ def mutate(random, tree):
         random.shuffle(node.children)
     elif change == 7:
         child = random.choice(nodes).copy()
-        node.name, node.attributes, node.children = child.name, {**child.attributes, **{k: v for k, v in node.attributes.items() if "xmlns" in k}}, child.children
+        declared = {name: value for name, value in node.attributes.items() if name.startswith("xmlns")}
+        node.name, node.attributes, node.children = child.name, {**child.attributes, **declared}, child.children
     elif change == 8:
         node.attributes[random.choice(("xmlns:p", "xmlns:q", "xmlns:r", "xmlns"))] = random.choice(("u", "v", NS, "w"))

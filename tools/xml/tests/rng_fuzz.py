@@ -15,8 +15,8 @@ from testing import PROGRAMS, TOP
 sys.path.insert(0, str(TOP / "tools/fuzz"))
 from rng_schemas import Maker  # noqa: E402
 
-PARTS = (b"<", b">", b"/>", b"'", b'"', b"&", b"&#0;", b"&#10;", b"\0", b"\xff", b"\xef\xbb\xbf", b"xmlns", b":", b"<!--", b"]]>", b"<grammar", b"</", b"\\", b"#", b"%",
-         b"<!DOCTYPE a [<!ENTITY e '<text/>'>]>", b"&e;", b" " * 70_000, b"<group>" * 40)
+PARTS = (b"<", b">", b"/>", b"'", b'"', b"&", b"&#0;", b"&#10;", b"\0", b"\xff", b"\xef\xbb\xbf", b"xmlns", b":", b"<!--", b"]]>", b"<grammar", b"</", b"\\", b"#",
+         b"%", b"<!DOCTYPE a [<!ENTITY e '<text/>'>]>", b"&e;", b" " * 70_000, b"<group>" * 40)
 
 
 def changed(source, data):

@@ -122,7 +122,8 @@ REFUSED = (
     ("<grammar @><define name='a'/></grammar>", "1:{}: <define> has one pattern or more"),
     ("<grammar @><include/></grammar>", "1:{}: <include> needs the attribute 'href'"),
     ("<grammar @><include href='x'>\n<include href='x'/></include></grammar>", "2:1: <include> is not allowed here: <include> has start, define and div"),
-    ("<grammar @><include href='x'><div>\n<include href='x'/></div></include></grammar>", "2:1: <include> is not allowed here: <div> has start, define and div"),
+    ("<grammar @><include href='x'><div>\n<include href='x'/></div></include></grammar>",
+     "2:1: <include> is not allowed here: <div> has start, define and div"),
     ("<element @><name/><text/></element>", "1:{}: <name> has a name that is no name of XML, with a prefix or without one: ''"),
     ("<element @ name='a b'><text/></element>", "1:1: <element> has a name that is no name of XML, with a prefix or without one: 'a b'"),
     ("<element @ name='1'><text/></element>", "1:1: <element> has a name that is no name of XML, with a prefix or without one: '1'"),
@@ -178,8 +179,9 @@ class Written(InRng):
 
     def test_namespaces(self):
         ns = "ns='u' xmlns:p='u' xmlns:q='v'"
-        text = f"<element @ {ns} name='a'><attribute name='b'/><attribute name='c' ns='v'/><attribute><name>d</name></attribute><element name='e' ns=''/></element>"
-        self.assertEqual(self.written(text.replace("ns=''/>", "ns=''><empty/></element>")), (
+        text = (f"<element @ {ns} name='a'><attribute name='b'/><attribute name='c' ns='v'/><attribute><name>d</name></attribute>"
+                "<element name='e' ns=''><empty/></element></element>")
+        self.assertEqual(self.written(text), (
             'default namespace = "u"\nnamespace q = "v"\nnamespace p = "u"\nnamespace none = ""\n\nelement \\a {\n'
             '  attribute \\b { text },\n  attribute q:c { text },\n  attribute p:d { text },\n  element none:e { empty }\n}\n'))
         text = "<group @><element name='p:a' xmlns:p='u'><empty/></element><element name='p:a' xmlns:p='v'><empty/></element></group>"
@@ -280,7 +282,8 @@ class Files(InRng):
         self.assertEqual((self.folder / "copy/b.rnc").read_text(), "x = text\n")
         self.assertEqual(self.convert("-o", ".", "main.rng"), ("", "./b.rnc: a copy would replace this file of the schema: choose another folder\n", 4))
         self.write("b.rnc", '\ninclude "c.rnc"')
-        self.assertEqual(self.convert("-o", "copy", "main.rng"), ("", "b.rnc:2:9: this file is in the compact syntax, and mentions others: it is not copied\n", 3))
+        self.assertEqual(self.convert("-o", "copy", "main.rng"), (
+            "", "b.rnc:2:9: this file is in the compact syntax, and mentions others: it is not copied\n", 3))
 
     def test_words(self):
         self.assertEqual(self.convert()[::2], ("", 5))
@@ -308,7 +311,8 @@ class Judged(InRng):
 
     def test_both_kinds(self):
         self.write("main.rnc", 'include "sch/b.rng"\nstart = a')
-        self.write("sch/b.rng", grammar("<include href='low/c.rnc'/><define name='a'><element name='a'><attribute name='x'/><ref name='b'/></element></define>"))
+        self.write("sch/b.rng", grammar("<include href='low/c.rnc'/><define name='a'><element name='a'><attribute name='x'/><ref name='b'/></element>"
+                                        "</define>"))
         self.write("sch/low/c.rnc", 'include "d.rng"')
         self.write("sch/low/d.rng", grammar("<define name='b'><element name='b'><empty/></element></define>"))
         self.assertEqual(self.judge("--all", "main.rnc", "good.xml"), ("good.xml: valid\n", 0))
@@ -327,7 +331,8 @@ class Judged(InRng):
     def test_namespaces_across_files(self):
         self.write("main.rng", grammar("<include href='b.rng' ns='u'/><start><group><ref name='r'/></group></start>", "ns='w'"))
         self.write("b.rng", grammar("<define name='r'><element name='r'><ref name='e'/><externalRef href='c.rng'/><externalRef href='c.rng' ns=''/>"
-                                    "<externalRef href='d.rng' ns='v'/></element></define><define name='e'><element name='e' ns='x'><empty/></element></define>"))
+                                    "<externalRef href='d.rng' ns='v'/></element></define>"
+                                    "<define name='e'><element name='e' ns='x'><empty/></element></define>"))
         self.write("c.rng", schema("<element @ name='c'><attribute><name>d</name></attribute></element>"))
         self.write("d.rng", schema("<element @ name='d' ns='y'><empty/></element>"))
         document = "<r xmlns='u' xmlns:u='u'><e xmlns='x'/><c u:d=''/><c d='' xmlns=''/><d xmlns='y'/></r>"
@@ -371,8 +376,6 @@ class Judged(InRng):
         comment = "<!-- " + "c" * 1_200_000 + " -->"
         self.write("a.rng", schema(f"<element @ name='a'>{comment}<text/></element>"))
         self.assertEqual(self.judge("a.rng", "-", given=b"<a/>"), ("", 0))
-        self.write("a.rng", schema(f"<element @ name='a'><choice>{'<value>' + 'c' * 60_000 + '</value>'}{'<value>' + 'd' * 60_000 + '</value>' * 1}</choice></element>"))
-        self.assertEqual(self.judge("a.rng")[1], 0)
         values = "".join(f"<value>{number:05}{'c' * 60_000}</value>" for number in range(20))
         self.write("a.rng", schema(f"<element @ name='a'><choice>{values}</choice></element>"))
         self.assertRegex(self.judge("a.rng")[0], r"^a\.rng: S2 ")
