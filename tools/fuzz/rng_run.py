@@ -2,10 +2,12 @@
 """Compares what `rng2rnc` writes with the schemas that it is written from, by the simple forms that jing prints of both.
 
     tools/fuzz/rng_run.py [--count N] [--seed S] [--found FOLDER] [--program RNG2RNC] [FILE.rng..]
+    tools/fuzz/rng_run.py --as-they-are [--program RNG2RNC] FILE.rng..
 
 Random schemas of several files, and mutants of them and of the files that are named, are given to `rng2rnc`. A schema that it refuses has to be one that
 jing refuses, a schema that jing refuses has to be refused by one of them, and both forms have to be the same. The `rncv-xml` beside it has to refuse the
-schemas that jing refuses, and no others but those with datatypes that are not served. It needs jing and a Java compiler.
+schemas that jing refuses, and no others but those with datatypes that are not served. With --as-they-are only the files that are named are tried, where they
+are, with what they include. It needs jing and a Java compiler.
 """
 import argparse
 import pathlib
@@ -16,7 +18,7 @@ import subprocess
 import sys
 import tempfile
 
-from rng_schemas import Maker, Node, mutate, parsed
+from rng_schemas import Maker, mutate, parsed
 
 HERE = pathlib.Path(__file__).resolve().parent
 
@@ -53,6 +55,10 @@ class Trials:
     def __init__(self, room, program):
         self.room, self.program, self.jing = pathlib.Path(room), pathlib.Path(program).absolute(), Jing(room)
         self.counts = dict.fromkeys(["same", "refused by both", "refused in the compact syntax", "explained", "taken by rncv-xml", "not served"], 0)
+
+    def all(self, main):
+        """What is wrong with the schema's copy, or with what rncv-xml says; None: nothing."""
+        return self.judge(main) or self.judge_schema(main, self.jing.ask("xml", main)[0])
 
     def judge(self, main):
         """What is wrong with the schema's copy; None: nothing."""
@@ -116,32 +122,50 @@ def schema_of(maker, given):
     return files
 
 
+def try_random(trials, given):
+    """Tries random schemas. Returns how many faults were found."""
+    faults = 0
+    folder = trials.room / "schema"
+    for number in range(given.count):
+        files = schema_of(Maker(random.Random(f"{given.seed} {number}")), given.files)
+        shutil.rmtree(folder, ignore_errors=True)
+        folder.mkdir()
+        for name, tree in files.items():
+            (folder / name).write_text(tree.text(), encoding="utf-8")
+        fault = trials.all(folder / next(iter(files)))
+        if fault:
+            faults += 1
+            shutil.copytree(folder, given.found / f"{given.seed}-{number}", dirs_exist_ok=True)
+            print(f"{given.seed}-{number}: {fault}", flush=True)
+    return faults
+
+
+def try_files(trials, given):
+    """Tries the files that are named. Returns how many faults were found."""
+    faults = 0
+    for path in given.files:
+        fault = trials.all(pathlib.Path(path).absolute())
+        if fault:
+            faults += 1
+            print(f"{path}: {fault}", flush=True)
+    return faults
+
+
 def run():
     given = argparse.ArgumentParser(description=__doc__.splitlines()[0])
     given.add_argument("--count", type=int, default=2000)
     given.add_argument("--seed", type=int, default=1)
     given.add_argument("--found", type=pathlib.Path, default=pathlib.Path("rng-found"))
     given.add_argument("--program", default=HERE.parents[1] / "build/xml/rng2rnc")
+    given.add_argument("--as-they-are", action="store_true")
     given.add_argument("files", nargs="*", metavar="FILE.rng")
     given = given.parse_args()
-    faults = 0
     with tempfile.TemporaryDirectory() as room:
         trials = Trials(room, given.program)
-        for number in range(given.count):
-            files = schema_of(Maker(random.Random(f"{given.seed} {number}")), given.files)
-            folder = pathlib.Path(room) / "schema"
-            shutil.rmtree(folder, ignore_errors=True)
-            folder.mkdir()
-            for name, tree in files.items():
-                (folder / name).write_text(tree.text() if isinstance(tree, Node) else tree, encoding="utf-8")
-            main = folder / next(iter(files))
-            fault = trials.judge(main) or trials.judge_schema(main, trials.jing.ask("xml", main)[0])
-            if fault:
-                faults += 1
-                shutil.copytree(folder, given.found / f"{given.seed}-{number}", dirs_exist_ok=True)
-                print(f"{given.seed}-{number}: {fault}", flush=True)
+        faults = try_files(trials, given) if given.as_they_are else try_random(trials, given)
+    what = f"{len(given.files)} files" if given.as_they_are else f"seed {given.seed}: {given.count} schemas"
     counts = ", ".join(f"{count} {what}" for what, count in trials.counts.items())
-    print(f"tools/fuzz: seed {given.seed}: {given.count} schemas: {counts}; {faults} faults found")
+    print(f"tools/fuzz: {what}: {counts}; {faults} faults found")
     return 1 if faults else 0
 
 
