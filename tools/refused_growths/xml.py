@@ -36,6 +36,9 @@ FILES = {
     "r.rng": f'{GRAMMAR}<include href="parts/b.rng" ns="u"/><start><ref name="a"/></start></grammar>\n',
     "parts/b.rng": f'{GRAMMAR}<define name="a"><element name="a" ns=""><oneOrMore><attribute><nsName ns="v"/></attribute></oneOrMore>'
                    '<value>"</value></element></define></grammar>\n',
+    "c.cat": '<catalog xmlns="urn:oasis:names:tc:entity:xmlns:xml:catalog"><nextCatalog catalog="d.cat"/></catalog>\n',
+    "d.cat": '<catalog xmlns="urn:oasis:names:tc:entity:xmlns:xml:catalog"><rewriteURI uriStartString="http://example.org/x" rewritePrefix="e.rnc"/>'
+             "</catalog>\n",
     "n.rng": f'{GRAMMAR}<include href="gone.rng"/></grammar>\n', "good.xml": '<?xml version="1.0"?>\n<a x="1">\n  <b/>\n</a>\n',
     "bad.xml": "<a><b/><c/></a>\n", "attribute.xml": '<a x="2"><b/></a>\n', "text.xml": "<a>1 &amp; <![CDATA[2]]></a>\n", "cut.xml": '<a x="1">\n<b>\n</a>\n',
     "clause.xml": "<a><p:b/></a>\n", "dtd.xml": '<!DOCTYPE a SYSTEM "day.dtd" [<!ENTITY e "1"><!ATTLIST a x CDATA "&e;">]>\n<a>&e;</a>\n',
@@ -66,6 +69,7 @@ CASES = (
     (1, "rncv-xml -j2 --all t.rnc good.xml bad.xml"),
     (0, "rncv-xml -j2 --all t.rnc large.xml"),
     (0, "rncv-xml --map http://example.org/x=e.rnc mapped.rnc --"),
+    (0, "rncv-xml --catalog c.cat mapped.rnc --"),
     (3, "rncv-xml missing.rnc good.xml"),
     (3, "rncv-xml broken.rnc good.xml"),
     (3, "rncv-xml two.rnc good.xml"),

@@ -39,8 +39,8 @@ objects() { for source in "$@"; do printf '%s ' "$work/$source.o"; done; }
 shared="$parser_parts program"
 rng="rng_tree rng_namespaces rng_grammar rng_uri rng_prefixes rng_words rng_patterns rng_writer"
 hints="schema_tree schema_grammars schema_words schema_restrictions schema_hints"
-judging="belt paths schema_tokens xml_names origins $rng $hints schema_files schema_xml options documents trail judging probes progress formats report jobs"
-converting="belt paths schema_tokens xml_names origins $rng schema_files schema_xml trail judging probes"
+judging="belt paths schema_tokens xml_names origins $rng catalogs $hints schema_files schema_xml options documents trail judging probes progress formats report jobs"
+converting="belt paths schema_tokens xml_names origins $rng catalogs schema_files schema_xml trail judging probes"
 
 compile $shared xml2pyx
 $cc $linked ${CFLAGS:--O2} -o "$work/xml2pyx" $(objects $shared xml2pyx) $parser_libs -lpthread ${LIBS:-}

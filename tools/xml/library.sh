@@ -17,7 +17,7 @@ flags="-std=c17 -Wall -Wextra -Wconversion -Werror -pedantic -D_XOPEN_SOURCE=700
 . "$here/parser.sh"
 rng="rng_tree rng_namespaces rng_grammar rng_uri rng_prefixes rng_words rng_patterns rng_writer"
 hints="schema_tree schema_grammars schema_words schema_restrictions schema_hints"
-parts="$parser_parts program belt paths schema_tokens xml_names origins $rng $hints schema_files schema_xml trail judging probes library"
+parts="$parser_parts program belt paths schema_tokens xml_names origins $rng catalogs $hints schema_files schema_xml trail judging probes library"
 
 missing() { echo "tools/xml/library.sh: $1" >&2; exit 2; }
 

@@ -33,12 +33,12 @@ _rncv_xml() {
     case $3 in
     --format) _rncv_words "text json sarif github" "$2"; return ;;
     --color) _rncv_words "auto always never" "$2"; return ;;
-    --files-from | --map) _rncv_files "$2" '*'; return ;;
+    --files-from | --map | --catalog) _rncv_files "$2" '*'; return ;;
     --glob | --stdin-name | -j | --jobs) return ;;
     esac
     case $2 in
     -*)
-        _rncv_words "--recursive -r --glob --files-from --null -0 --stdin-name --jobs -j --map --dtd --strict --print-schema --strict-profile --all --verbose -v --quiet -q --format --color --help -h --version" "$2"
+        _rncv_words "--recursive -r --glob --files-from --null -0 --stdin-name --jobs -j --map --catalog --dtd --strict --print-schema --strict-profile --all --verbose -v --quiet -q --format --color --help -h --version" "$2"
         return
         ;;
     esac
@@ -58,10 +58,10 @@ _rncv_xml() {
 _rng2rnc() {
     case $3 in
     -o | --output) compopt -o dirnames; COMPREPLY=(); return ;;
-    --map) _rncv_files "$2" '*'; return ;;
+    --map | --catalog) _rncv_files "$2" '*'; return ;;
     esac
     case $2 in
-    -*) _rncv_words "--output -o --map --help -h --version" "$2" ;;
+    -*) _rncv_words "--output -o --map --catalog --help -h --version" "$2" ;;
     *) _rncv_files "$2" '*.rng' ;;
     esac
 }

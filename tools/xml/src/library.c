@@ -232,7 +232,7 @@ int32_t rncv_xml_files_find(const char *path, const rncv_xml_mapping *mappings, 
     int32_t status;
     struct mapping *copies = mapped(mappings, count, &status);
     if (status == RNCV_DONE) {
-        struct schema_request request = {&given, 1, copies, count, NULL, false};
+        struct schema_request request = {&given, 1, copies, count, NULL, NULL, false};
         status = collect(&request, files, fault);
     }
     free(copies);
@@ -380,7 +380,7 @@ int32_t rncv_xml_judge_new(rncv_schema *schema, const rncv_file *files, size_t c
     }
     struct schema_files read;
     struct values *values = NULL;
-    bool is_good = schema_files_collect(&read, &(struct schema_request){NULL, 0, NULL, 0, NULL, false});
+    bool is_good = schema_files_collect(&read, &(struct schema_request){NULL, 0, NULL, 0, NULL, NULL, false});
     for (size_t at = 0; at < count && is_good; at++) {
         is_good = files[at].length == 0 || schema_files_add_values(&read, (const char *)files[at].bytes, files[at].length);
     }

@@ -12,6 +12,7 @@ enum name {
     NAME_NULL,
     NAME_STDIN_NAME,
     NAME_MAP,
+    NAME_CATALOG,
     NAME_ALL,
     NAME_VERBOSE,
     NAME_QUIET,
@@ -40,6 +41,7 @@ static const struct option known[] = {
     {"--null", '0', false, NAME_NULL},
     {"--stdin-name", 0, true, NAME_STDIN_NAME},
     {"--map", 0, true, NAME_MAP},
+    {"--catalog", 0, true, NAME_CATALOG},
     {"--all", 0, false, NAME_ALL},
     {"--verbose", 'v', false, NAME_VERBOSE},
     {"--quiet", 'q', false, NAME_QUIET},
@@ -71,6 +73,7 @@ const char *options_help(void) {
            "      --strict         a document with a note, such as an external DTD that is not read, is outside the profile\n"
            "Schema:\n"
            "      --map HREF=FILE  the file that HREF means in an include or external; can be repeated\n"
+           "      --catalog FILE   an XML catalog for URIs in an include or external; can be repeated. XML_CATALOG_FILES names others\n"
            "      --print-schema   print what the proved library gets, in the compact syntax, and judge no document\n"
            "      --strict-profile  a schema that rncv-profile loosened or tightened is refused (status 3)\n"
            "Output:\n"
@@ -182,6 +185,8 @@ static bool take_value(struct options *options, enum name name, const char *valu
         return true;
     case NAME_MAP:
         return take_mapping(options, value);
+    case NAME_CATALOG:
+        return add_word(options, &options->catalogs, &options->catalog_count, value);
     case NAME_FORMAT:
         return take_format(options, value);
     case NAME_COLOR:
@@ -332,5 +337,6 @@ void options_free(struct options *options) {
     free(options->documents);
     free(options->globs);
     free(options->mappings);
+    free(options->catalogs);
     bytes_free(&options->wrong);
 }

@@ -183,9 +183,18 @@ static void tell_schema_notes(struct report *report, struct schema_files *files)
 /* Reads the schema's files and compiles them. False: what is wrong was reported. */
 static bool compile(struct report *report, struct schema_files *files, rncv_schema *schema) {
     const struct options *options = report->options;
-    struct schema_request request = {options->schemas, options->schema_count, options->mappings, options->mapping_count, later_schema(options), false};
+    struct catalogs catalogs;
+    struct schema_request request = {options->schemas,      options->schema_count, options->mappings, options->mapping_count,
+                                     later_schema(options), &catalogs,             false};
     rncv_fault fault;
-    if (!schema_files_collect(files, &request)) {
+    bool is_good = catalogs_open(&catalogs, options->catalogs, options->catalog_count, getenv("XML_CATALOG_FILES"));
+    if (!is_good) {
+        memset(files, 0, sizeof *files);
+        files->failed = true;
+    }
+    is_good = is_good && schema_files_collect(files, &request);
+    catalogs_close(&catalogs);
+    if (!is_good) {
         tell_problem(report, files);
         return false;
     }

@@ -23,6 +23,7 @@ static const char help[] =
     "  -o, --output DIR     write the schema and the files that it mentions into this folder, with plain names that end in .rnc;\n"
     "                       without it the schema alone is written, to standard output\n"
     "      --map HREF=FILE  the file that HREF means in an include or externalRef; can be repeated\n"
+    "      --catalog FILE   an XML catalog for hrefs that are URIs; can be repeated. XML_CATALOG_FILES names others\n"
     "  -h, --help           this text\n"
     "      --version        the version\n"
     "\n"
@@ -34,6 +35,8 @@ struct options {
     const char *folder; /* NULL: standard output */
     struct mapping *mappings;
     size_t mapping_count;
+    const char **catalogs;
+    size_t catalog_count;
     const char *told; /* a text to print instead */
     bool failed;      /* memory ran out */
 };
@@ -50,6 +53,16 @@ static bool take_mapping(struct options *options, const char *value) {
         options->mappings = longer;
     }
     return longer != NULL;
+}
+
+static bool take_catalog(struct options *options, const char *value) {
+    const char **longer = realloc(options->catalogs, (options->catalog_count + 1) * sizeof *longer);
+    options->failed = longer == NULL;
+    if (longer != NULL) {
+        longer[options->catalog_count++] = value;
+        options->catalogs = longer;
+    }
+    return longer != NULL && value[0] != '\0';
 }
 
 static bool take_folder(struct options *options, const char *value) {
@@ -82,6 +95,9 @@ static bool take_option(struct options *options, char **words, int *at) {
     }
     if ((value = value_of(word, "--output", next, at)) != NULL || (value = value_of(word, "-o", next, at)) != NULL) {
         return take_folder(options, value);
+    }
+    if ((value = value_of(word, "--catalog", next, at)) != NULL) {
+        return take_catalog(options, value);
     }
     value = value_of(word, "--map", next, at);
     return value != NULL && take_mapping(options, value);
@@ -242,11 +258,17 @@ static int tell_problem(struct schema_files *files) {
 
 static int run(const struct options *options, struct streams streams) {
     struct output output = {"rng2rnc", 1, streams.output_is_closed, NO_BYTES};
-    struct schema_request request = {&options->schema, 1, options->mappings, options->mapping_count, NULL, true};
+    struct catalogs catalogs;
+    struct schema_request request = {&options->schema, 1, options->mappings, options->mapping_count, NULL, &catalogs, true};
     struct schema_files files;
     struct bytes what = NO_BYTES;
     int status;
-    if (!schema_files_collect(&files, &request)) {
+    bool has_catalogs = catalogs_open(&catalogs, options->catalogs, options->catalog_count, getenv("XML_CATALOG_FILES"));
+    if (!has_catalogs) {
+        memset(&files, 0, sizeof files);
+        files.failed = true;
+    }
+    if (!has_catalogs || !schema_files_collect(&files, &request)) {
         status = tell_problem(&files);
     } else if (files.list[0].origins.count == 0) {
         bytes_add_text(&what, "this is no schema in the XML syntax");
@@ -262,6 +284,7 @@ static int run(const struct options *options, struct streams streams) {
     bytes_free(&what);
     bytes_free(&output.waiting);
     schema_files_free(&files);
+    catalogs_close(&catalogs);
     return status;
 }
 
@@ -281,5 +304,6 @@ int main(int count, char **words) {
         status = run(&options, streams);
     }
     free(options.mappings);
+    free(options.catalogs);
     return status;
 }

@@ -6,19 +6,20 @@
 
 enum { MOST_BYTES = 33554432 }; /* of the PYX */
 
-static const char rng_uri[] = "http://relaxng.org/ns/structure/1.0";
 static const char xml_uri[] = "http://www.w3.org/XML/1998/namespace";
 
+static const char *const elements[] = {"anyName", "attribute", "choice", "data", "define", "div", "element", "empty", "except", "externalRef", "grammar",
+                                       "group", "include", "interleave", "list", "mixed", "name", "notAllowed", "nsName", "oneOrMore", "optional", "param",
+                                       "parentRef", "ref", "start", "text", "value", "zeroOrMore", NULL};
+static const char *const attributes[] = {"name", "type", "combine", "href", "ns", "datatypeLibrary"};
+const struct vocabulary rng_vocabulary = {"http://relaxng.org/ns/structure/1.0", "RELAX NG", elements, attributes};
+
 const char *rng_kind_name(enum rng_kind kind) {
-    static const char *const names[] = {"", "anyName", "attribute", "choice", "data", "define", "div", "element", "empty", "except", "externalRef", "grammar",
-                                        "group", "include", "interleave", "list", "mixed", "name", "notAllowed", "nsName", "oneOrMore", "optional", "param",
-                                        "parentRef", "ref", "start", "text", "value", "zeroOrMore"};
-    return names[kind];
+    return kind == RNG_UNKNOWN ? "" : elements[kind - 1];
 }
 
 const char *rng_attribute_name(enum rng_attribute attribute) {
-    static const char *const names[] = {"name", "type", "combine", "href", "ns", "datatypeLibrary", "xml:base"};
-    return names[attribute];
+    return attribute == RNG_AT_BASE ? "xml:base" : attributes[attribute];
 }
 
 bool rng_has(const struct rng_node *node, enum rng_attribute attribute) {
@@ -92,23 +93,23 @@ static struct span unescaped(char *data, size_t length) {
     return (struct span){data, to};
 }
 
-static enum rng_kind kind_of(struct span name) {
-    for (int kind = RNG_ANY_NAME; kind <= RNG_ZERO_OR_MORE; kind++) {
-        if (span_is(name, rng_kind_name((enum rng_kind)kind))) {
-            return (enum rng_kind)kind;
+static enum rng_kind kind_of(const struct vocabulary *vocabulary, struct span name) {
+    for (int at = 0; vocabulary->elements[at] != NULL; at++) {
+        if (span_is(name, vocabulary->elements[at])) {
+            return (enum rng_kind)(at + 1);
         }
     }
     return RNG_UNKNOWN;
 }
 
 /* Keeps an attribute. Those of other namespaces are foreign, but `xml:base`. */
-static void keep_attribute(struct rng_node *node, const struct attribute *attribute) {
+static void keep_attribute(const struct vocabulary *vocabulary, struct rng_node *node, const struct attribute *attribute) {
     bool is_base = span_is(attribute->uri, xml_uri) && span_is(attribute->local, "base");
-    if (attribute->uri.length > 0 && !is_base && !span_is(attribute->uri, rng_uri)) {
+    if (attribute->uri.length > 0 && !is_base && !span_is(attribute->uri, vocabulary->uri)) {
         return;
     }
-    for (int at = RNG_AT_NAME; at < RNG_ATTRIBUTES && attribute->uri.length == 0; at++) {
-        if (at != RNG_AT_BASE && span_is(attribute->local, rng_attribute_name((enum rng_attribute)at))) {
+    for (int at = RNG_AT_NAME; at < RNG_AT_BASE && attribute->uri.length == 0; at++) {
+        if (vocabulary->attributes[at] != NULL && span_is(attribute->local, vocabulary->attributes[at])) {
             node->values[at] = attribute->value;
             return;
         }
@@ -131,10 +132,11 @@ static bool add_node(struct reading *reading, uint32_t parent, uint32_t scope) {
     uint32_t index = (uint32_t)tree->node_count++;
     struct rng_node *node = &tree->nodes[index];
     struct rng_node *above = &tree->nodes[parent];
-    *node = (struct rng_node){.place = reading->tag.place, .name = reading->tag.local, .kind = kind_of(reading->tag.local), .scope = scope,
+    *node = (struct rng_node){.place = reading->tag.place, .name = reading->tag.local, .scope = scope,
+                              .kind = kind_of(tree->vocabulary, reading->tag.local),
                               .parent = parent, .text = {"", 0}, .ns = above->ns, .library = above->library};
     for (size_t at = 0; at < reading->tag.count; at++) {
-        keep_attribute(node, &reading->tag.attributes[at]);
+        keep_attribute(tree->vocabulary, node, &reading->tag.attributes[at]);
     }
     node->ns = rng_has(node, RNG_AT_NS) ? node->values[RNG_AT_NS] : node->ns;
     node->library = rng_has(node, RNG_AT_LIBRARY) ? node->values[RNG_AT_LIBRARY] : node->library;
@@ -157,9 +159,11 @@ static bool open_element(struct reading *reading) {
     if (!tag_resolve(reading, &scope)) {
         return false;
     }
-    bool is_foreign = !span_is(reading->tag.uri, rng_uri);
+    const struct vocabulary *vocabulary = tree->vocabulary;
+    bool is_foreign = !span_is(reading->tag.uri, vocabulary->uri);
     if (is_foreign && around == NULL) {
-        fault_set(reading->fault, FAULT_MALFORMED, reading->tag.place, "the root is no element of RELAX NG (of the namespace %s)", rng_uri);
+        fault_set(reading->fault, FAULT_MALFORMED, reading->tag.place, "the root is no element of %s (of the namespace %s)", vocabulary->title,
+                  vocabulary->uri);
         return false;
     }
     bool is_inside = around == NULL || around->node != 0;
@@ -245,8 +249,9 @@ static bool take_lines(struct reading *reading) {
     return true;
 }
 
-bool rng_tree_open(struct rng_tree *tree, const struct giver *giver, struct fault *fault) {
+bool rng_tree_open(struct rng_tree *tree, const struct vocabulary *vocabulary, const struct giver *giver, struct fault *fault) {
     memset(tree, 0, sizeof *tree);
+    tree->vocabulary = vocabulary;
     struct reading *reading = calloc(1, sizeof *reading);
     void *nodes = NULL;
     void *declarations = NULL;

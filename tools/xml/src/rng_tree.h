@@ -1,4 +1,4 @@
-/* A schema in the XML syntax of RELAX NG, as a tree: foreign elements and attributes are left out (RELAX NG 4.1). */
+/* A schema in the XML syntax of RELAX NG, as a tree: foreign elements and attributes are left out (RELAX NG 4.1). A catalog is read in the same way. */
 #ifndef RNG_TREE_H
 #define RNG_TREE_H
 
@@ -39,6 +39,15 @@ enum rng_kind {
 /* The attributes of RELAX NG, and `xml:base`. */
 enum rng_attribute { RNG_AT_NAME, RNG_AT_TYPE, RNG_AT_COMBINE, RNG_AT_HREF, RNG_AT_NS, RNG_AT_LIBRARY, RNG_AT_BASE, RNG_ATTRIBUTES };
 
+/* The elements and attributes of a kind of XML file. The first element is the kind 1, and the attribute after those that are listed is `xml:base`. */
+struct vocabulary {
+    const char *uri;   /* the namespace of the elements */
+    const char *title; /* the name of that */
+    const char *const *elements;   /* NULL ends the list */
+    const char *const *attributes; /* RNG_AT_BASE of them; NULL is in the place of one that is not there */
+};
+extern const struct vocabulary rng_vocabulary;
+
 /* An element. Nodes are named by their indexes. The index 0 is no node, and 1 is the root. */
 struct rng_node {
     struct place place;                 /* of its tag */
@@ -73,12 +82,13 @@ struct rng_tree {
     size_t place_count, place_capacity;
     size_t node_count, node_capacity;
     size_t declaration_count, declaration_capacity;
+    const struct vocabulary *vocabulary;
     struct bytes note; /* what the conversion noted about the document, if anything */
     struct place note_place;
 };
 
 /* Reads the XML. False: the fault says why. Close the tree in either case. */
-bool rng_tree_open(struct rng_tree *tree, const struct giver *giver, struct fault *fault);
+bool rng_tree_open(struct rng_tree *tree, const struct vocabulary *vocabulary, const struct giver *giver, struct fault *fault);
 void rng_tree_close(struct rng_tree *tree);
 
 /* The namespace of a prefix in a scope; no data: the prefix is not declared. The empty prefix is not declared outside default declarations. */

@@ -122,7 +122,7 @@ static void add_resolved(struct bytes *to, struct span base, struct span referen
     bytes_free(&path);
 }
 
-void add_href(struct bytes *to, const struct rng_tree *tree, uint32_t index) {
+void add_by_bases(struct bytes *to, const struct rng_tree *tree, uint32_t index, struct span uri) {
     uint32_t bases[MOST_BASES];
     size_t count = 0;
     struct bytes base = NO_BYTES;
@@ -138,7 +138,7 @@ void add_href(struct bytes *to, const struct rng_tree *tree, uint32_t index) {
         bytes_free(&base);
         base = inner;
     }
-    add_resolved(to, (struct span){base.data == NULL ? "" : base.data, base.length}, tree->nodes[index].values[RNG_AT_HREF]);
+    add_resolved(to, (struct span){base.data == NULL ? "" : base.data, base.length}, uri);
     to->failed |= base.failed;
     bytes_free(&base);
 }

@@ -13,7 +13,7 @@ bool uri_is_sound(struct span uri);
 /* Adds the URI with the characters escaped that URIs do not have (XLink 5.4). */
 void add_escaped_uri(struct bytes *to, struct span uri);
 
-/* Adds the href of an element, resolved by the `xml:base` of the elements around it (RFC 3986, 5.2). Without any it is as it is written. */
-void add_href(struct bytes *to, const struct rng_tree *tree, uint32_t index);
+/* Adds a URI, resolved by the `xml:base` of an element and those around it (RFC 3986, 5.2). Without any it is as it is written. */
+void add_by_bases(struct bytes *to, const struct rng_tree *tree, uint32_t index, struct span uri);
 
 #endif

@@ -65,7 +65,7 @@ bool rng_write(const struct rng_tree *tree, const struct rng_naming *naming, str
 bool rng_convert(const struct rng_request *request, struct rng_text *text, struct fault *fault) {
     struct rng_tree tree;
     *text = (struct rng_text){NO_BYTES, {NULL, 0, 0}};
-    bool is_good = rng_tree_open(&tree, request->giver, fault);
+    bool is_good = rng_tree_open(&tree, &rng_vocabulary, request->giver, fault);
     if (is_good && tree.note_place.line != 0 && request->note != NULL) {
         request->note(request->context, tree.note_place, bytes_text(&tree.note));
     }

@@ -208,12 +208,42 @@ static bool try_path(struct collecting *collecting, struct meaning *meaning, con
     return !is_file(path) || add_candidate(collecting, meaning, path);
 }
 
+/* Takes the file that the catalogs have for a URI, if there is one. False: there is a problem. */
+static bool ask_catalogs(struct collecting *collecting, struct meaning *meaning) {
+    struct schema_files *files = collecting->files;
+    struct bytes path = NO_BYTES;
+    struct bytes where = NO_BYTES;
+    struct fault fault = NO_FAULT;
+    bool is_good = catalogs_find(collecting->request->catalogs, (struct span){meaning->words.data, meaning->words.length}, &path, &where, &fault);
+    if (is_good && path.length > 0) {
+        const char *text = bytes_text(&path);
+        is_good = path.failed ? files_without_memory(files) : add_candidate(collecting, meaning, text);
+    } else if (!is_good && fault.kind == FAULT_MEMORY) {
+        files_without_memory(files);
+    } else if (!is_good) {
+        struct bytes line = NO_BYTES;
+        add_shown(&line, fault.what.data, fault.what.length, SIZE_MAX);
+        add_path(&files->problem_path, bytes_text(&where));
+        files->problem_place = fault.place;
+        line.failed |= where.failed || files->problem_path.failed;
+        files_problem(files, fault.kind == FAULT_DEVICE ? STATUS_FAILED : STATUS_REFUSED, &line);
+        bytes_free(&line);
+    }
+    bytes_free(&path);
+    bytes_free(&where);
+    fault_free(&fault);
+    return is_good;
+}
+
 bool find_meaning(struct collecting *collecting, struct meaning *meaning) {
     const char *file = mapped(collecting->request, &meaning->words);
     struct ways ways;
     struct bytes normal = NO_BYTES;
     if (file != NULL) {
         return add_candidate(collecting, meaning, file);
+    }
+    if (collecting->request->catalogs != NULL && is_remote(&meaning->words) && !ask_catalogs(collecting, meaning)) {
+        return false;
     }
     bool is_good = ways_of(&ways, &meaning->words, bytes_text(&collecting->files->list[meaning->by].path)) || files_without_memory(collecting->files);
     for (size_t at = 0; at < ways.count && is_good; at++) {

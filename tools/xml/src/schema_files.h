@@ -2,6 +2,7 @@
 #ifndef SCHEMA_FILES_H
 #define SCHEMA_FILES_H
 
+#include "catalogs.h"
 #include "origins.h"
 
 #include <rncv.h>
@@ -53,6 +54,7 @@ struct schema_request {
     const struct mapping *mappings;
     size_t mapping_count;
     const char *later; /* a later word that has the name of a schema; NULL: there is none */
+    const struct catalogs *catalogs; /* for URIs that would have to be fetched; NULL: none */
     bool is_flat;      /* files in the XML syntax get plain names that end in `.rnc`, and others may mention none */
 };
 

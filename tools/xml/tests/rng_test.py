@@ -302,6 +302,66 @@ class Files(InRng):
             self.assertEqual(self.shell("rng2rnc x.rng > /dev/full"), ("rng2rnc: No space left on device\n", 4))
 
 
+class Catalogs(InRng):
+    """URIs that are files by XML catalogs."""
+
+    def setUp(self):
+        super().setUp()
+        self.write("own/b.rng", grammar("<define name='b'><element name='b'><empty/></element></define>"))
+        self.environment = {**os.environ, "XML_CATALOG_FILES": ""}
+
+    def catalog(self, name, entries, attributes=""):
+        self.write(name, f"<catalog xmlns='urn:oasis:names:tc:entity:xmlns:xml:catalog' {attributes}>{entries}</catalog>")
+
+    def answer(self, uri, *words):
+        self.write("main.rng", grammar(f"<include href='{uri}'/><start><ref name='b'/></start>"))
+        self.write("main.rnc", f'include "{uri}" start = b')
+        answers = [self.run_in(RNCV_XML, *words, name, "-", given=b"<b/>", env=self.environment) for name in ("main.rng", "main.rnc")]
+        statuses = {status for _, _, status in answers} | {self.convert(*words, "main.rng", env=self.environment)[2]}
+        return answers[0][0] + answers[0][1], statuses
+
+    def test_entries(self):
+        for entries, attributes in (
+                ("<uri name='http://x/b.rng' uri='own/b.rng'/>", ""),
+                ("<uri name='http://x/b.rng' uri='b.rng'/>", "xml:base='own/'"),
+                ("<group xml:base='own/'><uri name='http://x/b.rng' uri='./b%2Erng'/></group>", ""),
+                (f"<uri name='http://x/b.rng' uri='file://{self.folder}/own/b.rng'/>", ""),
+                ("<rewriteURI uriStartString='http://x/' rewritePrefix='own/'/><rewriteURI uriStartString='http://' rewritePrefix='none/'/>", ""),
+                ("<nextCatalog catalog='none.cat'/><nextCatalog catalog='own/next.cat'/>", ""),
+                ("<delegateURI uriStartString='http://x/' catalog='own/next.cat'/><nextCatalog catalog='wrong.cat'/>", ""),
+                ("<delegateURI uriStartString='http://' catalog='own/next.cat'/><delegateURI uriStartString='http://x' catalog='c.cat'/>", "")):
+            self.catalog("c.cat", entries, attributes)
+            self.catalog("own/next.cat", "<other xmlns='u'/><uri name='http://x/b.rng' uri='b.rng'/>")
+            self.catalog("wrong.cat", "<uri name='http://x/b.rng' uri='own/none.rng'/>")
+            self.assertEqual(self.answer("http://x/b.rng", "--catalog", "c.cat"), ("", {0}), entries)
+            self.environment["XML_CATALOG_FILES"] = f"none.cat  c.cat\nfile://{self.folder}/wrong.cat"
+            self.assertEqual(self.answer("http://x/b.rng"), ("", {0}), entries)
+            self.assertEqual(self.answer("http://x/b.rng", "--map", "http://x/b.rng=own/b.rng"), ("", {0}), entries)
+            self.environment["XML_CATALOG_FILES"] = ""
+
+    def test_what_is_not_there(self):
+        self.catalog("c.cat", "<uri name='urn:b' uri='http://x/'/><nextCatalog catalog='c.cat'/><nextCatalog catalog='http://x/c.cat'/><uri name='urn:c'/>")
+        for uri in ("urn:b", "http://x/b.rng", "urn:c"):
+            told, statuses = self.answer(uri, "--catalog", "c.cat")
+            self.assertIn(f"there is no {uri}, and nothing is fetched", told)
+            self.assertEqual(statuses, {3})
+
+    def test_faults(self):
+        told, statuses = self.answer("urn:b", "--catalog", "none.cat")
+        self.assertEqual((told, statuses), ("none.cat: No such file or directory\n", {4}))
+        self.write("c.cat", "<catalog")
+        told, statuses = self.answer("urn:b", "--catalog", "c.cat")
+        self.assertRegex(told, r"^c\.cat:1:\d+: malformed XML: .*\n$")
+        self.assertEqual(statuses, {3})
+        self.write("c.cat", "\n<a/>")
+        told, statuses = self.answer("urn:b", "--catalog", "c.cat")
+        root = "the root is no element of XML Catalogs (of the namespace urn:oasis:names:tc:entity:xmlns:xml:catalog)"
+        self.assertEqual((told, statuses), (f"c.cat:2:1: {root}\n", {3}))
+        self.environment["XML_CATALOG_FILES"] = "c.cat"
+        self.assertEqual(self.answer("urn:b")[1], {3})
+        self.assertEqual(self.answer("own/b.rng", "--catalog", "c.cat"), ("", {0}))
+
+
 class Judged(InRng):
     """`rncv-xml` with schemas in the XML syntax."""
 
