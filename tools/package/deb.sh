@@ -115,9 +115,9 @@ Description: proved RELAX NG validator
  It is written in Rattle, which is Rust with contracts, and its answers are
  proved to be those of the standard.
  .
- The package has rncv, rncv-xml for XML documents, xml2pyx, rncv-profile, the
- language server rncv-lsp, and the libraries librncv and librncv_xml for C and
- Python.
+ The package has rncv, rncv-xml for XML documents, rng2rnc, xml2pyx,
+ rncv-profile, the language server rncv-lsp, and the libraries librncv and
+ librncv_xml for C and Python.
 END
 echo "activate-noawait ldconfig" > "$root/DEBIAN/triggers"
 cat > "$root/DEBIAN/prerm" << END

@@ -7,7 +7,7 @@
 #   DESTDIR       empty; it comes before each path, and is in no file
 #   PROGRAM       crates/rncv/out/rncv, the built program
 #   LIBRARY       build/library, the folder of the built library
-#   XML_PROGRAMS  build/xml, the folder of rncv-xml and xml2pyx
+#   XML_PROGRAMS  build/xml, the folder of rncv-xml, rng2rnc and xml2pyx
 #   PYTHON        the interpreter in the first line of the Python programs; by default what they name, the python3 of PATH
 #   LIBDIR        lib, below PREFIX, where the library is
 #   PYTHONDIR     share/rncv/python, below PREFIX, where the Python package is
@@ -129,7 +129,7 @@ if [ "$action" = uninstall ] || [ -f "$program" ]; then
 else
     lacks "rncv: not at $program"
 fi
-for name in rncv-xml xml2pyx; do
+for name in rncv-xml rng2rnc xml2pyx; do
     if [ "$action" = uninstall ] || [ -f "$xml/$name" ]; then
         put 755 "$xml/$name" "bin/$name"
     else
@@ -193,6 +193,7 @@ for source in man/*.[1-8] tools/*/*.[1-8]; do
     [ -f "$source" ] || continue
     put 644 "$source" "share/man/man${source##*.}/${source##*/}"
 done
+page man1/rncv-xml.1 man1/rng2rnc.1
 page man1/rncv-xml.1 man1/xml2pyx.1
 sed -n 's/^[a-z].*[ *]\(rncv_[a-z_]*\)(.*/\1/p' tools/library/include/rncv.h | while IFS= read -r name; do
     page man3/rncv.3 "man3/$name.3"
@@ -201,7 +202,7 @@ done
 # completions
 bash=share/bash-completion/completions
 put 644 tools/package/completions/rncv.bash "$bash/rncv"
-for name in rncv-xml xml2pyx rncv-profile rncv-lsp; do
+for name in rncv-xml rng2rnc xml2pyx rncv-profile rncv-lsp; do
     link rncv "$bash/$name"
 done
 put 644 tools/package/completions/_rncv "$zsh/_rncv"

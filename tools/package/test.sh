@@ -190,7 +190,7 @@ grep -q "nothing is built" "$room/said" || fail "make install with nothing built
 
 if env -u MAKEFLAGS -u MAKELEVEL -u RNCV_REQUIRED make -s -C "$top" install DESTDIR="$room/some" PROGRAM="$program" LIBRARY="$room/none" XML_PROGRAMS="$room/none" \
     > "$room/said" 2>&1 && [ -x "$room/some/usr/local/bin/rncv" ]; then
-    for name in rncv-xml xml2pyx librncv librncv_xml; do
+    for name in rncv-xml rng2rnc xml2pyx librncv librncv_xml; do
         grep -q "^  $name: not in" "$room/said" || fail "make install does not say that $name is missing"
     done
 else
@@ -207,13 +207,14 @@ installed=$root/usr/local
 while IFS= read -r path; do
     case $path in
     *rncv_xml.*) [ "$has_xml_library" = 1 ] || continue ;;
-    lib/* | include/* | bin/rncv-xml | bin/xml2pyx) [ "$built" = 1 ] || continue ;;
+    lib/* | include/* | bin/rncv-xml | bin/rng2rnc | bin/xml2pyx) [ "$built" = 1 ] || continue ;;
     esac
     [ -f "$installed/$path" ] || fail "not installed: $path"
 done << END
 bin/rncv
 bin/rncv-profile
 bin/rncv-xml
+bin/rng2rnc
 bin/xml2pyx
 include/rncv.h
 include/rncv_xml.h
@@ -231,6 +232,7 @@ share/bash-completion/completions/rncv
 share/bash-completion/completions/rncv-lsp
 share/bash-completion/completions/rncv-profile
 share/bash-completion/completions/rncv-xml
+share/bash-completion/completions/rng2rnc
 share/bash-completion/completions/xml2pyx
 share/doc/rncv/README.md
 share/doc/rncv/docs/CLAUSES.md
@@ -248,11 +250,13 @@ share/fish/vendor_completions.d/rncv-lsp.fish
 share/fish/vendor_completions.d/rncv-profile.fish
 share/fish/vendor_completions.d/rncv-xml.fish
 share/fish/vendor_completions.d/rncv.fish
+share/fish/vendor_completions.d/rng2rnc.fish
 share/fish/vendor_completions.d/xml2pyx.fish
 share/man/man1/rncv-lsp.1
 share/man/man1/rncv-profile.1
 share/man/man1/rncv-xml.1
 share/man/man1/rncv.1
+share/man/man1/rng2rnc.1
 share/man/man1/xml2pyx.1
 share/man/man3/rncv.3
 share/man/man3/rncv_compile.3
@@ -351,6 +355,7 @@ if [ -e "$installed/bin/rncv-lsp" ]; then
 fi
 if [ "$built" = 1 ]; then
     same "rncv-xml --version" "rncv-xml $version (librncv $version)" "$(inside rncv-xml --version)"
+    same "rng2rnc --version" "rng2rnc $version" "$(inside rng2rnc --version)"
     same "xml2pyx --version" "xml2pyx $version" "$(inside xml2pyx --version)"
     same "rncv-xml" "letter.xml: valid" "$(cd "$examples/letter" && inside rncv-xml --all s.rnc letter.xml)"
 fi
@@ -373,7 +378,7 @@ hardened() {
     done
 }
 if [ "$built" = 1 ] && has readelf && has "${CC:-cc}"; then
-    for name in rncv-xml xml2pyx; do
+    for name in rncv-xml rng2rnc xml2pyx; do
         hardened "$installed/bin/$name" objects
         hardened "$installed/bin/$name" program
     done
@@ -493,7 +498,7 @@ for page in "$pages"/man[1-8]/*; do
     name=${page##*/}
     case $name in
     rncv.1 | rncv_*) continue ;;
-    xml2pyx.1) ;; # it is rncv-xml(1)
+    rng2rnc.1 | xml2pyx.1) ;; # they are rncv-xml(1)
     *) see_also "$page" | grep -qxF rncv.1 || fail "$name does not name rncv(1) under SEE ALSO" ;;
     esac
     grep -qxF "$name" "$room/named" || fail "rncv(1) does not name $name under SEE ALSO"
@@ -521,7 +526,7 @@ cp "$examples/letter/s.rnc" "$examples/letter/untitled.xml" "$room/editing"
 # --- completions: each option of each program
 
 shells=$installed/share
-for name in rncv-xml xml2pyx rncv-profile rncv-lsp; do
+for name in rncv-xml rng2rnc xml2pyx rncv-profile rncv-lsp; do
     [ -e "$installed/bin/$name" ] || continue
     page=$pages/man1/$name.1
     if grep -q '^\.so ' "$page"; then page=$pages/$(sed 's/^\.so //' "$page"); fi

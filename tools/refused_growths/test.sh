@@ -2,10 +2,10 @@
 # Runs the built program with each growth of memory refused in turn, on all rows of rows.txt:   tools/refused_growths/test.sh [PROGRAM]
 #
 # PROGRAM is the built rncv, else crates/rncv/out/rncv. The C library runs the same rows (by_library.c); RNCV_LIBRARY names it, else it is in
-# build/library. The programs of cases that `rt ci` built make the public calls of the crates (calls.txt). rncv-xml and xml2pyx run cases of their own
-# (xml.py); RNCV_XML_PROGRAMS names their folder, else it is build/xml. It needs Python 3, and a C compiler and glibc for the shim (refuse.c). What is
-# missing is reported and skipped. If the variable RNCV_REQUIRED is set, a missing rncv is a failure. If RNCV_AFTER_CI is set, as in .ci/run, so is a
-# missing C compiler, library or program of cases.
+# build/library. The programs of cases that `rt ci` built make the public calls of the crates (calls.txt). rncv-xml, rng2rnc and xml2pyx run cases of
+# their own (xml.py); RNCV_XML_PROGRAMS names their folder, else it is build/xml. It needs Python 3, and a C compiler and glibc for the shim (refuse.c).
+# What is missing is reported and skipped. If the variable RNCV_REQUIRED is set, a missing rncv is a failure. If RNCV_AFTER_CI is set, as in .ci/run, so is
+# a missing C compiler, library or program of cases.
 set -eu
 here=$(cd "$(dirname "$0")" && pwd)
 program=${1:-$here/../../crates/rncv/out/rncv}
@@ -45,10 +45,10 @@ else
     echo "tools/refused_growths: no librncv in $library: it does not run the rows"
     [ -z "${RNCV_AFTER_CI:-}" ] || status=1
 fi
-if [ -x "$xml/rncv-xml" ] && [ -x "$xml/xml2pyx" ]; then
+if [ -x "$xml/rncv-xml" ] && [ -x "$xml/rng2rnc" ] && [ -x "$xml/xml2pyx" ]; then
     beside xml python3 -B "$here/xml.py" "$xml" "$room/refuse.so"
 else
-    echo "tools/refused_growths: no rncv-xml and xml2pyx in $xml: their growths are not refused"
+    echo "tools/refused_growths: no rncv-xml, rng2rnc and xml2pyx in $xml: their growths are not refused"
 fi
 beside cases python3 -B "$here/calls.py" "$here/../../crates" "$room/refuse.so"
 wait

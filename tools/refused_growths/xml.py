@@ -1,5 +1,5 @@
 #!/usr/bin/env python3
-"""Runs `rncv-xml` and `xml2pyx` with each growth of memory refused in turn:   xml.py FOLDER SHIM
+"""Runs `rncv-xml`, `rng2rnc` and `xml2pyx` with each growth of memory refused in turn:   xml.py FOLDER SHIM
 
 FOLDER has the two programs, and SHIM is `refuse.c` as a shared object. The wanted answers are those of runs in which nothing is refused; the tests of
 `tools/xml` say whether these are right. A growth that the program can do without leaves the answer as it is. After any other one, the status is 4. Then
@@ -24,6 +24,7 @@ import tempfile
 from rows import Count, Row, Runner, refuse_each, too_long
 
 FAILED, SECONDS, WHAT = 4, 600, "out of memory"
+GRAMMAR = '<grammar xmlns="http://relaxng.org/ns/structure/1.0">'
 # Schemas are small, since each of their growths is refused in each case.
 FILES = {
     "s.rnc": 'include "parts/b.rnc" start = element a { attribute x { "it\'s" | text }, b }\n', "parts/b.rnc": 'b = external "low%20er/c.rnc"\n',
@@ -31,7 +32,14 @@ FILES = {
     "i.rnc": "element a { xsd:integer }\n", "e.rnc": "element a { text }\n", "missing.rnc": 'include "gone%20.rnc" start = x\n',
     "broken.rnc": "start = element a {\n",
     "two.rnc": 'start = external "q%20r.rnc"\n', "q%20r.rnc": "empty", "q r.rnc": "empty", "mapped.rnc": 'start = external "http://example.org/x"\n',
-    "s.rng": '<grammar xmlns="http://relaxng.org/ns/structure/1.0"/>\n', "good.xml": '<?xml version="1.0"?>\n<a x="1">\n  <b/>\n</a>\n',
+    "s.rng": f"{GRAMMAR}<start/></grammar>\n", "h.rng": f'{GRAMMAR}<start><ref name="a"/></start></grammar>\n',
+    "r.rng": f'{GRAMMAR}<include href="parts/b.rng" ns="u"/><start><ref name="a"/></start></grammar>\n',
+    "parts/b.rng": f'{GRAMMAR}<define name="a"><element name="a" ns=""><oneOrMore><attribute><nsName ns="v"/></attribute></oneOrMore>'
+                   '<value>"</value></element></define></grammar>\n',
+    "c.cat": '<catalog xmlns="urn:oasis:names:tc:entity:xmlns:xml:catalog"><nextCatalog catalog="d.cat"/></catalog>\n',
+    "d.cat": '<catalog xmlns="urn:oasis:names:tc:entity:xmlns:xml:catalog"><rewriteURI uriStartString="http://example.org/x" rewritePrefix="e.rnc"/>'
+             "</catalog>\n",
+    "n.rng": f'{GRAMMAR}<include href="gone.rng"/></grammar>\n', "good.xml": '<?xml version="1.0"?>\n<a x="1">\n  <b/>\n</a>\n',
     "bad.xml": "<a><b/><c/></a>\n", "attribute.xml": '<a x="2"><b/></a>\n', "text.xml": "<a>1 &amp; <![CDATA[2]]></a>\n", "cut.xml": '<a x="1">\n<b>\n</a>\n',
     "clause.xml": "<a><p:b/></a>\n", "dtd.xml": '<!DOCTYPE a SYSTEM "day.dtd" [<!ENTITY e "1"><!ATTLIST a x CDATA "&e;">]>\n<a>&e;</a>\n',
     "outside.xml": '<!DOCTYPE a SYSTEM "day.dtd">\n<a>&e;</a>\n', "folder/good.xml": "<a/>", "folder/low/bad.xml": "<b/>", "folder/other": "",
@@ -61,10 +69,17 @@ CASES = (
     (1, "rncv-xml -j2 --all t.rnc good.xml bad.xml"),
     (0, "rncv-xml -j2 --all t.rnc large.xml"),
     (0, "rncv-xml --map http://example.org/x=e.rnc mapped.rnc --"),
+    (0, "rncv-xml --catalog c.cat mapped.rnc --"),
     (3, "rncv-xml missing.rnc good.xml"),
     (3, "rncv-xml broken.rnc good.xml"),
     (3, "rncv-xml two.rnc good.xml"),
     (3, "rncv-xml s.rng good.xml"),
+    (3, "rncv-xml h.rng"),
+    (0, "rncv-xml --print-schema r.rng"),
+    (0, "rng2rnc -o copy r.rng"),
+    (0, "rng2rnc --help"),
+    (3, "rng2rnc n.rng"),
+    (3, "rng2rnc s.rng"),
     (5, "rncv-xml --bogus s.rnc good.xml"),
     (0, "rncv-xml --help"),
     (0, "xml2pyx good.xml"),
@@ -167,7 +182,7 @@ def main(programs, shim):
         results = list(pool.map(tried, CASES, itertools.repeat(programs), itertools.repeat(shim)))
     print("".join(told for _, told in results), end="")
     refused, left, wrong, less = map(sum, zip(*(counts for counts, _ in results)))
-    print(f"rncv-xml, xml2pyx: {len(CASES)} cases, {refused} growths refused, {left} of them left the answer, {less} the verdicts, {wrong} wrong")
+    print(f"rncv-xml, rng2rnc, xml2pyx: {len(CASES)} cases, {refused} growths refused, {left} of them left the answer, {less} the verdicts, {wrong} wrong")
     return 1 if wrong else 0
 
 

@@ -1,8 +1,8 @@
 #!/bin/sh
-# Builds rncv-xml and xml2pyx:   tools/xml/build.sh [FOLDER]
+# Builds rncv-xml, rng2rnc and xml2pyx:   tools/xml/build.sh [FOLDER]
 #
-# FOLDER, by default build/xml at the top of the repository, then has the two programs. They need a C compiler, the headers of libxml2 (2.9.10 or later)
-# and, for rncv-xml, the library. RNCV_LIBRARY names its folder, by default build/library, where tools/library/build.sh leaves it. If something is missing,
+# FOLDER, by default build/xml at the top of the repository, then has the three programs. They need a C compiler, the headers of libxml2 (2.9.10 or later)
+# and, but for xml2pyx, the library. RNCV_LIBRARY names its folder, by default build/library, where tools/library/build.sh leaves it. If something is missing,
 # the script says what, and ends with status 2. It uses CC and CFLAGS. ONLY=xml2pyx builds that program alone, which needs no library.
 set -eu
 
@@ -37,8 +37,11 @@ compile() {
 objects() { for source in "$@"; do printf '%s ' "$work/$source.o"; done; }
 
 shared="$parser_parts program"
+rng="rng_tree rng_namespaces rng_grammar rng_uri rng_prefixes rng_words rng_patterns rng_writer"
 hints="schema_tree schema_grammars schema_words schema_restrictions schema_hints"
-judging="belt paths schema_tokens schema_annotations $hints schema_files options documents trail judging probes progress formats report jobs"
+reading="belt paths schema_tokens schema_annotations xml_names origins $rng catalogs schema_files schema_xml"
+judging="$reading $hints options documents trail judging probes progress formats report jobs"
+converting="$reading trail judging probes"
 
 compile $shared xml2pyx
 $cc $linked ${CFLAGS:--O2} -o "$work/xml2pyx" $(objects $shared xml2pyx) $parser_libs -lpthread ${LIBS:-}
@@ -47,6 +50,8 @@ mv "$work/xml2pyx" "$folder/xml2pyx"
 
 [ -f "$library/include/rncv.h" ] && [ -f "$library/lib/librncv.a" ] ||
     missing "no librncv in $library: build it by tools/library/build.sh, or name its folder by RNCV_LIBRARY"
-compile $judging rncv-xml
+compile $judging rncv-xml rng2rnc
 $cc $linked ${CFLAGS:--O2} -o "$work/rncv-xml" $(objects $shared $judging rncv-xml) "$library/lib/librncv.a" $parser_libs -lpthread ${LIBS:-}
 mv "$work/rncv-xml" "$folder/rncv-xml"
+$cc $linked ${CFLAGS:--O2} -o "$work/rng2rnc" $(objects $shared $converting rng2rnc) "$library/lib/librncv.a" $parser_libs -lpthread ${LIBS:-}
+mv "$work/rng2rnc" "$folder/rng2rnc"

@@ -15,8 +15,10 @@ library=${RNCV_LIBRARY:-$folder}
 cc=${CC:-cc}
 flags="-std=c17 -Wall -Wextra -Wconversion -Werror -pedantic -D_XOPEN_SOURCE=700 -D_FILE_OFFSET_BITS=64 -fPIC -ffunction-sections -fdata-sections"
 . "$here/parser.sh"
+rng="rng_tree rng_namespaces rng_grammar rng_uri rng_prefixes rng_words rng_patterns rng_writer"
 hints="schema_tree schema_grammars schema_words schema_restrictions schema_hints"
-parts="$parser_parts program belt paths schema_tokens schema_annotations $hints schema_files trail judging probes library"
+schemas="schema_tokens schema_annotations xml_names origins $rng catalogs $hints schema_files schema_xml"
+parts="$parser_parts program belt paths $schemas trail judging probes library"
 
 missing() { echo "tools/xml/library.sh: $1" >&2; exit 2; }
 

@@ -37,7 +37,7 @@ judge() {
     fi
     status=0
     python3 -B "$here/tests/library_test.py" >"$room/library" 2>&1 & library=$!
-    for part in judging schema annotations hints robust recipes cases; do
+    for part in judging schema annotations rng hints robust recipes cases; do
         python3 -B "$here/tests/${part}_test.py" || status=1
     done
     wait "$library" || status=1

@@ -1,6 +1,6 @@
 # Completion for fish: rncv-xml.
 complete -c rncv-xml -f
-complete -c rncv-xml -k -a '(__fish_complete_suffix .xml; __fish_complete_suffix .rnc)'
+complete -c rncv-xml -k -a '(__fish_complete_suffix .xml; __fish_complete_suffix .rnc; __fish_complete_suffix .rng)'
 complete -c rncv-xml -s r -l recursive -d 'Judge the documents in folders'
 complete -c rncv-xml -l glob -x -d 'The names to take in folders'
 complete -c rncv-xml -l files-from -r -F -d 'A file with the names of documents'
@@ -10,6 +10,8 @@ complete -c rncv-xml -s j -l jobs -x -d 'Judge N documents at once'
 complete -c rncv-xml -l map -r -F -d 'The file that a word in an include or external means'
 complete -c rncv-xml -l dtd -d 'Read the external DTD and external entities, from files'
 complete -c rncv-xml -l strict -d 'A document with a note is outside the profile'
+complete -c rncv-xml -l catalog -r -F -d 'An XML catalog'
+complete -c rncv-xml -l print-schema -d 'Print what the library gets of the schema'
 complete -c rncv-xml -l strict-profile -d 'Refuse a schema that rncv-profile loosened or tightened'
 complete -c rncv-xml -l all -d 'A line for each document'
 complete -c rncv-xml -s v -l verbose -d 'The same, with a closing line'

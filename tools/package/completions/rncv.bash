@@ -1,4 +1,4 @@
-# Completion for bash: rncv, rncv-xml, xml2pyx, rncv-profile and rncv-lsp.
+# Completion for bash: rncv, rncv-xml, rng2rnc, xml2pyx, rncv-profile and rncv-lsp.
 
 # _rncv_files WORD PATTERN..: files whose names match a pattern, and folders
 _rncv_files() {
@@ -33,26 +33,37 @@ _rncv_xml() {
     case $3 in
     --format) _rncv_words "text json sarif github" "$2"; return ;;
     --color) _rncv_words "auto always never" "$2"; return ;;
-    --files-from | --map) _rncv_files "$2" '*'; return ;;
+    --files-from | --map | --catalog) _rncv_files "$2" '*'; return ;;
     --glob | --stdin-name | -j | --jobs) return ;;
     esac
     case $2 in
     -*)
-        _rncv_words "--recursive -r --glob --files-from --null -0 --stdin-name --jobs -j --map --dtd --strict --strict-profile --all --verbose -v --quiet -q --format --color --help -h --version" "$2"
+        _rncv_words "--recursive -r --glob --files-from --null -0 --stdin-name --jobs -j --map --catalog --dtd --strict --print-schema --strict-profile --all --verbose -v --quiet -q --format --color --help -h --version" "$2"
         return
         ;;
     esac
     # the first word that is a schema makes the others documents
     for word in "${COMP_WORDS[@]:1:COMP_CWORD-1}"; do
         case $word in
-        *.rnc) schemas=1 ;;
+        *.rnc | *.rng) schemas=1 ;;
         esac
     done
     if [ "$schemas" = 0 ]; then
-        _rncv_files "$2" '*.rnc'
+        _rncv_files "$2" '*.rnc' '*.rng'
     else
-        _rncv_files "$2" '*.xml' '*.rnc'
+        _rncv_files "$2" '*.xml' '*.rnc' '*.rng'
     fi
+}
+
+_rng2rnc() {
+    case $3 in
+    -o | --output) compopt -o dirnames; COMPREPLY=(); return ;;
+    --map | --catalog) _rncv_files "$2" '*'; return ;;
+    esac
+    case $2 in
+    -*) _rncv_words "--output -o --map --catalog --help -h --version" "$2" ;;
+    *) _rncv_files "$2" '*.rng' ;;
+    esac
 }
 
 _xml2pyx() {
@@ -81,6 +92,7 @@ _rncv_lsp() {
 
 complete -F _rncv rncv
 complete -F _rncv_xml rncv-xml
+complete -F _rng2rnc rng2rnc
 complete -F _xml2pyx xml2pyx
 complete -F _rncv_profile rncv-profile
 complete -F _rncv_lsp rncv-lsp

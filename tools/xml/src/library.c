@@ -182,6 +182,8 @@ static int32_t status_of_problem(struct schema_files *files, rncv_xml_fault *fau
     if (fault != NULL && !files->failed) {
         fault->path = taken(&files->problem_path);
         fault->message = taken(&files->problem);
+        fault->line = files->problem_place.line;
+        fault->column = files->problem_place.column;
     }
     return status;
 }
@@ -232,7 +234,7 @@ int32_t rncv_xml_files_find(const char *path, const rncv_xml_mapping *mappings, 
     int32_t status;
     struct mapping *copies = mapped(mappings, count, &status);
     if (status == RNCV_DONE) {
-        struct schema_request request = {&given, 1, copies, count, NULL};
+        struct schema_request request = {&given, 1, copies, count, NULL, NULL, false};
         status = collect(&request, files, fault);
     }
     free(copies);
@@ -256,17 +258,14 @@ static struct schema_hint_file *hint_files(const rncv_file *files, const char *c
     for (size_t at = 0; list != NULL && at < count; at++) {
         const rncv_file *file = &files[at];
         const char *name = file->name == NULL ? "" : (const char *)file->name;
-        list[at] = (struct schema_hint_file){name, file->name_length, (const char *)file->bytes, file->length, paths == NULL ? NULL : paths[at]};
+        list[at] = (struct schema_hint_file){name, file->name_length, (const char *)file->bytes, file->length, paths == NULL ? NULL : paths[at], NULL};
     }
     return list;
 }
 
-int32_t rncv_xml_hint_find(const rncv_file *files, const char *const *paths, size_t count, int32_t clause, rncv_xml_hint *hint) {
-    if (files == NULL || count == 0 || hint == NULL) {
-        return RNCV_MISUSE;
-    }
+/* Looks for a hint in the list, and frees the list. */
+static void find_hint(struct schema_hint_file *list, size_t count, int32_t clause, rncv_xml_hint *hint) {
     _Static_assert(RNCV_XML_HINT_BYTES == SCHEMA_HINT_BYTES, "a text fits");
-    struct schema_hint_file *list = hint_files(files, paths, count);
     struct schema_hint found;
     hint->file = 0;
     hint->line = 0;
@@ -279,21 +278,14 @@ int32_t rncv_xml_hint_find(const rncv_file *files, const char *const *paths, siz
         memcpy(hint->text, found.text, strlen(found.text) + 1);
     }
     free(list);
-    return RNCV_DONE;
 }
 
-/* Looks for a hint about files that were found, with its place in them as they are written. */
-static void find_hint(const rncv_xml_files *files, int32_t clause, rncv_xml_hint *hint) {
-    const struct found *found = files->hidden;
-    rncv_file *written = calloc(files->count, sizeof *written);
-    for (size_t at = 0; written != NULL && at < files->count; at++) {
-        written[at] = files->list[at];
-        written[at].bytes = (const uint8_t *)schema_file_written(&found->files.list[at])->data;
+int32_t rncv_xml_hint_find(const rncv_file *files, const char *const *paths, size_t count, int32_t clause, rncv_xml_hint *hint) {
+    if (files == NULL || count == 0 || hint == NULL) {
+        return RNCV_MISUSE;
     }
-    if (written != NULL) {
-        rncv_xml_hint_find(written, files->paths, files->count, clause, hint);
-    }
-    free(written);
+    find_hint(hint_files(files, paths, count), count, clause, hint);
+    return RNCV_DONE;
 }
 
 /* Says which mentioned file is not there. */
@@ -310,17 +302,34 @@ static void explain_missing(struct missing *missing, rncv_xml_fault *fault, stru
     fault->missing = taken(&name);
 }
 
+/* Looks for a hint in files that were found. Its places are those of the files that were read, also where the compact syntax was written of them. */
+static void find_own_hint(const rncv_xml_files *files, int32_t clause, rncv_xml_hint *hint) {
+    const struct found *found = files->hidden;
+    struct schema_hint_file *list = hint_files(files->list, files->paths, files->count);
+    for (size_t at = 0; list != NULL && at < files->count; at++) {
+        list[at].bytes = schema_file_written(&found->files.list[at])->data; /* the same length */
+        list[at].origins = &found->files.list[at].origins;
+    }
+    find_hint(list, files->count, clause, hint);
+}
+
 /* Says where the file is refused, or else where a hint is. */
 static void explain_place(const rncv_xml_files *files, const rncv_fault *refused, rncv_xml_fault *fault, struct bytes *message) {
-    int64_t column = schema_files_column(&((struct found *)files->hidden)->files, refused);
     bool is_known = refused->file >= 0 && (uint64_t)refused->file < files->count;
     struct bytes path = NO_BYTES;
     rncv_xml_hint hint = {.line = 0};
     uint64_t file = is_known ? (uint64_t)refused->file : 0;
-    fault->line = refused->line > 0 ? (uint64_t)refused->line : 0;
-    fault->column = refused->line > 0 && column > 0 ? (uint64_t)column : 0;
-    if (fault->line == 0) {
-        find_hint(files, refused->clause, &hint);
+    if (refused->line > 0) {
+        const struct schema_files *read = &((const struct found *)files->hidden)->files;
+        int64_t column = schema_files_column(read, refused);
+        struct place place = {(uint64_t)refused->line, column > 0 ? (uint64_t)column : 0};
+        place = place_before(read->list[file].content.data, read->list[file].content.length, &read->list[file].origins, place);
+        fault->line = place.line;
+        fault->column = place.column;
+    } else {
+        fault->line = 0;
+        fault->column = 0;
+        find_own_hint(files, refused->clause, &hint);
     }
     if (hint.line > 0) {
         bytes_format(message, ": hint: %s", hint.text);
@@ -386,7 +395,7 @@ int32_t rncv_xml_judge_new(rncv_schema *schema, const rncv_file *files, size_t c
     }
     struct schema_files read;
     struct values *values = NULL;
-    bool is_good = schema_files_collect(&read, &(struct schema_request){NULL, 0, NULL, 0, NULL});
+    bool is_good = schema_files_collect(&read, &(struct schema_request){NULL, 0, NULL, 0, NULL, NULL, false});
     for (size_t at = 0; at < count && is_good; at++) {
         is_good = files[at].length == 0 || schema_files_add_values(&read, (const char *)files[at].bytes, files[at].length);
     }

@@ -12,12 +12,14 @@ enum name {
     NAME_NULL,
     NAME_STDIN_NAME,
     NAME_MAP,
+    NAME_CATALOG,
     NAME_ALL,
     NAME_VERBOSE,
     NAME_QUIET,
     NAME_DTD,
     NAME_STRICT,
     NAME_STRICT_PROFILE,
+    NAME_PRINT_SCHEMA,
     NAME_FORMAT,
     NAME_COLOR,
     NAME_HELP,
@@ -39,12 +41,14 @@ static const struct option known[] = {
     {"--null", '0', false, NAME_NULL},
     {"--stdin-name", 0, true, NAME_STDIN_NAME},
     {"--map", 0, true, NAME_MAP},
+    {"--catalog", 0, true, NAME_CATALOG},
     {"--all", 0, false, NAME_ALL},
     {"--verbose", 'v', false, NAME_VERBOSE},
     {"--quiet", 'q', false, NAME_QUIET},
     {"--dtd", 0, false, NAME_DTD},
     {"--strict", 0, false, NAME_STRICT},
     {"--strict-profile", 0, false, NAME_STRICT_PROFILE},
+    {"--print-schema", 0, false, NAME_PRINT_SCHEMA},
     {"--format", 0, true, NAME_FORMAT},
     {"--color", 0, true, NAME_COLOR},
     {"--help", 'h', false, NAME_HELP},
@@ -52,11 +56,11 @@ static const struct option known[] = {
 };
 
 const char *options_help(void) {
-    return "usage: rncv-xml [OPTIONS] SCHEMA.rnc [DOCUMENT.xml | FOLDER | -]..\n"
-           "       rncv-xml [OPTIONS] SCHEMA.rnc.. -- DOCUMENT.xml..\n"
+    return "usage: rncv-xml [OPTIONS] SCHEMA [DOCUMENT.xml | FOLDER | -]..\n"
+           "       rncv-xml [OPTIONS] SCHEMA.. -- DOCUMENT.xml..\n"
            "\n"
-           "Judges XML documents by a RELAX NG schema in the compact syntax. Files that the schema includes are found beside the file\n"
-           "that mentions them. Without a document the schema alone is judged. `-` is standard input.\n"
+           "Judges XML documents by a RELAX NG schema, in the compact syntax or in the XML syntax (.rnc, .rng). Files that the schema\n"
+           "includes are found beside the file that mentions them. Without a document the schema alone is judged. `-` is standard input.\n"
            "\n"
            "Documents:\n"
            "  -r, --recursive      judge the documents in folders\n"
@@ -69,6 +73,8 @@ const char *options_help(void) {
            "      --strict         a document with a note, such as an external DTD that is not read, is outside the profile\n"
            "Schema:\n"
            "      --map HREF=FILE  the file that HREF means in an include or external; can be repeated\n"
+           "      --catalog FILE   an XML catalog for URIs in an include or external; can be repeated. XML_CATALOG_FILES names others\n"
+           "      --print-schema   print what the proved library gets, in the compact syntax, and judge no document\n"
            "      --strict-profile  a schema that rncv-profile loosened or tightened is refused (status 3)\n"
            "Output:\n"
            "      --all            a line for each document, `FILE: valid` too\n"
@@ -179,6 +185,8 @@ static bool take_value(struct options *options, enum name name, const char *valu
         return true;
     case NAME_MAP:
         return take_mapping(options, value);
+    case NAME_CATALOG:
+        return add_word(options, &options->catalogs, &options->catalog_count, value);
     case NAME_FORMAT:
         return take_format(options, value);
     case NAME_COLOR:
@@ -195,6 +203,7 @@ static void take_flag(struct options *options, enum name name) {
     options->is_verbose |= name == NAME_VERBOSE;
     options->is_quiet |= name == NAME_QUIET;
     options->is_strict |= name == NAME_STRICT_PROFILE;
+    options->prints_schema |= name == NAME_PRINT_SCHEMA;
     options->refuses_notes |= name == NAME_STRICT;
     options->loads_dtd |= name == NAME_DTD;
     options->wants_help |= name == NAME_HELP;
@@ -328,5 +337,6 @@ void options_free(struct options *options) {
     free(options->documents);
     free(options->globs);
     free(options->mappings);
+    free(options->catalogs);
     bytes_free(&options->wrong);
 }

@@ -29,6 +29,8 @@ struct options {
     size_t glob_count;
     struct mapping *mappings;
     size_t mapping_count;
+    const char **catalogs;
+    size_t catalog_count;
     const char *files_from;
     const char *input_name; /* the name of standard input in what is printed */
     unsigned jobs;          /* 0: as many as there are processors */
@@ -40,6 +42,7 @@ struct options {
     bool is_verbose;
     bool is_quiet;
     bool is_strict; /* about the schema: a copy that rncv-profile changed is refused */
+    bool prints_schema;
     bool refuses_notes;
     bool loads_dtd;
     bool wants_help;

@@ -105,6 +105,11 @@ static struct span local_path(const char *words, size_t length, size_t scheme) {
     return path;
 }
 
+bool is_remote(const struct bytes *words) {
+    size_t scheme = words->length == 0 ? 0 : scheme_length(words->data, words->length);
+    return scheme > 0 && local_path(words->data, words->length, scheme).data == NULL;
+}
+
 /* Begins a way with the folder of the path, unless the words are a path from the root. */
 static struct bytes *add_way(struct ways *ways, struct span words, const char *path) {
     struct bytes *way = &ways->list[ways->count++];

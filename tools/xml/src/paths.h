@@ -10,6 +10,9 @@ bool is_utf_8(const char *bytes, size_t length);
 /* Whether a file, and no folder or device, is at the path. */
 bool is_file(const char *path);
 
+/* Whether the words are a URI that is no file of this machine. */
+bool is_remote(const struct bytes *words);
+
 /* Whether both paths lead to the same thing, or neither leads to anything. */
 bool is_same(const char *first, const char *second);
 

@@ -43,8 +43,7 @@ struct streams program_begins(void) {
     return streams;
 }
 
-/* Writes all bytes. False: `errno` says why not. */
-static bool write_all(int file, const char *bytes, size_t length) {
+bool write_all(int file, const char *bytes, size_t length) {
     while (length > 0) {
         ssize_t written = write(file, bytes, length);
         if (written < 0 && errno == EINTR) {

@@ -44,6 +44,9 @@ struct output {
 /* Writes what was collected. If that fails, the program ends here: with 141 if the output is a closed pipe, else with a line and 4. */
 void output_flush(struct output *output);
 
+/* Writes all bytes. False: `errno` says why not. */
+bool write_all(int file, const char *bytes, size_t length);
+
 /* Writes a line to standard error, if that is there. */
 void tell_line(const char *line);
 

@@ -1,4 +1,4 @@
-/* rncv-xml: judges XML documents by a RELAX NG schema in the compact syntax. */
+/* rncv-xml: judges XML documents by a RELAX NG schema. */
 #include "jobs.h"
 #include "schema_hints.h"
 
@@ -45,7 +45,7 @@ static void add_hint(struct bytes *message, struct schema_files *files, struct s
     for (size_t at = 0; list != NULL && at < files->count; at++) {
         struct schema_file *file = &files->list[at];
         const struct bytes *written = schema_file_written(file);
-        list[at] = (struct schema_hint_file){file->name.data, file->name.length, written->data, written->length, bytes_text(&file->path)};
+        list[at] = (struct schema_hint_file){file->name.data, file->name.length, written->data, written->length, bytes_text(&file->path), &file->origins};
     }
     if (list != NULL && told->place.line == 0 && schema_hint_find(list, files->count, told->clause, &hint)) {
         told->path = list[hint.file].shown;
@@ -59,13 +59,13 @@ static void add_hint(struct bytes *message, struct schema_files *files, struct s
 static void tell_refusal(struct report *report, struct schema_files *files, const rncv_fault *fault) {
     struct bytes message = NO_BYTES;
     const char *title = rncv_clause_title('S', fault->clause);
-    struct schema_fault told = {bytes_text(&files->list[0].path), {0, 0}, (int)fault->clause, "", STATUS_REFUSED};
+    struct schema_fault told = {NULL, {0, 0}, (int)fault->clause, "", STATUS_REFUSED};
     bytes_format(&message, "S%d %s", (int)fault->clause, title == NULL ? "" : title);
-    if (fault->file >= 0 && (uint64_t)fault->file < files->count) {
-        told.path = bytes_text(&files->list[fault->file].path);
-    }
+    struct schema_file *file = &files->list[fault->file >= 0 && (uint64_t)fault->file < files->count ? fault->file : 0];
+    told.path = bytes_text(&file->path);
     if (fault->line > 0) {
-        told.place = (struct place){(uint64_t)fault->line, fault->column > 0 ? (uint64_t)fault->column : 1};
+        struct place place = {(uint64_t)fault->line, fault->column > 0 ? (uint64_t)fault->column : 1};
+        told.place = place_before(file->content.data, file->content.length, &file->origins, place);
     }
     if (fault->clause == 1 && fault->file < 0 && files->missing.is_there) {
         struct missing *missing = &files->missing;
@@ -87,17 +87,17 @@ static void tell_problem(struct report *report, struct schema_files *files) {
     if (files->failed) {
         tell_failure(report, "out of memory", STATUS_FAILED);
     } else if (files->problem_path.length > 0) {
-        struct schema_fault told = {bytes_text(&files->problem_path), {0, 0}, 0, "", files->problem_status};
+        struct schema_fault told = {bytes_text(&files->problem_path), files->problem_place, 0, "", files->problem_status};
         tell_schema(report, &told, &files->problem);
     } else {
         tell_failure(report, bytes_text(&files->problem), files->problem_status);
     }
 }
 
-/* Whether the file has the name of a schema in the compact syntax. */
+/* Whether the file has the name of a schema. */
 static bool is_named_schema(const char *path) {
     size_t length = strlen(path);
-    return length > 4 && strcmp(path + length - 4, ".rnc") == 0;
+    return length > 4 && (strcmp(path + length - 4, ".rnc") == 0 || strcmp(path + length - 4, ".rng") == 0);
 }
 
 /* Adds that something was done to so many datatypes. */
@@ -155,14 +155,52 @@ static const char *later_schema(const struct options *options) {
     return NULL;
 }
 
+/* Prints what the library gets: each file, after a comment with its path and the name by which others mention it. */
+static void print_files(struct report *report, struct schema_files *files) {
+    struct bytes *text = &report->output->waiting;
+    for (size_t at = 0; at < files->count; at++) {
+        struct schema_file *file = &files->list[at];
+        bytes_add_text(text, at == 0 ? "# " : "\n# ");
+        add_name(text, &file->path);
+        if (at > 0) {
+            bytes_add_text(text, ", mentioned as ");
+            add_name(text, &file->name);
+        }
+        bytes_add_byte(text, '\n');
+        bytes_add(text, file->content.data, file->content.length);
+        bytes_add_text(text, file->content.length > 0 && file->content.data[file->content.length - 1] == '\n' ? "" : "\n");
+    }
+    output_flush(report->output);
+}
+
+/* Prints what was noted about files in the XML syntax, to standard error. */
+static void tell_schema_notes(struct report *report, struct schema_files *files) {
+    if (files->notes.length > 0) {
+        report_note(report, bytes_text(&files->notes));
+    }
+}
+
 /* Reads the schema's files and compiles them. False: what is wrong was reported. */
 static bool compile(struct report *report, struct schema_files *files, rncv_schema *schema) {
     const struct options *options = report->options;
-    struct schema_request request = {options->schemas, options->schema_count, options->mappings, options->mapping_count, later_schema(options)};
+    struct catalogs catalogs;
+    struct schema_request request = {options->schemas,      options->schema_count, options->mappings, options->mapping_count,
+                                     later_schema(options), &catalogs,             false};
     rncv_fault fault;
-    if (!schema_files_collect(files, &request)) {
+    bool is_good = catalogs_open(&catalogs, options->catalogs, options->catalog_count, getenv("XML_CATALOG_FILES"));
+    if (!is_good) {
+        memset(files, 0, sizeof *files);
+        files->failed = true;
+    }
+    is_good = is_good && schema_files_collect(files, &request);
+    catalogs_close(&catalogs);
+    if (!is_good) {
         tell_problem(report, files);
         return false;
+    }
+    tell_schema_notes(report, files);
+    if (options->prints_schema) {
+        print_files(report, files);
     }
     switch (schema_files_compile(files, schema, &fault)) {
     case RNCV_DONE:
@@ -229,7 +267,7 @@ static unsigned jobs_of(const struct options *options) {
 
 static void judge_all(struct report *report, struct shared *shared, struct documents *documents) {
     struct schema_files files;
-    if (compile(report, &files, &shared->schema)) {
+    if (compile(report, &files, &shared->schema) && !report->options->prints_schema) {
         shared->values = (const char *const *)files.values;
         shared->value_count = files.value_count;
         if (report->options->is_verbose) {
@@ -281,7 +319,7 @@ static int tell_wrong(struct options *options) {
     struct bytes line = NO_BYTES;
     bytes_add_text(&line, "rncv-xml: ");
     add_shown(&line, options->wrong.data, options->wrong.length, SIZE_MAX);
-    bytes_add_text(&line, "\nusage: rncv-xml [OPTIONS] SCHEMA.rnc [DOCUMENT.xml | FOLDER | -]..    (--help says more)");
+    bytes_add_text(&line, "\nusage: rncv-xml [OPTIONS] SCHEMA [DOCUMENT.xml | FOLDER | -]..    (--help says more)");
     const char *text = bytes_text(&line);
     bool is_failed = options->failed || line.failed;
     tell_line(is_failed ? no_memory : text);

@@ -1,4 +1,4 @@
-#include "schema_files.h"
+#include "schema_collecting.h"
 
 #include "judging.h"
 #include "paths.h"
@@ -13,23 +13,9 @@ enum {
     MOST_FILES = 64,         /* with one more the library says S2 */
     MOST_BYTES = 1048576,    /* of a file; with one more the same */
     MARK_BYTES = 3,          /* of a byte order mark, which the library does not get */
+    MOST_XML_BYTES = 16777216, /* of a file in the XML syntax */
     MOST_VALUES = 100,       /* literals that are kept */
     MOST_VALUE_BYTES = 100
-};
-
-/* What the words of a mention were found to mean, and where the words are. */
-struct meaning {
-    struct bytes words;
-    struct bytes file; /* empty: no file */
-    size_t by;         /* the index of the file that mentions it */
-};
-
-struct collecting {
-    struct schema_files *files;
-    const struct schema_request *request;
-    struct meaning *meanings;
-    size_t count;
-    size_t capacity;
 };
 
 static void add_bytes(struct bytes *to, const struct bytes *from) {
@@ -40,26 +26,24 @@ static bool is_equal(const struct bytes *one, const struct bytes *other) {
     return one->length == other->length && (one->length == 0 || memcmp(one->data, other->data, one->length) == 0);
 }
 
-static bool out_of_memory(struct schema_files *files) {
+bool files_without_memory(struct schema_files *files) {
     files->failed = true;
     files->problem_status = STATUS_FAILED;
     return false;
 }
 
-/* Notes the first problem. */
-static void problem(struct schema_files *files, int status, const struct bytes *line) {
+void files_problem(struct schema_files *files, int status, const struct bytes *line) {
     if (files->problem_status == 0) {
         files->problem_status = status;
         add_bytes(&files->problem, line);
         bytes_text(&files->problem);
     }
     if (line->failed || files->problem.failed) {
-        out_of_memory(files);
+        files_without_memory(files);
     }
 }
 
-/* Adds the path of a file, and makes room for the zero after it. The file `-` is no standard input. */
-static void add_path(struct bytes *to, const char *path) {
+void add_path(struct bytes *to, const char *path) {
     bytes_add_text(to, strcmp(path, "-") == 0 ? "./" : "");
     bytes_add_text(to, path);
     bytes_text(to);
@@ -71,16 +55,27 @@ static bool add_file(struct schema_files *files, const struct bytes *name, const
         size_t capacity = files->capacity == 0 ? 8 : 2 * files->capacity;
         struct schema_file *list = realloc(files->list, capacity * sizeof *list);
         if (list == NULL) {
-            return out_of_memory(files);
+            return files_without_memory(files);
         }
         files->list = list;
         files->capacity = capacity;
     }
     struct schema_file *file = &files->list[files->count++];
-    *file = (struct schema_file){NO_BYTES, NO_BYTES, NO_BYTES, NO_BYTES};
+    *file = (struct schema_file){NO_BYTES, NO_BYTES, NO_BYTES, NO_BYTES, {NULL, 0, 0}};
     add_bytes(&file->name, name);
     add_path(&file->path, path);
-    return file->name.failed || file->path.failed ? out_of_memory(files) : true;
+    return file->name.failed || file->path.failed ? files_without_memory(files) : true;
+}
+
+/* How many bytes a file may have, as its first bytes say. One in the XML syntax has more than what is written of it. A file in the compact syntax begins
+ * neither with a `<` nor with the bytes of UTF-16 and UTF-32. */
+static size_t most_of(const struct bytes *content) {
+    size_t at = mark_length(content->data, content->length);
+    while (at < content->length && strchr(" \t\r\n", content->data[at]) != NULL && content->data[at] != '\0') {
+        at++;
+    }
+    unsigned char first = at < content->length ? (unsigned char)content->data[at] : 'a';
+    return first == '<' || first >= 0xFE || first == 0 ? MOST_XML_BYTES : MOST_BYTES;
 }
 
 /* Reads the file, but at most one byte more than a file may have, and drops its byte order mark. */
@@ -90,8 +85,8 @@ static bool read_content(struct schema_files *files, struct schema_file *file) {
     size_t length = 1;
     bool is_open = source_open(&source, bytes_text(&file->path), (struct streams){false, false}, &fault);
     bool is_good = is_open && bytes_reserve(&file->content, 4096);
-    while (is_good && length > 0 && file->content.length <= MOST_BYTES + MARK_BYTES) {
-        size_t room = MOST_BYTES + MARK_BYTES + 1 - file->content.length;
+    while (is_good && length > 0 && file->content.length <= most_of(&file->content) + MARK_BYTES) {
+        size_t room = most_of(&file->content) + MARK_BYTES + 1 - file->content.length;
         size_t wanted = room < 65536 ? room : 65536;
         is_good = bytes_reserve(&file->content, wanted) &&
                   source_read(&source, file->content.data + file->content.length, wanted, &length, &fault);
@@ -100,11 +95,11 @@ static bool read_content(struct schema_files *files, struct schema_file *file) {
     if (is_good) {
         bytes_cut_front(&file->content, mark_length(file->content.data, file->content.length));
     } else if (fault.kind != FAULT_DEVICE) {
-        out_of_memory(files);
+        files_without_memory(files);
     } else {
         struct bytes line = NO_BYTES;
         bytes_format(&line, "cannot read file %s: %s", bytes_text(&file->path), bytes_text(&fault.what));
-        problem(files, STATUS_FAILED, &line);
+        files_problem(files, STATUS_FAILED, &line);
         bytes_free(&line);
     }
     if (is_open) {
@@ -138,7 +133,7 @@ static bool keep_value(struct schema_files *files, const struct bytes *literal) 
     } else {
         files->values[files->value_count++] = value.data; /* the list owns the bytes from here on */
     }
-    return is_failed ? out_of_memory(files) : true;
+    return is_failed ? files_without_memory(files) : true;
 }
 
 /* Adds the counts of a line `N datatypes loosened, see ..` or `N datatypes tightened, see ..`. Each may be followed by the other. */
@@ -197,7 +192,7 @@ static bool is_given(const struct schema_request *request, const struct bytes *w
 static bool add_candidate(struct collecting *collecting, struct meaning *meaning, const char *path) {
     if (meaning->file.length == 0) {
         add_path(&meaning->file, path);
-        return meaning->file.failed ? out_of_memory(collecting->files) : true;
+        return meaning->file.failed ? files_without_memory(collecting->files) : true;
     }
     if (is_same(bytes_text(&meaning->file), path)) {
         return true;
@@ -205,7 +200,7 @@ static bool add_candidate(struct collecting *collecting, struct meaning *meaning
     struct bytes line = NO_BYTES;
     struct schema_file *by = &collecting->files->list[meaning->by];
     bytes_format(&line, "'%s' in %s may be %s or %s", bytes_text(&meaning->words), bytes_text(&by->path), bytes_text(&meaning->file), path);
-    problem(collecting->files, STATUS_REFUSED, &line);
+    files_problem(collecting->files, STATUS_REFUSED, &line);
     bytes_free(&line);
     return false;
 }
@@ -214,51 +209,67 @@ static bool try_path(struct collecting *collecting, struct meaning *meaning, con
     return !is_file(path) || add_candidate(collecting, meaning, path);
 }
 
-/* Finds the file that the words mean. There may be none. False: there is a problem. */
-static bool find_meaning(struct collecting *collecting, struct meaning *meaning) {
+/* Takes the file that the catalogs have for a URI, if there is one. False: there is a problem. */
+static bool ask_catalogs(struct collecting *collecting, struct meaning *meaning) {
+    struct schema_files *files = collecting->files;
+    struct bytes path = NO_BYTES;
+    struct bytes where = NO_BYTES;
+    struct fault fault = NO_FAULT;
+    bool is_good = catalogs_find(collecting->request->catalogs, (struct span){meaning->words.data, meaning->words.length}, &path, &where, &fault);
+    if (is_good && path.length > 0) {
+        const char *text = bytes_text(&path);
+        is_good = path.failed ? files_without_memory(files) : add_candidate(collecting, meaning, text);
+    } else if (!is_good && fault.kind == FAULT_MEMORY) {
+        files_without_memory(files);
+    } else if (!is_good) {
+        struct bytes line = NO_BYTES;
+        add_shown(&line, fault.what.data, fault.what.length, SIZE_MAX);
+        add_path(&files->problem_path, bytes_text(&where));
+        files->problem_place = fault.place;
+        line.failed |= where.failed || files->problem_path.failed;
+        files_problem(files, fault.kind == FAULT_DEVICE ? STATUS_FAILED : STATUS_REFUSED, &line);
+        bytes_free(&line);
+    }
+    bytes_free(&path);
+    bytes_free(&where);
+    fault_free(&fault);
+    return is_good;
+}
+
+bool find_meaning(struct collecting *collecting, struct meaning *meaning) {
     const char *file = mapped(collecting->request, &meaning->words);
     struct ways ways;
     struct bytes normal = NO_BYTES;
     if (file != NULL) {
         return add_candidate(collecting, meaning, file);
     }
-    bool is_good = ways_of(&ways, &meaning->words, bytes_text(&collecting->files->list[meaning->by].path)) || out_of_memory(collecting->files);
+    if (collecting->request->catalogs != NULL && is_remote(&meaning->words) && !ask_catalogs(collecting, meaning)) {
+        return false;
+    }
+    bool is_good = ways_of(&ways, &meaning->words, bytes_text(&collecting->files->list[meaning->by].path)) || files_without_memory(collecting->files);
     for (size_t at = 0; at < ways.count && is_good; at++) {
         const char *way = bytes_text(&ways.list[at]);
         add_normal(&normal, way);
         const char *shorter = bytes_text(&normal);
-        is_good = normal.failed ? out_of_memory(collecting->files)
+        is_good = normal.failed ? files_without_memory(collecting->files)
                                 : try_path(collecting, meaning, way) && try_path(collecting, meaning, shorter);
     }
     if (is_good && is_given(collecting->request, &meaning->words)) {
         const char *words = bytes_text(&meaning->words);
-        is_good = meaning->words.failed ? out_of_memory(collecting->files) : try_path(collecting, meaning, words);
+        is_good = meaning->words.failed ? files_without_memory(collecting->files) : try_path(collecting, meaning, words);
     }
     /* a path that was cut short by that would be another one */
     bool has_failed = meaning->words.failed || meaning->file.failed || ways.list[0].failed || ways.list[1].failed || normal.failed;
     ways_free(&ways);
     bytes_free(&normal);
-    return has_failed ? out_of_memory(collecting->files) : is_good;
-}
-
-/* The place of the byte in the file. */
-static struct place place_of(const struct bytes *content, size_t at) {
-    struct place place = {1, 1};
-    for (size_t byte = 0; byte < at && byte < content->length; byte++) {
-        char here = content->data[byte];
-        bool ends = here == '\n' || (here == '\r' && (byte + 1 >= content->length || content->data[byte + 1] != '\n'));
-        place.line += ends;
-        place.column = ends ? 1 : place.column + (((unsigned char)here & 0xC0) != 0x80);
-    }
-    return place;
+    return has_failed ? files_without_memory(collecting->files) : is_good;
 }
 
 const struct bytes *schema_file_written(const struct schema_file *file) {
     return file->original.length > 0 ? &file->original : &file->content;
 }
 
-/* Notes where a missing file was looked for, if it is the first one. False: out of memory. */
-static bool keep_missing(struct collecting *collecting, const struct meaning *meaning, size_t at) {
+bool keep_missing(struct collecting *collecting, const struct meaning *meaning, struct place place) {
     struct missing *missing = &collecting->files->missing;
     struct schema_file *by = &collecting->files->list[meaning->by];
     struct ways ways;
@@ -266,7 +277,7 @@ static bool keep_missing(struct collecting *collecting, const struct meaning *me
         return true;
     }
     missing->is_there = true;
-    missing->place = place_of(schema_file_written(by), at);
+    missing->place = place;
     add_bytes(&missing->name, &meaning->words);
     add_path(&missing->path, bytes_text(&by->path));
     bool is_good = ways_of(&ways, &meaning->words, bytes_text(&by->path));
@@ -277,7 +288,7 @@ static bool keep_missing(struct collecting *collecting, const struct meaning *me
     bytes_text(&missing->name); /* the room for a zero after each */
     bytes_text(&missing->sought);
     is_good = is_good && !missing->name.failed && !missing->path.failed && !missing->sought.failed;
-    return is_good || out_of_memory(collecting->files);
+    return is_good || files_without_memory(collecting->files);
 }
 
 /* Adds what the words mean, for a line. */
@@ -299,17 +310,17 @@ static bool is_two_files(struct collecting *collecting, struct meaning *meaning,
     bytes_add_text(&line, " and ");
     add_meaning(&line, collecting, meaning);
     bytes_format(&line, ": one name is one file; write one of them as './%s'", bytes_text(&meaning->words));
-    problem(collecting->files, STATUS_REFUSED, &line);
+    files_problem(collecting->files, STATUS_REFUSED, &line);
     bytes_free(&line);
     return true;
 }
 
-static bool keep_meaning(struct collecting *collecting, const struct meaning *meaning) {
+bool keep_meaning(struct collecting *collecting, const struct meaning *meaning) {
     if (collecting->count == collecting->capacity) {
         size_t capacity = collecting->capacity == 0 ? 16 : 2 * collecting->capacity;
         struct meaning *meanings = realloc(collecting->meanings, capacity * sizeof *meanings);
         if (meanings == NULL) {
-            return out_of_memory(collecting->files);
+            return files_without_memory(collecting->files);
         }
         collecting->meanings = meanings;
         collecting->capacity = capacity;
@@ -318,12 +329,10 @@ static bool keep_meaning(struct collecting *collecting, const struct meaning *me
     *kept = (struct meaning){NO_BYTES, NO_BYTES, meaning->by};
     add_bytes(&kept->words, &meaning->words);
     add_bytes(&kept->file, &meaning->file);
-    return kept->words.failed || kept->file.failed ? out_of_memory(collecting->files) : true;
+    return kept->words.failed || kept->file.failed ? files_without_memory(collecting->files) : true;
 }
 
-/* Adds the file that is mentioned, unless a file of that name is there. If the name of the main file means another file here, the main file gets a new
- * name. No file can mention that one, since it has a character that XML does not have. */
-static bool hand_in(struct collecting *collecting, struct meaning *meaning) {
+bool hand_in(struct collecting *collecting, struct meaning *meaning) {
     struct schema_files *files = collecting->files;
     const char *path = bytes_text(&meaning->file);
     if (is_equal(&files->list[0].name, &meaning->words) && !is_same(bytes_text(&files->list[0].path), path)) {
@@ -333,7 +342,7 @@ static bool hand_in(struct collecting *collecting, struct meaning *meaning) {
         bytes_free(&files->list[0].name);
         files->list[0].name = name;
         if (name.failed) {
-            return out_of_memory(files);
+            return files_without_memory(files);
         }
     }
     for (size_t at = 0; at < files->count; at++) {
@@ -343,16 +352,33 @@ static bool hand_in(struct collecting *collecting, struct meaning *meaning) {
                 bytes_clear(&files->list[at].path);
                 add_path(&files->list[at].path, path);
             }
-            return files->list[at].path.failed ? out_of_memory(files) : true;
+            return files->list[at].path.failed ? files_without_memory(files) : true;
         }
     }
     return add_file(files, &meaning->words, path);
 }
 
+/* Notes that a file in the compact syntax mentions others, which get no plain names. */
+static bool refuse_mention(struct collecting *collecting, const struct meaning *meaning, size_t at) {
+    struct schema_files *files = collecting->files;
+    const struct bytes *content = schema_file_written(&files->list[meaning->by]);
+    struct bytes line = NO_BYTES;
+    bytes_add_text(&line, "this file is in the compact syntax, and mentions others: it is not copied");
+    add_path(&files->problem_path, bytes_text(&files->list[meaning->by].path));
+    files->problem_place = place_at(content->data, content->length, NULL, at);
+    line.failed |= files->problem_path.failed;
+    files_problem(files, STATUS_REFUSED, &line);
+    bytes_free(&line);
+    return false;
+}
+
 /* Takes one mention, which is at this offset in the file. */
 static bool take_mention(struct collecting *collecting, struct meaning *meaning, size_t at) {
     if (meaning->words.failed) {
-        return out_of_memory(collecting->files);
+        return files_without_memory(collecting->files);
+    }
+    if (collecting->request->is_flat) {
+        return refuse_mention(collecting, meaning, at);
     }
     if (!is_utf_8(meaning->words.data, meaning->words.length)) {
         return true; /* the library refuses the file */
@@ -369,7 +395,8 @@ static bool take_mention(struct collecting *collecting, struct meaning *meaning,
         return false;
     }
     if (meaning->file.length == 0) {
-        return keep_missing(collecting, meaning, at);
+        const struct bytes *content = schema_file_written(&collecting->files->list[meaning->by]);
+        return keep_missing(collecting, meaning, place_at(content->data, content->length, NULL, at));
     }
     return hand_in(collecting, meaning);
 }
@@ -412,15 +439,10 @@ static bool take_mentions(struct collecting *collecting, size_t index, struct to
     return is_good;
 }
 
-/* Adds a command that makes a schema in the compact syntax of one in the XML syntax. */
-static void add_trang(struct bytes *line, const char *path) {
-    size_t length = strlen(path);
-    bool has_end = length > 4 && strcmp(path + length - 4, ".rng") == 0;
-    bytes_add_text(line, has_end ? "trang " : "trang -I rng ");
-    add_shown(line, path, length, SIZE_MAX);
-    bytes_add_byte(line, ' ');
-    add_shown(line, path, has_end ? length - 4 : length, SIZE_MAX);
-    bytes_add_text(line, ".rnc");
+/* Keeps the literals of a file that was written. */
+static bool take_literals(struct schema_files *files, size_t index) {
+    const struct bytes *content = &files->list[index].content;
+    return schema_files_add_values(files, content->data, content->length) || files_without_memory(files);
 }
 
 /* Says that the file is XML and no schema, and if it is the main file, that the schema comes first. */
@@ -437,32 +459,20 @@ static void add_document(struct bytes *line, const struct collecting *collecting
     }
 }
 
-/* Whether the file may be a schema in the compact syntax, in UTF-8. If not, notes what it is. */
-static bool is_compact(struct collecting *collecting, size_t index) {
+/* Notes what a file is that is no schema in UTF-8, in the compact syntax or in the XML syntax. */
+static bool refuse_writing(struct collecting *collecting, size_t index, enum writing writing) {
     struct schema_file *file = &collecting->files->list[index];
-    const char *path = bytes_text(&file->path);
-    enum writing writing;
     struct bytes line = NO_BYTES;
-    if (!writing_of(file->content.data, file->content.length, &writing)) {
-        return out_of_memory(collecting->files);
-    }
-    if (writing == WRITING_COMPACT) {
-        return true;
-    }
     if (writing == WRITING_UTF_16) {
         bytes_add_text(&line, "this is UTF-16; rncv-xml reads schemas in UTF-8 (iconv -f UTF-16 -t UTF-8 converts it)");
-    } else if (writing == WRITING_RELAX_NG || (file->path.length > 4 && strcmp(path + file->path.length - 4, ".rng") == 0)) {
-        bytes_add_text(&line, "this is a schema in the XML syntax; rncv-xml reads the compact syntax (");
-        add_trang(&line, path);
-        bytes_add_text(&line, " converts it)");
     } else if (writing == WRITING_XML_SCHEMA) {
-        bytes_add_text(&line, "this is a W3C XML Schema; rncv-xml reads RELAX NG in the compact syntax");
+        bytes_add_text(&line, "this is a W3C XML Schema; rncv-xml reads RELAX NG");
     } else {
         add_document(&line, collecting, index);
     }
-    add_path(&collecting->files->problem_path, path);
+    add_path(&collecting->files->problem_path, bytes_text(&file->path));
     line.failed |= collecting->files->problem_path.failed;
-    problem(collecting->files, STATUS_REFUSED, &line);
+    files_problem(collecting->files, STATUS_REFUSED, &line);
     bytes_free(&line);
     return false;
 }
@@ -475,16 +485,19 @@ static bool blank_annotations(struct schema_files *files, struct schema_file *fi
     if (!is_changed) {
         bytes_free(&file->original);
     }
-    return is_good || out_of_memory(files);
+    return is_good || files_without_memory(files);
 }
 
-/* Reads a file, and takes what it mentions. From a file that is too large it takes nothing: the library refuses it. */
-static bool take_file(struct collecting *collecting, size_t index) {
+/* Whether the file is to be read as a schema in the XML syntax: by the namespace of its root, or by its name. */
+static bool is_in_xml(struct schema_file *file, enum writing writing) {
+    bool is_named = file->path.length > 4 && memcmp(file->path.data + file->path.length - 4, ".rng", 4) == 0;
+    return writing == WRITING_RELAX_NG || (is_named && writing == WRITING_XML);
+}
+
+/* Takes what a file in the compact syntax mentions. From a file that is too large it takes nothing: the library refuses it. */
+static bool take_compact(struct collecting *collecting, size_t index) {
     struct tokens tokens;
     struct schema_file *file = &collecting->files->list[index];
-    if (!read_content(collecting->files, file) || !is_compact(collecting, index)) {
-        return false;
-    }
     if (file->content.length > MOST_BYTES) {
         return true;
     }
@@ -492,10 +505,26 @@ static bool take_file(struct collecting *collecting, size_t index) {
     if (!blank_annotations(collecting->files, file)) {
         return false;
     }
-    bool is_good = tokens_open(&tokens, file->content.data, file->content.length) || out_of_memory(collecting->files);
+    bool is_good = tokens_open(&tokens, file->content.data, file->content.length) || files_without_memory(collecting->files);
     is_good = is_good && take_mentions(collecting, index, &tokens);
     tokens_close(&tokens);
     return is_good;
+}
+
+/* Reads a file, and takes what it mentions. */
+static bool take_file(struct collecting *collecting, size_t index) {
+    struct schema_file *file = &collecting->files->list[index];
+    enum writing writing;
+    if (!read_content(collecting->files, file)) {
+        return false;
+    }
+    if (!writing_of(file->content.data, file->content.length, &writing)) {
+        return files_without_memory(collecting->files);
+    }
+    if (is_in_xml(file, writing)) {
+        return take_xml(collecting, index) && take_literals(collecting->files, index);
+    }
+    return writing == WRITING_COMPACT ? take_compact(collecting, index) : refuse_writing(collecting, index, writing);
 }
 
 /* Adds the files that are given, by their own names. A file whose name is not UTF-8 gets a name that no file can mention. */
@@ -504,12 +533,14 @@ static bool add_given(struct schema_files *files, const struct schema_request *r
     for (size_t at = 0; at < request->given_count && is_good; at++) {
         const char *path = request->given[at];
         struct bytes name = NO_BYTES;
-        if (is_utf_8(path, strlen(path))) {
+        if (request->is_flat) {
+            add_flat_name(&name, files, path);
+        } else if (is_utf_8(path, strlen(path))) {
             bytes_add_text(&name, path);
         } else {
             bytes_format(&name, "\x01%zu", at);
         }
-        is_good = name.failed ? out_of_memory(files) : add_file(files, &name, path);
+        is_good = name.failed ? files_without_memory(files) : add_file(files, &name, path);
         bytes_free(&name);
     }
     return is_good;
@@ -520,11 +551,11 @@ bool schema_files_collect(struct schema_files *files, const struct schema_reques
     struct collecting collecting = {files, request, NULL, 0, 0};
     memset(files, 0, sizeof *files);
     files->values = calloc(MOST_VALUES, sizeof *files->values);
-    bool is_good = files->values != NULL ? add_given(files, request) : out_of_memory(files);
+    bool is_good = files->values != NULL ? add_given(files, request) : files_without_memory(files);
     for (size_t at = 0; is_good && at < sizeof simple / sizeof *simple; at++) {
         struct bytes value = NO_BYTES;
         bytes_add_text(&value, simple[at]);
-        is_good = value.failed ? out_of_memory(files) : keep_value(files, &value);
+        is_good = value.failed ? files_without_memory(files) : keep_value(files, &value);
         bytes_free(&value);
     }
     for (size_t at = 0; is_good && at < files->count && at <= MOST_FILES; at++) {
@@ -558,7 +589,8 @@ bool schema_files_add_values(struct schema_files *files, const char *text, size_
 int64_t schema_files_column(const struct schema_files *files, const rncv_fault *fault) {
     bool has_place = fault->offset >= 0 && fault->file >= 0 && (uint64_t)fault->file < files->count;
     const struct bytes *original = has_place ? &files->list[fault->file].original : NULL;
-    return original == NULL || original->length == 0 ? fault->column : (int64_t)place_of(original, (size_t)fault->offset).column;
+    bool is_blanked = original != NULL && original->length > 0;
+    return is_blanked ? (int64_t)place_at(original->data, original->length, NULL, (size_t)fault->offset).column : fault->column;
 }
 
 int32_t schema_files_compile(const struct schema_files *files, rncv_schema *schema, rncv_fault *fault) {
@@ -593,6 +625,7 @@ void schema_files_free(struct schema_files *files) {
         bytes_free(&files->list[at].path);
         bytes_free(&files->list[at].content);
         bytes_free(&files->list[at].original);
+        origins_free(&files->list[at].origins);
     }
     for (size_t at = 0; at < files->value_count; at++) {
         free(files->values[at]);
@@ -604,5 +637,6 @@ void schema_files_free(struct schema_files *files) {
     bytes_free(&files->missing.sought);
     bytes_free(&files->problem);
     bytes_free(&files->problem_path);
+    bytes_free(&files->notes);
     memset(files, 0, sizeof *files);
 }

@@ -2,16 +2,18 @@
 #ifndef SCHEMA_FILES_H
 #define SCHEMA_FILES_H
 
-#include "bytes.h"
-#include "fault.h"
+#include "catalogs.h"
+#include "origins.h"
 
 #include <rncv.h>
 
 struct schema_file {
     struct bytes name;    /* under which the library gets it */
     struct bytes path;    /* where it is, and the name that people see */
-    struct bytes content; /* as the library gets it: with blanks for the annotations that it does not have */
-    struct bytes original; /* as it is in the file, if that is another text */
+    /* What the library gets: with blanks for the annotations that it does not have; of a file in the XML syntax, what was written in the compact one. */
+    struct bytes content;
+    struct bytes original;  /* the file in the compact syntax as it is, if that is another text */
+    struct origins origins; /* of the content, if it was written of a file in the XML syntax */
 };
 
 /* The text as it is in the file. */
@@ -40,7 +42,9 @@ struct schema_files {
     struct missing missing; /* the first one, in the order in which the library needs files */
     struct bytes problem;   /* why no schema can be made from the files: a line without the program's name */
     struct bytes problem_path; /* the file that the problem is about; empty: it is not about one file */
+    struct place problem_place; /* in that file; line 0: none */
     int problem_status;     /* the exit status for that */
+    struct bytes notes;     /* lines about what is not read of files in the XML syntax, without the program's name */
     char **values;          /* literals of the files, as values of attributes in the PYX */
     size_t value_count;
     unsigned long long loosened;  /* how many datatypes were loosened in the files, as rncv-profile says in them */
@@ -55,6 +59,8 @@ struct schema_request {
     const struct mapping *mappings;
     size_t mapping_count;
     const char *later; /* a later word that has the name of a schema; NULL: there is none */
+    const struct catalogs *catalogs; /* for URIs that would have to be fetched; NULL: none */
+    bool is_flat;      /* files in the XML syntax get plain names that end in `.rnc`, and others may mention none */
 };
 
 /* False: `problem` says why. */

@@ -60,20 +60,16 @@ void add_title(struct hinting *hinting, uint32_t node) {
         add_part(hinting, here->other);
         bytes_add_text(&hinting->text, "'");
     } else if (here->kind == NODE_ELEMENT || here->kind == NODE_ATTRIBUTE || here->kind == NODE_REF || here->kind == NODE_DATA) {
-        add_part(hinting, here->text);
+        size_t quote = here->text.length > 0 && here->text.data[0] == '\\'; /* of a quoted identifier */
+        add_part(hinting, (struct span){here->text.data + quote, here->text.length - quote});
     }
 }
 
 /* The line and the column of an offset in a file. */
 static void find_place(const struct schema_hint_file *file, size_t at, struct schema_hint *hint) {
-    hint->line = 1;
-    hint->column = 1;
-    for (size_t byte = 0; byte < at && byte < file->length; byte++) {
-        char here = file->bytes[byte];
-        bool ends = here == '\n' || (here == '\r' && (byte + 1 >= file->length || file->bytes[byte + 1] != '\n'));
-        hint->line += ends;
-        hint->column = ends ? 1 : hint->column + (((unsigned char)here & 0xC0) != 0x80);
-    }
+    struct place place = place_at(file->bytes, file->length, file->origins, at);
+    hint->line = place.line;
+    hint->column = place.column;
 }
 
 static void add_shown_file(struct hinting *hinting, uint32_t file) {

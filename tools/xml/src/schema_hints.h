@@ -1,9 +1,11 @@
 /* Hints: where a schema most likely breaks a clause, and by what. The proved library reports the clause; a hint is a guess outside the proof.
  *
- * The interface is plain, so that a library and Python can use it: arrays of files, and a structure of fixed size. It needs schema_tree, schema_grammars,
- * schema_annotations, schema_tokens, paths and bytes, and nothing of the library. It keeps nothing, and any thread may call it. */
+ * The interface is plain, so that a library and Python can use it: arrays of files, and a structure of fixed size. It needs origins, xml_names, schema_tree,
+ * schema_grammars, schema_annotations, schema_tokens, paths and bytes, and nothing of the library. It keeps nothing, and any thread may call it. */
 #ifndef SCHEMA_HINTS_H
 #define SCHEMA_HINTS_H
+
+#include "origins.h"
 
 #include <stddef.h>
 #include <stdint.h>
@@ -14,14 +16,15 @@ extern "C" {
 
 enum { SCHEMA_HINT_BYTES = 512 };
 
-/* A file of a schema as it is written, with its annotations. `include` and `external` mention it by `name`, byte for byte. Only `shown` may be NULL, and
- * `bytes` if the length is 0. */
+/* A file of a schema as it is written, with its annotations. `include` and `external` mention it by `name`, byte for byte. Only `shown` and `origins` may be
+ * NULL, and `bytes` if the length is 0. */
 struct schema_hint_file {
     const char *name;
     size_t name_length;
     const char *bytes;
     size_t length;
     const char *shown; /* its name for people, which ends in a zero; NULL: `name` */
+    const struct origins *origins; /* from which places of another file the bytes come; NULL: the file is itself */
 };
 
 struct schema_hint {

@@ -24,14 +24,6 @@ static uint32_t parse_pattern(struct parser *parser);
 static uint32_t parse_class(struct parser *parser);
 static uint32_t parse_content(struct parser *parser);
 
-bool span_is(struct span span, const char *text) {
-    return span.length == strlen(text) && (span.length == 0 || memcmp(span.data, text, span.length) == 0);
-}
-
-bool span_equal(struct span one, struct span other) {
-    return one.length == other.length && (one.length == 0 || memcmp(one.data, other.data, one.length) == 0);
-}
-
 bool tree_step(struct tree *tree, uint64_t steps) {
     if (tree->failed || tree->steps < steps) {
         tree->failed = true;

@@ -4,6 +4,7 @@
 
 #include "schema_hints.h"
 #include "schema_tokens.h"
+#include "xml_names.h"
 
 enum { MOST_TREE_FILES = 64 };
 
@@ -141,8 +142,6 @@ uint32_t tree_find(struct tree *tree, const struct key *key);
 /* The number of a uri. The one of the empty uri is 0. */
 uint32_t tree_uri(struct tree *tree, struct span uri);
 uint32_t tree_file_of(struct tree *tree, struct span name);
-bool span_is(struct span span, const char *text);
-bool span_equal(struct span one, struct span other);
 
 /* Makes room for one more item in an array. False: no memory, or more than `most`. */
 bool array_grow(struct tree *tree, void **items, uint32_t count, uint32_t *capacity, size_t size);

@@ -68,36 +68,6 @@ void judge_names(struct hinting *hinting, struct spot spot) {
     }
 }
 
-/* The code point that begins here, and its bytes. */
-static uint32_t code_point(struct span text, size_t at, size_t *size) {
-    unsigned char lead = (unsigned char)text.data[at];
-    *size = lead < 0x80 ? 1 : lead < 0xE0 ? 2 : lead < 0xF0 ? 3 : 4;
-    uint32_t code = lead < 0x80 ? lead : lead < 0xE0 ? lead & 0x1Fu : lead < 0xF0 ? lead & 0xFu : lead & 7u;
-    for (size_t byte = 1; byte < *size && at + byte < text.length; byte++) {
-        code = code << 6 | ((unsigned char)text.data[at + byte] & 0x3Fu);
-    }
-    return code;
-}
-
-/* Whether a character is in names; which = 0: at their beginning. */
-static bool is_name_character(uint32_t code, bool is_first) {
-    static const uint32_t first[][2] = {{'A', 'Z'}, {'_', '_'}, {'a', 'z'}, {0xC0, 0xD6}, {0xD8, 0xF6}, {0xF8, 0x2FF}, {0x370, 0x37D}, {0x37F, 0x1FFF},
-                                        {0x200C, 0x200D}, {0x2070, 0x218F}, {0x2C00, 0x2FEF}, {0x3001, 0xD7FF}, {0xF900, 0xFDCF}, {0xFDF0, 0xFFFD},
-                                        {0x10000, 0xEFFFF}};
-    static const uint32_t later[][2] = {{'-', '.'}, {'0', '9'}, {0xB7, 0xB7}, {0x300, 0x36F}, {0x203F, 0x2040}};
-    for (size_t at = 0; at < sizeof first / sizeof *first; at++) {
-        if (code >= first[at][0] && code <= first[at][1]) {
-            return true;
-        }
-    }
-    for (size_t at = 0; at < sizeof later / sizeof *later && !is_first; at++) {
-        if (code >= later[at][0] && code <= later[at][1]) {
-            return true;
-        }
-    }
-    return false;
-}
-
 /* Whether the text is an NCName, or with colons anywhere an NMTOKEN. */
 static bool is_name_text(struct span text, bool is_nmtoken) {
     size_t size = 1;
@@ -108,21 +78,6 @@ static bool is_name_text(struct span text, bool is_nmtoken) {
         }
     }
     return text.length > 0;
-}
-
-static bool is_blank(char byte) {
-    return byte == ' ' || byte == '\t' || byte == '\n' || byte == '\r';
-}
-
-/* The text without blanks at its ends. A blank inside is no character of what is compared here. */
-static struct span trimmed(struct span text) {
-    while (text.length > 0 && is_blank(text.data[0])) {
-        text = (struct span){text.data + 1, text.length - 1};
-    }
-    while (text.length > 0 && is_blank(text.data[text.length - 1])) {
-        text.length--;
-    }
-    return text;
 }
 
 static bool is_digits(struct span text, size_t most, bool has_sign) {
@@ -136,7 +91,7 @@ static bool is_digits(struct span text, size_t most, bool has_sign) {
 }
 
 static bool allows(struct span type, struct span value) {
-    struct span text = trimmed(value);
+    struct span text = without_blanks(value);
     if (span_is(type, "boolean")) {
         return span_is(text, "true") || span_is(text, "false") || span_is(text, "1") || span_is(text, "0");
     }

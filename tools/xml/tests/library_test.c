@@ -321,6 +321,32 @@ static void annotations(rncv_xml_judge *judge) {
     judge_row(judge, &rows[0]);
 }
 
+/* Schemas in the XML syntax: faults are told at their elements. */
+static void xml_schemas(rncv_xml_judge *judge) {
+    static const char begin[] = "<element name='a' xmlns='http://relaxng.org/ns/structure/1.0'>\n";
+    char text[512];
+    rncv_xml_fault fault = RNCV_XML_NO_FAULT;
+    rncv_xml_answer answer;
+    snprintf(text, sizeof text, "%s  <txt/></element>", begin);
+    write_file("s.rng", text);
+    CHECK(rncv_xml_judge_open("s.rng", NULL, 0, judge, &fault) == RNCV_REFUSED && fault.clause == 0 && fault.line == 2 && fault.column == 3);
+    CHECK(strcmp(fault.path, "s.rng") == 0 && strcmp(fault.message, "<txt> is no element of RELAX NG") == 0);
+    snprintf(text, sizeof text, "%s  <ref name='none'/></element>", begin);
+    write_file("s.rng", text);
+    CHECK(rncv_xml_judge_open("s.rng", NULL, 0, judge, &fault) == RNCV_REFUSED && fault.clause == 15 && fault.line == 2 && fault.column == 3);
+    CHECK(strstr(fault.message, ": hint: none is not defined") != NULL);
+    snprintf(text, sizeof text, "%s<externalRef href='lost.rng'/></element>", begin);
+    write_file("s.rng", text);
+    CHECK(rncv_xml_judge_open("s.rng", NULL, 0, judge, &fault) == RNCV_REFUSED && fault.clause == 1 && strcmp(fault.missing, "lost.rng") == 0);
+    CHECK(fault.line == 2 && fault.column == 1);
+    snprintf(text, sizeof text, "%s<empty/></element>", begin);
+    write_file("s.rng", text);
+    CHECK(rncv_xml_judge_open("s.rng", NULL, 0, judge, &fault) == RNCV_DONE);
+    CHECK(rncv_xml_judge_bytes(judge, "<a/>", 4, &answer) == RNCV_DONE && answer.verdict == RNCV_XML_VALID);
+    CHECK(rncv_xml_judge_bytes(judge, "<b/>", 4, &answer) == RNCV_DONE && answer.verdict == RNCV_XML_INVALID);
+    rncv_xml_fault_free(&fault);
+}
+
 /* The next of the numbers that are the same in each run. */
 static unsigned chance(unsigned *state, unsigned below) {
     *state = *state * 1103515245u + 12345u;
@@ -483,6 +509,7 @@ int main(int count, char **words) {
     refused_schemas(&judge);
     hints(&judge);
     annotations(&judge);
+    xml_schemas(&judge);
     odd_calls();
     rncv_xml_judge_free(&judge);
     rncv_xml_fault_free(&fault);
