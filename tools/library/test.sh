@@ -49,6 +49,8 @@ for backend in ${BACKENDS:-llvm rattle}; do
         wraps=
         if grep -q __wrap_malloc "$source"; then
             wraps="-Wl,--wrap=malloc,--wrap=realloc"
+        elif grep -q __wrap_free "$source"; then
+            wraps="-Wl,--wrap=realloc,--wrap=free"
         fi
         $cc $warnings -O2 -I"$build/include" $wraps -o "$build/tests/$name" "$source" "$build/lib/librncv.a" -lpthread
         run "$build/tests/$name"
