@@ -1,6 +1,7 @@
 #include "schema_annotations.h"
 
 #include "schema_tokens.h"
+#include "xml_names.h"
 
 #include <string.h>
 
@@ -118,14 +119,23 @@ static bool begins_element(struct reader *reader) {
     return is_name(&reader->window[0]) && is_sign(&reader->window[1], '[');
 }
 
+/* Whether the next token is a name by Namespaces in XML. The tokens take more characters, and elsewhere the library refuses these. */
+static bool is_xml_name(struct reader *reader) {
+    size_t colon;
+    return is_qname(now(reader)->text, &colon);
+}
+
 /* One part of an annotation element: an attribute, an element's beginning or end, or a text. Attributes come first. */
 static void take_part(struct reader *reader, size_t *depth, bool *may_be_attribute) {
-    if (begins_element(reader)) {
+    bool is_attribute = *may_be_attribute && is_name(now(reader)) && is_sign(&reader->window[1], '=');
+    if ((begins_element(reader) || is_attribute) && !is_xml_name(reader)) {
+        end_here(reader);
+    } else if (begins_element(reader)) {
         advance(reader);
         advance(reader);
         ++*depth;
         *may_be_attribute = true;
-    } else if (*may_be_attribute && is_name(now(reader)) && is_sign(&reader->window[1], '=')) {
+    } else if (is_attribute) {
         advance(reader);
         advance(reader);
         take_literal(reader);

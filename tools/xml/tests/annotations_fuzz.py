@@ -19,7 +19,7 @@ import time
 
 from hints_fuzz import HERE, TOKEN, WORDS, Bench, begin, mutant, schemas, writing, written
 
-SOURCES = [HERE.parent / "src" / f"{name}.c" for name in ("schema_annotations", "schema_tokens", "paths", "bytes")]
+SOURCES = [HERE.parent / "src" / f"{name}.c" for name in ("schema_annotations", "schema_tokens", "xml_names", "paths", "bytes")]
 ELEMENTS = ["a:b [ ]", "b []", "a:b [ c = 'd' ]", "\\b [ a:c = \"\u00e9\" ~ 'x' 'text' ~ '' d [ element [ e = '1' ] ] '[' ]", "a:b [\r\n# ]\n'\u20ac' ]",
             "a:b\\x{20}\\x{5B} \"\"\"]\n\"\"\" ]"]
 NOT_ELEMENTS = [">> a:b", "a:b [", "]", "[ ]", ">>", "a:b [ c d ]", "a:b [ 'c' d = 'e' ]", "> > a:b [ ]", "\x01", "\\x{1}", "\\x{0}", "a:* [ ]"]

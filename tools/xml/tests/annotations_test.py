@@ -75,6 +75,9 @@ BAD = (
     ("element x { text >> a:b [ ] text }", 29),
     ("element x { text >> a:b [ ] ?? }", 30),
     ("a:\u00fc [ '\u00e4' ] start = element x { empty ( }", 39),
+    ("a:b\u00d7 [ ] start = element x { empty }", 1),
+    ("a:b [ \u00b7 [ ] ] start = element x { empty }", 7),
+    ("element x { empty >> a:b [ a:\u037e = '' ] }", 28),
 )
 PREFIX = 'namespace a = "http://example.org/a"\n'
 TOKENS = "a:b [ ] >> 'c' = { } ( ) x start | , & ? * - + element empty div grammar xsd:integer ~ include inherit".split()

@@ -24,7 +24,8 @@ HERE = pathlib.Path(__file__).resolve().parent
 TOP = HERE.parents[2]
 LIBRARY = pathlib.Path(os.environ.get("RNCV_LIBRARY", TOP / "build/library")) / "lib/librncv.so"
 SOURCES = [HERE.parent / "src" / f"{name}.c" for name in (
-    "schema_hints", "schema_restrictions", "schema_words", "schema_grammars", "schema_tree", "schema_annotations", "schema_tokens", "paths", "bytes")]
+    "schema_hints", "schema_restrictions", "schema_words", "schema_grammars", "schema_tree", "schema_annotations", "schema_tokens", "xml_names",
+    "origins", "paths", "bytes")]
 # What finds out how a file is written needs the parser of XML. It is not called here.
 STUBS = """
 #include "conversion.h"
@@ -44,7 +45,7 @@ import writing  # noqa: E402
 
 class File(ctypes.Structure):
     _fields_ = [("name", ctypes.c_char_p), ("name_length", ctypes.c_size_t), ("bytes", ctypes.c_char_p), ("length", ctypes.c_size_t),
-                ("shown", ctypes.c_char_p)]
+                ("shown", ctypes.c_char_p), ("origins", ctypes.c_void_p)]
 
 
 class Hint(ctypes.Structure):
