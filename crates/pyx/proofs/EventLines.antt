@@ -187,7 +187,12 @@ cut_read all n le = subst (AreCut all n) (sym whole) (go (all_read (take n all) 
         behind = between_wider (all_read (drop n all) t).1 (omega (arith, counted, long)) (omega (arith, counted, long, sizes, both))
             (all_between (drop n all) t);
       }
-  go (Err f) es is = record { later = []; parts = sym (ap (λ x. x.1) is) ∙ sym (append-nil (all_read (take n all) nothing_read).1); in_time = in_time; behind = tt }
+  go (Err f) es is = record {
+    later = [];
+    parts = sym (ap (λ x. x.1) is) ∙ sym (append-nil (all_read (take n all) nothing_read).1);
+    in_time = in_time;
+    behind = tt;
+  }
 
 -- these are the events that are handed out when the bytes are read, whether or not they are a document
 abbrev pub AreReported : List ℕ → List Event → Type 0
@@ -212,7 +217,11 @@ after n m (e ∷ es) h = (h.0.0, after n m es h.1)
 pub parted_at : (bytes : List ℕ) (events : List Event) (n : ℕ) → AreReported bytes events → n ≤ length (lines bytes) → AreParted bytes n events
 parted_at bytes events n is le =
     let cut = cut_at bytes events n is le in
-    record { later = cut.later; parts = cut.parts; behind = All-from_recursion (λ e. n < e.line) cut.later (after n (length (lines bytes)) cut.later cut.behind) }
+    record {
+      later = cut.later;
+      parts = cut.parts;
+      behind = All-from_recursion (λ e. n < e.line) cut.later (after n (length (lines bytes)) cut.later cut.behind);
+    }
 
 -- if the first n members are the same, and one list has at least n members, so has the other
 pub as_long : (n : ℕ) (xs ys : List Line) → take n xs ≡ take n ys → n ≤ length ys → n ≤ length xs

@@ -1,5 +1,5 @@
 -- The lines of bytes that were fed, and the documents with the same first lines.
-use Rattle.std.proofs.Common.{◌≡◌, ℕ, zero, suc, ◌+◌, ◌≤◌, ◌<◌, Bool, true, false, cond, eqb, List, [], ◌∷◌, ◌++◌, All, length, take, None, Result, Ok, Err}
+use Rattle.std.proofs.Common.{◌≡◌, ℕ, zero, suc, ◌≤◌, ◌<◌, Bool, true, false, eqb, List, [], ◌∷◌, ◌++◌, All, length, take, None, Result, Ok, Err}
 use Rattle.std.proofs.Common.{refl, ap, sym, ◌∙◌, subst, arith, append_assoc, ◌⊎◌, inl, inr}
 use Rattle.std.proofs.lemmas.List.{append-nil}
 use Rattle.std.proofs.lemmas.List.Elements.{All-append, All-cons, All-head, All-nil, All-tail, All-weaker}
@@ -11,7 +11,7 @@ use Rattle.pyx.specs.plain.Pieces.{Progress, ended_line, finished, nothing_fed, 
 use Rattle.pyx.specs.views.ReaderAfterPiece.{Kept, Stands}
 use Rattle.pyx.proofs.EventLines.{AreReported, as_long, parted_at, reported_front, reported_line, reported_of}
 use Rattle.pyx.proofs.LineTurns.{followed_twice, read_append}
-use Rattle.pyx.proofs.LinesOfPieces.{at_nil, byte_feed, byte_full, byte_within, dichotomy, fails_first, grown, length-push, long_fails, read_cons, read_nil}
+use Rattle.pyx.proofs.LinesOfPieces.{at_nil, byte_feed, byte_full, byte_within, dichotomy, fails_first, grown, length-push, long_fails, read_cons}
 use Rattle.pyx.proofs.ReaderAfterPiece.{at_fault}
 use Rattle.pyx.proofs.WholeBytes.{NoFeed, in_pieces, lines_ended, lines_nil, lines_open, push_no_feed}
 
@@ -83,7 +83,8 @@ ok_err e = cc
 full_fails : (c : ℕ) (cs : List ℕ) (p q : Progress) (es : List Event) → eqb c 10 ≡ false → line_limit ≤ length p.begun → read (c ∷ cs) p ≡ (Ok q, es) → ⊥
 full_fails c cs p q es e full r =
     let big : line_limit < length (p.begun ++ c ∷ []) = omega (arith, full, length-push p.begun c) in
-    let bad = fails_first _ (read cs) (fails_first _ (λ s. silent (with_begun (p.begun ++ c ∷ []) s)) (long_fails (open_line (p.begun ++ c ∷ [])) p.state big)) in
+    let bad = fails_first _ (read cs) (fails_first _ (λ s. silent (with_begun (p.begun ++ c ∷ []) s))
+    (long_fails (open_line (p.begun ++ c ∷ [])) p.state big)) in
     let is = read_cons c cs p ∙ ap (λ (t : Turn Progress). followed t (read cs)) (byte_full c p e full) in
     ok_err (sym (ap (λ (t : Turn Progress). t.0) (sym is ∙ r)) ∙ bad.is)
 

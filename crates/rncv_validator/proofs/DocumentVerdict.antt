@@ -1,10 +1,10 @@
 -- The verdict on a document is unique, except for the line of an invalid document. It depends only on which documents
 -- are valid.
-use Rattle.std.proofs.Common.{◌≡◌, ◌↔◌, ◌≤◌, ℕ, zero, suc, List, [], ◌∷◌, Result, Ok, Err, All, length, take}
+use Rattle.std.proofs.Common.{◌≡◌, ◌↔◌, ◌≤◌, ℕ, List, ◌∷◌, Result, Ok, Err, All, length}
 use Rattle.std.proofs.Common.{sym, ap, subst, refl, ap₂, ◌∙◌, arith, inl, inr}
 use Rattle.std.proofs.lemmas.List.Elements.{All-append, All-cons, All-weaker}
 use Rattle.rng_model.specs.matching.Document.{Item}
-use Rattle.rng_model.specs.documents.Lines.{Line, lines}
+use Rattle.rng_model.specs.documents.Lines.{lines}
 use Rattle.rng_model.specs.names.Names.{Name}
 use Rattle.rng_model.specs.documents.PyxClauses.{Breaks}
 use Rattle.rng_model.specs.documents.PyxFaults.{Fault, IsBefore}
@@ -18,7 +18,7 @@ use Rattle.rng_model.specs.datatypes.Texts.{texts_of}
 use Rattle.pyx.specs.plain.DocumentReader.{Turn, State, document_read}
 use Rattle.pyx.proofs.DocumentComplete.{complete}
 use Rattle.pyx.proofs.DocumentLeast.{at_most}
-use Rattle.pyx.proofs.EventLines.{event_line, lines_rise, same_front}
+use Rattle.pyx.proofs.EventLines.{as_long, event_line, lines_rise, same_front}
 use Rattle.rncv_validator.specs.plain.Judging.{IsUnknownTo, verdict_of}
 use Rattle.rncv_model.specs.answers.Verdict.{IsVerdict, IsInvalidFrom, CannotBeValid, StartsUnknown, AreSameVerdict}
 use Rattle.rncv_model.specs.declared.verdict.Verdict.{Verdict}
@@ -58,17 +58,6 @@ module _ (IsValid : Item → Type 0) (IsUnknown : Name → Type 0) (bytes : List
   one_verdict (Invalid m) (Invalid n) p q = (n, refl)
 
 -- ---- the verdict of an outcome
-
--- if the first n members are the same, and one list has at least n members, so has the other
-as_long : (n : ℕ) (xs ys : List Line) → take n xs ≡ take n ys → n ≤ length ys → n ≤ length xs
-as_long zero xs ys e le = omega arith
-as_long (suc n) [] [] e le = le
-as_long (suc n) [] (y ∷ ys) e le = absurd (cc)
-as_long (suc n) (x ∷ xs) [] e le = absurd (omega (arith, le))
-as_long (suc n) (x ∷ xs) (y ∷ ys) e le =
-    let rest : take n xs ≡ take n ys = cc in
-    let more = as_long n xs ys rest (omega (arith, le)) in
-    omega (arith, more)
 
 module _ (g : Reading) (bytes : List ℕ) (d : Placed) (is : IsPyxDocument bytes d) where
   abbrev IsValid : Item → Type 0

@@ -1,6 +1,7 @@
 -- What is known of the bytes that were fed, and of the verdict on the document.
-use Rattle.std.proofs.Common.{◌≡◌, ◌⊎◌, inl, inr, ℕ, List, [], ◌∷◌, ◌++◌, All, Option, Some, None, Result, Ok, Err, IfOk, IfSome, refl, ap, sym, subst, ◌∙◌, append_assoc}
+use Rattle.std.proofs.Common.{◌≡◌, ◌<◌, ◌⊎◌, inl, inr, ℕ, List, [], ◌++◌, All, Option, Some, None, Result, Ok, Err, IfOk, IfSome, refl, ap, sym, subst, ◌∙◌}
 use Rattle.std.proofs.lemmas.List.{append-nil}
+use Rattle.std.proofs.lemmas.List.Elements.{All-weaker}
 use Rattle.rng_model.specs.documents.Lines.{lines}
 use Rattle.rng_model.specs.datatypes.DatatypeTests.{text_tests}
 use Rattle.rng_model.specs.datatypes.Texts.{texts_of}
@@ -12,8 +13,7 @@ use Rattle.rng_model.specs.declared.pyx_fault.PyxFault.TheVariants as pyx
 use Rattle.rng_model.specs.documents.Documents.{IsTheDocument}
 use Rattle.rng_model.specs.documents.Handing.{Hands}
 use Rattle.rng_model.specs.documents.PyxClauses.{IsFirstFault}
-use Rattle.rng_model.specs.documents.PyxFaults.{Fault}
-use Rattle.rng_model.specs.documents.PyxTrees.{Event, Placed, IsPyxDocument, events_of, item_of}
+use Rattle.rng_model.specs.documents.PyxTrees.{Event, EventKind, a_start, a_string, an_end, Placed, IsPyxDocument, events_of, item_of}
 use Rattle.rng_model.specs.matching.GrammarReading.{reading_of}
 use Rattle.rng_model.specs.matching.Outcomes.{FailsAt, IsOutcome, KnowsName}
 use Rattle.rng_model.specs.matching.SchemaMatching.{IsValidBySchema}
@@ -21,18 +21,14 @@ use Rattle.rng_model.specs.schema.Schema.{Schema}
 use Rattle.rng_model.specs.simple.Table.{IsValidBy, Table, grammar_of}
 use Rattle.rncv_model.specs.answers.Compiled.{IsVerdictOn}
 use Rattle.rncv_model.specs.answers.Run.{IsUnknownIn}
-use Rattle.rncv_model.specs.answers.Verdict.{IsMalformed, IsValidDocument, IsVerdict}
+use Rattle.rncv_model.specs.answers.Verdict.{IsMalformed, IsVerdict, StartsUnknown}
 use Rattle.rncv_model.specs.declared.verdict.Verdict.{Verdict}
 use Rattle.rncv_model.specs.declared.verdict.Verdict.TheVariants.{Malformed, Invalid}
-use Rattle.pyx.specs.plain.DocumentReader.{Turn, document_read, followed, go_on}
-use Rattle.pyx.specs.plain.Pieces.{finished, nothing_fed, read}
 use Rattle.pyx.specs.views.Calls as calls
-use Rattle.pyx.specs.views.ReaderAfterPiece.{Kept, Stands}
-use Rattle.pyx.proofs.DocumentComplete.{complete}
-use Rattle.pyx.proofs.LineTurns.{read_append}
+use Rattle.pyx.specs.views.ReaderAfterPiece.{Kept}
+use Rattle.pyx.proofs.FedLines.{ended_events, fed_front, fed_line}
 use Rattle.pyx.proofs.ReaderAfterPiece.{fed_stuck}
 use Rattle.pyx.proofs.ReaderOutcome.{is_fault_after}
-use Rattle.pyx.proofs.WholeBytes.{in_pieces}
 use Rattle.rng_deriv.specs.declared.matcher_state.MatcherState.{MatcherState}
 use Rattle.rng_event_matcher.specs.declared.progress.Progress.{Progress}
 use Rattle.rng_event_matcher.specs.declared.progress.Progress.TheVariants as progress
@@ -42,32 +38,10 @@ use Rattle.rng_deriv.specs.views.Matchers.{HasFailedAt, HasGoneOn, HasRunOut, Is
 use Rattle.rncv_validator.specs.plain.Judging.{IsUnknownTo, verdict_of}
 use Rattle.rncv_validator.specs.declared.fault.DocumentFault.{DocumentFault}
 use Rattle.rncv_validator.specs.declared.fault.DocumentFault.TheVariants as faults
-use Rattle.rncv_validator.specs.views.Documents.{HasBeenFed, HasNotRunOut, IsFaultOfFed, IsFaultOfReader, IsKeptFault, Judging, KnowsAllNames, UnlessMemory, failed_since, matching_of, told_by, verdict_by}
+use Rattle.rncv_validator.specs.views.Documents.{HasBeenFed, HasNotRunOut, HaveEnded, IsFaultOfFed, IsFaultOfReader, IsHopelessFrom, IsKeptFault, IsReaderFault, Judging, KnowsStarts, UnlessMemory, failed_since, matching_of, told_by, verdict_by}
 use Rattle.rncv_validator.specs.views.Validators.{Judges}
 use Rattle.rncv_validator.proofs.DocumentVerdict.{one_verdict, outcome_verdict, same_verdict}
 use Rattle.rncv_validator.proofs.UnknownNames.{unknown_to_grammar}
-
--- ---- the events of a beginning of a document
-
--- what comes next adds to the events
-followed_begins : {A B : Type 0} (t : Turn A) (f : A → Turn B) → (more : List Event) × ((followed t f).1 ≡ t.1 ++ more)
-followed_begins {A = A} {B = B} t f = by_result t.0 t.1 where
-  by_result : (r : Result A Fault) (es : List Event) → (more : List Event) × ((go_on r es f).1 ≡ es ++ more)
-  by_result (Ok s) es = ((f s).1, refl)
-  by_result (Err e) es = ([], sym (append-nil es))
-
--- the events of a document that begins with the bytes that were read begin with those that were reported
-pub events_begin : (k : Kept) (bytes rest : List ℕ) (es : List Event) (d : Placed) → Stands k bytes es → IsPyxDocument (bytes ++ rest) d
-    → (more : List Event) × (events_of d ≡ es ++ more)
-events_begin k bytes rest es d stands is =
-    let first = read bytes nothing_fed in
-    let both = followed first (read rest) in
-    let whole : document_read (lines (bytes ++ rest)) ≡ followed both finished = in_pieces (bytes ++ rest)
-    ∙ ap (λ t. followed t finished) (read_append bytes rest nothing_fed) in
-    let b = followed_begins first (read rest) in
-    let c = followed_begins both finished in
-    let told : events_of d ≡ (followed both finished).1 = sym (ap (λ t. t.1) (complete (bytes ++ rest) d is).is) ∙ ap (λ t. t.1) whole in
-    (b.0 ++ c.0, told ∙ c.1 ∙ ap (λ xs. xs ++ c.0) b.1 ∙ append_assoc first.1 b.0 c.0 ∙ ap (λ xs. xs ++ (b.0 ++ c.0)) stands.events)
 
 -- ---- the verdict
 
@@ -192,7 +166,7 @@ module _ (g now : Table) (s kept : MatcherState) (old new : Matching) (same : no
     pub grammar_put : (matching_of g place).grammar ≡ g
     grammar_put = ap (λ o. (matching_of g o).grammar) put
 
-    pub fault_put : (k : Kept) (f : Option DocumentFault) → IfSome f (IsFaultOfReader k) → IsKeptFault k place f
+    pub fault_put : (k : Kept) (f : Option DocumentFault) → IsReaderFault k f → IsKeptFault k place f
     fault_put k f is = subst (λ o. IsKeptFault k o f) (sym put) is
 
 -- a reader that has a fault stays unchanged
@@ -213,25 +187,30 @@ fault_of_fed d (faults.Malformed clause line) of = λ bytes rest fed.
 
 -- ---- the line after which no continuation is valid
 
--- no document that begins with the bytes is valid
-pub none_begins : (d : Judging) (line : ℕ) (s : Schema) (bytes rest : List ℕ) → failed_since d ≡ Some line → Judges d.grammar s → HasBeenFed d bytes
-    → ¬ (IsValidDocument (IsValidBySchema s) (bytes ++ rest))
-none_begins d line s bytes rest f judges fed valid =
+-- it is one of the lines that were fed, and no document with the same lines up to it is valid
+pub hopeless_from : (d : Judging) (line : ℕ) (s : Schema) (bytes : List ℕ) → failed_since d ≡ Some line → Judges d.grammar s → HasBeenFed d bytes
+    → IsHopelessFrom (IsValidBySchema s) bytes line
+hopeless_from d line s bytes f judges fed =
     let m = d.matching in
     let fails : FailsAt (judges_by m) fed.events line = subst (λ p. IsKnown (judges_by m) (trees m.grammar m.patterns) p fed.events)
     (failed_at m.progress line f) fed.knows in
     let e : Event = record { line = line; kind = fails.kind } in
-    let t = valid.0 in
-    let begins = events_begin d.reader bytes rest fed.events t fed.reads valid.1 in
-    let parts : events_of t ≡ (fails.before ++ e ∷ []) ++ (fails.behind ++ begins.0) = begins.1 ∙ ap (λ (l : List Event). l ++ begins.0) fails.parts
-    ∙ append_assoc fails.before (e ∷ fails.behind) begins.0 ∙ sym (append_assoc fails.before (e ∷ []) (fails.behind ++ begins.0)) in
-    let by_grammar = (judges.documents (item_of t)).1 valid.2 in
-    fails.cannot (fails.behind ++ begins.0) (bytes ++ rest) t valid.1 parts
-    (subst (λ (g : Table). IsValidBy (grammar_of g) (texts_of text_tests) (item_of t)) (sym fed.by_grammar) by_grammar)
+    let at = fed_line d.reader bytes fed.events fed.reads fails.before e fails.behind fails.parts in
+    record {
+      not_before = at.0;
+      within = at.1;
+      cannot = λ rest other same valid.
+          let t = valid.0 in
+          let begins = fed_front d.reader bytes fed.events fed.reads fails.before e fails.behind fails.parts rest other t valid.1 same in
+          let by_grammar = (judges.documents (item_of t)).1 valid.2 in
+          fails.cannot begins.0 other t valid.1 begins.1
+          (subst (λ (g : Table). IsValidBy (grammar_of g) (texts_of text_tests) (item_of t)) (sym fed.by_grammar) by_grammar);
+    }
 
 -- where none is known and memory was there, the grammar has all names of the starts
-pub names_known : (d : Judging) (bytes : List ℕ) (fed : HasBeenFed d bytes) → failed_since d ≡ None → ¬ (HasRunOut d.matching) → KnowsAllNames d bytes fed
-names_known d bytes fed none kept = subst (λ (t : Table). All (λ (e : Event). KnowsName (grammar_of t) e.kind) fed.events) fed.by_grammar
+all_known : (d : Judging) (bytes : List ℕ) (fed : HasBeenFed d bytes) → failed_since d ≡ None → ¬ (HasRunOut d.matching)
+    → All (λ (e : Event). KnowsName (grammar_of d.grammar) e.kind) fed.events
+all_known d bytes fed none kept = subst (λ (t : Table). All (λ (e : Event). KnowsName (grammar_of t) e.kind) fed.events) fed.by_grammar
     (by_progress d.matching.progress refl none)
   where
     by_progress : (p : Progress) → d.matching.progress ≡ p → failed_line p ≡ None → All (λ (e : Event). KnowsName (grammar_of d.matching.grammar) e.kind) fed.events
@@ -243,11 +222,30 @@ names_known d bytes fed none kept = subst (λ (t : Table). All (λ (e : Event). 
     by_progress (progress.Failed line) e none = absurd (cc)
     by_progress progress.Lost e none = absurd (kept e)
 
+known_start : (g : Table) (s : Schema) → Judges g s → (kind : EventKind) → KnowsName (grammar_of g) kind → StartsUnknown (IsUnknownIn s) kind → ⊥
+known_start g s judges (a_start name attrs) known unknown = known (unknown_to_grammar s (grammar_of g) judges.only name unknown)
+known_start g s judges (a_string text) known unknown = unknown
+known_start g s judges an_end known unknown = unknown
+
+-- and documents with the same ended lines have no other starts at these
+pub names_known : (d : Judging) (s : Schema) (bytes : List ℕ) (n : ℕ) → failed_since d ≡ None → ¬ (HasRunOut d.matching) → d.reader.fault ≡ None
+    → Judges d.grammar s → HasBeenFed d bytes → HaveEnded bytes n → KnowsStarts (IsUnknownIn s) bytes n
+names_known d s bytes n none kept works judges fed ended = λ other document same is.
+    ended_events d.reader bytes fed.events fed.reads works n ended.within ended.ended other document is same
+    (λ (e : Event). StartsUnknown (IsUnknownIn s) e.kind → n < e.line)
+    (All-weaker (λ (e : Event). KnowsName (grammar_of d.grammar) e.kind) (λ (e : Event). StartsUnknown (IsUnknownIn s) e.kind → n < e.line)
+    (λ e known unknown. absurd (known_start d.grammar s judges e.kind known unknown)) fed.events (all_known d bytes fed none kept))
+    (λ e late unknown. late)
+
 -- ---- what a document keeps
 
-pub if_none : (o : Option DocumentFault) (P : DocumentFault → Type 0) → o ≡ None → IfSome o P
-if_none None P e = tt
-if_none (Some f) P e = absurd (cc)
+-- if none is kept, the reader has none
+pub none_kept : (k : Kept) (f : Option DocumentFault) → f ≡ None → k.fault ≡ None → IsReaderFault k f
+none_kept k f e works = subst (IsReaderFault k) (sym e) works
+
+pub reader_works : (k : Kept) (o : Option MatcherState) (f : Option DocumentFault) → f ≡ None → IsKeptFault k o f → k.fault ≡ None
+reader_works k None f e is = absurd (cc)
+reader_works k (Some s) f e is = subst (IsReaderFault k) e is
 
 -- a fault that is kept is the reader's, or out of memory
 pub fault_there : (k : Kept) (o : Option MatcherState) (kept : Option DocumentFault) (f : DocumentFault) → kept ≡ Some f → IsKeptFault k o kept
@@ -255,7 +253,7 @@ pub fault_there : (k : Kept) (o : Option MatcherState) (kept : Option DocumentFa
 fault_there k None kept f e is = subst (IsFaultOfReader k) (same (sym is ∙ e)) tt where
   same : {a b : DocumentFault} → Some a ≡ Some b → a ≡ b
   same e = cc
-fault_there k (Some s) kept f e is = subst (λ o. IfSome o (IsFaultOfReader k)) e is
+fault_there k (Some s) kept f e is = subst (IsReaderFault k) e is
 
 -- ---- the verdict at the end
 

@@ -3,11 +3,13 @@ ghost use Rattle.std.specs.Prelude.{◌≡◌, ◌⊎◌, ◌+◌, ◌^◌, ◌<
 ghost use Rattle.std.specs.Bool.{OnTrue};
 ghost use Rattle.rng_model.specs.schema.Schema.{Schema};
 ghost use Rattle.rncv_model.specs.answers.Compiled.{IsVerdictOn};
-ghost use Rattle.rncv_model.specs.answers.Verdict.{IsMalformed, IsValidDocument};
+ghost use Rattle.rncv_model.specs.answers.Run.{IsUnknownIn};
+ghost use Rattle.rncv_model.specs.answers.Verdict.{IsMalformed};
 ghost use Rattle.rng_model.specs.matching.SchemaMatching.{IsValidBySchema};
 ghost use Rattle.rncv_model.specs.declared.verdict.Verdict.{Verdict};
 ghost use Rattle.rncv_validator.specs.views.Validators.{Judges};
-ghost use Rattle.rncv_validator.specs.views.Documents.{HasBeenFed, IsFaultOfFed, IsFaultOfReader, KnowsAllNames, UnlessMemory, failed_since, told_by, verdict_by};
+ghost use Rattle.rncv_validator.specs.views.Documents.{HasBeenFed, HaveEnded, IsFaultOfFed, IsFaultOfReader, IsHopelessFrom, KnowsStarts, UnlessMemory};
+ghost use Rattle.rncv_validator.specs.views.Documents.{failed_since, told_by, verdict_by};
 ghost use Rattle.pyx.specs.views.Calls.{Extends};
 ghost use Rattle.rng_model.specs.documents.Handing.{Hands};
 ghost use Rattle.rng_deriv.specs.views.Matchers.{HasGoneOn};
@@ -99,16 +101,19 @@ impl Document {
         }
     }
 
-    /// Returns the line after which no continuation is valid, counted from 1, once it is known. Then no document that
-    /// begins with the bytes fed so far is valid, and `finish` returns `Invalid` with this line, or `Malformed`.
+    /// Returns the line after which no continuation is valid, counted from 1, once it is known. It is one of the lines
+    /// fed so far, and no document with the same lines up to it is valid. `finish` then returns `Invalid` with this
+    /// line, or `Malformed`.
     ///
     /// The line is known once the pattern that is left matches nothing. A start tag with a name that no element of the
-    /// schema's simple form may have always makes it known. Allocates nothing.
+    /// schema's simple form may have always makes it known, at the end of the line after the tag. Allocates nothing.
+    /// RELAX NG Specification, sections 6.2 and 6.3.
     pub fn invalid_since(&self) -> Option<u64>
         ensures value { result ≡ failed_since self.now }
-        ensures hopeless { IfSome result (λ line. (s : Schema) (bytes rest : List ℕ) → Judges self.now.grammar s → HasBeenFed self.now bytes
-            → ¬ (IsValidDocument (IsValidBySchema s) (bytes ++ rest))) }
-        ensures known { result ≡ None → self.now.fault ≡ None → (bytes : List ℕ) (fed : HasBeenFed self.now bytes) → KnowsAllNames self.now bytes fed }
+        ensures hopeless { IfSome result (λ line. (s : Schema) (bytes : List ℕ) → Judges self.now.grammar s → HasBeenFed self.now bytes
+            → IsHopelessFrom (IsValidBySchema s) bytes line) }
+        ensures known { result ≡ None → self.now.fault ≡ None → (s : Schema) (bytes : List ℕ) (n : ℕ) → Judges self.now.grammar s
+            → HasBeenFed self.now bytes → HaveEnded bytes n → KnowsStarts (IsUnknownIn s) bytes n }
     {
         self.state.as_ref()?.failed_at()
     }
@@ -180,6 +185,7 @@ fn read_piece(
 ) -> Result<(), DocumentFault>
     ensures extends { UnlessMemory result (Extends (Hands HasGoneOn matcher.old matcher.new) reader.old reader.new piece.now) }
     ensures fault { IfErr result (IsFaultOfReader reader.new) }
+    ensures working { OnOk result (reader.new.fault ≡ None) }
 {
     if !has_room(reader, piece) {
         return Err(DocumentFault::Memory);

@@ -2,8 +2,9 @@
 use Rattle.std.proofs.Common.{◌≡◌, ◌∙◌, ℕ, List, [], ◌∷◌, ◌++◌, Result, Ok, Err, OnOk, append_assoc, sym, ap, subst}
 use Rattle.rng_model.specs.documents.Handing.{Hands}
 use Rattle.rng_model.specs.documents.PyxTrees.{Event}
+use Rattle.rng_model.specs.matching.GrammarReading.{reading_of}
 use Rattle.rng_event_matcher.specs.views.Basis.{Basis}
-use Rattle.rng_deriv.specs.views.Matchers.{HasFailedAt, HasGoneOn, HasRunOut, Knows, Matching}
+use Rattle.rng_deriv.specs.views.Matchers.{HasFailedAt, HasGoneOn, HasRunOut, Knows, Matching, judges_by}
 
 -- the grammar is in the basis
 pub same_grammar : {A E : Type 0} (r : Result A E) (new old : Basis) → OnOk r (new ≡ old) → OnOk r (new.grammar ≡ old.grammar)
@@ -11,6 +12,10 @@ same_grammar (Ok x) new old same = ap (λ (b : Basis). b.grammar) same
 same_grammar (Err f) new old same = tt
 
 module _ (inside m : Matching) (is : inside ≡ m) where
+  pub same_judge : {A E : Type 0} (new : Matching) (r : Result A E) → OnOk r (new.grammar ≡ inside.grammar) → OnOk r (judges_by new ≡ judges_by m)
+  same_judge new (Ok x) same = ap reading_of same ∙ ap judges_by is
+  same_judge new (Err f) same = tt
+
   pub goes_on : {A E : Type 0} (new : Matching) (e : Event) (r : Result A E) → OnOk r (new.grammar ≡ inside.grammar)
       → OnOk r ((es : List Event) → Knows inside es → Knows new (es ++ e ∷ []))
       → ((line : ℕ) → HasFailedAt inside line → OnOk r (HasFailedAt new line)) → OnOk r (¬ (HasRunOut new)) → OnOk r (Hands HasGoneOn m new (e ∷ []))

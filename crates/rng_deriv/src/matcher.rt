@@ -1,9 +1,10 @@
 // The matcher of a grammar.
-ghost use Rattle.std.specs.Prelude.{◌≡◌, ℕ, List, [], ◌∷◌, IfOk, IsErr, OnErr, OnOk};
+ghost use Rattle.std.specs.Prelude.{◌≡◌, ℕ, List, [], ◌∷◌, ◌++◌, IfOk, IsErr, OnErr, OnOk};
 ghost use Rattle.rng_model.specs.simple.Table.{grammar_of};
 ghost use Rattle.rng_model.specs.restrictions.BreaksNone.{BreaksNone};
 ghost use Rattle.rng_model.specs.documents.EventView.{event_of};
 ghost use Rattle.rng_model.specs.documents.Handing.{Hands};
+ghost use Rattle.rng_model.specs.documents.PyxTrees as trees;
 ghost use Rattle.rng_model.specs.documents.PyxTrees.{IsPyxDocument, Placed, events_of};
 ghost use Rattle.rng_model.specs.matching.GrammarReading.{reading_of};
 ghost use Rattle.rng_model.specs.matching.Outcomes.{IsOutcome};
@@ -135,6 +136,8 @@ impl Events for Matcher<'_> {
     /// much is kept, what no open element holds is freed, in one pass over all.
     fn event(&mut self, event: Event<'_>) -> Result<(), OutOfMemory>
         ensures stands { OnOk result (Hands HasGoneOn self.old self.new (event_of event.entry ∷ [])) }
+        ensures knows { OnOk result ((es : List trees.Event) → Knows self.old es → Knows self.new (es ++ event_of event.entry ∷ [])) }
+        ensures grammar { OnOk result (judges_by self.new ≡ judges_by self.old) }
         ensures kept { OnOk result (¬ (HasRunOut self.new)) }
         ensures lost { OnErr result (HasRunOut self.new) }
         ensures again { HasRunOut self.old → IsErr result }

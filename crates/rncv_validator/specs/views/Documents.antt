@@ -1,10 +1,11 @@
 -- What a document represents after each piece.
-use Rattle.std.specs.Prelude.{◌≡◌, ℕ, List, [], ◌++◌, All, Option, Some, None, Result, Ok, Err, IfSome}
-use Rattle.rng_model.specs.simple.Table.{Table, grammar_of}
-use Rattle.rng_model.specs.matching.Outcomes.{KnowsName}
+use Rattle.std.specs.Prelude.{◌≡◌, ◌≤◌, ◌<◌, ℕ, true, List, [], ◌++◌, All, length, take, Option, Some, None, Result, Ok, Err}
+use Rattle.rng_model.specs.simple.Table.{Table}
+use Rattle.rng_model.specs.matching.Document.{Item}
+use Rattle.rng_model.specs.names.Names.{Name}
 use Rattle.rng_model.specs.documents.Lines.{lines}
 use Rattle.rng_model.specs.documents.PyxClauses.{IsFirstFault}
-use Rattle.rng_model.specs.documents.PyxTrees.{Event}
+use Rattle.rng_model.specs.documents.PyxTrees.{Event, IsPyxDocument, Placed, events_of}
 use Rattle.rng_model.specs.declared.fault.OutOfMemory.{OutOfMemory}
 use Rattle.rng_model.specs.declared.outcome.Outcome.{Outcome}
 use Rattle.rng_model.specs.declared.outcome.Outcome.TheVariants as outcome
@@ -14,6 +15,7 @@ use Rattle.pyx.specs.views.ReaderAfterPiece.{Kept, Stands}
 use Rattle.rng_deriv.specs.views.Matchers.{HasRunOut, IsStateBy, Knows, Matching, failed_line, matching_in}
 use Rattle.rng_deriv.specs.declared.matcher_state.MatcherState.{MatcherState}
 use Rattle.rng_event_matcher.specs.declared.progress.Progress.TheVariants as progress
+use Rattle.rncv_model.specs.answers.Verdict.{CannotBeValid, StartsUnknown}
 use Rattle.rncv_model.specs.declared.verdict.Verdict.{Verdict}
 use Rattle.rncv_model.specs.declared.verdict.Verdict.TheVariants.{Valid, Malformed, Invalid}
 use Rattle.rncv_validator.specs.declared.fault.DocumentFault.{DocumentFault}
@@ -49,18 +51,35 @@ abbrev pub IsFaultOfReader : Kept → DocumentFault → Type 0
 IsFaultOfReader k faults.Memory = Unit {0}
 IsFaultOfReader k (faults.Malformed clause line) = k.fault ≡ Some (pyx.At clause line)
 
--- what is kept of a fault: the reader's fault or out of memory; and always out of memory if no state is kept
+-- what is kept of a fault: the reader's, if it has one, or out of memory; and always out of memory if no state is kept
+abbrev pub IsReaderFault : Kept → Option DocumentFault → Type 0
+IsReaderFault k None = k.fault ≡ None
+IsReaderFault k (Some f) = IsFaultOfReader k f
+
 abbrev pub IsKeptFault : Kept → Option MatcherState → Option DocumentFault → Type 0
 IsKeptFault k None f = f ≡ Some faults.Memory
-IsKeptFault k (Some s) f = IfSome f (IsFaultOfReader k)
+IsKeptFault k (Some s) f = IsReaderFault k f
 
 -- the state is not that of a matcher that has run out of memory
 abbrev pub HasNotRunOut : Table → MatcherState → Type 0
 HasNotRunOut t s = ¬ (HasRunOut (matching_in t s))
 
--- no start of an element is among the events that were read if its name is one that no element of the grammar may have
-abbrev pub KnowsAllNames : (d : Judging) (bytes : List ℕ) → HasBeenFed d bytes → Type 0
-KnowsAllNames d bytes fed = All (λ (e : Event). KnowsName (grammar_of d.grammar) e.kind) fed.events
+-- This is one of the lines of the bytes. However the bytes go on, no document with the same lines up to it is valid.
+pub record IsHopelessFrom (IsValid : Item → Type 0) (bytes : List ℕ) (n : ℕ) : Type 0 where
+  pub not_before : 1 ≤ n
+  pub within : n ≤ length (lines bytes)
+  pub cannot : (rest : List ℕ) → CannotBeValid IsValid (bytes ++ rest) n
+
+-- a line feed ends each of the first n lines of the bytes
+pub record HaveEnded (bytes : List ℕ) (n : ℕ) : Type 0 where
+  pub within : n ≤ length (lines bytes)
+  pub ended : All (λ l. l.ended ≡ true) (take n (lines bytes))
+
+-- at the first n lines of a document with the same first n lines, there is no start of an element with a name that no
+-- element may have
+abbrev pub KnowsStarts : (Name → Type 0) → List ℕ → ℕ → Type 0
+KnowsStarts IsUnknown bytes n = (other : List ℕ) (document : Placed) → take n (lines other) ≡ take n (lines bytes) → IsPyxDocument other document
+    → All (λ e. StartsUnknown IsUnknown e.kind → n < e.line) (events_of document)
 
 -- the line after which no continuation is valid, if it is known
 abbrev pub failed_since : Judging → Option ℕ

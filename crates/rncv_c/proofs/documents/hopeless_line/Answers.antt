@@ -1,18 +1,16 @@
 -- The line in numbers tells what the line of the document tells.
-use Rattle.std.proofs.Common.{◌≡◌, ◌∙◌, ℕ, List, ◌++◌, Option, IfSome, ap, subst}
+use Rattle.std.proofs.Common.{◌∙◌, ℕ, List, Option, IfSome, ap, subst}
 use Rattle.std.specs.Prelude.{unwrap_or}
 use Rattle.rng_model.specs.schema.Schema.{Schema}
 use Rattle.rng_model.specs.matching.SchemaMatching.{IsValidBySchema}
-use Rattle.rncv_model.specs.answers.Verdict.{IsValidDocument}
-use Rattle.rncv_validator.specs.views.Documents.{HasBeenFed, Judging, KnowsAllNames, failed_since}
+use Rattle.rncv_validator.specs.views.Documents.{HasBeenFed, IsHopelessFrom, Judging}
 use Rattle.rncv_validator.specs.views.Validators.{Judges}
-use Rattle.rncv_c.specs.views.Calls.{IsInvalidSince}
 use Rattle.rncv_c.proofs.documents.hopeless_line.Goals as goal
 
--- no document that begins with what was fed is valid
+-- it is a line that was fed, and no document with the same lines up to it is valid
 IsHopeless : Judging → Option ℕ → Type 0
-IsHopeless document found = IfSome found (λ since. (s : Schema) (bytes rest : List ℕ) → Judges document.grammar s → HasBeenFed document bytes
-    → ¬ (IsValidDocument (IsValidBySchema s) (bytes ++ rest)))
+IsHopeless document found = IfSome found (λ since. (s : Schema) (bytes : List ℕ) → Judges document.grammar s → HasBeenFed document bytes
+    → IsHopelessFrom (IsValidBySchema s) bytes since)
 
 pub returns : goal.returns
 unfolding IsHopeless

@@ -5,7 +5,7 @@ use Rattle.rncv_validator.specs.declared.fault.DocumentFault.TheVariants as faul
 use Rattle.rng_model.specs.documents.Handing.{Hands}
 use Rattle.rng_deriv.specs.views.Matchers.{HasGoneOn}
 use Rattle.rncv_validator.specs.views.Documents.{HasNotRunOut, IsFaultOfReader, Judging, UnlessMemory, matching_of}
-use Rattle.rncv_validator.proofs.FedDocuments.{fault_of_fed, fault_put, fault_there, gone, grammar_put, if_none, kept_put, known_put, piece_fed, resumed}
+use Rattle.rncv_validator.proofs.FedDocuments.{fault_of_fed, fault_put, fault_there, gone, grammar_put, kept_put, known_put, none_kept, piece_fed, resumed}
 use Rattle.rncv_validator.proofs.FedDocuments.{since_kept, state_put, state_there, stuck_fed}
 use Rattle.rncv_validator.proofs.document.Document.feed.Goals as goal
 
@@ -39,7 +39,7 @@ invariant_of-self c =
       c.self.invariant.0,
       state_put g c.deref.result.now s kept old new c.deref.ensures c.resume-matcher.ensures on place c.put_back.ensures c.into_state.ensures.state,
       fault_put g c.deref.result.now s kept old new c.deref.ensures c.resume-matcher.ensures on place c.put_back.ensures c.read_piece.new.reader _
-          (if_none d.fault (IsFaultOfReader c.read_piece.new.reader) (search rules)),
+          (none_kept c.read_piece.new.reader d.fault (search rules) c.in-Ok.ensures.working),
       kept_put g c.deref.result.now s kept old new c.deref.ensures c.resume-matcher.ensures on place c.put_back.ensures c.into_state.ensures.same
           (gone old new longer.0 longer.1).kept (state_there d.state s (HasNotRunOut g) (search rules) c.self.invariant.3),
     )
