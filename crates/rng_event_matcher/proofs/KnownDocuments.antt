@@ -2,7 +2,7 @@
 use Rattle.std.proofs.Common.{◌≡◌, ◌↔◌, ◌⊎◌, None, inl, inr, ◌&&◌, ◌||◌, true, false, ℕ, List, [], ◌∷◌, ◌++◌, map, refl, sym, ap, ◌∙◌, subst, All}
 use Rattle.std.proofs.Common.{Bool, Contains, append_assoc}
 use Rattle.std.specs.List.{list_all, list_any}
-use Rattle.std.proofs.lemmas.List.Elements.{All-push, All-nil, All-cons, All-contains, Contains-get_or}
+use Rattle.std.proofs.lemmas.List.Elements.{All-push, All-nil, All-cons, All-contains, Contains-append_left, Contains-append_right, Contains-get_or, Contains-push}
 use Rattle.std.proofs.lemmas.List.Folds.{Any-from_list_any}
 use Rattle.rng_model.specs.simple.Tree.{Simple}
 use Rattle.rng_model.specs.matching.Document.{Item}
@@ -56,6 +56,15 @@ module _ (test : Simple ℕ → Bool) (f : PatternNumber → Simple ℕ) where
       let h = Any-from_list_any test (map f ns) (any_mapped ns ∙ e) in
       (h.1, subst (Contains (map f ns)) h.3 (Contains-get_or (map f ns) h.0 h.1 h.2), h.4)
 
+  one_more : (b all : Bool) (p : Simple ℕ) (ps : List (Simple ℕ)) → test p ≡ b → (b && all) ≡ false
+      → (all ≡ false → (q : Simple ℕ) × Contains ps q × (test q ≡ false)) → (q : Simple ℕ) × Contains (p ∷ ps) q × (test q ≡ false)
+  one_more false all p ps is e rest = (p, Contains-append_left (p ∷ []) ps p (Contains-push [] p), is)
+  one_more true all p ps is e rest = let h = rest e in (h.0, Contains-append_right (p ∷ []) ps h.0 h.1, h.2)
+
+  one_fails : (ns : List PatternNumber) → list_all (λ n. test (f n)) ns ≡ false → (q : Simple ℕ) × Contains (map f ns) q × (test q ≡ false)
+  one_fails [] e = absurd (cc)
+  one_fails (n ∷ ns) e = one_more (test (f n)) (list_all (λ n. test (f n)) ns) (f n) (map f ns) refl e (one_fails ns)
+
   none_left : (ns : List PatternNumber) → map f ns ≡ [] → list_all (λ n. test (f n)) ns ≡ true
   none_left [] e = refl
   none_left (n ∷ ns) e = absurd (cc)
@@ -75,6 +84,7 @@ comes_first g trees p line start now levels begun held same = record {
   stands = stands_first g (record { state = record { now = tree_of trees start ∷ []; levels = [] }; has_begun = false; held = [] })
       (tree_of trees start) same refl;
   known = All-nil (λ e. KnowsName g.grammar e.kind);
+  left = inl refl;
   last = inl refl;
 }
 
@@ -109,6 +119,7 @@ module _ (g : Reading) where
       stands = stands;
       known = All-push (λ e. KnowsName g.grammar e.kind) es e come.known
           (known_kind e.kind come.matcher lead.matcher (tree_of new) q.state.now lead.steps now some);
+      left = inr (subst (λ ps. (p : Simple ℕ) × Contains ps p × (is_not_allowed p ≡ false)) (sym now) (one_fails is_not_allowed (tree_of new) q.state.now some));
       last = inr (es, e.kind, refl);
     }
 

@@ -238,5 +238,6 @@ come_renewed g old new p q line es r come = record {
   position = r g come.matcher come.position;
   stands = come.stands;
   known = come.known;
+  left = come.left;
   last = come.last;
 }

@@ -1,9 +1,11 @@
 -- What a matcher knows between two events.
 use Rattle.std.specs.Prelude.{◌≡◌, ◌⊎◌, ⊤, ℕ, List, [], ◌∷◌, ◌++◌, length, All, Bool, true, false}
+use Rattle.std.specs.List.{Contains}
 use Rattle.rng_names.specs.plain.Keys.{Keys}
 use Rattle.rng_model.specs.simple.Tree.{Simple}
 use Rattle.rng_model.specs.documents.PyxTrees.{Event, EventKind}
 use Rattle.rng_model.specs.matching.Reading.{Reading}
+use Rattle.rng_deriv_laws.specs.plain.Derivatives.{is_not_allowed}
 use Rattle.rng_deriv_laws.specs.plain.Events.{kinds}
 use Rattle.rng_deriv_laws.specs.plain.LevelEvents.{LevelMatcher, StepsTo, StandsFor}
 use Rattle.rng_event_matcher.specs.views.Numbers.{Longer}
@@ -41,12 +43,18 @@ pub record AddsStep (g : Reading) (kind : EventKind) (old new : List (Simple ℕ
 abbrev pub IsLastLine : List Event → ℕ → Type 0
 IsLastLine es line = (es ≡ []) ⊎ ((front : List Event) × (kind : EventKind) × (es ≡ front ++ record { line = line; kind = kind } ∷ []))
 
--- the events lead to the position, and each of them that is a start has a name that the grammar has
+-- no event has come, or some alternative is not notAllowed
+abbrev pub IsSomeLeft : List (Simple ℕ) → List Event → Type 0
+IsSomeLeft now es = (es ≡ []) ⊎ ((p : Simple ℕ) × Contains now p × (is_not_allowed p ≡ false))
+
+-- The events lead to the position, and each of them that is a start has a name that the grammar has. Once an event has
+-- come, some alternative is left: a matcher does not go on where nothing is left.
 pub record HasCome (g : Reading) (trees : List (Simple ℕ)) (p : OpenPosition) (line : ℕ) (es : List Event) : Type 0 where
   pub matcher : LevelMatcher
   pub position : IsPositionOf g trees p matcher
   pub stands : StandsFor g matcher (kinds es)
   pub known : All (λ e. KnowsName g.grammar e.kind) es
+  pub left : IsSomeLeft matcher.state.now es
   pub last : IsLastLine es line
 
 -- what is known of a document that might have been valid, after the event of this line: it may still be valid, or not
