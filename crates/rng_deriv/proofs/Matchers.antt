@@ -28,3 +28,9 @@ module _ (inside m : Matching) (is : inside ≡ m) where
         kept = λ lost. absurd (kept lost);
       }
   goes_on new e (Err f) same on failed kept = tt
+
+  -- what has failed stays so
+  pub stays_failed : {A E : Type 0} (new : Matching) (r : Result A E) → ((line : ℕ) → HasFailedAt inside line → OnOk r (HasFailedAt new line))
+      → OnOk r ((line : ℕ) → HasFailedAt m line → HasFailedAt new line)
+  stays_failed new (Ok x) failed = λ line f. failed line (subst (λ (m : Matching). HasFailedAt m line) (sym is) f)
+  stays_failed new (Err f) failed = tt

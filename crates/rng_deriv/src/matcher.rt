@@ -138,6 +138,7 @@ impl Events for Matcher<'_> {
         ensures stands { OnOk result (Hands HasGoneOn self.old self.new (event_of event.entry ∷ [])) }
         ensures knows { OnOk result ((es : List trees.Event) → Knows self.old es → Knows self.new (es ++ event_of event.entry ∷ [])) }
         ensures grammar { OnOk result (judges_by self.new ≡ judges_by self.old) }
+        ensures failed { OnOk result ((line : ℕ) → HasFailedAt self.old line → HasFailedAt self.new line) }
         ensures kept { OnOk result (¬ (HasRunOut self.new)) }
         ensures lost { OnErr result (HasRunOut self.new) }
         ensures again { HasRunOut self.old → IsErr result }

@@ -1,6 +1,7 @@
 // What a matcher keeps, without its grammar.
-ghost use Rattle.std.specs.Prelude.{◌≡◌};
-ghost use Rattle.rng_deriv.specs.views.Matchers.{failed_line};
+ghost use Rattle.std.specs.Prelude.{◌≡◌, IfSome};
+ghost use Rattle.rng_model.specs.simple.Table.{Table};
+ghost use Rattle.rng_deriv.specs.views.Matchers.{HasFailedAt, failed_line, matching_in};
 
 use crate::learned::Learned;
 use rng_event_matcher::Progress;
@@ -21,7 +22,8 @@ impl MatcherState {
     /// No document that begins with the events up to that one is valid. Then `Matcher::finish` returns this line.
     /// Allocates nothing.
     pub fn failed_at(&self) -> Option<u64>
-        ensures { result ≡ failed_line self.now.progress }
+        ensures value { result ≡ failed_line self.now.progress }
+        ensures failed { IfSome result (λ line. (grammar : Table) → HasFailedAt (matching_in grammar self.now) line) }
     {
         match self.progress {
             Progress::Failed(line) => Some(line),
