@@ -27,7 +27,7 @@ use Rattle.rnc_syntax.specs.plain.Combinators.{follow}
 use Rattle.rnc_places.specs.declared.prefixes.Part.TheVariants.{Body}
 use Rattle.rnc_places.specs.plain.FaultNumbers.{behind_declaration, behind_equal, behind_tildes, behind_value, fault_number, is_unknown, marks}
 use Rattle.rnc_places.specs.plain.FaultNumbers.{tilde_front, unknown_number, unless_applied}
-use Rattle.rnc_places.proofs.FaultSteps.{tildes_end}
+use Rattle.rnc_places.proofs.FaultSteps.{tilde_skipped, tildes_end}
 use Rattle.rnc_places.proofs.PrefixMarks.{marks_of_body, present, present_in_body}
 
 -- ---- the first prefix that has no uri
@@ -114,7 +114,7 @@ single x rest f = no_tildes rest f
 
 literal_behind : {ts : List Lexeme} {v : List ℕ} → IsLiteral ts v → (rest : List Lexeme) → follow Tilde rest ≡ None → behind_value (ts ++ rest) ≡ rest
 literal_behind (grammar.one_segment {w = w} e) rest f = rw e (single (segment w) rest f)
-literal_behind (grammar.more_segments p e g) rest f = rw e (literal_behind p rest f)
+literal_behind (grammar.more_segments {a = a} p e g) rest f = rw e (tilde_skipped (sign Tilde ∷ (a ++ rest)) (a ++ rest) refl ∙ literal_behind p rest f)
 
 uri_behind : {ts : List Lexeme} {u : Uri} → IsUri ts u → (rest : List Lexeme) → follow Tilde rest ≡ None → behind_value (ts ++ rest) ≡ rest
 uri_behind (grammar.inherit {s = s} e) rest f = rw e (single (keyword keywords.Inherit s) rest f)

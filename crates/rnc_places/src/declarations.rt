@@ -18,7 +18,7 @@ use std::alloc::Global;
 
 /// Returns the same tokens. A loop that continues with tokens out of a result takes them through this call. So the
 /// check knows how long they live.
-fn onward<'t, 'a>(tokens: &'t [Token<'a>]) -> &'t [Token<'a>]
+pub fn onward<'t, 'a>(tokens: &'t [Token<'a>]) -> &'t [Token<'a>]
     ensures { result.now ≡ tokens.now }
 {
     tokens
@@ -97,7 +97,6 @@ fn behind_declaration<'t, 'a>(tokens: &'t [Token<'a>]) -> &'t [Token<'a>]
 
 /// The number, from 1, of the first token of the first of these declarations that cannot be applied, or otherwise of
 /// the first token with a prefix that is not declared. The tokens begin with the declarations.
-#[tactic(auto, using(crate::proofs::FaultSteps::broken_number, crate::proofs::FaultSteps::ended_number))]
 fn fault_number(
     alloc: Global,
     declarations: &[Declaration<'_>],

@@ -1,5 +1,5 @@
 // Finding the prefix that is not declared.
-ghost use Rattle.std.specs.Prelude.{◌≡◌, ◌≤◌, ◌<◌, ◌^◌, ◌-◌, ◌+◌, ℕ, List, IfOk, is_none, length, option_map};
+ghost use Rattle.std.specs.Prelude.{◌≡◌, ◌≤◌, ◌<◌, ◌^◌, ◌-◌, ◌+◌, ℕ, List, IfOk, IfSome, is_none, length, option_map};
 ghost use Rattle.rnc_grammar.specs.views.Resolved.{scope_view};
 ghost use Rattle.rnc_model.specs.declarations.Declarations.{library_in, namespace_in};
 ghost use Rattle.rnc_model.specs.tokens.Lexeme as lexeme;
@@ -10,6 +10,7 @@ ghost use Rattle.rnc_places.specs.declared.prefixes.Part.TheVariants as parts;
 ghost use Rattle.rnc_places.specs.views.Prefixes.{prefix_view};
 ghost use Rattle.rnc_syntax.specs.plain.Reading.{lexemes_in};
 
+use crate::declarations::onward;
 use rnc_grammar::{Scope, ScopeFault};
 use rnc_model::{Keyword, Sign, Token, TokenKind};
 use rng_model::OutOfMemory;
@@ -102,11 +103,7 @@ fn depth_after(depth: usize, kind: TokenKind) -> usize
 }
 
 /// Whether a namespace prefix is not declared.
-fn lacks_namespace(
-    alloc: Global,
-    scope: &Scope<'_>,
-    prefix: &str,
-) -> Result<bool, OutOfMemory>
+fn lacks_namespace(alloc: Global, scope: &Scope<'_>, prefix: &str) -> Result<bool, OutOfMemory>
     ensures { IfOk result (λ lacks. lacks ≡ is_none (namespace_in (scope_view scope.now) prefix.now)) }
 {
     match scope.namespace(alloc, prefix) {
@@ -133,7 +130,7 @@ fn is_undeclared(
     scope: &Scope<'_>,
     prefix: Option<Prefix<'_>>,
 ) -> Result<bool, OutOfMemory>
-    ensures { IfOk result (λ is. is ≡ is_unknown (scope_view scope.now) (option_map prefix_view prefix)) }
+    ensures { IfOk result (λ is. is ≡ is_unknown (scope_view scope.now) (option_map prefix_view prefix.entry)) }
 {
     match prefix {
         Some(Prefix::Namespace(prefix)) => lacks_namespace(alloc, scope, prefix),
@@ -162,6 +159,30 @@ fn part_at(depth: usize, part: Part, kind: TokenKind) -> Part
     }
 }
 
+/// Whether a token inside so many annotations has a prefix that is not declared.
+fn is_fault(
+    alloc: Global,
+    scope: &Scope<'_>,
+    depth: usize,
+    part: Part,
+    token: &Token<'_>,
+) -> Result<bool, OutOfMemory>
+    ensures { (number : ℕ) → IfOk result (λ is. is ≡ is_unknown (scope_view scope.now) (plain.prefix_at depth part (lexeme_at token.now.kind token.now.text.now number))) }
+{
+    is_undeclared(alloc, scope, prefix_at(depth, part, token))
+}
+
+/// The first token, and the tokens after it.
+fn find_first<'t, 'a>(tokens: &'t [Token<'a>]) -> Option<(Token<'a>, &'t [Token<'a>])>
+    ensures reads { (total : ℕ) → option_map (λ x. (lexeme_at x.0.kind x.0.text.now (total - length x.1.now), lexemes_in total x.1.now)) result ≡ plain.first_of (lexemes_in total tokens.now) }
+    ensures shorter { IfSome result (λ x. length x.1.now + 1 ≡ length tokens.now) }
+{
+    match tokens {
+        [first, rest @ ..] => Some((*first, rest)),
+        [] => None,
+    }
+}
+
 /// The number, from 1, of the first token of a body that has a prefix that is not declared, or the number of tokens
 /// plus one if there is none.
 pub fn undeclared_number(
@@ -175,13 +196,14 @@ pub fn undeclared_number(
     let mut depth = 0usize;
     let mut part = Part::Body;
     let mut rest = tokens;
-    'tokens: while let [token, after @ ..] = rest {
-        if is_undeclared(alloc, scope, prefix_at(depth, part, token))? {
+    'tokens: while let Some((token, after)) = find_first(rest) {
+        let is_fault = is_fault(alloc, scope, depth, part, &token)?;
+        if is_fault {
             return Ok(tokens.len() - rest.len() + 1);
         }
         part = part_at(depth, part, token.kind);
         depth = depth_after(depth, token.kind);
-        rest = after;
+        rest = onward(after);
     }
     Ok(tokens.len() + 1)
 }

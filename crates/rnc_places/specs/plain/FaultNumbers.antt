@@ -55,6 +55,11 @@ abbrev pub marks : ℕ → Part → List Lexeme → List (Option Declarable)
 marks d a [] = []
 marks d a (x ∷ ts) = prefix_at d a x ∷ marks (depth_after d x) (part_at d a x) ts
 
+-- the first token, and the tokens after it
+abbrev pub first_of : List Lexeme → Option (Lexeme × List Lexeme)
+first_of [] = None
+first_of (x ∷ ts) = Some (x, ts)
+
 -- a prefix has no uri
 abbrev pub is_unknown : Scope → Option Declarable → Bool
 is_unknown s None = false
