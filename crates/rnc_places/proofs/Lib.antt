@@ -1,3 +1,6 @@
+mod FaultSteps
 mod FilePieces
-mod ToldPlaces
+mod FirstFault
 mod NestingNumber
+mod PrefixMarks
+mod ToldPlaces

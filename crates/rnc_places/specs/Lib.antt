@@ -1,1 +1,2 @@
+pub mod plain
 pub mod views

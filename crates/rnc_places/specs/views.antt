@@ -1,2 +1,3 @@
--- What is reported for a file.
+-- What is reported for a file, and prefixes.
+pub mod Prefixes
 pub mod Told

@@ -1,161 +1,130 @@
 // Finding the declaration that breaks a rule.
-ghost use Rattle.std.specs.Prelude.{◌+◌, ◌≤◌, ◌<◌, IfOk, IfSome, length};
+ghost use Rattle.std.specs.Prelude.{◌≡◌, ◌≤◌, ◌<◌, ℕ, List, IfOk, IfSome, length, map, option_map};
+ghost use Rattle.rnc_model.specs.declarations.Declarations.{nothing_declared};
+ghost use Rattle.rnc_model.specs.declarations.FaultyTokens.{BreaksDeclarationsAt};
+ghost use Rattle.rnc_model.specs.declarations.Parsing.{BreaksDeclarations};
+ghost use Rattle.rnc_model.specs.tokens.Cut.{tokens_of};
+ghost use Rattle.rnc_model.specs.tokens.Lexeme.{lexemes};
+ghost use Rattle.rnc_places.specs.plain.FaultNumbers as plain;
+ghost use Rattle.rnc_syntax.specs.plain.Reading.{lexemes_in};
+ghost use Rattle.rnc_syntax.specs.views.SyntaxView.{declaration_of};
 
-use crate::literals::{behind_literal, says};
-use crate::prefixes::unruly_prefix;
-use rnc_model::{Keyword, Sign, Token, TokenKind};
+use crate::prefixes::undeclared_number;
+use rnc_grammar::{Scope, ScopeFault};
+use rnc_model::{Sign, Token, TokenKind};
+use rnc_syntax::{Declaration, SyntaxFault, read_syntax};
 use rng_model::OutOfMemory;
 use std::alloc::Global;
-use std::collections::HashSet;
 
-/// The uri of the prefix `xml`.
-const XML_URI: &str = "http://www.w3.org/XML/1998/namespace";
-
-/// The uri of the datatype prefix `xsd`.
-const XSD_URI: &str = "http://www.w3.org/2001/XMLSchema-datatypes";
-
-/// What the declarations declare that have been checked so far.
-#[derive(Drop)]
-pub struct Declared<'a> {
-    default: bool,
-    namespaces: HashSet<&'a str>,
-    datatypes: HashSet<&'a str>,
+/// Returns the same tokens. A loop that continues with tokens out of a result takes them through this call. So the
+/// check knows how long they live.
+pub fn onward<'t, 'a>(tokens: &'t [Token<'a>]) -> &'t [Token<'a>]
+    ensures { result.now ≡ tokens.now }
+{
+    tokens
 }
 
-/// The tokens of a declaration.
-#[derive(Clone, Copy)]
-struct Declaration<'t, 'a> {
-    /// Whether it declares the default namespace.
-    is_default: bool,
-    /// Whether it declares a datatype prefix.
-    is_of_datatypes: bool,
-    /// The prefix that it declares.
-    prefix: Option<&'a str>,
-    /// The tokens after the `=`.
-    value: &'t [Token<'a>],
-}
-
-/// Whether a token is this keyword.
-pub fn is_keyword(token: &Token<'_>, keyword: Keyword) -> bool {
-    token.kind == TokenKind::Keyword(keyword)
-}
-
-/// Whether a token is this sign.
-pub fn is_sign(token: &Token<'_>, sign: Sign) -> bool {
-    token.kind == TokenKind::Sign(sign)
-}
-
-/// The declaration that begins here.
-fn declaration_at<'t, 'a>(tokens: &'t [Token<'a>]) -> Option<Declaration<'t, 'a>>
-    ensures { IfSome result (λ d. length d.value.now < length tokens.now) }
+/// The tokens after the first one.
+fn behind_first<'t, 'a>(tokens: &'t [Token<'a>]) -> &'t [Token<'a>]
+    ensures is { (total : ℕ) → lexemes_in total result.now ≡ plain.behind_first (lexemes_in total tokens.now) }
+    ensures within { length result.now ≤ length tokens.now }
 {
     match tokens {
-        [default, namespace, equal, value @ ..]
-            if is_keyword(default, Keyword::Default)
-                && is_keyword(namespace, Keyword::Namespace)
-                && is_sign(equal, Sign::Equal) => {
-            Some(Declaration {
-                is_default: true,
-                is_of_datatypes: false,
-                prefix: None,
-                value,
-            })
-        }
-        [default, namespace, prefix, _, value @ ..]
-            if is_keyword(default, Keyword::Default) && is_keyword(namespace, Keyword::Namespace) =>
-            {
-                Some(Declaration {
-                    is_default: true,
-                    is_of_datatypes: false,
-                    prefix: Some(prefix.text),
-                    value,
-                })
-            }
-        [first, prefix, _, value @ ..]
-            if is_keyword(first, Keyword::Namespace) || is_keyword(first, Keyword::Datatypes) => {
-            Some(Declaration {
-                is_default: false,
-                is_of_datatypes: is_keyword(first, Keyword::Datatypes),
-                prefix: Some(prefix.text),
-                value,
-            })
-        }
-        _ => None,
+        [_, rest @ ..] => rest,
+        [] => tokens,
     }
 }
 
-/// The tokens after the value of a declaration, which is `inherit` or a literal.
-fn behind_value<'t, 'a>(value: &'t [Token<'a>]) -> &'t [Token<'a>]
-    ensures { length result.now ≤ length value.now }
+/// The tokens after the first one, if it is not `=`.
+fn find_behind_other<'t, 'a>(tokens: &'t [Token<'a>]) -> Option<&'t [Token<'a>]>
+    ensures is { (total : ℕ) → option_map (λ x. lexemes_in total x.now) result ≡ plain.other_front (lexemes_in total tokens.now) }
+    ensures shorter { IfSome result (λ x. length x.now < length tokens.now) }
 {
-    match value {
-        [inherit, after @ ..] if is_keyword(inherit, Keyword::Inherit) => after,
-        _ => behind_literal(value),
+    match tokens {
+        [first, rest @ ..] => match first.kind {
+            TokenKind::Sign(Sign::Equal) => None,
+            _ => Some(rest),
+        },
+        [] => None,
     }
 }
 
-impl<'a> Declared<'a> {
-    /// Whether a namespace prefix is declared. `xml` is predeclared.
-    pub fn has_namespace(&self, prefix: &str) -> bool {
-        prefix == "xml" || self.namespaces.contains(prefix)
+/// The tokens after the first one, if it is `~`.
+fn find_behind_tilde<'t, 'a>(tokens: &'t [Token<'a>]) -> Option<&'t [Token<'a>]>
+    ensures is { (total : ℕ) → option_map (λ x. lexemes_in total x.now) result ≡ plain.tilde_front (lexemes_in total tokens.now) }
+    ensures shorter { IfSome result (λ x. length x.now < length tokens.now) }
+{
+    match tokens {
+        [first, rest @ ..] => match first.kind {
+            TokenKind::Sign(Sign::Tilde) => Some(rest),
+            _ => None,
+        },
+        [] => None,
     }
+}
 
-    /// Whether a datatype prefix is declared. `xsd` is predeclared.
-    pub fn has_datatypes(&self, prefix: &str) -> bool {
-        prefix == "xsd" || self.datatypes.contains(prefix)
+/// The tokens after the first `=`.
+fn behind_equal<'t, 'a>(tokens: &'t [Token<'a>]) -> &'t [Token<'a>]
+    ensures is { (total : ℕ) → lexemes_in total result.now ≡ plain.behind_equal (lexemes_in total tokens.now) }
+    ensures within { length result.now ≤ length tokens.now }
+{
+    let mut rest = tokens;
+    'tokens: while let Some(after) = find_behind_other(rest) {
+        rest = onward(after);
     }
+    behind_first(rest)
+}
 
-    /// Declares a datatype prefix. Returns whether the rules allow it.
-    fn add_datatypes(&mut self, prefix: &'a str, value: &[Token<'a>]) -> Result<bool, OutOfMemory> {
-        let is_new = self.datatypes.insert(prefix)?;
-        Ok(is_new && (prefix != "xsd" || says(value, XSD_URI)))
+/// The tokens after the value of a declaration: `inherit`, or a literal, which is segments with `~` between them.
+fn behind_value<'t, 'a>(tokens: &'t [Token<'a>]) -> &'t [Token<'a>]
+    ensures is { (total : ℕ) → lexemes_in total result.now ≡ plain.behind_value (lexemes_in total tokens.now) }
+    ensures within { length result.now ≤ length tokens.now }
+{
+    let mut rest = behind_first(tokens);
+    'segments: while let Some(after) = find_behind_tilde(rest) {
+        rest = onward(behind_first(after));
     }
+    rest
+}
 
-    /// Declares a namespace prefix. Returns whether the rules allow it.
-    fn add_namespace(&mut self, prefix: &'a str, value: &[Token<'a>]) -> Result<bool, OutOfMemory> {
-        let is_new = self.namespaces.insert(prefix)?;
-        let may_be = match prefix {
-            "xml" => says(value, XML_URI),
-            "xmlns" => false,
-            _ => true,
-        };
-        Ok(is_new && may_be)
-    }
+/// The tokens after the declaration that begins here.
+fn behind_declaration<'t, 'a>(tokens: &'t [Token<'a>]) -> &'t [Token<'a>]
+    ensures is { (total : ℕ) → lexemes_in total result.now ≡ plain.behind_declaration (lexemes_in total tokens.now) }
+    ensures within { length result.now ≤ length tokens.now }
+{
+    behind_value(behind_equal(tokens))
+}
 
-    /// Applies a declaration. Returns whether the rules allow it.
-    fn add(&mut self, declaration: Declaration<'_, 'a>) -> Result<bool, OutOfMemory> {
-        if declaration.is_default && self.default {
-            return Ok(false);
+/// The number, from 1, of the first token of the first of these declarations that cannot be applied, or otherwise of
+/// the first token with a prefix that is not declared. The tokens begin with the declarations.
+fn fault_number(
+    alloc: Global,
+    declarations: &[Declaration<'_>],
+    tokens: &[Token<'_>],
+) -> Result<usize, OutOfMemory>
+    ensures { IfOk result (λ number. number ≡ plain.fault_number (length tokens.now) nothing_declared (map declaration_of declarations.now) (lexemes_in (length tokens.now) tokens.now)) }
+{
+    let mut scope = Scope::new(alloc);
+    let mut rest = tokens;
+    for declaration in declarations {
+        match scope.declare(alloc, declaration) {
+            Ok(()) => rest = behind_declaration(rest),
+            Err(ScopeFault::Broken) => return Ok(tokens.len() - rest.len() + 1),
+            Err(ScopeFault::Memory) => return Err(OutOfMemory),
         }
-        self.default = self.default || declaration.is_default;
-        match declaration.prefix {
-            None => Ok(true),
-            Some(prefix) if declaration.is_of_datatypes => {
-                self.add_datatypes(prefix, declaration.value)
-            }
-            Some(prefix) => self.add_namespace(prefix, declaration.value),
-        }
     }
+    let number = undeclared_number(alloc, &scope, rest)?;
+    Ok(tokens.len() - rest.len() + number)
 }
 
 /// The number, from 1, of the first token of the first declaration that breaks a rule, or otherwise of the first token
-/// with a prefix that is not declared.
-///
-/// The tokens must be a sentence of the grammar.
+/// with a prefix that is not declared. It is 0 if the tokens have no syntax tree.
 pub fn unruly_number(alloc: Global, tokens: &[Token<'_>]) -> Result<usize, OutOfMemory>
-    ensures { IfOk result (λ number. number ≤ length tokens.now + 1) }
+    ensures { BreaksDeclarations (lexemes (tokens_of tokens.now)) → IfOk result (BreaksDeclarationsAt (lexemes (tokens_of tokens.now))) }
 {
-    let mut declared = Declared {
-        default: false,
-        namespaces: HashSet::new(alloc),
-        datatypes: HashSet::new(alloc),
-    };
-    let mut rest = tokens;
-    'declarations: while let Some(declaration) = declaration_at(rest) {
-        if !declared.add(declaration)? {
-            return Ok(tokens.len() - rest.len() + 1);
-        }
-        rest = behind_value(declaration.value);
+    match read_syntax(alloc, tokens) {
+        Ok(file) => fault_number(alloc, &file.declarations, tokens),
+        Err(SyntaxFault::Memory) => Err(OutOfMemory),
+        Err(_) => Ok(0),
     }
-    Ok(tokens.len() - rest.len() + unruly_prefix(&declared, rest))
 }

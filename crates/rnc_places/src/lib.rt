@@ -5,7 +5,6 @@
 #![tactic(auto)]
 
 mod declarations;
-mod literals;
 mod nesting;
 mod places;
 mod prefixes;

@@ -1,104 +1,209 @@
 // Finding the prefix that is not declared.
-ghost use Rattle.std.specs.Prelude.{◌≤◌, ◌+◌, length};
+ghost use Rattle.std.specs.Prelude.{◌≡◌, ◌≤◌, ◌<◌, ◌^◌, ◌-◌, ◌+◌, ℕ, List, IfOk, IfSome, is_none, length, option_map};
+ghost use Rattle.rnc_grammar.specs.views.Resolved.{scope_view};
+ghost use Rattle.rnc_model.specs.declarations.Declarations.{library_in, namespace_in};
+ghost use Rattle.rnc_model.specs.tokens.Lexeme as lexeme;
+ghost use Rattle.rnc_model.specs.tokens.Lexeme.{lexeme_at};
+ghost use Rattle.rnc_places.specs.plain.FaultNumbers as plain;
+ghost use Rattle.rnc_places.specs.plain.FaultNumbers.{is_unknown, marks, unknown_number};
+ghost use Rattle.rnc_places.specs.declared.prefixes.Part.TheVariants as parts;
+ghost use Rattle.rnc_places.specs.views.Prefixes.{prefix_view};
+ghost use Rattle.rnc_syntax.specs.plain.Reading.{lexemes_in};
 
-use crate::declarations::Declared;
+use crate::declarations::onward;
+use rnc_grammar::{Scope, ScopeFault};
 use rnc_model::{Keyword, Sign, Token, TokenKind};
+use rng_model::OutOfMemory;
+use std::alloc::Global;
 
-/// What the next token may be.
-#[derive(Clone, Copy, PartialEq, Eq)]
-enum Expected {
-    Anything,
-    /// After `inherit`: the `=` of a mention.
-    Equal,
-    /// After this `=`: the prefix of a mention.
+/// Where a token of a body is, outside an annotation.
+#[derive(Clone, Copy)]
+pub enum Part {
+    Body,
+    /// The name class of an element or an attribute.
+    Class,
+    /// After `inherit`.
+    Inherit,
+    /// After `inherit =`.
     Prefix,
 }
 
-/// The position of a token in a body.
+/// A prefix that a token has.
 #[derive(Clone, Copy)]
-struct Position {
-    /// The number of open annotations.
-    annotations: usize,
-    /// Whether it is in the name class of an element or an attribute.
-    is_in_class: bool,
-    expected: Expected,
+pub enum Prefix<'a> {
+    Namespace(&'a str),
+    Datatypes(&'a str),
 }
 
-/// The prefix of a name, which is the part before its colon.
-fn prefix_in(name: &str) -> &str {
+/// The part of a name before its colon.
+fn prefix_in(name: &str) -> &str
+    ensures { result.now ≡ lexeme.prefix_in name.now }
+{
     match name.split_once(':') {
         Some((prefix, _)) => prefix,
         None => name,
     }
 }
 
-/// Whether the token at a position has a prefix that is not declared.
-fn is_undeclared(declared: &Declared<'_>, position: Position, token: &Token<'_>) -> bool {
-    if position.annotations > 0 {
-        return false;
-    }
-    match token.kind {
-        TokenKind::CName if position.is_in_class => {
-            !declared.has_namespace(prefix_in(token.text))
-        }
-        TokenKind::CName => !declared.has_datatypes(prefix_in(token.text)),
-        TokenKind::NsName => !declared.has_namespace(prefix_in(token.text)),
-        TokenKind::Identifier | TokenKind::QuotedIdentifier | TokenKind::Keyword(_) => {
-            position.expected == Expected::Prefix && !declared.has_namespace(token.text)
-        }
-        _ => false,
+/// The prefix of a token outside an annotation.
+fn prefix_of<'a>(part: Part, token: &Token<'a>) -> Option<Prefix<'a>>
+    ensures { (number : ℕ) → option_map prefix_view result ≡ plain.prefix_of part (lexeme_at token.now.kind token.now.text.now number) }
+{
+    match part {
+        Part::Body => match token.kind {
+            TokenKind::CName => Some(Prefix::Datatypes(prefix_in(token.text))),
+            _ => None,
+        },
+        Part::Class => match token.kind {
+            TokenKind::CName | TokenKind::NsName => Some(Prefix::Namespace(prefix_in(token.text))),
+            _ => None,
+        },
+        Part::Inherit => None,
+        Part::Prefix => match token.kind {
+            TokenKind::Identifier | TokenKind::QuotedIdentifier | TokenKind::Keyword(_) => {
+                Some(Prefix::Namespace(token.text))
+            }
+            _ => None,
+        },
     }
 }
 
-/// The position of the token after one of this kind.
-fn behind(position: Position, kind: TokenKind) -> Position {
-    let annotations = match kind {
-        TokenKind::Sign(Sign::OpenBracket) => position.annotations.saturating_add(1),
-        TokenKind::Sign(Sign::CloseBracket) => position.annotations.saturating_sub(1),
-        _ => position.annotations,
-    };
-    if position.annotations > 0 {
-        // Nothing in an annotation is a class or a mention.
-        return Position {
-            annotations,
-            ..position
-        };
+/// Where the token after one of this kind is, outside an annotation.
+fn part_after(part: Part, kind: TokenKind) -> Part
+    ensures { (text : List ℕ) (number : ℕ) → result ≡ plain.part_after part (lexeme_at kind text number) }
+{
+    match part {
+        Part::Body => match kind {
+            TokenKind::Keyword(Keyword::Element | Keyword::Attribute) => Part::Class,
+            TokenKind::Keyword(Keyword::Inherit) => Part::Inherit,
+            _ => Part::Body,
+        },
+        Part::Class => match kind {
+            TokenKind::Sign(Sign::OpenBrace | Sign::Equal) => Part::Body,
+            _ => Part::Class,
+        },
+        Part::Inherit => match kind {
+            TokenKind::Sign(Sign::Equal) => Part::Prefix,
+            _ => Part::Body,
+        },
+        Part::Prefix => Part::Body,
     }
-    let is_in_class = match kind {
-        // After `inherit =` a keyword is a prefix.
-        TokenKind::Keyword(Keyword::Element | Keyword::Attribute) => {
-            position.expected != Expected::Prefix
-        }
-        TokenKind::Sign(Sign::OpenBrace | Sign::Equal) => false,
-        _ => position.is_in_class,
-    };
-    let expected = match kind {
-        TokenKind::Keyword(Keyword::Inherit) => Expected::Equal,
-        TokenKind::Sign(Sign::Equal) if position.expected == Expected::Equal => Expected::Prefix,
-        _ => Expected::Anything,
-    };
-    Position {
-        annotations,
-        is_in_class,
-        expected,
+}
+
+/// The number of open annotations after a token of this kind.
+fn depth_after(depth: usize, kind: TokenKind) -> usize
+    requires { depth < 2 ^ 64 - 1 }
+    ensures { (text : List ℕ) (number : ℕ) → result ≡ plain.depth_after depth (lexeme_at kind text number) }
+{
+    match kind {
+        TokenKind::Sign(Sign::OpenBracket) => depth + 1,
+        TokenKind::Sign(Sign::CloseBracket) => depth.saturating_sub(1),
+        _ => depth,
+    }
+}
+
+/// Whether a namespace prefix is not declared.
+fn lacks_namespace(alloc: Global, scope: &Scope<'_>, prefix: &str) -> Result<bool, OutOfMemory>
+    ensures { IfOk result (λ lacks. lacks ≡ is_none (namespace_in (scope_view scope.now) prefix.now)) }
+{
+    match scope.namespace(alloc, prefix) {
+        Ok(_) => Ok(false),
+        Err(ScopeFault::Broken) => Ok(true),
+        Err(ScopeFault::Memory) => Err(OutOfMemory),
+    }
+}
+
+/// Whether a datatype prefix is not declared.
+fn lacks_library(alloc: Global, scope: &Scope<'_>, prefix: &str) -> Result<bool, OutOfMemory>
+    ensures { IfOk result (λ lacks. lacks ≡ is_none (library_in (scope_view scope.now) prefix.now)) }
+{
+    match scope.library(alloc, prefix) {
+        Ok(_) => Ok(false),
+        Err(ScopeFault::Broken) => Ok(true),
+        Err(ScopeFault::Memory) => Err(OutOfMemory),
+    }
+}
+
+/// Whether there is a prefix, and it is not declared.
+fn is_undeclared(
+    alloc: Global,
+    scope: &Scope<'_>,
+    prefix: Option<Prefix<'_>>,
+) -> Result<bool, OutOfMemory>
+    ensures { IfOk result (λ is. is ≡ is_unknown (scope_view scope.now) (option_map prefix_view prefix.entry)) }
+{
+    match prefix {
+        Some(Prefix::Namespace(prefix)) => lacks_namespace(alloc, scope, prefix),
+        Some(Prefix::Datatypes(prefix)) => lacks_library(alloc, scope, prefix),
+        None => Ok(false),
+    }
+}
+
+/// The prefix of a token inside so many annotations: nothing in an annotation has one.
+fn prefix_at<'a>(depth: usize, part: Part, token: &Token<'a>) -> Option<Prefix<'a>>
+    ensures { (number : ℕ) → option_map prefix_view result ≡ plain.prefix_at depth part (lexeme_at token.now.kind token.now.text.now number) }
+{
+    match depth {
+        0 => prefix_of(part, token),
+        _ => None,
+    }
+}
+
+/// Where the token after one of this kind is, inside so many annotations.
+fn part_at(depth: usize, part: Part, kind: TokenKind) -> Part
+    ensures { (text : List ℕ) (number : ℕ) → result ≡ plain.part_at depth part (lexeme_at kind text number) }
+{
+    match depth {
+        0 => part_after(part, kind),
+        _ => part,
+    }
+}
+
+/// Whether a token inside so many annotations has a prefix that is not declared.
+fn is_fault(
+    alloc: Global,
+    scope: &Scope<'_>,
+    depth: usize,
+    part: Part,
+    token: &Token<'_>,
+) -> Result<bool, OutOfMemory>
+    ensures { (number : ℕ) → IfOk result (λ is. is ≡ is_unknown (scope_view scope.now) (plain.prefix_at depth part (lexeme_at token.now.kind token.now.text.now number))) }
+{
+    is_undeclared(alloc, scope, prefix_at(depth, part, token))
+}
+
+/// The first token, and the tokens after it.
+fn find_first<'t, 'a>(tokens: &'t [Token<'a>]) -> Option<(Token<'a>, &'t [Token<'a>])>
+    ensures reads { (total : ℕ) → option_map (λ x. (lexeme_at x.0.kind x.0.text.now (total - length x.1.now), lexemes_in total x.1.now)) result ≡ plain.first_of (lexemes_in total tokens.now) }
+    ensures shorter { IfSome result (λ x. length x.1.now + 1 ≡ length tokens.now) }
+{
+    match tokens {
+        [first, rest @ ..] => Some((*first, rest)),
+        [] => None,
     }
 }
 
 /// The number, from 1, of the first token of a body that has a prefix that is not declared, or the number of tokens
 /// plus one if there is none.
-pub fn unruly_prefix(declared: &Declared<'_>, tokens: &[Token<'_>]) -> usize
-    ensures { result ≤ length tokens.now + 1 }
+pub fn undeclared_number(
+    alloc: Global,
+    scope: &Scope<'_>,
+    tokens: &[Token<'_>],
+) -> Result<usize, OutOfMemory>
+    ensures number { (total : ℕ) → IfOk result (λ number. number ≡ unknown_number (scope_view scope.now) (marks 0 parts.Body (lexemes_in total tokens.now))) }
+    ensures within { IfOk result (λ number. number ≤ length tokens.now + 1) }
 {
-    let mut position = Position {
-        annotations: 0,
-        is_in_class: false,
-        expected: Expected::Anything,
-    };
-    for (index, token) in tokens.iter().enumerate() {
-        if is_undeclared(declared, position, token) {
-            return index + 1;
+    let mut depth = 0usize;
+    let mut part = Part::Body;
+    let mut rest = tokens;
+    'tokens: while let Some((token, after)) = find_first(rest) {
+        let is_fault = is_fault(alloc, scope, depth, part, &token)?;
+        if is_fault {
+            return Ok(tokens.len() - rest.len() + 1);
         }
-        position = behind(position, token.kind);
+        part = part_at(depth, part, token.kind);
+        depth = depth_after(depth, token.kind);
+        rest = onward(after);
     }
-    tokens.len() + 1
+    Ok(tokens.len() + 1)
 }

@@ -3,7 +3,7 @@ use Rattle.std.specs.Prelude.{◌≡◌, ℕ, List, Option, Some, None}
 use Rattle.rnc_grammar.specs.declared.fault.ParseFault.{ParseFault}
 use Rattle.rnc_grammar.specs.declared.fault.ParseFault.TheVariants as faults
 use Rattle.rnc_model.specs.declarations.FileTree.{FileTree}
-use Rattle.rnc_model.specs.declarations.Parsing.{BreaksDeclarations}
+use Rattle.rnc_model.specs.declarations.FaultyTokens.{BreaksDeclarationsAt}
 use Rattle.rnc_model.specs.declared.file_place.FilePlace.{FilePlace}
 use Rattle.rnc_model.specs.grammar.Sentence.{BreaksGrammarAt}
 use Rattle.rnc_model.specs.loading.FaultPlaces.{BreaksClauseAt, IsTooDeepAt}
@@ -21,11 +21,11 @@ clause_of faults.Memory = None
 clause_of (faults.At c number) = Some c
 clause_of (faults.Clause c) = Some c
 
--- tokens break this clause at the token with this number; for a rule about declarations, no token is claimed
+-- tokens break this clause at the token with this number
 pub data BreaksAtToken (ts : List Lexeme) (k number : ℕ) : Type 0 where
   unexpected : BreaksGrammarAt ts number → k ≡ 6 → BreaksAtToken ts k number
   too_deep : IsTooDeepAt ts number → k ≡ 7 → BreaksAtToken ts k number
-  unruly : BreaksDeclarations ts → k ≡ 8 → BreaksAtToken ts k number
+  unruly : BreaksDeclarationsAt ts number → k ≡ 8 → BreaksAtToken ts k number
 
 -- the clause of the fault, and the number of the token
 abbrev pub IsNumberOf : List Lexeme → ParseFault → ℕ × ℕ → Type 0

@@ -1,0 +1,32 @@
+use Rattle.std.proofs.Common.{◌∙◌, ap, arith, length, sym}
+use Rattle.rnc_grammar.specs.views.Resolved.{scope_view}
+use Rattle.rnc_model.specs.tokens.Lexeme.{lexeme_at}
+use Rattle.rnc_syntax.specs.plain.Reading.{lexemes_in}
+use Rattle.rnc_places.proofs.FaultSteps.{depth_grows, fault_later, none_left}
+use Rattle.rnc_places.proofs.prefixes.undeclared_number.Goals as goal
+
+pub tokens-preserved : goal.tokens-preserved
+tokens-preserved c =
+    let same = ap length c.onward-rest.ensures in
+    let shorter = c.in-Some.ensures.shorter in
+    record {
+      number = λ total. fault_later (scope_view c.args.scope.now) c.tokens.depth c.tokens.part (lexemes_in total c.tokens.rest.now) _ _
+          (c.in-Some.ensures.reads total) (length c.args.tokens.now) (length c.tokens.rest.now) _ (c.tokens.invariant.number total)
+          (length c.onward-rest.result.now) (omega (arith, same, shorter)) c.tokens.invariant.within (sym (c.in_ok-is_fault.ensures _) ∙ c.if-is_fault.false)
+          c.depth_after-depth.result c.part_at-part.result (lexemes_in total c.onward-rest.result.now) (c.depth_after-depth.ensures _ _)
+          (c.part_at-part.ensures _ _) (ap (lexemes_in total) c.onward-rest.ensures);
+      depth = omega (
+        arith,
+        same,
+        shorter,
+        c.tokens.invariant.depth,
+        c.depth_after-depth.ensures c.in-Some.token.text.now 0,
+        depth_grows c.tokens.depth (lexeme_at c.in-Some.token.kind c.in-Some.token.text.now 0),
+      );
+      within = omega (arith, same, shorter, c.tokens.invariant.within);
+    }
+
+pub returns-clause-number : goal.returns-clause-number
+returns-clause-number c = λ total.
+    none_left (scope_view c.args.scope.now) c.tokens.depth c.tokens.part total c.tokens.rest.now (length c.args.tokens.now) _ (c.in_default.ensures.reads total)
+    (c.tokens.invariant.number total)

@@ -1,0 +1,2 @@
+-- The first fault of declarations and prefixes, found token by token.
+pub mod FaultNumbers
