@@ -416,5 +416,6 @@ module _ (ds : List syntax.Declaration) (s : Scope) (applied : declare_all nothi
     where
       unbody : (o : Option Scope) → o ≡ Some s → (o >>= λ s. body_in s f.body) ≡ body_in s f.body
       unbody o e = ap (λ o. o >>= λ s. body_in s f.body) e
+
       tree_of_file : (declare_all nothing_declared f.declarations >>= λ s. body_in s f.body) ≡ file_tree f
       tree_of_file = ap (λ o. o >>= λ s. body_in s f.body) (all_declared f.declarations nothing_declared) ∙ sym (file_tree_is f)
