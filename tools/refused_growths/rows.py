@@ -127,7 +127,7 @@ def row_over(runner, command, document, *names):
 
 
 def too_long(*_):
-    sys.exit(f"rows.py: the rows take more than {SECONDS} seconds")
+    sys.exit("tools/refused_growths: the runs take too long")
 
 
 def main(program, shim, *words):

@@ -23,7 +23,7 @@ import tempfile
 
 from rows import Count, Row, Runner, refuse_each, too_long
 
-FAILED, SECONDS, WHAT = 4, 600, "out of memory"
+FAILED, SECONDS, WHAT = 4, 1800, "out of memory"
 GRAMMAR = '<grammar xmlns="http://relaxng.org/ns/structure/1.0">'
 # Schemas are small, since each of their growths is refused in each case.
 FILES = {

@@ -9,7 +9,7 @@ ITEM = "<item at='1'>text and <![CDATA[more]]> \u00e9</item>"
 COUNT = 100_000
 EDITS = 100
 # Some 0.2 seconds when nothing else runs. To copy the whole text for each edit would take 20 seconds.
-SECONDS = 3.0
+SECONDS = 10.0
 
 
 class Large(WithServer):
