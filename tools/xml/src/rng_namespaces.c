@@ -37,13 +37,18 @@ static bool declare(struct reading *reading, struct span prefix, struct span uri
     if (!is_allowed(reading, prefix, uri)) {
         return false;
     }
+    uint32_t depth = *scope == 0 ? 1 : tree->declarations[*scope].depth + 1;
+    if (depth > MOST_IN_SCOPE) { /* each name looks through them */
+        fault_set(reading->fault, FAULT_OUTSIDE, reading->tag.place, "more than 1,024 declarations of namespaces are in scope: outside the profile");
+        return false;
+    }
     void *list = tree->declarations;
     if (!rng_grow(&list, tree->declaration_count, &tree->declaration_capacity, sizeof *tree->declarations)) {
         fault_set(reading->fault, FAULT_MEMORY, (struct place){0, 0}, "out of memory");
         return false;
     }
     tree->declarations = list;
-    tree->declarations[tree->declaration_count] = (struct rng_declaration){prefix, uri, *scope};
+    tree->declarations[tree->declaration_count] = (struct rng_declaration){prefix, uri, *scope, depth};
     *scope = (uint32_t)tree->declaration_count++;
     return true;
 }

@@ -202,7 +202,9 @@ void put_mention(struct rng_writer *writer, const char *word, uint32_t index) {
     const struct rng_node *node = rng_at(writer, index);
     struct bytes href = NO_BYTES;
     struct bytes words = NO_BYTES;
-    add_by_bases(&href, writer->tree, index, node->values[RNG_AT_HREF]);
+    if (writer->fault->kind == FAULT_NONE) { /* else the text is of no use */
+        add_by_bases(&href, writer->tree, index, node->values[RNG_AT_HREF]);
+    }
     bytes_text(&href); /* the room for a zero after it */
     if (!href.failed && writer->naming != NULL && writer->fault->kind == FAULT_NONE) {
         if (!writer->naming->name(writer->naming->context, &href, node->place, &words, writer->fault)) {

@@ -41,28 +41,32 @@ static struct span add(struct rng_prefixes *prefixes, struct span uri, struct sp
 /* Adds a prefix of a name that is made: the stem and the first number that is free. */
 static struct span make(struct rng_prefixes *prefixes, struct span uri) {
     struct bytes name = NO_BYTES;
-    size_t number = prefixes->count;
+    size_t number = prefixes->count > prefixes->number ? prefixes->count : prefixes->number;
     do {
         bytes_clear(&name);
         bytes_format(&name, "%s%zu", prefixes->stem, ++number);
     } while (!name.failed && find(prefixes, (struct span){name.data, name.length}) != NULL);
     prefixes->failed |= name.failed;
+    prefixes->number = number;
     struct span made = add(prefixes, uri, (struct span){name.data, name.length});
     bytes_free(&name);
     return made;
 }
 
 struct span rng_prefix_for(struct rng_prefixes *prefixes, struct span uri, struct span wanted) {
-    for (size_t at = 0; at < prefixes->count; at++) {
+    for (size_t at = 0; at < prefixes->count && !prefixes->is_full; at++) {
         if (is_same_uri(prefixes->list[at].uri, uri)) {
             return name_of(&prefixes->list[at]);
         }
+    }
+    if (prefixes->is_full) {
+        return (struct span){"p", 1}; /* the schema is refused */
     }
     return wanted.length > 0 && find(prefixes, wanted) == NULL ? add(prefixes, uri, wanted) : make(prefixes, uri);
 }
 
 bool rng_prefix_take(struct rng_prefixes *prefixes, struct span uri, struct span name) {
-    const struct rng_prefix *found = find(prefixes, name);
+    const struct rng_prefix *found = prefixes->is_full ? NULL : find(prefixes, name);
     if (found != NULL) {
         return is_same_uri(found->uri, uri);
     }

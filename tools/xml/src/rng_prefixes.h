@@ -17,6 +17,7 @@ struct rng_prefixes {
     size_t count;
     size_t capacity;
     const char *stem; /* of the names that are made: the stem and a number */
+    size_t number;    /* of the last one */
     bool failed;      /* memory ran out */
     bool is_full;     /* there are more than MOST_PREFIXES */
 };

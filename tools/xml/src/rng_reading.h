@@ -5,7 +5,7 @@
 #include "rng_tree.h"
 #include "xml_names.h"
 
-enum { MOST_OPEN = 512, MOST_ATTRIBUTES = 256 };
+enum { MOST_OPEN = 512, MOST_ATTRIBUTES = 256, MOST_IN_SCOPE = 1024 };
 
 /* An element whose end has not come. */
 struct open_element {

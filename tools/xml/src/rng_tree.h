@@ -72,6 +72,7 @@ struct rng_declaration {
     struct span prefix; /* empty: the default one */
     struct span uri;
     uint32_t around; /* the next one outwards; 0: none */
+    uint32_t depth;  /* how many are in scope with this one */
 };
 
 struct rng_tree {

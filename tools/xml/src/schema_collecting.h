@@ -17,6 +17,7 @@ struct collecting {
     struct meaning *meanings;
     size_t count;
     size_t capacity;
+    size_t mentions; /* that were looked up */
 };
 
 /* Notes that memory ran out. Always false. */
@@ -26,6 +27,11 @@ void files_problem(struct schema_files *files, int status, const struct bytes *l
 
 /* Adds the path of a file, and makes room for the zero after it. The file `-` is no standard input. */
 void add_path(struct bytes *to, const char *path);
+
+/* Whether there are more files than the library takes. Then it says S2, whatever others are mentioned. */
+bool files_are_too_many(const struct collecting *collecting);
+/* Counts a mention in this file, so that the time to look them up is bounded. False: there are too many, and the problem is noted. */
+bool count_mention(struct collecting *collecting, size_t by);
 
 /* Finds the file that the words mean. There may be none. False: there is a problem. */
 bool find_meaning(struct collecting *collecting, struct meaning *meaning);

@@ -14,6 +14,7 @@ enum {
     MOST_BYTES = 1048576,    /* of a file; with one more the same */
     MARK_BYTES = 3,          /* of a byte order mark, which the library does not get */
     MOST_XML_BYTES = 16777216, /* of a file in the XML syntax */
+    MOST_MENTIONS = 8192,    /* with more than 4,096 paths of them the library says S9 */
     MOST_VALUES = 100,       /* literals that are kept */
     MOST_VALUE_BYTES = 100
 };
@@ -236,6 +237,24 @@ static bool ask_catalogs(struct collecting *collecting, struct meaning *meaning)
     return is_good;
 }
 
+bool files_are_too_many(const struct collecting *collecting) {
+    return collecting->files->count > MOST_FILES;
+}
+
+bool count_mention(struct collecting *collecting, size_t by) {
+    struct schema_files *files = collecting->files;
+    if (++collecting->mentions <= MOST_MENTIONS) {
+        return true;
+    }
+    struct bytes line = NO_BYTES;
+    bytes_add_text(&line, "more than 8,192 mentions of files: outside the profile");
+    add_path(&files->problem_path, bytes_text(&files->list[by].path));
+    line.failed |= files->problem_path.failed;
+    files_problem(files, STATUS_REFUSED, &line);
+    bytes_free(&line);
+    return false;
+}
+
 bool find_meaning(struct collecting *collecting, struct meaning *meaning) {
     const char *file = mapped(collecting->request, &meaning->words);
     struct ways ways;
@@ -380,10 +399,10 @@ static bool take_mention(struct collecting *collecting, struct meaning *meaning,
     if (collecting->request->is_flat) {
         return refuse_mention(collecting, meaning, at);
     }
-    if (!is_utf_8(meaning->words.data, meaning->words.length)) {
-        return true; /* the library refuses the file */
+    if (!is_utf_8(meaning->words.data, meaning->words.length) || files_are_too_many(collecting)) {
+        return true; /* the library refuses the file, or the files */
     }
-    if (!find_meaning(collecting, meaning)) {
+    if (!count_mention(collecting, meaning->by) || !find_meaning(collecting, meaning)) {
         return false;
     }
     for (size_t index = 0; index < collecting->count; index++) {
@@ -394,11 +413,14 @@ static bool take_mention(struct collecting *collecting, struct meaning *meaning,
     if (!keep_meaning(collecting, meaning)) {
         return false;
     }
-    if (meaning->file.length == 0) {
-        const struct bytes *content = schema_file_written(&collecting->files->list[meaning->by]);
-        return keep_missing(collecting, meaning, place_at(content->data, content->length, NULL, at));
+    if (meaning->file.length > 0) {
+        return hand_in(collecting, meaning);
     }
-    return hand_in(collecting, meaning);
+    if (collecting->files->missing.is_there) {
+        return true; /* its place would be looked for in vain */
+    }
+    const struct bytes *content = schema_file_written(&collecting->files->list[meaning->by]);
+    return keep_missing(collecting, meaning, place_at(content->data, content->length, NULL, at));
 }
 
 /* Reads the literal that begins with the token, with its joined segments. `token` is then the token after it. */
@@ -548,7 +570,7 @@ static bool add_given(struct schema_files *files, const struct schema_request *r
 
 bool schema_files_collect(struct schema_files *files, const struct schema_request *request) {
     static const char *const simple[] = {"1", "a", "", "0", "true", "aaaaaaaa"};
-    struct collecting collecting = {files, request, NULL, 0, 0};
+    struct collecting collecting = {files, request, NULL, 0, 0, 0};
     memset(files, 0, sizeof *files);
     files->values = calloc(MOST_VALUES, sizeof *files->values);
     bool is_good = files->values != NULL ? add_given(files, request) : files_without_memory(files);

@@ -98,7 +98,13 @@ static bool name_file(void *context, const struct bytes *href, struct place plac
     struct meaning meaning = {NO_BYTES, NO_BYTES, naming->index};
     (void)fault;
     bytes_add(&meaning.words, href->data, href->length);
-    bool is_good = !meaning.words.failed ? find_meaning(collecting, &meaning) : files_without_memory(collecting->files);
+    if (files_are_too_many(collecting)) {
+        bytes_add(words, href->data, href->length);
+        bytes_free(&meaning.words);
+        return true;
+    }
+    bool is_good = !meaning.words.failed ? count_mention(collecting, naming->index) && find_meaning(collecting, &meaning)
+                                         : files_without_memory(collecting->files);
     struct meaning *same = is_good ? meaning_of_file(collecting, &meaning) : NULL;
     if (same != NULL) {
         bytes_add(words, same->words.data, same->words.length);

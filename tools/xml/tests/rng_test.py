@@ -4,7 +4,7 @@ import os
 import re
 import unittest
 
-from testing import PROGRAMS, RNCV_XML, InFolder
+from testing import PROGRAMS, RNCV_XML, InFolder, processor_seconds
 
 RNG2RNC = PROGRAMS / "rng2rnc"
 NS = "http://relaxng.org/ns/structure/1.0"
@@ -232,6 +232,28 @@ class Refused(InRng):
         many = "".join(f"<data type='a' datatypeLibrary='urn:{number}'/>" for number in range(4_097))
         self.write("x.rng", schema(f"<choice @>{many}</choice>"))
         self.assertEqual(self.convert("x.rng"), ("", "x.rng:1:1: more than 4,096 namespaces or libraries: outside the profile\n", 3))
+
+
+    def test_time(self):
+        """It does not grow with the square of the file."""
+        group = "<group " + " ".join(f"xmlns:p@{number}='u'" for number in range(200)) + ">"
+        groups = "".join(group.replace("@", f"{number}x") for number in range(6))
+        self.write("x.rng", f"<group xmlns='{NS}'>{groups}<text/>{'</group>' * 7}")
+        self.assertRegex(self.convert("x.rng")[1], r"^x\.rng:1:\d+: more than 1,024 declarations of namespaces are in scope: outside the profile\n$")
+        self.write("x.rng", schema(f"<choice @>{''.join(f'<externalRef href={chr(39)}m{number}{chr(39)}/>' for number in range(30_000))}</choice>"))
+        self.write("x.rnc", " | ".join(f'external "m{number}"' for number in range(40_000)))
+        before = processor_seconds()
+        for name in ("x.rng", "x.rnc"):
+            self.assertEqual(self.judge(name), (f"{name}: more than 8,192 mentions of files: outside the profile\n", 3))
+        self.assertLess(processor_seconds() - before, 5)
+
+    def test_many_mentions(self):
+        for number in range(70):
+            self.write(f"m{number}.rng", schema(f"<element @ name='m{number}'><empty/></element>"))
+        for count, words in ((60, ""), (70, r"x\.rng: S2 .*\n")):
+            mentions = "".join(f"<externalRef href='m{number}.rng'/>" for number in range(count))
+            self.write("x.rng", schema(f"<choice @>{mentions}</choice>"))
+            self.assertRegex(self.judge("x.rng")[0], f"^{words}$")
 
 
 class Files(InRng):
