@@ -239,7 +239,9 @@ int main(void) {
     rncv_schema schema = RNCV_NOTHING;
 
     CHECK(compile_words(&schema) == RNCV_DONE);
-    check_nothing_is_left("no document");
+    if (!is_quick()) {
+        check_nothing_is_left("no document");
+    }
     for (size_t piece = 1; piece <= 4096; piece *= 8) {
         forgets(&schema, ")doc\n", piece, RNCV_VALID);
         forgets(&schema, "(more\n)more\n)doc\n", piece, RNCV_INVALID);
