@@ -26,9 +26,9 @@ all: build
 
 build:
 	cd crates/rncv && rt run -- valid ../../examples/first/s.rnc < ../../examples/first/document.pyx
-	PREFIX= tools/library/build.sh "$$LIBRARY"
-	PREFIX= RNCV_LIBRARY= tools/xml/library.sh "$$LIBRARY"
-	RNCV_LIBRARY="$$LIBRARY" tools/xml/build.sh "$$XML_PROGRAMS"
+	PREFIX= programs/library/build.sh "$$LIBRARY"
+	PREFIX= RNCV_LIBRARY= programs/xml/library.sh "$$LIBRARY"
+	RNCV_LIBRARY="$$LIBRARY" programs/xml/build.sh "$$XML_PROGRAMS"
 
 try:
 	cd crates/rncv && rt try --data s.rnc=../../examples/letter/s.rnc -- valid s.rnc < ../../examples/letter/document.pyx
@@ -38,13 +38,13 @@ test:
 	PREFIX= .ci/run
 
 install:
-	@tools/package/install.sh install
+	@programs/packaging/install.sh install
 
 uninstall:
-	@tools/package/install.sh uninstall
+	@programs/packaging/install.sh uninstall
 
 deb:
-	@tools/package/deb.sh
+	@programs/packaging/deb.sh
 
 clean:
 	rm -rf build

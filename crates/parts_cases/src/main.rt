@@ -4,17 +4,13 @@
 //! The rows of each are in a file of their own. The module that reads them describes them.
 #![tactic(auto)]
 
-mod grammar_builder;
 mod model_devices;
-mod model_document;
 mod model_rows;
 mod model_texts;
 mod name_classes;
 mod name_rows;
 mod text_rows;
 mod type_rows;
-mod well_formed;
-mod written_tables;
 
 use std::io;
 

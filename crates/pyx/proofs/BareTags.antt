@@ -5,7 +5,7 @@ use Rattle.rng_model.specs.plain.Answers.{Gives}
 use Rattle.rng_model.specs.declared.document.Attr.{Attr}
 use Rattle.rng_model.specs.documents.PyxLines.{WrittenName}
 use Rattle.rng_model.specs.documents.PyxNamespaces.{WrittenAttribute}
-use Rattle.pyx_namespaces.specs.plain.Declarations.{Declared, any_forbidden, is_written_twice}
+use Rattle.pyx.specs.plain.Declarations.{Declared, any_forbidden, is_written_twice}
 use Rattle.pyx.specs.declared.fault.LineFault.{LineFault}
 use Rattle.pyx.specs.declared.fault.LineFault.TheVariants as faults
 use Rattle.pyx.specs.plain.TagReader.{Element, element_name, expanded, is_named_twice, tag_read, with_name}

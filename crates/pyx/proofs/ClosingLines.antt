@@ -8,15 +8,15 @@ use Rattle.std.proofs.lemmas.List.Elements.{All-from_recursion, recursion_from_A
 use Rattle.rng_model.specs.names.Characters.{is_xml_char}
 use Rattle.rng_model.specs.documents.Lines.{Line, lines, with_first}
 use Rattle.rng_model.specs.documents.PyxLines as said
-use Rattle.rng_model.specs.documents.PyxLines.{Said, WrittenName, IsNcname, IsName, alone, prefixed, Says, says_start, says_end, IsGoodLine, AreGoodLines, no_lines}
+use Rattle.rng_model.specs.documents.PyxLines.{Said, WrittenName, IsNcnameText, IsName, alone, prefixed, Says, says_start, says_end, IsGoodLine, AreGoodLines, no_lines}
 use Rattle.rng_model.specs.documents.PyxLines.{line_and}
 use Rattle.rng_model.specs.documents.PyxTrees.{Placed, Event, events_of, IsPyxDocument}
 use Rattle.rng_model.specs.documents.PyxClauses as clauses
 use Rattle.rng_model.specs.documents.PyxClauses.{AreOpenTags, none_open, one_open}
 use Rattle.rng_model.proofs.PyxExamples.{good as good_example, a_is_a_name}
-use Rattle.pyx_namespaces.specs.plain.Cuts.{at_byte}
+use Rattle.pyx.specs.plain.Cuts.{at_byte}
 use Rattle.pyx.specs.plain.TagReader.{Element, tag_read, element_name, expanded, is_named_twice}
-use Rattle.pyx_namespaces.specs.plain.Declarations.{namespace_of, found_in, any_forbidden, is_written_twice}
+use Rattle.pyx.specs.plain.Declarations.{namespace_of, found_in, any_forbidden, is_written_twice}
 use Rattle.pyx.specs.plain.DocumentReader.{State, Tag, Open, Turn, followed, after_events, declared_in, line_read, all_read, nothing_read, at_end, all_ended}
 use Rattle.pyx.specs.plain.DocumentReader.{document_read}
 use Rattle.rng_model.specs.documents.Documents.{BeginsDocument}

@@ -3,7 +3,7 @@ use Rattle.std.proofs.Common.{◌≡◌, ◌∙◌, ℕ, Bool, true, false, cond
 use Rattle.rng_model.specs.documents.PyxLines.{WrittenName}
 use Rattle.rng_model.specs.documents.PyxNamespaces.{WrittenAttribute}
 use Rattle.pyx.specs.plain.DocumentReader.{Open, declared_in}
-use Rattle.pyx_namespaces.specs.plain.Declarations.{Declared, beforehand, declared_by, declares, found_in, namespace_of, or_else}
+use Rattle.pyx.specs.plain.Declarations.{Declared, beforehand, declared_by, declares, found_in, namespace_of, or_else}
 use Rattle.pyx.specs.plain.TagReader.{element_name, in_namespace}
 use Rattle.pyx.specs.views.ElementView.{all_declared}
 

@@ -6,20 +6,21 @@ use Rattle.std.proofs.lemmas.List.{length-append, append-nil}
 use Rattle.rng_model.specs.documents.Lines.{Line, line_limit}
 use Rattle.rng_model.specs.documents.PyxFaults.{HasKind, Fault, EndsInTag}
 use Rattle.rng_model.specs.documents.PyxLines as said
-use Rattle.rng_model.specs.documents.PyxLines.{Said, WrittenName, IsGoodLine, AreGoodLines, BreaksWithin, BreaksAlone, within, too_long}
-use Rattle.rng_model.specs.documents.PyxNamespaces.{WrittenAttribute, Scope}
+use Rattle.rng_model.specs.documents.PyxLines.{Said, WrittenName, IsGoodLine, AreGoodLines, BreaksAlone}
+use Rattle.rng_model.specs.documents.PyxNamespaces.{WrittenAttribute, NamespaceScope}
 use Rattle.rng_model.specs.documents.PyxTrees.{Event}
 use Rattle.rng_model.specs.documents.PyxClauses as clauses
 use Rattle.rng_model.specs.documents.PyxClauses.{BeginsOtherwise, AreOpenTags, EndsWithTag, EndsInText, BreaksNamespaces, RepeatsName, BreaksHere, Breaks, at_line}
 use Rattle.rng_model.specs.documents.PyxClauses.{unfinished, rootless}
-use Rattle.pyx_namespaces.specs.plain.Cuts.{behind}
+use Rattle.pyx.specs.plain.Cuts.{behind}
 use Rattle.pyx.specs.plain.LineReader.{said_of}
-use Rattle.pyx_namespaces.specs.plain.WrittenNames.{written_of}
+use Rattle.pyx.specs.plain.WrittenNames.{written_of}
 use Rattle.pyx.specs.plain.TagReader.{Element, tag_read}
 use Rattle.pyx.specs.plain.DocumentReader as reader
 use Rattle.pyx.specs.plain.DocumentReader.{State, Tag, Open, Turn, fault, silent, go_on, followed, after_events, declared_in, close_tag, tag_ended, judged, line_read}
 use Rattle.pyx.specs.plain.DocumentReader.{all_read, nothing_read, at_end, at_last, all_ended, document_read}
-use Rattle.pyx.proofs.LineClauses.{good_line, broken_line}
+use Rattle.rng_model.proofs.LastLines.{tag_is_within}
+use Rattle.pyx.proofs.LineClauses.{BreaksLine, within, too_long, good_line, broken_line}
 use Rattle.pyx.proofs.TagAnswers.{TagTells, tag_tells}
 use Rattle.pyx.proofs.SaidLines.{is_attribute, good, line_said}
 use Rattle.pyx.proofs.StateSteps.{inside, in_tag, open_of, not_zero}
@@ -39,7 +40,7 @@ failed clause line = Err (at clause line)
 
 -- the tag at the end of these lines breaks this clause
 pub record TagBreaks (front : List Line) (clause : ℕ) : Type 0 where
-  pub outer : Scope
+  pub outer : NamespaceScope
   pub name : WrittenName
   pub written : List WrittenAttribute
   pub ends : EndsWithTag front outer name written
@@ -68,7 +69,7 @@ other_end : {front : List Line} {l : Line} {tags : List clauses.Tag} {o : Open} 
 other_end {front} {l} {o = o} {name = name} g d (one_matched {tag} s p n m) differs behind =
     let k = end_line g in
     let h = start_line s.first in
-    clauses.other_name g.within k.1 d h.1 (λ e. differs (sym h.2 ∙ ap written_of (sym e) ∙ k.2))
+    clauses.within g.within (clauses.other_name k.1 d h.1 (λ e. differs (sym h.2 ∙ ap written_of (sym e) ∙ k.2)))
 
 module _ (front : List Line) (l : Line) where
   here : {turn : Turn State} {n : ℕ} (clause : ℕ) → n ≡ length front → turn ≡ fault clause (n + 1) → clause ≤ 10
@@ -82,24 +83,24 @@ module _ (front : List Line) (l : Line) where
       → Move w n b root os x turn → IsGoodLine l x → (is_attribute x ≡ true → EndsInTag front → ⊥) → b ≡ length l.bytes → LineTells front l turn
   content_tells os w n b root x turn c (instruction_passes e) g u z = on e (after_instruction front l c g)
   content_tells os w n b root x turn c (attribute_outside e) g u z =
-      here 7 c.count e (lit≤ tt) (λ behind. clauses.no_tag g.within (good_kind g) (u refl))
+      here 7 c.count e (lit≤ tt) (λ behind. clauses.within g.within (clauses.no_tag (good_kind g) (u refl)))
   content_tells os w n b root x turn c (text_joins h e) g u z = on e (after_text front l c g h)
   content_tells os w n b root x turn c (text_too_long {v} h e) g u z =
-      here 10 c.count e (lit≤ tt) (λ behind. clauses.joined_text
-      (text_more l (said.text v) (subst (EndsInText front) c.joined (ends_in_text c.good)) g) (omega (arith, h, length-append w v)))
+      here 10 c.count e (lit≤ tt) (λ behind. clauses.within g.within (clauses.joined_text
+      (text_more l (said.text v) (subst (EndsInText front) c.joined (ends_in_text c.good)) g) (omega (arith, h, length-append w v))))
   content_tells os w n b root x turn c (text_outside e) g u z =
-      here 9 c.count e (lit≤ tt) (λ behind. clauses.text_outside g.within (good_kind g) (none_open_by c.are_open c.matched))
+      here 9 c.count e (lit≤ tt) (λ behind. clauses.within g.within (clauses.text_outside (good_kind g) (none_open_by c.are_open c.matched)))
   content_tells os w n b root x turn c (start_begins fits h e) g u z = on e (after_start front l c g h z)
   content_tells os w n b root x turn c (start_too_deep h e) g u z =
-      here 10 c.count e (lit≤ tt) (λ behind. clauses.elements (good_kind g) c.are_open (omega (arith, h, matched_length c.matched)))
+      here 10 c.count e (lit≤ tt) (λ behind. clauses.within g.within (clauses.elements (good_kind g) c.are_open (omega (arith, h, matched_length c.matched))))
   content_tells os w n b root x turn c (start_again e) g u z =
       let r = root_found front c.rooted in
       here 9 c.count e (lit≤ tt)
-      (λ behind. clauses.second_root r.front r.rest r.root g.within (good_kind g) (none_open_by c.are_open c.matched) r.parts r.opens)
+      (λ behind. clauses.within g.within (clauses.second_root r.front r.rest r.root (good_kind g) (none_open_by c.are_open c.matched) r.parts r.opens))
   content_tells os w n b root x turn c (end_closes q e) g u z = on e (after_end front l c g)
   content_tells os w n b root x turn c (end_of_other q e) g u z = here 8 c.count e (lit≤ tt) (other_end g c.are_open c.matched q)
   content_tells os w n b root x turn c (end_of_none e) g u z =
-      here 8 c.count e (lit≤ tt) (λ behind. clauses.none_to_end g.within (good_kind g) (none_open_by c.are_open c.matched))
+      here 8 c.count e (lit≤ tt) (λ behind. clauses.within g.within (clauses.none_to_end (good_kind g) (none_open_by c.are_open c.matched)))
 
 -- ---- tags
 
@@ -135,7 +136,7 @@ tag_line_tells : (front : List Line) (l : Line) (os : List Open) (t : Tag) (n b 
     → TagMove os t n b x turn → IsGoodLine l x → b ≡ length l.bytes → LineTells front l turn
 tag_line_tells front l os t n b x turn c (attribute_added {a} {v} h e) g z = on front l e (after_attribute front l b a v c g h z)
 tag_line_tells front l os t n b x turn c (attribute_too_many h e) g z =
-    here front l 10 c.count e (lit≤ tt) (λ behind. clauses.attributes (good_kind g) c.ends (omega (arith, h, tag_lines c)))
+    here front l 10 c.count e (lit≤ tt) (λ behind. clauses.within g.within (clauses.attributes (good_kind g) c.ends (omega (arith, h, tag_lines c))))
 tag_line_tells front l os t n b x turn c (tag_refused k p q e) g z =
     tag_breaks k (ap (λ (r : Turn State). r.0) e ∙ ap (failed k) c.count) (tag_broken c q) (plain_not x l g p)
 tag_line_tells front l os t n b x turn c (tag_closes {inner} e p q m is) g z =
@@ -144,7 +145,7 @@ tag_line_tells front l os t n b x turn c (tag_closes {inner} e p q m is) g z =
 
 -- ---- lines that break something by themselves
 
-within_few : {l : Line} {k : ℕ} → BreaksWithin l k → k ≤ 6
+pub within_few : {l : Line} {k : ℕ} → BreaksAlone l k → k ≤ 6
 within_few (said.unended e) = lit≤ tt
 within_few (said.no_utf8 n) = lit≤ tt
 within_few (said.no_xml_char u n) = lit≤ tt
@@ -157,9 +158,14 @@ within_few (said.bad_attribute_name e c n) = lit≤ tt
 within_few (said.no_space e n) = lit≤ tt
 
 -- a clause that a line breaks by itself is at most 6, or the line is too long
-pub alone_few : {l : Line} {k : ℕ} → BreaksAlone l k → (k ≤ 6) ⊎ ((k ≡ 10) × (line_limit < length l.bytes))
+pub alone_few : {l : Line} {k : ℕ} → BreaksLine l k → (k ≤ 6) ⊎ ((k ≡ 10) × (line_limit < length l.bytes))
 alone_few (within h b) = inl (within_few b)
 alone_few (too_long h) = inr (refl, h)
+
+-- so it is broken wherever the line is
+line_breaks : {before behind : List Line} {l : Line} {clause : ℕ} → BreaksLine l clause → BreaksHere before l behind clause
+line_breaks (within h b) = clauses.within h (clauses.alone b)
+line_breaks (too_long h) = clauses.too_long h
 
 at_most_ten : {k : ℕ} {P : Type 0} → (k ≤ 6) ⊎ ((k ≡ 10) × P) → k ≤ 10
 at_most_ten (inl h) = omega (arith, h)
@@ -198,9 +204,9 @@ bad_tells : {front : List Line} {s : State} (l : Line) (k : ℕ) → Place front
 bad_tells {front} l k (at_content {os} {w} {n} {root} c u) e =
     let b = broken_line l k e in
     here front l k c.count (bad_line l (inside os w n root) k e ∙ ap (λ (t : Turn State). followed t (λ t. fault k (t.count + 1))) (no_tag_ended l os w n root))
-    (at_most_ten (alone_few b)) (λ behind. clauses.alone b)
+    (at_most_ten (alone_few b)) (λ behind. line_breaks b)
 bad_tells {front} l k (at_tag {os} {t} {n} c) e = go (is_kind 65 l.bytes) (tag_read (declared_in os) t.name t.declared t.others) refl refl where
-  b : BreaksAlone l k
+  b : BreaksLine l k
   b = broken_line l k e
 
   closing : is_kind 65 l.bytes ≡ false
@@ -215,9 +221,9 @@ bad_tells {front} l k (at_tag {os} {t} {n} c) e = go (is_kind 65 l.bytes) (tag_r
       → LineTells front l (line_read l (in_tag os t n))
   go true r p q = here front l k c.count (bad_line l (in_tag os t n) k e
       ∙ ap (λ (t : Turn State). followed t (λ t. fault k (t.count + 1))) (ended_silent l (in_tag os t n) p))
-      (at_most_ten (alone_few b)) (λ behind. clauses.alone b)
+      (at_most_ten (alone_few b)) (λ behind. line_breaks b)
   go false (Ok x) p q = breaks_here k (ap (λ (r : Turn State). r.0) (closes (Ok x) q p) ∙ ap (λ (m : ℕ). failed k (m + 1)) c.count)
-      (at_most_ten (alone_few b)) (λ behind. clauses.alone b)
+      (at_most_ten (alone_few b)) (λ behind. line_breaks b)
   go false (Err j) p q = tag_breaks j (ap (λ (r : Turn State). r.0) (closes (Err j) q p) ∙ ap (failed j) c.count) (tag_broken c q) (not_kind 65 l p)
 
 good_tells : {front : List Line} {s : State} (l : Line) (x : Said) → Place front s → IsGoodLine l x → LineTells front l (line_read l s)
@@ -254,8 +260,8 @@ tag_here : {before behind : List Line} {l : Line} {clause : ℕ} → TagBreaks (
     → BreaksHere before l behind clause
 tag_here {before} {behind} {l} {clause} b n = go b.breaks where
   go : ((clause ≡ 11) × BreaksNamespaces b.outer b.name b.written) ⊎ ((clause ≡ 12) × RepeatsName b.outer b.written) → BreaksHere before l behind clause
-  go (inl p) = subst (BreaksHere before l behind) (sym p.0) (clauses.namespaces b.ends n p.1)
-  go (inr p) = subst (BreaksHere before l behind) (sym p.0) (clauses.repeated_name b.ends n p.1)
+  go (inl p) = subst (BreaksHere before l behind) (sym p.0) (clauses.within (tag_is_within before l b.ends) (clauses.namespaces b.ends n p.1))
+  go (inr p) = subst (BreaksHere before l behind) (sym p.0) (clauses.within (tag_is_within before l b.ends) (clauses.repeated_name b.ends n p.1))
 
 pub tag_breaks_all : {front behind all : List Line} {clause : ℕ} → TagBreaks front clause → BeginsOtherwise 65 behind → all ≡ front ++ behind
     → Breaks all (at clause (length front))

@@ -8,13 +8,13 @@ use Rattle.rng_model.specs.documents.Lines.{Line, lines, attribute_limit, open_l
 use Rattle.rng_model.specs.names.Names.{Name}
 use Rattle.rng_model.specs.documents.PyxLines as said
 use Rattle.rng_model.specs.documents.PyxLines.{Said, WrittenName}
-use Rattle.rng_model.specs.documents.PyxNamespaces.{WrittenAttribute, AreWritten, none_written, written_and, AreParted, Scope}
+use Rattle.rng_model.specs.documents.PyxNamespaces.{WrittenAttribute, AreWritten, none_written, written_and, AreParted, NamespaceScope}
 use Rattle.rng_model.specs.documents.PyxTrees.{Placed, element_at, PlacedItems, none_placed, placed_and, Event, events_of, events_in, IsRun, no_run, text_and}
 use Rattle.rng_model.specs.documents.PyxTrees.{instruction_and}
 use Rattle.rng_model.specs.documents.PyxTrees.{AreInstructions, no_instructions, another_instruction, string_before, IsTag, IsElement, element, IsContent, last_run}
 use Rattle.rng_model.specs.documents.PyxTrees.{run_and_element, IsPyxDocument}
 use Rattle.pyx.specs.plain.TagReader.{Element, tag_read}
-use Rattle.pyx_namespaces.specs.plain.Declarations.{declared_by}
+use Rattle.pyx.specs.plain.Declarations.{declared_by}
 use Rattle.pyx.specs.plain.DocumentReader.{State, Tag, Open, Turn, after_events, followed, declared_in, with_attribute, nothing_read, at_end, all_ended}
 use Rattle.pyx.specs.plain.DocumentReader.{document_read}
 use Rattle.pyx.proofs.TagNamespaces.{scope_in, AllDeclared}
@@ -160,10 +160,10 @@ run_plain no_run = tt
 run_plain (text_and d e) = refl
 run_plain (instruction_and d) = refl
 
-element_plain : {room n : ℕ} {scope : Scope} {ys : List Said} {tree : Placed} → IsElement room scope n ys tree → BeginsPlain ys
+element_plain : {room n : ℕ} {scope : NamespaceScope} {ys : List Said} {tree : Placed} → IsElement room scope n ys tree → BeginsPlain ys
 element_plain (element t c parts e) = subst BeginsPlain (sym parts) refl
 
-content_plain : {room n : ℕ} {scope : Scope} {xs : List Said} {kids : PlacedItems} → IsContent room scope n xs kids → BeginsPlain xs
+content_plain : {room n : ℕ} {scope : NamespaceScope} {xs : List Said} {kids : PlacedItems} → IsContent room scope n xs kids → BeginsPlain xs
 content_plain (last_run d h e) = run_plain d
 content_plain (run_and_element {run = xs} {inner = ys} {more = zs} d h el c parts e) =
     subst BeginsPlain (sym parts) (append_plain xs (ys ++ zs) (run_plain d) (append_plain ys zs (element_plain el) (content_plain c)))
@@ -186,7 +186,7 @@ early_list bs (x ∷ xs) last os t e n u p q = early_all bs x (xs ++ last ∷ []
 -- ---- elements
 
 -- the open elements declare this, each prefix once in a tag
-pub record Declares (os : List Open) (scope : Scope) : Type 0 where
+pub record Declares (os : List Open) (scope : NamespaceScope) : Type 0 where
   pub is : scope ≡ scope_in (declared_in os)
   pub declared : AllDeclared (declared_in os)
   pub once : IsScopeOnce (scope_in (declared_in os))
@@ -213,7 +213,7 @@ element_joins bs xs ys all name q attrs kids os t root ws n i j m fits h g u fir
     ∙ rw (p, inner.events, append_assoc) refl
 
 -- the declarations of a tag come before those around it
-inner_scope : (os : List Open) (o : Open) (ws others : List WrittenAttribute) (outer scope : Scope) (name : WrittenName) (xs : List Said) (q : Name)
+inner_scope : (os : List Open) (o : Open) (ws others : List WrittenAttribute) (outer scope : NamespaceScope) (name : WrittenName) (xs : List Said) (q : Name)
     (attrs : List Attribute) → Declares os outer → (t : IsTag outer name xs q attrs scope) → IsSplit ws o.declared others → t.written ≡ ws
     → Declares (o ∷ os) scope
 inner_scope os o ws others outer scope name xs q attrs d t s e =
@@ -223,17 +223,17 @@ inner_scope os o ws others outer scope name xs q attrs d t s e =
       once = (λ u. t.once (once_declared t.are_parted u (ap prefixes_of (sym k.0))), d.once);
     }
 
-tag_element : (os : List Open) (g : Tag) (ws : List WrittenAttribute) (outer scope : Scope) (name : WrittenName) (xs : List Said) (q : Name)
+tag_element : (os : List Open) (g : Tag) (ws : List WrittenAttribute) (outer scope : NamespaceScope) (name : WrittenName) (xs : List Said) (q : Name)
     (attrs : List Attribute) → Declares os outer → (t : IsTag outer name xs q attrs scope) → IsSplit ws g.declared g.others → t.written ≡ ws
     → g.name ≡ name → tag_read (declared_in os) g.name g.declared g.others ≡ Ok (record { name = q; attrs = attrs })
 tag_element os g ws outer scope name xs q attrs d t s e f =
     ap (λ (x : WrittenName). tag_read (declared_in os) x g.declared g.others) f
-    ∙ subst (λ (x : Scope). (t : IsTag x name xs q attrs scope) → t.written ≡ ws
+    ∙ subst (λ (x : NamespaceScope). (t : IsTag x name xs q attrs scope) → t.written ≡ ws
     → tag_read (declared_in os) name g.declared g.others ≡ Ok (record { name = q; attrs = attrs })) (sym d.is)
     (λ t e. tag_is (declared_in os) name ws g.declared g.others s t e d.declared d.once) t e
 
 mutual
-  element_reads : {room n : ℕ} {scope : Scope} {ys : List Said} {tree : Placed} → IsElement room scope n ys tree → (bs : List ℕ) (os : List Open)
+  element_reads : {room n : ℕ} {scope : NamespaceScope} {ys : List Said} {tree : Placed} → IsElement room scope n ys tree → (bs : List ℕ) (os : List Open)
       (t : List ℕ) (root : Bool) (m : ℕ) → Declares os scope → room + length os ≡ open_limit → (root && length os == 0) ≡ false → m ≡ n + length ys
       → said_lines bs ys (inside os t n root) ≡ good (inside os [] m true) (text_event (n + 1) t ++ events_of tree)
   element_reads (element {room} {n} {outer} {scope} {all} {attributes = xs} {content = ys} {tree} {name} {q} {attrs} {kids} tag c parts e) bs os t root m d r
@@ -246,7 +246,7 @@ mutual
       (inner_scope os (open_of g.tag) tag.written g.tag.others outer scope name xs q attrs d tag g.split refl) (omega (arith, r)) refl)
       (omega (arith, p, ap length parts, length-append xs (ys ++ said.end name ∷ []), length-append ys (said.end name ∷ []))) parts)
 
-  content_reads : {room n : ℕ} {scope : Scope} {xs : List Said} {kids : PlacedItems} → IsContent room scope n xs kids → (bs : List ℕ) (o : Open)
+  content_reads : {room n : ℕ} {scope : NamespaceScope} {xs : List Said} {kids : PlacedItems} → IsContent room scope n xs kids → (bs : List ℕ) (o : Open)
       (os : List Open) (m : ℕ) → Declares (o ∷ os) scope → room + length (o ∷ os) ≡ open_limit → m ≡ n + length xs → Inner bs xs kids o os n m
   content_reads (last_run {n = n} {run = xs} {kids} {joined = t} d h q) bs o os m s r e =
       last_content bs xs t o os n m (n + length xs + 1) kids e d h (omega (arith, e)) q

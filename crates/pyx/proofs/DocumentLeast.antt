@@ -7,21 +7,22 @@ use Rattle.rng_model.specs.documents.Lines.{Line, line_limit, attribute_limit, o
 use Rattle.rng_model.specs.documents.PyxFaults.{HasKind, Fault, EndsInTag, IsBefore}
 use Rattle.rng_model.specs.documents.PyxLines as said
 use Rattle.rng_model.specs.documents.PyxLines.{Said, WrittenName, IsGoodLine, AreGoodLines}
-use Rattle.rng_model.specs.documents.PyxNamespaces.{WrittenAttribute, Scope}
+use Rattle.rng_model.specs.documents.PyxNamespaces.{WrittenAttribute, NamespaceScope}
 use Rattle.rng_model.specs.documents.PyxTrees.{Event}
 use Rattle.rng_model.specs.documents.PyxClauses as clauses
 use Rattle.rng_model.specs.documents.PyxClauses.{BeginsOtherwise, AreOpenTags, none_open, SaysTag, HasScope, EndsWithTag, EndsInText, BreaksNamespaces, RepeatsName}
 use Rattle.rng_model.specs.documents.PyxClauses.{BreaksHere}
 use Rattle.rng_model.specs.documents.PyxClauses.{Breaks, at_line, unfinished, rootless, IsFirstFault}
 use Rattle.pyx.specs.plain.LineReader.{said_of}
-use Rattle.pyx_namespaces.specs.plain.WrittenNames.{written_of}
+use Rattle.pyx.specs.plain.WrittenNames.{written_of}
 use Rattle.pyx.specs.plain.TagReader.{Element, tag_read}
 use Rattle.pyx.specs.plain.DocumentReader as reader
 use Rattle.pyx.specs.plain.DocumentReader.{State, Tag, Open, Turn, fault, silent, go_on, followed, after_events, declared_in, close_tag, tag_ended, line_read}
 use Rattle.pyx.specs.plain.DocumentReader.{all_read}
 use Rattle.pyx.specs.plain.DocumentReader.{nothing_read, at_end, at_last, all_ended, document_read}
-use Rattle.pyx.proofs.LineClauses.{good_line, broken_line, alone_most}
-use Rattle.pyx_namespaces.proofs.WrittenNames.{written_back, written_bytes}
+use Rattle.pyx.proofs.LineClauses.{BreaksLine, good_line, broken_line, alone_most}
+use Rattle.pyx.proofs.LineClauses as line_clauses
+use Rattle.pyx.proofs.WrittenNames.{written_back, written_bytes}
 use Rattle.pyx.proofs.TagExact.{tag_namespaces, tag_repeats}
 use Rattle.pyx.proofs.LineTurns.{followed_same, followed_twice}
 use Rattle.pyx.proofs.SaidLines.{is_attribute, line_said}
@@ -240,7 +241,7 @@ module _ (front : List Line) where
     go (Ok x) e = f x (good_line l x e)
     go (Err j) e = bad_case l j k p e (few (alone_few (broken_line l j e)) h)
 
-  alone_case : {s : State} (l : Line) (k : ℕ) → Place front s → said.BreaksAlone l k → AtMost (at k (length front + 1)) (line_read l s)
+  alone_case : {s : State} (l : Line) (k : ℕ) → Place front s → BreaksLine l k → AtMost (at k (length front + 1)) (line_read l s)
   alone_case l k p b = let m = alone_most b in bad_case l m.answer k p m.is m.le
 
 -- the tag that ends at this line breaks the clause
@@ -265,28 +266,29 @@ long_text {front} {l} said.instruction g q t h = good_case front 10 l said.instr
 
 here_most : {front behind : List Line} {l : Line} {s : State} {k : ℕ} → Place front s → BreaksHere front l behind k
     → AtMost (at k (length front + 1)) (line_read l s) ⊎ TagEnds front l behind k
-here_most {front} {l = l} {k = k} p (clauses.alone b) = inl (alone_case front l k p b)
-here_most {front} {l = l} p (clauses.no_tag h kind none) = inl (judged front l 7 p (lit≤ tt) (inl h) (λ x g. let a = says_an_attribute x g kind in
+here_most {front} {l = l} p (clauses.too_long h) = inl (alone_case front l 10 p (line_clauses.too_long h))
+here_most {front} {l = l} {k = k} p (clauses.within h (clauses.alone b)) = inl (alone_case front l k p (line_clauses.within h b))
+here_most {front} {l = l} p (clauses.within h (clauses.no_tag kind none)) = inl (judged front l 7 p (lit≤ tt) (inl h) (λ x g. let a = says_an_attribute x g kind in
     no_tag_case front l a.0 a.1 p (subst (IsGoodLine l) a.2 g) none))
-here_most {front} {l = l} p (clauses.none_to_end h kind d) = inl (judged front l 8 p (lit≤ tt) (inl h) (λ x g. let a = says_an_end x g kind in
+here_most {front} {l = l} p (clauses.within h (clauses.none_to_end kind d)) = inl (judged front l 8 p (lit≤ tt) (inl h) (λ x g. let a = says_an_end x g kind in
     good_case front 8 l (said.end a.0) p (subst (IsGoodLine l) a.1 g) (λ os w n b root turn c m. none_to_end front c m d) refl))
-here_most {front} {l = l} p (clauses.other_name {name} {opened_name} h is d f differs) =
+here_most {front} {l = l} p (clauses.within h (clauses.other_name {name} {opened_name} is d f differs)) =
     inl (judged front l 8 p (lit≤ tt) (inl h) (λ x g. let a = says_an_end x g (name, is) in let y = subst (IsGoodLine l) a.1 g in
     good_case front 8 l (said.end a.0) p y (λ os w n b root turn c m. other_name front l name opened_name c m y is d f differs) refl))
-here_most {front} {l = l} p (clauses.text_outside h kind d) = inl (judged front l 9 p (lit≤ tt) (inl h) (λ x g. let a = says_a_text x g kind in
+here_most {front} {l = l} p (clauses.within h (clauses.text_outside kind d)) = inl (judged front l 9 p (lit≤ tt) (inl h) (λ x g. let a = says_a_text x g kind in
     good_case front 9 l (said.text a.0) p (subst (IsGoodLine l) a.1 g) (λ os w n b root turn c m. text_is_outside front c m d) refl))
-here_most {front} {l = l} p (clauses.second_root before rest root h kind d parts opens) =
+here_most {front} {l = l} p (clauses.within h (clauses.second_root before rest root kind d parts opens)) =
     let r : has_root front ≡ true = subst (λ (y : List Line). has_root y ≡ true) (sym parts) (root_in before root rest opens) in
     inl (judged front l 9 p (lit≤ tt) (inl h) (λ x g. let a = says_a_start x g kind in
     good_case front 9 l (said.start a.0) p (subst (IsGoodLine l) a.1 g) (λ os w n b root turn c m. second_root front c m d r) refl))
-here_most {front} {l = l} p (clauses.attributes kind tag few) = inl (judged front l 10 p (lit≤ tt) (inr (lit≤ tt)) (λ x g. let a = says_an_attribute x g kind in
+here_most {front} {l = l} p (clauses.within short (clauses.attributes kind tag few)) = inl (judged front l 10 p (lit≤ tt) (inr (lit≤ tt)) (λ x g. let a = says_an_attribute x g kind in
     many_case front l a.0 a.1 p (subst (IsGoodLine l) a.2 g) tag few))
-here_most {front} {l = l} p (clauses.elements kind d few) = inl (judged front l 10 p (lit≤ tt) (inr (lit≤ tt)) (λ x g. let a = says_a_start x g kind in
+here_most {front} {l = l} p (clauses.within short (clauses.elements kind d few)) = inl (judged front l 10 p (lit≤ tt) (inr (lit≤ tt)) (λ x g. let a = says_a_start x g kind in
     good_case front 10 l (said.start a.0) p (subst (IsGoodLine l) a.1 g) (λ os w n b root turn c m. too_deep front c m d few) refl))
-here_most {front} {l = l} {s} p (clauses.joined_text t h) = inl (judged front l 10 p (lit≤ tt) (inr (lit≤ tt)) (λ x g. long_text x g p t h))
-here_most {front} {l = l} p (clauses.namespaces {outer} {name} {written} e n b) =
+here_most {front} {l = l} {s} p (clauses.within short (clauses.joined_text t h)) = inl (judged front l 10 p (lit≤ tt) (inr (lit≤ tt)) (λ x g. long_text x g p t h))
+here_most {front} {l = l} p (clauses.within short (clauses.namespaces {outer} {name} {written} e n b)) =
     inr (record { breaks = record { outer = outer; name = name; written = written; ends = e; breaks = inl (refl, b) }; otherwise = n })
-here_most {front} {l = l} p (clauses.repeated_name {outer} {name} {written} e n b) =
+here_most {front} {l = l} p (clauses.within short (clauses.repeated_name {outer} {name} {written} e n b)) =
     inr (record { breaks = record { outer = outer; name = name; written = written; ends = e; breaks = inr (refl, b) }; otherwise = n })
 
 -- ---- a tag that ends is judged at the next line
@@ -318,7 +320,7 @@ tag_answered {front} {os} {t} {n} {k} c b = go b.breaks where
   go (inl p) =
       let x : BreaksNamespaces (scope_of os) t.name c.written = subst (λ (y : WrittenName). BreaksNamespaces (scope_of os) y c.written) same.0
       (subst (λ (y : List WrittenAttribute). BreaksNamespaces (scope_of os) b.name y) same.1
-      (subst (λ (y : Scope). BreaksNamespaces y b.name b.written) outer p.1)) in
+      (subst (λ (y : NamespaceScope). BreaksNamespaces y b.name b.written) outer p.1)) in
       record {
         clause = 11;
         is = tag_namespaces (declared_in os) t.name c.written t.declared t.others c.split (matched_declared c.matched) x;
@@ -326,7 +328,7 @@ tag_answered {front} {os} {t} {n} {k} c b = go b.breaks where
       }
   go (inr p) =
       let x : RepeatsName (scope_of os) c.written = subst (λ (y : List WrittenAttribute). RepeatsName (scope_of os) y) same.1
-      (subst (λ (y : Scope). RepeatsName y b.written) outer p.1) in
+      (subst (λ (y : NamespaceScope). RepeatsName y b.written) outer p.1) in
       by (tag_repeats (declared_in os) t.name c.written t.declared t.others c.split (matched_declared c.matched) (matched_once c.matched) x) where
         by : (tag_read (declared_in os) t.name t.declared t.others ≡ Err 11) ⊎ (tag_read (declared_in os) t.name t.declared t.others ≡ Err 12) → Answered os t k
         by (inl e) = record { clause = 11; is = e; le = omega (arith, p.0) }

@@ -7,7 +7,7 @@ use Rattle.rng_model.specs.documents.Lines.{Line, lines, attribute_limit, open_l
 use Rattle.rng_model.specs.documents.PyxFaults.{Fault}
 use Rattle.rng_model.specs.documents.PyxLines as said
 use Rattle.rng_model.specs.documents.PyxLines.{Said, WrittenName, IsGoodLine, AreGoodLines, no_lines, line_and}
-use Rattle.rng_model.specs.documents.PyxNamespaces.{WrittenAttribute, AreWritten, none_written, written_and, Scope}
+use Rattle.rng_model.specs.documents.PyxNamespaces.{WrittenAttribute, AreWritten, none_written, written_and, NamespaceScope}
 use Rattle.rng_model.specs.documents.PyxTrees.{Placed, element_at, PlacedItems, none_placed, placed_and, Event, IsRun, no_run, text_and, instruction_and}
 use Rattle.rng_model.specs.documents.PyxTrees.{AreInstructions, no_instructions, another_instruction, string_before, IsTag, IsElement, element, IsContent, last_run}
 use Rattle.rng_model.specs.documents.PyxTrees.{run_and_element, IsPyxDocument}
@@ -58,14 +58,14 @@ line_goes l s u e = go (said_of l) refl (goes_first (tag_ended l.bytes s).0 (tag
 
 -- ---- content after a text that is joined so far
 
-data ContentAfter (room : ℕ) (scope : Scope) (n : ℕ) (w : List ℕ) (xs : List Said) (kids : PlacedItems) : Type 0 where
+data ContentAfter (room : ℕ) (scope : NamespaceScope) (n : ℕ) (w : List ℕ) (xs : List Said) (kids : PlacedItems) : Type 0 where
   only_text : {t : List ℕ} → IsRun xs t → length w + length t ≤ text_limit → kids ≡ string_before (n + length xs + 1) (w ++ t) none_placed
       → ContentAfter room scope n w xs kids
   and_element : {run inner more : List Said} {rest : PlacedItems} {t : List ℕ} {tree : Placed} → IsRun run t → length w + length t ≤ text_limit
       → IsElement room scope (n + length run) inner tree → IsContent room scope (n + length run + length inner) more rest
       → xs ≡ run ++ (inner ++ more) → kids ≡ string_before (n + length run + 1) (w ++ t) (placed_and tree rest) → ContentAfter room scope n w xs kids
 
-whole_content : {room n : ℕ} {scope : Scope} {xs : List Said} {kids : PlacedItems} → ContentAfter room scope n [] xs kids → IsContent room scope n xs kids
+whole_content : {room n : ℕ} {scope : NamespaceScope} {xs : List Said} {kids : PlacedItems} → ContentAfter room scope n [] xs kids → IsContent room scope n xs kids
 whole_content (only_text r h e) = last_run r (omega (arith, h)) e
 whole_content (and_element r h el c parts e) = run_and_element r (omega (arith, h)) el c parts e
 
@@ -73,7 +73,7 @@ whole_content (and_element r h el c parts e) = run_and_element r (omega (arith, 
 next_count : (n : ℕ) (x : Said) (xs : List Said) (k : ℕ) → n + 1 + length xs + k ≡ n + length (x ∷ xs) + k
 next_count n x xs k = omega arith
 
-content_text : {room n : ℕ} {scope : Scope} {w v : List ℕ} {xs : List Said} {kids : PlacedItems} → ContentAfter room scope (n + 1) (w ++ v) xs kids
+content_text : {room n : ℕ} {scope : NamespaceScope} {w v : List ℕ} {xs : List Said} {kids : PlacedItems} → ContentAfter room scope (n + 1) (w ++ v) xs kids
     → ContentAfter room scope n w (said.text v ∷ xs) kids
 content_text {n = n} {w = w} {v = v} {xs = xs} (only_text {t} r h e) =
     only_text (text_and r refl) (omega (arith, h, length-append w v, length-append v t))
@@ -84,7 +84,7 @@ content_text {room} {n} {scope} {w} {v} {xs} (and_element {run} {inner} {more} {
     (subst (λ (m : ℕ). IsElement room scope m inner tree) i el) (subst (λ (m : ℕ). IsContent room scope (m + length inner) more rest) i c)
     (ap (λ (ys : List Said). said.text v ∷ ys) parts) (e ∙ rw (i, append_assoc w v t) refl)
 
-content_instruction : {room n : ℕ} {scope : Scope} {w : List ℕ} {xs : List Said} {kids : PlacedItems} → ContentAfter room scope (n + 1) w xs kids
+content_instruction : {room n : ℕ} {scope : NamespaceScope} {w : List ℕ} {xs : List Said} {kids : PlacedItems} → ContentAfter room scope (n + 1) w xs kids
     → ContentAfter room scope n w (said.instruction ∷ xs) kids
 content_instruction {n = n} {xs = xs} (only_text {t} r h e) = only_text (instruction_and r) h (e ∙ rw (next_count n said.instruction xs 1) refl)
 content_instruction {room} {n} {scope} {w} {xs} (and_element {run} {inner} {more} {rest} {t} {tree} r h el c parts e) =
@@ -95,7 +95,7 @@ content_instruction {room} {n} {scope} {w} {xs} (and_element {run} {inner} {more
 
 -- ---- what is after a line
 
-abbrev scope_of : List Open → Scope
+abbrev scope_of : List Open → NamespaceScope
 scope_of os = scope_in (declared_in os)
 
 -- after a line inside these elements, with this text joined, these lines come to the end

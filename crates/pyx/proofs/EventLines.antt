@@ -12,13 +12,13 @@ use Rattle.rng_model.specs.documents.PyxLines as said
 use Rattle.rng_model.specs.documents.PyxLines.{Said, WrittenName}
 use Rattle.rng_model.specs.documents.PyxNamespaces.{WrittenAttribute}
 use Rattle.rng_model.specs.documents.PyxTrees.{Event, a_string, an_end, Placed, events_of, IsPyxDocument}
-use Rattle.pyx_namespaces.specs.plain.Cuts.{behind}
+use Rattle.pyx.specs.plain.Cuts.{behind}
 use Rattle.pyx.specs.plain.LineReader.{said_of}
 use Rattle.pyx.specs.plain.TagReader.{Element, tag_read}
 use Rattle.pyx.specs.plain.DocumentReader.{State, Tag, Open, Turn, silent, go_on, followed, tag_closed, close_tag, tag_ended, text_ended, begin_tag, is_outside}
 use Rattle.pyx.specs.plain.DocumentReader.{started, add_attribute, attributed, joined_by, around, end_in, ended, said_read, judged, line_read, declared_in}
 use Rattle.pyx.specs.plain.DocumentReader.{all_read, nothing_read, at_end, at_last, all_ended, document_read}
-use Rattle.pyx_namespaces.specs.plain.Declarations.{same_written}
+use Rattle.pyx.specs.plain.Declarations.{same_written}
 use Rattle.pyx.proofs.LineCounts.{tag_ended_keeps, text_within, line_keeps}
 use Rattle.pyx.proofs.DocumentLeast.{all_append}
 use Rattle.pyx.proofs.DocumentComplete.{complete}

@@ -12,8 +12,8 @@ use Rattle.rng_model.specs.documents.PyxLines as said
 use Rattle.rng_model.specs.documents.PyxLines.{Said, WrittenName, IsGoodLine, AreGoodLines}
 use Rattle.rng_model.specs.documents.PyxTrees.{Event}
 use Rattle.rng_model.specs.documents.PyxClauses as clauses
-use Rattle.rng_model.specs.documents.PyxClauses.{BreaksHere, Breaks, at_line, unfinished, rootless, IsFront, HasLongestFront}
-use Rattle.pyx_namespaces.specs.plain.Cuts.{at_byte}
+use Rattle.rng_model.specs.documents.PyxClauses.{BreaksBetween, BreaksHere, Breaks, at_line, unfinished, rootless, IsFront, HasLongestFront}
+use Rattle.pyx.specs.plain.Cuts.{at_byte}
 use Rattle.pyx.specs.plain.LineReader.{said_of}
 use Rattle.pyx.specs.plain.TagReader.{Element, tag_read}
 use Rattle.pyx.specs.plain.DocumentReader as reader
@@ -29,7 +29,7 @@ use Rattle.pyx.proofs.LineCases.{end_closes, end_of_other, end_of_none, moves, T
 use Rattle.pyx.proofs.OpenTags.{begins_none, is_kind, has_kind, marks, no_tag, untagged}
 use Rattle.pyx.proofs.JoinedText.{says_a_start, says_an_attribute}
 use Rattle.pyx.proofs.StateAfterLines.{Content, Within, Place, at_content, at_tag, content_first, marks_none, place_first}
-use Rattle.pyx.proofs.DocumentBroken.{at, TagBreaks, LineTells, goes_on, breaks_here, tag_breaks, alone_few, bad_line, ended_silent, ended_closes, no_tag_ended}
+use Rattle.pyx.proofs.DocumentBroken.{at, TagBreaks, LineTells, goes_on, breaks_here, tag_breaks, within_few, bad_line, ended_silent, ended_closes, no_tag_ended}
 use Rattle.pyx.proofs.DocumentBroken.{not_kind, line_tells, next_place, EndTells, ends_well, ends_open, tag_ends_badly, fault_tag, end_tells, to_end}
 use Rattle.pyx.proofs.DocumentBroken.{tag_breaks_all, tag_broken, broken, ok_err}
 use Rattle.pyx.proofs.DocumentLeast.{at_most, all_append, all_cons, all_nil, to_end_first}
@@ -46,22 +46,22 @@ ok_same e = cc
 
 -- ---- fronts
 
-alone_bound : {k : ℕ} {P : Type 0} → (k ≤ 6) ⊎ ((k ≡ 10) × P) → k ≤ 12
-alone_bound (inl h) = omega (arith, h)
-alone_bound (inr h) = omega (arith, h.0)
+between_bound : {before behind : List Line} {l : Line} {k : ℕ} → BreaksBetween before l behind k → k ≤ 12
+between_bound (clauses.alone b) = let few = within_few b in omega (arith, few)
+between_bound (clauses.no_tag k n) = lit≤ tt
+between_bound (clauses.none_to_end k d) = lit≤ tt
+between_bound (clauses.other_name e d f n) = lit≤ tt
+between_bound (clauses.text_outside k d) = lit≤ tt
+between_bound (clauses.second_root a b c k d e f) = lit≤ tt
+between_bound (clauses.attributes k t h) = lit≤ tt
+between_bound (clauses.elements k d h) = lit≤ tt
+between_bound (clauses.joined_text t h) = lit≤ tt
+between_bound (clauses.namespaces e n b) = lit≤ tt
+between_bound (clauses.repeated_name e n b) = lit≤ tt
 
 here_bound : {before behind : List Line} {l : Line} {k : ℕ} → BreaksHere before l behind k → k ≤ 12
-here_bound (clauses.alone b) = alone_bound (alone_few b)
-here_bound (clauses.no_tag h k n) = lit≤ tt
-here_bound (clauses.none_to_end h k d) = lit≤ tt
-here_bound (clauses.other_name h e d f n) = lit≤ tt
-here_bound (clauses.text_outside h k d) = lit≤ tt
-here_bound (clauses.second_root a b c h k d e f) = lit≤ tt
-here_bound (clauses.attributes k t h) = lit≤ tt
-here_bound (clauses.elements k d h) = lit≤ tt
-here_bound (clauses.joined_text t h) = lit≤ tt
-here_bound (clauses.namespaces e n b) = lit≤ tt
-here_bound (clauses.repeated_name e n b) = lit≤ tt
+here_bound (clauses.too_long h) = lit≤ tt
+here_bound (clauses.within h b) = between_bound b
 
 bounds : {all : List Line} {g : Fault} → Breaks all g → (g.line ≤ length all) × (g.clause ≤ 13)
 bounds {all} (at_line {before} {behind} {clause} {n} l parts q b) =

@@ -6,7 +6,7 @@ use Rattle.rng_model.specs.names.Names.{Name}
 use Rattle.rng_model.specs.documents.PyxNamespaces.{WrittenAttribute}
 use Rattle.pyx.specs.declared.fault.LineFault.{LineFault}
 use Rattle.pyx.specs.declared.fault.LineFault.TheVariants as faults
-use Rattle.pyx_namespaces.specs.plain.Declarations.{Declared}
+use Rattle.pyx.specs.plain.Declarations.{Declared}
 use Rattle.pyx.specs.plain.TagReader.{attribute_name, expanded, and_more}
 use Rattle.pyx.specs.views.ElementView.{clause_of, resolved}
 

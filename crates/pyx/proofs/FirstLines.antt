@@ -5,11 +5,11 @@ use Rattle.std.specs.List.{list_all}
 use Rattle.std.proofs.lemmas.List.{length-append}
 use Rattle.std.proofs.lemmas.List.Folds.{list_all-append}
 use Rattle.pyx.specs.plain.PlainBytes.{is_plain}
-use Rattle.pyx_namespaces.proofs.WrittenNames.{joins, at_joins}
+use Rattle.pyx.proofs.WrittenNames.{joins, at_joins}
 use Rattle.std.specs.List.{prefix_len, position_or_len}
 use Rattle.std.proofs.lemmas.List.Sums.{position_or_len_is}
 use Rattle.memchr.specs.Find.{Nowhere, NoneBefore, Passes, is_byte}
-use Rattle.pyx_namespaces.specs.plain.Cuts.{at_byte, at_front}
+use Rattle.pyx.specs.plain.Cuts.{at_byte, at_front}
 use Rattle.pyx.specs.plain.Pieces.{is_within}
 
 abbrev by_drop : List ℕ → List ℕ → Option (List ℕ × List ℕ)

@@ -19,11 +19,11 @@ use Rattle.rng_model.specs.documents.PyxClauses.{EndsInText, SaysTag}
 use Rattle.rng_model.specs.documents.PyxHeld.{name_length, declared_length, declaration_length, KeptOfTags, of_none, of_tag, IsCutAtLine, JoinsText}
 use Rattle.rng_model.specs.documents.PyxHeld.{KeptOf}
 use Rattle.rng_model.specs.documents.PyxHeld.{in_tag, in_no_tag}
-use Rattle.pyx_namespaces.specs.plain.Declarations.{declared_by}
+use Rattle.pyx.specs.plain.Declarations.{declared_by}
 use Rattle.pyx.specs.plain.DocumentReader.{State, Open, Turn, silent, go_on, line_read, all_read, nothing_read, tag_bytes}
 use Rattle.pyx.specs.plain.Pieces.{Progress, with_begun, ended_line, open_line, byte_read, read, nothing_fed}
 use Rattle.pyx.specs.views.ReaderAfterPiece.{Kept}
-use Rattle.pyx_namespaces.specs.plain.Held.{plus, declarations_held}
+use Rattle.pyx.specs.plain.Held.{plus, declarations_held}
 use Rattle.pyx.specs.views.Held.{opened_held, held}
 use Rattle.pyx.specs.views.HeldCalls.{held_limit, IsHeld}
 use Rattle.pyx.proofs.ReaderAfterPiece.{at_fault}

@@ -7,7 +7,7 @@ use Rattle.rng_model.specs.documents.PyxTrees.{Event, an_end, a_string}
 use Rattle.pyx.specs.plain.DocumentReader.{Open, State, Tag, Turn, after_events, around, begin_tag, ended, end_in, followed, is_outside, judged, said_read, silent, started}
 use Rattle.pyx.specs.plain.DocumentReader.{text_ended}
 use Rattle.pyx.specs.plain.LineReader.{is_name, named}
-use Rattle.pyx_namespaces.specs.plain.WrittenNames.{written_of}
+use Rattle.pyx.specs.plain.WrittenNames.{written_of}
 use Rattle.pyx.specs.views.ElementView.{is_innermost}
 use Rattle.pyx.proofs.OpenNames.{and_false}
 use Rattle.pyx.proofs.TagRepeats.{both}

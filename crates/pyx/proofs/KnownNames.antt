@@ -7,8 +7,8 @@ use Rattle.std.proofs.lemmas.List.Elements.{All-push, All-set}
 use Rattle.rng_model.specs.names.Names.{Name}
 use Rattle.rng_model.specs.names.NameViews.{name_of}
 use Rattle.pyx.specs.declared.known.KnownName.{KnownName}
-use Rattle.pyx_namespaces.specs.plain.WrittenNames.{written_of}
-use Rattle.pyx_namespaces.specs.plain.Declarations.{Declared}
+use Rattle.pyx.specs.plain.WrittenNames.{written_of}
+use Rattle.pyx.specs.plain.Declarations.{Declared}
 use Rattle.pyx.specs.plain.TagReader.{element_name}
 use Rattle.pyx.specs.views.ElementView.{AreKnown, IsJudged, IsKnown, IsPlace, name_at, names_of}
 

@@ -1,3 +1,8 @@
+pub mod TextCuts
+pub mod WrittenNames
+pub mod DeclarationSlots
+pub mod DeclarationPlaces
+mod DeclarationBytes
 pub mod BareTags
 pub mod ByteMasks
 pub mod PlainTexts

@@ -6,9 +6,9 @@ use Rattle.rng_model.specs.documents.Lines.{attribute_limit, open_limit, text_li
 use Rattle.rng_model.specs.documents.PyxLines as lines
 use Rattle.rng_model.specs.documents.PyxLines.{Said, WrittenName}
 use Rattle.pyx.specs.plain.TagReader.{Element, tag_read}
-use Rattle.pyx_namespaces.specs.plain.Declarations.{same_written}
+use Rattle.pyx.specs.plain.Declarations.{same_written}
 use Rattle.pyx.specs.plain.DocumentReader.{State, Tag, Open, Turn, fault, after_events, declared_in, with_attribute, started, attributed, joined_by, ended, said_read}
-use Rattle.pyx_namespaces.proofs.WrittenNames.{written_itself, written_same}
+use Rattle.pyx.proofs.WrittenNames.{written_itself, written_same}
 use Rattle.pyx.proofs.SaidLines.{is_attribute, said_line, good}
 use Rattle.pyx.proofs.StateSteps.{inside, in_tag, begun, open_of, text_event, end_event, start_event, not_zero, too_few, enough, attribute_step}
 use Rattle.pyx.proofs.StateSteps.{instruction_step}

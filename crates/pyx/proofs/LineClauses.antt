@@ -13,13 +13,12 @@ use Rattle.rng_model.specs.schema.Least.{IsLeast}
 use Rattle.rng_model.specs.documents.Lines.{Line, line_limit}
 use Rattle.rng_model.specs.documents.PyxFaults.{HasKind}
 use Rattle.rng_model.specs.documents.PyxLines.{WrittenName, IsName, IsNoName, Said, start, attribute, text, end, instruction, Says, says_start, says_attribute, says_text}
-use Rattle.rng_model.specs.documents.PyxLines.{says_end, says_instruction, IsGoodLine, HasNoKind, IsCutAtSpace, StandsForNothing, BreaksWithin, unended, no_utf8}
-use Rattle.rng_model.specs.documents.PyxLines.{no_xml_char, no_kind, bad_text, bad_value, bad_start_name, bad_end_name, bad_attribute_name, no_space, BreaksAlone, within}
-use Rattle.rng_model.specs.documents.PyxLines.{too_long}
-use Rattle.pyx_namespaces.specs.plain.Cuts.{either_way, at_byte}
+use Rattle.rng_model.specs.documents.PyxLines.{says_end, says_instruction, IsGoodLine, HasNoKind, IsCutAtSpace, StandsForNothing, BreaksAlone, unended, no_utf8}
+use Rattle.rng_model.specs.documents.PyxLines.{no_xml_char, no_kind, bad_text, bad_value, bad_start_name, bad_end_name, bad_attribute_name, no_space}
+use Rattle.pyx.specs.plain.Cuts.{either_way, at_byte}
 use Rattle.pyx.specs.plain.Escapes.{unescaped}
 use Rattle.pyx.specs.plain.LineReader.{Read, is_name, named, text_of, attribute_of, kind_of, characters_of, bytes_of, said_of}
-use Rattle.pyx_namespaces.specs.plain.WrittenNames.{written_of}
+use Rattle.pyx.specs.plain.WrittenNames.{written_of}
 use Rattle.pyx.proofs.EscapedTexts.{value_is, value_of, no_value, none_stands}
 use Rattle.pyx.proofs.NamesInLines.{not_equal, differs, Found, found, at_none, at_seam, utf8_parts, name_is, name_has_no_space, good_name}
 use Rattle.pyx.proofs.LinesOfPieces.{said_of_long}
@@ -43,10 +42,10 @@ false_true e = cc
 -- the meaning of a result for this line
 abbrev Tells : List ℕ → Read Said → Type 0
 Tells bytes (Ok said) = Says bytes said
-Tells bytes (Err k) = (l : Line) → l.bytes ≡ bytes → BreaksWithin l k
+Tells bytes (Err k) = (l : Line) → l.bytes ≡ bytes → BreaksAlone l k
 
 named_tells : (said : WrittenName → Said) (name bytes : List ℕ) → IsUtf8 name → ((n : WrittenName) → IsName name n → Says bytes (said n)) →
-    (IsNoName name → (l : Line) → l.bytes ≡ bytes → BreaksWithin l 6) → Tells bytes (named said name)
+    (IsNoName name → (l : Line) → l.bytes ≡ bytes → BreaksAlone l 6) → Tells bytes (named said name)
 unfolding named
 named_tells said name bytes u says breaks = go (is_name name) refl where
   go : (b : Bool) → is_name name ≡ b → Tells bytes (cond b (Ok (said (written_of name))) (Err 6))
@@ -131,10 +130,15 @@ kind_tells (x ∷ cs) u = chain_tells (eqb x 40) (eqb x 65) (eqb x 45) (eqb x 41
 
 -- ---- the line
 
+-- the line breaks this clause by itself, or it is too long
+pub data BreaksLine (l : Line) : ℕ → Type 0 where
+  within : {clause : ℕ} → length l.bytes ≤ line_limit → BreaksAlone l clause → BreaksLine l clause
+  too_long : line_limit < length l.bytes → BreaksLine l 10
+
 -- the meaning of a result for a whole line
 abbrev IsTold : Line → Read Said → Type 0
 IsTold l (Ok said) = IsGoodLine l said
-IsTold l (Err k) = BreaksAlone l k
+IsTold l (Err k) = BreaksLine l k
 
 told_good : (l : Line) (r : Read Said) → l.ended ≡ true → length l.bytes ≤ line_limit → IsUtf8 l.bytes → All (λ c. is_xml_char c ≡ true) (chars l.bytes)
     → Tells l.bytes r → IsTold l r
@@ -167,7 +171,7 @@ line_told l = go (nat_le (length l.bytes) line_limit) l.ended refl refl where
 pub good_line : (l : Line) (said : Said) → said_of l ≡ Ok said → IsGoodLine l said
 good_line l said e = subst (IsTold l) e (line_told l)
 
-pub broken_line : (l : Line) (k : ℕ) → said_of l ≡ Err k → BreaksAlone l k
+pub broken_line : (l : Line) (k : ℕ) → said_of l ≡ Err k → BreaksLine l k
 broken_line l k e = subst (IsTold l) e (line_told l)
 
 -- ---- the fault of a line is at most each clause that it breaks
@@ -306,7 +310,7 @@ kind_none l (c ∷ cs) e n = rw (
 name_in : (name rest : List ℕ) → IsUtf8 (65 ∷ (name ++ 32 ∷ rest)) → IsUtf8 name
 name_in name rest u = (utf8_parts name rest 32 (lit< tt) (utf8_parts [] (name ++ 32 ∷ rest) 65 (lit< tt) u).1).0
 
-within_most : {l : Line} {k : ℕ} → length l.bytes ≤ line_limit → BreaksWithin l k → AtMost l k
+within_most : {l : Line} {k : ℕ} → length l.bytes ≤ line_limit → BreaksAlone l k → AtMost l k
 within_most {l} h (unended e) = record { answer = 1; is = said_unended l h e; le = lit≤ tt }
 within_most {l} h (no_utf8 n) = ended_most l 2 h (lit≤ tt) 2 (lit≤ tt) (λ e. not_utf8 l.bytes n)
 within_most {l} h (no_xml_char u n) = ended_most l 3 h (lit≤ tt) 3 (lit≤ tt) (λ e. is_text l.bytes u ∙ not_xml l.bytes n)
@@ -325,12 +329,12 @@ within_most {l} h (bad_attribute_name {bytes = rest} {written} {value} e c n) = 
 within_most {l} h (no_space {bytes = rest} e a) = line_most l (65 ∷ rest) 6 6 h e (lit≤ tt) (lit≤ tt)
     (kind_no_space rest (recursion_from_All (λ c. c ≢ 32) rest a))
 
-pub alone_most : {l : Line} {k : ℕ} → BreaksAlone l k → AtMost l k
+pub alone_most : {l : Line} {k : ℕ} → BreaksLine l k → AtMost l k
 alone_most (within h b) = within_most h b
 alone_most {l} (too_long h) = record { answer = 10; is = said_of_long l h; le = lit≤ tt }
 
 -- the clause that is returned is the least that the line breaks by itself
-pub least_line : (l : Line) (k : ℕ) → said_of l ≡ Err k → IsLeast (BreaksAlone l) k
+pub least_line : (l : Line) (k : ℕ) → said_of l ≡ Err k → IsLeast (BreaksLine l) k
 least_line l k e = record {
   broken = broken_line l k e;
   least = λ other b. let a = alone_most b in let q : a.answer ≡ k = err_same a.answer k (sym a.is ∙ e) in rw (← q) a.le;

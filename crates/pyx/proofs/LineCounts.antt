@@ -8,10 +8,10 @@ use Rattle.rng_model.specs.documents.PyxLines as lines
 use Rattle.rng_model.specs.documents.PyxLines.{Said, WrittenName}
 use Rattle.rng_model.specs.documents.PyxNamespaces.{WrittenAttribute}
 use Rattle.rng_model.specs.documents.PyxTrees.{Event}
-use Rattle.pyx_namespaces.specs.plain.Cuts.{behind}
+use Rattle.pyx.specs.plain.Cuts.{behind}
 use Rattle.pyx.specs.plain.LineReader.{said_of}
 use Rattle.pyx.specs.plain.TagReader.{Element, tag_read}
-use Rattle.pyx_namespaces.specs.plain.Declarations.{declared_by}
+use Rattle.pyx.specs.plain.Declarations.{declared_by}
 use Rattle.pyx.specs.plain.DocumentReader.{State, Tag, Open, Turn, fault, silent, go_on, followed, tag_bytes, tag_closed, close_tag, tag_ended, text_ended, begin_tag}
 use Rattle.pyx.specs.plain.DocumentReader.{is_outside, started, add_attribute, attributed, joined_by, end_in, ended, said_read, judged, line_read, declared_in}
 

@@ -2,7 +2,7 @@
 use Rattle.std.proofs.Common.{◌≡◌, ℕ, List, [], ◌∷◌, Bool, true, false, cond, eqb, Option, Some, None, Err, refl, ap, sym}
 use Rattle.std.specs.Str.{IsUtf8, is_utf8}
 use Rattle.std.proofs.lemmas.Str.{is_utf8-from_IsUtf8, IsUtf8-from_is_utf8}
-use Rattle.pyx_namespaces.specs.plain.Cuts.{behind, either_way}
+use Rattle.pyx.specs.plain.Cuts.{behind, either_way}
 use Rattle.pyx.specs.plain.Escapes.{escape_of}
 use Rattle.pyx.specs.plain.LineReader.{bytes_of, characters_of}
 

@@ -11,9 +11,9 @@ use Rattle.std.proofs.lemmas.Str.{encode_ascii, IsUtf8-take, IsUtf8-drop, IsUtf8
 use Rattle.std.proofs.lemmas.Str.{IsCharBoundary-after_ascii, chars-append, chars_past_char}
 use Rattle.std.proofs.lemmas.Str.Ascii.{IsAscii-nil, IsAscii-cons}
 use Rattle.rng_model.specs.names.Characters.{is_ncname, is_name_start, is_name_char, is_colon}
-use Rattle.rng_model.specs.documents.PyxLines.{WrittenName, IsNcname, IsName, alone, prefixed}
-use Rattle.pyx_namespaces.specs.plain.Cuts.{at_byte, at_front}
-use Rattle.pyx_namespaces.specs.plain.WrittenNames.{written_of, cut_name}
+use Rattle.rng_model.specs.documents.PyxLines.{WrittenName, IsNcnameText, IsName, alone, prefixed}
+use Rattle.pyx.specs.plain.Cuts.{at_byte, at_front}
+use Rattle.pyx.specs.plain.WrittenNames.{written_of, cut_name}
 use Rattle.pyx.specs.plain.LineReader.{is_name, are_ncnames}
 
 -- ---- cuts
@@ -118,7 +118,7 @@ ncname_fails (x ∷ xs) ys k e f = rw (all_fails InName xs ys k f) (and_false (i
 true_false : true ≡ false → ⊥
 true_false e = cc
 
-pub ncname_without : (k : ℕ) (bytes : List ℕ) → k < 128 → (is_name_start k && not (is_colon k)) ≡ false → InName k ≡ false → IsNcname bytes
+pub ncname_without : (k : ℕ) (bytes : List ℕ) → k < 128 → (is_name_start k && not (is_colon k)) ≡ false → InName k ≡ false → IsNcnameText bytes
     → AllByRecursion (λ c. c ≢ k) bytes
 ncname_without k bytes small e f n = go (at_byte k bytes) (found k bytes) where
   go : (o : Option (List ℕ × List ℕ)) → Found k bytes o → AllByRecursion (λ c. c ≢ k) bytes
@@ -126,10 +126,10 @@ ncname_without k bytes small e f n = go (at_byte k bytes) (found k bytes) where
   go (Some p) h = absurd (true_false (sym n.ncname ∙ ap (λ x. is_ncname (chars x)) h.0 ∙ ap is_ncname (chars_seam p.0 p.1 k small (subst IsUtf8 h.0 n.utf8))
       ∙ ncname_fails (chars p.0) (chars p.1) k e f))
 
-no_colon : (bytes : List ℕ) → IsNcname bytes → AllByRecursion (λ c. c ≢ 58) bytes
+no_colon : (bytes : List ℕ) → IsNcnameText bytes → AllByRecursion (λ c. c ≢ 58) bytes
 no_colon bytes n = ncname_without 58 bytes (lit< tt) refl refl n
 
-no_space_in : (bytes : List ℕ) → IsNcname bytes → AllByRecursion (λ c. c ≢ 32) bytes
+no_space_in : (bytes : List ℕ) → IsNcnameText bytes → AllByRecursion (λ c. c ≢ 32) bytes
 no_space_in bytes n = ncname_without 32 bytes (lit< tt) refl refl n
 
 -- ---- names

@@ -8,14 +8,14 @@ use Rattle.std.proofs.lemmas.Str.{chars-nil}
 use Rattle.rng_model.specs.names.Characters.{is_ncname}
 use Rattle.pyx.specs.declared.elements.OpenElement.{OpenElement}
 use Rattle.rng_model.specs.documents.PyxNamespaces.{WrittenAttribute}
-use Rattle.pyx_namespaces.specs.plain.Cuts.{at_byte}
+use Rattle.pyx.specs.plain.Cuts.{at_byte}
 use Rattle.pyx.specs.plain.DocumentReader.{Open}
 use Rattle.pyx.specs.plain.LineReader.{is_name}
-use Rattle.pyx_namespaces.specs.plain.WrittenNames.{written_of}
-use Rattle.pyx_namespaces.specs.plain.Declarations.{same_written}
+use Rattle.pyx.specs.plain.WrittenNames.{written_of}
+use Rattle.pyx.specs.plain.Declarations.{same_written}
 use Rattle.pyx.specs.views.ElementView.{AreNamed, IsJudged, is_innermost, stack_of}
 use Rattle.pyx.proofs.OpenStack.{stack_push}
-use Rattle.pyx_namespaces.proofs.WrittenNames.{bytes_same, written_alike}
+use Rattle.pyx.proofs.WrittenNames.{bytes_same, written_alike}
 
 pub and_false : (a : Bool) → (a && false) ≡ false
 and_false true = refl

@@ -7,13 +7,13 @@ use Rattle.rng_model.specs.documents.PyxHeld.{name_length}
 use Rattle.rng_model.specs.documents.PyxNamespaces.{WrittenAttribute}
 use Rattle.pyx.specs.plain.DocumentReader.{around}
 use Rattle.pyx.specs.declared.elements.OpenElement.{OpenElement}
-use Rattle.pyx_namespaces.specs.declared.places.Declaration.{Declaration}
-use Rattle.pyx_namespaces.specs.views.DeclarationView.{declaration_of}
-use Rattle.pyx_namespaces.specs.plain.WrittenNames.{written_of}
-use Rattle.pyx_namespaces.specs.declared.written.WrittenAttribute as written
-use Rattle.pyx_namespaces.specs.views.WrittenAttributes.{written_attribute}
+use Rattle.pyx.specs.declared.namespaces.places.Declaration.{Declaration}
+use Rattle.pyx.specs.views.DeclarationView.{declaration_of}
+use Rattle.pyx.specs.plain.WrittenNames.{written_of}
+use Rattle.pyx.specs.declared.namespaces.written.WrittenAttribute as written
+use Rattle.pyx.specs.views.WrittenAttributes.{written_attribute}
 use Rattle.pyx.specs.views.ElementView.{all_declared, open_as, open_with, stack_in, stack_of}
-use Rattle.pyx_namespaces.specs.plain.Held.{declarations_held, plus}
+use Rattle.pyx.specs.plain.Held.{declarations_held, plus}
 use Rattle.pyx.specs.views.Held.{opened_held}
 
 pub stack_push : (xs : List OpenElement) (e : OpenElement) (names : List ℕ) (ds : List WrittenAttribute)

@@ -1,7 +1,7 @@
 -- Replacing escapes from one backslash to the next.
 use Rattle.std.proofs.Common.{◌≡◌, ℕ, ◌<◌, suc, List, [], ◌∷◌, ◌++◌, length, Option, Some, None, refl, cond, eqb, ap, sym, arith, Bool, true, false}
 use Rattle.std.proofs.Common.{append_assoc, ◌⊎◌, inl, inr, lit<}
-use Rattle.pyx_namespaces.specs.plain.Cuts.{at_byte, at_front, behind}
+use Rattle.pyx.specs.plain.Cuts.{at_byte, at_front, behind}
 use Rattle.pyx.specs.plain.Escapes.{escape_of, unescaped, escaped, in_front}
 
 pub chosen : {A : Type 0} (b : Bool) (x y z : A) → cond b x y ≡ z → ((b ≡ true) × (x ≡ z)) ⊎ ((b ≡ false) × (y ≡ z))

@@ -6,7 +6,7 @@ use Rattle.rng_model.specs.documents.PyxLines as lines
 use Rattle.rng_model.specs.documents.PyxLines.{Said, Says, says_start, says_attribute, says_text, says_end, says_instruction, IsGoodLine, AreGoodLines, no_lines}
 use Rattle.rng_model.specs.documents.PyxLines.{line_and}
 use Rattle.rng_model.specs.documents.PyxTrees.{Event}
-use Rattle.pyx_namespaces.specs.plain.Cuts.{behind}
+use Rattle.pyx.specs.plain.Cuts.{behind}
 use Rattle.pyx.specs.plain.DocumentReader.{State, Turn, silent, after_events, followed, close_tag, tag_ended, said_read, line_read, all_read}
 use Rattle.pyx.proofs.LineClauses.{line_is}
 use Rattle.pyx.proofs.LineTurns.{followed_same, followed_twice}

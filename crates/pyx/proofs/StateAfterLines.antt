@@ -9,11 +9,11 @@ use Rattle.rng_model.specs.documents.Lines.{Line, attribute_limit, open_limit, t
 use Rattle.rng_model.specs.documents.PyxFaults.{HasKind, nothing, EndsInTag}
 use Rattle.rng_model.specs.documents.PyxLines as said
 use Rattle.rng_model.specs.documents.PyxLines.{Said, WrittenName, IsGoodLine, AreGoodLines, no_lines, line_and}
-use Rattle.rng_model.specs.documents.PyxNamespaces.{WrittenAttribute, AreWritten, none_written, written_and, AreParted, Scope}
+use Rattle.rng_model.specs.documents.PyxNamespaces.{WrittenAttribute, AreWritten, none_written, written_and, AreParted, NamespaceScope}
 use Rattle.rng_model.specs.documents.PyxClauses as model
 use Rattle.rng_model.specs.documents.PyxClauses.{AreOpenTags, none_open, SaysTag, HasScope, no_tags, one_tag, EndsInText}
 use Rattle.pyx.specs.plain.TagReader.{Element, tag_read}
-use Rattle.pyx_namespaces.specs.plain.Declarations.{declared_by}
+use Rattle.pyx.specs.plain.Declarations.{declared_by}
 use Rattle.pyx.specs.plain.DocumentReader.{State, Tag, Open, declared_in, with_attribute, nothing_read}
 use Rattle.pyx.proofs.TagDeclarations.{declaration_of}
 use Rattle.pyx.proofs.TagNamespaces.{scope_in, AllDeclared}
@@ -45,7 +45,7 @@ says_same {ws = ws} {vs = vs} d e = (
   written_same (subst (λ (x : List Said). AreWritten x ws) (good_same d.attributes e.attributes) d.are_written) e.are_written,
 )
 
-pub scope_same : {tags : List model.Tag} {s t : Scope} → HasScope tags s → HasScope tags t → s ≡ t
+pub scope_same : {tags : List model.Tag} {s t : NamespaceScope} → HasScope tags s → HasScope tags t → s ≡ t
 scope_same no_tags no_tags = refl
 scope_same (one_tag {scope} {ds} s p h) (one_tag {scope = other} {written = ws} {others = os} {ds = es} r q k) =
     join (parted_same p (subst (λ (x : List WrittenAttribute). AreParted x es os) (sym (says_same s r).1) q)).0 (scope_same h k) where
@@ -69,7 +69,7 @@ pub data AreMatched : List model.Tag → List Open → Type 0 where
       → IsSplit written o.declared others → IsSmall o.declared written → AreMatched tags os
       → AreMatched (tag ∷ tags) (o ∷ os)
 
-abbrev pub scope_of : List Open → Scope
+abbrev pub scope_of : List Open → NamespaceScope
 scope_of os = scope_in (declared_in os)
 
 pub matched_scope : {tags : List model.Tag} {os : List Open} → AreMatched tags os → HasScope tags (scope_of os)

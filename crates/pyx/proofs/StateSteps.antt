@@ -9,10 +9,10 @@ use Rattle.rng_model.specs.documents.PyxLines as lines
 use Rattle.rng_model.specs.documents.PyxLines.{Said, WrittenName}
 use Rattle.rng_model.specs.documents.PyxTrees.{Event, a_start, a_string, an_end}
 use Rattle.pyx.specs.plain.TagReader.{Element, tag_read}
-use Rattle.pyx_namespaces.specs.plain.Declarations.{same_written}
+use Rattle.pyx.specs.plain.Declarations.{same_written}
 use Rattle.pyx.specs.plain.DocumentReader.{State, Tag, Open, after_events, declared_in, text_ended, started, with_attribute, attributed}
 use Rattle.pyx.specs.plain.DocumentReader.{joined_by, ended, said_read}
-use Rattle.pyx_namespaces.proofs.WrittenNames.{written_itself}
+use Rattle.pyx.proofs.WrittenNames.{written_itself}
 use Rattle.pyx.proofs.SaidLines.{is_attribute, said_line, good}
 
 -- inside these elements, with this text joined, after this many lines

@@ -6,11 +6,11 @@ use Rattle.rng_model.specs.matching.Document.{Attribute}
 use Rattle.rng_model.specs.names.Lists.{Among, here, there}
 use Rattle.rng_model.specs.names.Names.{Name}
 use Rattle.rng_model.specs.documents.PyxLines.{WrittenName}
-use Rattle.rng_model.specs.documents.PyxNamespaces.{WrittenAttribute, Declaration, IsForbidden, NamesElement, AreExpanded, none_left, expanded_and}
+use Rattle.rng_model.specs.documents.PyxNamespaces.{WrittenAttribute, NamespaceDeclaration, IsForbidden, NamesElement, AreExpanded, none_left, expanded_and}
 use Rattle.rng_model.specs.documents.PyxClauses.{BreaksNamespaces, forbidden, element_prefix, attribute_prefix, RepeatsName, written_twice, expanded_twice}
 use Rattle.rng_model.specs.matching.WellFormed.{Distinct}
 use Rattle.pyx.specs.plain.TagReader as read
-use Rattle.pyx_namespaces.specs.plain.Declarations.{Declared, declared_by, forbidden_by, is_forbidden, any_forbidden, is_written_twice}
+use Rattle.pyx.specs.plain.Declarations.{Declared, declared_by, forbidden_by, is_forbidden, any_forbidden, is_written_twice}
 use Rattle.pyx.specs.plain.TagReader.{Element, attribute_name, expanded, and_more}
 use Rattle.pyx.specs.plain.TagReader.{is_named_twice, with_attributes, with_name, tag_read}
 use Rattle.pyx.proofs.TagDeclarations.{declaration_of, prefix_of, AreDeclared, forbidden_is, is_forbidden_by}
@@ -27,7 +27,7 @@ abbrev Allowed : List WrittenAttribute → Type 0
 Allowed ds = AllByRecursion (λ d. IsForbidden d → ⊥) (map declaration_of ds)
 
 record OneForbidden (ds : List WrittenAttribute) : Type 0 where
-  one : Declaration
+  one : NamespaceDeclaration
   among : Among one (map declaration_of ds)
   is : IsForbidden one
 

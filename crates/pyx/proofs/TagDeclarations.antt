@@ -5,11 +5,11 @@ use Rattle.std.specs.Prelude.{◌==◌, ◌≢◌, is_some}
 use Rattle.std.specs.List.{AllByRecursion}
 use Rattle.std.specs.Str.{bytes_eq}
 use Rattle.rng_model.specs.documents.PyxLines.{WrittenName}
-use Rattle.rng_model.specs.documents.PyxNamespaces.{WrittenAttribute, Declaration, xmlns, xml_uri, xmlns_uri, Declares, default_namespace, prefix_declared}
+use Rattle.rng_model.specs.documents.PyxNamespaces.{WrittenAttribute, NamespaceDeclaration, xmlns, xml_uri, xmlns_uri, Declares, default_namespace, prefix_declared}
 use Rattle.rng_model.specs.documents.PyxNamespaces.{DeclaresNothing, AreParted, nothing, declaration, other, IsForbidden, of_xmlns_uri, of_xmlns, of_nothing}
 use Rattle.rng_model.specs.documents.PyxNamespaces.{xml_as_another, another_as_xml}
-use Rattle.pyx_namespaces.specs.plain.Declarations.{declared_prefix, declared_by, forbidden_prefix, forbidden_by}
-use Rattle.pyx_namespaces.proofs.WrittenNames.{same_bytes, bytes_same}
+use Rattle.pyx.specs.plain.Declarations.{declared_prefix, declared_by, forbidden_prefix, forbidden_by}
+use Rattle.pyx.proofs.WrittenNames.{same_bytes, bytes_same}
 
 some_same : {A : Type 0} (x y : A) → Some x ≡ Some y → x ≡ y
 some_same x y e = cc
@@ -50,20 +50,20 @@ abbrev pub prefix_of : Option (Option (List ℕ)) → Option (List ℕ)
 prefix_of None = None
 prefix_of (Some p) = p
 
-abbrev pub declaration_of : WrittenAttribute → Declaration
+abbrev pub declaration_of : WrittenAttribute → NamespaceDeclaration
 declaration_of a = record { prefix = prefix_of (declared_by a.name); uri = a.content }
 
 abbrev pub AreDeclared : List WrittenAttribute → Type 0
 AreDeclared ds = AllByRecursion (λ a. is_some (declared_by a.name) ≡ true) ds
 
 -- one more line
-pub parted_declaration : {all others : List WrittenAttribute} {ds : List Declaration} → AreParted all ds others → (a : WrittenAttribute) (p : Option (List ℕ))
+pub parted_declaration : {all others : List WrittenAttribute} {ds : List NamespaceDeclaration} → AreParted all ds others → (a : WrittenAttribute) (p : Option (List ℕ))
     → declared_by a.name ≡ Some p → AreParted (all ++ a ∷ []) (ds ++ record { prefix = p; uri = a.content } ∷ []) others
 parted_declaration nothing a p e = declaration (declares_it a.name p e) nothing
 parted_declaration (declaration d more) a p e = declaration d (parted_declaration more a p e)
 parted_declaration (other d more) a p e = other d (parted_declaration more a p e)
 
-pub parted_other : {all others : List WrittenAttribute} {ds : List Declaration} → AreParted all ds others → (a : WrittenAttribute)
+pub parted_other : {all others : List WrittenAttribute} {ds : List NamespaceDeclaration} → AreParted all ds others → (a : WrittenAttribute)
     → declared_by a.name ≡ None → AreParted (all ++ a ∷ []) ds (others ++ a ∷ [])
 parted_other nothing a e = other (declares_nothing a.name e) nothing
 parted_other (declaration d more) a e = declaration d (parted_other more a e)
@@ -177,7 +177,7 @@ by_other None uri n e = go (bytes_eq uri xmlns_uri) where
   go false = rw (e, same_bytes xml_uri) refl
 by_other (Some p) uri n e = by_rule p uri (xml_other p uri (λ q. n (ap Some q)) e)
 
-pub is_forbidden_by : {d : Declaration} → IsForbidden d → forbidden_by (Some d.prefix) d.uri ≡ true
+pub is_forbidden_by : {d : NamespaceDeclaration} → IsForbidden d → forbidden_by (Some d.prefix) d.uri ≡ true
 is_forbidden_by (of_xmlns_uri {d} e) = by_uri d.prefix d.uri e
 is_forbidden_by (of_xmlns {d} e) = by_xmlns d.prefix d.uri e
 is_forbidden_by (of_nothing {d} {p} e f) = by_nothing d.prefix p d.uri e f

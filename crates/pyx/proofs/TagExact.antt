@@ -10,19 +10,19 @@ use Rattle.rng_model.specs.names.Lists.{Among, here, there, HasTwice, at_first, 
 use Rattle.rng_model.specs.names.Names.{Name}
 use Rattle.rng_model.specs.documents.Lines.{attribute_limit}
 use Rattle.rng_model.specs.documents.PyxLines.{Said, WrittenName}
-use Rattle.rng_model.specs.documents.PyxNamespaces.{WrittenAttribute, AreWritten, Declaration, Declares, default_namespace, prefix_declared, AreParted, nothing}
+use Rattle.rng_model.specs.documents.PyxNamespaces.{WrittenAttribute, AreWritten, NamespaceDeclaration, Declares, default_namespace, prefix_declared, AreParted, nothing}
 use Rattle.rng_model.specs.documents.PyxNamespaces.{declaration}
-use Rattle.rng_model.specs.documents.PyxNamespaces.{other, Scope, IsForbidden, HasNamespace, NamesElement, element_name, NamesAttribute, without_prefix, with_prefix}
+use Rattle.rng_model.specs.documents.PyxNamespaces.{other, NamespaceScope, IsForbidden, HasNamespace, NamesElement, element_name, NamesAttribute, without_prefix, with_prefix}
 use Rattle.rng_model.specs.documents.PyxNamespaces.{AreExpanded, none_left, expanded_and}
 use Rattle.rng_model.specs.documents.PyxClauses.{BreaksNamespaces, forbidden, element_prefix, attribute_prefix, RepeatsName, written_twice, expanded_twice}
 use Rattle.rng_model.specs.documents.PyxTrees.{IsTag}
 use Rattle.rng_model.specs.matching.WellFormed.{Distinct}
-use Rattle.pyx_namespaces.specs.plain.Declarations.{Declared, declared_by, is_written_in, is_written_twice}
+use Rattle.pyx.specs.plain.Declarations.{Declared, declared_by, is_written_in, is_written_twice}
 use Rattle.pyx.specs.plain.TagReader.{Element, attribute_name, expanded, and_more, is_named_in}
 use Rattle.pyx.specs.plain.TagReader.{is_named_twice}
 use Rattle.pyx.specs.plain.TagReader.{tag_read, same_name}
-use Rattle.pyx_namespaces.specs.plain.Declarations.{same_written}
-use Rattle.pyx_namespaces.proofs.WrittenNames.{same_bytes, written_itself}
+use Rattle.pyx.specs.plain.Declarations.{same_written}
+use Rattle.pyx.proofs.WrittenNames.{same_bytes, written_itself}
 use Rattle.pyx.proofs.TagDeclarations.{declaration_of}
 use Rattle.pyx.proofs.TagNamespaces.{scope_in, AllDeclared}
 use Rattle.pyx.proofs.TagParts.{IsSplit, no_lines, declares, declares_none, split_parted}
@@ -158,38 +158,38 @@ named_twice scope names (a ∷ more) attrs (later {xs} t) e x =
 
 -- ---- the clauses that a tag with names breaks
 
-not_among : {d : Declaration} {ds : List Declaration} → Among d ds → AllByRecursion (λ d. IsForbidden d → ⊥) ds → IsForbidden d → ⊥
+not_among : {d : NamespaceDeclaration} {ds : List NamespaceDeclaration} → Among d ds → AllByRecursion (λ d. IsForbidden d → ⊥) ds → IsForbidden d → ⊥
 not_among here all f = all.0 f
 not_among (there m) all f = not_among m all.1 f
 
-with_namespace : {scope : Scope} {name : WrittenName} {q : Name} → NamesElement scope name q → (uri : List ℕ) × HasNamespace scope name.prefix uri
+with_namespace : {scope : NamespaceScope} {name : WrittenName} {q : Name} → NamesElement scope name q → (uri : List ℕ) × HasNamespace scope name.prefix uri
 with_namespace (element_name {name} {uri} h) = (uri, h)
 
-with_prefix_of : {scope : Scope} {name : WrittenName} {q : Name} → NamesAttribute scope name q → (p : List ℕ) → name.prefix ≡ Some p
+with_prefix_of : {scope : NamespaceScope} {name : WrittenName} {q : Name} → NamesAttribute scope name q → (p : List ℕ) → name.prefix ≡ Some p
     → (uri : List ℕ) × HasNamespace scope (Some p) uri
 with_prefix_of without_prefix p e = absurd (none_some p e)
 with_prefix_of {scope} (with_prefix {p = r} {uri} h) p e = (uri, subst (λ (x : List ℕ). HasNamespace scope (Some x) uri) (some_same r p e) h)
 
-with_name_of : {scope : Scope} {all : List WrittenAttribute} {attrs : List Attribute} {a : WrittenAttribute} → AreExpanded scope all attrs → Among a all
+with_name_of : {scope : NamespaceScope} {all : List WrittenAttribute} {attrs : List Attribute} {a : WrittenAttribute} → AreExpanded scope all attrs → Among a all
     → (q : Name) × NamesAttribute scope a.name q
 with_name_of none_left m = absurd (nowhere m refl)
 with_name_of (expanded_and {name} n more) here = (name, n)
 with_name_of (expanded_and n more) (there m) = with_name_of more m
 
 -- a tag with these names breaks no rule about namespaces
-no_breach : {outer : Scope} {name : WrittenName} {written os : List WrittenAttribute} {ds : List Declaration} {q : Name} {attrs : List Attribute}
+no_breach : {outer : NamespaceScope} {name : WrittenName} {written os : List WrittenAttribute} {ds : List NamespaceDeclaration} {q : Name} {attrs : List Attribute}
     → AreParted written ds os → AllByRecursion (λ d. IsForbidden d → ⊥) ds → NamesElement (ds ∷ outer) name q → AreExpanded (ds ∷ outer) os attrs
     → BreaksNamespaces outer name written → ⊥
 no_breach parted allowed named are (forbidden {d = d} p m f) = not_among (subst (Among d) (parted_same p parted).0 m) allowed f
 no_breach {outer} {name} parted allowed named are (element_prefix {ds} {p = x} p e u) =
     let h = with_namespace named in
     u h.0 (subst (λ (y : Option (List ℕ)). HasNamespace (ds ∷ outer) y h.0) e
-    (subst (λ (y : List Declaration). HasNamespace (y ∷ outer) name.prefix h.0) (sym (parted_same p parted).0) h.1))
+    (subst (λ (y : List NamespaceDeclaration). HasNamespace (y ∷ outer) name.prefix h.0) (sym (parted_same p parted).0) h.1))
 no_breach {outer} parted allowed named are (attribute_prefix {a = a} {p = x} p m e u) =
     let k = parted_same p parted in
     let r = with_name_of are (subst (Among a) k.1 m) in
     let h = with_prefix_of r.1 x e in
-    u h.0 (subst (λ (y : List Declaration). HasNamespace (y ∷ outer) (Some x) h.0) (sym k.0) h.1)
+    u h.0 (subst (λ (y : List NamespaceDeclaration). HasNamespace (y ∷ outer) (Some x) h.0) (sym k.0) h.1)
 
 -- ---- a prefix that is declared twice is written twice
 
@@ -199,7 +199,7 @@ declares_one default_namespace (prefix_declared {p}) e = absurd (none_some p e)
 declares_one (prefix_declared {p}) default_namespace e = absurd (none_some p (sym e))
 declares_one (prefix_declared {p}) (prefix_declared {p = r}) e = rw (some_same p r e) refl
 
-among_prefixes : {all os : List WrittenAttribute} {ds : List Declaration} {p : Option (List ℕ)} {ps : List (Option (List ℕ))} {name : WrittenName}
+among_prefixes : {all os : List WrittenAttribute} {ds : List NamespaceDeclaration} {p : Option (List ℕ)} {ps : List (Option (List ℕ))} {name : WrittenName}
     → AreParted all ds os → Among p ps → ps ≡ prefixes_of ds → Declares name p → Among name (names_of all)
 among_prefixes nothing m e d = absurd (nowhere m e)
 among_prefixes (declaration {a} {all} c r) here e d =
@@ -207,7 +207,7 @@ among_prefixes (declaration {a} {all} c r) here e d =
 among_prefixes (declaration c r) (there m) e d = there (among_prefixes r m (rest_same e) d)
 among_prefixes (other n r) m e d = there (among_prefixes r m e d)
 
-pub once_declared : {all os : List WrittenAttribute} {ds : List Declaration} {ps : List (Option (List ℕ))} → AreParted all ds os → HasTwice ps
+pub once_declared : {all os : List WrittenAttribute} {ds : List NamespaceDeclaration} {ps : List (Option (List ℕ))} → AreParted all ds os → HasTwice ps
     → ps ≡ prefixes_of ds → HasTwice (names_of all)
 once_declared nothing (at_first m) e = absurd cc
 once_declared nothing (later t) e = absurd cc
@@ -219,7 +219,7 @@ once_declared (other n r) t e = later (once_declared r t e)
 -- ---- the results
 
 module _ (outer : Declared) (name : WrittenName) (written declared others : List WrittenAttribute) (split : IsSplit written declared others) where
-  parts : {ds : List Declaration} {os : List WrittenAttribute} → AreParted written ds os → (ds ≡ map declaration_of declared) × (os ≡ others)
+  parts : {ds : List NamespaceDeclaration} {os : List WrittenAttribute} → AreParted written ds os → (ds ≡ map declaration_of declared) × (os ≡ others)
   parts p = parted_same p (split_parted split)
 
   breaks_none : (q : Name) (attrs : List Attribute) → HasNames outer name declared others q attrs → BreaksNamespaces (scope_in outer) name written → ⊥
@@ -248,7 +248,7 @@ module _ (outer : Declared) (name : WrittenName) (written declared others : List
       let k = parts p in
       let y : AreExpanded (scope_in (declared ∷ outer)) others attrs = subst (λ (z : List WrittenAttribute). AreExpanded (scope_in
       (declared ∷ outer)) z attrs) k.1
-      (subst (λ (z : List Declaration). AreExpanded (z ∷ scope_in outer) os attrs) k.0 x) in
+      (subst (λ (z : List NamespaceDeclaration). AreExpanded (z ∷ scope_in outer) os attrs) k.0 x) in
       n (subst Distinct (expanded_same (read_once e r, once) r.names.are_expanded y) r.distinct)
 
   -- if P12 is broken, it or P11 is returned
@@ -280,44 +280,44 @@ module _ (outer : Declared) (name : WrittenName) (written declared others : List
       distinct = r.distinct;
     }
 
-  tag_once : {q : Name} {attrs : List Attribute} {scope : Scope} {said : List Said} (t : IsTag (scope_in outer) name said q attrs scope)
+  tag_once : {q : Name} {attrs : List Attribute} {scope : NamespaceScope} {said : List Said} (t : IsTag (scope_in outer) name said q attrs scope)
       → t.written ≡ written → HasTwice (prefixes_of t.declarations) → ⊥
   tag_once t e u = t.once (once_declared t.are_parted u refl)
 
-  tag_repeats_none : {q : Name} {attrs : List Attribute} {scope : Scope} {said : List Said} (t : IsTag (scope_in outer) name said q attrs scope)
+  tag_repeats_none : {q : Name} {attrs : List Attribute} {scope : NamespaceScope} {said : List Said} (t : IsTag (scope_in outer) name said q attrs scope)
       → t.written ≡ written → IsScopeOnce (scope_in outer) → RepeatsName (scope_in outer) written → ⊥
   tag_repeats_none t e once (written_twice u) = t.once (subst (λ (x : List WrittenAttribute). HasTwice (names_of x)) (sym e) u)
   tag_repeats_none {attrs = attrs} t e once (expanded_twice {ds} {others = os} {attrs = found} p x n) =
       let k = parted_same p (subst (λ (w : List WrittenAttribute). AreParted w t.declarations t.others) e t.are_parted) in
-      let z : AreExpanded (t.declarations ∷ scope_in outer) os found = subst (λ (y : List Declaration). AreExpanded (y ∷ scope_in outer) os found) k.0 x in
+      let z : AreExpanded (t.declarations ∷ scope_in outer) os found = subst (λ (y : List NamespaceDeclaration). AreExpanded (y ∷ scope_in outer) os found) k.0 x in
       let y : AreExpanded (t.declarations ∷ scope_in outer) t.others found =
       subst (λ (w : List WrittenAttribute). AreExpanded (t.declarations ∷ scope_in outer) w found) k.1 z in
-      let r : AreExpanded (t.declarations ∷ scope_in outer) t.others attrs = subst (λ (w : Scope). AreExpanded w t.others attrs) t.scope_is t.are_expanded in
+      let r : AreExpanded (t.declarations ∷ scope_in outer) t.others attrs = subst (λ (w : NamespaceScope). AreExpanded w t.others attrs) t.scope_is t.are_expanded in
       n (subst Distinct (expanded_same (tag_once t e, once) r y) t.distinct)
 
-  tag_found : {q : Name} {attrs : List Attribute} {scope : Scope} {said : List Said} (t : IsTag (scope_in outer) name said q attrs scope)
+  tag_found : {q : Name} {attrs : List Attribute} {scope : NamespaceScope} {said : List Said} (t : IsTag (scope_in outer) name said q attrs scope)
       → t.written ≡ written → IsScopeOnce (scope_in outer) → (e : Element) → IsRead outer name declared others e
       → ◌≡◌ {A = Element} e (record { name = q; attrs = attrs })
   tag_found {q} {attrs} t w once e r =
       let k = parted_same (subst (λ (w : List WrittenAttribute). AreParted w t.declarations t.others) w t.are_parted) (split_parted split) in
-      let same : (t.declarations ∷ scope_in outer) ≡ scope_in (declared ∷ outer) = ap (λ (x : List Declaration). x ∷ scope_in outer) k.0 in
+      let same : (t.declarations ∷ scope_in outer) ≡ scope_in (declared ∷ outer) = ap (λ (x : List NamespaceDeclaration). x ∷ scope_in outer) k.0 in
       let o : IsScopeOnce (scope_in (declared ∷ outer)) = (read_once e r, once) in
-      let n : NamesElement (scope_in (declared ∷ outer)) name q = subst (λ (x : Scope). NamesElement x name q) (t.scope_is ∙ same) t.is_named in
+      let n : NamesElement (scope_in (declared ∷ outer)) name q = subst (λ (x : NamespaceScope). NamesElement x name q) (t.scope_is ∙ same) t.is_named in
       let x : AreExpanded (scope_in (declared ∷ outer)) others attrs =
       subst (λ (y : List WrittenAttribute). AreExpanded (scope_in (declared ∷ outer)) y attrs) k.1
-      (subst (λ (y : Scope). AreExpanded y t.others attrs) (t.scope_is ∙ same) t.are_expanded) in
+      (subst (λ (y : NamespaceScope). AreExpanded y t.others attrs) (t.scope_is ∙ same) t.are_expanded) in
       join e.name q e.attrs attrs (element_same o r.names.is_named n) (expanded_same o r.names.are_expanded x) where
         join : (a b : Name) (xs ys : List Attribute) → a ≡ b → xs ≡ ys → ◌≡◌ {A = Element} (record { name = a; attrs = xs }) (record { name = b; attrs = ys })
         join a b xs ys e f = rw (e, f) refl
 
   -- a tag is read as its element
-  pub tag_is : {q : Name} {attrs : List Attribute} {scope : Scope} {said : List Said} (t : IsTag (scope_in outer) name said q attrs scope)
+  pub tag_is : {q : Name} {attrs : List Attribute} {scope : NamespaceScope} {said : List Said} (t : IsTag (scope_in outer) name said q attrs scope)
       → t.written ≡ written → AllDeclared outer → IsScopeOnce (scope_in outer)
       → tag_read outer name declared others ≡ Ok (record { name = q; attrs = attrs })
   tag_is {q} {attrs} {scope} t w all once = go (tag_read outer name declared others) (tag_tells outer name written declared others split all) where
     go : (r : Result Element ℕ) → TagTells outer name written declared others r → r ≡ Ok (record { name = q; attrs = attrs })
     go (Ok e) r = ap Ok (tag_found t w once e r)
     go (Err k) (inl b) = absurd (no_breach t.are_parted (recursion_from_All (λ d. IsForbidden d → ⊥) t.declarations t.allowed)
-        (subst (λ (x : Scope). NamesElement x name q) t.scope_is t.is_named) (subst (λ (x : Scope). AreExpanded x t.others attrs) t.scope_is t.are_expanded)
+        (subst (λ (x : NamespaceScope). NamesElement x name q) t.scope_is t.is_named) (subst (λ (x : NamespaceScope). AreExpanded x t.others attrs) t.scope_is t.are_expanded)
         (subst (BreaksNamespaces (scope_in outer) name) (sym w) b.1))
     go (Err k) (inr b) = absurd (tag_repeats_none t w once b.1.twice)

@@ -7,13 +7,13 @@ use Rattle.std.proofs.lemmas.List.Elements.{All-from_recursion}
 use Rattle.rng_model.specs.names.Lists.{Among, here, there}
 use Rattle.rng_model.specs.names.Names.{Name}
 use Rattle.rng_model.specs.documents.PyxLines.{WrittenName}
-use Rattle.rng_model.specs.documents.PyxNamespaces.{WrittenAttribute, Declaration, xml_uri, Scope, IsDeclared, HasNamespace, declared_here, declared_outside}
-use Rattle.rng_model.specs.documents.PyxNamespaces.{xml_beforehand, no_default, NamesElement, element_name, NamesAttribute, without_prefix, with_prefix, IsUndeclared}
+use Rattle.rng_model.specs.documents.PyxNamespaces.{WrittenAttribute, NamespaceDeclaration, xml_uri, NamespaceScope, IsDeclared, HasNamespace, declared_here, declared_outside}
+use Rattle.rng_model.specs.documents.PyxNamespaces.{xml_beforehand, no_default, NamesElement, element_name, NamesAttribute, without_prefix, with_prefix, HasNoNamespace}
 use Rattle.pyx.specs.plain.TagReader as read
-use Rattle.pyx_namespaces.specs.plain.Declarations.{Declared, declared_by, same_prefix, declares, found_in, beforehand, or_else, namespace_of}
+use Rattle.pyx.specs.plain.Declarations.{Declared, declared_by, same_prefix, declares, found_in, beforehand, or_else, namespace_of}
 use Rattle.pyx.specs.plain.TagReader.{in_namespace, attribute_in}
 use Rattle.pyx.specs.plain.TagReader.{attribute_name}
-use Rattle.pyx_namespaces.proofs.WrittenNames.{same_bytes, bytes_same, prefix_same, prefix_itself}
+use Rattle.pyx.proofs.WrittenNames.{same_bytes, bytes_same, prefix_same, prefix_itself}
 use Rattle.pyx.proofs.TagDeclarations.{declaration_of, prefix_of, AreDeclared}
 
 some_same : {A : Type 0} (x y : A) → Some x ≡ Some y → x ≡ y
@@ -25,7 +25,7 @@ none_some x e = cc
 false_true : false ≡ true → ⊥
 false_true e = cc
 
-abbrev pub scope_in : Declared → Scope
+abbrev pub scope_in : Declared → NamespaceScope
 scope_in scope = map (λ ds. map declaration_of ds) scope
 
 abbrev pub AllDeclared : Declared → Type 0
@@ -69,28 +69,28 @@ abbrev Space : Declared → Option (List ℕ) → Option (List ℕ) → Type 0
 Space scope p None = (uri : List ℕ) → HasNamespace (scope_in scope) p uri → ⊥
 Space scope p (Some uri) = HasNamespace (scope_in scope) p uri
 
-only_xml : {s : Scope} {p : Option (List ℕ)} {uri : List ℕ} → HasNamespace s p uri → s ≡ [] → (q : List ℕ) → p ≡ Some q → q ≡ codes "xml"
+only_xml : {s : NamespaceScope} {p : Option (List ℕ)} {uri : List ℕ} → HasNamespace s p uri → s ≡ [] → (q : List ℕ) → p ≡ Some q → q ≡ codes "xml"
 only_xml (declared_here d) e q f = absurd cc
 only_xml (declared_outside d h) e q f = absurd cc
 only_xml xml_beforehand e q f = some_same q (codes "xml") (sym f)
 only_xml no_default e q f = absurd (none_some q f)
 
-here_or_outside : {s : Scope} {p : Option (List ℕ)} {uri : List ℕ} → HasNamespace s p uri → (ds : List Declaration) (outer : Scope) → s ≡ ds ∷ outer
+here_or_outside : {s : NamespaceScope} {p : Option (List ℕ)} {uri : List ℕ} → HasNamespace s p uri → (ds : List NamespaceDeclaration) (outer : NamespaceScope) → s ≡ ds ∷ outer
     → IsDeclared p uri ds ⊎ HasNamespace outer p uri
-here_or_outside {p = p} {uri = uri} (declared_here d) ds outer e = inl (subst (λ (x : Scope). IsFirst p uri x) e d) where
-  IsFirst : Option (List ℕ) → List ℕ → Scope → Type 0
+here_or_outside {p = p} {uri = uri} (declared_here d) ds outer e = inl (subst (λ (x : NamespaceScope). IsFirst p uri x) e d) where
+  IsFirst : Option (List ℕ) → List ℕ → NamespaceScope → Type 0
   IsFirst p uri [] = ⊥
   IsFirst p uri (ds ∷ outer) = IsDeclared p uri ds
-here_or_outside {p = p} {uri = uri} (declared_outside d h) ds outer e = inr (subst (λ (x : Scope). IsOutside p uri x) e h) where
-  IsOutside : Option (List ℕ) → List ℕ → Scope → Type 0
+here_or_outside {p = p} {uri = uri} (declared_outside d h) ds outer e = inr (subst (λ (x : NamespaceScope). IsOutside p uri x) e h) where
+  IsOutside : Option (List ℕ) → List ℕ → NamespaceScope → Type 0
   IsOutside p uri [] = ⊥
   IsOutside p uri (ds ∷ outer) = HasNamespace outer p uri
 here_or_outside xml_beforehand ds outer e = absurd cc
 here_or_outside no_default ds outer e = absurd cc
 
-not_among : (p : Option (List ℕ)) (uri : List ℕ) {d : Declaration} {ds : List Declaration} → Among d ds → d ≡ record { prefix = p; uri = uri }
+not_among : (p : Option (List ℕ)) (uri : List ℕ) {d : NamespaceDeclaration} {ds : List NamespaceDeclaration} → Among d ds → d ≡ record { prefix = p; uri = uri }
     → AllByRecursion (λ d. d.prefix ≢ p) ds → ⊥
-not_among p uri here e all = all.0 (ap (λ (d : Declaration). d.prefix) e)
+not_among p uri here e all = all.0 (ap (λ (d : NamespaceDeclaration). d.prefix) e)
 not_among p uri (there a) e all = not_among p uri a e all.1
 
 outermost : (p : Option (List ℕ)) → Space [] p (beforehand p)
@@ -131,7 +131,7 @@ default_found (ds ∷ outer) = go (found_in None ds) (default_found outer) where
 pub record UndeclaredPrefix (scope : Declared) (name : WrittenName) : Type 0 where
   pub prefix : List ℕ
   pub is : name.prefix ≡ Some prefix
-  pub undeclared : IsUndeclared (scope_in scope) prefix
+  pub undeclared : HasNoNamespace (scope_in scope) prefix
 
 -- the result for the name of an element
 abbrev pub NameTells : Declared → WrittenName → Option Name → Type 0

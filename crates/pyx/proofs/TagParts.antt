@@ -4,7 +4,7 @@ use Rattle.std.specs.Prelude.{is_some}
 use Rattle.rng_model.specs.names.Lists.{Among, here, there, HasTwice, at_first, later}
 use Rattle.rng_model.specs.documents.PyxLines.{WrittenName}
 use Rattle.rng_model.specs.documents.PyxNamespaces.{WrittenAttribute, AreParted, nothing, declaration, other}
-use Rattle.pyx_namespaces.specs.plain.Declarations.{declared_by}
+use Rattle.pyx.specs.plain.Declarations.{declared_by}
 use Rattle.pyx.proofs.TagDeclarations.{declaration_of, prefix_of, AreDeclared, declares_it, declares_nothing}
 use Rattle.pyx.proofs.TagRepeats.{names_of}
 

@@ -7,9 +7,9 @@ use Rattle.rng_model.specs.names.Names.{Name}
 use Rattle.rng_model.specs.documents.PyxLines.{WrittenName}
 use Rattle.rng_model.specs.documents.PyxNamespaces.{WrittenAttribute}
 use Rattle.rng_model.specs.matching.WellFormed.{HasNoName, nothing_named, another_name, Distinct, none, one_more}
-use Rattle.pyx_namespaces.specs.plain.Declarations.{same_written, is_written_in, is_written_twice}
+use Rattle.pyx.specs.plain.Declarations.{same_written, is_written_in, is_written_twice}
 use Rattle.pyx.specs.plain.TagReader.{same_name, is_named_in, is_named_twice}
-use Rattle.pyx_namespaces.proofs.WrittenNames.{same_bytes, bytes_same, written_same}
+use Rattle.pyx.proofs.WrittenNames.{same_bytes, bytes_same, written_same}
 
 pub true_false : true ≡ false → ⊥
 true_false e = cc

@@ -7,7 +7,7 @@ use Rattle.rng_model.specs.names.Names.{Name}
 use Rattle.rng_model.specs.documents.DocumentViews.{attribute_of}
 use Rattle.rng_model.specs.declared.document.Attr.{Attr}
 use Rattle.pyx.specs.plain.Slots.{AreMet}
-use Rattle.pyx_namespaces.specs.plain.Slots.{is_met}
+use Rattle.pyx.specs.plain.NamespacesSlots.{is_met}
 use Rattle.pyx.specs.plain.TagReader.{same_name, is_named_in, is_named_twice}
 use Rattle.pyx.proofs.TagRepeats.{names_same, true_false}
 

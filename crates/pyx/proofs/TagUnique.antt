@@ -7,7 +7,7 @@ use Rattle.rng_model.specs.matching.Document.{Attribute}
 use Rattle.rng_model.specs.names.Lists.{Among, here, there, HasTwice, at_first, later}
 use Rattle.rng_model.specs.names.Names.{Name}
 use Rattle.rng_model.specs.documents.PyxLines.{WrittenName}
-use Rattle.rng_model.specs.documents.PyxNamespaces.{WrittenAttribute, Declaration, Declares, AreParted, nothing, declaration, other, Scope, IsDeclared, xml_uri}
+use Rattle.rng_model.specs.documents.PyxNamespaces.{WrittenAttribute, NamespaceDeclaration, Declares, AreParted, nothing, declaration, other, NamespaceScope, IsDeclared, xml_uri}
 use Rattle.rng_model.specs.documents.PyxNamespaces.{HasNamespace, declared_here, declared_outside, xml_beforehand, no_default, NamesElement, element_name, NamesAttribute}
 use Rattle.rng_model.specs.documents.PyxNamespaces.{without_prefix, with_prefix, AreExpanded, none_left, expanded_and}
 use Rattle.pyx.proofs.TagDeclarations.{is_declared}
@@ -21,38 +21,38 @@ declared_same {p = p} {q = q} d e = some_same p q (sym (is_declared d) ∙ is_de
 -- ---- namespaces
 
 -- the prefixes that a tag declares
-abbrev pub prefixes_of : List Declaration → List (Option (List ℕ))
+abbrev pub prefixes_of : List NamespaceDeclaration → List (Option (List ℕ))
 prefixes_of ds = map (λ d. d.prefix) ds
 
 -- no tag declares a prefix twice
-abbrev pub IsScopeOnce : Scope → Type 0
+abbrev pub IsScopeOnce : NamespaceScope → Type 0
 IsScopeOnce scope = AllByRecursion (λ ds. HasTwice (prefixes_of ds) → ⊥) scope
 
-among_prefix : {d : Declaration} {ds : List Declaration} → Among d ds → Among d.prefix (prefixes_of ds)
+among_prefix : {d : NamespaceDeclaration} {ds : List NamespaceDeclaration} → Among d ds → Among d.prefix (prefixes_of ds)
 among_prefix here = here
 among_prefix (there m) = there (among_prefix m)
 
 -- two declarations of the same prefix in a tag are equal
-one_declared : {d e : Declaration} {ds : List Declaration} → (HasTwice (prefixes_of ds) → ⊥) → Among d ds → Among e ds → d.prefix ≡ e.prefix → d.uri ≡ e.uri
+one_declared : {d e : NamespaceDeclaration} {ds : List NamespaceDeclaration} → (HasTwice (prefixes_of ds) → ⊥) → Among d ds → Among e ds → d.prefix ≡ e.prefix → d.uri ≡ e.uri
 one_declared once here here p = refl
 one_declared {e = e} once (here {xs}) (there m) p = absurd (once (at_first (subst (λ (x : Option (List ℕ)). Among x (prefixes_of xs)) (sym p)
     (among_prefix m))))
 one_declared {d = d} once (there {y} {xs} m) here p = absurd (once (at_first (subst (λ (x : Option (List ℕ)). Among x (prefixes_of xs)) p (among_prefix m))))
 one_declared once (there m) (there n) p = one_declared (λ t. once (later t)) m n p
 
-not_here : {d : Declaration} {ds : List Declaration} {p : Option (List ℕ)} → Among d ds → d.prefix ≡ p → AllByRecursion (λ d. d.prefix ≢ p) ds → ⊥
+not_here : {d : NamespaceDeclaration} {ds : List NamespaceDeclaration} {p : Option (List ℕ)} → Among d ds → d.prefix ≡ p → AllByRecursion (λ d. d.prefix ≢ p) ds → ⊥
 not_here here e all = all.0 e
 not_here (there m) e all = not_here m e all.1
 
-abbrev FirstDeclares : Option (List ℕ) → List ℕ → Scope → Type 0
+abbrev FirstDeclares : Option (List ℕ) → List ℕ → NamespaceScope → Type 0
 FirstDeclares p uri [] = ⊥
 FirstDeclares p uri (ds ∷ outer) = IsDeclared p uri ds
 
-abbrev OthersName : Option (List ℕ) → List ℕ → Scope → Type 0
+abbrev OthersName : Option (List ℕ) → List ℕ → NamespaceScope → Type 0
 OthersName p uri [] = ⊥
 OthersName p uri (ds ∷ outer) = AllByRecursion (λ d. d.prefix ≢ p) ds × HasNamespace outer p uri
 
-here_or_behind : {s : Scope} {p : Option (List ℕ)} {uri : List ℕ} → HasNamespace s p uri → (ds : List Declaration) (outer : Scope) → s ≡ ds ∷ outer
+here_or_behind : {s : NamespaceScope} {p : Option (List ℕ)} {uri : List ℕ} → HasNamespace s p uri → (ds : List NamespaceDeclaration) (outer : NamespaceScope) → s ≡ ds ∷ outer
     → IsDeclared p uri ds ⊎ (AllByRecursion (λ d. d.prefix ≢ p) ds × HasNamespace outer p uri)
 here_or_behind {p = p} {uri = uri} (declared_here d) ds outer e = inl (subst (FirstDeclares p uri) e d)
 here_or_behind {p = p} {uri = uri} (declared_outside {ds = cs} n h) ds outer e = inr
@@ -64,13 +64,13 @@ abbrev outermost : Option (List ℕ) → List ℕ
 outermost None = []
 outermost (Some p) = xml_uri
 
-named_outside : {s : Scope} {p : Option (List ℕ)} {uri : List ℕ} → HasNamespace s p uri → s ≡ [] → uri ≡ outermost p
+named_outside : {s : NamespaceScope} {p : Option (List ℕ)} {uri : List ℕ} → HasNamespace s p uri → s ≡ [] → uri ≡ outermost p
 named_outside (declared_here d) e = absurd cc
 named_outside (declared_outside d h) e = absurd cc
 named_outside xml_beforehand e = refl
 named_outside no_default e = refl
 
-pub namespace_same : {scope : Scope} {p : Option (List ℕ)} {u v : List ℕ} → IsScopeOnce scope → HasNamespace scope p u → HasNamespace scope p v → u ≡ v
+pub namespace_same : {scope : NamespaceScope} {p : Option (List ℕ)} {u v : List ℕ} → IsScopeOnce scope → HasNamespace scope p u → HasNamespace scope p v → u ≡ v
 namespace_same {p = p} {u = u} {v = v} once (declared_here {ds} {outer} d) h = go (here_or_behind h ds outer refl) where
   go : IsDeclared p v ds ⊎ (AllByRecursion (λ d. d.prefix ≢ p) ds × HasNamespace outer p v) → u ≡ v
   go (inl e) = one_declared once.0 d e refl
@@ -84,7 +84,7 @@ namespace_same once no_default h = sym (named_outside h refl)
 
 -- ---- parts and names
 
-pub parted_same : {all os ps : List WrittenAttribute} {ds cs : List Declaration} → AreParted all ds os → AreParted all cs ps → (ds ≡ cs) × (os ≡ ps)
+pub parted_same : {all os ps : List WrittenAttribute} {ds cs : List NamespaceDeclaration} → AreParted all ds os → AreParted all cs ps → (ds ≡ cs) × (os ≡ ps)
 parted_same nothing nothing = (refl, refl)
 parted_same (declaration {a} {p} {all} {others} {ds} d m) (declaration {p = q} {ds = cs} e n) = let k = parted_same m n in
     (rw (declared_same d e, k.0) refl, k.1)
@@ -95,10 +95,10 @@ parted_same (other {a} n m) (other e k) = let r = parted_same m k in (r.0, ap (�
 abbrev in_space : List ℕ → List ℕ → Name
 in_space local uri = record { ns = uri; local = local }
 
-pub element_same : {scope : Scope} {name : WrittenName} {q r : Name} → IsScopeOnce scope → NamesElement scope name q → NamesElement scope name r → q ≡ r
+pub element_same : {scope : NamespaceScope} {name : WrittenName} {q r : Name} → IsScopeOnce scope → NamesElement scope name q → NamesElement scope name r → q ≡ r
 element_same once (element_name {name} h) (element_name k) = ap (in_space name.local) (namespace_same once h k)
 
-attribute_same : {scope : Scope} {name other : WrittenName} {q r : Name} → IsScopeOnce scope → NamesAttribute scope name q → NamesAttribute scope other r
+attribute_same : {scope : NamespaceScope} {name other : WrittenName} {q r : Name} → IsScopeOnce scope → NamesAttribute scope name q → NamesAttribute scope other r
     → name ≡ other → q ≡ r
 attribute_same once (without_prefix {local}) (without_prefix {local = more}) e = ap (λ (n : WrittenName). in_space n.local []) e
 attribute_same once (without_prefix {local}) (with_prefix {p} {local = more} k) e = absurd (no_prefix p (ap (λ (n : WrittenName). n.prefix) e)) where
@@ -115,7 +115,7 @@ attribute_same {scope} once (with_prefix {p} {local} {uri} h) (with_prefix {p = 
 with_content : List ℕ → Name → Attribute
 with_content content name = record { name = name; content = content }
 
-pub expanded_same : {scope : Scope} {all : List WrittenAttribute} {xs ys : List Attribute} → IsScopeOnce scope → AreExpanded scope all xs
+pub expanded_same : {scope : NamespaceScope} {all : List WrittenAttribute} {xs ys : List Attribute} → IsScopeOnce scope → AreExpanded scope all xs
     → AreExpanded scope all ys → xs ≡ ys
 unfolding with_content
 expanded_same once none_left none_left = refl

@@ -13,7 +13,7 @@ use Rattle.rng_model.specs.documents.PyxLines as lines
 use Rattle.rng_model.specs.documents.PyxTrees.{Event}
 use Rattle.rng_model.specs.declared.pyx_fault.PyxFault.{PyxFault}
 use Rattle.rng_model.specs.declared.pyx_fault.PyxFault.TheVariants as pyx
-use Rattle.pyx_namespaces.specs.plain.Cuts.{at_byte, at_front, behind}
+use Rattle.pyx.specs.plain.Cuts.{at_byte, at_front, behind}
 use Rattle.pyx.specs.plain.DocumentReader.{State, Tag, Turn, after_events, close_tag, declared_in, fault, followed, is_outside, joined_by, judged, line_read, said_read}
 use Rattle.pyx.specs.plain.DocumentReader.{silent, tag_bytes, tag_closed, tag_ended}
 use Rattle.pyx.specs.plain.LineReader.{kind_of, named, said_of, text_of}

@@ -4,7 +4,7 @@ use Rattle.std.proofs.Common.{◌∙◌, arith, append_assoc, rules, ◌⊎◌, 
 use Rattle.std.specs.Prelude.{is_some, ◌==◌}
 use Rattle.std.proofs.lemmas.List.{append-nil, length-append}
 use Rattle.rng_model.specs.documents.Lines.{Line, line_limit, lines, with_first}
-use Rattle.pyx_namespaces.specs.plain.Cuts.{at_byte, at_front, behind}
+use Rattle.pyx.specs.plain.Cuts.{at_byte, at_front, behind}
 use Rattle.pyx.specs.plain.DocumentReader.{State, Turn, silent, fault, followed, close_tag, tag_ended, line_read, all_read, all_ended, document_read}
 use Rattle.pyx.specs.plain.Pieces.{Progress, with_begun, ended_line, open_line, read, finished, nothing_fed}
 use Rattle.pyx.proofs.LineTurns.{followed_same, followed_twice}

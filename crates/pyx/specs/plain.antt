@@ -1,4 +1,9 @@
 -- Plain functions that the code is proved against, and private relations.
+pub mod Cuts
+pub mod Declarations
+pub mod Held
+pub mod NamespacesSlots
+pub mod WrittenNames
 pub mod DocumentReader
 pub mod Escapes
 pub mod LineReader

@@ -4,20 +4,20 @@ ghost use Rattle.rng_model.specs.plain.Answers.{Gives};
 ghost use Rattle.rng_model.specs.names.NameViews.{name_of};
 ghost use Rattle.rng_model.specs.documents.DocumentViews.{attribute_of};
 ghost use Rattle.pyx.specs.plain.DocumentReader.{declared_in};
-ghost use Rattle.pyx_namespaces.specs.plain.WrittenNames.{written_of};
+ghost use Rattle.pyx.specs.plain.WrittenNames.{written_of};
 ghost use Rattle.pyx.specs.plain.TagReader.{attribute_name, expanded};
 ghost use Rattle.pyx.specs.views.ElementView.{clause_of, resolved};
-ghost use Rattle.pyx_namespaces.specs.views.WrittenAttributes.{written_attribute};
+ghost use Rattle.pyx.specs.views.WrittenAttributes.{written_attribute};
 
 use crate::fault::LineFault;
+use crate::namespaces::{WrittenAttribute, cut_at};
 use crate::opened::OpenElements;
 use crate::spares::Spares;
-use pyx_namespaces::{WrittenAttribute, cut_at};
 use rng_model::{Attr, Name, Namespace};
 use std::alloc::Global;
 
 /// Returns the expanded name of an attribute inside the open elements. A prefix that is not declared breaks P11.
-#[tactic(auto, unfolding(crate::specs::plain::TagReader::attribute_name, pyx_namespaces::specs::plain::WrittenNames::written_of))]
+#[tactic(auto, unfolding(crate::specs::plain::TagReader::attribute_name, crate::specs::plain::WrittenNames::written_of))]
 fn attribute_name(
     alloc: Global,
     elements: &OpenElements,

@@ -1,10 +1,10 @@
 // The elements that are open, as they are kept.
 ghost use Rattle.std.specs.Prelude.{◌≡◌, ◌++◌, ◌<◌, [], ◌∷◌, IfSome, MatchOption, length, map, reverse};
-ghost use Rattle.pyx_namespaces.specs.views.DeclarationView.{declaration_of};
+ghost use Rattle.pyx.specs.views.DeclarationView.{declaration_of};
 ghost use Rattle.pyx.specs.views.ElementView.{AreNamed, stack_of};
 ghost use Rattle.pyx.specs.views.Held.{opened_held};
 
-use pyx_namespaces::{Declaration, declarations_len, name_len};
+use crate::namespaces::{Declaration, declarations_len, name_len};
 
 /// An element whose end has not been read.
 #[derive(Drop)]

@@ -1,10 +1,10 @@
 // Texts with escapes.
 ghost use Rattle.std.specs.Prelude.{◌≡◌, IfOk, Some, None, if◌then◌else◌, string_bytes, true};
 ghost use Rattle.std.specs.Option.{option_map};
-ghost use Rattle.pyx_namespaces.specs.plain.Cuts.{at_byte};
+ghost use Rattle.pyx.specs.plain.Cuts.{at_byte};
 ghost use Rattle.pyx.specs.plain.Escapes.{escape_of, in_front, unescaped};
 
-use pyx_namespaces::{behind, cut_at};
+use crate::namespaces::{behind, cut_at};
 use rng_model::OutOfMemory;
 
 /// Returns the character that the escape after a backslash represents, and the rest.

@@ -1,14 +1,14 @@
 // Names that have been looked up.
 ghost use Rattle.std.specs.Prelude.{◌≡◌, ◌<◌, ◌≤◌, ℕ, length, IfOk, IfSome, OnOk, Some};
 ghost use Rattle.rng_model.specs.names.NameViews.{name_of};
-ghost use Rattle.pyx_namespaces.specs.plain.WrittenNames.{written_of};
-ghost use Rattle.pyx_namespaces.specs.plain.Declarations.{Declared};
-ghost use Rattle.pyx_namespaces.specs.views.FoundNamespaces.{found_bytes};
+ghost use Rattle.pyx.specs.plain.WrittenNames.{written_of};
+ghost use Rattle.pyx.specs.plain.Declarations.{Declared};
+ghost use Rattle.pyx.specs.views.FoundNamespaces.{found_bytes};
 ghost use Rattle.pyx.specs.plain.TagReader.{element_name};
 ghost use Rattle.pyx.specs.views.ElementView.{AreKnown, IsJudged, IsKnown, IsPlace, name_at, names_of};
 
+use crate::namespaces::{FoundNamespace, hash_of};
 use crate::spares::set_namespace;
-use pyx_namespaces::{FoundNamespace, hash_of};
 use rng_model::{Name, Namespace, OutOfMemory};
 use std::alloc::Global;
 

@@ -8,6 +8,7 @@ mod fault;
 mod known;
 mod line;
 mod marks;
+mod namespaces;
 mod opened;
 mod pieces;
 mod plain;

@@ -7,8 +7,8 @@ ghost use Rattle.pyx.specs.plain.LineReader.{is_name, kind_of, said_of};
 ghost use Rattle.pyx.specs.plain.Pieces.{ended_line};
 ghost use Rattle.pyx.specs.views.View.{line_of};
 
+use crate::namespaces::cut_at;
 use crate::plain::{all_plain, is_plain_name};
-use pyx_namespaces::cut_at;
 use rng_model::{is_ncname, is_xml_char};
 
 /// The most bytes that a line may have without its line feed.

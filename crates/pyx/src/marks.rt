@@ -3,10 +3,10 @@ ghost use Rattle.std.specs.Prelude.{◌≡◌, ◌<◌, ◌≤◌, ◌+◌, ℕ,
 ghost use Rattle.std.specs.Int.{bit_at};
 ghost use Rattle.std.specs.Option.{option_map};
 ghost use Rattle.memchr.specs.Find.{NoneBefore, Nowhere, Passes, is_byte};
-ghost use Rattle.pyx_namespaces.specs.plain.Cuts.{at_byte};
+ghost use Rattle.pyx.specs.plain.Cuts.{at_byte};
 ghost use Rattle.pyx.specs.plain.Marks.{IsMask};
 
-use pyx_namespaces::cut_at;
+use crate::namespaces::cut_at;
 use std::simd::prelude::*;
 
 /// How many bytes are looked at together.

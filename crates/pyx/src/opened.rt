@@ -5,20 +5,20 @@ ghost use Rattle.rng_model.specs.plain.Answers.{Gives};
 ghost use Rattle.rng_model.specs.names.NameViews.{name_of};
 ghost use Rattle.pyx.specs.plain.DocumentReader.{around, declared_in};
 ghost use Rattle.pyx.specs.views.ElementView.{AreKnown, IsJudged, IsPlace, clause_of, is_innermost, name_at, names_of, open_as, resolved};
-ghost use Rattle.pyx_namespaces.specs.views.WrittenAttributes.{written_attribute};
+ghost use Rattle.pyx.specs.views.WrittenAttributes.{written_attribute};
 ghost use Rattle.pyx.specs.views.Held.{opened_held};
 ghost use Rattle.pyx.specs.plain.LineReader.{is_name};
-ghost use Rattle.pyx_namespaces.specs.plain.WrittenNames.{written_of};
+ghost use Rattle.pyx.specs.plain.WrittenNames.{written_of};
 ghost use Rattle.pyx.specs.plain.TagReader.{element_name};
-ghost use Rattle.pyx_namespaces.specs.plain.Declarations.{Declared, namespace_of};
-ghost use Rattle.pyx_namespaces.specs.views.FoundNamespaces.{found_bytes};
+ghost use Rattle.pyx.specs.plain.Declarations.{Declared, namespace_of};
+ghost use Rattle.pyx.specs.views.FoundNamespaces.{found_bytes};
 
 use crate::elements::{OpenElement, innermost, opened_len};
 use crate::fault::LineFault;
 use crate::known::{KnownName, find, forget, learn};
 use crate::line::is_name;
+use crate::namespaces::{Declarations, FoundNamespace, WrittenAttribute, cut_at, is_same};
 use crate::spares::Spares;
-use pyx_namespaces::{Declarations, FoundNamespace, WrittenAttribute, cut_at, is_same};
 use rng_model::{Name, OutOfMemory};
 use std::alloc::Global;
 use std::marker::Model;
@@ -63,7 +63,7 @@ impl Model for OpenElements {
 
 /// Returns the place of the expanded name that a name has where these declarations hold. Looks it up if it is not known.
 /// A prefix that is not declared breaks P11.
-#[tactic(auto, unfolding(crate::specs::plain::TagReader::element_name, pyx_namespaces::specs::plain::WrittenNames::written_of))]
+#[tactic(auto, unfolding(crate::specs::plain::TagReader::element_name, crate::specs::plain::WrittenNames::written_of))]
 #[inline(always)]
 fn place_of_name(
     alloc: Global,

@@ -5,7 +5,7 @@ ghost use Rattle.std.specs.List.{list_all, prefix_len};
 ghost use Rattle.std.specs.Str.{chars};
 ghost use Rattle.rng_model.specs.names.Characters.{is_xml_char};
 ghost use Rattle.pyx.specs.plain.PlainBytes.{is_plain};
-ghost use Rattle.pyx_namespaces.specs.plain.Cuts.{at_byte};
+ghost use Rattle.pyx.specs.plain.Cuts.{at_byte};
 ghost use Rattle.pyx.specs.views.Held.{held};
 ghost use Rattle.pyx.specs.plain.Pieces as pieces;
 ghost use Rattle.pyx.specs.plain.Pieces.{is_within, weight};
@@ -14,10 +14,10 @@ ghost use Rattle.rng_model.specs.documents.Handing.{Hands};
 
 use crate::line::{LINE_LIMIT, Line};
 use crate::marks::first_text_line;
+use crate::namespaces::behind;
 use crate::plain::plain_text;
 use crate::state::State;
 use memchr::{memchr, memrchr};
-use pyx_namespaces::behind;
 use rng_model::{Events, PyxFault};
 use std::alloc::Global;
 

@@ -5,7 +5,7 @@ ghost use Rattle.rng_model.specs.documents.DocumentViews.{attribute_of};
 ghost use Rattle.pyx.specs.plain.Slots.{AreMet};
 ghost use Rattle.pyx.specs.plain.TagReader.{is_named_in, is_named_twice};
 
-use pyx_namespaces::{SLOT_COUNT, mark};
+use crate::namespaces::{SLOT_COUNT, mark};
 use rng_model::{Attr, Name};
 
 /// The most names that are compared in pairs, without slots.

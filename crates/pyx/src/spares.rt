@@ -1,9 +1,9 @@
 // Buffers that are used again.
 ghost use Rattle.std.specs.Prelude.{◌≡◌, [], IfOk, OnOk, string_bytes};
 ghost use Rattle.rng_model.specs.names.NamespaceViews.{namespace_bytes};
-ghost use Rattle.pyx_namespaces.specs.views.FoundNamespaces.{found_bytes};
+ghost use Rattle.pyx.specs.views.FoundNamespaces.{found_bytes};
 
-use pyx_namespaces::FoundNamespace;
+use crate::namespaces::FoundNamespace;
 use rng_model::{Attr, Namespace, OutOfMemory};
 use std::alloc::Global;
 

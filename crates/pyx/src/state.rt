@@ -7,14 +7,14 @@ ghost use Rattle.rng_model.specs.documents.PyxLines as lines;
 ghost use Rattle.pyx.specs.plain.DocumentReader as reader;
 ghost use Rattle.pyx.specs.plain.DocumentReader.{declared_in, followed};
 ghost use Rattle.pyx.specs.views.ElementView.{clause_of, element_at};
-ghost use Rattle.pyx_namespaces.specs.views.WrittenAttributes.{written_attribute};
+ghost use Rattle.pyx.specs.views.WrittenAttributes.{written_attribute};
 ghost use Rattle.pyx.specs.views.Held.{state_held};
 ghost use Rattle.pyx.specs.plain.LineReader.{attribute_of, kind_of, named, said_of, text_of};
-ghost use Rattle.pyx_namespaces.specs.plain.Cuts.{at_byte, behind};
-ghost use Rattle.pyx_namespaces.specs.plain.WrittenNames.{written_of};
+ghost use Rattle.pyx.specs.plain.Cuts.{at_byte, behind};
+ghost use Rattle.pyx.specs.plain.WrittenNames.{written_of};
 ghost use Rattle.pyx.specs.plain.Pieces.{ended_line};
 ghost use Rattle.pyx.specs.plain.PlainBytes.{is_plain};
-ghost use Rattle.pyx_namespaces.specs.plain.Declarations.{declared_by};
+ghost use Rattle.pyx.specs.plain.Declarations.{declared_by};
 ghost use Rattle.pyx.specs.plain.TagReader.{tag_read};
 ghost use Rattle.pyx.specs.views.View.{Adds, EndsBy, Takes, line_of, state_of, state_with, tag_of};
 ghost use Rattle.rng_model.specs.documents.Handing.{Hands};
@@ -23,12 +23,12 @@ use crate::attributes::expand_attributes;
 use crate::escapes::append;
 use crate::fault::LineFault;
 use crate::line::{Line, is_name, line_text};
+use crate::namespaces::{
+    WrittenAttribute, any_forbidden, behind, cut_at, declared_by, is_written_twice,
+};
 use crate::opened::OpenElements;
 use crate::slots::is_named_twice;
 use crate::spares::Spares;
-use pyx_namespaces::{
-    WrittenAttribute, any_forbidden, behind, cut_at, declared_by, is_written_twice,
-};
 use rng_model::{Attr, Event, EventKind, Events, OutOfMemory, PyxFault};
 use std::alloc::Global;
 

@@ -5,6 +5,7 @@ pub mod ResolvedMembers
 pub mod ResolvedViews
 pub mod UsedPrefixes
 pub mod DeclarationRules
+pub mod AppliedTrees
 pub mod KeywordNumbers
 pub mod MentionTokens
 pub mod MentionExamples

@@ -17,6 +17,7 @@ use Rattle.rnc_model.specs.declarations.FileTree.{given}
 use Rattle.rnc_model.specs.loading.Mentions.{MentionedFile, mention_of, mentions_of, mentions_of_pattern, mentions_of_patterns, mentions_of_component}
 use Rattle.rnc_model.specs.loading.Mentions.{mentions_of_components}
 use Rattle.rnc_model.specs.declarations.Parsing.{IsFileTree}
+use Rattle.rnc_grammar.proofs.AppliedTrees.{made_where_applied}
 use Rattle.rnc_grammar.proofs.KeywordNumbers.{AreNumbersIn, no_numbers, number_here, numbers_later, numbers_after, numbers_before, numbers_of_both}
 use Rattle.rnc_grammar.proofs.KeywordNumbers.{numbers_increase}
 
@@ -233,5 +234,5 @@ found x (has_these has) = has
 pub mentions_in_order : (ts : List Token) (t : tree.FileTree) → IsFileTree (lexemes ts) t
     → IsStrictlyIncreasing (map (λ m. (mention_of m).token) (mentions_of t))
 mentions_in_order ts t is =
-    let same : tokens_of_file t ≡ tokens_in_body is.file.body = found t (rw is.tree at (file_has is.file)) in
+    let same : tokens_of_file t ≡ tokens_in_body is.file.body = found t (rw (made_where_applied is.file t is.kept is.tree) at (file_has is.file)) in
     rw same (numbers_increase ts (tokens_in_body is.file.body) (file_within is.sentence))

@@ -8,7 +8,7 @@ use Rattle.rnc_syntax.specs.views.Fault as syntax_fault
 use Rattle.rnc_model.specs.grammar.Grammar.{IsFile}
 use Rattle.rnc_model.specs.tokens.Lexeme.{Lexeme, lexemes}
 use Rattle.rnc_syntax.specs.views.SentenceFaults as sentence_faults
-use Rattle.rnc_model.specs.grammar.Sentence.{IsSyntaxTree}
+use Rattle.rnc_model.specs.grammar.SyntaxTrees.{IsSyntaxTree}
 use Rattle.rnc_model.specs.grammar.Syntax.{File}
 use Rattle.rnc_syntax.specs.views.SyntaxView as syntax
 use Rattle.rnc_model.specs.tokens.Cut.{Token}
@@ -21,6 +21,8 @@ use Rattle.rnc_grammar.specs.views.Fault.{fault_of, tree_or_fault}
 use Rattle.rnc_model.specs.declarations.FileTree.{FileTree}
 use Rattle.rnc_model.specs.loading.Mentions.{mention_of, mentions_of}
 use Rattle.rnc_grammar.specs.views.View.{file_of}
+use Rattle.rnc_model.specs.declarations.AppliedDeclarations.{tree_of_file}
+use Rattle.rnc_grammar.proofs.AppliedTrees.{applied_where_made, made_where_applied}
 use Rattle.rnc_grammar.proofs.DeclarationRules.{broken_where_none, kept_where_tree, none_where_broken}
 use Rattle.rnc_grammar.proofs.MentionTokens.{mentions_in_order}
 use Rattle.rnc_model.specs.declarations.Parsing.{BreaksDeclarations, IsFileTree}
@@ -31,9 +33,7 @@ use Rattle.rng_model.specs.plain.Answers.{Gives}
 pub one_tree : (ts : List Lexeme) → ((f g : File) → IsFile ts f → IsFile ts g → f ≡ g) → (t u : FileTree) → IsFileTree ts t → IsFileTree ts u → t ≡ u
 one_tree ts one t u a b =
     let file : a.file ≡ b.file = one a.file b.file a.sentence b.sentence in
-    let trees : Some t ≡ Some u = sym a.tree ∙ ap file_tree file ∙ b.tree in
-    let same : t ≡ u = cc in
-    same
+    sym a.tree ∙ ap tree_of_file file ∙ b.tree
 
 -- read_syntax returns this
 abbrev pub GivesFile : Result written.File SyntaxFault → Result File SyntaxFault → Type 0
@@ -108,7 +108,7 @@ module _ (f : File) where
 module _ (ts : List Lexeme) (f : File) (is : IsSyntaxTree ts f) where
   -- a tree that is returned
   pub tree_given : (r : Result declared.FileTree ParseFault) → IfOk r (λ t. IsResolved f (file_of t)) → IfOk r (λ t. IsFileTree ts (file_of t))
-  tree_given (Ok t) given = record { nesting = is.nesting; file = f; sentence = is.sentence; kept = given.kept; tree = given.tree }
+  tree_given (Ok t) given = record { nesting = is.nesting; file = f; sentence = is.sentence; kept = given.kept; tree = applied_where_made f (file_of t) given.tree }
   tree_given (Err e) given = tt
 
   -- a fault that is returned
@@ -134,7 +134,7 @@ module _ (ts : List Lexeme) (file : written.File) (only : (g : File) → IsSynta
       → IsFileTree ts t → GivesTree r (Ok t)
   only_tree r gives t is =
       let same = same_tree is.file (record { nesting = is.nesting; sentence = is.sentence }) in
-      gives t (subst (λ f. IsResolved f t) same (record { kept = is.kept; tree = is.tree }))
+      gives t (subst (λ f. IsResolved f t) same (record { kept = is.kept; tree = made_where_applied is.file t is.kept is.tree }))
 
   -- the clause is unique if declarations break a rule
   pub only_declarations : (r : Result declared.FileTree ParseFault) → (BreaksDeclarationRule (syntax.file_of file) → GivesTree r (Err (faults.Clause 8)))

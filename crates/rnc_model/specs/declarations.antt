@@ -1,4 +1,5 @@
 -- File trees, and declarations.
+pub mod AppliedDeclarations
 pub mod DeclarationRules
 pub mod Declarations
 pub mod FaultyTokens

@@ -2,3 +2,4 @@
 pub mod Grammar
 pub mod Sentence
 pub mod Syntax
+pub mod SyntaxTrees

@@ -1,4 +1,5 @@
 -- Its tokens.
 pub mod Cut
+pub mod CutTokens
 pub mod Lexeme
 pub mod Tokens

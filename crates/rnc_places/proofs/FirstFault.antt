@@ -17,7 +17,7 @@ use Rattle.rnc_model.specs.grammar.Grammar as grammar
 use Rattle.rnc_model.specs.grammar.Grammar.{AreDeclarations, IsBody, IsDeclaration, IsFile, IsLiteral, IsUri, word_of}
 use Rattle.rnc_model.specs.grammar.Syntax.{Declaration, File, Uri}
 use Rattle.rnc_model.specs.declared.token.Token as declared
-use Rattle.rnc_model.specs.tokens.Cut.{tokens_of}
+use Rattle.rnc_model.specs.tokens.CutTokens.{tokens_of}
 use Rattle.rnc_model.specs.tokens.Lexeme.{Lexeme, cname, identifier, keyword, lexemes, ns_name, segment, sign}
 use Rattle.rng_model.specs.declared.fault.OutOfMemory.{OutOfMemory}
 use Rattle.rnc_syntax.proofs.Lexemes.{all_lexemes, count_of_lexemes}

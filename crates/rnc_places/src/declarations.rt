@@ -3,7 +3,7 @@ ghost use Rattle.std.specs.Prelude.{◌≡◌, ◌≤◌, ◌<◌, ℕ, List, If
 ghost use Rattle.rnc_model.specs.declarations.Declarations.{nothing_declared};
 ghost use Rattle.rnc_model.specs.declarations.FaultyTokens.{BreaksDeclarationsAt};
 ghost use Rattle.rnc_model.specs.declarations.Parsing.{BreaksDeclarations};
-ghost use Rattle.rnc_model.specs.tokens.Cut.{tokens_of};
+ghost use Rattle.rnc_model.specs.tokens.CutTokens.{tokens_of};
 ghost use Rattle.rnc_model.specs.tokens.Lexeme.{lexemes};
 ghost use Rattle.rnc_places.specs.plain.FaultNumbers as plain;
 ghost use Rattle.rnc_syntax.specs.plain.Reading.{lexemes_in};

@@ -2,7 +2,7 @@
 ghost use Rattle.std.specs.Prelude.{◌≡◌, []};
 ghost use Rattle.rnc_model.specs.grammar.Sentence.{BreaksNesting, is_closing, is_opening};
 ghost use Rattle.rnc_model.specs.loading.FaultPlaces.{IsTooDeepAt};
-ghost use Rattle.rnc_model.specs.tokens.Cut.{tokens_of};
+ghost use Rattle.rnc_model.specs.tokens.CutTokens.{tokens_of};
 ghost use Rattle.rnc_model.specs.tokens.Lexeme.{lexeme_at, lexemes};
 
 use rnc_model::{Sign, Token, TokenKind};

@@ -6,7 +6,8 @@ ghost use Rattle.rnc_model.specs.characters.Decoding.{IsDecoded};
 ghost use Rattle.rnc_model.specs.declared.character.Character.{Character};
 ghost use Rattle.rnc_model.specs.loading.FaultPlaces.{BreaksClauseAt, IsPlaceOfToken};
 ghost use Rattle.rnc_model.specs.loading.SchemaFile.{BreaksFileClause};
-ghost use Rattle.rnc_model.specs.tokens.Cut.{HasTokens, tokens_of};
+ghost use Rattle.rnc_model.specs.tokens.Cut.{HasTokens};
+ghost use Rattle.rnc_model.specs.tokens.CutTokens.{tokens_of};
 ghost use Rattle.rnc_model.specs.tokens.Lexeme.{lexemes};
 ghost use Rattle.rnc_places.specs.views.Told.{IsNumberOf, IsTold};
 

@@ -1,6 +1,6 @@
 -- The tokens that a reader has not read yet, compared to all tokens of a file.
 use Rattle.std.proofs.Common.{◌≡◌, ℕ, suc, ◌+◌, ◌-◌, List, [], ◌∷◌, length, refl, ap, ◌∙◌, arith}
-use Rattle.rnc_model.specs.tokens.Cut.{tokens_of}
+use Rattle.rnc_model.specs.tokens.CutTokens.{tokens_of}
 use Rattle.rnc_model.specs.declared.token.Token.{Token}
 use Rattle.rnc_model.specs.tokens.Lexeme.{Lexeme, lexeme_at, lexemes, numbered}
 use Rattle.rnc_syntax.specs.plain.Reading.{lexemes_in}

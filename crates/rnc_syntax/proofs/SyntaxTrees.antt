@@ -10,7 +10,8 @@ use Rattle.rnc_syntax.specs.views.Fault.{told, unless_memory}
 use Rattle.rnc_model.specs.tokens.Lexeme.{Lexeme}
 use Rattle.rnc_model.specs.grammar.Syntax.{File}
 use Rattle.rnc_syntax.specs.views.SyntaxView.{file_of}
-use Rattle.rnc_model.specs.grammar.Sentence.{nesting_limit, NestsWithin, IsStuckAt, BreaksGrammar, IsSyntaxTree}
+use Rattle.rnc_model.specs.grammar.Sentence.{nesting_limit, NestsWithin, IsStuckAt}
+use Rattle.rnc_model.specs.grammar.SyntaxTrees.{BreaksGrammar, IsSyntaxTree}
 use Rattle.rnc_syntax.specs.views.SentenceFaults.{IsFaultOf}
 use Rattle.rnc_syntax.specs.plain.Productions.{file_with, inside_at}
 use Rattle.rnc_syntax.proofs.SoundnessFiles.{file_sound}

@@ -2,7 +2,7 @@
 ghost use Rattle.std.specs.Prelude.{◌≡◌, [], MatchBool};
 ghost use Rattle.rnc_model.specs.tokens.Lexeme.{lexeme_at, lexemes};
 ghost use Rattle.rnc_model.specs.grammar.Sentence.{BreaksNesting, NestsWithin, is_closing, is_opening, nesting_limit};
-ghost use Rattle.rnc_model.specs.tokens.Cut.{tokens_of};
+ghost use Rattle.rnc_model.specs.tokens.CutTokens.{tokens_of};
 
 use rnc_text::{Sign, Token, TokenKind};
 

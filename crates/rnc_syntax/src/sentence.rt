@@ -5,12 +5,13 @@ ghost use Rattle.rnc_syntax.specs.views.Fault.{told, unless_memory};
 ghost use Rattle.rnc_model.specs.grammar.Grammar.{IsFile};
 ghost use Rattle.rnc_model.specs.tokens.Lexeme.{lexemes};
 ghost use Rattle.rnc_syntax.specs.plain.Productions.{file_with, inside_at};
-ghost use Rattle.rnc_model.specs.grammar.Sentence.{BreaksGrammar, BreaksNesting, IsSyntaxTree, nesting_limit};
+ghost use Rattle.rnc_model.specs.grammar.Sentence.{BreaksNesting, nesting_limit};
+ghost use Rattle.rnc_model.specs.grammar.SyntaxTrees.{BreaksGrammar, IsSyntaxTree};
 ghost use Rattle.rnc_syntax.specs.views.SentenceFaults.{IsFaultOf};
 ghost use Rattle.rnc_model.specs.grammar.Syntax as syntax;
 ghost use Rattle.rnc_syntax.specs.views.SyntaxView.{file_of};
 ghost use Rattle.rnc_syntax.specs.declared.fault.SyntaxFault.TheVariants as faults;
-ghost use Rattle.rnc_model.specs.tokens.Cut.{tokens_of};
+ghost use Rattle.rnc_model.specs.tokens.CutTokens.{tokens_of};
 
 use crate::fault::{ReadFault, Stop, SyntaxFault};
 use crate::nesting::{NESTING_LIMIT, nests_within_limit};

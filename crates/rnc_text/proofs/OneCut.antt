@@ -14,7 +14,8 @@ use Rattle.rnc_text.specs.declared.scanning.Part.{Part}
 use Rattle.rnc_model.specs.declared.token.TokenKind.{TokenKind}
 use Rattle.rnc_model.specs.characters.Characters.{number_of, bytes_of, byte_length}
 use Rattle.rnc_model.specs.tokens.Tokens.{Piece, gap, token, characters_in, IsPiece}
-use Rattle.rnc_model.specs.tokens.Cut.{IsNext, NothingBegins, Cuts, here, next_is, Token, tokens_at, AreInOrder, HasTokens, BreaksTokensAt}
+use Rattle.rnc_model.specs.tokens.Cut.{IsNext, NothingBegins, Cuts, here, next_is, Token, tokens_at, HasTokens, BreaksTokensAt}
+use Rattle.rnc_model.specs.tokens.CutTokens.{AreInOrder}
 use Rattle.rnc_text.specs.views.Answers.{GivesOk, GivesFault, IfBroken}
 use Rattle.rnc_text.specs.plain.CutSteps.{Found, piece_of}
 use Rattle.rnc_text.specs.plain.Cursors.{remaining, FindsPart, said, told}

@@ -6,7 +6,8 @@ use Rattle.std.specs.Str.{chars, IsUtf8, encode_utf8_all}
 use Rattle.std.proofs.lemmas.List.{length-append}
 use Rattle.std.proofs.lemmas.Str.{encodes-chars, scalars-chars, encodes_same, utf8_valid_len-IsValidUpTo, length-le-encodes, encodes-append}
 use Rattle.rnc_model.specs.characters.Decoding.{Begins, carriage_return_line_feed, carriage_return, line_feed, escape, other, Decodes, here, next_is, IsSpelling, IsDecoded}
-use Rattle.rnc_model.specs.characters.Decoding.{BreaksCharactersAt, BreaksTextAt}
+use Rattle.rnc_model.specs.characters.Decoding.{BreaksCharactersAt}
+use Rattle.rnc_model.specs.characters.BrokenTexts.{BreaksTextAt}
 use Rattle.rnc_text.specs.views.Answers.{GivesOk, GivesFault, IfBroken}
 use Rattle.rnc_text.proofs.FrontCharacter.{begins_one, begins_none}
 use Rattle.rnc_model.specs.declared.character.Character.{Character}

@@ -2,7 +2,8 @@
 ghost use Rattle.std.specs.Prelude.{◌≡◌, ℕ, List, [], IfOk, IfErr};
 ghost use Rattle.rnc_model.specs.tokens.Tokens.{Piece};
 ghost use Rattle.rnc_model.specs.tokens.Cut as cut;
-ghost use Rattle.rnc_model.specs.tokens.Cut.{AreInOrder, Cuts, HasTokens, BreaksTokensAt, tokens_of};
+ghost use Rattle.rnc_model.specs.tokens.Cut.{Cuts, HasTokens, BreaksTokensAt};
+ghost use Rattle.rnc_model.specs.tokens.CutTokens.{AreInOrder, tokens_of};
 ghost use Rattle.rnc_text.specs.views.Answers.{IfBroken, GivesOk, GivesFault};
 
 use crate::cursor::Cursor;

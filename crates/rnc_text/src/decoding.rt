@@ -3,7 +3,8 @@ ghost use Rattle.std.specs.Prelude.{◌≡◌, ◌++◌, ◌≤◌, List, length
 ghost use Rattle.std.specs.List.{list_all, prefix_len};
 ghost use Rattle.std.specs.Str.{chars};
 ghost use Rattle.rng_model.specs.names.Characters.{is_xml_char};
-ghost use Rattle.rnc_model.specs.characters.Decoding.{Decodes, IsDecoded, BreaksCharactersAt, BreaksTextAt};
+ghost use Rattle.rnc_model.specs.characters.Decoding.{Decodes, IsDecoded, BreaksCharactersAt};
+ghost use Rattle.rnc_model.specs.characters.BrokenTexts.{BreaksTextAt};
 ghost use Rattle.rnc_text.specs.views.Answers.{IfBroken, GivesOk, GivesFault};
 ghost use Rattle.rnc_text.specs.plain.DecodingSteps.{without_line_feed, opens_from, escape_front, front_of, is_plain_byte};
 ghost use Rattle.rnc_model.specs.declared.character.Character.{Character};

@@ -1,3 +1,4 @@
 mod AsBox
 mod Crossing
+mod RefusedNames
 mod Values

@@ -85,8 +85,9 @@ pub fn feed(alloc: Global, schema: &mut Handle, bytes: &[u8]) -> Status
     status
 }
 
-/// Returns the line after which no continuation is valid, or 0 as long as it is not known. A start tag with a name that
-/// no element of the schema's simple form may have always makes it known.
+/// Returns the line after which no continuation is valid, or 0 as long as it is not known. It is one of the lines that
+/// were fed. A start tag with a name that no element of the schema's simple form may have makes it known at the end of
+/// the line after the tag, unless there was a fault.
 ///
 /// Fails with `Misuse` exactly if no document is begun. Allocates nothing.
 pub fn invalid_since(alloc: Global, schema: &mut Handle) -> Result<u64, Status>

@@ -7,12 +7,13 @@
 
 ghost use Rattle.std.specs.Prelude.{◌≡◌, ◌≢◌, ◌↔◌, [], pos, IfSome, IsSomeAnd};
 ghost use Rattle.std.specs.declared.option.Option.TheVariants.{None, Some};
+ghost use Rattle.rnc_model.specs.loading.SchemaFile.{Name};
 ghost use Rattle.rncv_validator.specs.views.Validators.{IsOneFor};
 ghost use Rattle.rncv_c.specs.views.Calls.{HasBegun, HasEnded, HasTaken, IsInvalidSince};
 ghost use Rattle.rncv_c.specs.views.Files.{AreNamed, files_of, main_of};
 ghost use Rattle.rncv_c.specs.views.Held.{document_in, grammar_in, schema_in};
-ghost use Rattle.rncv_c.specs.views.Texts.{IsTooLong, IsWritten};
-ghost use Rattle.rncv_c.specs.views.Told.{AreRefused};
+ghost use Rattle.rncv_c.specs.views.Texts.{IsTextOf, IsTooLong, IsWritten};
+ghost use Rattle.rncv_c.specs.views.Told.{AreRefused, IsRefusedName};
 
 mod documents;
 mod files;
@@ -48,6 +49,30 @@ pub extern "C" fn rncv_compile(
     ensures untold { result ≢ pos 1 → fault.new ≡ fault.old }
 {
     schemas::compile(alloc, files, schema, fault).code()
+}
+
+/// Writes the name of the file that breaks a clause by itself to the buffer if it fits, and reports its length in
+/// `count`. It is the file of which `rncv_compile` reports the clause, whether or not it was handed in.
+///
+/// Returns 0 on success; 3 when out of memory; 4 if there is no file, a name is not UTF-8, or no file breaks a clause
+/// by itself; 5 if the name does not fit, and then nothing is written to the buffer. Costs what `Validator::compile`
+/// costs, and a copy of the files.
+#[unsafe(no_mangle)]
+pub extern "C" fn rncv_refused_name(
+    alloc: Global,
+    files: &[SchemaFile<'_>],
+    buffer: &mut [u8],
+    count: &mut usize,
+) -> i32
+    ensures done { result ≡ pos 0 → IsWritten (IsRefusedName files.now) count.new buffer.old buffer.new }
+    ensures space { result ≡ pos 5 → IsTooLong (IsRefusedName files.now) count.new buffer.old }
+    ensures misuse { result ≡ pos 4 → AreNamed files.now → (name : Name) → ¬ (IsRefusedName files.now name) }
+    ensures named { result ≢ pos 4 → AreNamed files.now }
+    ensures others { result ≢ pos 0 → result ≢ pos 4 → result ≢ pos 5 → result ≡ pos 3 }
+    ensures failed { result ≢ pos 0 → buffer.new ≡ buffer.old }
+    ensures untold { result ≢ pos 0 → result ≢ pos 5 → count.new ≡ count.old }
+{
+    schemas::refused_name(alloc, files, buffer, count).code()
 }
 
 /// Makes `other` a second handle on the same schema, for another thread. What `other` held is freed.
@@ -102,7 +127,8 @@ pub extern "C" fn rncv_document_feed(alloc: Global, schema: &mut Handle, bytes: 
     documents::feed(alloc, schema, bytes).code()
 }
 
-/// Reports in `line` the line after which no continuation is valid, counted from 1, or 0 as long as it is not known.
+/// Reports in `line` the line after which no continuation is valid, counted from 1, or 0 as long as it is not known. It
+/// is one of the lines that were fed.
 ///
 /// Returns 0 on success; 4 exactly if no document is begun. Allocates nothing.
 #[unsafe(no_mangle)]
@@ -156,8 +182,8 @@ pub extern "C" fn rncv_simple(
     buffer: &mut [u8],
     count: &mut usize,
 ) -> i32
-    ensures done { result ≡ pos 0 → IsSomeAnd (schema_in schema.old.held) (λ g. IsWritten g count.new buffer.old buffer.new) }
-    ensures space { result ≡ pos 5 → IsSomeAnd (schema_in schema.old.held) (λ g. IsTooLong g count.new buffer.old) }
+    ensures done { result ≡ pos 0 → IsSomeAnd (schema_in schema.old.held) (λ g. IsWritten (IsTextOf g) count.new buffer.old buffer.new) }
+    ensures space { result ≡ pos 5 → IsSomeAnd (schema_in schema.old.held) (λ g. IsTooLong (IsTextOf g) count.new buffer.old) }
     ensures misuse { (result ≡ pos 4) ↔ (schema_in schema.old.held ≡ None) }
     ensures others { result ≢ pos 0 → result ≢ pos 4 → result ≢ pos 5 → result ≡ pos 3 }
     ensures failed { result ≢ pos 0 → buffer.new ≡ buffer.old }

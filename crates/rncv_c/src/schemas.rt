@@ -1,12 +1,13 @@
 // Calls on a handle with a schema.
-ghost use Rattle.std.specs.Prelude.{◌≡◌, ◌≢◌, ◌↔◌, ◌<◌, ◌++◌, length, drop, IfErr, IfOk, IfSome, IsErrOf, IsSomeAnd};
+ghost use Rattle.std.specs.Prelude.{◌≡◌, ◌≢◌, ◌↔◌, ◌<◌, ◌++◌, length, drop, IfErr, IfOk, IfSome, IsErrOf, IsSomeAnd, string_bytes};
 ghost use Rattle.std.specs.declared.option.Option.TheVariants.{None, Some};
+ghost use Rattle.rnc_model.specs.loading.SchemaFile.{Name};
 ghost use Rattle.rncv_model.specs.answers.Compiled.{IsRefusal};
 ghost use Rattle.rncv_validator.specs.views.Validators.{IsOneFor};
 ghost use Rattle.rncv_c.specs.views.Files.{AreNamed, files_of, main_of};
 ghost use Rattle.rncv_c.specs.views.Held.{schema_in};
 ghost use Rattle.rncv_c.specs.views.Texts.{IsTextOf, IsTooLong, IsWritten};
-ghost use Rattle.rncv_c.specs.views.Told.{AreRefused};
+ghost use Rattle.rncv_c.specs.views.Told.{AreRefused, IsRefusedName};
 
 use crate::files::{SchemaFile, are_named, copied_files};
 use crate::handle::{Handle, Held};
@@ -62,6 +63,48 @@ fn compiled(alloc: Global, files: &[SchemaFile<'_>]) -> Result<Validator, Schema
     Validator::compile(alloc, copy.as_slice())
 }
 
+/// Writes the name of the file that breaks a clause by itself to the buffer if it fits, and its length to `count`.
+///
+/// Returns `Misuse` if there is no file, a name is not UTF-8, or no file breaks a clause by itself; `Space` if the name
+/// does not fit; `Memory` when out of memory. Costs what `Validator::compile` costs, and a copy of the files.
+pub fn refused_name(
+    alloc: Global,
+    files: &[SchemaFile<'_>],
+    buffer: &mut [u8],
+    count: &mut usize,
+) -> Status
+    ensures done { result ≡ Status.Done → IsWritten (IsRefusedName files.now) count.new buffer.old buffer.new }
+    ensures space { result ≡ Status.Space → IsTooLong (IsRefusedName files.now) count.new buffer.old }
+    ensures misuse { result ≡ Status.Misuse → AreNamed files.now → (name : Name) → ¬ (IsRefusedName files.now name) }
+    ensures named { result ≢ Status.Misuse → AreNamed files.now }
+    ensures others { (result ≢ Status.Refused) × (result ≢ Status.Malformed) }
+    ensures failed { result ≢ Status.Done → buffer.new ≡ buffer.old }
+    ensures untold { result ≢ Status.Done → result ≢ Status.Space → count.new ≡ count.old }
+{
+    if !are_named(files) {
+        return Status::Misuse;
+    }
+    match name_of_refused(alloc, files) {
+        Ok(name) => copied(name.as_bytes(), buffer, count),
+        Err(status) => status,
+    }
+}
+
+/// Returns the name of the file that breaks a clause by itself.
+fn name_of_refused(alloc: Global, files: &[SchemaFile<'_>]) -> Result<String, Status>
+    requires { AreNamed files.now }
+    ensures name { IfOk result (λ name. IsRefusedName files.now (string_bytes name)) }
+    ensures fault { IfErr result (λ status. status ≢ Status.Misuse → status ≡ Status.Memory) }
+    ensures misuse { IsErrOf result Status.Misuse → (name : Name) → ¬ (IsRefusedName files.now name) }
+{
+    match compiled(alloc, files) {
+        Ok(_) => Err(Status::Misuse),
+        Err(SchemaFault::File { name, .. }) => Ok(name),
+        Err(SchemaFault::Clause(_)) => Err(Status::Misuse),
+        Err(SchemaFault::Memory) => Err(Status::Memory),
+    }
+}
+
 /// Makes `other` a second handle on the same schema, for another thread. What `other` held is freed.
 ///
 /// Returns `Misuse` exactly if `schema` holds no schema or a document is begun; `Memory` when out of memory. Allocates
@@ -102,8 +145,8 @@ fn shared(alloc: Global, schema: &mut Handle) -> Result<Validator, Status>
 /// Returns `Misuse` exactly if the handle holds no schema or a document is begun; `Space` if the form does not fit;
 /// `Memory` when out of memory. Costs what `Validator::simple_text` costs, and a copy.
 pub fn simple(alloc: Global, schema: &mut Handle, buffer: &mut [u8], count: &mut usize) -> Status
-    ensures done { result ≡ Status.Done → IsSomeAnd (schema_in schema.old.held) (λ g. IsWritten g count.new buffer.old buffer.new) }
-    ensures space { result ≡ Status.Space → IsSomeAnd (schema_in schema.old.held) (λ g. IsTooLong g count.new buffer.old) }
+    ensures done { result ≡ Status.Done → IsSomeAnd (schema_in schema.old.held) (λ g. IsWritten (IsTextOf g) count.new buffer.old buffer.new) }
+    ensures space { result ≡ Status.Space → IsSomeAnd (schema_in schema.old.held) (λ g. IsTooLong (IsTextOf g) count.new buffer.old) }
     ensures misuse { (result ≡ Status.Misuse) ↔ (schema_in schema.old.held ≡ None) }
     ensures others { (result ≢ Status.Refused) × (result ≢ Status.Malformed) }
     ensures failed { result ≢ Status.Done → buffer.new ≡ buffer.old }

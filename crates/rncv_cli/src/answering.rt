@@ -7,7 +7,7 @@ ghost use Rattle.rncv_model.specs.answers.Run.{IsAnswer, main_name};
 ghost use Rattle.rncv_cli.specs.plain.Answering.{IsAnswerTo, IsReadBy, IsUnreadBy};
 ghost use Rattle.rncv_cli.specs.plain.CommandLine.{IsGivenLine, Text};
 ghost use Rattle.rncv_cli.specs.views.Faults.{IsFaultOfRun, IsFaultTo, IsMemoryOrUsage};
-ghost use Rattle.rncv_cli.specs.views.ProgramEnds.{HasEnded};
+ghost use Rattle.rncv_cli.specs.views.ProgramEnds.{HasEnded, IsUntouched};
 
 use crate::command_line::words_given;
 use crate::fault::{Fault, fault_of_words};
@@ -31,8 +31,9 @@ use std::io::{ErrorKind, Read, Write};
 /// that is not UTF-8. Fails with `File` and the first file that cannot be read. After these two, neither device was
 /// called. Fails with `Read` only if the input counted a failed call, with `Write` only if the output did, which it also
 /// does for a failed flush. Fails with `Memory` when out of memory, also if `args` was, and then no device counted a
-/// failed call. After `Write`, a beginning of the answer is written, or all of it; after any other fault nothing is.
-/// Costs what `words`, `read_files` and `run` cost, and copies of the words.
+/// failed call. If `args` returned an error, neither device was called. After `Write`, a beginning of the answer is
+/// written, or all of it; after any other fault nothing is. Costs what `words`, `read_files` and `run` cost, and copies
+/// of the words.
 pub fn answer_command_line<O: Fn(&str) -> io::Result<T>, T: Read + Drop, R: Read, W: Write>(
     alloc: Global,
     given: io::Result<Args>,
@@ -49,6 +50,7 @@ pub fn answer_command_line<O: Fn(&str) -> io::Result<T>, T: Read + Drop, R: Read
     // The words are not given.
     ensures none { IfErr given (λ error. error_kind error ≢ ErrorKind.OutOfMemory → result ≡ Err Fault.Usage) }
     ensures memory { IfErr given (λ error. error_kind error ≡ ErrorKind.OutOfMemory → result ≡ Err Fault.Memory) }
+    ensures untouched { IfErr given (λ error. IsUntouched input.old input.new output.old output.new) }
 {
     let Words { command, files } = words_of(alloc, given)?;
     let files = read_files(alloc, files, open_file)?;

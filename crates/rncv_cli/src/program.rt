@@ -7,7 +7,7 @@ ghost use Rattle.rncv_cli.specs.plain.Answering.{IsAnswerTo, IsReadBy, IsUnreadB
 ghost use Rattle.rncv_cli.specs.plain.CommandLine.{IsGivenLine};
 ghost use Rattle.rncv_cli.specs.views.ExitStatus.{exit_status_of};
 ghost use Rattle.rncv_cli.specs.views.Faults.{IsFaultTo};
-ghost use Rattle.rncv_cli.specs.views.ProgramEnds.{HasEnded};
+ghost use Rattle.rncv_cli.specs.views.ProgramEnds.{HasEnded, IsUntouched};
 
 use crate::answering::answer_command_line;
 use crate::exit_code::exit_of;
@@ -23,7 +23,8 @@ use std::process::ExitCode;
 /// and returns the exit status of the answer (`exit_of`).
 ///
 /// The exit status is that of an end of the program by `HasEnded`: after 0 to 3 exactly the answer of that status is
-/// written and flushed. No contract says what is printed on standard error. Costs what `answer_command_line` costs.
+/// written and flushed. If the words are not given, no device is called. No contract says what is printed on standard
+/// error. Costs what `answer_command_line` costs.
 pub fn run_program<O: Fn(&str) -> io::Result<T>, T: Read + Drop, R: Read, W: Write>(
     rt: &(impl Eprint + AllocGlobal),
     given: io::Result<Args>,
@@ -41,6 +42,7 @@ pub fn run_program<O: Fn(&str) -> io::Result<T>, T: Read + Drop, R: Read, W: Wri
     // The words are not given.
     ensures none { IfErr given (λ error. error_kind error ≢ ErrorKind.OutOfMemory → exit_status result ≡ 5) }
     ensures memory { IfErr given (λ error. error_kind error ≡ ErrorKind.OutOfMemory → exit_status result ≡ 4) }
+    ensures untouched { IfErr given (λ error. IsUntouched input.old input.new output.old output.new) }
 {
     let answer = answer_command_line(rt.alloc(), given, open_file, input, output);
     print_fault(rt, &answer);

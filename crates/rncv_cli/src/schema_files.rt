@@ -15,9 +15,9 @@ const READ_LIMIT: usize = 1_048_577;
 /// Reads the files of these names, in order, and returns each name with the beginning of its file: at most 1,048,577
 /// bytes. `open_file` opens the file with a name, and is called once for each.
 ///
-/// Fails with `File` and the name of the first file that cannot be opened or read, and opens no file after it:
-/// `open_file` was called for that name too, and did not return out of memory. Fails with `Memory` when this call,
-/// `open_file` or a reader is out of memory. Costs time and memory in the order of the
+/// Fails with `File` and the name of the first file that cannot be opened or read, and opens no file after it: all files
+/// before it are read, and `open_file` may return an error other than out of memory, or a reader, for that name. Fails
+/// with `Memory` when this call, `open_file` or a reader is out of memory. Costs time and memory in the order of the
 /// bytes that are read.
 pub fn read_files<O: Fn(&str) -> io::Result<T>, T: Read + Drop>(
     alloc: Global,

@@ -1,6 +1,6 @@
 //! What a reader has to believe about the program: definitions, and the types that they use.
 //!
-//! The definitions are in `specs/`: the text of a simple grammar, and the answers. The contracts of `rng_print` and of
+//! The definitions are in `specs/`: the text of a simple grammar, and the answers. The contracts of `rnc_print` and of
 //! `run` are written in them.
 #![tactic(auto)]
 

@@ -6,7 +6,8 @@ use Rattle.std.proofs.lemmas.List.{append-nil}
 use Rattle.rncv_model.specs.answers.Input.{HasLeft}
 use Rattle.rncv_validator.specs.declared.fault.DocumentFault.{DocumentFault}
 use Rattle.rncv_validator.specs.declared.fault.DocumentFault.TheVariants as document
-use Rattle.rncv_validator.specs.views.Documents.{HasBeenFed, IsFaultOfFed, Judging, UnlessMemory}
+use Rattle.rncv_validator.specs.views.Documents.{IsFaultOfFed, UnlessMemory}
+use Rattle.rncv_validator.specs.views.FedDocuments.{HasBeenFed, Judging}
 use Rattle.rncv_run.specs.views.DocumentInput.{IsFaultOfInput, IsFedWhole}
 use Rattle.rncv_run.specs.declared.document_input.InputFault.TheVariants as faults
 

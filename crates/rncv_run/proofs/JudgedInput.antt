@@ -3,13 +3,13 @@ use Rattle.std.proofs.Common.{◌≡◌, ℕ, List, [], Option, Result, Ok, Err,
 use Rattle.rng_model.specs.matching.SchemaMatching.{IsValidBySchema}
 use Rattle.rng_model.specs.schema.Schema.{Schema}
 use Rattle.rng_model.specs.simple.Table.{Table}
-use Rattle.rncv_model.specs.answers.Compiled.{IsVerdictOn}
-use Rattle.rncv_model.specs.answers.Run.{IsJudged, IsUnknownIn}
+use Rattle.rncv_model.specs.answers.Compiled.{IsUnknownIn, IsVerdictOn}
+use Rattle.rncv_model.specs.answers.Run.{IsJudged}
 use Rattle.rncv_model.specs.declared.verdict.Verdict.{Verdict}
 use Rattle.rncv_model.specs.declared.verdict.Verdict.TheVariants.{Malformed}
 use Rattle.rncv_validator.specs.declared.fault.DocumentFault.{DocumentFault}
 use Rattle.rncv_validator.specs.declared.fault.DocumentFault.TheVariants as document
-use Rattle.rncv_validator.specs.views.Documents.{HasBeenFed, Judging}
+use Rattle.rncv_validator.specs.views.FedDocuments.{HasBeenFed, Judging}
 use Rattle.rncv_validator.specs.views.Validators.{Judges}
 use Rattle.rncv_validator.proofs.DocumentVerdict.{one_verdict}
 use Rattle.rncv_run.specs.views.DocumentInput.{IsFaultOfInput, IsFedWhole, malformed_by}

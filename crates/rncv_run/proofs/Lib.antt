@@ -1,4 +1,5 @@
 mod AnswerLines
+pub mod AnswersByVerdict
 mod FedInput
 mod JudgedInput
 mod LoadedSchemas

@@ -3,17 +3,18 @@ use Rattle.std.proofs.Common.{◌≡◌, ◌∙◌, ◌++◌, ℕ, List, Option,
 use Rattle.rng_model.specs.schema.Schema.{Schema}
 use Rattle.rnc_model.specs.loading.Loading.{FilesVerdict, file_breaks, together_break, are_taken}
 use Rattle.rnc_model.specs.loading.SchemaFile.{Name, NamedFile}
-use Rattle.rng_print.proofs.OneForm.{one_form}
+use Rattle.rnc_print.proofs.OneForm.{one_form}
 use Rattle.rncv_model.specs.answers.Answer.{Answer, refused, printed}
 use Rattle.rncv_model.specs.answers.Input.{IsRead}
-use Rattle.rncv_model.specs.answers.Run.{IsTold, breaks_clause, is_good, has_form, JudgesDocuments, IsJudged, IsAnswerBy, schema_is_told, document_is_judged}
-use Rattle.rncv_model.specs.answers.Run.{IsAnswerTo, IsAnswer, IsUnknownIn}
+use Rattle.rncv_model.specs.answers.Compiled.{IsUnknownIn}
+use Rattle.rncv_model.specs.answers.Run.{IsAnswer, IsJudged}
 use Rattle.rncv_model.specs.answers.Verdict.{AreSameVerdict, IsVerdict}
 use Rattle.rng_model.specs.matching.SchemaMatching.{IsValidBySchema}
 use Rattle.rncv_model.specs.declared.command.Command.{Command}
 use Rattle.rncv_model.specs.declared.command.Command.TheVariants.{Valid, Check, Simple}
 use Rattle.rncv_model.specs.declared.verdict.Verdict.{Verdict}
 use Rattle.rncv_run.specs.plain.SameAnswers.{AreSameAnswer}
+use Rattle.rncv_run.proofs.AnswersByVerdict.{IsAnswerBy, IsAnswerTo, breaks_clause, by_verdict, has_form, is_good, is_judged}
 use Rattle.rncv_run.proofs.LoadedSchemas.{same_schema}
 
 check_or_simple : {command : Command} → command ≡ Check → command ≡ Simple → ⊥
@@ -31,26 +32,6 @@ whole bytes None document rest r = absurd r.consumed
 whole bytes (Some left) document rest r = r.parts ∙ ap (λ x. r.read ++ x) (sym r.left) ∙ sym r.consumed
 
 module _ (command : Command) (s : Schema) where
-  same_told : {a b : Answer} → IsTold command s a → IsTold command s b → AreSameAnswer a b
-  same_told (breaks_clause {clause} p) (breaks_clause {clause = other} q) =
-      let less = p.least other q.broken in
-      let more = q.least clause p.broken in
-      let same : other ≡ clause = omega (arith, less, more) in
-      ap refused same
-  same_told (breaks_clause {clause} p) (is_good e kept) = absurd (kept clause p.broken)
-  same_told (breaks_clause {clause} p) (has_form e kept q) = absurd (kept clause p.broken)
-  same_told (is_good e kept) (breaks_clause {clause} q) = absurd (kept clause q.broken)
-  same_told (is_good e kept) (is_good f also) = refl
-  same_told (is_good e kept) (has_form f also q) = absurd (check_or_simple e f)
-  same_told (has_form e kept p) (breaks_clause {clause} q) = absurd (kept clause q.broken)
-  same_told (has_form e kept p) (is_good f also) = absurd (check_or_simple f e)
-  same_told (has_form {text} e kept p) (has_form {text = other} f also q) = ap printed (one_form s other text q p)
-
-  not_told : {a : Answer} → IsTold command s a → JudgesDocuments command s → ⊥
-  not_told (breaks_clause {clause} p) judges = judges.breaks_none clause p.broken
-  not_told (is_good e kept) judges = check_or_valid e judges.command_is
-  not_told (has_form e kept p) judges = simple_or_valid e judges.command_is
-
   module _ (bytes : List ℕ) (left other : Option (List ℕ)) where
     same_judged : (v w : Verdict) → IsJudged s v (Some bytes) left → IsJudged s w (Some bytes) other → AreSameVerdict v w
     same_judged v w p q =
@@ -58,10 +39,26 @@ module _ (command : Command) (s : Schema) where
         p.only w (subst (λ d. IsVerdict (IsValidBySchema s) (IsUnknownIn s) d w) document q.verdict_is)
 
     same_by : {a b : Answer} → IsAnswerBy command s (Some bytes) left a → IsAnswerBy command s (Some bytes) other b → AreSameAnswer a b
-    same_by (schema_is_told p) (schema_is_told q) = same_told p q
-    same_by (schema_is_told p) (document_is_judged judges q) = absurd (not_told p judges)
-    same_by (document_is_judged judges p) (schema_is_told q) = absurd (not_told q judges)
-    same_by (document_is_judged {verdict = v} j p) (document_is_judged {verdict = w} k q) = (w, refl, same_judged v w p q)
+    same_by (breaks_clause {clause} p) (breaks_clause {clause = another} q) =
+        let less = p.least another q.broken in
+        let more = q.least clause p.broken in
+        let same : another ≡ clause = omega (arith, less, more) in
+        ap refused same
+    same_by (breaks_clause {clause} p) (is_good e kept) = absurd (kept clause p.broken)
+    same_by (breaks_clause {clause} p) (has_form e kept q) = absurd (kept clause p.broken)
+    same_by (breaks_clause {clause} p) (is_judged e kept q) = absurd (kept clause p.broken)
+    same_by (is_good e kept) (breaks_clause {clause} q) = absurd (kept clause q.broken)
+    same_by (is_good e kept) (is_good f also) = refl
+    same_by (is_good e kept) (has_form f also q) = absurd (check_or_simple e f)
+    same_by (is_good e kept) (is_judged f also q) = absurd (check_or_valid e f)
+    same_by (has_form e kept p) (breaks_clause {clause} q) = absurd (kept clause q.broken)
+    same_by (has_form e kept p) (is_good f also) = absurd (check_or_simple f e)
+    same_by (has_form {text} e kept p) (has_form {text = another} f also q) = ap printed (one_form s another text q p)
+    same_by (has_form e kept p) (is_judged f also q) = absurd (simple_or_valid e f)
+    same_by (is_judged e kept p) (breaks_clause {clause} q) = absurd (kept clause q.broken)
+    same_by (is_judged e kept p) (is_good f also) = absurd (check_or_valid f e)
+    same_by (is_judged e kept p) (has_form f also q) = absurd (simple_or_valid f e)
+    same_by (is_judged {verdict = v} e kept p) (is_judged {verdict = w} f also q) = (w, refl, same_judged v w p q)
 
 module _ (command : Command) (main : Name) (bytes : List ℕ) (left other : Option (List ℕ)) (a b : Answer) where
   same_to : (verdict : FilesVerdict) → IsAnswerTo command main verdict (Some bytes) left a → IsAnswerTo command main verdict (Some bytes) other b
@@ -74,6 +71,8 @@ module _ (command : Command) (main : Name) (bytes : List ℕ) (left other : Opti
 
 pub one_answer : (command : Command) (files : List NamedFile) (main : Name) (bytes : List ℕ) (left other : Option (List ℕ)) (a b : Answer)
     → IsAnswer command files main (Some bytes) left a → IsAnswer command files main (Some bytes) other b → AreSameAnswer a b
-one_answer command files main bytes left other a b p q =
+one_answer command files main bytes left other a b answer also =
+    let p = by_verdict command files main (Some bytes) left answer in
+    let q = by_verdict command files main (Some bytes) other also in
     let same = p.is_verdict.only q.verdict q.is_verdict.is in
     same_to command main bytes left other a b p.verdict p.follows (subst (λ v. IsAnswerTo command main v (Some bytes) other b) (sym same) q.follows)

@@ -1,12 +1,11 @@
 -- The answers for refused files.
-use Rattle.std.proofs.Common.{◌≡◌, ℕ, List, Option, Some, None, sym, subst, string_bytes, inl, inr}
+use Rattle.std.proofs.Common.{◌≡◌, ℕ, List, Option, Some, None, subst, inl, inr}
 use Rattle.rng_model.specs.declared.fault.SchemaFault.{SchemaFault}
 use Rattle.rng_model.specs.declared.fault.SchemaFault.TheVariants as faults
-use Rattle.rnc_model.specs.loading.Loading.{are_taken, file_breaks, together_break}
 use Rattle.rnc_model.specs.loading.SchemaFile.{Name, NamedFile}
 use Rattle.rncv_model.specs.answers.Answer.{Answer}
 use Rattle.rncv_model.specs.answers.Compiled.{IsRefusal}
-use Rattle.rncv_model.specs.answers.Run.{IsAnswer, IsAnswerBy, breaks_clause, schema_is_told}
+use Rattle.rncv_model.specs.answers.Run.{IsAnswer, file_refused, files_refused, schema_refused}
 use Rattle.rncv_model.specs.declared.command.Command.{Command}
 use Rattle.rncv_run.specs.views.AnswerView.{refusal_of}
 
@@ -20,12 +19,9 @@ none_is e = cc
 pub refused_files : (command : Command) (old new : Option (List ℕ)) (files : List NamedFile) (main : Name) (fault : SchemaFault) (a : Answer)
     → IsRefusal files main fault → refusal_of fault ≡ Some a → IsAnswer command files main old new a
 refused_files command old new files main (faults.File clause name) a h e =
-    record { verdict = file_breaks (string_bytes name) clause; is_verdict = h; follows = sym (some_is e) }
+    subst (IsAnswer command files main old new) (some_is e) (file_refused h)
 refused_files command old new files main (faults.Clause clause) a (inl h) e =
-    record { verdict = together_break clause; is_verdict = h; follows = sym (some_is e) }
-refused_files command old new files main (faults.Clause clause) a (inr h) e = record {
-  verdict = are_taken h.are.read;
-  is_verdict = h.are.is_verdict;
-  follows = (h.schema, h.are.are, subst (IsAnswerBy command h.schema old new) (some_is e) (schema_is_told (breaks_clause h.least)));
-}
+    subst (IsAnswer command files main old new) (some_is e) (files_refused h)
+refused_files command old new files main (faults.Clause clause) a (inr h) e =
+    subst (IsAnswer command files main old new) (some_is e) (schema_refused h)
 refused_files command old new files main faults.Memory a h e = absurd (none_is e)

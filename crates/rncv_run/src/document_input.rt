@@ -3,7 +3,7 @@ ghost use Rattle.std.specs.Prelude.{◌≡◌, ◌-◌, ◌^◌, ◌<◌, [], If
 ghost use Rattle.rng_model.specs.schema.Schema.{Schema};
 ghost use Rattle.rng_model.specs.devices.Device.{device_inner, device_failures};
 ghost use Rattle.rncv_model.specs.answers.Run.{IsJudged};
-ghost use Rattle.rncv_validator.specs.views.Documents.{HasBeenFed};
+ghost use Rattle.rncv_validator.specs.views.FedDocuments.{HasBeenFed};
 ghost use Rattle.rncv_validator.specs.views.Validators.{Judges};
 ghost use Rattle.rncv_run.specs.declared.document_input.JudgeFault.TheVariants as faults;
 ghost use Rattle.rncv_run.specs.views.DocumentInput.{IsFaultOfInput, IsFedWhole, fault_of_judging, malformed_by};
@@ -57,7 +57,7 @@ pub enum InputFault {
 /// Returns the verdict on the document that an input has left, by the schema of a validator: the verdict of
 /// `Document::finish`.
 ///
-/// Reads the input to its end, or in pieces of 32,768 bytes up to the piece with the first fault.
+/// Reads the input to its end, or in pieces up to the one with the first fault.
 pub(crate) fn judge<R: Read>(
     alloc: Global,
     validator: Validator,

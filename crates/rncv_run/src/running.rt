@@ -1,14 +1,12 @@
 // From files and a document to an answer.
-ghost use Rattle.std.specs.Prelude.{◌≡◌, ◌≢◌, ◌-◌, ◌^◌, ◌<◌, Some, length, IfOk, IfErr, OnOk, IsErrOf};
+ghost use Rattle.std.specs.Prelude.{◌≡◌, ◌≢◌, ◌-◌, ◌^◌, ◌<◌, List, Some, length, IfOk, IfErr, OnOk, IsErrOf};
 ghost use Rattle.rng_model.specs.devices.Device.{device_inner, device_failures};
 ghost use Rattle.rncv_run.specs.views.AnswerView.{answer_of, refusal_of};
 ghost use Rattle.rnc_model.specs.loading.Files.{named_files};
-ghost use Rattle.rnc_model.specs.loading.Loading.{FilesVerdict, FilesHaveOnlyVerdict};
-ghost use Rattle.rng_model.specs.schema.Schema.{Schema};
-ghost use Rattle.rng_model.specs.schema.SchemaClauses.{BreaksNoClause};
-ghost use Rattle.rncv_validator.specs.views.Validators.{Judges};
+ghost use Rattle.rnc_model.specs.loading.SchemaFile.{Name, NamedFile};
+ghost use Rattle.rncv_validator.specs.views.Validators.{IsOneFor};
 ghost use Rattle.rncv_model.specs.declared.command.Command.{Command};
-ghost use Rattle.rncv_model.specs.answers.Run.{IsAnswer, IsAnswerBy, JudgesNone, WritesAnswer, WrittenAfter, main_name};
+ghost use Rattle.rncv_model.specs.answers.Run.{IsAnswer, JudgesDocument, WritesAnswer, WrittenAfter, main_name};
 
 use crate::answer::Answer;
 use crate::document_input::{JudgeFault, judge};
@@ -28,7 +26,7 @@ use std::io::{Read, Write};
 /// - `refused S9` or `refused S10`: the files together break that clause, S9 before S10.
 /// - `refused Sk`: the least clause that their schema breaks, 11 to 27.
 /// - For `Check`, `schema ok`. For `Simple`, the simple form of the schema instead of a line, as `printed_text` of
-///   `rng_print` prints it.
+///   `rnc_print` prints it.
 /// - For `Valid`, the verdict on the document that `input` has left: `malformed Pk line N` with its first fault if it
 ///   is no document. Otherwise `valid` exactly if it matches the schema by the rules of section 6 of the RELAX NG
 ///   Specification, applied to the files as they are written. Otherwise `invalid line N`: no document that begins with
@@ -64,8 +62,8 @@ pub fn run<R: Read, W: Write>(
         (IsAnswer command (named_files files.now) (main_name files.now) (R.remaining (device_inner input.old)) (R.remaining (device_inner input.new)))
         status (W.contents (device_inner output.old)) (W.contents (device_inner output.new))) }
 
-    // If the files say that no document is judged, no document is read.
-    ensures unread { (verdict : FilesVerdict) → FilesHaveOnlyVerdict (named_files files.now) (main_name files.now) verdict → JudgesNone command (main_name files.now) verdict → input.new ≡ input.old }
+    // Unless a document is to be judged, none is read.
+    ensures unread { ¬ (JudgesDocument command (named_files files.now) (main_name files.now)) → input.new ≡ input.old }
 
     // The run fails with a fault of a device only if that device counted one.
     ensures read { IsErrOf result RunFault.Read → device_failures input.old < device_failures input.new }
@@ -97,7 +95,7 @@ fn answer_for<R: Read>(
     requires files { 0 < length files.now }
     requires input { device_failures input.old < 2 ^ 64 - 1 }
     ensures calm { OnOk result (device_failures input.new ≡ device_failures input.old) }
-    ensures unread { (verdict : FilesVerdict) → FilesHaveOnlyVerdict (named_files files.now) (main_name files.now) verdict → JudgesNone command (main_name files.now) verdict → input.new ≡ input.old }
+    ensures unread { ¬ (JudgesDocument command (named_files files.now) (main_name files.now)) → input.new ≡ input.old }
     ensures read { IsErrOf result JudgeFault.Read → device_failures input.old < device_failures input.new }
     ensures memory { IsErrOf result JudgeFault.Memory → device_failures input.new ≡ device_failures input.old }
     ensures answer { IfOk result (λ answer. IsAnswer command (named_files files.now) (main_name files.now) (R.remaining (device_inner input.old)) (R.remaining (device_inner input.new)) (answer_of answer)) }
@@ -120,8 +118,8 @@ fn answer_by<R: Read>(
     ensures unread { command ≢ Command.Valid → input.new ≡ input.old }
     ensures read { IsErrOf result JudgeFault.Read → device_failures input.old < device_failures input.new }
     ensures memory { IsErrOf result JudgeFault.Memory → device_failures input.new ≡ device_failures input.old }
-    ensures answer { IfOk result (λ answer. (s : Schema) → BreaksNoClause s → Judges validator s
-        → IsAnswerBy command s (R.remaining (device_inner input.old)) (R.remaining (device_inner input.new)) (answer_of answer)) }
+    ensures answer { IfOk result (λ answer. (files : List NamedFile) (main : Name) → IsOneFor files main validator
+        → IsAnswer command files main (R.remaining (device_inner input.old)) (R.remaining (device_inner input.new)) (answer_of answer)) }
 {
     match command {
         Command::Check => Ok(Answer::SchemaOk),

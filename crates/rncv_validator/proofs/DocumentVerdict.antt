@@ -13,7 +13,7 @@ use Rattle.rng_model.specs.matching.Reading.{Reading}
 use Rattle.rng_model.specs.matching.Outcomes.{IsOutcome, FailsAt, KnowsName}
 use Rattle.rng_model.specs.declared.outcome.Outcome.{Outcome}
 use Rattle.rng_model.specs.declared.outcome.Outcome.TheVariants as outcome
-use Rattle.rng_model.specs.simple.Table.{IsValidBy}
+use Rattle.rng_model.specs.matching.GrammarMatching.{IsValidBy}
 use Rattle.rng_model.specs.datatypes.Texts.{texts_of}
 use Rattle.pyx.specs.plain.DocumentReader.{Turn, State, document_read}
 use Rattle.pyx.proofs.DocumentComplete.{complete}

@@ -3,7 +3,7 @@ use Rattle.std.proofs.Common.{◌≡◌, ◌<◌, ◌⊎◌, inl, inr, ℕ, List
 use Rattle.std.proofs.lemmas.List.{append-nil}
 use Rattle.std.proofs.lemmas.List.Elements.{All-weaker}
 use Rattle.rng_model.specs.documents.Lines.{lines}
-use Rattle.rng_model.specs.datatypes.DatatypeTests.{text_tests}
+use Rattle.rng_model.specs.datatypes.Datatypes.{text_tests}
 use Rattle.rng_model.specs.datatypes.Texts.{texts_of}
 use Rattle.rng_model.specs.declared.fault.OutOfMemory.{OutOfMemory}
 use Rattle.rng_model.specs.declared.outcome.Outcome.{Outcome}
@@ -18,9 +18,9 @@ use Rattle.rng_model.specs.matching.GrammarReading.{reading_of}
 use Rattle.rng_model.specs.matching.Outcomes.{FailsAt, IsOutcome, KnowsName}
 use Rattle.rng_model.specs.matching.SchemaMatching.{IsValidBySchema}
 use Rattle.rng_model.specs.schema.Schema.{Schema}
-use Rattle.rng_model.specs.simple.Table.{IsValidBy, Table, grammar_of}
-use Rattle.rncv_model.specs.answers.Compiled.{IsVerdictOn}
-use Rattle.rncv_model.specs.answers.Run.{IsUnknownIn}
+use Rattle.rng_model.specs.matching.GrammarMatching.{IsValidBy}
+use Rattle.rng_model.specs.simple.Table.{Table, grammar_of}
+use Rattle.rncv_model.specs.answers.Compiled.{IsUnknownIn, IsVerdictOn}
 use Rattle.rncv_model.specs.answers.Verdict.{IsMalformed, IsVerdict, StartsUnknown}
 use Rattle.rncv_model.specs.declared.verdict.Verdict.{Verdict}
 use Rattle.rncv_model.specs.declared.verdict.Verdict.TheVariants.{Malformed, Invalid}
@@ -30,15 +30,16 @@ use Rattle.pyx.proofs.FedLines.{ended_events, fed_front, fed_line}
 use Rattle.pyx.proofs.ReaderAfterPiece.{fed_stuck}
 use Rattle.pyx.proofs.ReaderOutcome.{is_fault_after}
 use Rattle.rng_deriv.specs.declared.matcher_state.MatcherState.{MatcherState}
-use Rattle.rng_event_matcher.specs.declared.progress.Progress.{Progress}
-use Rattle.rng_event_matcher.specs.declared.progress.Progress.TheVariants as progress
-use Rattle.rng_event_matcher.specs.views.Positions.{IsKnown}
-use Rattle.rng_pattern_table.specs.views.Trees.{trees}
+use Rattle.rng_deriv_events.specs.declared.progress.Progress.{Progress}
+use Rattle.rng_deriv_events.specs.declared.progress.Progress.TheVariants as progress
+use Rattle.rng_deriv_events.specs.views.Positions.{IsKnown}
+use Rattle.rng_deriv_table.specs.views.Trees.{trees}
 use Rattle.rng_deriv.specs.views.Matchers.{HasFailedAt, HasGoneOn, HasRunOut, IsStateBy, Knows, Matching, failed_line, judges_by, matching_in}
 use Rattle.rncv_validator.specs.plain.Judging.{IsUnknownTo, verdict_of}
 use Rattle.rncv_validator.specs.declared.fault.DocumentFault.{DocumentFault}
 use Rattle.rncv_validator.specs.declared.fault.DocumentFault.TheVariants as faults
-use Rattle.rncv_validator.specs.views.Documents.{HasBeenFed, HasNotRunOut, HaveEnded, IsFaultOfFed, IsFaultOfReader, IsHopelessFrom, IsKeptFault, IsReaderFault, Judging, KnowsStarts, UnlessMemory, failed_since, matching_of, told_by, verdict_by}
+use Rattle.rncv_validator.specs.views.Documents.{HaveEnded, IsFaultOfFed, IsHopelessFrom, KnowsStarts, UnlessMemory, failed_since, told_by}
+use Rattle.rncv_validator.specs.views.FedDocuments.{HasBeenFed, HasNotRunOut, IsFaultOfReader, IsKeptFault, IsReaderFault, Judging, matching_of, verdict_by}
 use Rattle.rncv_validator.specs.views.Validators.{Judges}
 use Rattle.rncv_validator.proofs.DocumentVerdict.{one_verdict, outcome_verdict, same_verdict}
 use Rattle.rncv_validator.proofs.UnknownNames.{unknown_to_grammar}

@@ -3,7 +3,7 @@ use Rattle.std.proofs.Common.{◌≡◌, ◌∙◌, [], ap, sym, subst}
 use Rattle.rng_model.specs.simple.Table.{Table}
 use Rattle.rng_deriv.specs.views.Matchers.{HasRunOut, IsStateBy, Knows, Matching, matching_in}
 use Rattle.rng_deriv.specs.declared.matcher_state.MatcherState.{MatcherState}
-use Rattle.rncv_validator.specs.views.Documents.{IsFresh}
+use Rattle.rncv_validator.specs.views.FedDocuments.{IsFresh}
 
 pub fresh : (t : Table) (m : Matching) (s : MatcherState) → m.grammar ≡ t → Knows m [] → ¬ (HasRunOut m) → IsStateBy m.grammar s
     → matching_in m.grammar s ≡ m → IsFresh t s

@@ -7,12 +7,13 @@ use Rattle.rng_model.specs.schema.Schema.{Schema}
 use Rattle.rng_model.specs.schema.SchemaClauses as c
 use Rattle.rng_model.specs.schema.SchemaClauses.{BreaksSchemaClause, BreaksClause, BreaksNoClause, IsLeastClause, in_schema, in_restriction}
 use Rattle.rng_model.specs.simple.SchemaForm.{IsSimpleGrammarOf}
-use Rattle.rng_model.specs.simple.Table.{Grammar}
+use Rattle.rng_model.specs.simple.Grammar.{Grammar}
 use Rattle.rng_model.specs.declared.fault.SchemaFault.{SchemaFault}
 use Rattle.rng_model.specs.declared.fault.SchemaFault.TheVariants as faults
 use Rattle.rng_model.specs.restrictions.Restricted.{IsRestrictionFault}
-use Rattle.rncv_validator.specs.views.Validators.{IsLeastFault}
+use Rattle.rncv_validator.specs.plain.LeastFaults.{IsLeastFault}
 use Rattle.rng_model.specs.simple.SimplifiedSchema.{IsSchemaFault}
+use Rattle.rng_model.proofs.ProhibitedPaths.{prohibits}
 use Rattle.rng_simple.proofs.SameRestrictions.{same_restrictions}
 
 at_most : {s : Schema} {clause : ℕ} → BreaksSchemaClause s clause → clause ≤ 17
@@ -25,10 +26,7 @@ at_most (c.in_expansion b) = omega arith
 at_most (c.in_depth b) = omega arith
 
 at_least : {g : Grammar} {clause : ℕ} → BreaksRestriction g clause → 18 ≤ clause
-at_least (r.in_attribute_of i b) = omega arith
-at_least (r.in_one_or_more_of i b) = omega arith
-at_least (r.in_list_of i b) = omega arith
-at_least (r.in_except_of i b) = omega arith
+at_least (r.in_path i b) = (prohibits b.1).0
 at_least (r.in_start b) = omega arith
 at_least (r.in_content i b) = omega arith
 at_least (r.in_attribute_names i b) = omega arith

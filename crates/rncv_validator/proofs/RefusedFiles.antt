@@ -7,7 +7,7 @@ use Rattle.rnc_model.specs.loading.FaultVerdicts.{verdict_of_fault}
 use Rattle.rnc_model.specs.loading.Loading.{FilesHaveOnlyVerdict}
 use Rattle.rnc_model.specs.loading.SchemaFile.{Name, NamedFile}
 use Rattle.rncv_model.specs.answers.Compiled.{AreTakenAs, IsRefusal}
-use Rattle.rncv_validator.specs.views.Validators.{IsLeastFault}
+use Rattle.rncv_validator.specs.plain.LeastFaults.{IsLeastFault}
 
 -- the fault reports the verdict on the files
 pub refused_files : (files : List NamedFile) (main : Name) (fault : SchemaFault) → IfSome (verdict_of_fault fault) (FilesHaveOnlyVerdict files main)

@@ -2,9 +2,10 @@
 ghost use Rattle.std.specs.Prelude.{IfErr, IfOk, OnOk};
 ghost use Rattle.rng_load.specs.views.PlacedGrammars.{schema_of};
 ghost use Rattle.rng_model.specs.schema.SchemaClauses.{BreaksNoClause};
-ghost use Rattle.rng_model.specs.restrictions.BreaksNone.{BreaksNone};
+ghost use Rattle.rng_model.specs.restrictions.Restrictions.{BreaksNone};
 ghost use Rattle.rng_model.specs.simple.Table.{grammar_of};
-ghost use Rattle.rncv_validator.specs.views.Validators.{IsLeastFault, Judges};
+ghost use Rattle.rncv_validator.specs.views.Validators.{Judges};
+ghost use Rattle.rncv_validator.specs.plain.LeastFaults.{IsLeastFault};
 
 use rng_load::Schema;
 use rng_model::{SchemaFault, SimpleGrammar};

@@ -2,14 +2,15 @@
 ghost use Rattle.std.specs.Prelude.{◌≡◌, ◌⊎◌, ◌+◌, ◌^◌, ◌<◌, ◌++◌, ℕ, List, IfErr, IfOk, IfSome, OnOk, Some, None, Err, length};
 ghost use Rattle.std.specs.Bool.{OnTrue};
 ghost use Rattle.rng_model.specs.schema.Schema.{Schema};
-ghost use Rattle.rncv_model.specs.answers.Compiled.{IsVerdictOn};
-ghost use Rattle.rncv_model.specs.answers.Run.{IsUnknownIn};
+ghost use Rattle.rncv_model.specs.answers.Compiled.{IsUnknownIn, IsVerdictOn};
 ghost use Rattle.rncv_model.specs.answers.Verdict.{IsMalformed};
 ghost use Rattle.rng_model.specs.matching.SchemaMatching.{IsValidBySchema};
 ghost use Rattle.rncv_model.specs.declared.verdict.Verdict.{Verdict};
 ghost use Rattle.rncv_validator.specs.views.Validators.{Judges};
-ghost use Rattle.rncv_validator.specs.views.Documents.{HasBeenFed, HaveEnded, IsFaultOfFed, IsFaultOfReader, IsHopelessFrom, KnowsStarts, UnlessMemory};
-ghost use Rattle.rncv_validator.specs.views.Documents.{failed_since, told_by, verdict_by};
+ghost use Rattle.rncv_validator.specs.views.Documents.{HaveEnded, IsFaultOfFed, IsHopelessFrom, KnowsStarts, UnlessMemory};
+ghost use Rattle.rncv_validator.specs.views.FedDocuments.{HasBeenFed, IsFaultOfReader};
+ghost use Rattle.rncv_validator.specs.views.Documents.{failed_since, told_by};
+ghost use Rattle.rncv_validator.specs.views.FedDocuments.{verdict_by};
 ghost use Rattle.pyx.specs.views.Calls.{Extends};
 ghost use Rattle.rng_model.specs.documents.Handing.{Hands};
 ghost use Rattle.rng_deriv.specs.views.Matchers.{HasGoneOn};
@@ -44,9 +45,9 @@ pub struct Document {
 impl Model for Document {
     ghost use Rattle.std.specs.Prelude.{IfSome};
     ghost use Rattle.rng_model.specs.simple.Table.{grammar_of};
-    ghost use Rattle.rng_model.specs.restrictions.BreaksNone.{BreaksNone};
+    ghost use Rattle.rng_model.specs.restrictions.Restrictions.{BreaksNone};
     ghost use Rattle.rng_deriv.specs.views.Matchers.{IsStateBy};
-    ghost use Rattle.rncv_validator.specs.views.Documents.{HasNotRunOut, IsKeptFault, Judging, matching_of};
+    ghost use Rattle.rncv_validator.specs.views.FedDocuments.{HasNotRunOut, IsKeptFault, Judging, matching_of};
     ghost use Rattle.rng_model.specs.contracts.name.NameClass as classes;
     ghost use Rattle.std.specs.Coded.{codes};
 
@@ -106,8 +107,8 @@ impl Document {
     /// line, or `Malformed`.
     ///
     /// The line is known once the pattern that is left matches nothing. A start tag with a name that no element of the
-    /// schema's simple form may have always makes it known, at the end of the line after the tag. Allocates nothing.
-    /// RELAX NG Specification, sections 6.2 and 6.3.
+    /// schema's simple form may have makes it known at the end of the line after the tag, unless there was a fault.
+    /// Allocates nothing. RELAX NG Specification, sections 6.2 and 6.3.
     pub fn invalid_since(&self) -> Option<u64>
         ensures value { result ≡ failed_since self.now }
         ensures hopeless { IfSome result (λ line. (s : Schema) (bytes : List ℕ) → Judges self.now.grammar s → HasBeenFed self.now bytes

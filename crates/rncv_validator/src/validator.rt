@@ -2,13 +2,13 @@
 ghost use Rattle.std.specs.Prelude.{◌≡◌, ◌<◌, [], length, IfErr, IfOk, IfSome, Some};
 ghost use Rattle.rng_model.specs.schema.Schema.{Schema};
 ghost use Rattle.rng_model.specs.simple.Table.{grammar_of};
-ghost use Rattle.rng_model.specs.restrictions.BreaksNone.{BreaksNone};
+ghost use Rattle.rng_model.specs.restrictions.Restrictions.{BreaksNone};
 ghost use Rattle.rnc_model.specs.loading.Files.{named_files};
 ghost use Rattle.rncv_model.specs.answers.Compiled.{AreGoodSchema, IsRefusal};
 ghost use Rattle.rncv_model.specs.answers.Run.{main_name};
 ghost use Rattle.rncv_model.specs.printed.SchemaText.{IsPrintedForm};
 ghost use Rattle.rncv_validator.specs.views.Validators.{IsOneFor, Judges};
-ghost use Rattle.rncv_validator.specs.views.Documents.{HasBeenFed, IsFresh};
+ghost use Rattle.rncv_validator.specs.views.FedDocuments.{HasBeenFed, IsFresh};
 ghost use Rattle.rncv_validator.specs.declared.fault.DocumentFault.{DocumentFault};
 ghost use Rattle.rng_deriv.specs.views.Matchers.{HasRunOut, IsStateBy};
 
@@ -16,10 +16,10 @@ use crate::compiling::good_grammar;
 use crate::document::Document;
 use crate::fault::DocumentFault;
 use pyx::Reader;
+use rnc_print::printed_text;
 use rng_deriv::{Matcher, MatcherState};
 use rng_load::load;
 use rng_model::{OutOfMemory, SchemaFault, SimpleGrammar};
-use rng_print::printed_text;
 use std::alloc::Global;
 use std::marker::Model;
 use std::sync::Arc;
@@ -37,7 +37,7 @@ pub struct Validator {
 impl Model for Validator {
     ghost use Rattle.std.specs.Prelude.{IfSome};
     ghost use Rattle.rng_model.specs.simple.Table.{Table, grammar_of};
-    ghost use Rattle.rng_model.specs.restrictions.BreaksNone.{BreaksNone};
+    ghost use Rattle.rng_model.specs.restrictions.Restrictions.{BreaksNone};
     ghost use Rattle.rng_deriv.specs.views.Matchers.{IsStateBy};
     ghost use Rattle.rng_model.specs.contracts.name.NameClass as classes;
     ghost use Rattle.std.specs.Coded.{codes};
@@ -118,7 +118,7 @@ impl Validator {
         }
     }
 
-    /// Returns the printed simple form of the schema (`printed_text` of `rng_print`). Fails only when out of memory.
+    /// Returns the printed simple form of the schema (`printed_text` of `rnc_print`). Fails only when out of memory.
     ///
     /// RELAX NG Specification, section 5.
     pub fn simple_text(&self, alloc: Global) -> Result<Vec<u8>, OutOfMemory>

@@ -18,20 +18,20 @@ use Rattle.rng_deriv_laws.specs.plain.Taking.{Same, Takes, WeaklyTakes}
 use Rattle.rng_deriv_laws.specs.plain.Taking as t
 use Rattle.rng_deriv_laws.specs.plain.Ways.{EachWay, Opens}
 use Rattle.rng_deriv_laws.proofs.SameWays.{bodies_joined, bodies_parted, way}
-use Rattle.rng_pattern_table.specs.views.Node.{Node}
-use Rattle.rng_pattern_table.specs.views.PatternTable.{Longer}
-use Rattle.rng_pattern_table.specs.views.Trees.{trees, tree_of}
-use Rattle.rng_pattern_table.specs.declared.pattern.PatternNumber.{PatternNumber}
-use Rattle.rng_pattern_table.proofs.Trees.{Longer-length, tree_stays}
+use Rattle.rng_deriv_table.specs.views.Node.{Node}
+use Rattle.rng_deriv_table.specs.views.PatternTable.{Longer}
+use Rattle.rng_deriv_table.specs.views.Trees.{trees, tree_of}
+use Rattle.rng_deriv_table.specs.declared.pattern.PatternNumber.{PatternNumber}
+use Rattle.rng_deriv_table.proofs.Trees.{Longer-length, tree_stays}
 use Rattle.rng_model.specs.matching.GrammarReading.{reading_of}
-use Rattle.rng_pattern_derivatives.specs.plain.Starting.{AreStarts, IsRestrictedBodyNamed}
-use Rattle.rng_pattern_derivatives.specs.plain.Ways.{AreInside, IsInside, way_by, ways_by}
-use Rattle.rng_pattern_derivatives.specs.declared.way.LeafWay as numbered
-use Rattle.rng_pattern_derivatives.proofs.KeptRestrictions.{each_both, each_first, each_second}
-use Rattle.rng_pattern_derivatives.proofs.StartBodies.{append_opens, opens_both, opens_first, opens_second}
-use Rattle.rng_event_matcher.specs.views.Numbers as numbers
-use Rattle.rng_event_matcher.specs.views.Numbers.{way_of}
-use Rattle.rng_event_matcher.specs.declared.derivatives.StartWay.{StartWay}
+use Rattle.rng_deriv_ways.specs.plain.Starting.{AreStarts, IsRestrictedBodyNamed}
+use Rattle.rng_deriv_ways.specs.plain.Ways.{AreInside, IsInside, way_by, ways_by}
+use Rattle.rng_deriv_ways.specs.declared.way.LeafWay as numbered
+use Rattle.rng_deriv_ways.proofs.KeptRestrictions.{each_both, each_first, each_second}
+use Rattle.rng_deriv_ways.proofs.StartBodies.{append_opens, opens_both, opens_first, opens_second}
+use Rattle.rng_deriv_events.specs.views.Numbers as numbers
+use Rattle.rng_deriv_events.specs.views.Numbers.{way_of}
+use Rattle.rng_deriv_events.specs.declared.derivatives.StartWay.{StartWay}
 use Rattle.rng_deriv.specs.views.Starts.{IsWayInside, OpensLike, with_way}
 
 -- ---- patterns that nothing matches

@@ -3,15 +3,15 @@ use Rattle.std.proofs.Common.{◌≡◌, ℕ, List, map, false, sym, ap, subst}
 use Rattle.rng_model.specs.names.Names.{Name}
 use Rattle.rng_model.specs.simple.Table.{Table}
 use Rattle.rng_names.specs.plain.Keys.{Keys, KeysServe, key_of, name_at}
-use Rattle.rng_pattern_table.specs.views.Node.{Node}
-use Rattle.rng_pattern_table.specs.views.PatternTable as nodes
-use Rattle.rng_pattern_table.specs.views.Trees.{trees}
-use Rattle.rng_pattern_table.specs.declared.pattern.PatternNumber.{PatternNumber}
+use Rattle.rng_deriv_table.specs.views.Node.{Node}
+use Rattle.rng_deriv_table.specs.views.PatternTable as nodes
+use Rattle.rng_deriv_table.specs.views.Trees.{trees}
+use Rattle.rng_deriv_table.specs.declared.pattern.PatternNumber.{PatternNumber}
 use Rattle.rng_model.specs.matching.GrammarReading.{reading_of}
-use Rattle.rng_pattern_derivatives.specs.views.KnownWays.{AreAllKnown}
-use Rattle.rng_pattern_derivatives.specs.declared.known.Known.{Known}
-use Rattle.rng_event_matcher.specs.views.Numbers.{AddsStarts, tree_of, way_of}
-use Rattle.rng_event_matcher.specs.declared.derivatives.StartWay.{StartWay}
+use Rattle.rng_deriv_ways.specs.views.KnownWays.{AreAllKnown}
+use Rattle.rng_deriv_ways.specs.declared.known.Known.{Known}
+use Rattle.rng_deriv_events.specs.views.Numbers.{AddsStarts, tree_of, way_of}
+use Rattle.rng_deriv_events.specs.declared.derivatives.StartWay.{StartWay}
 use Rattle.rng_deriv.proofs.NamesOfOneKey.{no_less, no_more, starts_alike}
 use Rattle.rng_deriv.specs.views.Serving.{IsServedBy}
 use Rattle.rng_deriv.proofs.ServedTables.{served_longer}

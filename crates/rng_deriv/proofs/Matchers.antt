@@ -3,7 +3,7 @@ use Rattle.std.proofs.Common.{◌≡◌, ◌∙◌, ℕ, List, [], ◌∷◌, �
 use Rattle.rng_model.specs.documents.Handing.{Hands}
 use Rattle.rng_model.specs.documents.PyxTrees.{Event}
 use Rattle.rng_model.specs.matching.GrammarReading.{reading_of}
-use Rattle.rng_event_matcher.specs.views.Basis.{Basis}
+use Rattle.rng_deriv_events.specs.views.Basis.{Basis}
 use Rattle.rng_deriv.specs.views.Matchers.{HasFailedAt, HasGoneOn, HasRunOut, Knows, Matching, judges_by}
 
 -- the grammar is in the basis

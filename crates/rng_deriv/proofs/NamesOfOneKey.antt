@@ -22,7 +22,7 @@ use Rattle.rng_deriv_laws.specs.plain.Taking.{Takes, WeaklyMatches}
 use Rattle.rng_deriv_laws.specs.plain.Taking as t
 use Rattle.rng_deriv_laws.specs.plain.Ways.{EachWay}
 use Rattle.rng_model.specs.matching.GrammarReading.{reading_of}
-use Rattle.rng_pattern_derivatives.proofs.GrammarRows.{class_there, no_class_there}
+use Rattle.rng_deriv_ways.proofs.GrammarRows.{class_there, no_class_there}
 
 module _ (g : Reading) where
   -- each element that may have the first name may have the second

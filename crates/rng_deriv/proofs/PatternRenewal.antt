@@ -7,16 +7,16 @@ use Rattle.rng_model.specs.simple.Table.{Table, tree_at}
 use Rattle.rng_model.specs.declared.simple.PatternId.{PatternId}
 use Rattle.rng_deriv_laws.specs.plain.Restricted.{IsRestricted, IsRestrictedBody}
 use Rattle.rng_deriv_laws.specs.plain.Taking.{Same}
-use Rattle.rng_pattern_table.specs.views.Node.{Node}
-use Rattle.rng_pattern_table.specs.views.Taking.{tree_by}
-use Rattle.rng_pattern_table.specs.views.Trees.{trees, tree_of}
-use Rattle.rng_pattern_table.specs.declared.pattern.PatternNumber.{PatternNumber}
-use Rattle.rng_pattern_table.proofs.Trees.{length-trees}
-use Rattle.rng_pattern_derivatives.specs.plain.Kinds.{Obeys}
-use Rattle.rng_pattern_derivatives.proofs.StartBodies.{body_inside}
-use Rattle.rng_event_matcher.specs.views.Numbers as numbers
-use Rattle.rng_event_matcher.specs.views.Numbers.{AreRenewed, IsInside}
-use Rattle.rng_event_matcher.proofs.LevelRenewal.{zip_split}
+use Rattle.rng_deriv_table.specs.views.Node.{Node}
+use Rattle.rng_deriv_table.specs.views.Taking.{tree_by}
+use Rattle.rng_deriv_table.specs.views.Trees.{trees, tree_of}
+use Rattle.rng_deriv_table.specs.declared.pattern.PatternNumber.{PatternNumber}
+use Rattle.rng_deriv_table.proofs.Trees.{length-trees}
+use Rattle.rng_deriv_ways.specs.plain.Kinds.{Obeys}
+use Rattle.rng_deriv_ways.proofs.StartBodies.{body_inside}
+use Rattle.rng_deriv_events.specs.views.Numbers as numbers
+use Rattle.rng_deriv_events.specs.views.Numbers.{AreRenewed, IsInside}
+use Rattle.rng_deriv_events.proofs.LevelRenewal.{zip_split}
 use Rattle.rng_deriv.specs.views.PatternRenewal.{AreSameTrees, IsSameTree}
 use Rattle.rng_deriv.specs.views.Serving.{IsServed}
 

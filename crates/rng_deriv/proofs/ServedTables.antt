@@ -7,37 +7,38 @@ use Rattle.std.proofs.lemmas.List.Elements.{All-weaker}
 use Rattle.std.proofs.lemmas.List.Sums.{fold-append}
 use Rattle.rng_model.specs.matching.Document.{Attribute, Item}
 use Rattle.rng_model.specs.names.Names.{Name}
-use Rattle.rng_model.specs.simple.Table.{IsTable, Table, grammar_of, tree_at}
+use Rattle.rng_model.specs.simple.Table.{Table, grammar_of, tree_at}
+use Rattle.rng_model.specs.simple.TableRules.{IsTable}
 use Rattle.rng_model.specs.simple.Tree.{Simple}
 use Rattle.rng_model.specs.declared.simple.PatternId.{PatternId}
-use Rattle.rng_model.specs.restrictions.BreaksNone.{BreaksNone}
+use Rattle.rng_model.specs.restrictions.Restrictions.{BreaksNone}
 use Rattle.rng_deriv_laws.specs.plain.LevelStates.{IsAfterTag, IsAfterText}
 use Rattle.rng_deriv_laws.specs.plain.Restricted.{IsRestricted, IsRestrictedBody}
 use Rattle.rng_deriv_laws.specs.plain.Taking.{Same, Takes}
 use Rattle.rng_deriv_laws.proofs.Restricted.{bodies_restricted, start_restricted}
-use Rattle.rng_pattern_table.specs.views.Choices.{SomeTakes}
-use Rattle.rng_pattern_table.specs.plain.AskedFor.{IsAskedFor, as_body, as_start}
-use Rattle.rng_pattern_table.specs.plain.Kept.{AreRestrictedAlike}
-use Rattle.rng_pattern_table.specs.views.Node.{Node}
-use Rattle.rng_pattern_table.specs.views.PatternTable.{Longer}
-use Rattle.rng_pattern_table.specs.views.Taking.{AreTaken}
-use Rattle.rng_pattern_table.specs.views.Trees.{trees, tree_of, tree_over, tree_in, with_tree}
-use Rattle.rng_pattern_table.specs.declared.pattern.PatternNumber.{PatternNumber}
-use Rattle.rng_pattern_table.proofs.Trees.{length-trees, Longer-trans}
-use Rattle.rng_text_derivatives.specs.plain.After.{IsLeftOfTag}
-use Rattle.rng_pattern_derivatives.specs.plain.Kinds.{Obeys}
+use Rattle.rng_deriv_table.specs.views.Choices.{SomeTakes}
+use Rattle.rng_deriv_table.specs.plain.AskedFor.{IsAskedFor, as_body, as_start}
+use Rattle.rng_deriv_table.specs.plain.Kept.{AreRestrictedAlike}
+use Rattle.rng_deriv_table.specs.views.Node.{Node}
+use Rattle.rng_deriv_table.specs.views.PatternTable.{Longer}
+use Rattle.rng_deriv_table.specs.views.Taking.{AreTaken}
+use Rattle.rng_deriv_table.specs.views.Trees.{trees, tree_of, tree_over, tree_in, with_tree}
+use Rattle.rng_deriv_table.specs.declared.pattern.PatternNumber.{PatternNumber}
+use Rattle.rng_deriv_table.proofs.Trees.{length-trees, Longer-trans}
+use Rattle.rng_deriv_texts.specs.plain.After.{IsLeftOfTag}
+use Rattle.rng_deriv_ways.specs.plain.Kinds.{Obeys}
 use Rattle.rng_model.specs.matching.GrammarReading.{reading_of}
-use Rattle.rng_pattern_derivatives.specs.plain.Starting as starting
-use Rattle.rng_pattern_derivatives.specs.plain.Ways.{ways_by}
-use Rattle.rng_pattern_derivatives.specs.declared.known.Known.{Known}
-use Rattle.rng_pattern_derivatives.specs.declared.way.Place.{Place}
-use Rattle.rng_pattern_derivatives.specs.declared.way.Place.TheVariants as places
-use Rattle.rng_pattern_derivatives.specs.declared.way.LeafWay as numbered
-use Rattle.rng_pattern_derivatives.proofs.GrammarRows.{body_there}
-use Rattle.rng_pattern_derivatives.proofs.StartBodies.{bodies_longer, body_inside, ready_longer}
-use Rattle.rng_event_matcher.specs.views.Numbers as numbers
-use Rattle.rng_event_matcher.specs.views.Numbers.{Adds, AddsStarts, IsChoiceOf, IsInside}
-use Rattle.rng_event_matcher.specs.declared.derivatives.StartWay.{StartWay}
+use Rattle.rng_deriv_ways.specs.plain.Starting as starting
+use Rattle.rng_deriv_ways.specs.plain.Ways.{ways_by}
+use Rattle.rng_deriv_ways.specs.declared.known.Known.{Known}
+use Rattle.rng_deriv_ways.specs.declared.way.Place.{Place}
+use Rattle.rng_deriv_ways.specs.declared.way.Place.TheVariants as places
+use Rattle.rng_deriv_ways.specs.declared.way.LeafWay as numbered
+use Rattle.rng_deriv_ways.proofs.GrammarRows.{body_there}
+use Rattle.rng_deriv_ways.proofs.StartBodies.{bodies_longer, body_inside, ready_longer}
+use Rattle.rng_deriv_events.specs.views.Numbers as numbers
+use Rattle.rng_deriv_events.specs.views.Numbers.{Adds, AddsStarts, IsChoiceOf, IsInside}
+use Rattle.rng_deriv_events.specs.declared.derivatives.StartWay.{StartWay}
 use Rattle.rng_deriv.specs.views.Serving.{IsServed, IsServedBy, nodes_unless}
 use Rattle.rng_deriv.specs.views.Starts.{OpensLike}
 use Rattle.rng_deriv.proofs.JoinedStarts.{starts_are, starts_inside}

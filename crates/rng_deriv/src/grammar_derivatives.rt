@@ -1,8 +1,8 @@
 // What is left of the patterns of a grammar.
 ghost use Rattle.std.specs.Prelude.{◌≡◌, IfOk};
 ghost use Rattle.rng_model.specs.simple.Table.{grammar_of};
-ghost use Rattle.rng_model.specs.restrictions.BreaksNone.{BreaksNone};
-ghost use Rattle.rng_pattern_table.specs.views.Trees.{trees};
+ghost use Rattle.rng_model.specs.restrictions.Restrictions.{BreaksNone};
+ghost use Rattle.rng_deriv_table.specs.views.Trees.{trees};
 ghost use Rattle.rng_model.specs.matching.GrammarReading.{reading_of};
 ghost use Rattle.rng_model.specs.names.NameViews.{name_of};
 ghost use Rattle.rng_names.specs.plain.Holding.{same_name};
@@ -10,12 +10,12 @@ ghost use Rattle.rng_names.specs.plain.Holding.{same_name};
 use crate::learned::Learned;
 use crate::pattern_renewal::{Selection, copied, count_start, limit_beside, renewed};
 use crate::starts::joined_ways;
-use rng_event_matcher::{Derivatives, Ways};
+use rng_deriv_events::{Derivatives, Ways};
+use rng_deriv_table::{PatternNumber, PatternTable};
+use rng_deriv_texts::{Context, after_tag, after_text};
+use rng_deriv_ways::{Known, start};
 use rng_model::{Attr, Name, OutOfMemory, SimpleGrammar};
 use rng_names::{NameKey, NameKeys};
-use rng_pattern_derivatives::{Known, start};
-use rng_pattern_table::{PatternNumber, PatternTable};
-use rng_text_derivatives::{Context, after_tag, after_text};
 use std::alloc::Global;
 use std::marker::Model;
 
@@ -38,8 +38,8 @@ pub struct GrammarDerivatives<'a> {
 
 impl<'a> Model for GrammarDerivatives<'a> {
     ghost use Rattle.std.specs.Prelude.{List};
-    ghost use Rattle.rng_pattern_table.specs.views.Node.{Node};
-    ghost use Rattle.rng_event_matcher.specs.views.Basis.{Basis};
+    ghost use Rattle.rng_deriv_table.specs.views.Node.{Node};
+    ghost use Rattle.rng_deriv_events.specs.views.Basis.{Basis};
     ghost use Rattle.rng_deriv.specs.views.Serving.{Serves, nodes_of};
 
     ghost Value = { Basis × List Node };

@@ -1,7 +1,7 @@
 // What a matcher has learned about the patterns of a grammar.
+use rng_deriv_table::{PatternNumber, PatternTable};
+use rng_deriv_ways::Known;
 use rng_names::NameKeys;
-use rng_pattern_derivatives::Known;
-use rng_pattern_table::{PatternNumber, PatternTable};
 
 /// What a matcher has learned about the patterns of a grammar, without the grammar.
 #[derive(Drop)]

@@ -2,9 +2,9 @@
 //! grammar.
 //!
 //! `Matcher::new` makes a matcher for a grammar that breaks none of the restrictions. `Matcher` takes events (`Events`
-//! of `rng_model`), and `finish` returns the outcome. It is the matcher of `rng_event_matcher` over the derivatives of a
+//! of `rng_model`), and `finish` returns the outcome. It is the matcher of `rng_deriv_events` over the derivatives of a
 //! grammar, `GrammarDerivatives`. Its patterns are in a table, where equal patterns have one number. What is left of a
-//! pattern is another pattern (`rng_pattern_derivatives`), which takes exactly what may follow (RELAX NG Specification,
+//! pattern is another pattern (`rng_deriv_ways`), which takes exactly what may follow (RELAX NG Specification,
 //! sections 6.2 and 7). If there are too many patterns, those that no open element holds are freed.
 #![tactic(auto)]
 

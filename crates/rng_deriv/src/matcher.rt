@@ -1,7 +1,7 @@
 // The matcher of a grammar.
 ghost use Rattle.std.specs.Prelude.{◌≡◌, ℕ, List, [], ◌∷◌, ◌++◌, IfOk, IsErr, OnErr, OnOk};
 ghost use Rattle.rng_model.specs.simple.Table.{grammar_of};
-ghost use Rattle.rng_model.specs.restrictions.BreaksNone.{BreaksNone};
+ghost use Rattle.rng_model.specs.restrictions.Restrictions.{BreaksNone};
 ghost use Rattle.rng_model.specs.documents.EventView.{event_of};
 ghost use Rattle.rng_model.specs.documents.Handing.{Hands};
 ghost use Rattle.rng_model.specs.documents.PyxTrees as trees;
@@ -13,7 +13,7 @@ ghost use Rattle.rng_model.specs.declared.outcome.Outcome.{Outcome};
 
 use crate::grammar_derivatives::GrammarDerivatives;
 use crate::matcher_state::MatcherState;
-use rng_event_matcher::EventMatcher;
+use rng_deriv_events::EventMatcher;
 use rng_model::{Event, Events, OutOfMemory, Outcome, SimpleGrammar};
 use std::alloc::Global;
 use std::marker::Model;

@@ -4,7 +4,7 @@ ghost use Rattle.rng_model.specs.simple.Table.{Table};
 ghost use Rattle.rng_deriv.specs.views.Matchers.{HasFailedAt, failed_line, matching_in};
 
 use crate::learned::Learned;
-use rng_event_matcher::Progress;
+use rng_deriv_events::Progress;
 
 /// What a matcher keeps of a document, and what it has learned about a grammar, without the grammar.
 ///

@@ -2,13 +2,13 @@
 ghost use Rattle.std.specs.Prelude.{◌≡◌, ◌<◌, ◌++◌, All, IfOk, List, OnOk, length};
 ghost use Rattle.rng_names.specs.plain.Keys.{Keys};
 ghost use Rattle.rng_model.specs.simple.Table.{Table};
-ghost use Rattle.rng_pattern_table.specs.views.Node.{Node};
-ghost use Rattle.rng_pattern_derivatives.specs.views.KnownWays.{AreAllKnown};
+ghost use Rattle.rng_deriv_table.specs.views.Node.{Node};
+ghost use Rattle.rng_deriv_ways.specs.views.KnownWays.{AreAllKnown};
 ghost use Rattle.rng_deriv.specs.views.PatternRenewal.{AreSameTrees};
 
+use rng_deriv_table::{PatternNumber, PatternTable};
+use rng_deriv_ways::Known;
 use rng_model::OutOfMemory;
-use rng_pattern_derivatives::Known;
-use rng_pattern_table::{PatternNumber, PatternTable};
 use std::alloc::Global;
 
 /// Some of the patterns of a table, with their parts, in a table of their own.

@@ -1,16 +1,16 @@
 // The ways of a start, without those that nothing matches.
 ghost use Rattle.std.specs.Prelude.{◌≡◌, ◌||◌, ◌<◌, All, IfOk, IfNone, IfSome, OnOk, Some, length, slice_get};
 ghost use Rattle.rng_model.specs.simple.Table.{Table};
-ghost use Rattle.rng_event_matcher.specs.declared.derivatives.StartWay.{StartWay};
+ghost use Rattle.rng_deriv_events.specs.declared.derivatives.StartWay.{StartWay};
 ghost use Rattle.rng_deriv_laws.specs.plain.Derivatives.{is_not_allowed};
-ghost use Rattle.rng_pattern_table.specs.views.PatternTable.{Longer};
-ghost use Rattle.rng_pattern_table.specs.views.Trees.{tree_of};
-ghost use Rattle.rng_pattern_derivatives.specs.plain.Ways.{AreInside, IsInside, IsTakenOut, ways_by};
+ghost use Rattle.rng_deriv_table.specs.views.PatternTable.{Longer};
+ghost use Rattle.rng_deriv_table.specs.views.Trees.{tree_of};
+ghost use Rattle.rng_deriv_ways.specs.plain.Ways.{AreInside, IsInside, IsTakenOut, ways_by};
 ghost use Rattle.rng_deriv.specs.views.Starts.{IsWayInside, OpensLike, with_way};
 
-use rng_event_matcher::{StartWay, Ways};
+use rng_deriv_events::{StartWay, Ways};
+use rng_deriv_table::{PatternNumber, PatternTable};
 use rng_model::OutOfMemory;
-use rng_pattern_table::{PatternNumber, PatternTable};
 use smallvec::SmallVec;
 use std::alloc::Global;
 
@@ -50,7 +50,7 @@ fn add_way(
     alloc: Global,
     table: &mut PatternTable,
     all: &mut Ways,
-    way: rng_pattern_derivatives::LeafWay,
+    way: rng_deriv_ways::LeafWay,
 ) -> Result<(), OutOfMemory>
     requires inside { All (IsWayInside table.old) all.old.items }
     requires way { IsInside table.old way }
@@ -78,7 +78,7 @@ fn add_way(
 pub fn joined_ways(
     alloc: Global,
     table: &mut PatternTable,
-    ways: &[rng_pattern_derivatives::LeafWay],
+    ways: &[rng_deriv_ways::LeafWay],
 ) -> Result<Ways, OutOfMemory>
     requires { AreInside table.old ways.now }
     ensures longer { OnOk result (Longer table.old table.new) }

@@ -3,8 +3,8 @@ use Rattle.std.proofs.Common.{◌≡◌, ℕ, List, [], ◌∷◌, ◌++◌, ref
 use Rattle.rng_model.specs.names.Names.{Name}
 use Rattle.rng_model.specs.simple.Tree.{Simple}
 use Rattle.rng_model.specs.matching.Document.{Attribute, a_text, an_element, Items, no_items, item_and, list_of}
-use Rattle.rng_model.specs.matching.WellFormed.{Separate, IsWellFormed, AreWellFormed}
-use Rattle.rng_model.specs.matching.WellFormed as w
+use Rattle.rng_model.specs.plain.WellFormed.{Separate, IsWellFormed, AreWellFormed}
+use Rattle.rng_model.specs.plain.WellFormed as w
 use Rattle.rng_model.specs.datatypes.Texts.{is_blank}
 use Rattle.rng_model.specs.documents.PyxTrees.{Event, EventKind, a_start, a_string, an_end, Placed, PlacedItems, text_at, element_at, none_placed, placed_and}
 use Rattle.rng_model.specs.documents.PyxTrees.{item_of, items_of, events_of, events_in}

@@ -3,8 +3,9 @@ use Rattle.std.proofs.Common.{◌≡◌, ◌↔◌, ℕ, List, [], ◌∷◌, re
 use Rattle.rng_model.specs.names.Names.{Name, NameClass, In}
 use Rattle.rng_model.specs.simple.Tree.{Simple}
 use Rattle.rng_model.specs.matching.Document.{Attribute, an_element}
-use Rattle.rng_model.specs.matching.WellFormed.{IsWellFormed}
-use Rattle.rng_model.specs.simple.Table.{Grammar, IsValidBy}
+use Rattle.rng_model.specs.plain.WellFormed.{IsWellFormed}
+use Rattle.rng_model.specs.matching.GrammarMatching.{IsValidBy}
+use Rattle.rng_model.specs.simple.Grammar.{Grammar}
 use Rattle.rng_model.specs.restrictions.Restrictions.{ClassIn}
 use Rattle.rng_model.specs.datatypes.Texts.{TextTests, texts_of}
 use Rattle.rng_model.specs.documents.PyxTrees.{PlacedItems, element_at, item_of, items_of, events_of}
@@ -13,7 +14,7 @@ use Rattle.rng_names.proofs.Holding.{holds-Decides}
 use Rattle.rng_deriv_laws.specs.plain.Reading.{named_in}
 use Rattle.rng_deriv_laws.specs.plain.States.{finished, after_of, after_item, accepts, is_never}
 use Rattle.rng_deriv_laws.specs.plain.Events.{kinds, new, run, is_valid}
-use Rattle.rng_model.specs.restrictions.BreaksNone.{BreaksNone}
+use Rattle.rng_model.specs.restrictions.Restrictions.{BreaksNone}
 use Rattle.rng_deriv_laws.specs.plain.Laws.{reading, AcceptsValidDocuments, NeverIsInvalid, UnknownNameIsNever, InvalidIsNever}
 use Rattle.rng_deriv_laws.proofs.TakesAndMatches.{takes_in, takes_out}
 use Rattle.rng_deriv_laws.proofs.Restricted.{start_may_start, start_restricted, bodies_restricted}

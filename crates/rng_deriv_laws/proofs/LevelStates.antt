@@ -7,7 +7,8 @@ use Rattle.std.proofs.lemmas.List.Elements.{All-contains}
 use Rattle.rng_model.specs.names.Names.{Name}
 use Rattle.rng_model.specs.simple.Tree.{Simple}
 use Rattle.rng_model.specs.matching.Document.{Attribute, Item, a_text, an_element, Items, list_of, no_texts, text_and}
-use Rattle.rng_model.specs.matching.WellFormed.{Distinct, Separate}
+use Rattle.rng_model.specs.matching.WellFormed.{Distinct}
+use Rattle.rng_model.specs.plain.WellFormed.{Separate}
 use Rattle.rng_model.specs.datatypes.Texts.{is_blank}
 use Rattle.rng_model.specs.matching.Reading.{Reading}
 use Rattle.rng_deriv_laws.specs.plain.Reading.{has_name}

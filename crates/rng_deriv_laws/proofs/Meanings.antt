@@ -3,10 +3,12 @@
 use Rattle.std.proofs.Common.{◌≡◌, ◌↔◌, ℕ, List, [], ◌∷◌, ◌++◌, refl, sym, ap, ◌∙◌, subst, Bool, true, false, cond, append_assoc}
 use Rattle.rng_model.specs.names.Names.{Name}
 use Rattle.rng_model.specs.matching.Document.{Attribute, Item, a_text, an_element, Items, no_items, item_and, list_of}
-use Rattle.rng_model.specs.matching.WellFormed.{Distinct, Separate, IsWellFormed, AreWellFormed}
-use Rattle.rng_model.specs.matching.WellFormed as w
+use Rattle.rng_model.specs.matching.WellFormed.{Distinct}
+use Rattle.rng_model.specs.plain.WellFormed.{Separate, IsWellFormed, AreWellFormed}
+use Rattle.rng_model.specs.plain.WellFormed as w
 use Rattle.rng_model.specs.datatypes.Texts.{is_blank, TextTests, texts_of}
-use Rattle.rng_model.specs.simple.Table.{Grammar, IsValidBy}
+use Rattle.rng_model.specs.matching.GrammarMatching.{IsValidBy}
+use Rattle.rng_model.specs.simple.Grammar.{Grammar}
 use Rattle.rng_model.specs.documents.PyxTrees.{Event, EventKind, a_start, a_string, an_end, Placed, PlacedItems, element_at, item_of, items_of, events_of, IsPyxDocument}
 use Rattle.rng_deriv_laws.specs.plain.Blanks.{Every, nil, cons, IsNotBlank, has_element, without_blanks}
 use Rattle.rng_deriv_laws.specs.plain.Events.{kinds, events_of_items}

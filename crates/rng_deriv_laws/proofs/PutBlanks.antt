@@ -7,8 +7,8 @@ use Rattle.rng_model.specs.names.Names.{Name}
 use Rattle.rng_model.specs.simple.Tree.{Simple}
 use Rattle.rng_model.specs.matching.Document.{Attribute, Item, a_text, an_element, Items, Interleaves, AllTexts, no_texts, text_and, Padded}
 use Rattle.rng_model.specs.matching.Document as document
-use Rattle.rng_model.specs.matching.WellFormed.{Separate}
-use Rattle.rng_model.specs.matching.WellFormed as w
+use Rattle.rng_model.specs.plain.WellFormed.{Separate}
+use Rattle.rng_model.specs.plain.WellFormed as w
 use Rattle.rng_model.specs.datatypes.Texts.{is_blank}
 use Rattle.rng_model.specs.matching.Reading.{Reading}
 use Rattle.rng_deriv_laws.specs.plain.Taking.{Takes}

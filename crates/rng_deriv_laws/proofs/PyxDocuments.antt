@@ -3,10 +3,10 @@
 use Rattle.std.proofs.Common.{◌≡◌, ℕ, List, [], ◌∷◌, subst, sym}
 use Rattle.rng_model.specs.names.Names.{Name}
 use Rattle.rng_model.specs.matching.Document.{Attribute, an_element, list_of}
-use Rattle.rng_model.specs.matching.WellFormed.{Separate, IsWellFormed, AreWellFormed}
-use Rattle.rng_model.specs.matching.WellFormed as w
+use Rattle.rng_model.specs.plain.WellFormed.{Separate, IsWellFormed, AreWellFormed}
+use Rattle.rng_model.specs.plain.WellFormed as w
 use Rattle.rng_model.specs.documents.PyxLines.{Said}
-use Rattle.rng_model.specs.documents.PyxNamespaces.{Scope}
+use Rattle.rng_model.specs.documents.PyxNamespaces.{NamespaceScope}
 use Rattle.rng_model.specs.documents.PyxTrees.{Placed, PlacedItems, text_at, element_at, none_placed, placed_and, item_of, items_of, string_before, IsElement, IsContent}
 use Rattle.rng_model.specs.documents.PyxTrees.{IsPyxDocument}
 use Rattle.rng_model.specs.documents.PyxTrees as p
@@ -41,12 +41,12 @@ before_tree n joined tree rest t r =
     (before_element n joined t.line t.name t.attributes t.kids rest t.last t.formed r)
 
 mutual
-  element_formed : {room n : ℕ} {outer : Scope} {all : List Said} {tree : Placed} → IsElement room outer n all tree → IsElementTree tree
+  element_formed : {room n : ℕ} {outer : NamespaceScope} {all : List Said} {tree : Placed} → IsElement room outer n all tree → IsElementTree tree
   element_formed (p.element {q = q} {attrs = attrs} {kids = kids} tag content parts is) =
       let c = content_formed content in
       record { line = _; name = q; attributes = attrs; kids = kids; last = _; is = is; formed = (tag.distinct, c.apart, c.formed) }
 
-  content_formed : {room n : ℕ} {scope : Scope} {all : List Said} {kids : PlacedItems} → IsContent room scope n all kids → AreFormed kids
+  content_formed : {room n : ℕ} {scope : NamespaceScope} {all : List Said} {kids : PlacedItems} → IsContent room scope n all kids → AreFormed kids
   content_formed (p.last_run {joined = joined} run limit is) = subst AreFormed (sym is) (alone _ joined)
   content_formed (p.run_and_element {rest = rest} {joined = joined} {tree = tree} run limit inner more parts is) =
       subst AreFormed (sym is) (before_tree _ joined tree rest (element_formed inner) (content_formed more))

@@ -7,7 +7,7 @@ use Rattle.rng_model.specs.simple.Tree.{s_attribute, s_list, s_data, s_data_exce
 use Rattle.rng_model.specs.matching.Document.{Attribute, Item, a_text, an_element, Items, list_of, Interleaves, Shares}
 use Rattle.rng_model.specs.matching.Document as document
 use Rattle.rng_model.specs.matching.Matching as m
-use Rattle.rng_model.specs.simple.Table.{is_listed}
+use Rattle.rng_model.specs.matching.GrammarMatching.{is_listed}
 use Rattle.rng_model.specs.datatypes.Texts.{texts_of}
 use Rattle.rng_model.proofs.OneSidedInterleavings.{left_alone, left_is_all}
 use Rattle.rng_names.proofs.Holding.{holds-Decides}

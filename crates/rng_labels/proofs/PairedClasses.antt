@@ -5,7 +5,7 @@ use Rattle.std.specs.List.{list_all}
 use Rattle.rng_model.specs.names.Names as names
 use Rattle.rng_model.specs.names.Names.{some_of}
 use Rattle.rng_model.specs.names.NameViews.{class_of, class_step}
-use Rattle.rng_model.specs.simple.Table.{IsPaired, paired_step}
+use Rattle.rng_model.specs.simple.TableRules.{IsPaired, paired_step}
 use Rattle.rng_model.specs.declared.name.NameClass.{NameClass, fold-NameClass, fold-roll-NameClass, ind-NameClass, map-NameClass}
 use Rattle.rng_model.specs.declared.name.NameClass.TheOpen.{NameClass-F}
 use Rattle.rng_labels.specs.plain.LabelCodes.{IsInTwos}

@@ -5,7 +5,8 @@ use Rattle.rnc_text.specs.declared.fault.TextFault.{TextFault}
 use Rattle.rnc_text.specs.declared.fault.TextFault.TheVariants as texts
 use Rattle.rnc_text.specs.views.Answers.{GivesOk, GivesFault, IfBroken}
 use Rattle.rnc_model.specs.tokens.Cut.{Token, HasTokens, BreaksTokensAt}
-use Rattle.rnc_model.specs.characters.Decoding.{IsDecoded, BreaksTextAt}
+use Rattle.rnc_model.specs.characters.Decoding.{IsDecoded}
+use Rattle.rnc_model.specs.characters.BrokenTexts.{BreaksTextAt}
 use Rattle.rnc_grammar.specs.declared.fault.ParseFault.{ParseFault}
 use Rattle.rnc_grammar.specs.declared.fault.ParseFault.TheVariants as parses
 use Rattle.rnc_grammar.specs.declared.file_tree.FileTree as declared
@@ -20,7 +21,8 @@ use Rattle.rnc_grammar.specs.views.ParsingFaults as parsing_faults
 use Rattle.rnc_grammar.specs.views.View.{file_of}
 use Rattle.rng_load.specs.views.FileFaults.{fault_of_text, fault_of_parse, verdict_of}
 use Rattle.rnc_model.specs.loading.SchemaFile.{AreTokensOf, BreaksFileClause, not_utf8, bad_characters, bad_tokens, no_sentence, too_deep, bad_declarations}
-use Rattle.rnc_model.specs.loading.SchemaFile.{IsSchemaFile, FileVerdict, breaks, has_tree, ContentHasVerdict, ContentHasOnlyVerdict}
+use Rattle.rnc_model.specs.loading.SchemaFile.{IsSchemaFile}
+use Rattle.rnc_model.specs.loading.FileVerdicts.{FileVerdict, breaks, has_tree, ContentHasVerdict, ContentHasOnlyVerdict}
 
 -- ---- characters
 

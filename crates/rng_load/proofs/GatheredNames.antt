@@ -15,7 +15,8 @@ use Rattle.rnc_grammar.specs.views.View.{file_of}
 use Rattle.rnc_model.specs.loading.Mentions.{MentionedFile, mention_of, mentions_of_component, mentions_of_components}
 use Rattle.std.proofs.lemmas.List.{map-append, take_all, take-append-le, length-map}
 use Rattle.rng_load.specs.plain.ComponentNames.{Names, gather, gather_component, gather_if, HasIt, no_names}
-use Rattle.rnc_model.specs.loading.Loading.{TakenFiles, with_name, tree_in, grammar_if, grammar_in, hrefs_of}
+use Rattle.rnc_model.specs.loading.Loading.{TakenFiles, with_name, tree_in, hrefs_of}
+use Rattle.rnc_model.specs.loading.FileGrammars.{grammar_if, grammar_in}
 use Rattle.rnc_model.specs.loading.GrammarNames.{HasName, NamesIt, of_first, of_later, of_start, of_define, of_div, of_braces, of_file}
 use Rattle.rnc_model.specs.loading.SchemaFile.{Name}
 use Rattle.rng_load.proofs.MentionedNames.{tree_found}

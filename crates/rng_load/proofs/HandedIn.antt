@@ -12,9 +12,11 @@ use Rattle.rng_load.specs.declared.fault.FileFault.{FileFault}
 use Rattle.rng_load.specs.declared.fault.FileFault.TheVariants as faults
 use Rattle.rng_load.specs.views.FileFaults.{verdict_of}
 use Rattle.rng_model.specs.names.Lists.{Among, here, there, HasTwo, first_and, both_later}
-use Rattle.rnc_model.specs.loading.SchemaFile.{Name, NamedFile, FileVerdict, breaks, has_tree, IsMissing, IsHandedInTwice, IsHandedIn, BreaksLimit, BreaksOwn}
-use Rattle.rnc_model.specs.loading.SchemaFile.{missing, handed_in_twice, too_large, bad_content, BreaksFileClause, FileHasVerdict, FileHasOnlyVerdict}
-use Rattle.rnc_model.specs.loading.SchemaFile.{ContentHasVerdict, ContentHasOnlyVerdict}
+use Rattle.rnc_model.specs.loading.SchemaFile.{Name, NamedFile, IsMissing, IsHandedInTwice, IsHandedIn, BreaksLimit, BreaksOwn}
+use Rattle.rnc_model.specs.loading.FileVerdicts.{FileVerdict, breaks, has_tree}
+use Rattle.rnc_model.specs.loading.SchemaFile.{missing, handed_in_twice, too_large, bad_content, BreaksFileClause}
+use Rattle.rnc_model.specs.loading.FileVerdicts.{FileHasVerdict, FileHasOnlyVerdict}
+use Rattle.rnc_model.specs.loading.FileVerdicts.{ContentHasVerdict, ContentHasOnlyVerdict}
 use Rattle.rng_load.proofs.NameLists.{in_none, in_cons, in_left, in_right, in_more}
 
 module _ {A : Type 0} (P : A → A → Type 0) where

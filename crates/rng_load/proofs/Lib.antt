@@ -32,4 +32,3 @@ mod OpenPatterns
 mod ReaderEnds
 mod LoadedFiles
 mod WellPlaced
-mod NamesThatOverride

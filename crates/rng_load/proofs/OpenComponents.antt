@@ -4,7 +4,7 @@ use Rattle.std.proofs.lemmas.List.{append-nil}
 use Rattle.rnc_model.specs.declarations.FileTree as tree
 use Rattle.rnc_model.specs.declarations.FileTree.{components_of}
 use Rattle.rnc_model.specs.loading.Places.{TreePath, Gathered}
-use Rattle.rnc_model.specs.loading.Loading.{grammar_if}
+use Rattle.rnc_model.specs.loading.FileGrammars.{grammar_if}
 use Rattle.rnc_model.specs.loading.Places.{uri_in}
 use Rattle.rng_load.specs.plain.OpenComponents.{AtEnd, Files, Gathering, OpenList, after_end, braces, components_at, gathered_at_end, with_list}
 use Rattle.rng_load.specs.plain.PlainReading.{gather_at, gather_below, gather_one_at, gather_with, included_with, replaced_by}

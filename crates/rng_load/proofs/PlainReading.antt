@@ -10,7 +10,8 @@ use Rattle.rnc_model.specs.declarations.FileTree.{FileTree, grammar_file, patter
 use Rattle.rnc_model.specs.loading.Mentions.{MentionedFile, external_file, included_file, mention_of, mentions_of, mentions_of_pattern, mentions_of_patterns}
 use Rattle.rnc_model.specs.loading.Mentions.{mentions_of_components}
 use Rattle.rnc_model.specs.loading.MentionPaths.{BreaksMentions, path_limit}
-use Rattle.rnc_model.specs.loading.Loading.{hrefs_if, TakenFiles, tree_in, hrefs_in, grammar_if, BreaksIncludes, no_grammar}
+use Rattle.rnc_model.specs.loading.Loading.{hrefs_if, TakenFiles, tree_in, hrefs_in, BreaksIncludes, no_grammar}
+use Rattle.rnc_model.specs.loading.FileGrammars.{grammar_if}
 use Rattle.rnc_model.specs.loading.SchemaFile.{Name}
 use Rattle.rng_load.specs.plain.Counting.{IsLong, long_end, long_more}
 use Rattle.rnc_model.specs.loading.Places.{TreePath, Nested, Gathered, is_overridden, uri_in, grammar_or_start, main_grammar, HasGrammar, main_is, nested_is}

@@ -12,7 +12,8 @@ use Rattle.rnc_model.specs.loading.Loading.{TakenFiles, with_name, hrefs_of, fil
 use Rattle.rng_load.specs.views.LoadingFaults.{IsNamedTree, IsTheReading, verdict_of_reading}
 use Rattle.rng_load.specs.declared.fault.ReadingFault.{ReadingFault}
 use Rattle.rng_load.specs.declared.fault.ReadingFault.TheVariants as readings
-use Rattle.rnc_model.specs.loading.SchemaFile.{Name, NamedFile, breaks, has_tree, FileHasOnlyVerdict}
+use Rattle.rnc_model.specs.loading.SchemaFile.{Name, NamedFile}
+use Rattle.rnc_model.specs.loading.FileVerdicts.{breaks, has_tree, FileHasOnlyVerdict}
 use Rattle.rng_load.proofs.NameSets.{entry_goes_last}
 use Rattle.rng_load.proofs.TakenFiles.{IsFirm, more_firm, firm_taken, fresh, few_taken, first_broken, first_of}
 

@@ -9,7 +9,8 @@ use Rattle.rng_model.specs.names.Lists.{Among, here, there, HasTwice}
 use Rattle.rnc_model.specs.declarations.FileTree.{FileTree}
 use Rattle.rnc_model.specs.loading.Loading.{TakenFiles, with_name, hrefs_of, IsTaken, none_yet, one_more, AreTaken, IsFirstBroken, FilesVerdict, file_breaks}
 use Rattle.rnc_model.specs.loading.Loading.{together_break, are_taken}
-use Rattle.rnc_model.specs.loading.SchemaFile.{Name, NamedFile, HasTree, BreaksOwn, breaks, has_tree, FileHasOnlyVerdict}
+use Rattle.rnc_model.specs.loading.SchemaFile.{Name, NamedFile, HasTree, BreaksOwn}
+use Rattle.rnc_model.specs.loading.FileVerdicts.{breaks, has_tree, FileHasOnlyVerdict}
 use Rattle.rng_load.specs.views.LoadingFaults.{IsReading, IsTheReading}
 use Rattle.rng_load.proofs.NameLists.{false_true, in_none, in_cons, in_left, in_right, in_either, none_twice, twice_or, differ_more, differ_front}
 use Rattle.rng_load.proofs.NameLists.{differ_parts, no_more, in_map, from_map, any_in, in_any}

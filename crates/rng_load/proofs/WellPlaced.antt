@@ -6,7 +6,8 @@ use Rattle.rng_model.specs.simple.Tree.{Connector, choice, group, interleave}
 use Rattle.rng_model.specs.schema.Patterns.{Place, Pattern, Patterns, grammar, joined, pattern_and, patterns_of, members}
 use Rattle.rng_model.specs.schema.Patterns.{IsWrittenIn, itself, in_element, in_attribute, in_list, in_except, in_mixed, in_optional, in_zero_or_more}
 use Rattle.rng_model.specs.schema.Patterns.{in_one_or_more, in_first, in_second, in_another, in_external, IsWrittenAmong, in_this, in_later}
-use Rattle.rng_model.specs.schema.Schema.{Schema, Component, IsWrittenAt, IsWellPlaced}
+use Rattle.rng_model.specs.schema.Schema.{Schema, Component, IsWrittenAt}
+use Rattle.rng_model.specs.plain.WellPlaced.{IsWellPlaced}
 use Rattle.rng_model.proofs.Unfolding.{some_is}
 use Rattle.rnc_model.specs.declarations.FileTree as tree
 use Rattle.rnc_model.specs.declarations.FileTree.{FileTree}

@@ -4,7 +4,8 @@ ghost use Rattle.rnc_model.specs.declarations.FileTree.{components_of};
 ghost use Rattle.rnc_grammar.specs.views.View.{component_of};
 ghost use Rattle.rng_load.specs.plain.ComponentNames.{HasIt, gather, gather_component, gather_if, names_in, no_names};
 ghost use Rattle.rng_load.specs.views.FilesView.{taken_files_of};
-ghost use Rattle.rnc_model.specs.loading.Loading.{grammar_in, tree_in, with_name};
+ghost use Rattle.rnc_model.specs.loading.Loading.{tree_in, with_name};
+ghost use Rattle.rnc_model.specs.loading.FileGrammars.{grammar_in};
 ghost use Rattle.rnc_model.specs.loading.GrammarNames.{HasName};
 
 use indexmap::{IndexMap, IndexSet};

@@ -1,38 +1,28 @@
 // From the components of files to those of the grammars of a schema.
-ghost use Rattle.std.specs.Prelude.{◌≡◌, [], ◌∷◌, ◌++◌, ◌||◌, ℕ, false, IfOk, List, OnOk, Option, filter, map, not, option_map, reverse, string_bytes};
-ghost use Rattle.rng_model.specs.schema.Schema.{same_name};
+ghost use Rattle.std.specs.Prelude.{◌≡◌, [], ◌∷◌, ◌++◌, false, IfOk, OnOk, map, option_map, reverse, string_bytes};
 ghost use Rattle.rng_model.specs.names.NamespaceViews.{namespace_bytes};
 ghost use Rattle.rng_model.specs.views.SchemaView.{schema_component_of};
 ghost use Rattle.rnc_model.specs.declarations.FileTree.{components_of};
 ghost use Rattle.rnc_grammar.specs.views.View.{component_of, mention_of, pattern_of};
-ghost use Rattle.rng_load.specs.views.GatheredComponents.{gathered_in, gathered_of, has_name, list_of, lists_in};
-ghost use Rattle.rnc_model.specs.loading.Loading.{grammar_if};
-ghost use Rattle.rnc_model.specs.loading.Places.{Gathered, TreePath, is_overridden, uri_in};
+ghost use Rattle.rng_load.specs.views.GatheredComponents.{gathered_in, gathered_of, list_of, lists_in};
+ghost use Rattle.rnc_model.specs.loading.FileGrammars.{grammar_if};
+ghost use Rattle.rnc_model.specs.loading.Places.{TreePath, uri_in};
 ghost use Rattle.rng_load.specs.plain.OpenComponents.{components_at, gathered_at_end};
 ghost use Rattle.rng_load.specs.plain.PlainReading.{gather_at, gather_below, gather_one_at, gathered_as, included_with, read_at, replaced_by};
 ghost use Rattle.rng_load.specs.plain.FoundGrammars.{nested_in};
 ghost use Rattle.rng_load.specs.views.GrammarParts.{AreParts};
 ghost use Rattle.rng_load.specs.views.ReadPatterns.{files_in, nested_of};
 
-use crate::component_names::{grammar_of, note};
+use crate::component_names::grammar_of;
 use crate::open_components::{AtEnd, GatheredComponents, OpenComponents};
 use crate::pattern_rows::FileScope;
 use crate::reading_names::namespace_uri;
 use crate::reading_patterns::{NestedGrammar, TreeReader};
-use indexmap::IndexSet;
 use rnc_grammar::{Mention, Method, Pattern};
 use rng_model::{Component, Namespace, OutOfMemory};
+use rng_overrides::GatheredComponent;
 use std::alloc::Global;
 use std::mem;
-
-/// A component of a grammar, with the grammars that are nested in it.
-///
-/// RELAX NG Specification, sections 4.7 and 4.18.
-#[derive(Drop)]
-pub(crate) struct GatheredComponent<'a> {
-    pub component: Component,
-    pub grammars: Vec<NestedGrammar<'a>>,
-}
 
 /// The components of a grammar, and the grammars that are nested in them, both in order.
 #[derive(Drop)]
@@ -54,7 +44,10 @@ impl<'a> GrammarParts<'a> {
     }
 
     /// Appends gathered components, and the grammars that are nested in them.
-    pub(crate) fn append(&mut self, all: Vec<GatheredComponent<'a>>) -> Result<(), OutOfMemory>
+    pub(crate) fn append(
+        &mut self,
+        all: Vec<GatheredComponent<NestedGrammar<'a>>>,
+    ) -> Result<(), OutOfMemory>
         ensures components { OnOk result (map schema_component_of self.new.components.items
             ≡ map schema_component_of self.old.components.items ++ map (λ g. g.component) (map gathered_of all.entry.items)) }
         ensures nested { OnOk result (map nested_of self.new.nested.items ≡ map nested_of self.old.nested.items ++ nested_in (map gathered_of all.entry.items)) }
@@ -232,7 +225,7 @@ impl<'a> TreeReader<'a> {
         name: Option<String>,
         method: Method,
         pattern: &'a Pattern,
-    ) -> Result<GatheredComponent<'a>, OutOfMemory>
+    ) -> Result<GatheredComponent<NestedGrammar<'a>>, OutOfMemory>
         ensures gathered { IfOk result (λ g. gathered_of g
             ≡ gathered_as (option_map (λ y. string_bytes y) name) method
             (read_at (files_in self.entry) scope.entry.levels (namespace_bytes scope.entry.uri.now) (reverse way.old.items) (pattern_of pattern.now))) }
@@ -256,79 +249,12 @@ impl<'a> TreeReader<'a> {
 /// RELAX NG Specification, section 4.7.
 pub(crate) fn replace<'a>(
     alloc: Global,
-    all: &mut Vec<GatheredComponent<'a>>,
-    mut included: Vec<GatheredComponent<'a>>,
-    mut overriding: Vec<GatheredComponent<'a>>,
+    all: &mut Vec<GatheredComponent<NestedGrammar<'a>>>,
+    included: Vec<GatheredComponent<NestedGrammar<'a>>>,
+    overriding: Vec<GatheredComponent<NestedGrammar<'a>>>,
 ) -> Result<(), OutOfMemory>
     ensures { OnOk result (map gathered_of all.new.items ≡ map gathered_of all.old.items
         ++ replaced_by (map gathered_of included.entry.items) (map gathered_of overriding.entry.items)) }
 {
-    remove_overridden(alloc, &mut included, &overriding)?;
-    all.append(&mut included)?;
-    all.append(&mut overriding)?;
-    Ok(())
-}
-
-/// Removes the included components that are overridden. Takes time linear in the number of both.
-///
-/// RELAX NG Specification, section 4.7.
-fn remove_overridden(
-    alloc: Global,
-    included: &mut Vec<GatheredComponent<'_>>,
-    overriding: &[GatheredComponent<'_>],
-) -> Result<(), OutOfMemory>
-    ensures { OnOk result (included.new.items ≡ filter (λ g. not (is_overridden (map gathered_of overriding.now) (gathered_of g))) included.old.items) }
-{
-    let names = OverridingNames::of_all(alloc, overriding)?;
-    included.retain(|component| !names.has(&component.component.name));
-    Ok(())
-}
-
-/// The names of the overriding components, and whether one of them is a start.
-#[derive(Drop)]
-struct OverridingNames<'a> {
-    defines: IndexSet<&'a str>,
-    has_start: bool,
-}
-
-impl<'a> OverridingNames<'a> {
-    /// Gathers the names of these components.
-    fn of_all(alloc: Global, overriding: &'a [GatheredComponent<'_>]) -> Result<Self, OutOfMemory>
-        ensures { IfOk result (λ names. (g : Gathered) → has_name names g.component.name ≡ is_overridden (map gathered_of overriding.now) g) }
-    {
-        let mut names = OverridingNames {
-            defines: IndexSet::new(alloc),
-            has_start: false,
-        };
-        for component in overriding {
-            names.add(&component.component.name)?;
-        }
-        Ok(names)
-    }
-
-    /// Adds the name of a component, or a start if there is no name.
-    fn add(&mut self, name: &'a Option<String>) -> Result<(), OutOfMemory>
-        ensures { OnOk result ((y : Option (List ℕ)) → has_name self.new y ≡ (has_name self.old y || same_name (option_map (λ n. string_bytes n) name.now) y)) }
-    {
-        match name {
-            Some(name) => {
-                note(&mut self.defines, name.as_str())?;
-                Ok(())
-            }
-            None => {
-                self.has_start = true;
-                Ok(())
-            }
-        }
-    }
-
-    /// Whether one of the components has this name, or is a start if there is no name.
-    fn has(&self, name: &Option<String>) -> bool
-        ensures { result ≡ has_name self.now (option_map (λ n. string_bytes n) name.now) }
-    {
-        match name {
-            Some(name) => self.defines.contains(name.as_str()),
-            None => self.has_start,
-        }
-    }
+    rng_overrides::replace(alloc, all, included, overriding)
 }

@@ -5,10 +5,12 @@ ghost use Rattle.rng_load.specs.views.GrammarParts.{AreJoined};
 ghost use Rattle.rnc_model.specs.loading.Places.{Gathered, TreePath};
 ghost use Rattle.rng_load.specs.views.GatheredComponents.{end_of, gathered_in, list_of, lists_in};
 
-use crate::gathering::{GatheredComponent, GrammarParts, replace};
+use crate::gathering::{GrammarParts, replace};
 use crate::pattern_rows::FileScope;
+use crate::reading_patterns::NestedGrammar;
 use rnc_grammar::Component;
 use rng_model::OutOfMemory;
+use rng_overrides::GatheredComponent;
 use std::alloc::Global;
 use std::mem;
 
@@ -32,14 +34,14 @@ pub(crate) enum AtEnd<'a> {
     Nothing,
     /// The list is that of an included file. The braces of its include are next, in the scope of the include.
     Braces {
-        before: Vec<GatheredComponent<'a>>,
+        before: Vec<GatheredComponent<NestedGrammar<'a>>>,
         scope: FileScope<'a>,
         overriding: &'a [Component],
     },
     /// The list is that of an include's braces. Included components of the same names are removed.
     Override {
-        before: Vec<GatheredComponent<'a>>,
-        included: Vec<GatheredComponent<'a>>,
+        before: Vec<GatheredComponent<NestedGrammar<'a>>>,
+        included: Vec<GatheredComponent<NestedGrammar<'a>>>,
     },
 }
 
@@ -47,7 +49,7 @@ pub(crate) enum AtEnd<'a> {
 /// open has what was gathered before it, and `all` has only what was gathered since.
 #[derive(Drop)]
 pub(crate) struct GatheredComponents<'a> {
-    pub all: Vec<GatheredComponent<'a>>,
+    pub all: Vec<GatheredComponent<NestedGrammar<'a>>>,
     pub open: Vec<OpenComponents<'a>>,
 }
 

@@ -1,6 +1,6 @@
 // A schema: its grammars at their places.
 ghost use Rattle.std.specs.Prelude.{◌≡◌, map, option_map};
-ghost use Rattle.rng_model.specs.schema.Schema.{IsWellPlaced};
+ghost use Rattle.rng_model.specs.plain.WellPlaced.{IsWellPlaced};
 ghost use Rattle.rng_model.specs.views.SchemaView.{place_of, schema_component_of};
 ghost use Rattle.rng_load.specs.views.PlacedGrammars.{schema_of};
 ghost use Rattle.rng_load.specs.plain.SchemaPlaces.{AreItsPlaces};
@@ -30,7 +30,7 @@ pub struct Schema {
 }
 
 impl Model for Schema {
-    ghost use Rattle.rng_model.specs.schema.Schema.{IsWellPlaced};
+    ghost use Rattle.rng_model.specs.plain.WellPlaced.{IsWellPlaced};
     ghost use Rattle.rng_load.specs.views.PlacedGrammars.{SchemaEntries, schema_of};
     ghost use Rattle.rng_model.specs.contracts.name.NameClass as classes;
     ghost use Rattle.std.specs.Coded.{codes};

@@ -4,7 +4,7 @@ use Rattle.rng_model.specs.names.Lists.{Among, here, there, first_and}
 use Rattle.rng_model.specs.names.Names.{any_except}
 use Rattle.rng_model.specs.simple.Tree as tree
 use Rattle.rng_model.specs.simple.Tree.{Datatype, Tree, choice, Simple, s_text, s_list, as_tree}
-use Rattle.rng_model.specs.datatypes.Datatypes.{IsKnownDatatype}
+use Rattle.rng_model.specs.datatypes.Datatypes.{IsKnownDatatype, type_named}
 use Rattle.rng_model.specs.schema.Patterns.{Place, Position, Point, Pattern, text, element, attribute, list, data_of, ref, parent_ref, grammar, joined, no_patterns}
 use Rattle.rng_model.specs.schema.Patterns.{pattern_tree}
 use Rattle.rng_model.specs.schema.Patterns as in_pattern
@@ -18,7 +18,7 @@ use Rattle.rng_model.specs.schema.Depth.{depth}
 use Rattle.rng_model.specs.schema.SchemaClauses as clauses
 use Rattle.rng_model.specs.schema.SchemaClauses.{BreaksClause, any_in_any, any_but_is, itself}
 use Rattle.rng_model.specs.declared.method.Method.TheVariants.{Choice, Interleave}
-use Rattle.rng_model.proofs.DatatypeExamples.{library_unknown}
+use Rattle.std.proofs.lemmas.Bool.{true≢false}
 use Rattle.rng_model.proofs.Unfolding.{not_both, one_definition}
 use Rattle.rng_model.proofs.SchemaExamples.{named, an_element_of, start, one_grammar, only_main, some_is, in_main, looping, no_tree_of_c}
 
@@ -40,7 +40,8 @@ abbrev unknown_type : Datatype
 unknown_type = record { library = codes "u"; name = codes "t"; parameters = [] }
 
 type_is_unknown : IsKnownDatatype unknown_type → ⊥
-type_is_unknown known = library_unknown (codes "t") [] (codes "t", known.0, known.1)
+unfolding type_named
+type_is_unknown known = true≢false (sym known)
 
 s12 : BreaksClause (one_grammar (start (an_element_of (codes "a") (data_of unknown_type)) ∷ [])) 12
 s12 = clauses.in_schema (clauses.in_datatype (clauses.of_data (start_written (in_pattern.in_element in_pattern.itself)) type_is_unknown))

@@ -1,15 +1,19 @@
 -- Worked examples of datatypes, which the checker computes.
-use Rattle.std.proofs.Common.{codes, pos, negsuc, ◌≡◌, refl, inl, inr, ℕ, List, [], ◌∷◌, true, false, Some, None}
+use Rattle.std.proofs.Common.{codes, pos, negsuc, ◌≡◌, refl, ℕ, List, [], ◌∷◌, true, false, Some, None}
 use Rattle.std.specs.Str.{chars}
-use Rattle.rng_model.specs.datatypes.Blanks.{collapse, pieces}
 use Rattle.rng_model.specs.simple.Tree.{Datatype}
-use Rattle.rng_model.specs.datatypes.Facets.{no_lengths, no_bounds}
+use Rattle.rng_model.specs.datatypes.Blanks.{collapse, pieces}
+use Rattle.rng_model.specs.datatypes.Facets.{Lengths, Bounds}
 use Rattle.rng_model.specs.datatypes.Numerals.{integer_of, length_of, truth_of}
+use Rattle.rng_model.specs.datatypes.Parameters.{Parameter, named, written_range}
 use Rattle.rng_model.specs.datatypes.Datatypes.{plain_string, plain_token, xsd_string, xsd_token, xsd_ncname, xsd_nmtoken, xsd_boolean, xsd_integer}
-use Rattle.rng_model.specs.datatypes.Datatypes.{xsd_uri, Parameter, is_allowed_by, are_equal_by, string_is, boolean_is}
-use Rattle.rng_model.specs.datatypes.Datatypes.{HasType, HasUnknownLibrary, HasUnknownType, HasBadParameters}
-use Rattle.rng_model.proofs.DatatypeTests.{library_is, differs, no_type, not_known, type_named-complete, type_of-sound}
-use Rattle.rng_model.specs.datatypes.DatatypeTests.{type_of, plain_type_named, xsd_type_named, type_named, written_lengths, written_bounds}
+use Rattle.rng_model.specs.datatypes.Datatypes.{xsd_uri, libraries, type_named, meaning_of, is_allowed_by, are_equal_by}
+
+abbrev no_lengths : Lengths
+no_lengths = record { least = None; greatest = None }
+
+abbrev no_bounds : Bounds
+no_bounds = record { least = None; greatest = None }
 
 -- 37 zeros and `7` write the same number as `7`; `-` with 38 nines is allowed, 39 digits are not
 pub seven : are_equal_by (xsd_integer no_bounds) (codes "00000000000000000000000000000000000007") (codes "7") ≡ true
@@ -90,47 +94,36 @@ collapsed = refl
 abbrev xsd : List ℕ → List Parameter → Datatype
 xsd name ps = record { library = xsd_uri; name = name; parameters = ps }
 
-pub bound_with_blanks : type_of (xsd (codes "integer") ((codes "minInclusive", codes " +1 ") ∷ []))
+pub bound_with_blanks : meaning_of (xsd (codes "integer") ((codes "minInclusive", codes " +1 ") ∷ []))
     ≡ Some (xsd_integer (record { least = Some (pos 1); greatest = None }))
-unfolding type_named xsd_type_named written_bounds collapse pieces integer_of
+unfolding type_named written_range collapse pieces integer_of
 bound_with_blanks = refl
 
-pub length_with_sign : type_of (xsd (codes "string") ((codes "maxLength", codes "+1") ∷ [])) ≡ None
-unfolding type_named xsd_type_named written_lengths length_of
+pub length_with_sign : meaning_of (xsd (codes "string") ((codes "maxLength", codes "+1") ∷ [])) ≡ None
+unfolding type_named written_range length_of
 length_with_sign = refl
 
-pub length_of_ten_digits : type_of (xsd (codes "string") ((codes "maxLength", codes "0000000001") ∷ [])) ≡ None
-unfolding type_named xsd_type_named written_lengths length_of
+pub length_of_ten_digits : meaning_of (xsd (codes "string") ((codes "maxLength", codes "0000000001") ∷ [])) ≡ None
+unfolding type_named written_range length_of
 length_of_ten_digits = refl
 
-pub bound_twice : type_of (xsd (codes "integer") ((codes "minInclusive", codes "1") ∷ (codes "minInclusive", codes "1") ∷ [])) ≡ None
-unfolding type_named xsd_type_named written_bounds collapse pieces integer_of
+pub bound_twice : meaning_of (xsd (codes "integer") ((codes "minInclusive", codes "1") ∷ (codes "minInclusive", codes "1") ∷ [])) ≡ None
+unfolding type_named written_range collapse pieces integer_of
 bound_twice = refl
 
 -- a literal without a type is a `token`, which takes no parameters
-pub parameter_of_token : type_of (record { library = []; name = codes "token"; parameters = (codes "minLength", codes "1") ∷ [] }) ≡ None
-unfolding type_named plain_type_named
+pub parameter_of_token : meaning_of (record { library = []; name = codes "token"; parameters = (codes "minLength", codes "1") ∷ [] }) ≡ None
+unfolding type_named
 parameter_of_token = refl
 
--- ---- by the definitions
+-- no library has the URI `u`, no type of this library is named `decimal`, and `boolean` takes no length
+pub library_unknown : named (codes "u") libraries ≡ None
+library_unknown = refl
 
--- the bound that the parameter writes is the type's
-pub integer_from_one : HasType (xsd (codes "integer") ((codes "minInclusive", codes " +1 ") ∷ []))
-    (xsd_integer (record { least = Some (pos 1); greatest = None }))
-integer_from_one = type_of-sound _ _ bound_with_blanks
+pub type_unknown : type_named xsd_uri (codes "decimal") ≡ None
+unfolding type_named
+type_unknown = refl
 
--- no library has the URI `u`, so its types do not matter
-pub library_unknown : (name : List ℕ) (ps : List Parameter) → HasUnknownLibrary (record { library = codes "u"; name = name; parameters = ps })
-library_unknown name ps known =
-    elim (library_is known.2) [ inl is ↦ differs (codes "u") [] refl is | inr is ↦ differs (codes "u") xsd_uri refl is ]
-
--- no type of this library is named `decimal`, so its parameters do not matter
-pub type_unknown : (ps : List Parameter) → HasUnknownType (xsd (codes "decimal") ps)
-unfolding type_named xsd_type_named
-type_unknown ps = ((codes "string", xsd_string no_lengths, string_is refl refl), λ known. no_type (type_named-complete known.1))
-
--- `boolean` takes no length
-pub parameter_bad : HasBadParameters (xsd (codes "boolean") ((codes "minLength", codes "1") ∷ []))
-unfolding type_named xsd_type_named
-parameter_bad =
-    ((xsd_boolean, boolean_is refl refl), λ known. not_known (xsd (codes "boolean") ((codes "minLength", codes "1") ∷ [])) refl known)
+pub parameter_bad : meaning_of (xsd (codes "boolean") ((codes "minLength", codes "1") ∷ [])) ≡ None
+unfolding type_named
+parameter_bad = refl

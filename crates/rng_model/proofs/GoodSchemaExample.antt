@@ -6,9 +6,9 @@ use Rattle.std.proofs.lemmas.List.Elements.{All-nil, All-cons, All-contains, Con
 use Rattle.rng_model.specs.names.Lists.{Among, here, there, HasTwo, first_and, both_later}
 use Rattle.rng_model.specs.names.Names.{Name, NameClass, name_is}
 use Rattle.rng_model.specs.simple.Tree as tree
-use Rattle.rng_model.specs.simple.Tree.{Datatype, Tree, group, interleave, choice, Simple, s_not_allowed, s_empty, s_text, s_leaf, s_attribute, s_list}
+use Rattle.rng_model.specs.simple.Tree.{Tree, group, interleave, choice, Simple, s_not_allowed, s_empty, s_text, s_leaf, s_attribute, s_list}
 use Rattle.rng_model.specs.simple.Tree.{s_data, s_data_except, s_value, s_one_or_more, s_joined, as_tree}
-use Rattle.rng_model.specs.simple.Table.{Grammar}
+use Rattle.rng_model.specs.simple.Grammar.{Grammar}
 use Rattle.rng_model.specs.simple.Leaves.{renamed, LeafIn}
 use Rattle.rng_model.specs.simple.ClassSteps.{ClassStep, ClassSteps, IsSimpleClassOf}
 use Rattle.rng_model.specs.simple.ClassSteps as class_steps
@@ -27,6 +27,8 @@ use Rattle.rng_model.specs.schema.Depth.{depth, class_depth}
 use Rattle.rng_model.specs.simple.SchemaForm.{Element, IsElementOf, SimpleForm, IsSimpleFormOfSchema, IsSimpleGrammarOf}
 use Rattle.rng_model.specs.schema.SchemaClauses as clauses
 use Rattle.rng_model.specs.schema.SchemaClauses.{BreaksClause, BreaksNoClause}
+use Rattle.rng_model.specs.simple.Inside as inside_of
+use Rattle.rng_model.specs.restrictions.Paths as paths
 use Rattle.rng_model.specs.restrictions.Restrictions as restrictions
 use Rattle.rng_model.specs.declared.method.Method.TheVariants.{Choice}
 use Rattle.rng_model.proofs.SimpleTrees.{same_simple}
@@ -336,32 +338,39 @@ module _ {g : Grammar} (is : IsSimpleGrammarOf good g) where
   bare_part (restrictions.a_body i) = subst IsBare (sym (bare_body i)) nothing
 
 -- a bare pattern has nothing inside except itself
-stands_alone : {p q : Simple ℕ} → IsBare p → restrictions.StandsIn q p → IsBare q
-stands_alone an_element restrictions.itself = an_element
-stands_alone nothing restrictions.itself = nothing
+alone : {P : inside_of.Kind → Type 0} {p q : Simple ℕ} → IsBare p → inside_of.Through P q p → IsBare q
+alone an_element inside_of.itself = an_element
+alone nothing inside_of.itself = nothing
+alone an_element (inside_of.below such child w) = elim child [ ]
+alone nothing (inside_of.below such child w) = elim child [ ]
 
-unrepeated_alone : {p q : Simple ℕ} → IsBare p → restrictions.StandsUnrepeated q p → IsBare q
-unrepeated_alone an_element restrictions.unrepeated_itself = an_element
-unrepeated_alone nothing restrictions.unrepeated_itself = nothing
+nothing_inside : {p q : Simple ℕ} → IsBare p → ¬ (inside_of.Inside q p)
+nothing_inside an_element i = elim i.1 [ ]
+nothing_inside nothing i = elim i.1 [ ]
 
-no_attribute_kind : {p : Simple ℕ} → IsBare p → ¬ (restrictions.kind_of p ≡ restrictions.attribute_kind)
-no_attribute_kind an_element e = cc
-no_attribute_kind nothing e = cc
+-- each path has two kinds or more
+no_path : {p : Simple ℕ} {clause : ℕ} → IsBare p → ¬ (paths.HasProhibited clause p)
+no_path bare (_, paths.attribute_ref, h) = nothing_inside (alone bare h.1) h.3.1
+no_path bare (_, paths.attribute_attribute, h) = nothing_inside (alone bare h.1) h.3.1
+no_path bare (_, paths.repeated_group_attribute, h) = nothing_inside (alone bare h.1) h.3.1
+no_path bare (_, paths.repeated_interleave_attribute, h) = nothing_inside (alone bare h.1) h.3.1
+no_path bare (_, paths.list_list, h) = nothing_inside (alone bare h.1) h.3.1
+no_path bare (_, paths.list_ref, h) = nothing_inside (alone bare h.1) h.3.1
+no_path bare (_, paths.list_attribute, h) = nothing_inside (alone bare h.1) h.3.1
+no_path bare (_, paths.list_text, h) = nothing_inside (alone bare h.1) h.3.1
+no_path bare (_, paths.list_interleave, h) = nothing_inside (alone bare h.1) h.3.1
+no_path bare (_, paths.data_attribute, h) = nothing_inside (alone bare h.1) h.3.1
+no_path bare (_, paths.data_ref, h) = nothing_inside (alone bare h.1) h.3.1
+no_path bare (_, paths.data_text, h) = nothing_inside (alone bare h.1) h.3.1
+no_path bare (_, paths.data_list, h) = nothing_inside (alone bare h.1) h.3.1
+no_path bare (_, paths.data_group, h) = nothing_inside (alone bare h.1) h.3.1
+no_path bare (_, paths.data_interleave, h) = nothing_inside (alone bare h.1) h.3.1
+no_path bare (_, paths.data_one_or_more, h) = nothing_inside (alone bare h.1) h.3.1
+no_path bare (_, paths.data_empty, h) = nothing_inside (alone bare h.1) h.3.1
 
-no_list_kind : {p : Simple ℕ} → IsBare p → ¬ (restrictions.kind_of p ≡ restrictions.list_kind)
-no_list_kind an_element e = cc
-no_list_kind nothing e = cc
-
-no_repeated_kind : {p : Simple ℕ} → IsBare p → ¬ (restrictions.kind_of p ≡ restrictions.one_or_more_kind)
-no_repeated_kind an_element e = cc
-no_repeated_kind nothing e = cc
-
-may_start : {p : Simple ℕ} → IsBare p → ¬ (restrictions.BarredFromStart (restrictions.kind_of p))
-may_start an_element b = elim b [ ]
-may_start nothing b = elim b [ ]
-
-no_except_in : {d : Datatype} {p : Simple ℕ} → ¬ (IsBare (s_data_except d p))
-no_except_in b = elim b [ ]
+no_prohibited_kind : {p : Simple ℕ} {k : inside_of.Kind} → IsBare p → inside_of.kind_of p ≡ k → ¬ (paths.IsProhibitedInStart k)
+no_prohibited_kind an_element e b = elim (subst paths.IsProhibitedInStart (sym e) b) [ ]
+no_prohibited_kind nothing e b = elim (subst paths.IsProhibitedInStart (sym e) b) [ ]
 
 no_joined : {k : tree.Connector} {p q : Simple ℕ} → ¬ (IsBare (s_joined k p q))
 no_joined b = elim b [ ]
@@ -370,16 +379,13 @@ no_attribute_in : {c : NameClass} {p : Simple ℕ} → ¬ (IsBare (s_attribute c
 no_attribute_in b = elim b [ ]
 
 keeps_restrictions : {g : Grammar} {clause : ℕ} → IsSimpleGrammarOf good g → ¬ (restrictions.BreaksRestriction g clause)
-keeps_restrictions is (restrictions.in_attribute_of i b) = no_attribute_kind (stands_alone (bare_part is i) b.stands) b.is_attribute
-keeps_restrictions is (restrictions.in_one_or_more_of i b) = no_repeated_kind (stands_alone (bare_part is i) b.stands) b.is_repeated
-keeps_restrictions is (restrictions.in_list_of i b) = no_list_kind (stands_alone (bare_part is i) b.stands) b.is_list
-keeps_restrictions is (restrictions.in_except_of i b) = no_except_in (stands_alone (bare_part is i) b.stands)
-keeps_restrictions is (restrictions.in_start b) = may_start (stands_alone (bare_start is) b.inside) b.barred
+keeps_restrictions is (restrictions.in_path i b) = no_path (bare_part is i) b
+keeps_restrictions is (restrictions.in_start b) = no_prohibited_kind (alone (bare_start is) b.2.1) b.2.2 b.1
 keeps_restrictions is (restrictions.in_content i b) = b.not_whole (bare_body is i)
-keeps_restrictions is (restrictions.in_attribute_names i b) = no_joined (stands_alone (bare_part is i) b.stands)
-keeps_restrictions is (restrictions.in_wildcard i b) = no_attribute_in (unrepeated_alone (bare_part is i) b.stands)
-keeps_restrictions is (restrictions.in_element_names i b) = no_joined (stands_alone (bare_part is i) b.stands)
-keeps_restrictions is (restrictions.in_text i b) = no_joined (stands_alone (bare_part is i) b.stands)
+keeps_restrictions is (restrictions.in_attribute_names i b) = no_joined (alone (bare_part is i) b.stands)
+keeps_restrictions is (restrictions.in_wildcard i b) = no_attribute_in (alone (bare_part is i) b.stands)
+keeps_restrictions is (restrictions.in_element_names i b) = no_joined (alone (bare_part is i) b.stands)
+keeps_restrictions is (restrictions.in_text i b) = no_joined (alone (bare_part is i) b.stands)
 
 -- ---- no clause is broken
 

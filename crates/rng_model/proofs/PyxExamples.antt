@@ -12,18 +12,16 @@ use Rattle.rng_model.specs.names.Characters.{is_ncname, is_xml_char}
 use Rattle.rng_model.specs.matching.Document.{Attribute}
 use Rattle.rng_model.specs.documents.Lines.{Line, lines, line_limit}
 use Rattle.rng_model.specs.matching.WellFormed.{Distinct, none, one_more, another_name, nothing_named}
-use Rattle.rng_model.specs.documents.PyxLines.{IsNcname, IsName, alone, prefixed, StandsFor, at_end, itself, Said, WrittenName, start, attribute, text, end, instruction}
+use Rattle.rng_model.specs.documents.PyxLines.{IsNcnameText, IsName, alone, prefixed, StandsFor, at_end, itself, Said, WrittenName, start, attribute, text, end, instruction}
 use Rattle.rng_model.specs.documents.PyxLines.{Says, says_start, says_attribute, says_text, says_end, says_instruction, IsGoodLine, AreGoodLines, no_lines, line_and}
-use Rattle.rng_model.specs.documents.PyxLines.{too_long, within as within_limit}
 use Rattle.rng_model.specs.documents.PyxNamespaces.{none_written, written_and, WrittenAttribute, nothing as parted_nothing, declaration, other, Declares}
 use Rattle.rng_model.specs.documents.PyxNamespaces.{default_namespace}
-use Rattle.rng_model.specs.documents.PyxNamespaces.{prefix_declared, DeclaresNothing, Declaration, IsForbidden, of_xmlns_uri, of_xmlns, of_nothing, xml_as_another}
+use Rattle.rng_model.specs.documents.PyxNamespaces.{prefix_declared, DeclaresNothing, NamespaceDeclaration, IsForbidden, of_xmlns_uri, of_xmlns, of_nothing, xml_as_another}
 use Rattle.rng_model.specs.documents.PyxNamespaces.{another_as_xml, xml_uri, xmlns_uri, xmlns, HasNamespace, declared_here, xml_beforehand, no_default}
-use Rattle.rng_model.specs.documents.PyxNamespaces.{declared_outside, IsUndeclared, Scope}
+use Rattle.rng_model.specs.documents.PyxNamespaces.{declared_outside, HasNoNamespace, NamespaceScope}
 use Rattle.rng_model.specs.documents.PyxNamespaces.{element_name, with_prefix, none_left, expanded_and}
 use Rattle.rng_model.specs.documents.PyxFaults.{HasKind, nothing}
-use Rattle.rng_model.specs.documents.PyxClauses.{BreaksHere, alone as alone_broken, no_tag, none_to_end, other_name, text_outside, second_root, attributes, elements}
-use Rattle.rng_model.specs.documents.PyxClauses.{joined_text}
+use Rattle.rng_model.specs.documents.PyxClauses.{BreaksHere, too_long, within as within_limit}
 use Rattle.rng_model.specs.documents.PyxClauses.{BeginsOtherwise, none_open, SaysTag, no_tags, EndsWithTag, element_prefix, namespaces, expanded_twice, repeated_name}
 use Rattle.rng_model.specs.documents.PyxClauses.{Breaks, at_line}
 use Rattle.rng_model.specs.documents.PyxTrees as trees
@@ -49,7 +47,7 @@ good bytes within utf8 characters says = record {
   says = says;
 }
 
-pub is_name : (written : List ℕ) → is_utf8 written ≡ true → is_ncname (chars written) ≡ true → IsNcname written
+pub is_name : (written : List ℕ) → is_utf8 written ≡ true → is_ncname (chars written) ≡ true → IsNcnameText written
 is_name written utf8 ncname = record { utf8 = IsUtf8-from_is_utf8 written utf8; ncname = ncname }
 
 -- a text without a backslash means itself
@@ -155,7 +153,7 @@ p_is_declared = declared_here here
 
 u_is_allowed : IsForbidden (record { prefix = Some (codes "p"); uri = codes "u" }) → ⊥
 u_is_allowed forbidden = refuses forbidden refl refl where
-  refuses : {d : Declaration} → IsForbidden d → d.prefix ≡ Some (codes "p") → d.uri ≡ codes "u" → ⊥
+  refuses : {d : NamespaceDeclaration} → IsForbidden d → d.prefix ≡ Some (codes "p") → d.uri ≡ codes "u" → ⊥
   refuses (of_xmlns_uri e) p u = let bad : length (codes "u") ≡ length xmlns_uri = ap length (sym u ∙ e) in absurd (omega (arith, bad))
   refuses (of_xmlns e) p u = let bad : prefix_size (Some (codes "p")) ≡ prefix_size (Some xmlns) = ap prefix_size (sym p ∙ e) in absurd (omega (arith, bad))
   refuses (of_nothing q e) p u = let bad : length (codes "u") ≡ 0 = ap length (sym u ∙ e) in absurd (omega (arith, bad))
@@ -218,7 +216,7 @@ x_declares_nothing p declares = elim (declaring_size declares) [
   | inr e ↦ absurd (omega (arith, e))
 ]
 
-p_is_undeclared : IsUndeclared ([] ∷ []) (codes "p")
+p_is_undeclared : HasNoNamespace ([] ∷ []) (codes "p")
 p_is_undeclared uri found = refuses found refl where
   beforehand : {q : Option (List ℕ)} {uri : List ℕ} → HasNamespace [] q uri → q ≡ Some (codes "p") → ⊥
   beforehand xml_beforehand e = let bad : prefix_size (Some (codes "xml")) ≡ prefix_size (Some (codes "p")) = ap prefix_size e in absurd (omega (arith, bad))
@@ -267,8 +265,9 @@ ends_with_the_tag = record {
 
 undeclared_breaks : Breaks undeclared (record { clause = 11; line = 2 })
 undeclared_breaks = at_line {before = whole (codes "(p:a") ∷ []} {behind = whole (codes ")p:a") ∷ []} (whole (codes "Ax 1")) refl refl
+    (within_limit (leb-true (length (codes "Ax 1")) line_limit refl)
     (namespaces ends_with_the_tag (begins_otherwise 65 41 (codes "p:a") [] (λ e. absurd (omega (arith, e))))
-    (element_prefix (other x_declares_nothing parted_nothing) refl p_is_undeclared))
+    (element_prefix (other x_declares_nothing parted_nothing) refl p_is_undeclared)))
 
 -- ---- two attributes with one expanded name: P12 at the last line of the tag
 
@@ -347,52 +346,14 @@ not_distinct (one_more (another_name differs none_named) rest) e = differs e
 one_name_twice_breaks : Breaks one_name_twice (record { clause = 12; line = 5 })
 one_name_twice_breaks = at_line {before = whole (codes "(a") ∷ whole (codes "Axmlns:p u") ∷ whole (codes "Axmlns:q u") ∷ whole (codes "Ap:x 1") ∷ []}
     {behind = whole (codes ")a") ∷ []} (whole (codes "Aq:x 2")) refl refl
+    (within_limit (leb-true (length (codes "Aq:x 2")) line_limit refl)
     (repeated_name ends_with_four (begins_otherwise 65 41 (codes "a") [] (λ e. absurd (omega (arith, e))))
     (expanded_twice (declaration prefix_declared (declaration prefix_declared (other px_declares_nothing (other qx_declares_nothing parted_nothing))))
     (expanded_and (with_prefix (declared_here here)) (expanded_and (with_prefix (declared_here (there here))) none_left))
-    (λ distinct. not_distinct distinct refl)))
+    (λ distinct. not_distinct distinct refl))))
 
 -- ---- a line that is too long breaks only P10
 
-last_of : List Line → Option Line
-last_of [] = None
-last_of (l ∷ []) = Some l
-last_of (l ∷ m ∷ ls) = last_of (m ∷ ls)
-
-same_last : (front : List Line) (l : Line) (ls : List Line) → last_of (front ++ l ∷ ls) ≡ last_of (l ∷ ls)
-unfolding last_of
-same_last [] l ls = refl
-same_last (a ∷ []) l ls = refl
-same_last (a ∷ b ∷ front) l ls = same_last (b ∷ front) l ls
-
-IsWithin : Option Line → Type 0
-IsWithin None = Unit {0}
-IsWithin (Some l) = length l.bytes ≤ line_limit
-
-last_is_within : {l : Line} {ls : List Line} {first : Said} {said : List Said} → IsGoodLine l first → AreGoodLines ls said → IsWithin (last_of (l ∷ ls))
-unfolding last_of IsWithin
-last_is_within good_line no_lines = good_line.within
-last_is_within good_line (line_and next more) = last_is_within next more
-
--- so a line that ends a tag is not too long, if the lines of the tag have a meaning
-tag_is_within : (before : List Line) (l : Line) {outer : Scope} {name : WrittenName} {written : List WrittenAttribute} →
-    EndsWithTag (before ++ l ∷ []) outer name written → length l.bytes ≤ line_limit
-unfolding last_of IsWithin
-tag_is_within before l tag =
-    let same : last_of (before ++ l ∷ []) ≡ last_of (tag.ends.front ++ tag.ends.tag ∷ tag.ends.others) = ap last_of tag.ends.parts in
-    let last : Some l ≡ last_of (tag.ends.tag ∷ tag.ends.others) = sym (same_last before l []) ∙ same ∙ same_last tag.ends.front tag.ends.tag tag.ends.others in
-    subst IsWithin (sym last) (last_is_within tag.says.first tag.says.attributes)
-
 too_long_breaks_one : {before behind : List Line} {l : Line} {clause : ℕ} → line_limit < length l.bytes → BreaksHere before l behind clause → clause ≡ 10
-too_long_breaks_one long (alone_broken (within_limit short broken)) = absurd (omega (arith, long, short))
-too_long_breaks_one long (alone_broken (too_long more)) = refl
-too_long_breaks_one long (no_tag short kind none_open_tag) = absurd (omega (arith, long, short))
-too_long_breaks_one long (none_to_end short kind opened) = absurd (omega (arith, long, short))
-too_long_breaks_one long (other_name short is opened first differs) = absurd (omega (arith, long, short))
-too_long_breaks_one long (text_outside short kind opened) = absurd (omega (arith, long, short))
-too_long_breaks_one long (second_root front rest root short kind opened parts kind_of_root) = absurd (omega (arith, long, short))
-too_long_breaks_one long (attributes kind tag many) = refl
-too_long_breaks_one long (elements kind opened many) = refl
-too_long_breaks_one long (joined_text ends many) = refl
-too_long_breaks_one long (namespaces tag last broken) = let short = tag_is_within _ _ tag in absurd (omega (arith, long, short))
-too_long_breaks_one long (repeated_name tag last broken) = let short = tag_is_within _ _ tag in absurd (omega (arith, long, short))
+too_long_breaks_one long (too_long more) = refl
+too_long_breaks_one long (within_limit short broken) = absurd (omega (arith, long, short))

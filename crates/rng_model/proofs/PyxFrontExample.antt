@@ -9,13 +9,13 @@ use Rattle.rng_model.specs.documents.Lines.{Line}
 use Rattle.rng_model.specs.matching.WellFormed.{Distinct, none}
 use Rattle.rng_model.specs.documents.PyxFaults.{HasKind}
 use Rattle.rng_model.specs.documents.PyxLines as lines
-use Rattle.rng_model.specs.documents.PyxLines.{WrittenName, IsName, Said, start, says_start, Says, IsGoodLine, AreGoodLines, BreaksWithin}
-use Rattle.rng_model.specs.documents.PyxNamespaces.{WrittenAttribute, AreWritten, none_written, AreParted, Declaration, Scope, AreExpanded, none_left}
+use Rattle.rng_model.specs.documents.PyxLines.{WrittenName, IsName, Said, start, says_start, Says, IsGoodLine, AreGoodLines, BreaksAlone}
+use Rattle.rng_model.specs.documents.PyxNamespaces.{WrittenAttribute, AreWritten, none_written, AreParted, NamespaceDeclaration, NamespaceScope, AreExpanded, none_left}
 use Rattle.rng_model.specs.documents.PyxNamespaces as namespaces
 use Rattle.rng_model.specs.documents.PyxTrees.{IsRun, no_run}
 use Rattle.rng_model.specs.documents.PyxTrees as trees
 use Rattle.rng_model.specs.documents.PyxClauses as clauses
-use Rattle.rng_model.specs.documents.PyxClauses.{BreaksHere, BreaksNamespaces, RepeatsName, EndsInText, EndsWithTag, AreOpenTags, Tag, Breaks, IsFront}
+use Rattle.rng_model.specs.documents.PyxClauses.{BreaksBetween, BreaksHere, BreaksNamespaces, RepeatsName, EndsInText, EndsWithTag, AreOpenTags, Tag, Breaks, IsFront}
 use Rattle.rng_model.proofs.PyxExamples.{whole, good, a_is_a_name, first_of}
 
 abbrev the_line : Line
@@ -35,7 +35,7 @@ no_kind k differs kind = differs (other_kind kind.1)
 name_behind : {rest : List ℕ} → codes "(a" ≡ 40 ∷ rest → rest ≡ codes "a"
 name_behind e = cc
 
-breaks_nothing_alone : {clause : ℕ} → ¬ (BreaksWithin the_line clause)
+breaks_nothing_alone : {clause : ℕ} → ¬ (BreaksAlone the_line clause)
 breaks_nothing_alone (lines.unended e) = cc
 breaks_nothing_alone (lines.no_utf8 f) = f says_a.utf8
 breaks_nothing_alone (lines.no_xml_char u f) = f says_a.characters
@@ -90,14 +90,14 @@ without_a_prefix e (lines.prefixed {prefix = p} {local = l} i j f) = absurd (no_
 name_of_tag : {bytes : List ℕ} {name : WrittenName} → bytes ≡ codes "(a" → Says bytes (start name) → name.prefix ≡ None
 name_of_tag e (says_start i) = without_a_prefix (name_behind (sym e)) i
 
-nothing_declared : {ds : List Declaration} {others : List WrittenAttribute} → AreParted [] ds others → (ds ≡ []) × (others ≡ [])
+nothing_declared : {ds : List NamespaceDeclaration} {others : List WrittenAttribute} → AreParted [] ds others → (ds ≡ []) × (others ≡ [])
 nothing_declared namespaces.nothing = (refl, refl)
 
-no_namespace_broken : {outer : Scope} {name : WrittenName} → name.prefix ≡ None → ¬ (BreaksNamespaces outer name [])
+no_namespace_broken : {outer : NamespaceScope} {name : WrittenName} → name.prefix ≡ None → ¬ (BreaksNamespaces outer name [])
 no_namespace_broken e (clauses.forbidden p i f) = among_none (nothing_declared p).0 i where
-  among_none : {d : Declaration} {ds : List Declaration} → ds ≡ [] → ¬ (Among d ds)
+  among_none : {d : NamespaceDeclaration} {ds : List NamespaceDeclaration} → ds ≡ [] → ¬ (Among d ds)
   among_none e i = elim_none (subst (Among _) e i) where
-    elim_none : {d : Declaration} → ¬ (Among d [])
+    elim_none : {d : NamespaceDeclaration} → ¬ (Among d [])
     elim_none i = elim i [ ]
 no_namespace_broken e (clauses.element_prefix p f u) = cc
 no_namespace_broken e (clauses.attribute_prefix p i f u) = among_none (nothing_declared p).1 i where
@@ -106,10 +106,10 @@ no_namespace_broken e (clauses.attribute_prefix p i f u) = among_none (nothing_d
     elim_none : {a : WrittenAttribute} → ¬ (Among a [])
     elim_none i = elim i [ ]
 
-no_name_repeated : {outer : Scope} → ¬ (RepeatsName outer [])
+no_name_repeated : {outer : NamespaceScope} → ¬ (RepeatsName outer [])
 no_name_repeated (clauses.written_twice h) = elim h [ ]
 no_name_repeated (clauses.expanded_twice p x d) = d (all_distinct (nothing_declared p).1 x) where
-  all_distinct : {scope : Scope} {others : List WrittenAttribute} {attrs : List Attribute} → others ≡ [] → AreExpanded scope others attrs → Distinct attrs
+  all_distinct : {scope : NamespaceScope} {others : List WrittenAttribute} {attrs : List Attribute} → others ≡ [] → AreExpanded scope others attrs → Distinct attrs
   all_distinct e none_left = none
   all_distinct e (namespaces.expanded_and n x) = absurd (not_none e) where
     not_none : {a : WrittenAttribute} {as_ : List WrittenAttribute} → a ∷ as_ ≡ [] → ⊥
@@ -119,7 +119,7 @@ nothing_written : {said : List Said} {written : List WrittenAttribute} → AreGo
 nothing_written lines.no_lines none_written = refl
 
 -- the tag is only this line, and its name has no prefix
-module _ {outer : Scope} {name : WrittenName} {written : List WrittenAttribute} (ends : EndsWithTag (the_line ∷ []) outer name written) where
+module _ {outer : NamespaceScope} {name : WrittenName} {written : List WrittenAttribute} (ends : EndsWithTag (the_line ∷ []) outer name written) where
   parts_of_tag : IsAlone ends.ends.front ends.ends.others the_line ends.ends.tag
   parts_of_tag = cut_about the_line ends.ends.tag ends.ends.front ends.ends.others ends.ends.parts
 
@@ -143,19 +143,22 @@ text_length front (l ∷ ls) e (lines.line_and {said = s} g gs) r =
 
 -- ---- the front
 
+breaks_nothing_between : {clause : ℕ} → ¬ (BreaksBetween [] the_line [] clause)
+breaks_nothing_between (clauses.alone b) = breaks_nothing_alone b
+breaks_nothing_between (clauses.no_tag k f) = no_kind 65 (λ e. omega (arith, e)) k
+breaks_nothing_between (clauses.none_to_end k o) = no_kind 41 (λ e. omega (arith, e)) k
+breaks_nothing_between (clauses.other_name e o f d) = none_is_open o
+breaks_nothing_between (clauses.text_outside k o) = no_kind 45 (λ e. omega (arith, e)) k
+breaks_nothing_between (clauses.second_root front rest root k o e h) = nothing_before root front rest e
+breaks_nothing_between (clauses.attributes k t m) = no_kind 65 (λ e. omega (arith, e)) k
+breaks_nothing_between (clauses.elements k o m) = let n = few_are_open o in omega (arith, n, m)
+breaks_nothing_between (clauses.joined_text t m) = let n = text_length t.front t.run t.parts t.good t.is_run in omega (arith, n, m)
+breaks_nothing_between (clauses.namespaces t o b) = no_namespace_broken (no_prefix t) (subst (BreaksNamespaces _ _) (no_attributes t) b)
+breaks_nothing_between (clauses.repeated_name t o b) = no_name_repeated (subst (RepeatsName _) (no_attributes t) b)
+
 breaks_nothing_here : {clause : ℕ} → ¬ (BreaksHere [] the_line [] clause)
-breaks_nothing_here (clauses.alone (lines.within w b)) = breaks_nothing_alone b
-breaks_nothing_here (clauses.alone (lines.too_long d)) = omega (arith, d)
-breaks_nothing_here (clauses.no_tag w k f) = no_kind 65 (λ e. omega (arith, e)) k
-breaks_nothing_here (clauses.none_to_end w k o) = no_kind 41 (λ e. omega (arith, e)) k
-breaks_nothing_here (clauses.other_name w e o f d) = none_is_open o
-breaks_nothing_here (clauses.text_outside w k o) = no_kind 45 (λ e. omega (arith, e)) k
-breaks_nothing_here (clauses.second_root front rest root w k o e h) = nothing_before root front rest e
-breaks_nothing_here (clauses.attributes k t m) = no_kind 65 (λ e. omega (arith, e)) k
-breaks_nothing_here (clauses.elements k o m) = let n = few_are_open o in omega (arith, n, m)
-breaks_nothing_here (clauses.joined_text t m) = let n = text_length t.front t.run t.parts t.good t.is_run in omega (arith, n, m)
-breaks_nothing_here (clauses.namespaces t o b) = no_namespace_broken (no_prefix t) (subst (BreaksNamespaces _ _) (no_attributes t) b)
-breaks_nothing_here (clauses.repeated_name t o b) = no_name_repeated (subst (RepeatsName _) (no_attributes t) b)
+breaks_nothing_here (clauses.too_long d) = omega (arith, d)
+breaks_nothing_here (clauses.within w b) = breaks_nothing_between b
 
 pub is_front : IsFront (the_line ∷ [])
 is_front f (clauses.at_line {before = before} {behind = behind} l e n b) = absurd (moved (cut_about the_line l before behind e) b) where

@@ -1,16 +1,19 @@
 -- Small grammars in the simple syntax that each break one restriction.
-use Rattle.std.proofs.Common.{ℕ, List, [], ◌∷◌, codes, inl, refl}
+use Rattle.std.proofs.Common.{ℕ, List, [], ◌∷◌, codes, refl}
 use Rattle.std.proofs.lemmas.Str.{IsUtf8-from_is_utf8}
 use Rattle.std.specs.Str.{chars, is_utf8}
 use Rattle.rng_model.specs.names.Lists.{here}
 use Rattle.rng_model.specs.names.Names.{Name, NameClass, any_name, name_is, Overlap}
 use Rattle.rng_model.specs.simple.Tree as tree
 use Rattle.rng_model.specs.simple.Tree.{Datatype, Simple, s_empty, s_text, s_leaf, s_attribute, s_list, s_data, s_data_except, s_value, s_one_or_more, s_joined}
-use Rattle.rng_model.specs.simple.Table.{Grammar}
+use Rattle.rng_model.specs.simple.Grammar.{Grammar}
+use Rattle.rng_model.specs.simple.Inside.{itself, of_list, of_attribute, of_except, of_one_or_more, of_left}
+use Rattle.rng_model.specs.restrictions.Paths.{attribute_attribute, repeated_group_attribute, list_text, data_empty, start_text}
+use Rattle.rng_model.specs.restrictions.ContentTypes.{HasContent, of_both, of_text, of_value, ContentType}
+use Rattle.rng_model.specs.restrictions.ContentTypes.{grouped}
+use Rattle.rng_model.specs.restrictions.Occurrences.{any}
 use Rattle.rng_model.specs.restrictions.Restrictions as restrictions
-use Rattle.rng_model.specs.restrictions.Restrictions.{itself, in_left, inside_attribute, inside_list, inside_left, inside_one_or_more, unrepeated_itself, occurs_itself}
-use Rattle.rng_model.specs.restrictions.Restrictions.{attribute_in_attribute, text_in_list, empty_in_except, text_in_start, any, interleaved, grouped, BreaksRestriction}
-use Rattle.rng_model.specs.restrictions.Restrictions.{HasContent, of_both, of_text, of_value, AreGroupable, IsNoChoice, ContentType, complex_content, simple_content}
+use Rattle.rng_model.specs.restrictions.Restrictions.{BreaksRestriction}
 
 abbrev plain : List ℕ → Name
 plain local = record { ns = []; local = local }
@@ -34,54 +37,27 @@ x_twice = (plain (codes "x"), (IsUtf8-from_is_utf8 [] refl, IsUtf8-from_is_utf8 
 
 -- `element a { attribute x { attribute x { text } } }`
 s18 : BreaksRestriction (one_element (s_attribute (named (codes "x")) attribute_x)) 18
-s18 = restrictions.in_attribute_of (restrictions.a_body here) (record {
-  outer = s_attribute (named (codes "x")) attribute_x;
-  inner = attribute_x;
-  stands = itself;
-  is_attribute = refl;
-  inside = inside_attribute itself;
-  barred = attribute_in_attribute;
-})
+s18 = restrictions.in_path (restrictions.a_body here) (_, attribute_attribute, (_, itself, refl, (attribute_x, (_, of_attribute, itself), refl, tt)))
 
 -- `element a { (attribute x { text }, text)+ }`
 s19 : BreaksRestriction (one_element (s_one_or_more (s_joined tree.group attribute_x s_text))) 19
-s19 = restrictions.in_one_or_more_of (restrictions.a_body here) (record {
-  repeated = s_one_or_more (s_joined tree.group attribute_x s_text);
-  between = s_joined tree.group attribute_x s_text;
-  inner = attribute_x;
-  stands = itself;
-  is_repeated = refl;
-  inside = inside_one_or_more itself;
-  is_between = inl refl;
-  deeper = inside_left itself;
-  is_attribute = refl;
-})
+s19 = restrictions.in_path (restrictions.a_body here) (
+  _,
+  repeated_group_attribute,
+  (_, itself, refl, (s_joined tree.group attribute_x s_text, (_, of_one_or_more, itself), refl, (attribute_x, (_, of_left, itself), refl, tt))),
+)
 
 -- `element a { list { text } }`
 s20 : BreaksRestriction (one_element (s_list s_text)) 20
-s20 = restrictions.in_list_of (restrictions.a_body here) (record {
-  outer = s_list s_text;
-  inner = s_text;
-  stands = itself;
-  is_list = refl;
-  inside = inside_list itself;
-  barred = text_in_list;
-})
+s20 = restrictions.in_path (restrictions.a_body here) (_, list_text, (_, itself, refl, (s_text, (_, of_list, itself), refl, tt)))
 
 -- `element a { token - empty }`
 s21 : BreaksRestriction (one_element (s_data_except token_type s_empty)) 21
-s21 = restrictions.in_except_of (restrictions.a_body here) (record {
-  datatype = token_type;
-  except = s_empty;
-  inner = s_empty;
-  stands = itself;
-  inside = itself;
-  barred = empty_in_except;
-})
+s21 = restrictions.in_path (restrictions.a_body here) (_, data_empty, (_, itself, refl, (s_empty, (_, of_except, itself), refl, tt)))
 
 -- `text`
 s22 : BreaksRestriction (record { start = s_text; elements = [] }) 22
-s22 = restrictions.in_start (record { inner = s_text; inside = itself; barred = text_in_start })
+s22 = restrictions.in_start (_, start_text, (s_text, itself, refl, tt))
 
 -- `element a { text, "x" }`
 abbrev text_and_value : Simple ℕ
@@ -105,14 +81,14 @@ s24 = restrictions.in_attribute_names (restrictions.a_body here) (record {
   first_body = s_text;
   second_class = named (codes "x");
   second_body = s_text;
-  occurs_left = occurs_itself;
-  occurs_right = occurs_itself;
+  occurs_left = itself;
+  occurs_right = itself;
   overlap = x_twice;
 })
 
 -- `element a { attribute * { text } }`
 s25 : BreaksRestriction (one_element (s_attribute any_name s_text)) 25
-s25 = restrictions.in_wildcard (restrictions.a_body here) (record { class = any_name; body = s_text; stands = unrepeated_itself; wildcard = any })
+s25 = restrictions.in_wildcard (restrictions.a_body here) (record { class = any_name; body = s_text; stands = itself; wildcard = any })
 
 -- `element a { text & text }`
 s27 : BreaksRestriction (one_element (s_joined tree.interleave s_text s_text)) 27
@@ -120,8 +96,8 @@ s27 = restrictions.in_text (restrictions.a_body here) (record {
   left = s_text;
   right = s_text;
   stands = itself;
-  occurs_left = occurs_itself;
-  occurs_right = occurs_itself;
+  occurs_left = itself;
+  occurs_right = itself;
 })
 
 -- `element x { element x { .. } & element x { .. } }`: the element inside itself
@@ -132,8 +108,8 @@ s26 = restrictions.in_element_names (restrictions.a_body here) (record {
   stands = itself;
   first = 0;
   second = 0;
-  occurs_left = occurs_itself;
-  occurs_right = occurs_itself;
+  occurs_left = itself;
+  occurs_right = itself;
   first_class = named (codes "x");
   second_class = named (codes "x");
   is_first = (s_joined tree.interleave (s_leaf 0) (s_leaf 0), refl);

@@ -8,7 +8,8 @@ use Rattle.rng_model.specs.simple.Tree as tree
 use Rattle.rng_model.specs.simple.Tree.{group, choice, interleave, s_not_allowed}
 use Rattle.rng_model.specs.names.NameViews.{class_of}
 use Rattle.rng_model.specs.datatypes.DatatypeViews.{datatype_of}
-use Rattle.rng_model.specs.simple.Table.{AreChildrenBelow, Falls, IsTable, Table, tree_over, tree_at, trees}
+use Rattle.rng_model.specs.simple.Table.{Table, tree_over, tree_at, trees}
+use Rattle.rng_model.specs.simple.TableRules.{AreChildrenBelow, Falls, IsTable}
 use Rattle.rng_model.specs.declared.simple.PatternId.{PatternId}
 use Rattle.rng_model.specs.declared.simple.Simple.{Simple}
 use Rattle.rng_model.specs.declared.simple.Simple.TheVariants as simple

@@ -4,7 +4,7 @@ use Rattle.std.specs.Bool.{beq}
 use Rattle.std.proofs.lemmas.Slice.Eq.{bytes_eq-Decides}
 use Rattle.std.proofs.lemmas.Bool.Decides.{Decides-int_eq}
 use Rattle.rng_model.specs.datatypes.Values.{Value, text, truth, number, same_value, are_equal}
-use Rattle.rng_model.specs.datatypes.Datatypes.{BuiltInType, value_of, is_allowed_by, are_equal_by}
+use Rattle.rng_model.specs.datatypes.Datatypes.{Meaning, is_allowed_by, are_equal_by}
 
 same_truth : (a b : Bool) → beq a b ≡ true → a ≡ b
 same_truth true true e = refl
@@ -44,21 +44,21 @@ left_stands : (a b : Option Value) → are_equal a b ≡ true → is_some a ≡ 
 left_stands None b e = e
 left_stands (Some a) b e = refl
 
-module _ (t : BuiltInType) where
+module _ (t : Meaning) where
   pub equal_reflexive : (v : List ℕ) → is_allowed_by t v ≡ true → are_equal_by t v v ≡ true
-  equal_reflexive v e = are_equal-self (value_of t v) e
+  equal_reflexive v e = are_equal-self (t v) e
 
   left_allowed : (v w : List ℕ) → are_equal_by t v w ≡ true → is_allowed_by t v ≡ true
-  left_allowed v w e = left_stands (value_of t v) (value_of t w) e
+  left_allowed v w e = left_stands (t v) (t w) e
 
-  same : (v w : List ℕ) → are_equal_by t v w ≡ true → value_of t v ≡ value_of t w
-  same v w e = are_equal-is (value_of t v) (value_of t w) e
+  same : (v w : List ℕ) → are_equal_by t v w ≡ true → t v ≡ t w
+  same v w e = are_equal-is (t v) (t w) e
 
   pub equal_allowed : (v w : List ℕ) → are_equal_by t v w ≡ true → (is_allowed_by t v ≡ true) × (is_allowed_by t w ≡ true)
   equal_allowed v w e = (left_allowed v w e, ap is_some (sym (same v w e)) ∙ left_allowed v w e)
 
   pub equal_symmetric : (v w : List ℕ) → are_equal_by t v w ≡ true → are_equal_by t w v ≡ true
-  equal_symmetric v w e = ap (λ x. are_equal x (value_of t v)) (sym (same v w e)) ∙ equal_reflexive v (left_allowed v w e)
+  equal_symmetric v w e = ap (λ x. are_equal x (t v)) (sym (same v w e)) ∙ equal_reflexive v (left_allowed v w e)
 
   pub equal_transitive : (u v w : List ℕ) → are_equal_by t u v ≡ true → are_equal_by t v w ≡ true → are_equal_by t u w ≡ true
-  equal_transitive u v w e f = ap (λ x. are_equal x (value_of t w)) (same u v e) ∙ f
+  equal_transitive u v w e f = ap (λ x. are_equal x (t w)) (same u v e) ∙ f

@@ -1,9 +1,9 @@
 -- Texts, values and datatypes.
 pub mod Blanks
-pub mod DatatypeTests
 pub mod DatatypeViews
 pub mod Datatypes
 pub mod Facets
 pub mod Numerals
+pub mod Parameters
 pub mod Texts
 pub mod Values

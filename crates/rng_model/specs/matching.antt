@@ -1,5 +1,6 @@
 -- Documents as trees, and which of them match.
 pub mod Document
+pub mod GrammarMatching
 pub mod GrammarReading
 pub mod Lex
 pub mod Matching

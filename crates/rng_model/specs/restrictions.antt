@@ -1,4 +1,6 @@
 -- Clauses 18 to 27.
-pub mod BreaksNone
+pub mod ContentTypes
+pub mod Occurrences
+pub mod Paths
 pub mod Restricted
 pub mod Restrictions

@@ -1,8 +1,11 @@
 -- Trees, rewriting steps, simple grammars.
 pub mod ClassSteps
+pub mod Grammar
+pub mod Inside
 pub mod Leaves
 pub mod SchemaForm
 pub mod Simplification
 pub mod SimplifiedSchema
 pub mod Table
+pub mod TableRules
 pub mod Tree

@@ -4,3 +4,4 @@ pub mod NumbersViews
 pub mod PlaceViews
 pub mod ReplacedLists
 pub mod SchemaView
+pub mod ItemViews

@@ -1,8 +1,4 @@
 // Datatypes as a schema refers to them.
-ghost use Rattle.std.specs.Prelude.{◌≡◌, ◌↔◌, ℕ, List, IsTrue};
-ghost use Rattle.rng_model.specs.simple.Tree as tree;
-ghost use Rattle.rng_model.specs.datatypes.Datatypes.{BuiltInType, HasType, IsKnownDatatype, IsAllowed, AreEqual};
-ghost use Rattle.rng_model.specs.datatypes.DatatypeTests.{text_tests};
 
 /// A datatype: the URI of its library, its name there, and its parameters in the order in which they are written.
 ///
@@ -24,14 +20,3 @@ pub struct DatatypeValue {
     pub name: String,
     pub text: String,
 }
-
-/// States the laws of the definitions of datatypes. The function does nothing: its contract is the laws.
-///
-/// A datatype has at most one type, and it has one if it is known. The tests of texts that other contracts cite
-/// (`text_tests`) agree with the definitions.
-pub fn datatype_laws()
-    ensures one { (d : tree.Datatype) (t u : BuiltInType) → HasType d t → HasType d u → t ≡ u }
-    ensures some { (d : tree.Datatype) → IsKnownDatatype d → (t : BuiltInType) × HasType d t }
-    ensures allowed { (d : tree.Datatype) (s : List ℕ) → IsTrue (text_tests.allows d s) ↔ IsAllowed d s }
-    ensures equal { (d : tree.Datatype) (v w : List ℕ) → IsTrue (text_tests.equals d v w) ↔ AreEqual d v w }
-{}

@@ -1,6 +1,7 @@
 // A simple grammar in tables.
 ghost use Rattle.std.specs.Prelude.{◌≡◌, ◌<◌, length, slice_get, option_copied, IfSome};
-ghost use Rattle.rng_model.specs.simple.Table.{IsTable, AreChildrenBelow, tree_at, tree_over};
+ghost use Rattle.rng_model.specs.simple.Table.{tree_at, tree_over};
+ghost use Rattle.rng_model.specs.simple.TableRules.{IsTable, AreChildrenBelow};
 
 use crate::name::NameClass;
 use crate::simple::{ElementId, PatternId, Simple};
@@ -20,7 +21,8 @@ pub struct SimpleGrammar {
 }
 
 impl Model for SimpleGrammar {
-    ghost use Rattle.rng_model.specs.simple.Table.{Table, IsTable};
+    ghost use Rattle.rng_model.specs.simple.Table.{Table};
+    ghost use Rattle.rng_model.specs.simple.TableRules.{IsTable};
 
     ghost Value = { Table };
 

@@ -29,7 +29,7 @@ mod simple;
 pub use blanks::{Pieces, collapse, split_blanks};
 pub use character::{is_name_char, is_name_start, is_ncname, is_xml_char};
 pub use component::Component;
-pub use datatype::{Datatype, DatatypeValue, datatype_laws};
+pub use datatype::{Datatype, DatatypeValue};
 pub use device::{Device, DeviceFault};
 pub use device_writing::write_whole;
 pub use document::{Attr, Item};

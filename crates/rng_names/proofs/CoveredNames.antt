@@ -5,7 +5,8 @@ use Rattle.std.specs.List.{list_any}
 use Rattle.std.proofs.lemmas.List.{take_all}
 use Rattle.std.proofs.lemmas.List.Folds.{list_any_more}
 use Rattle.std.proofs.lemmas.Slice.Eq.{bytes_eq-Decides}
-use Rattle.rng_model.specs.names.Names.{Name, NameClass, AreApart, some_of}
+use Rattle.rng_model.specs.names.Names.{Name, NameClass, some_of}
+use Rattle.rng_model.specs.plain.ClassesApart.{AreApart}
 use Rattle.rng_names.specs.plain.Holding.{holds}
 use Rattle.rng_names.specs.views.Namespaces.{Covers, has_ns}
 use Rattle.rng_names.specs.declared.namespaces.Namespaces.{Namespaces}

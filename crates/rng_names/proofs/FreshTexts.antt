@@ -1,7 +1,8 @@
 -- A text that is longer than all that are written represents every text that is not written.
 use Rattle.std.proofs.Common.{◌≡◌, ℕ, ◌<◌, max, bytes_eq, List, length, Bool, true, false, not, ◌&&◌, ◌||◌, refl, ap, ap₂, sym, ◌∙◌, subst, rules, arith}
 use Rattle.std.proofs.lemmas.Slice.Eq.{bytes_eq-Decides}
-use Rattle.rng_model.specs.names.Names.{Name, NameClass, NameClasses, AreApart, any_name, any_except, ns_name, ns_except, name_is, one_of, no_classes, class_and}
+use Rattle.rng_model.specs.names.Names.{Name, NameClass, NameClasses, any_name, any_except, ns_name, ns_except, name_is, one_of, no_classes, class_and}
+use Rattle.rng_model.specs.plain.ClassesApart.{AreApart}
 use Rattle.rng_names.specs.plain.Holding.{holds, some_hold, pair}
 use Rattle.rng_names.specs.plain.Written.{both_hold, is_met, is_some_met, longest, longest_of, some_write_name, some_write_ns, writes_name, writes_ns}
 use Rattle.rng_names.proofs.Holding.{same_name-Decides, holds-Decides}

@@ -2,7 +2,8 @@
 -- difference.
 use Rattle.std.proofs.Common.{◌≡◌, refl, sym, subst, Bool, true, false, IsTrue, IsFalse, Decides}
 use Rattle.std.proofs.lemmas.Bool.Decides.{not_from_Decides}
-use Rattle.rng_model.specs.names.Names.{Name, NameClass, In, IsPairOfTexts, Overlap, AreApart, name_is}
+use Rattle.rng_model.specs.names.Names.{Name, NameClass, In, IsPairOfTexts, Overlap, name_is}
+use Rattle.rng_model.specs.plain.ClassesApart.{AreApart}
 use Rattle.rng_names.specs.plain.EitherWay.{TellsOverlap}
 
 -- the name itself is in both

@@ -1,7 +1,8 @@
 // A name class with tables for look-ups of its names.
 ghost use Rattle.std.specs.Prelude.{◌≡◌, ◌<◌, length, IfOk, IsTrue};
 ghost use Rattle.std.specs.Bool.{Decides};
-ghost use Rattle.rng_model.specs.names.Names.{AreApart, In};
+ghost use Rattle.rng_model.specs.names.Names.{In};
+ghost use Rattle.rng_model.specs.plain.ClassesApart.{AreApart};
 ghost use Rattle.rng_model.specs.names.NameViews.{class_of, name_of};
 ghost use Rattle.rng_names.specs.plain.Holding.{holds, pair};
 ghost use Rattle.rng_names.specs.plain.Written.{longest};

@@ -1,6 +1,7 @@
 // Whether two name classes have a name in common.
 ghost use Rattle.std.specs.Prelude.{◌≡◌, ◌<◌, ◌≤◌, length, ◌⊎◌, Bool, IfOk, IsOk, IsTrue, IsFalse};
-ghost use Rattle.rng_model.specs.names.Names.{Overlap, AreApart};
+ghost use Rattle.rng_model.specs.names.Names.{Overlap};
+ghost use Rattle.rng_model.specs.plain.ClassesApart.{AreApart};
 ghost use Rattle.rng_model.specs.names.NameViews.{class_of};
 ghost use Rattle.rng_names.specs.plain.EitherWay.{TellsOverlap};
 ghost use Rattle.rng_names.specs.plain.Holding.{pair};

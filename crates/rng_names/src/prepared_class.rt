@@ -1,7 +1,8 @@
 // Name classes that are prepared for comparisons.
 ghost use Rattle.std.specs.Prelude.{◌≡◌, ◌↔◌, IfOk, IsOk, IsTrue, IsFalse};
 ghost use Rattle.std.specs.Bool.{Decides};
-ghost use Rattle.rng_model.specs.names.Names.{In, Overlap, AreApart};
+ghost use Rattle.rng_model.specs.names.Names.{In, Overlap};
+ghost use Rattle.rng_model.specs.plain.ClassesApart.{AreApart};
 ghost use Rattle.rng_model.specs.names.NameViews.{class_of, name_of};
 ghost use Rattle.rng_names.specs.plain.Holding.{same_name};
 ghost use Rattle.rng_names.specs.views.PlainNames.{IsPlain};

@@ -4,13 +4,15 @@ use Rattle.std.proofs.lemmas.Bool.Decides.{Decides-like, Decides-at, not_from_De
 use Rattle.std.proofs.lemmas.Bool.{cases_lt}
 use Rattle.rng_model.specs.names.Lists.{Among}
 use Rattle.rng_model.specs.names.Names.{NameClass}
-use Rattle.rng_model.specs.simple.Table.{Grammar}
+use Rattle.rng_model.specs.simple.Grammar.{Grammar}
 use Rattle.rng_model.specs.simple.Tree.{Simple}
+use Rattle.rng_model.specs.restrictions.Paths.{HasProhibited, HasProhibitedInStart}
+use Rattle.rng_model.specs.restrictions.ContentTypes.{BreaksContent}
+use Rattle.rng_model.specs.restrictions.Occurrences.{BreaksWildcard, BreaksText, BreaksAttributeNames, BreaksElementNames}
 use Rattle.rng_model.specs.restrictions.Restrictions as model
-use Rattle.rng_model.specs.restrictions.Restrictions.{IsPart, BreaksRestriction, IsLeastRestriction, BreaksAttribute, BreaksOneOrMore, BreaksList, BreaksExcept, BreaksStart, BreaksContent}
-use Rattle.rng_model.specs.restrictions.Restrictions.{BreaksWildcard, BreaksText, BreaksAttributeNames, BreaksElementNames, ClassIn}
+use Rattle.rng_model.specs.restrictions.Restrictions.{IsPart, BreaksRestriction, IsLeastRestriction, BreaksNone, ClassIn}
+use Rattle.rng_model.proofs.ProhibitedPaths.{prohibits}
 use Rattle.rng_rules.specs.plain.Broken.{IsIntactBelow, grammar_broken}
-use Rattle.rng_model.specs.restrictions.Restricted.{IsRestricted}
 use Rattle.rng_rules.specs.declared.broken.Broken.{Broken}
 use Rattle.rng_rules.proofs.PartClauses as parts
 
@@ -19,50 +21,56 @@ abbrev SomePart : Grammar → (Simple ℕ → Type 0) → Type 0
 SomePart g P = (p : Simple ℕ) × IsPart g p × P p
 
 -- what each number of a clause means for the grammar
-from_18 : (g : Grammar) → BreaksRestriction g 18 → SomePart g BreaksAttribute
-from_18 g (model.in_attribute_of part b) = (_, part, b)
+from_18 : (g : Grammar) → BreaksRestriction g 18 → SomePart g (HasProhibited 18)
+from_18 g (model.in_path part b) = (_, part, b)
 
-from_19 : (g : Grammar) → BreaksRestriction g 19 → SomePart g BreaksOneOrMore
-from_19 g (model.in_one_or_more_of part b) = (_, part, b)
+from_19 : (g : Grammar) → BreaksRestriction g 19 → SomePart g (HasProhibited 19)
+from_19 g (model.in_path part b) = (_, part, b)
 
-from_20 : (g : Grammar) → BreaksRestriction g 20 → SomePart g BreaksList
-from_20 g (model.in_list_of part b) = (_, part, b)
+from_20 : (g : Grammar) → BreaksRestriction g 20 → SomePart g (HasProhibited 20)
+from_20 g (model.in_path part b) = (_, part, b)
 
-from_21 : (g : Grammar) → BreaksRestriction g 21 → SomePart g BreaksExcept
-from_21 g (model.in_except_of part b) = (_, part, b)
+from_21 : (g : Grammar) → BreaksRestriction g 21 → SomePart g (HasProhibited 21)
+from_21 g (model.in_path part b) = (_, part, b)
 
-from_22 : (g : Grammar) → BreaksRestriction g 22 → BreaksStart g.start
+from_22 : (g : Grammar) → BreaksRestriction g 22 → HasProhibitedInStart g.start
+from_22 g (model.in_path part b) = elim b.1 [ ]
 from_22 g (model.in_start b) = b
 
 from_23 : (g : Grammar) → BreaksRestriction g 23 → (e : NameClass × Simple ℕ) × Among e g.elements × BreaksContent e.1
+from_23 g (model.in_path part b) = elim b.1 [ ]
 from_23 g (model.in_content {c} {body} among b) = ((c, body), among, b)
 
 from_24 : (g : Grammar) → BreaksRestriction g 24 → SomePart g BreaksAttributeNames
+from_24 g (model.in_path part b) = elim b.1 [ ]
 from_24 g (model.in_attribute_names part b) = (_, part, b)
 
 from_25 : (g : Grammar) → BreaksRestriction g 25 → SomePart g BreaksWildcard
+from_25 g (model.in_path part b) = elim b.1 [ ]
 from_25 g (model.in_wildcard part b) = (_, part, b)
 
 from_26 : (g : Grammar) → BreaksRestriction g 26 → SomePart g (BreaksElementNames (ClassIn g))
+from_26 g (model.in_path part b) = elim b.1 [ ]
 from_26 g (model.in_element_names part b) = (_, part, b)
 
 from_27 : (g : Grammar) → BreaksRestriction g 27 → SomePart g BreaksText
+from_27 g (model.in_path part b) = elim b.1 [ ]
 from_27 g (model.in_text part b) = (_, part, b)
 
 -- ---- each clause, decided
 
 module _ (g : Grammar) where
   broken_18 : Decides (grammar_broken g).attribute (BreaksRestriction g 18)
-  broken_18 = Decides-like _ (λ s. model.in_attribute_of s.1 s.2) (from_18 g) (parts.attribute_broken g)
+  broken_18 = Decides-like _ (λ s. model.in_path s.1 s.2) (from_18 g) (parts.attribute_broken g)
 
   broken_19 : Decides (grammar_broken g).one_or_more (BreaksRestriction g 19)
-  broken_19 = Decides-like _ (λ s. model.in_one_or_more_of s.1 s.2) (from_19 g) (parts.one_or_more_broken g)
+  broken_19 = Decides-like _ (λ s. model.in_path s.1 s.2) (from_19 g) (parts.one_or_more_broken g)
 
   broken_20 : Decides (grammar_broken g).list (BreaksRestriction g 20)
-  broken_20 = Decides-like _ (λ s. model.in_list_of s.1 s.2) (from_20 g) (parts.list_broken g)
+  broken_20 = Decides-like _ (λ s. model.in_path s.1 s.2) (from_20 g) (parts.list_broken g)
 
   broken_21 : Decides (grammar_broken g).except (BreaksRestriction g 21)
-  broken_21 = Decides-like _ (λ s. model.in_except_of s.1 s.2) (from_21 g) (parts.except_broken g)
+  broken_21 = Decides-like _ (λ s. model.in_path s.1 s.2) (from_21 g) (parts.except_broken g)
 
   broken_22 : Decides (grammar_broken g).start (BreaksRestriction g 22)
   broken_22 = Decides-like _ model.in_start (from_22 g) (parts.start_found g)
@@ -85,10 +93,7 @@ module _ (g : Grammar) where
   -- ---- from the least one on
 
   intact_18 : IsIntactBelow g 18
-  intact_18 _ (model.in_attribute_of part b) = omega arith
-  intact_18 _ (model.in_one_or_more_of part b) = omega arith
-  intact_18 _ (model.in_list_of part b) = omega arith
-  intact_18 _ (model.in_except_of part b) = omega arith
+  intact_18 clause (model.in_path part b) = (prohibits b.1).0
   intact_18 _ (model.in_start b) = omega arith
   intact_18 _ (model.in_content among b) = omega arith
   intact_18 _ (model.in_attribute_names part b) = omega arith
@@ -97,10 +102,7 @@ module _ (g : Grammar) where
   intact_18 _ (model.in_text part b) = omega arith
 
   at_most_27 : (clause : ℕ) → BreaksRestriction g clause → clause ≤ 27
-  at_most_27 _ (model.in_attribute_of part b) = omega arith
-  at_most_27 _ (model.in_one_or_more_of part b) = omega arith
-  at_most_27 _ (model.in_list_of part b) = omega arith
-  at_most_27 _ (model.in_except_of part b) = omega arith
+  at_most_27 clause (model.in_path part b) = omega (arith, (prohibits b.1).1)
   at_most_27 _ (model.in_start b) = omega arith
   at_most_27 _ (model.in_content among b) = omega arith
   at_most_27 _ (model.in_attribute_names part b) = omega arith
@@ -121,7 +123,7 @@ module _ (g : Grammar) where
   pub least : (n : ℕ) (b : Bool) → IsIntactBelow g n → Decides b (BreaksRestriction g n) → b ≡ true → IsLeastRestriction g n
   least n b intact decides so = record { broken = decides.0 so; least = intact }
 
-  pub none_broken : IsIntactBelow g 28 → IsRestricted g
+  pub none_broken : IsIntactBelow g 28 → BreaksNone g
   none_broken intact clause broken = let never : ⊥ = omega (arith, intact clause broken, at_most_27 clause broken) in elim never [ ]
 
   -- from the result for the parts

@@ -8,7 +8,8 @@ use Rattle.std.proofs.lemmas.Bool.{cases_lt}
 use Rattle.rng_model.specs.declared.simple.PatternId.{PatternId}
 use Rattle.rng_rules.specs.declared.facts.Facts.{Facts}
 use Rattle.rng_model.specs.names.Names as names
-use Rattle.rng_model.specs.simple.Table.{AreChildrenBelow, tree_over}
+use Rattle.rng_model.specs.simple.Table.{tree_over}
+use Rattle.rng_model.specs.simple.TableRules.{AreChildrenBelow}
 use Rattle.rng_model.specs.datatypes.DatatypeViews.{datatype_of}
 use Rattle.rng_model.specs.names.NameViews.{class_of}
 use Rattle.rng_model.specs.declared.datatype.Datatype.{Datatype}
@@ -17,8 +18,8 @@ use Rattle.rng_model.specs.declared.name.NameClass.{NameClass}
 use Rattle.rng_model.specs.declared.simple.ElementId.{ElementId}
 use Rattle.rng_model.specs.declared.simple.Simple as simple
 use Rattle.rng_model.specs.declared.simple.Simple.TheVariants as variants
-use Rattle.rng_model.specs.restrictions.Restrictions.{kind_between, list_kind, data_kind}
-use Rattle.rng_model.specs.restrictions.Restrictions as model
+use Rattle.rng_model.specs.simple.Inside.{kind_between, list_kind, data_kind}
+use Rattle.rng_model.specs.simple.Inside as model
 use Rattle.rng_model.specs.simple.Tree as tree
 use Rattle.rng_model.specs.simple.Tree.{Connector, Simple, s_not_allowed, s_empty, s_text, s_leaf, s_attribute, s_list, s_data, s_data_except, s_value}
 use Rattle.rng_model.specs.simple.Tree.{s_one_or_more, s_joined}

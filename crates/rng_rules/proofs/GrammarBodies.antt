@@ -4,7 +4,8 @@ use Rattle.std.proofs.lemmas.List.{take_more, map_push}
 use Rattle.std.proofs.lemmas.List.Elements.{All-map}
 use Rattle.std.proofs.lemmas.List.Sums.{fold_push}
 use Rattle.std.proofs.lemmas.Option.{slice_get_within, get_or_from_slice_get}
-use Rattle.rng_model.specs.simple.Table.{Table, IsTable, grammar_of, tree_at}
+use Rattle.rng_model.specs.simple.Table.{Table, grammar_of, tree_at}
+use Rattle.rng_model.specs.simple.TableRules.{IsTable}
 use Rattle.rng_model.specs.simple.Tree.{Simple}
 use Rattle.rng_model.specs.names.NameViews.{class_of}
 use Rattle.rng_model.specs.declared.simple.PatternId.{PatternId}

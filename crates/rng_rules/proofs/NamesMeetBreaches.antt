@@ -5,8 +5,12 @@ use Rattle.std.proofs.lemmas.List.{length-map}
 use Rattle.std.proofs.lemmas.Option.{slice_get_cases, slice_get_within, slice_get-map}
 use Rattle.rng_model.specs.names.Names as names
 use Rattle.rng_model.specs.names.Names.{Overlap}
-use Rattle.rng_model.specs.restrictions.Restrictions.{StandsIn, OccursIn, IsPart, ClassIn, IsNoChoice, grouped, interleaved}
-use Rattle.rng_model.specs.simple.Table.{Table, IsTable, Grammar, grammar_of, tree_at, tree_over}
+use Rattle.rng_model.specs.restrictions.ContentTypes.{IsNoChoice, grouped, interleaved}
+use Rattle.rng_model.specs.restrictions.Restrictions.{IsPart, ClassIn}
+use Rattle.rng_model.specs.simple.Inside.{StandsIn, OccursIn}
+use Rattle.rng_model.specs.simple.Table.{Table, grammar_of, tree_at, tree_over}
+use Rattle.rng_model.specs.simple.TableRules.{IsTable}
+use Rattle.rng_model.specs.simple.Grammar.{Grammar}
 use Rattle.rng_model.specs.simple.Tree as tree
 use Rattle.rng_model.specs.names.NameViews.{class_of}
 use Rattle.rng_model.specs.declared.name.NameClass.{NameClass}

@@ -9,7 +9,8 @@ use Rattle.rng_model.specs.declared.simple.Simple.{Simple}
 use Rattle.rng_model.specs.declared.simple.Simple.TheVariants as simple
 use Rattle.rng_model.specs.declared.simple.PatternId.{PatternId}
 use Rattle.rng_model.specs.declared.name.NameClass.{NameClass}
-use Rattle.rng_model.specs.simple.Table.{AreChildrenBelow, Falls, IsTable, Table}
+use Rattle.rng_model.specs.simple.Table.{Table}
+use Rattle.rng_model.specs.simple.TableRules.{AreChildrenBelow, Falls, IsTable}
 use Rattle.rng_model.proofs.MadeLists.{past_end}
 use Rattle.rng_rules.specs.plain.NamesMeetReach.{AreBelow}
 use Rattle.rng_rules.specs.views.NamesMeetRows.{IsAbove, Passes, children, part_rows, passed}

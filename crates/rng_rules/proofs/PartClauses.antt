@@ -3,10 +3,12 @@ use Rattle.std.proofs.Common.{◌≡◌, ℕ, List, [], ◌∷◌, map, fold, Bo
 use Rattle.std.proofs.lemmas.Bool.Decides.{Decides-or, Decides-like, Decides-at}
 use Rattle.rng_model.specs.names.Lists.{Among, here, there}
 use Rattle.rng_model.specs.names.Names.{NameClass}
-use Rattle.rng_model.specs.simple.Table.{Grammar}
+use Rattle.rng_model.specs.simple.Grammar.{Grammar}
 use Rattle.rng_model.specs.simple.Tree.{Simple}
-use Rattle.rng_model.specs.restrictions.Restrictions.{IsPart, the_start, a_body, BreaksAttribute, BreaksOneOrMore, BreaksList, BreaksExcept, BreaksStart, BreaksContent}
-use Rattle.rng_model.specs.restrictions.Restrictions.{BreaksWildcard, BreaksText}
+use Rattle.rng_model.specs.restrictions.Paths.{HasProhibited, HasProhibitedInStart}
+use Rattle.rng_model.specs.restrictions.ContentTypes.{BreaksContent}
+use Rattle.rng_model.specs.restrictions.Occurrences.{BreaksWildcard, BreaksText}
+use Rattle.rng_model.specs.restrictions.Restrictions.{IsPart, the_start, a_body}
 use Rattle.rng_rules.specs.plain.Broken.{either_broken, body_broken, start_broken, grammar_broken}
 use Rattle.rng_rules.specs.plain.Facts.{facts_of}
 use Rattle.rng_rules.specs.declared.broken.Broken.{Broken}
@@ -51,26 +53,26 @@ module _ (get : Broken → Bool) (either : (a b : Broken) → get (either_broken
       split _ (a_body {c} {body} among) h = inr ((c, body), among, h)
 
 module _ (g : Grammar) where
-  pub attribute_broken : Decides (grammar_broken g).attribute ((p : Simple ℕ) × IsPart g p × BreaksAttribute p)
+  pub attribute_broken : Decides (grammar_broken g).attribute ((p : Simple ℕ) × IsPart g p × HasProhibited 18 p)
   unfolding facts_of
-  attribute_broken = any_part (λ b. b.attribute) (λ a b. refl) BreaksAttribute breaks_attribute g (breaks_attribute g.start)
+  attribute_broken = any_part (λ b. b.attribute) (λ a b. refl) (HasProhibited 18) breaks_attribute g (breaks_attribute g.start)
 
-  pub one_or_more_broken : Decides (grammar_broken g).one_or_more ((p : Simple ℕ) × IsPart g p × BreaksOneOrMore p)
+  pub one_or_more_broken : Decides (grammar_broken g).one_or_more ((p : Simple ℕ) × IsPart g p × HasProhibited 19 p)
   unfolding facts_of
-  one_or_more_broken = any_part (λ b. b.one_or_more) (λ a b. refl) BreaksOneOrMore breaks_one_or_more g (breaks_one_or_more g.start)
+  one_or_more_broken = any_part (λ b. b.one_or_more) (λ a b. refl) (HasProhibited 19) breaks_one_or_more g (breaks_one_or_more g.start)
 
-  pub list_broken : Decides (grammar_broken g).list ((p : Simple ℕ) × IsPart g p × BreaksList p)
+  pub list_broken : Decides (grammar_broken g).list ((p : Simple ℕ) × IsPart g p × HasProhibited 20 p)
   unfolding facts_of
-  list_broken = any_part (λ b. b.list) (λ a b. refl) BreaksList breaks_list g (breaks_list g.start)
+  list_broken = any_part (λ b. b.list) (λ a b. refl) (HasProhibited 20) breaks_list g (breaks_list g.start)
 
-  pub except_broken : Decides (grammar_broken g).except ((p : Simple ℕ) × IsPart g p × BreaksExcept p)
+  pub except_broken : Decides (grammar_broken g).except ((p : Simple ℕ) × IsPart g p × HasProhibited 21 p)
   unfolding facts_of
-  except_broken = any_part (λ b. b.except) (λ a b. refl) BreaksExcept breaks_except g (breaks_except g.start)
+  except_broken = any_part (λ b. b.except) (λ a b. refl) (HasProhibited 21) breaks_except g (breaks_except g.start)
 
-  pub start_found : Decides (grammar_broken g).start (BreaksStart g.start)
+  pub start_found : Decides (grammar_broken g).start (HasProhibitedInStart g.start)
   unfolding facts_of
   start_found = Decides-like _ (λ s. elim s [ inl q ↦ q | inr h ↦ elim h.2 [ ] ]) inl
-      (parts (λ b. b.start) (λ a b. refl) (λ p. ⊥) (λ p. none (λ h. h)) g (BreaksStart g.start) (breaks_start g.start))
+      (parts (λ b. b.start) (λ a b. refl) (λ p. ⊥) (λ p. none (λ h. h)) g (HasProhibitedInStart g.start) (breaks_start g.start))
 
   pub content_broken : Decides (grammar_broken g).content (SomeBody BreaksContent g.elements)
   unfolding facts_of

@@ -1,5 +1,5 @@
 -- What the trees of a table contain and what occurs in them, row by row, without a walk over a tree.
-use Rattle.std.proofs.Common.{◌≡◌, ◌⊎◌, inl, inr, refl, ap, sym, ◌∙◌, subst, ℕ, zero, suc, ◌<◌, List, [], ◌∷◌, length, map}
+use Rattle.std.proofs.Common.{◌≡◌, inl, inr, refl, ap, sym, ◌∙◌, subst, ℕ, zero, suc, ◌<◌, List, [], ◌∷◌, length, map}
 use Rattle.std.proofs.Common.{slice_get, Some, option_map, Contains, arith}
 use Rattle.std.proofs.lemmas.List.{get_or-map, length-map}
 use Rattle.std.proofs.lemmas.List.Elements.{All-contains, Contains-append_left, Contains-push, Contains-push_cases}
@@ -8,10 +8,13 @@ use Rattle.rng_model.specs.names.Lists.{Among, here, there}
 use Rattle.rng_model.specs.names.Names as names
 use Rattle.rng_model.specs.simple.Tree as tree
 use Rattle.rng_model.specs.names.NameViews.{class_of}
-use Rattle.rng_model.specs.simple.Table.{Table, IsTable, AreChildrenBelow, grammar_of, tree_at, tree_over}
-use Rattle.rng_model.specs.restrictions.Restrictions.{StandsIn, itself, in_attribute, in_list, in_except, in_one_or_more, in_left, in_right}
-use Rattle.rng_model.specs.restrictions.Restrictions.{Inside, inside_attribute, inside_list, inside_except, inside_one_or_more, inside_left, inside_right}
-use Rattle.rng_model.specs.restrictions.Restrictions.{OccursIn, occurs_itself, occurs_repeated, occurs_left, occurs_right, IsPart, the_start, a_body}
+use Rattle.rng_model.specs.simple.Table.{Table, grammar_of, tree_at, tree_over}
+use Rattle.rng_model.specs.simple.TableRules.{IsTable, AreChildrenBelow}
+use Rattle.rng_model.specs.simple.Inside.{StandsIn, Inside, OccursIn, IsTransparent, kind_of, itself, of_attribute, of_list, of_except, of_one_or_more}
+use Rattle.rng_model.specs.simple.Inside.{of_left, of_right}
+use Rattle.rng_model.specs.restrictions.Restrictions.{IsPart, the_start, a_body}
+use Rattle.rng_model.proofs.Inside.{in_attribute, in_list, in_except, in_one_or_more, in_left, in_right, deeper, stands_cases, through_cases, ThroughChild}
+use Rattle.rng_model.proofs.Inside.{occurs_repeated, occurs_left, occurs_right}
 use Rattle.rng_model.specs.declared.simple.Simple.{Simple}
 use Rattle.rng_model.specs.declared.simple.Simple.TheVariants as simple
 use Rattle.rng_model.proofs.Table.{tree_at-over_children}
@@ -24,16 +27,6 @@ use Rattle.rng_rules.proofs.NamesMeetTables.{one_of_two, children_below}
 abbrev pub STree : Type 0
 STree = tree.Simple ℕ
 
--- what is inside something inside a pattern is inside the pattern
-stands_through : {q r p : STree} → StandsIn q r → StandsIn r p → StandsIn q p
-stands_through s itself = s
-stands_through s (in_attribute i) = in_attribute (stands_through s i)
-stands_through s (in_list i) = in_list (stands_through s i)
-stands_through s (in_except i) = in_except (stands_through s i)
-stands_through s (in_one_or_more i) = in_one_or_more (stands_through s i)
-stands_through s (in_left i) = in_left (stands_through s i)
-stands_through s (in_right i) = in_right (stands_through s i)
-
 pub found_among : {A : Type 0} (xs : List A) (i : ℕ) (x : A) → slice_get xs i ≡ Some x → Among x xs
 found_among [] i x e = absurd (let h = slice_get_within [] i x e in omega arith)
 found_among (y ∷ ys) zero x e = subst (λ z. Among x (z ∷ ys)) (some_same e refl) here
@@ -43,26 +36,9 @@ pub among_found : {A : Type 0} {x : A} {xs : List A} → Among x xs → (i : ℕ
 among_found here = (0, refl)
 among_found (there i) = let k = among_found i in (suc k.0, k.1)
 
-stands_cases : {q p : STree} → StandsIn q p → (q ≡ p) ⊎ Inside q p
-stands_cases itself = inl refl
-stands_cases (in_attribute i) = inr (inside_attribute i)
-stands_cases (in_list i) = inr (inside_list i)
-stands_cases (in_except i) = inr (inside_except i)
-stands_cases (in_one_or_more i) = inr (inside_one_or_more i)
-stands_cases (in_left i) = inr (inside_left i)
-stands_cases (in_right i) = inr (inside_right i)
-
 -- q occurs in the parts of the pattern
-data OccursBelow (q : STree) : STree → Type 0 where
-  repeated_below : {p : STree} → OccursIn q p → OccursBelow q (tree.s_one_or_more p)
-  left_below : {k : tree.Connector} {p r : STree} → OccursIn q p → OccursBelow q (tree.s_joined k p r)
-  right_below : {k : tree.Connector} {p r : STree} → OccursIn q r → OccursBelow q (tree.s_joined k p r)
-
-occurs_cases : {q p : STree} → OccursIn q p → (q ≡ p) ⊎ OccursBelow q p
-occurs_cases occurs_itself = inl refl
-occurs_cases (occurs_repeated i) = inr (repeated_below i)
-occurs_cases (occurs_left i) = inr (left_below i)
-occurs_cases (occurs_right i) = inr (right_below i)
+abbrev OccursBelow : STree → STree → Type 0
+OccursBelow q p = IsTransparent (kind_of p) × ThroughChild IsTransparent q p
 
 module _ (t : Table) (valid : IsTable t) where
   abbrev ps : List Simple
@@ -94,22 +70,22 @@ module _ (t : Table) (valid : IsTable t) where
 
   down : {q : STree} (r : Simple) (n : ℕ) → ((y : ℕ) → y < n → Contains (children r) y → StandsIn q (at y) → RowAt IsPlaced q) → AreChildrenBelow n r
       → Inside q (tree_over (tree_at ps) r) → RowAt IsPlaced q
-  down simple.NotAllowed n f h i = elim i [ ]
-  down simple.Empty n f h i = elim i [ ]
-  down simple.Text n f h i = elim i [ ]
-  down (simple.Element e) n f h i = elim i [ ]
-  down (simple.Attribute d a) n f h (inside_attribute i) = f a.0 h (0, omega arith, refl) i
-  down (simple.List a) n f h (inside_list i) = f a.0 h (0, omega arith, refl) i
-  down (simple.Data d) n f h i = elim i [ ]
-  down (simple.DataExcept d a) n f h (inside_except i) = f a.0 h (0, omega arith, refl) i
-  down (simple.Value value) n f h i = elim i [ ]
-  down (simple.OneOrMore a) n f h (inside_one_or_more i) = f a.0 h (0, omega arith, refl) i
-  down (simple.Group a b) n f h (inside_left i) = f a.0 h.0 (0, omega arith, refl) i
-  down (simple.Group a b) n f h (inside_right i) = f b.0 h.1 (1, omega arith, refl) i
-  down (simple.Interleave a b) n f h (inside_left i) = f a.0 h.0 (0, omega arith, refl) i
-  down (simple.Interleave a b) n f h (inside_right i) = f b.0 h.1 (1, omega arith, refl) i
-  down (simple.Choice a b) n f h (inside_left i) = f a.0 h.0 (0, omega arith, refl) i
-  down (simple.Choice a b) n f h (inside_right i) = f b.0 h.1 (1, omega arith, refl) i
+  down simple.NotAllowed n f h i = elim i.1 [ ]
+  down simple.Empty n f h i = elim i.1 [ ]
+  down simple.Text n f h i = elim i.1 [ ]
+  down (simple.Element e) n f h i = elim i.1 [ ]
+  down (simple.Attribute d a) n f h (_, of_attribute, i) = f a.0 h (0, omega arith, refl) i
+  down (simple.List a) n f h (_, of_list, i) = f a.0 h (0, omega arith, refl) i
+  down (simple.Data d) n f h i = elim i.1 [ ]
+  down (simple.DataExcept d a) n f h (_, of_except, i) = f a.0 h (0, omega arith, refl) i
+  down (simple.Value value) n f h i = elim i.1 [ ]
+  down (simple.OneOrMore a) n f h (_, of_one_or_more, i) = f a.0 h (0, omega arith, refl) i
+  down (simple.Group a b) n f h (_, of_left, i) = f a.0 h.0 (0, omega arith, refl) i
+  down (simple.Group a b) n f h (_, of_right, i) = f b.0 h.1 (1, omega arith, refl) i
+  down (simple.Interleave a b) n f h (_, of_left, i) = f a.0 h.0 (0, omega arith, refl) i
+  down (simple.Interleave a b) n f h (_, of_right, i) = f b.0 h.1 (1, omega arith, refl) i
+  down (simple.Choice a b) n f h (_, of_left, i) = f a.0 h.0 (0, omega arith, refl) i
+  down (simple.Choice a b) n f h (_, of_right, i) = f b.0 h.1 (1, omega arith, refl) i
 
   pub standing_row : {q : STree} (bound n : ℕ) → n < bound → n < length ps → IsPlaced n → StandsIn q (at n) → RowAt IsPlaced q
   standing_row zero n m h w s = absurd (omega (arith, m))
@@ -175,7 +151,7 @@ module _ (t : Table) (valid : IsTable t) where
         inside = let l = children_below r.0 x y (valid.falls x r.0 r.1) child in omega (arith, l, p.inside);
         part = p.part;
         is = p.is;
-        stands = stands_through (subst (StandsIn (at y)) (sym (over x r.0 r.1)) (child_stands r.0 child)) p.stands;
+        stands = deeper p.stands (subst (StandsIn (at y)) (sym (over x r.0 r.1)) (child_stands r.0 child));
       }
 
   -- a part has a row
@@ -216,7 +192,7 @@ module _ (t : Table) (valid : IsTable t) where
     occurs_over {q} {x} (simple.Choice a b) c o = elim (one_of_two c) [ inl e ↦ occurs_left (subst (λ k. OccursIn q (at k)) e o) | inr e ↦ occurs_right (subst (λ k. OccursIn q (at k)) e o) ]
 
     pub climbed_occurs : {s k : ℕ} → Climbs above (s ∷ []) k → OccursIn (at s) (at k)
-    climbed_occurs {s = s} (at_start {x = x} c) = subst (λ k. OccursIn (at s) (at k)) (one_only s x c) occurs_itself
+    climbed_occurs {s = s} (at_start {x = x} c) = subst (λ k. OccursIn (at s) (at k)) (one_only s x c) itself
     climbed_occurs {s = s} (onward {x = x} {y = y} w c) =
         let p = (is.exact x y).0 c in
         subst (OccursIn (at s)) (sym (over y p.0 p.1)) (occurs_over p.0 p.2 (climbed_occurs w))
@@ -235,28 +211,28 @@ module _ (t : Table) (valid : IsTable t) where
 
     climb_down : {q : STree} (r : Simple) (n : ℕ) → slice_get ps n ≡ Some r → ((y : ℕ) → y < n → OccursIn q (at y) → RowAt (ClimbsFrom y) q)
         → AreChildrenBelow n r → OccursBelow q (tree_over (tree_at ps) r) → RowAt (ClimbsFrom n) q
-    climb_down simple.NotAllowed n e f h o = elim o [ ]
-    climb_down simple.Empty n e f h o = elim o [ ]
-    climb_down simple.Text n e f h o = elim o [ ]
-    climb_down (simple.Element k) n e f h o = elim o [ ]
-    climb_down (simple.Attribute d a) n e f h o = elim o [ ]
-    climb_down (simple.List a) n e f h o = elim o [ ]
-    climb_down (simple.Data d) n e f h o = elim o [ ]
-    climb_down (simple.DataExcept d a) n e f h o = elim o [ ]
-    climb_down (simple.Value value) n e f h o = elim o [ ]
-    climb_down (simple.OneOrMore a) n e f h (repeated_below o) = climb_on e (0, omega arith, refl) (f a.0 h o)
-    climb_down (simple.Group a b) n e f h (left_below o) = climb_on e (0, omega arith, refl) (f a.0 h.0 o)
-    climb_down (simple.Group a b) n e f h (right_below o) = climb_on e (1, omega arith, refl) (f b.0 h.1 o)
-    climb_down (simple.Interleave a b) n e f h (left_below o) = climb_on e (0, omega arith, refl) (f a.0 h.0 o)
-    climb_down (simple.Interleave a b) n e f h (right_below o) = climb_on e (1, omega arith, refl) (f b.0 h.1 o)
-    climb_down (simple.Choice a b) n e f h (left_below o) = climb_on e (0, omega arith, refl) (f a.0 h.0 o)
-    climb_down (simple.Choice a b) n e f h (right_below o) = climb_on e (1, omega arith, refl) (f b.0 h.1 o)
+    climb_down simple.NotAllowed n e f h o = elim o.0 [ ]
+    climb_down simple.Empty n e f h o = elim o.0 [ ]
+    climb_down simple.Text n e f h o = elim o.0 [ ]
+    climb_down (simple.Element k) n e f h o = elim o.0 [ ]
+    climb_down (simple.Attribute d a) n e f h o = elim o.0 [ ]
+    climb_down (simple.List a) n e f h o = elim o.0 [ ]
+    climb_down (simple.Data d) n e f h o = elim o.0 [ ]
+    climb_down (simple.DataExcept d a) n e f h o = elim o.0 [ ]
+    climb_down (simple.Value value) n e f h o = elim o.0 [ ]
+    climb_down (simple.OneOrMore a) n e f h (_, (_, of_one_or_more, o)) = climb_on e (0, omega arith, refl) (f a.0 h o)
+    climb_down (simple.Group a b) n e f h (_, (_, of_left, o)) = climb_on e (0, omega arith, refl) (f a.0 h.0 o)
+    climb_down (simple.Group a b) n e f h (_, (_, of_right, o)) = climb_on e (1, omega arith, refl) (f b.0 h.1 o)
+    climb_down (simple.Interleave a b) n e f h (_, (_, of_left, o)) = climb_on e (0, omega arith, refl) (f a.0 h.0 o)
+    climb_down (simple.Interleave a b) n e f h (_, (_, of_right, o)) = climb_on e (1, omega arith, refl) (f b.0 h.1 o)
+    climb_down (simple.Choice a b) n e f h (_, (_, of_left, o)) = climb_on e (0, omega arith, refl) (f a.0 h.0 o)
+    climb_down (simple.Choice a b) n e f h (_, (_, of_right, o)) = climb_on e (1, omega arith, refl) (f b.0 h.1 o)
 
     pub occurring_row : {q : STree} (bound n : ℕ) → n < bound → n < length ps → OccursIn q (at n) → RowAt (ClimbsFrom n) q
     occurring_row zero n m h o = absurd (omega (arith, m))
     occurring_row {q} (suc bound) n m h o =
         let r = row_of n h in
-        elim (occurs_cases o) [
+        elim (through_cases o) [
           | inl e ↦ record { place = n; pattern = r.0; there = r.1; is = sym e; holds = λ start c. at_start c }
           | inr i ↦ climb_down r.0 n r.1 (λ y p j. occurring_row bound y (omega (arith, p, m)) (omega (arith, p, h)) j) (valid.falls n r.0 r.1)
               (subst (OccursBelow q) (over n r.0 r.1) i)

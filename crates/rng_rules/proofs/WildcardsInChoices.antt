@@ -6,7 +6,7 @@ use Rattle.std.specs.List.{list_any}
 use Rattle.std.proofs.lemmas.List.{take_all}
 use Rattle.std.proofs.lemmas.List.Folds.{list_any_at}
 use Rattle.rng_model.specs.names.Names.{NameClass, NameClasses, classes_of, some_of, any_name, any_except, ns_name, ns_except, name_is, one_of, no_classes, class_and}
-use Rattle.rng_model.specs.restrictions.Restrictions.{HasWildcard, HaveWildcard, any, any_but, in_namespace, in_namespace_but, in_first, in_second, in_another, in_this, in_later}
+use Rattle.rng_model.specs.restrictions.Occurrences.{HasWildcard, HaveWildcard, any, any_but, in_namespace, in_namespace_but, in_first, in_second, in_another, in_this, in_later}
 use Rattle.rng_rules.specs.plain.Facts.{has_wildcard, have_wildcard}
 
 or-false : (b : Bool) → b ≡ (b || false)

@@ -1,7 +1,8 @@
 // The clauses that the parts of a grammar break, of those that a part breaks by itself.
 ghost use Rattle.std.specs.Prelude.{All, MatchOption, ◌≡◌, ◌<◌, ℕ, length, map, IfOk};
 ghost use Rattle.rng_model.specs.restrictions.Restrictions.{IsLeastRestriction};
-ghost use Rattle.rng_model.specs.simple.Table.{Grammar, grammar_of};
+ghost use Rattle.rng_model.specs.simple.Table.{grammar_of};
+ghost use Rattle.rng_model.specs.simple.Grammar.{Grammar};
 ghost use Rattle.rng_model.specs.simple.Tree as tree;
 ghost use Rattle.rng_model.specs.declared.simple.PatternId.{PatternId};
 ghost use Rattle.rng_rules.specs.plain.Broken.{IsIntactBelow, body_broken, either_broken, grammar_broken, part_broken, parts_broken, start_broken};

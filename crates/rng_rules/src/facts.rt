@@ -1,6 +1,7 @@
 // What is known of each pattern of a grammar.
 ghost use Rattle.std.specs.Prelude.{◌≡◌, ℕ, length, IfOk};
-ghost use Rattle.rng_model.specs.simple.Table.{AreChildrenBelow, tree_at, tree_over};
+ghost use Rattle.rng_model.specs.simple.Table.{tree_at, tree_over};
+ghost use Rattle.rng_model.specs.simple.TableRules.{AreChildrenBelow};
 ghost use Rattle.rng_model.specs.simple.Tree as tree;
 ghost use Rattle.rng_model.specs.names.NameViews.{class_of};
 ghost use Rattle.rng_model.specs.declared.simple.PatternId.{PatternId};

@@ -1,8 +1,8 @@
 // The check of the restrictions.
 ghost use Rattle.std.specs.Prelude.{MatchOption, IfErr, IfOk, OnOk};
-ghost use Rattle.rng_model.specs.restrictions.Restrictions.{IsLeastRestriction};
+ghost use Rattle.rng_model.specs.restrictions.Restrictions.{BreaksNone, IsLeastRestriction};
 ghost use Rattle.rng_model.specs.simple.Table.{grammar_of};
-ghost use Rattle.rng_model.specs.restrictions.Restricted.{IsRestricted, IsRestrictionFault};
+ghost use Rattle.rng_model.specs.restrictions.Restricted.{IsRestrictionFault};
 
 use crate::broken::broken_in;
 use crate::names_meet::{attribute_names_meet, element_names_meet};
@@ -16,7 +16,7 @@ use std::alloc::Global;
 /// hashing, and each class that is not a name is compared with each other class. For the other clauses the cost is
 /// linear in the table.
 pub fn restrict(alloc: Global, grammar: &SimpleGrammar) -> Result<(), SchemaFault>
-    ensures kept { OnOk result (IsRestricted (grammar_of grammar.now)) }
+    ensures kept { OnOk result (BreaksNone (grammar_of grammar.now)) }
     ensures broken { IfErr result (IsRestrictionFault (grammar_of grammar.now)) }
 {
     match first_broken(alloc, grammar)? {
@@ -27,7 +27,7 @@ pub fn restrict(alloc: Global, grammar: &SimpleGrammar) -> Result<(), SchemaFaul
 
 /// Returns the least clause that is broken.
 fn first_broken(alloc: Global, grammar: &SimpleGrammar) -> Result<Option<u8>, OutOfMemory>
-    ensures { IfOk result (λ found. MatchOption found (IsRestricted (grammar_of grammar.now)) (IsLeastRestriction (grammar_of grammar.now))) }
+    ensures { IfOk result (λ found. MatchOption found (BreaksNone (grammar_of grammar.now)) (IsLeastRestriction (grammar_of grammar.now))) }
 {
     let broken = broken_in(alloc, grammar)?;
     if let Some(clause) = broken.first_before_names() {

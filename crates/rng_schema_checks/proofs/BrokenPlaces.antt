@@ -6,12 +6,10 @@ use Rattle.std.proofs.lemmas.List.Folds.{Any-from_list_any, list_any_at}
 use Rattle.rng_model.specs.simple.Tree.{Datatype}
 use Rattle.rng_model.specs.schema.Patterns.{Place, Pattern, element, attribute, data_of, data_except, value, ref, parent_ref, without_parameters}
 use Rattle.rng_model.specs.schema.Schema.{Schema, Component, IsWrittenAt}
-use Rattle.rng_model.specs.datatypes.Datatypes.{IsKnownDatatype, IsAllowed}
-use Rattle.rng_model.specs.datatypes.DatatypeTests.{type_of}
+use Rattle.rng_model.specs.datatypes.Datatypes.{meaning_of, text_tests, IsKnownDatatype, IsAllowed}
 use Rattle.rng_model.specs.schema.SchemaClauses.{BreaksNameClass, of_element, of_attribute, of_declaration, BreaksDatatype, of_data, of_data_except, of_value}
 use Rattle.rng_model.specs.schema.SchemaClauses.{BreaksCombination, two_plain, both_methods, HasNoStart, BreaksRef, of_ref, of_parent_ref}
 use Rattle.rng_model.specs.schema.SchemaClauses.{BreaksSchemaClause, in_name_class, in_datatype, in_combination, without_start, in_ref, in_expansion, in_depth}
-use Rattle.rng_model.proofs.DatatypeTests.{allowed_decided, not_known, type_of-sound}
 use Rattle.rng_load.specs.plain.SchemaPlaces.{AreItsPlaces}
 use Rattle.rng_schema_checks.specs.plain.ClassTests.{breaks_except, declaration_test, has_part}
 use Rattle.rng_schema_checks.specs.plain.ClauseTests.{is_broken_at, number_of}
@@ -29,23 +27,18 @@ use Rattle.rng_schema_checks.proofs.WrittenInGrammars.{not_both, refuted}
 -- ---- datatypes
 
 unknown_is : (d : Datatype) → is_unknown d ≡ true → ¬ (IsKnownDatatype d)
-unknown_is d e known = by_type (type_of d) refl e where
-  by_type : (o : Option _) → type_of d ≡ o → not (is_some o) ≡ true → ⊥
-  by_type None is e = not_known d is known
-  by_type (Some t) is e = false_is_no_truth e
+unknown_is d e known = not_both (is_some (meaning_of d)) known e
 
 is_not_known : (d : Datatype) → ¬ (IsKnownDatatype d) → is_unknown d ≡ true
-is_not_known d n = by_type (type_of d) refl where
-  by_type : (o : Option _) → type_of d ≡ o → not (is_some o) ≡ true
-  by_type None is = refl
-  by_type (Some t) is = let has = type_of-sound d t is in absurd (n (t, has.named, has.taken))
+is_not_known d n = not_from_false (is_some (meaning_of d)) (refuted (is_some (meaning_of d)) n)
 
 module _ (library name v : List ℕ) where
   refused_is : is_refused library name v ≡ true → ¬ (IsAllowed (without_parameters library name) v)
-  refused_is e allowed = not_both _ ((allowed_decided (without_parameters library name) v).1 allowed) e
+  refused_is e allowed = not_both (text_tests.allows (without_parameters library name) v) allowed e
 
   is_not_allowed : ¬ (IsAllowed (without_parameters library name) v) → is_refused library name v ≡ true
-  is_not_allowed n = not_from_false _ (refuted _ (λ e. n ((allowed_decided (without_parameters library name) v).0 e)))
+  is_not_allowed n =
+      let allows = text_tests.allows (without_parameters library name) v in not_from_false allows (refuted allows n)
 
 -- ---- what breaks each clause
 

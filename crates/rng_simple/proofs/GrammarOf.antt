@@ -5,23 +5,23 @@ use Rattle.std.proofs.lemmas.List.Elements.{All-map}
 use Rattle.std.proofs.lemmas.Option.{slice_get_within, get_or_from_slice_get, slice_get-get_or}
 use Rattle.rng_model.specs.names.Names.{NameClass}
 use Rattle.rng_model.specs.simple.Tree.{Tree, Simple, s_leaf, as_tree, empty}
-use Rattle.rng_graph.specs.plain.InTwos.{nested}
+use Rattle.rng_simple.specs.plain.InTwos.{nested}
 use Rattle.rng_simple.specs.plain.SimpleOf.{simple_of}
 use Rattle.rng_model.specs.schema.Schema.{Schema, Definition, main_start}
 use Rattle.rng_model.specs.simple.Leaves.{LeafIn, AreLeavesBelow}
 use Rattle.rng_model.specs.schema.Unfolding.{Leaf, content_of, to_definition, aim, IsTreeOf, IsBodyOf}
 use Rattle.rng_model.specs.schema.Reached.{IsReachedByTrees, from_start, from_element, IsReachedBySimpleForms, from_simple_start, from_simple_body}
-use Rattle.rng_graph.specs.plain.Expansion.{KeepsExpansion}
-use Rattle.rng_graph.specs.plain.Met.{met_start, met_in_element}
+use Rattle.rng_simple.specs.plain.Expansion.{KeepsExpansion}
+use Rattle.rng_simple.specs.plain.Met.{met_start, met_in_element}
 use Rattle.rng_simple.specs.plain.Renamed.{simple_renamed}
-use Rattle.rng_model.specs.simple.Table.{Grammar}
+use Rattle.rng_model.specs.simple.Grammar.{Grammar}
 use Rattle.rng_simple.specs.plain.Numbering.{AreDistinct, no_element, element_at, AreBodies, IsListedAs, IsNumbering}
 use Rattle.rng_model.specs.simple.SchemaForm.{IsSimpleGrammarOf, IsOnlySimpleGrammarOf}
 use Rattle.rng_simple.specs.plain.SimpleWith.{simple_with, simple_at}
-use Rattle.rng_graph.specs.plain.DepthWith.{IsRight}
-use Rattle.rng_graph.specs.plain.Graph.{Spot, Graph, IsGraphOf, Mentions, IsOrderBy, IsFilledBy, leaf_number, same_leaf}
+use Rattle.rng_simple.specs.plain.DepthWith.{IsRight}
+use Rattle.rng_simple.specs.plain.Graph.{Spot, Graph, IsGraphOf, Mentions, IsOrderBy, IsFilledBy, leaf_number, same_leaf}
 use Rattle.rng_simple.specs.plain.GrammarBy.{spot_simple, content_simple, IsNumberReached, in_first, in_body, IsGrammarBy, IsMadeOf}
-use Rattle.rng_graph.proofs.LoopsOrOrder.{reached_is_met}
+use Rattle.rng_simple.proofs.LoopsOrOrder.{reached_is_met}
 use Rattle.rng_simple.proofs.PointSimples.{with_leaves}
 use Rattle.rng_simple.proofs.SimpleLeaves.{simple_leaves, with_renamed, simply_is_reached}
 use Rattle.rng_simple.proofs.Renamed.{renamed_corresponds, origin}
@@ -30,14 +30,14 @@ use Rattle.rng_simple.proofs.SimpleTables.{simples_right, simple_right}
 use Rattle.rng_simple.proofs.SimpleForms.{has_simple_form}
 use Rattle.rng_simple.proofs.Queues.{All-from_contains}
 use Rattle.rng_simple.proofs.NumberedSchema.{is_simple_grammar, only_simple_grammar}
-use Rattle.rng_graph.proofs.Graphs.{contains_found, found_contained, resolved_content, known}
-use Rattle.rng_graph.proofs.GraphTables.{number_is, leaf_number_is, leaf_same, table_of, filled_of}
+use Rattle.rng_simple.proofs.Graphs.{contains_found, found_contained, resolved_content, known}
+use Rattle.rng_simple.proofs.GraphTables.{number_is, leaf_number_is, leaf_same, table_of, filled_of}
 use Rattle.rng_simple.proofs.SimpleTables.{leaf_name, simple_resolved}
-use Rattle.rng_graph.specs.views.ExpansionOrder.{IsGraphOfSchema, IsWholeOrder}
-use Rattle.rng_graph.specs.views.GraphView.{graph_of, classes_of}
-use Rattle.rng_graph.specs.declared.graph.Graph as declared
-use Rattle.rng_graph.proofs.ListParts.{map_at}
-use Rattle.rng_graph.proofs.JudgedByNumbers.{order_is, order_covers, order_keeps_expansion, definitions}
+use Rattle.rng_simple.specs.views.ExpansionOrder.{IsGraphOfSchema, IsWholeOrder}
+use Rattle.rng_simple.specs.views.GraphView.{graph_of, classes_of}
+use Rattle.rng_simple.specs.declared.graph.parts.Graph as declared
+use Rattle.rng_simple.proofs.ListParts.{map_at}
+use Rattle.rng_simple.proofs.JudgedByNumbers.{order_is, order_covers, order_keeps_expansion, definitions}
 
 module _ (s : Schema) (ds : List Definition) (ls : List Leaf) (g : Graph) (is : IsGraphOf s ds ls g)
     {js : List ℕ} (o : IsOrderBy (Mentions g) js) (h : All (λ j. j < length ds) js) (all : (j : ℕ) → j < length ds → Contains js j)

@@ -6,7 +6,7 @@ use Rattle.rng_model.specs.simple.Tree.{Datatype, Connector, choice, group, inte
 use Rattle.rng_model.specs.simple.Tree.{value, mixed, optional, zero_or_more, one_or_more, joined, Trees, no_trees, tree_and, Simple, s_empty, s_text, as_tree}
 use Rattle.rng_model.specs.simple.Leaves.{LeafIn}
 use Rattle.rng_model.specs.simple.Leaves as at
-use Rattle.rng_graph.specs.plain.InTwos.{nested}
+use Rattle.rng_simple.specs.plain.InTwos.{nested}
 use Rattle.rng_simple.specs.plain.SimpleOf.{Sort, nothing, sort_of, attribute_by, list_by, except_by, one_or_more_by, choice_by, both_by, join, some_of, simple_of}
 use Rattle.rng_simple.specs.plain.SimpleOf.{join_all}
 use Rattle.rng_simple.proofs.TreeSplits.{Sorted, is_nothing, is_blank, is_proper, sorted}

@@ -1,5 +1,5 @@
 -- If a schema breaks the clause about datatypes nowhere, each datatype of its simple form is known.
-use Rattle.std.proofs.Common.{◌≡◌, refl, subst, ℕ, ◌+◌, Bool, true, false, if◌then◌else◌, List, [], ◌∷◌, Option, Some, None, get_or, slice_get}
+use Rattle.std.proofs.Common.{◌≡◌, refl, subst, ℕ, ◌+◌, Bool, true, false, if◌then◌else◌, List, [], ◌∷◌, Option, Some, None, is_some, IsTrue, get_or, slice_get}
 use Rattle.std.proofs.lemmas.List.Elements.{All-contains, All-from_get_or}
 use Rattle.std.proofs.lemmas.Option.{slice_get-get_or}
 use Rattle.rng_model.specs.names.Lists.{Among, here, there}
@@ -8,15 +8,15 @@ use Rattle.rng_model.specs.simple.Tree.{Connector, Tree, not_allowed, empty, tex
 use Rattle.rng_model.specs.simple.Tree.{zero_or_more, one_or_more, joined, Trees, no_trees, tree_and, as_tree}
 use Rattle.rng_model.specs.simple.Tree.{Simple, s_not_allowed, s_empty, s_text, s_leaf, s_attribute, s_list, s_data, s_data_except, s_value}
 use Rattle.rng_model.specs.simple.Tree.{s_one_or_more, s_joined}
-use Rattle.rng_model.specs.datatypes.Datatypes.{IsKnownDatatype}
-use Rattle.rng_model.specs.simple.Table.{Grammar}
+use Rattle.rng_model.specs.datatypes.Datatypes.{IsKnownDatatype, Meaning, known_allows, meaning_of}
+use Rattle.rng_model.specs.simple.Grammar.{Grammar}
 use Rattle.rng_model.specs.simple.Leaves.{renamed, LeafIn, LeafAmong}
 use Rattle.rng_model.specs.schema.Patterns as written
 use Rattle.rng_model.specs.schema.Patterns.{Place, Position, Pattern, Patterns, no_patterns, pattern_and, Point, an_element, a_ref, a_parent_ref, a_grammar}
 use Rattle.rng_model.specs.schema.Patterns.{pattern_tree, pattern_trees, without_parameters, IsWrittenIn, itself, in_element, in_attribute, in_list, in_except}
 use Rattle.rng_model.specs.schema.Patterns.{in_mixed, in_optional, in_zero_or_more, in_one_or_more, in_first, in_second, in_another, in_external}
 use Rattle.rng_model.specs.schema.Patterns.{IsWrittenAmong, in_this, in_later}
-use Rattle.rng_model.specs.schema.Schema.{Schema, Component, Definition, main_start, body, body_among, connector_of, nested, nested_from, same_name}
+use Rattle.rng_model.specs.schema.Schema.{Schema, Component, Definition, main_start, body, body_among, combining_connector, nested, nested_from, same_name}
 use Rattle.rng_model.specs.schema.Schema.{trees_named, HasComponent, IsWrittenAt}
 use Rattle.rng_model.specs.schema.SchemaClauses.{BreaksDatatype}
 use Rattle.rng_model.specs.simple.SchemaForm.{IsElementOf, IsSimpleFormOfSchema, IsSameUpToNumbering, IsSimpleGrammarOf, SimpleForm}
@@ -28,7 +28,7 @@ use Rattle.rng_model.specs.schema.Unfolding.{Leaf, to_element, outside, aim, Unf
 use Rattle.rng_model.specs.schema.Reached.{IsReachedBySimpleForms, from_simple_start, from_simple_body}
 use Rattle.rng_model.proofs.Unfolding.{some_is}
 use Rattle.rng_schema_checks.proofs.KeptDatatypes.{data_known, data_except_known, value_allowed}
-use Rattle.rng_graph.proofs.ResolvedBodies.{none_is_not_some}
+use Rattle.rng_simple.proofs.ResolvedBodies.{none_is_not_some}
 use Rattle.rng_simple.specs.plain.KnownDatatypes.{AreDatatypesKnown, AreGrammarDatatypesKnown, IsValueDatatype}
 
 first : {A B : Type 0} → A × B → A
@@ -36,6 +36,11 @@ first p = p.0
 
 second : {A B : Type 0} → A × B → B
 second p = p.1
+
+-- what allows a text is known
+known_if_allowed : (o : Option Meaning) (v : List ℕ) → IsTrue (known_allows o v) → IsTrue (is_some o)
+known_if_allowed None v allowed = allowed
+known_if_allowed (Some meaning) v allowed = refl
 
 -- ---- trees whose datatypes are known
 
@@ -149,7 +154,7 @@ module _ (s : Schema) (kept : ¬ (BreaksDatatype s)) where
   IsLeafThere l = (q : Pattern) → IsWrittenIn q l.content → IsWrittenAt s l.place q
 
   value_known : (x : Place) (library name v : List ℕ) → IsWrittenAt s x (written.value library name v) → IsValueDatatype (without_parameters library name)
-  value_known x library name v w = let a = value_allowed s kept x library name v w in ((a.0, a.1.named, a.1.taken), refl)
+  value_known x library name v w = (known_if_allowed (meaning_of (without_parameters library name)) v (value_allowed s kept x library name v w), refl)
 
   mutual
     pattern_known : (x : Place) (p : Pattern) (n : Position) → ((q : Pattern) → IsWrittenIn q p → IsWrittenAt s x q)
@@ -199,7 +204,7 @@ module _ (s : Schema) (kept : ¬ (BreaksDatatype s)) where
     where
       at_components : (o : Option (List Component)) → s.components d.place ≡ o → body_among d.name o ≡ Some a → IsKnownTree (IsPointThere d.place) a
       at_components None f e = absurd (none_is_not_some e)
-      at_components (Some cs) f e = nested_known (IsPointThere d.place) (connector_of d.name cs) (trees_named d.name 0 cs) a e
+      at_components (Some cs) f e = nested_known (IsPointThere d.place) (combining_connector d.name cs) (trees_named d.name 0 cs) a e
           (trees_known d.place d.name 0 cs (λ c m. record { components = cs; there = f; among = m }))
 
   aimed : (x : Place) (l : Point) (m : Leaf) → IsPointThere x l → aim s x l ≡ to_element m → IsLeafThere m

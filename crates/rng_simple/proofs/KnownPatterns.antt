@@ -4,10 +4,12 @@ use Rattle.std.proofs.lemmas.List.Elements.{All-from_get_or, All-head, All-tail}
 use Rattle.std.proofs.lemmas.Option.{slice_get-get_or}
 use Rattle.rng_model.specs.simple.Tree.{Simple}
 use Rattle.rng_model.specs.names.Lists.{Among, here, there}
-use Rattle.rng_model.specs.restrictions.Restrictions as restrictions
-use Rattle.rng_model.specs.restrictions.Restrictions.{IsPart, StandsIn, the_start, a_body}
+use Rattle.rng_model.specs.restrictions.Restrictions.{IsPart, the_start, a_body}
+use Rattle.rng_model.specs.simple.Inside.{StandsIn, itself, below, of_attribute, of_list, of_except, of_one_or_more, of_left, of_right}
 use Rattle.rng_model.specs.simple.SimplifiedSchema.{AreAllUsed}
-use Rattle.rng_model.specs.simple.Table.{Falls, Grammar, IsDatatypeKnown, Table, grammar_of, tree_at, tree_over}
+use Rattle.rng_model.specs.simple.Table.{Table, grammar_of, tree_at, tree_over}
+use Rattle.rng_model.specs.simple.TableRules.{Falls, IsDatatypeKnown}
+use Rattle.rng_model.specs.simple.Grammar.{Grammar}
 use Rattle.rng_model.specs.declared.simple.PatternId.{PatternId}
 use Rattle.rng_model.specs.declared.simple.Simple as declared
 use Rattle.rng_model.specs.declared.simple.Simple.TheVariants as simple
@@ -16,13 +18,13 @@ use Rattle.rng_simple.specs.plain.KnownDatatypes.{AreDatatypesKnown, AreGrammarD
 
 -- the parts of a tree with known datatypes have known datatypes
 known_inside : {q p : Simple ℕ} → StandsIn q p → AreDatatypesKnown p → AreDatatypesKnown q
-known_inside restrictions.itself h = h
-known_inside (restrictions.in_attribute i) h = known_inside i h
-known_inside (restrictions.in_list i) h = known_inside i h
-known_inside (restrictions.in_except i) h = known_inside i h.1
-known_inside (restrictions.in_one_or_more i) h = known_inside i h
-known_inside (restrictions.in_left i) h = known_inside i h.0
-known_inside (restrictions.in_right i) h = known_inside i h.1
+known_inside itself h = h
+known_inside (below _ of_attribute i) h = known_inside i h
+known_inside (below _ of_list i) h = known_inside i h
+known_inside (below _ of_except i) h = known_inside i h.1
+known_inside (below _ of_one_or_more i) h = known_inside i h
+known_inside (below _ of_left i) h = known_inside i h.0
+known_inside (below _ of_right i) h = known_inside i h.1
 
 all_among : {A : Type 0} (P : A → Type 0) {x : A} {xs : List A} → Among x xs → All P xs → P x
 all_among P (here {xs}) h = All-head P _ xs h

@@ -1,3 +1,39 @@
+pub mod DefinitionNumbers
+pub mod ResolvedMembers
+pub mod Forests
+pub mod PatternPoints
+pub mod OrderAndRest
+pub mod LoopsOrOrder
+pub mod SortedDefinitions
+pub mod Depths
+pub mod TablesInOrder
+pub mod RenamedLeaves
+pub mod Graphs
+pub mod GraphTables
+pub mod GrowingGraphs
+pub mod TableEntries
+pub mod SimpleClass
+pub mod InTwos
+pub mod TooDeep
+pub mod JudgedByNumbers
+pub mod DepthFirstSearch
+pub mod SearchSteps
+pub mod Adjacency
+pub mod MemberDepths
+pub mod ListParts
+pub mod ResolvedPatterns
+pub mod ComponentTables
+pub mod ResolvedBodies
+pub mod Mentioned
+pub mod Orders
+pub mod DepthTable
+pub mod ExpansionOrder
+pub mod GraphSteps
+pub mod ElementsApart
+pub mod SchemaGraphs
+pub mod ReadySchemas
+pub mod WholePatterns
+pub mod ResolvedRows
 pub mod TreeSplits
 pub mod StepSimpleOf
 pub mod NoStep
@@ -28,6 +64,7 @@ pub mod RowReach
 pub mod QueueMarks
 pub mod RowCopies
 pub mod GrammarElements
+mod SimpleBodies
 pub mod MadeGrammar
 mod RenamedRestrictions
 pub mod SameRestrictions

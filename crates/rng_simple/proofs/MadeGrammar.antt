@@ -5,16 +5,20 @@ use Rattle.std.proofs.lemmas.List.{length-map}
 use Rattle.std.proofs.lemmas.List.Elements.{All-map}
 use Rattle.std.proofs.lemmas.Option.{slice_get_within, slice_get-get_or, get_or_from_slice_get}
 use Rattle.rng_model.specs.names.Names as names
-use Rattle.rng_model.specs.simple.Tree.{as_tree, IsSimpleBody, IsFreeOfNotAllowed}
+use Rattle.rng_model.specs.simple.Tree.{as_tree}
+use Rattle.rng_simple.specs.plain.SimpleBodies.{IsPlainBody, LacksNotAllowed}
 use Rattle.rng_model.specs.simple.Tree.{Simple, s_not_allowed, s_empty, s_text, s_leaf, s_attribute, s_list, s_data, s_data_except, s_value, s_one_or_more, s_joined}
+use Rattle.rng_model.specs.simple.Grammar.{IsSimpleBody}
 use Rattle.rng_model.specs.simple.Leaves.{AreLeavesBelow}
-use Rattle.rng_model.specs.simple.Table.{Table, grammar_of, IsTable, IsDatatypeKnown, IsPaired, IsLeafListed, IsInSimpleSyntax}
+use Rattle.rng_model.specs.simple.Table.{Table, grammar_of}
+use Rattle.rng_model.specs.simple.TableRules.{IsTable, IsDatatypeKnown, IsPaired, IsLeafListed}
+use Rattle.rng_model.specs.simple.Grammar.{IsInSimpleSyntax}
 use Rattle.rng_model.specs.names.NameViews.{class_of}
 use Rattle.rng_model.specs.declared.name.NameClass.{NameClass}
 use Rattle.rng_model.specs.declared.simple.PatternId.{PatternId}
 use Rattle.rng_model.specs.declared.simple.Simple as declared
-use Rattle.rng_graph.specs.plain.Graph.{Graph}
-use Rattle.rng_graph.proofs.Graphs.{contains_found}
+use Rattle.rng_simple.specs.plain.Graph.{Graph}
+use Rattle.rng_simple.proofs.Graphs.{contains_found}
 use Rattle.rng_simple.specs.declared.rows.Row.{Row}
 use Rattle.rng_simple.specs.declared.rows.Row.TheVariants as row
 use Rattle.rng_simple.specs.plain.Copying.{tree_numbered, place_of, listed_at, AllChildren, IsCopied, AreCopied}
@@ -28,11 +32,12 @@ use Rattle.rng_simple.specs.plain.Worklist.{IsReachedBy, at_start, onward}
 use Rattle.rng_simple.proofs.RowCopies.{children_all, children_map}
 use Rattle.rng_simple.proofs.RowReach.{leaf_has_row, row_has_leaf, numbers_same}
 use Rattle.rng_simple.proofs.MappedLists.{found_mapped}
+use Rattle.rng_simple.proofs.SimpleBodies.{is_body}
 
 -- ---- trees without notAllowed
 
 module _ {K L : Type 0} (f : K → L) where
-  free_before : (s : Simple K) → IsFreeOfNotAllowed (simple_renamed f s) → IsFreeOfNotAllowed s
+  free_before : (s : Simple K) → LacksNotAllowed (simple_renamed f s) → LacksNotAllowed s
   free_before s_not_allowed h = h
   free_before s_empty h = tt
   free_before s_text h = tt
@@ -45,7 +50,7 @@ module _ {K L : Type 0} (f : K → L) where
   free_before (s_one_or_more s) h = free_before s h
   free_before (s_joined k s u) h = (free_before s h.0, free_before u h.1)
 
-  simple_before : (s : Simple K) → IsSimpleBody (simple_renamed f s) → IsSimpleBody s
+  simple_before : (s : Simple K) → IsPlainBody (simple_renamed f s) → IsPlainBody s
   simple_before s_not_allowed h = tt
   simple_before s_empty h = tt
   simple_before s_text h = tt
@@ -128,7 +133,7 @@ module _ (l : Labels) (rs : List Row) (rows : AreRows l rs) (contents : List ℕ
 
     -- what is copied is in the simple syntax
     copied_simple : (place i : ℕ) → IsCopied ps listed place (tree_at l rs i) → IsSimpleBody (tree_numbered ps place)
-    copied_simple place i c = simple_before (listed_at listed) (tree_numbered ps place) (subst IsSimpleBody (sym c.is) (rows.simple i))
+    copied_simple place i c = is_body (tree_numbered ps place) (simple_before (listed_at listed) (tree_numbered ps place) (subst IsPlainBody (sym c.is) (rows.simple i)))
 
     pub is_simple : IsInSimpleSyntax (grammar_of table)
     is_simple = record {

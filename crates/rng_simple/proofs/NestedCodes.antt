@@ -1,7 +1,7 @@
 -- Name classes that are equal once they are nested in twos, by their codes.
 use Rattle.std.proofs.Common.{◌≡◌, refl, ap, sym, ◌∙◌, List, [], ◌∷◌}
 use Rattle.rng_model.specs.names.Names.{NameClass, any_name, any_except, ns_name, ns_except, name_is, one_of, NameClasses, no_classes, class_and}
-use Rattle.rng_graph.specs.plain.InTwos.{nested, nested_after}
+use Rattle.rng_simple.specs.plain.InTwos.{nested, nested_after}
 use Rattle.rng_labels.specs.plain.LabelCodes.{Part, any_but, ns_but, either, class_code, more_code, IsInTwos}
 use Rattle.rng_labels.proofs.LabelCodes as codes
 

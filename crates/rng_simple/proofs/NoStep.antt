@@ -8,7 +8,7 @@ use Rattle.rng_model.specs.simple.Tree.{Simple, as_tree}
 use Rattle.rng_model.specs.simple.Simplification.{RuleGroup, Step}
 use Rattle.rng_model.specs.simple.Simplification as step
 use Rattle.rng_simple.specs.plain.SimpleOf.{Sort, sort_of, attribute_by, list_by, except_by, one_or_more_by, choice_by, both_by, join, some_of, simple_of, join_all}
-use Rattle.rng_graph.proofs.SimpleClass.{class_unchanged}
+use Rattle.rng_simple.proofs.SimpleClass.{class_unchanged}
 use Rattle.rng_simple.proofs.TreeSplits.{Sorted, is_nothing, is_blank, is_proper, sorted, proper_is_not_empty}
 
 -- no step of either group is possible

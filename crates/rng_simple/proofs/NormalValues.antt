@@ -9,8 +9,8 @@ use Rattle.rng_model.specs.simple.ClassSteps.{ClassStep}
 use Rattle.rng_model.specs.simple.Simplification.{RuleGroup, Step}
 use Rattle.rng_model.specs.simple.Simplification as step
 use Rattle.rng_simple.specs.plain.SimpleOf.{Sort, attribute_by, list_by, except_by, one_or_more_by, choice_by, both_by, join, some_of, simple_of, join_all}
-use Rattle.rng_graph.specs.plain.InTwos.{nested}
-use Rattle.rng_graph.proofs.SimpleClass.{class_normal}
+use Rattle.rng_simple.specs.plain.InTwos.{nested}
+use Rattle.rng_simple.proofs.SimpleClass.{class_normal}
 use Rattle.rng_simple.proofs.NoStep.{HasNoStep}
 use Rattle.rng_simple.proofs.TreeSplits.{Sorted, is_nothing, is_blank, is_proper, sorted, proper_is_allowed, proper_is_not_empty}
 

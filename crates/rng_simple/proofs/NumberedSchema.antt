@@ -7,22 +7,22 @@ use Rattle.rng_model.specs.names.Names.{NameClass}
 use Rattle.rng_model.specs.simple.Tree.{Tree, Simple, as_tree}
 use Rattle.rng_model.specs.simple.ClassSteps.{IsSimpleClassOf}
 use Rattle.rng_model.specs.simple.Simplification.{IsSimpleFormOf}
-use Rattle.rng_graph.specs.plain.InTwos.{nested}
+use Rattle.rng_simple.specs.plain.InTwos.{nested}
 use Rattle.rng_simple.specs.plain.SimpleOf.{simple_of}
 use Rattle.rng_model.specs.schema.Schema.{Schema, Definition, main_start}
 use Rattle.rng_model.specs.simple.Leaves.{LeafIn, renamed, AreLeavesBelow}
 use Rattle.rng_model.specs.schema.Unfolding.{Leaf, Unfolds, IsTreeOf, IsBodyOf}
-use Rattle.rng_graph.specs.plain.Expansion.{KeepsExpansion}
+use Rattle.rng_simple.specs.plain.Expansion.{KeepsExpansion}
 use Rattle.rng_model.specs.schema.Reached.{IsReachedBySimpleForms, from_simple_start, from_simple_body}
 use Rattle.rng_simple.specs.plain.Renamed.{simple_renamed}
 use Rattle.rng_model.specs.simple.SchemaForm.{Element, SimpleForm, IsElementOf, IsSimpleFormOfSchema, IsSameUpToNumbering, IsSimpleGrammarOf}
 use Rattle.rng_model.specs.simple.SchemaForm.{IsOnlySimpleGrammarOf}
-use Rattle.rng_model.specs.simple.Table.{Grammar}
+use Rattle.rng_model.specs.simple.Grammar.{Grammar}
 use Rattle.rng_simple.specs.plain.Numbering.{no_element, element_at, AreBodies, IsNumbering}
 use Rattle.rng_model.proofs.Unfolding.{some_is, one_tree}
-use Rattle.rng_graph.proofs.Graphs.{found}
-use Rattle.rng_graph.proofs.GraphTables.{Contains-map}
-use Rattle.rng_graph.proofs.SimpleClass.{has_simple_class, is_only_simple_class}
+use Rattle.rng_simple.proofs.Graphs.{found}
+use Rattle.rng_simple.proofs.GraphTables.{Contains-map}
+use Rattle.rng_simple.proofs.SimpleClass.{has_simple_class, is_only_simple_class}
 use Rattle.rng_simple.proofs.SimpleForms.{has_simple_form, is_only_simple_form}
 use Rattle.rng_simple.proofs.Renamed.{as_tree_renamed, origin}
 use Rattle.rng_simple.proofs.SimpleLeaves.{simply_is_reached}

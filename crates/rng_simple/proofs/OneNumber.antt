@@ -1,7 +1,7 @@
 -- In a table whose rows and labels are distinct, numbers are equal exactly if their trees are.
 use Rattle.std.proofs.Common.{◌≡◌, ◌↔◌, refl, ap, sym, ◌∙◌, ℕ, zero, suc, ◌<◌, List, length, Some, arith}
 use Rattle.rng_model.specs.simple.Tree.{Simple}
-use Rattle.rng_graph.proofs.Graphs.{found}
+use Rattle.rng_simple.proofs.Graphs.{found}
 use Rattle.rng_simple.specs.views.Rows.{Labels, class_at, datatype_at, value_at, row_tree, tree_at, AreChildrenBelow, IsLabelled, AreDistinctRows, AreRows}
 use Rattle.rng_simple.specs.declared.rows.Row.{Row}
 use Rattle.rng_simple.specs.declared.rows.Row.TheVariants as row

@@ -10,8 +10,8 @@ use Rattle.rng_model.specs.simple.ClassSteps as class_step
 use Rattle.rng_model.specs.simple.Simplification.{RuleGroup, Step, AnyStep, Steps}
 use Rattle.rng_model.specs.simple.Simplification as step
 use Rattle.rng_simple.specs.plain.SimpleOf.{Sort, attribute_by, list_by, except_by, one_or_more_by, choice_by, both_by, join, some_of, simple_of, join_all}
-use Rattle.rng_graph.specs.plain.InTwos.{nested}
-use Rattle.rng_graph.proofs.SimpleClass.{class_reached}
+use Rattle.rng_simple.specs.plain.InTwos.{nested}
+use Rattle.rng_simple.proofs.SimpleClass.{class_reached}
 use Rattle.rng_simple.proofs.TreeSplits.{Sorted, is_nothing, is_blank, is_proper, sorted, proper_is_not_empty}
 
 module _ {L : Type 0} where

@@ -10,7 +10,8 @@ use Rattle.rng_model.specs.simple.Tree as tree
 use Rattle.rng_model.specs.simple.Tree.{as_tree, choice, group, interleave, s_not_allowed, s_leaf, s_attribute, s_list, s_data_except, s_one_or_more, s_joined}
 use Rattle.rng_model.specs.simple.Leaves.{LeafIn, AreLeavesBelow}
 use Rattle.rng_model.specs.simple.Leaves as at
-use Rattle.rng_model.specs.simple.Table.{tree_over, IsLeafListed, IsClassPaired}
+use Rattle.rng_model.specs.simple.Table.{tree_over}
+use Rattle.rng_model.specs.simple.TableRules.{IsLeafListed, IsClassPaired}
 use Rattle.rng_model.specs.simple.Table as tables
 use Rattle.rng_model.specs.declared.simple.Simple.{Simple}
 use Rattle.rng_model.specs.declared.simple.Simple.TheVariants as simple

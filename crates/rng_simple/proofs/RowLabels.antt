@@ -2,8 +2,8 @@
 use Rattle.std.proofs.Common.{◌≡◌, ap, ap₂, sym, ◌∙◌, ℕ, zero, suc, ◌<◌, List, [], ◌∷◌, ◌++◌, length, map, get_or, slice_get, Some, arith}
 use Rattle.std.proofs.lemmas.List.{length-map, map_push}
 use Rattle.std.proofs.lemmas.Option.{slice_get_within, get_or_from_slice_get}
-use Rattle.rng_graph.proofs.Graphs.{found}
-use Rattle.rng_graph.proofs.ListParts.{map_at}
+use Rattle.rng_simple.proofs.Graphs.{found}
+use Rattle.rng_simple.proofs.ListParts.{map_at}
 use Rattle.rng_labels.specs.plain.LabelCodes.{Part}
 use Rattle.rng_simple.specs.views.RowTable.{AreCodes}
 

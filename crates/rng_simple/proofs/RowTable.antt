@@ -5,7 +5,8 @@ use Rattle.std.proofs.lemmas.Bool.{cases_lt, cases_eq}
 use Rattle.std.proofs.lemmas.List.{get_or_past, append-nil}
 use Rattle.std.proofs.lemmas.Option.{slice_get_within, slice_get-get_or}
 use Rattle.rng_model.specs.names.Names.{NameClass}
-use Rattle.rng_model.specs.simple.Tree.{Datatype, Simple, s_not_allowed, IsSimpleBody}
+use Rattle.rng_model.specs.simple.Tree.{Datatype, Simple, s_not_allowed}
+use Rattle.rng_simple.specs.plain.SimpleBodies.{IsPlainBody}
 use Rattle.rng_simple.specs.plain.SimpleOf.{proper, sort_of}
 use Rattle.rng_simple.specs.declared.rows.Row.{Row}
 use Rattle.rng_simple.specs.declared.rows.Row.TheVariants as row
@@ -19,7 +20,7 @@ use Rattle.rng_simple.proofs.RowTrees.{reads_below, tree_at-over_children, tree_
 -- ---- one more row
 
 module _ (l : Labels) (rs : List Row) (r : Row) (rows : AreRows l rs) (below : AreChildrenBelow (length rs) r) (labelled : IsLabelled l r)
-    (simple : IsSimpleBody (row_tree l (tree_at l rs) r)) where
+    (simple : IsPlainBody (row_tree l (tree_at l rs) r)) where
   abbrev more : List Row
   more = rs ++ r ∷ []
 
@@ -30,15 +31,15 @@ module _ (l : Labels) (rs : List Row) (r : Row) (rows : AreRows l rs) (below : A
     | inr h ↦ subst (λ n. P n q) (sym h.0) (subst (P (length rs)) (sym h.1) p)
   ]
 
-  simple_after : (i : ℕ) → IsSimpleBody (tree_at l more i)
+  simple_after : (i : ℕ) → IsPlainBody (tree_at l more i)
   simple_after i = elim (cases_lt i (length rs)) [
-    | inl h ↦ subst IsSimpleBody (sym (tree_stays_after_push l rs more r i refl h)) (rows.simple i)
+    | inl h ↦ subst IsPlainBody (sym (tree_stays_after_push l rs more r i refl h)) (rows.simple i)
     | inr h ↦ elim (cases_eq i (length rs)) [
-      | inl e ↦ subst IsSimpleBody (sym (tree_of_pushed l rs more r i refl e)) simple
+      | inl e ↦ subst IsPlainBody (sym (tree_of_pushed l rs more r i refl e)) simple
       | inr n ↦
           let past : tree_at l more i ≡ s_not_allowed = get_or_past (trees l more) i s_not_allowed
           (omega (arith, length-trees l more, length-append rs (r ∷ []), h, n)) in
-          subst IsSimpleBody (sym past) tt
+          subst IsPlainBody (sym past) tt
     ]
   ]
 
@@ -95,8 +96,8 @@ first_alone l = record {
     | inr h ↦ subst (IsLabelled l) (sym h.1) tt
   ];
   simple = λ i. elim (cases_eq i 0) [
-    | inl h ↦ subst (λ n. IsSimpleBody (tree_at l (row.Empty ∷ []) n)) (sym h) tt
-    | inr h ↦ subst IsSimpleBody (sym (get_or_past (trees l (row.Empty ∷ [])) i s_not_allowed (omega (arith, length-trees l (row.Empty ∷ []), h)))) tt
+    | inl h ↦ subst (λ n. IsPlainBody (tree_at l (row.Empty ∷ []) n)) (sym h) tt
+    | inr h ↦ subst IsPlainBody (sym (get_or_past (trees l (row.Empty ∷ [])) i s_not_allowed (omega (arith, length-trees l (row.Empty ∷ []), h)))) tt
   ];
 }
 
@@ -111,7 +112,7 @@ rows_relabelled l m rs rows more = record {
   first = rows.first;
   falls = rows.falls;
   labelled = stay_labelled l m more rs rows.labelled;
-  simple = λ i. subst IsSimpleBody (sym (trees_stay l m more rs rows.labelled i)) (rows.simple i);
+  simple = λ i. subst IsPlainBody (sym (trees_stay l m more rs rows.labelled i)) (rows.simple i);
 }
 
 module _ (l m : Labels) where

@@ -5,26 +5,28 @@ use Rattle.std.proofs.lemmas.Option.{slice_get_within}
 use Rattle.rng_model.specs.names.Lists.{Among}
 use Rattle.rng_model.specs.names.Lists as lists
 use Rattle.rng_model.specs.names.Names.{NameClass}
+use Rattle.rng_model.specs.simple.Inside.{StandsIn, itself, below, of_attribute, of_list, of_except, of_one_or_more, of_left, of_right}
+use Rattle.rng_model.specs.restrictions.Paths.{HasProhibited, HasProhibitedInStart}
+use Rattle.rng_model.specs.restrictions.ContentTypes.{BreaksContent}
+use Rattle.rng_model.specs.restrictions.Occurrences.{BreaksAttributeNames, BreaksWildcard, BreaksElementNames, BreaksText}
 use Rattle.rng_model.specs.restrictions.Restrictions as r
-use Rattle.rng_model.specs.restrictions.Restrictions.{BreaksRestriction, ClassIn, IsPart, StandsIn, the_start, a_body}
+use Rattle.rng_model.specs.restrictions.Restrictions.{BreaksRestriction, ClassIn, IsPart, the_start, a_body}
 use Rattle.rng_model.specs.schema.Schema.{Schema}
 use Rattle.rng_model.specs.simple.SchemaForm.{Element, SimpleForm, IsElementOf, IsSimpleFormOfSchema, IsSameUpToNumbering, IsSimpleGrammarOf}
 use Rattle.rng_model.specs.simple.Leaves.{LeafIn, AreLeavesBelow, renamed}
 use Rattle.rng_model.specs.simple.Leaves as at
 use Rattle.rng_model.specs.simple.ClassSteps.{IsSimpleClassOf}
-use Rattle.rng_model.specs.simple.Table.{Grammar}
+use Rattle.rng_model.specs.simple.Grammar.{Grammar}
 use Rattle.rng_model.specs.simple.Tree.{Simple, s_leaf, as_tree}
 use Rattle.rng_model.specs.schema.Unfolding.{Leaf, IsBodyOf}
 use Rattle.rng_model.proofs.SimpleTrees.{same_simple}
 use Rattle.rng_model.proofs.Unfolding.{one_tree, some_is}
-use Rattle.rng_graph.proofs.Graphs.{found}
+use Rattle.rng_simple.proofs.Graphs.{found}
 use Rattle.rng_simple.specs.plain.Renamed.{simple_renamed}
 use Rattle.rng_simple.proofs.NumberedSchema.{same_element, same_class, same_form, only_simple_grammar}
 use Rattle.rng_simple.proofs.Renamed.{as_tree_renamed}
-use Rattle.rng_simple.proofs.RenamedRestrictions.{attribute_forth, one_or_more_forth, list_forth, except_forth, start_forth, content_forth}
-use Rattle.rng_simple.proofs.RenamedRestrictions.{attribute_names_forth, wildcard_forth, element_names_forth, text_forth}
-use Rattle.rng_simple.proofs.RenamedRestrictions.{attribute_from, one_or_more_from, list_from, except_from, start_from, content_from}
-use Rattle.rng_simple.proofs.RenamedRestrictions.{attribute_names_from, wildcard_from, element_names_from, text_from}
+use Rattle.rng_simple.proofs.RenamedRestrictions.{prohibited_forth, start_forth, content_forth, attribute_names_forth, wildcard_forth, element_names_forth, text_forth}
+use Rattle.rng_simple.proofs.RenamedRestrictions.{prohibited_from, start_from, content_from, attribute_names_from, wildcard_from, element_names_from, text_from}
 
 -- the members of a list are those that are found at its indices
 among_at : {A : Type 0} {x : A} {xs : List A} → Among x xs → (k : ℕ) × (slice_get xs k ≡ Some x)
@@ -38,13 +40,13 @@ at_among (y ∷ xs) (suc k) x e = lists.there (at_among xs k x e)
 
 -- a leaf inside a pattern is a leaf of its tree
 leaf_in : {k : ℕ} {p : Simple ℕ} → StandsIn (s_leaf k) p → LeafIn k (as_tree p)
-leaf_in r.itself = at.here
-leaf_in (r.in_attribute w) = at.of_attribute (leaf_in w)
-leaf_in (r.in_list w) = at.of_list (leaf_in w)
-leaf_in (r.in_except w) = at.of_except (leaf_in w)
-leaf_in (r.in_one_or_more w) = at.of_one_or_more (leaf_in w)
-leaf_in (r.in_left w) = at.of_first (leaf_in w)
-leaf_in (r.in_right w) = at.of_second (leaf_in w)
+leaf_in itself = at.here
+leaf_in (below _ of_attribute w) = at.of_attribute (leaf_in w)
+leaf_in (below _ of_list w) = at.of_list (leaf_in w)
+leaf_in (below _ of_except w) = at.of_except (leaf_in w)
+leaf_in (below _ of_one_or_more w) = at.of_one_or_more (leaf_in w)
+leaf_in (below _ of_left w) = at.of_first (leaf_in w)
+leaf_in (below _ of_right w) = at.of_second (leaf_in w)
 
 module _ (s : Schema) (f : SimpleForm) (form : IsSimpleFormOfSchema s f) where
   -- an element of a simple form is determined by its name
@@ -113,39 +115,33 @@ module _ (s : Schema) (f : SimpleForm) (form : IsSimpleFormOfSchema s f) where
 
     class_back : (q : Simple ℕ) → AreLeavesBelow (length h.elements) (as_tree q) → (k : ℕ) (c : NameClass) → StandsIn (s_leaf k) q
         → IsClassNamed (n.element k) c → ClassIn h k c
-    class_back q below k c w named =
-        let x = found h.elements k (below k (leaf_in w)) in
+    class_back q under k c w named =
+        let x = found h.elements k (under k (leaf_in w)) in
         let d = n.bodies k x.0.0 x.0.1 x.1 in
         let same = one_element (record { name = n.element k; class = x.0.0; body = renamed n.element (as_tree x.0.1) }) named.0 d.0 named.1 (sym named.2) in
         let class : x.0.0 ≡ c = ap (λ (y : Element). y.class) same ∙ named.3 in
         (x.0.1, x.1 ∙ ap (λ z. Some (z, x.0.1)) class)
 
     pub breaks_too : (clause : ℕ) → BreaksRestriction g clause → BreaksRestriction h clause
-    breaks_too clause (r.in_attribute_of {p = p} i b) = let o = other_part i in
-        r.in_attribute_of o.is_part (attribute_from n.element o.part (subst r.BreaksAttribute o.is.same (attribute_forth m.element p b)))
-    breaks_too clause (r.in_one_or_more_of {p = p} i b) = let o = other_part i in
-        r.in_one_or_more_of o.is_part (one_or_more_from n.element o.part (subst r.BreaksOneOrMore o.is.same (one_or_more_forth m.element p b)))
-    breaks_too clause (r.in_list_of {p = p} i b) = let o = other_part i in
-        r.in_list_of o.is_part (list_from n.element o.part (subst r.BreaksList o.is.same (list_forth m.element p b)))
-    breaks_too clause (r.in_except_of {p = p} i b) = let o = other_part i in
-        r.in_except_of o.is_part (except_from n.element o.part (subst r.BreaksExcept o.is.same (except_forth m.element p b)))
+    breaks_too clause (r.in_path {p = p} i b) = let o = other_part i in
+        r.in_path o.is_part (prohibited_from n.element o.part (subst (HasProhibited clause) o.is.same (prohibited_forth m.element p b)))
     breaks_too clause (r.in_start b) =
         r.in_start (start_from n.element h.start
-        (subst r.BreaksStart (same_parts g.start h.start (sym m.start ∙ n.start)) (start_forth m.element g.start b)))
+        (subst HasProhibitedInStart (same_parts g.start h.start (sym m.start ∙ n.start)) (start_forth m.element g.start b)))
     breaks_too clause (r.in_content {c = c} {body = body} a b) =
         let k = among_at a in
         let o = other_element k.0 c body k.1 in
         r.in_content (at_among h.elements o.number (c, o.body) o.there)
-        (content_from n.element o.body (subst r.BreaksContent o.is.same (content_forth m.element body b)))
+        (content_from n.element o.body (subst BreaksContent o.is.same (content_forth m.element body b)))
     breaks_too clause (r.in_attribute_names {p = p} i b) = let o = other_part i in
-        r.in_attribute_names o.is_part (attribute_names_from n.element o.part (subst r.BreaksAttributeNames o.is.same (attribute_names_forth m.element p b)))
+        r.in_attribute_names o.is_part (attribute_names_from n.element o.part (subst BreaksAttributeNames o.is.same (attribute_names_forth m.element p b)))
     breaks_too clause (r.in_wildcard {p = p} i b) = let o = other_part i in
-        r.in_wildcard o.is_part (wildcard_from n.element o.part (subst r.BreaksWildcard o.is.same (wildcard_forth m.element p b)))
+        r.in_wildcard o.is_part (wildcard_from n.element o.part (subst BreaksWildcard o.is.same (wildcard_forth m.element p b)))
     breaks_too clause (r.in_element_names {p = p} i b) = let o = other_part i in
         r.in_element_names o.is_part (element_names_from n.element (ClassIn h) IsClassNamed o.part (class_back o.part o.is.below)
-        (subst (r.BreaksElementNames IsClassNamed) o.is.same (element_names_forth m.element (ClassIn g) IsClassNamed p class_forth b)))
+        (subst (BreaksElementNames IsClassNamed) o.is.same (element_names_forth m.element (ClassIn g) IsClassNamed p class_forth b)))
     breaks_too clause (r.in_text {p = p} i b) = let o = other_part i in
-        r.in_text o.is_part (text_from n.element o.part (subst r.BreaksText o.is.same (text_forth m.element p b)))
+        r.in_text o.is_part (text_from n.element o.part (subst BreaksText o.is.same (text_forth m.element p b)))
 
 -- two simple grammars of a schema break the same restrictions
 pub same_restrictions : (s : Schema) (g h : Grammar) → IsSimpleGrammarOf s g → IsSimpleGrammarOf s h → (clause : ℕ) → BreaksRestriction g clause

@@ -8,19 +8,21 @@ use Rattle.rng_model.specs.simple.Tree.{Tree, Simple, s_empty, as_tree}
 use Rattle.rng_model.specs.matching.Document.{Item}
 use Rattle.rng_model.specs.matching.Matching.{Texts}
 use Rattle.rng_model.specs.matching.Lex.{HasText}
-use Rattle.rng_model.specs.simple.Table.{Nothing, Grammar, IsListed, is_listed, grammar_leaves, IsValidBy}
+use Rattle.rng_model.specs.matching.GrammarMatching.{Nothing, IsListed, is_listed, grammar_leaves, IsValidBy}
+use Rattle.rng_model.specs.simple.Grammar.{Grammar}
 use Rattle.rng_model.specs.datatypes.Texts.{texts_of}
-use Rattle.rng_model.specs.datatypes.DatatypeTests.{text_tests}
+use Rattle.rng_model.specs.datatypes.Datatypes.{text_tests}
 use Rattle.rng_model.specs.simple.Leaves.{renamed}
 use Rattle.rng_model.specs.schema.Patterns.{Point}
 use Rattle.rng_model.specs.schema.Schema.{Schema, main_start, body}
 use Rattle.rng_model.specs.schema.Unfolding.{Leaf, Unfolds, IsBodyOf}
 use Rattle.rng_model.specs.schema.Reached.{IsReachedBySimpleForms, from_simple_start, from_simple_body}
 use Rattle.rng_model.specs.simple.SchemaForm.{SimpleForm, IsElementOf, IsSimpleFormOfSchema, IsSameUpToNumbering, IsSimpleGrammarOf}
-use Rattle.rng_model.specs.matching.SchemaMatching.{IsValidOver, AreSameDocuments}
+use Rattle.rng_model.specs.matching.SchemaMatching.{IsValidOver}
+use Rattle.rng_model.specs.simple.SimplifiedSchema.{AreSameDocuments}
 use Rattle.rng_model.proofs.Unfolding.{some_is, one_tree}
-use Rattle.rng_graph.specs.plain.InTwos.{nested}
-use Rattle.rng_graph.proofs.SimpleClass.{is_only_simple_class}
+use Rattle.rng_simple.specs.plain.InTwos.{nested}
+use Rattle.rng_simple.proofs.SimpleClass.{is_only_simple_class}
 use Rattle.rng_simple.specs.plain.SimpleOf.{simple_of}
 use Rattle.rng_simple.proofs.SimpleForms.{has_simple_form, is_only_simple_form}
 use Rattle.rng_simple.proofs.StepMatches.{weakly}

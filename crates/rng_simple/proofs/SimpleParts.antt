@@ -6,14 +6,14 @@ use Rattle.std.proofs.lemmas.List.{length-map, length-take, take-map, drop-map, 
 use Rattle.std.proofs.lemmas.Option.{slice_get_within}
 use Rattle.rng_model.specs.simple.Tree.{Connector, choice, group, interleave, Tree}
 use Rattle.rng_model.specs.simple.Tree.{joined, no_trees, Simple, s_leaf, s_empty, s_text}
-use Rattle.rng_graph.specs.plain.InTwos.{nested}
+use Rattle.rng_simple.specs.plain.InTwos.{nested}
 use Rattle.rng_model.specs.schema.Schema.{nested_from}
-use Rattle.rng_graph.specs.plain.Graph.{Spot, of_spot}
-use Rattle.rng_graph.specs.views.GraphView.{arity, child, combined, forest, members, row_tree, trees_of}
-use Rattle.rng_graph.specs.declared.graph.GraphRow.{GraphRow}
-use Rattle.rng_graph.specs.declared.graph.GraphRow.TheVariants as row
+use Rattle.rng_simple.specs.plain.Graph.{Spot, of_spot}
+use Rattle.rng_simple.specs.views.GraphView.{arity, child, combined, forest, members, row_tree, trees_of}
+use Rattle.rng_simple.specs.declared.graph.parts.GraphRow.{GraphRow}
+use Rattle.rng_simple.specs.declared.graph.parts.GraphRow.TheVariants as row
 use Rattle.rng_model.proofs.ReplacedLists.{last_seen, replaced_seen}
-use Rattle.rng_graph.proofs.Forests.{next_row}
+use Rattle.rng_simple.proofs.Forests.{next_row}
 use Rattle.rng_model.specs.datatypes.DatatypeViews.{datatype_of}
 use Rattle.rng_model.specs.names.NameViews.{class_of}
 use Rattle.rng_simple.specs.declared.rows.Row.TheVariants as simple

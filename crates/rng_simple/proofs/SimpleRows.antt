@@ -5,9 +5,9 @@ use Rattle.std.proofs.lemmas.Bool.{cases_lt, cases_eq}
 use Rattle.std.proofs.lemmas.List.{take_more, get_or-set_same, get_or-set_other, get_or_past}
 use Rattle.std.proofs.lemmas.Option.{slice_get-get_or, get_or_from_slice_get}
 use Rattle.rng_model.specs.simple.Tree.{Tree, empty, s_empty, Simple}
-use Rattle.rng_graph.specs.plain.Graph.{Spot, Graph, Mentions, IsOrderBy, IsFilledBy}
-use Rattle.rng_graph.proofs.TableEntries.{filled_more}
-use Rattle.rng_graph.proofs.Orders.{first_in_order, mentions_earlier}
+use Rattle.rng_simple.specs.plain.Graph.{Spot, Graph, Mentions, IsOrderBy, IsFilledBy}
+use Rattle.rng_simple.proofs.TableEntries.{filled_more}
+use Rattle.rng_simple.proofs.Orders.{first_in_order, mentions_earlier}
 use Rattle.rng_simple.specs.declared.row_table.RowTable.{RowTable}
 use Rattle.rng_simple.specs.plain.GrammarBy.{spot_simple, content_simple}
 use Rattle.rng_simple.specs.plain.SimpleWith.{simple_with}

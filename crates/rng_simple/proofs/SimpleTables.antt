@@ -5,14 +5,14 @@ use Rattle.rng_model.specs.schema.Patterns.{Place, Point}
 use Rattle.rng_model.specs.schema.Schema.{Schema, Definition}
 use Rattle.rng_model.specs.simple.Leaves.{LeafIn}
 use Rattle.rng_model.specs.schema.Unfolding.{Leaf, aim, Unfolds}
-use Rattle.rng_graph.specs.plain.Met.{IsSettled, IsOrder}
-use Rattle.rng_graph.specs.plain.DepthWith.{of_aim, IsFilled, IsRight}
-use Rattle.rng_graph.specs.plain.Graph.{Spot, at_element, at_definition, Graph, element_aim, definition_aim, aim_at, IsSpotBelow, IsResolved, IsGraphOf}
-use Rattle.rng_graph.specs.plain.Graph.{of_spot, leaf_number}
-use Rattle.rng_graph.proofs.TablesInOrder.{body_right, filled_right}
-use Rattle.rng_graph.proofs.TableEntries.{ReadsMentions}
-use Rattle.rng_graph.proofs.Graphs.{found}
-use Rattle.rng_graph.proofs.GraphTables.{number_is, leaf_number_is, table_of}
+use Rattle.rng_simple.specs.plain.Met.{IsSettled, IsOrder}
+use Rattle.rng_simple.specs.plain.DepthWith.{of_aim, IsFilled, IsRight}
+use Rattle.rng_simple.specs.plain.Graph.{Spot, at_element, at_definition, Graph, element_aim, definition_aim, aim_at, IsSpotBelow, IsResolved, IsGraphOf}
+use Rattle.rng_simple.specs.plain.Graph.{of_spot, leaf_number}
+use Rattle.rng_simple.proofs.TablesInOrder.{body_right, filled_right}
+use Rattle.rng_simple.proofs.TableEntries.{ReadsMentions}
+use Rattle.rng_simple.proofs.Graphs.{found}
+use Rattle.rng_simple.proofs.GraphTables.{number_is, leaf_number_is, table_of}
 use Rattle.rng_simple.specs.plain.SimpleWith.{simple_with, simple_at}
 use Rattle.rng_simple.specs.plain.GrammarBy.{spot_simple}
 use Rattle.rng_simple.proofs.PointSimples.{simple_is}

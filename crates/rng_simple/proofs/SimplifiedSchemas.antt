@@ -8,7 +8,7 @@ use Rattle.rng_model.specs.schema.SchemaClauses as clauses
 use Rattle.rng_model.specs.declared.fault.SchemaFault.{SchemaFault}
 use Rattle.rng_model.specs.declared.fault.SchemaFault.TheVariants as faults
 use Rattle.rng_schema_checks.specs.plain.Judged.{IsComponentFault, last_clause}
-use Rattle.rng_graph.specs.views.ExpansionOrder.{IsExpansionFault}
+use Rattle.rng_simple.specs.views.ExpansionOrder.{IsExpansionFault}
 use Rattle.rng_model.specs.simple.SimplifiedSchema.{IsSchemaFault}
 
 -- no clause about components is broken

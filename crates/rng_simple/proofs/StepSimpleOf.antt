@@ -5,9 +5,9 @@ use Rattle.rng_model.specs.simple.Tree.{Tree, Trees, no_trees, tree_and}
 use Rattle.rng_model.specs.simple.Tree.{Simple, s_not_allowed, s_empty, s_text}
 use Rattle.rng_model.specs.simple.Simplification.{RuleGroup, HasNotAllowed, Step, StepAmong, AnyStep, Steps}
 use Rattle.rng_model.specs.simple.Simplification as step
-use Rattle.rng_graph.proofs.SimpleClass.{class_keeps}
+use Rattle.rng_simple.proofs.SimpleClass.{class_keeps}
 use Rattle.rng_simple.specs.plain.SimpleOf.{Sort, nothing, blank, proper, sort_of, attribute_by, list_by, except_by, joined_by, join, some_of, simple_of}
-use Rattle.rng_graph.specs.plain.InTwos.{nested}
+use Rattle.rng_simple.specs.plain.InTwos.{nested}
 use Rattle.rng_simple.specs.plain.SimpleOf.{join_all}
 
 module _ {L : Type 0} where

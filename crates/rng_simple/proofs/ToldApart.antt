@@ -5,7 +5,7 @@ use Rattle.rng_model.specs.simple.Tree as tree
 use Rattle.rng_model.specs.datatypes.DatatypeViews.{datatype_of}
 use Rattle.rng_model.specs.names.NameViews.{class_of}
 use Rattle.rng_model.specs.declared.simple.Simple.{Simple}
-use Rattle.rng_graph.specs.plain.InTwos.{nested}
+use Rattle.rng_simple.specs.plain.InTwos.{nested}
 use Rattle.rng_simple.specs.plain.Copying.{AreCopied, listed_at, place_of, tree_numbered}
 use Rattle.rng_labels.specs.plain.LabelCodes.{class_code, codes_of, datatype_code, value_code}
 use Rattle.rng_simple.specs.plain.Renamed.{simple_renamed}

@@ -5,8 +5,9 @@ use Rattle.std.proofs.lemmas.Option.{slice_get_within, slice_get-get_or}
 use Rattle.rng_model.specs.names.Lists.{Among}
 use Rattle.rng_model.specs.names.Lists as lists
 use Rattle.rng_model.specs.names.Names as names
-use Rattle.rng_model.specs.restrictions.Restrictions as restrictions
-use Rattle.rng_model.specs.restrictions.Restrictions.{IsPart, StandsIn, the_start, a_body}
+use Rattle.rng_model.specs.restrictions.Restrictions.{IsPart, the_start, a_body}
+use Rattle.rng_model.specs.simple.Inside.{StandsIn, itself}
+use Rattle.rng_model.proofs.Inside.{deeper, in_attribute, in_list, in_except, in_one_or_more, in_left, in_right}
 use Rattle.rng_model.specs.simple.Table.{Table, grammar_of}
 use Rattle.rng_model.specs.simple.Tree.{Simple}
 use Rattle.rng_model.specs.names.NameViews.{class_of}
@@ -22,7 +23,6 @@ use Rattle.rng_model.specs.simple.SimplifiedSchema.{AreAllUsed}
 use Rattle.rng_simple.specs.plain.Worklist.{IsReachedBy, at_start, onward}
 use Rattle.rng_simple.specs.declared.rows.Row.{Row}
 use Rattle.rng_simple.specs.declared.rows.Row.TheVariants as row
-use Rattle.rng_simple.proofs.RenamedRestrictions.{deeper}
 use Rattle.rng_simple.proofs.RowReach.{one_only, one_of_two, not_there}
 
 -- what is found in a list is a member, and so is its image
@@ -58,7 +58,7 @@ module _ (l : Labels) (rs : List Row) (rows : AreRows l rs) (contents : List ℕ
         of (content_of contents k),
         a_body (subst (λ t. Among (class_of x.0, t) (grammar_of made_table).elements) (ap (tree_numbered ps) body)
             (found_among (λ (y : NameClass × PatternId). (class_of y.0, tree_numbered ps y.1.0)) es n x found)),
-        restrictions.itself,
+        itself,
       )
 
   onward_stands : (r : Row) (n i y : ℕ) → i < length rs → AreChildrenBelow i r → (part : Simple ℕ) → IsPart (grammar_of made_table) part
@@ -66,24 +66,24 @@ module _ (l : Labels) (rs : List Row) (rows : AreRows l rs) (contents : List ℕ
       → Contains (nexts (content_of contents) r) y → Stands y
   onward_stands (row.Element m) n i y h b part is w e c = subst Stands (one_only (content_of contents m) y c) (body_stands m n (e m refl))
   onward_stands (row.Attribute d a) n i y h b part is w e c =
-      subst Stands (one_only a y c) (omega (arith, h, b), part, is, deeper w (restrictions.in_attribute restrictions.itself))
+      subst Stands (one_only a y c) (omega (arith, h, b), part, is, deeper w (in_attribute itself))
   onward_stands (row.List a) n i y h b part is w e c =
-      subst Stands (one_only a y c) (omega (arith, h, b), part, is, deeper w (restrictions.in_list restrictions.itself))
+      subst Stands (one_only a y c) (omega (arith, h, b), part, is, deeper w (in_list itself))
   onward_stands (row.DataExcept d a) n i y h b part is w e c =
-      subst Stands (one_only a y c) (omega (arith, h, b), part, is, deeper w (restrictions.in_except restrictions.itself))
+      subst Stands (one_only a y c) (omega (arith, h, b), part, is, deeper w (in_except itself))
   onward_stands (row.OneOrMore a) n i y h b part is w e c =
-      subst Stands (one_only a y c) (omega (arith, h, b), part, is, deeper w (restrictions.in_one_or_more restrictions.itself))
+      subst Stands (one_only a y c) (omega (arith, h, b), part, is, deeper w (in_one_or_more itself))
   onward_stands (row.Choice a f) n i y h b part is w e c = elim (one_of_two a f y c) [
-    | inl s ↦ subst Stands s (omega (arith, h, b.0), part, is, deeper w (restrictions.in_left restrictions.itself))
-    | inr s ↦ subst Stands s (omega (arith, h, b.1), part, is, deeper w (restrictions.in_right restrictions.itself))
+    | inl s ↦ subst Stands s (omega (arith, h, b.0), part, is, deeper w (in_left itself))
+    | inr s ↦ subst Stands s (omega (arith, h, b.1), part, is, deeper w (in_right itself))
   ]
   onward_stands (row.Group a f) n i y h b part is w e c = elim (one_of_two a f y c) [
-    | inl s ↦ subst Stands s (omega (arith, h, b.0), part, is, deeper w (restrictions.in_left restrictions.itself))
-    | inr s ↦ subst Stands s (omega (arith, h, b.1), part, is, deeper w (restrictions.in_right restrictions.itself))
+    | inl s ↦ subst Stands s (omega (arith, h, b.0), part, is, deeper w (in_left itself))
+    | inr s ↦ subst Stands s (omega (arith, h, b.1), part, is, deeper w (in_right itself))
   ]
   onward_stands (row.Interleave a f) n i y h b part is w e c = elim (one_of_two a f y c) [
-    | inl s ↦ subst Stands s (omega (arith, h, b.0), part, is, deeper w (restrictions.in_left restrictions.itself))
-    | inr s ↦ subst Stands s (omega (arith, h, b.1), part, is, deeper w (restrictions.in_right restrictions.itself))
+    | inl s ↦ subst Stands s (omega (arith, h, b.0), part, is, deeper w (in_left itself))
+    | inr s ↦ subst Stands s (omega (arith, h, b.1), part, is, deeper w (in_right itself))
   ]
   onward_stands row.NotAllowed n i y h b part is w e c = absurd (not_there y c)
   onward_stands row.Empty n i y h b part is w e c = absurd (not_there y c)
@@ -93,7 +93,7 @@ module _ (l : Labels) (rs : List Row) (rows : AreRows l rs) (contents : List ℕ
 
   stands : {i : ℕ} → IsReachedBy (row_next rs (content_of contents)) (first ∷ []) i → Stands i
   stands (at_start {x = i} c) = subst Stands (one_only first i c)
-      (first_below, tree_numbered ps start.0, the_start, subst (λ n. StandsIn (tree_numbered ps n) (tree_numbered ps start.0)) is_start restrictions.itself)
+      (first_below, tree_numbered ps start.0, the_start, subst (λ n. StandsIn (tree_numbered ps n) (tree_numbered ps start.0)) is_start itself)
   stands (onward {x = i} {y = j} w c) =
       let h = stands w in
       let r : Row = slice_index_or rs i row.Empty in

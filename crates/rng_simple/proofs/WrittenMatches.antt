@@ -8,7 +8,7 @@ use Rattle.rng_model.specs.matching.Document.{Attribute, Item}
 use Rattle.rng_model.specs.matching.Matching.{Texts, Leaves, Matches, MatchesOne, MatchesAll, Weakly}
 use Rattle.rng_model.specs.matching.Matching as m
 use Rattle.rng_model.specs.matching.Lex.{HasText}
-use Rattle.rng_model.specs.simple.Table.{Nothing}
+use Rattle.rng_model.specs.matching.GrammarMatching.{Nothing}
 use Rattle.rng_model.specs.schema.Patterns.{Place, Point, an_element, a_ref, a_parent_ref, a_grammar}
 use Rattle.rng_model.specs.schema.Schema.{Schema, Definition, body}
 use Rattle.rng_model.specs.schema.Unfolding.{Leaf, content_of, Aim, to_element, to_definition, outside, aim, Unfolds, UnfoldAll, IsBodyOf}
@@ -17,7 +17,7 @@ use Rattle.rng_model.specs.simple.Simplification.{AnyStep, IsSimpleFormOf}
 use Rattle.rng_model.specs.simple.ClassSteps.{IsSimpleClassOf}
 use Rattle.rng_model.specs.matching.SchemaMatching.{IsFound, is_found, IsWrittenElement, is_written, schema_leaves}
 use Rattle.rng_model.proofs.Unfolding.{one_element, one_definition, not_both, moved, one_tree}
-use Rattle.rng_graph.proofs.SimpleClass.{has_simple_class}
+use Rattle.rng_simple.proofs.SimpleClass.{has_simple_class}
 use Rattle.rng_simple.proofs.SimpleForms.{has_simple_form}
 use Rattle.rng_simple.proofs.StepLex as lexes
 use Rattle.rng_simple.proofs.StepMatches.{weakly, steps_in, steps_out}

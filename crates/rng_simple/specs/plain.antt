@@ -1,4 +1,17 @@
 -- Plain functions that the code is proved against, and private relations.
+pub mod DepthWith
+pub mod Expansion
+pub mod Graph
+pub mod InTwos
+pub mod MemberDepths
+pub mod Mentioned
+pub mod Met
+pub mod ReadySchema
+pub mod ResolvedBody
+pub mod ResolvedElements
+pub mod ResolvedRows
+pub mod Resolving
+pub mod Search
 pub mod Copying
 pub mod GrammarBy
 pub mod KnownDatatypes
@@ -6,6 +19,7 @@ pub mod MadeTable
 pub mod Numbering
 pub mod Renamed
 pub mod RowReach
+pub mod SimpleBodies
 pub mod SimpleOf
 pub mod SimpleParts
 pub mod SimpleWith

@@ -1,6 +1,6 @@
 // Copying rows into the tables of a grammar, with new numbers.
 ghost use Rattle.std.specs.Prelude.{◌≡◌, ◌<◌, ◌++◌, ℕ, filter, length, slice_get, string_bytes, true, IfOk, OnOk, Some};
-ghost use Rattle.rng_model.specs.simple.Table.{IsPaired};
+ghost use Rattle.rng_model.specs.simple.TableRules.{IsPaired};
 ghost use Rattle.rng_model.specs.datatypes.DatatypeViews.{datatype_of};
 ghost use Rattle.rng_model.specs.names.NameViews.{class_of};
 ghost use Rattle.rng_simple.specs.plain.Copying.{AllChildren, AreCopied, IsRowCopy, own_elements};

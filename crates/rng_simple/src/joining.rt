@@ -4,7 +4,7 @@ ghost use Rattle.std.specs.Prelude.{◌≡◌, ◌<◌, IfOk, OnOk};
 ghost use Rattle.rng_model.specs.simple.Tree as tree;
 ghost use Rattle.rng_model.specs.datatypes.DatatypeViews.{datatype_of};
 ghost use Rattle.rng_model.specs.names.NameViews.{class_of};
-ghost use Rattle.rng_graph.specs.plain.InTwos.{nested};
+ghost use Rattle.rng_simple.specs.plain.InTwos.{nested};
 ghost use Rattle.rng_simple.specs.views.Joining.{connector_of};
 ghost use Rattle.rng_simple.specs.views.RowTable.{IsGrown, IsRowTable, row_count, tree_of};
 ghost use Rattle.rng_simple.specs.plain.SimpleOf.{attribute_by, except_by, join as joined, list_by, some_of, sort_of};

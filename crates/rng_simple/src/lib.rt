@@ -6,6 +6,7 @@
 #![tactic(auto)]
 
 mod copying;
+mod graph;
 mod joining;
 mod name_class;
 mod reaching;

@@ -1,9 +1,9 @@
 // Name classes in simple form.
 ghost use Rattle.std.specs.Prelude.{◌≡◌, IfOk, map};
 ghost use Rattle.rng_model.specs.names.Names.{some_of};
-ghost use Rattle.rng_model.specs.simple.Table.{IsPaired};
+ghost use Rattle.rng_model.specs.simple.TableRules.{IsPaired};
 ghost use Rattle.rng_model.specs.names.NameViews.{class_of};
-ghost use Rattle.rng_graph.specs.plain.InTwos.{nested as nested_tree};
+ghost use Rattle.rng_simple.specs.plain.InTwos.{nested as nested_tree};
 
 use rng_model::{Name, NameClass};
 use std::alloc::{AllocError, Global};

@@ -1,6 +1,6 @@
 // The rows that are reached from the row of the start.
 ghost use Rattle.std.specs.Prelude.{◌≡◌, ◌<◌, ◌↔◌, ℕ, [], ◌∷◌, length, map, slice_get, true, IfOk, Some};
-ghost use Rattle.rng_graph.specs.plain.Search.{lists};
+ghost use Rattle.rng_simple.specs.plain.Search.{lists};
 ghost use Rattle.rng_simple.specs.plain.RowReach.{content_of, nexts, row_next};
 ghost use Rattle.rng_simple.specs.views.RowTable.{IsRowTable, row_count};
 ghost use Rattle.rng_simple.specs.plain.SimpleParts.{AreRowsBelow};

@@ -1,10 +1,10 @@
 // A table of patterns in simple form. Equal rows have one number.
 ghost use Rattle.std.specs.Prelude.{◌≡◌, ◌<◌, length, string_bytes, IfOk, OnOk};
 ghost use Rattle.rng_model.specs.schema.Patterns.{without_parameters};
-ghost use Rattle.rng_model.specs.simple.Tree.{IsSimpleBody};
+ghost use Rattle.rng_simple.specs.plain.SimpleBodies.{IsPlainBody};
 ghost use Rattle.rng_model.specs.datatypes.DatatypeViews.{datatype_of};
 ghost use Rattle.rng_model.specs.names.NameViews.{class_of};
-ghost use Rattle.rng_graph.specs.plain.InTwos.{nested};
+ghost use Rattle.rng_simple.specs.plain.InTwos.{nested};
 ghost use Rattle.rng_simple.specs.views.Rows.{AreChildrenBelow, IsLabelled, class_at, datatype_at, row_tree, value_at};
 ghost use Rattle.rng_simple.specs.views.RowTable.{IsGrown, IsRelabelled, IsRowTable, finished_labels, labels_of, row_count, sort_seen, tree_of};
 ghost use Rattle.rng_simple.specs.plain.SimpleOf.{sort_of};
@@ -78,7 +78,7 @@ impl<'a> RowTable<'a> {
         requires table { IsRowTable self.old }
         requires below { AreChildrenBelow (row_count self.old) row }
         requires labelled { IsLabelled (labels_of self.old) row }
-        requires simple { IsSimpleBody (row_tree (labels_of self.old) (tree_of self.old) row) }
+        requires simple { IsPlainBody (row_tree (labels_of self.old) (tree_of self.old) row) }
         ensures grown { OnOk result (IsGrown self.old self.new) }
         ensures there { IfOk result (λ id. id < row_count self.new) }
         ensures tree { IfOk result (λ id. tree_of self.new id ≡ row_tree (labels_of self.old) (tree_of self.old) row) }

@@ -1,27 +1,29 @@
 // The simple form of a graph.
 ghost use Rattle.std.specs.Prelude.{◌≡◌, ◌<◌, length, map, slice_get, All, IfOk, Some};
 ghost use Rattle.rng_model.specs.names.Names as names;
-ghost use Rattle.rng_model.specs.simple.Table.{AreToldApart, Falls, IsDatatypeKnown, IsInSimpleSyntax, IsPaired, IsTable, grammar_of};
+ghost use Rattle.rng_model.specs.simple.Table.{AreToldApart, grammar_of};
+ghost use Rattle.rng_model.specs.simple.TableRules.{Falls, IsDatatypeKnown, IsPaired, IsTable};
+ghost use Rattle.rng_model.specs.simple.Grammar.{IsInSimpleSyntax};
 ghost use Rattle.rng_model.specs.names.NameViews.{class_of};
 ghost use Rattle.rng_model.specs.schema.Schema.{Schema};
 ghost use Rattle.rng_model.specs.schema.SchemaClauses.{BreaksDatatype};
 ghost use Rattle.rng_model.specs.simple.SchemaForm.{IsOnlySimpleGrammarOf, IsSimpleGrammarOf};
-ghost use Rattle.rng_graph.specs.views.ExpansionOrder.{IsGraphOfSchema, IsWholeOrder};
-ghost use Rattle.rng_graph.specs.plain.Graph.{IsOrderBy, Mentions};
-ghost use Rattle.rng_graph.specs.views.GraphView.{classes_of, graph_of};
-ghost use Rattle.rng_graph.specs.plain.InTwos.{nested as nested_tree};
+ghost use Rattle.rng_simple.specs.views.ExpansionOrder.{IsGraphOfSchema, IsWholeOrder};
+ghost use Rattle.rng_simple.specs.plain.Graph.{IsOrderBy, Mentions};
+ghost use Rattle.rng_simple.specs.views.GraphView.{classes_of, graph_of};
+ghost use Rattle.rng_simple.specs.plain.InTwos.{nested as nested_tree};
 ghost use Rattle.rng_simple.specs.views.GrammarElements.{AreElementCopies};
 ghost use Rattle.rng_model.specs.simple.SimplifiedSchema.{AreAllUsed};
 ghost use Rattle.rng_simple.specs.plain.MadeTable.{IsMadeTable};
 ghost use Rattle.rng_simple.specs.views.GrammarTables.{table_of};
 
 use crate::copying::copied_rows;
+use crate::graph::Graph;
 use crate::name_class::nested;
 use crate::reaching::reached_rows;
 use crate::row_table::RowTable;
 use crate::simple_parts::row_of;
 use crate::simple_rows::{content_rows, definition_rows};
-use rng_graph::Graph;
 use rng_model::{NameClass, OutOfMemory, PatternId, Simple, SimpleGrammar};
 use std::alloc::{AllocError, Global};
 

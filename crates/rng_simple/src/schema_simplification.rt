@@ -3,12 +3,13 @@ ghost use Rattle.std.specs.Prelude.{ℕ, IfErr, IfOk, OnOk};
 ghost use Rattle.rng_load.specs.views.PlacedGrammars.{schema_of};
 ghost use Rattle.rng_model.specs.schema.SchemaClauses.{BreaksSchemaClause};
 ghost use Rattle.rng_model.specs.simple.SchemaForm.{IsOnlySimpleGrammarOf, IsSimpleGrammarOf};
-ghost use Rattle.rng_model.specs.matching.SchemaMatching.{AreSameDocuments};
-ghost use Rattle.rng_model.specs.simple.Table.{AreToldApart, IsInSimpleSyntax, grammar_of};
+ghost use Rattle.rng_model.specs.simple.SimplifiedSchema.{AreSameDocuments};
+ghost use Rattle.rng_model.specs.simple.Table.{AreToldApart, grammar_of};
+ghost use Rattle.rng_model.specs.simple.Grammar.{IsInSimpleSyntax};
 ghost use Rattle.rng_model.specs.simple.SimplifiedSchema.{AreAllUsed, IsSchemaFault};
 
+use crate::graph::{expansion_order, schema_graph};
 use crate::schema_form::simple_grammar;
-use rng_graph::{expansion_order, schema_graph};
 use rng_load::Schema;
 use rng_model::{SchemaFault, SimpleGrammar};
 use rng_schema_checks::check_components;

@@ -1,15 +1,15 @@
 // The simple forms of the patterns of a graph, from the leaves up.
 ghost use Rattle.std.specs.Prelude.{◌≡◌, ◌<◌, map, slice_index_or, IfOk, OnOk};
-ghost use Rattle.rng_graph.specs.views.GraphView.{child, combined, forest, graph_body_of};
+ghost use Rattle.rng_simple.specs.views.GraphView.{child, combined, forest, graph_body_of};
 ghost use Rattle.rng_simple.specs.plain.GrammarBy.{spot_simple};
 ghost use Rattle.rng_simple.specs.views.Joining.{connector_of};
 ghost use Rattle.rng_simple.specs.views.RowTable.{IsGrown, IsRowTable, row_count, tree_of};
 ghost use Rattle.rng_simple.specs.plain.SimpleParts.{AreRowsBelow, all_joined, components_joined, none_of, row_simple, side, values_in};
 
+use crate::graph::{GraphBody, GraphRow};
 use crate::joining::{Connector, attribute, data, data_except, join, list, one_or_more};
 use crate::row_table::{EMPTY, RowTable};
 use crate::rows::Row;
-use rng_graph::{GraphBody, GraphRow};
 use std::alloc::AllocError;
 
 /// The simple form of the pattern of these rows. `parts` has the rows of the definitions that it mentions. Uses `sides`.

@@ -1,14 +1,14 @@
 // The simple forms of all definitions and elements of a graph.
 ghost use Rattle.std.specs.Prelude.{◌≡◌, ◌<◌, ℕ, length, slice_index_or, All, IfOk, OnOk};
-ghost use Rattle.rng_graph.specs.plain.Graph.{IsFilledBy, IsOrderBy, Mentions};
-ghost use Rattle.rng_graph.specs.views.GraphView.{graph_of};
+ghost use Rattle.rng_simple.specs.plain.Graph.{IsFilledBy, IsOrderBy, Mentions};
+ghost use Rattle.rng_simple.specs.views.GraphView.{graph_of};
 ghost use Rattle.rng_simple.specs.plain.GrammarBy.{content_simple, spot_simple};
 ghost use Rattle.rng_simple.specs.views.RowTable.{IsGrown, IsRowTable, row_count, tree_of};
 ghost use Rattle.rng_simple.specs.plain.SimpleParts.{AreRowsBelow, values_in};
 
+use crate::graph::Graph;
 use crate::row_table::{EMPTY, RowTable};
 use crate::simple_parts::{simple_body, simple_pattern};
-use rng_graph::Graph;
 use std::alloc::{AllocError, Global};
 
 /// The row of each definition of an order in which each comes after those that its body mentions. The others have

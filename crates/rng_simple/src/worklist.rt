@@ -1,6 +1,6 @@
 // The numbers that are reached from a start by following numbers to the next ones.
 ghost use Rattle.std.specs.Prelude.{◌≡◌, ◌<◌, ◌↔◌, ℕ, [], ◌∷◌, length, slice_get, slice_index_or, All, IfOk, OnOk, Some, true};
-ghost use Rattle.rng_graph.specs.plain.Search.{AreMentionsBelow, lists};
+ghost use Rattle.rng_simple.specs.plain.Search.{AreMentionsBelow, lists};
 ghost use Rattle.rng_simple.specs.plain.Worklist.{Adds, IsMarked, IsReachedBy};
 
 use std::alloc::{AllocError, Global};

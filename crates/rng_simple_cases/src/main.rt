@@ -15,10 +15,8 @@ mod patterns;
 
 use case_rows::{Row, files_of, rows};
 use forms::{print_form, print_size};
-use rng_load::load;
-use rng_model::{SchemaFault, SimpleGrammar};
-use rng_simple::simplify;
-use std::alloc::Global;
+use rng_model::SchemaFault;
+use simple_forms::simplified;
 use std::io;
 
 fn main(rt: HostRuntime) -> io::Result<()> {
@@ -38,14 +36,4 @@ fn print_answer(rt: &(impl Print + AllocGlobal), row: &Row) -> io::Result<()> {
         Err(SchemaFault::Clause(clause)) => println!(rt; "S{clause}"),
         Err(SchemaFault::Memory) => println!(rt; "out of memory"),
     }
-}
-
-/// Returns the simple form of the schema of some files.
-fn simplified(
-    alloc: Global,
-    files: &[(String, Vec<u8>)],
-    main: &str,
-) -> Result<SimpleGrammar, SchemaFault> {
-    let schema = load(alloc, files, main)?;
-    simplify(alloc, &schema)
 }

@@ -6,7 +6,8 @@ use Rattle.std.specs.Str.Parse.{without_leading_sign, signed_digits_value}
 use Rattle.std.proofs.lemmas.List.Folds.{list_all-append}
 use Rattle.std.proofs.lemmas.Bool.{and_left, and_right, and_parts, not-true, true≢false}
 use Rattle.rng_model.specs.datatypes.Texts.{is_blank_byte, is_blank}
-use Rattle.rng_model.specs.datatypes.Blanks.{pieces, collapse, has_bytes, is_run_byte, is_run, ends_run, HasRuns, no_run, then_run}
+use Rattle.rng_model.specs.datatypes.Blanks.{pieces, collapse, has_bytes}
+use Rattle.rng_model.specs.plain.BlankRuns.{is_run_byte, is_run, ends_run, HasRuns, no_run, then_run}
 use Rattle.rng_model.specs.datatypes.Facets.{Bounds, is_inside, number_inside}
 use Rattle.rng_model.specs.datatypes.Numerals.{is_decimal, integer_of, most_digits}
 use Rattle.rng_model.proofs.BlankRuns.{pieces-blank, HasRuns-pieces, pieces-from_HasRuns}

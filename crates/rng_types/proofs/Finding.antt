@@ -1,99 +1,119 @@
--- The result for a datatype: its type, or the fault that it has.
-use Rattle.std.proofs.Common.{◌≡◌, inl, inr, [], Bool, true, false, Option, Some, None, Result, Ok, Err, if◌then◌else◌}
-use Rattle.std.proofs.Common.{codes, refl, sym, ap, subst, ◌∙◌, ◌↔◌}
-use Rattle.std.specs.Str.{bytes_eq}
-use Rattle.std.proofs.lemmas.Option.{same_Some}
-use Rattle.std.proofs.lemmas.Slice.Eq.{bytes_eq-Decides}
+-- The result for a datatype: its values, or the fault that it has.
+use Rattle.std.proofs.Common.{◌≡◌, ◌↔◌, ◌∙◌, ℕ, List, Bool, true, false, Option, Some, None, is_some, IsTrue, Result, Ok, Err, refl, sym, ap, subst}
+use Rattle.std.specs.Option.{option_and_then}
+use Rattle.std.proofs.lemmas.Bool.{true≢false}
+use Rattle.std.proofs.lemmas.Option.{none-some, same_Some}
 use Rattle.rng_model.specs.simple.Tree.{Datatype}
-use Rattle.rng_model.specs.datatypes.Facets.{no_lengths}
-use Rattle.rng_model.specs.datatypes.Datatypes.{BuiltInType, plain_string, xsd_string, xsd_uri, HasType, IsKnownLibrary, IsKnownDatatype}
-use Rattle.rng_model.specs.datatypes.Datatypes.{plain_string_is, string_is}
-use Rattle.rng_model.specs.datatypes.DatatypeTests.{plain_type_named, xsd_type_named, type_named, with_parameters}
-use Rattle.rng_model.proofs.DatatypeTests.{library_is, differs, no_type, type_named-sound, type_named-complete, unbounded, with_parameters-none}
-use Rattle.rng_model.proofs.DatatypeTests.{named_type, type_unique}
+use Rattle.rng_model.specs.datatypes.Parameters.{Parameter, named}
+use Rattle.rng_model.specs.datatypes.Datatypes.{Meaning, Maker, libraries, type_named, meaning_of}
 use Rattle.rng_types.specs.declared.builtin.TypeFault.{TypeFault}
 use Rattle.rng_types.specs.declared.builtin.TypeFault.TheVariants as faults
 use Rattle.rng_types.specs.views.View.{seen}
 use Rattle.rng_types.specs.views.Fault.{HasFault}
-use Rattle.rng_types.specs.views.Finding.{or_bad, chosen, find_type}
+use Rattle.rng_types.specs.views.Finding.{or_bad, chosen, chosen_in, find_type}
 
--- a result is right: the datatype is that type, or has that fault
-abbrev IsRight : Datatype → Result BuiltInType TypeFault → Type 0
-IsRight d (Ok t) = HasType d t
-IsRight d (Err f) = HasFault f d
+not_true : {A : Type 0} → IsTrue false → A
+not_true e = absurd (true≢false (sym e))
 
--- ---- the result is right
+same_ok : {A : Type 0} (x y : A) → ◌≡◌ {A = Result A TypeFault} (Ok x) (Ok y) → x ≡ y
+same_ok x y e = cc
 
-type_then : (d : Datatype) (t : BuiltInType) → type_named d.library d.name ≡ Some t → (o : Option BuiltInType) → with_parameters t d.parameters ≡ o
-    → IsRight d (or_bad o)
-type_then d t named (Some u) e = named_type d t u named e
-type_then d t named None e = ((t, type_named-sound d.library d.name t named), not_known)
+no_ok : {A B : Type 0} {x : A} {f : TypeFault} → ◌≡◌ {A = Result A TypeFault} (Err f) (Ok x) → B
+no_ok e = absurd (impossible e)
   where
-    not_known : IsKnownDatatype d → ⊥
-    not_known known =
-        let same = same_Some t (unbounded known.0) (sym named ∙ type_named-complete known.1) in
-        with_parameters-none known.0 d.parameters (ap (λ u. with_parameters u d.parameters) (sym same) ∙ e) known.2
+    impossible : {A : Type 0} {x : A} {f : TypeFault} → ◌≡◌ {A = Result A TypeFault} (Err f) (Ok x) → ⊥
+    impossible e = cc
 
-name_then : (d : Datatype) → IsKnownLibrary d.library → (o : Option BuiltInType) → type_named d.library d.name ≡ o → IsRight d (chosen o d.parameters)
-name_then d library None e = (library, λ known. no_type (sym e ∙ type_named-complete known.1))
-name_then d library (Some t) e = type_then d t e (with_parameters t d.parameters) refl
+-- ---- the values
 
-find_right : (d : Datatype) → IsRight d (find_type d.library d.name d.parameters)
+made : (o : Option Meaning) (meaning : Meaning) → (or_bad o ≡ Ok meaning) ↔ (o ≡ Some meaning)
+made None meaning = (λ e. no_ok e, λ e. absurd (none-some meaning e))
+made (Some m) meaning = (λ e. ap Some (same_ok m meaning e), λ e. ap Ok (same_Some m meaning e))
+
+chosen_is : (o : Option Maker) (ps : List Parameter) (meaning : Meaning)
+    → (chosen o ps ≡ Ok meaning) ↔ (option_and_then (λ make. make ps) o ≡ Some meaning)
+chosen_is None ps meaning = (λ e. no_ok e, λ e. absurd (none-some meaning e))
+chosen_is (Some make) ps meaning = made (make ps) meaning
+
+found_is : (o : Option (List (List ℕ × Maker))) (name : List ℕ) (ps : List Parameter) (meaning : Meaning)
+    → (chosen_in o name ps ≡ Ok meaning) ↔ (option_and_then (λ make. make ps) (option_and_then (named name) o) ≡ Some meaning)
+found_is None name ps meaning = (λ e. no_ok e, λ e. absurd (none-some meaning e))
+found_is (Some types) name ps meaning = chosen_is (named name types) ps meaning
+
+pub type_found : (d : Datatype) (r : Result Meaning TypeFault) → r ≡ find_type d.library d.name d.parameters → (meaning : Meaning)
+    → (r ≡ Ok meaning) ↔ (meaning_of d ≡ Some meaning)
 unfolding find_type type_named
-find_right d = by_uri (bytes_eq d.library []) (bytes_eq d.library xsd_uri) refl refl
-  where
-    by_uri : (a b : Bool) → bytes_eq d.library [] ≡ a → bytes_eq d.library xsd_uri ≡ b
-        → IsRight d (if a then chosen (plain_type_named d.name) d.parameters else
-        if b then chosen (xsd_type_named d.name) d.parameters else Err faults.UnknownLibrary)
-    by_uri true b is e =
-        name_then d (codes "string", plain_string, plain_string_is ((bytes_eq-Decides d.library []).0 is) refl) (plain_type_named d.name) (rw is refl)
-    by_uri false true isnt is =
-        name_then d (codes "string", xsd_string no_lengths, string_is ((bytes_eq-Decides d.library xsd_uri).0 is) refl) (xsd_type_named d.name)
-        (rw (isnt, is) refl)
-    by_uri false false isnt neither = λ known.
-        elim (library_is known.2) [ inl is ↦ differs d.library [] isnt is | inr is ↦ differs d.library xsd_uri neither is ]
+type_found d r is meaning =
+    let found = found_is (named d.library libraries) d.name d.parameters meaning in (λ e. found.0 (sym is ∙ e), λ e. is ∙ found.1 e)
 
--- ---- nothing else is right
+-- ---- the faults
 
-known_is_typed : (d : Datatype) (t : BuiltInType) → HasType d t → IsKnownDatatype d
-known_is_typed d t is = (t, is.named, is.taken)
+-- what each fault says, by what there is: the library, the type, and the datatype
+abbrev Says : TypeFault → Bool → Bool → Bool → Type 0
+Says faults.UnknownLibrary library type known = ¬ (IsTrue library)
+Says faults.UnknownType library type known = IsTrue library × ¬ (IsTrue type)
+Says faults.BadParameter library type known = IsTrue type × ¬ (IsTrue known)
 
-typed_is_right : (d : Datatype) (t : BuiltInType) (f : TypeFault) → HasType d t → HasFault f d → ⊥
-typed_is_right d t faults.UnknownLibrary is fault = fault (d.name, t, is.named)
-typed_is_right d t faults.UnknownType is fault = fault.1 (t, is.named)
-typed_is_right d t faults.BadParameter is fault = fault.1 (known_is_typed d t is)
+same_fault : {A : Type 0} (f g : TypeFault) → ◌≡◌ {A = Result A TypeFault} (Err f) (Err g) → f ≡ g
+same_fault f g e = cc
 
-one_fault : (d : Datatype) (f g : TypeFault) → HasFault f d → HasFault g d → f ≡ g
-one_fault d faults.UnknownLibrary faults.UnknownLibrary a b = refl
-one_fault d faults.UnknownLibrary faults.UnknownType a b = absurd (a b.0)
-one_fault d faults.UnknownLibrary faults.BadParameter a b = absurd (a (d.name, b.0.0, b.0.1))
-one_fault d faults.UnknownType faults.UnknownLibrary a b = absurd (b a.0)
-one_fault d faults.UnknownType faults.UnknownType a b = refl
-one_fault d faults.UnknownType faults.BadParameter a b = absurd (a.1 b.0)
-one_fault d faults.BadParameter faults.UnknownLibrary a b = absurd (b (d.name, a.0.0, a.0.1))
-one_fault d faults.BadParameter faults.UnknownType a b = absurd (b.1 a.0)
-one_fault d faults.BadParameter faults.BadParameter a b = refl
+-- the fault that there is, if the other two are none
+only : {A : Type 0} (f g : TypeFault) (P : TypeFault → Type 0) → P f → (P g → g ≡ f) → (◌≡◌ {A = Result A TypeFault} (Err f) (Err g)) ↔ P g
+only f g P holds one = (λ e. subst P (same_fault f g e) holds, λ p. ap Err (sym (one p)))
 
-one_is_right : (d : Datatype) (r s : Result BuiltInType TypeFault) → IsRight d r → IsRight d s → r ≡ s
-one_is_right d (Ok t) (Ok u) a b = ap Ok (type_unique d t u a b)
-one_is_right d (Ok t) (Err f) a b = absurd (typed_is_right d t f a b)
-one_is_right d (Err f) (Ok t) a b = absurd (typed_is_right d t f b a)
-one_is_right d (Err f) (Err g) a b = ap Err (one_fault d f g a b)
+not_false : ¬ (IsTrue false)
+not_false e = not_true e
 
--- a result is found exactly if it is right
-pub found_if_right : (d : Datatype) (r : Result BuiltInType TypeFault) → (find_type d.library d.name d.parameters ≡ r) ↔ IsRight d r
-found_if_right d r =
-    (λ e. subst (IsRight d) e (find_right d), λ right. one_is_right d (find_type d.library d.name d.parameters) r (find_right d) right)
+no_library : (g : TypeFault) → Says g false false false → g ≡ faults.UnknownLibrary
+no_library faults.UnknownLibrary p = refl
+no_library faults.UnknownType p = not_true p.0
+no_library faults.BadParameter p = not_true p.0
 
-pub type_found : (d : Datatype) (r : Result BuiltInType TypeFault) → r ≡ find_type d.library d.name d.parameters → (t : BuiltInType)
-    → (r ≡ Ok t) ↔ HasType d t
-type_found d r is t = (λ e. (found_if_right d (Ok t)).0 (sym is ∙ e), λ right. is ∙ (found_if_right d (Ok t)).1 right)
+no_type : (g : TypeFault) → Says g true false false → g ≡ faults.UnknownType
+no_type faults.UnknownLibrary p = absurd (p refl)
+no_type faults.UnknownType p = refl
+no_type faults.BadParameter p = not_true p.0
+
+not_made : (g : TypeFault) → Says g true true false → g ≡ faults.BadParameter
+not_made faults.UnknownLibrary p = absurd (p refl)
+not_made faults.UnknownType p = absurd (p.1 refl)
+not_made faults.BadParameter p = refl
+
+no_fault : (g : TypeFault) → Says g true true true → ⊥
+no_fault faults.UnknownLibrary p = p refl
+no_fault faults.UnknownType p = p.1 refl
+no_fault faults.BadParameter p = p.1 refl
+
+made_fault : (o : Option Meaning) (g : TypeFault) → (or_bad o ≡ Err g) ↔ Says g true true (is_some o)
+made_fault None g = only faults.BadParameter g (λ f. Says f true true false) (refl, not_false) (not_made g)
+made_fault (Some m) g = (λ e. no_ok (sym e), λ p. absurd (no_fault g p))
+
+chosen_fault : (o : Option Maker) (ps : List Parameter) (g : TypeFault)
+    → (chosen o ps ≡ Err g) ↔ Says g true (is_some o) (is_some (option_and_then (λ make. make ps) o))
+chosen_fault None ps g = only faults.UnknownType g (λ f. Says f true false false) (refl, not_false) (no_type g)
+chosen_fault (Some make) ps g = made_fault (make ps) g
+
+found_fault : (o : Option (List (List ℕ × Maker))) (name : List ℕ) (ps : List Parameter) (g : TypeFault)
+    → (chosen_in o name ps ≡ Err g)
+    ↔ Says g (is_some o) (is_some (option_and_then (named name) o)) (is_some (option_and_then (λ make. make ps) (option_and_then (named name) o)))
+found_fault None name ps g = only faults.UnknownLibrary g (λ f. Says f false false false) not_false (no_library g)
+found_fault (Some types) name ps g = chosen_fault (named name types) ps g
+
+said : (g : TypeFault) (d : Datatype)
+    → Says g (is_some (named d.library libraries)) (is_some (option_and_then (named d.name) (named d.library libraries))) (is_some (meaning_of d))
+    ↔ HasFault g d
+unfolding type_named
+said faults.UnknownLibrary d = (λ p. p, λ p. p)
+said faults.UnknownType d = (λ p. p, λ p. p)
+said faults.BadParameter d = (λ p. p, λ p. p)
 
 seen_fault : {X Y : Type 0} (view : X → Y) (r : Result X TypeFault) (f : TypeFault) → seen view r ≡ Err f → r ≡ Err f
 seen_fault view (Ok x) f e = cc
 seen_fault view (Err g) f e = cc
 
-pub fault_found : {X : Type 0} (view : X → BuiltInType) (d : Datatype) (r : Result X TypeFault)
+pub fault_found : {X : Type 0} (view : X → Meaning) (d : Datatype) (r : Result X TypeFault)
     → seen view r ≡ find_type d.library d.name d.parameters → (f : TypeFault) → (r ≡ Err f) ↔ HasFault f d
+unfolding find_type type_named
 fault_found view d r is f =
-    (λ e. (found_if_right d (Err f)).0 (sym is ∙ ap (seen view) e), λ right. seen_fault view r f (is ∙ (found_if_right d (Err f)).1 right))
+    let fault = found_fault (named d.library libraries) d.name d.parameters f in
+    (λ e. (said f d).0 (fault.0 (sym is ∙ ap (seen view) e)), λ p. seen_fault view r f (is ∙ fault.1 ((said f d).1 p)))

@@ -3,4 +3,5 @@ pub mod CollapsedBytes
 pub mod TextValues
 pub mod WordsOfTexts
 pub mod Decimals
-pub mod Finding
+mod Finding
+pub mod FoundDatatypes

@@ -1,10 +1,10 @@
 // All datatypes, and how a schema names them.
-ghost use Rattle.std.specs.Prelude.{◌≡◌, ◌↔◌, map};
+ghost use Rattle.std.specs.Prelude.{◌≡◌, ◌↔◌, Some, map};
 ghost use Rattle.rng_model.specs.datatypes.DatatypeViews.{parameter_of};
-ghost use Rattle.rng_model.specs.datatypes.Datatypes.{BuiltInType, HasType, is_allowed_by, are_equal_by};
-ghost use Rattle.rng_model.specs.datatypes.DatatypeTests.{plain_type_named, xsd_type_named, if_none};
+ghost use Rattle.rng_model.specs.datatypes.Datatypes.{Meaning, meaning_of, plain_types, xsd_types, without, is_allowed_by, are_equal_by};
+ghost use Rattle.rng_model.specs.datatypes.Parameters.{named};
 ghost use Rattle.rng_model.proofs.ValueLaws as laws;
-ghost use Rattle.rng_types.specs.views.View.{built_in_type_of, datatype_at, seen};
+ghost use Rattle.rng_types.specs.views.View.{meaning_by, datatype_at, seen};
 ghost use Rattle.rng_types.specs.views.Fault.{HasFault};
 ghost use Rattle.rng_types.specs.views.Finding.{or_bad, chosen, find_type};
 
@@ -42,11 +42,11 @@ impl Builtin {
     /// Returns the datatype of this library and name, with these parameters.
     ///
     /// The built-in library has the empty URI, and the other one is `http://www.w3.org/2001/XMLSchema-datatypes`.
-    /// Returns a datatype exactly if there is one, with the bounds that the parameters write. Returns each fault
+    /// Returns a datatype exactly if there is one; it gives texts the values that this one gives. Returns each fault
     /// exactly if it holds. No two faults hold of one datatype. RELAX NG Specification, section 4.16; XML Schema Part 2,
     /// section 4.3. Allocates nothing. The cost is a few passes over the parameters.
     pub fn find(lib: &str, name: &str, params: &[(String, String)]) -> Result<Builtin, TypeFault>
-        ensures found { (t : BuiltInType) → (seen built_in_type_of result ≡ Ok t) ↔ HasType (datatype_at lib.now name.now params.now) t }
+        ensures found { (meaning : Meaning) → (seen meaning_by result ≡ Ok meaning) ↔ (meaning_of (datatype_at lib.now name.now params.now) ≡ Some meaning) }
         ensures fault { (f : TypeFault) → (result ≡ Err f) ↔ HasFault f (datatype_at lib.now name.now params.now) }
     {
         find_type(lib, name, params)
@@ -56,7 +56,7 @@ impl Builtin {
 // the datatype, or the first fault
 #[tactic(auto, unfolding(crate::specs::views::Finding::find_type))]
 fn find_type(lib: &str, name: &str, params: &[(String, String)]) -> Result<Builtin, TypeFault>
-    ensures { seen built_in_type_of result ≡ find_type lib.now name.now (map parameter_of params.now) }
+    ensures { seen meaning_by result ≡ find_type lib.now name.now (map parameter_of params.now) }
 {
     match lib {
         "" => plain(name, params),
@@ -66,9 +66,8 @@ fn find_type(lib: &str, name: &str, params: &[(String, String)]) -> Result<Built
 }
 
 // the datatype of the built-in library
-#[tactic(auto, unfolding(rng_model::specs::datatypes::DatatypeTests::plain_type_named))]
 fn plain(name: &str, params: &[(String, String)]) -> Result<Builtin, TypeFault>
-    ensures { seen built_in_type_of result ≡ chosen (plain_type_named name.now) (map parameter_of params.now) }
+    ensures { seen meaning_by result ≡ chosen (named name.now plain_types) (map parameter_of params.now) }
 {
     match name {
         "string" => without_parameters(Builtin::PlainString(PlainString), params),
@@ -78,9 +77,8 @@ fn plain(name: &str, params: &[(String, String)]) -> Result<Builtin, TypeFault>
 }
 
 // the datatype of the XML Schema library
-#[tactic(auto, unfolding(rng_model::specs::datatypes::DatatypeTests::xsd_type_named))]
 fn xsd(name: &str, params: &[(String, String)]) -> Result<Builtin, TypeFault>
-    ensures { seen built_in_type_of result ≡ chosen (xsd_type_named name.now) (map parameter_of params.now) }
+    ensures { seen meaning_by result ≡ chosen (named name.now xsd_types) (map parameter_of params.now) }
 {
     match name {
         "string" => Ok(Builtin::XsdString(XsdString {
@@ -105,7 +103,7 @@ fn xsd(name: &str, params: &[(String, String)]) -> Result<Builtin, TypeFault>
 
 // the datatype, if there are no parameters
 fn without_parameters(found: Builtin, params: &[(String, String)]) -> Result<Builtin, TypeFault>
-    ensures { seen built_in_type_of result ≡ or_bad (if_none (built_in_type_of found) (map parameter_of params.now)) }
+    ensures { seen meaning_by result ≡ or_bad (without (meaning_by found) (map parameter_of params.now)) }
 {
     if params.is_empty() {
         Ok(found)
@@ -115,17 +113,17 @@ fn without_parameters(found: Builtin, params: &[(String, String)]) -> Result<Bui
 }
 
 impl Datatype for Builtin {
-    ghost allows = { λ d s. is_allowed_by (built_in_type_of d) s };
+    ghost allows = { λ d s. is_allowed_by (meaning_by d) s };
 
-    ghost equal = { λ d v w. are_equal_by (built_in_type_of d) v w };
+    ghost equal = { λ d v w. are_equal_by (meaning_by d) v w };
 
-    ghost equal_allowed = { λ d v w e. laws.equal_allowed (built_in_type_of d) v w e };
+    ghost equal_allowed = { λ d v w e. laws.equal_allowed (meaning_by d) v w e };
 
-    ghost equal_reflexive = { λ d v e. laws.equal_reflexive (built_in_type_of d) v e };
+    ghost equal_reflexive = { λ d v e. laws.equal_reflexive (meaning_by d) v e };
 
-    ghost equal_symmetric = { λ d v w e. laws.equal_symmetric (built_in_type_of d) v w e };
+    ghost equal_symmetric = { λ d v w e. laws.equal_symmetric (meaning_by d) v w e };
 
-    ghost equal_transitive = { λ d u v w e f. laws.equal_transitive (built_in_type_of d) u v w e f };
+    ghost equal_transitive = { λ d u v w e f. laws.equal_transitive (meaning_by d) u v w e f };
 
     fn allows(&self, text: &str) -> bool {
         match self {

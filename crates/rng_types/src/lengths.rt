@@ -1,6 +1,6 @@
 // Bounds on the number of characters of a text.
-ghost use Rattle.std.specs.Prelude.{◌≡◌, ℕ, true};
-ghost use Rattle.rng_model.specs.datatypes.Facets.{is_at_least, is_at_most, is_within};
+ghost use Rattle.std.specs.Prelude.{◌≡◌, ℕ, nat_le, true};
+ghost use Rattle.rng_model.specs.datatypes.Facets.{is_within, passes};
 ghost use Rattle.rng_types.specs.views.View.{lengths_of};
 
 /// The least and the greatest number of characters of a text, if there is one. Both are inclusive.
@@ -29,7 +29,7 @@ impl Lengths {
 }
 
 fn is_at_least(min: Option<usize>, len: usize) -> bool
-    ensures { result ≡ is_at_least min len }
+    ensures { result ≡ passes (λ least. nat_le least len) min }
 {
     match min {
         Some(min) => min <= len,
@@ -38,7 +38,7 @@ fn is_at_least(min: Option<usize>, len: usize) -> bool
 }
 
 fn is_at_most(max: Option<usize>, len: usize) -> bool
-    ensures { result ≡ is_at_most max len }
+    ensures { result ≡ passes (λ greatest. nat_le len greatest) max }
 {
     match max {
         Some(max) => len <= max,

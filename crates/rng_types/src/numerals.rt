@@ -1,10 +1,10 @@
 // Numbers and truth values, and bounds on numbers.
-ghost use Rattle.std.specs.Prelude.{◌≡◌, ◌&&◌, ℤ, is_some, nat_le, nat_lt, true};
+ghost use Rattle.std.specs.Prelude.{◌≡◌, ◌&&◌, ℤ, int_le, is_some, nat_le, nat_lt, true};
 ghost use Rattle.std.specs.Char.{is_ascii_digit};
 ghost use Rattle.std.specs.List.{list_all, prefix_len};
 ghost use Rattle.std.specs.Str.Parse.{without_leading_sign};
 ghost use Rattle.rng_model.specs.datatypes.Blanks.{collapse};
-ghost use Rattle.rng_model.specs.datatypes.Facets.{is_no_less, is_no_more, is_inside};
+ghost use Rattle.rng_model.specs.datatypes.Facets.{is_inside, passes};
 ghost use Rattle.rng_model.specs.datatypes.Numerals.{is_decimal, most_digits, truth_of, integer_of, length_of};
 ghost use Rattle.rng_types.specs.plain.Runs.{from_run};
 ghost use Rattle.rng_types.specs.views.View.{bounds_of};
@@ -44,7 +44,7 @@ impl Bounds {
 }
 
 fn is_no_less(min: Option<i128>, n: i128) -> bool
-    ensures { result ≡ is_no_less min n }
+    ensures { result ≡ passes (λ least. int_le least n) min }
 {
     match min {
         Some(min) => min <= n,
@@ -53,7 +53,7 @@ fn is_no_less(min: Option<i128>, n: i128) -> bool
 }
 
 fn is_no_more(max: Option<i128>, n: i128) -> bool
-    ensures { result ≡ is_no_more max n }
+    ensures { result ≡ passes (λ greatest. int_le n greatest) max }
 {
     match max {
         Some(max) => n <= max,

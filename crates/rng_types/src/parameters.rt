@@ -1,10 +1,10 @@
 // The parameters of datatypes.
-ghost use Rattle.std.specs.Prelude.{◌≡◌, map, option_copied};
+ghost use Rattle.std.specs.Prelude.{◌≡◌, codes, map, option_copied};
 ghost use Rattle.std.specs.List.{list_all};
+ghost use Rattle.std.specs.Option.{option_and_then};
 ghost use Rattle.rng_model.specs.datatypes.DatatypeViews.{parameter_of};
 ghost use Rattle.rng_model.specs.datatypes.Numerals.{length_of, bound_of};
-ghost use Rattle.rng_model.specs.datatypes.DatatypeTests.{is_named, stands_once, value_named, read_named, is_length, is_bound};
-ghost use Rattle.rng_model.specs.datatypes.DatatypeTests.{takes_lengths, takes_bounds, written_lengths, written_bounds};
+ghost use Rattle.rng_model.specs.datatypes.Parameters.{named, is_named, is_once, is_facet, are_facets, written_range};
 ghost use Rattle.rng_types.specs.views.View.{lengths_of, bounds_of, seen};
 ghost use Rattle.rng_types.specs.views.Finding.{or_bad};
 
@@ -13,9 +13,9 @@ use crate::lengths::Lengths;
 use crate::numerals::{Bounds, integer, length};
 
 // the bounds on lengths that the parameters write
-#[tactic(auto, unfolding(rng_model::specs::datatypes::DatatypeTests::written_lengths))]
+#[tactic(auto, unfolding(rng_model::specs::datatypes::Parameters::written_range))]
 pub(crate) fn lengths(params: &[(String, String)]) -> Result<Lengths, TypeFault>
-    ensures { seen lengths_of result ≡ or_bad (written_lengths (map parameter_of params.now)) }
+    ensures { seen lengths_of result ≡ or_bad (written_range length_of (codes "minLength") (codes "maxLength") (map parameter_of params.now)) }
 {
     if takes_lengths(params) {
         Ok(Lengths {
@@ -28,9 +28,9 @@ pub(crate) fn lengths(params: &[(String, String)]) -> Result<Lengths, TypeFault>
 }
 
 // the bounds on numbers that the parameters write
-#[tactic(auto, unfolding(rng_model::specs::datatypes::DatatypeTests::written_bounds))]
+#[tactic(auto, unfolding(rng_model::specs::datatypes::Parameters::written_range))]
 pub(crate) fn bounds(params: &[(String, String)]) -> Result<Bounds, TypeFault>
-    ensures { seen bounds_of result ≡ or_bad (written_bounds (map parameter_of params.now)) }
+    ensures { seen bounds_of result ≡ or_bad (written_range bound_of (codes "minInclusive") (codes "maxInclusive") (map parameter_of params.now)) }
 {
     if takes_bounds(params) {
         Ok(Bounds {
@@ -44,41 +44,41 @@ pub(crate) fn bounds(params: &[(String, String)]) -> Result<Bounds, TypeFault>
 
 // each parameter is a bound on lengths, and none occurs twice
 fn takes_lengths(params: &[(String, String)]) -> bool
-    ensures { result ≡ takes_lengths (map parameter_of params.now) }
+    ensures { result ≡ are_facets length_of (codes "minLength") (codes "maxLength") (map parameter_of params.now) }
 {
-    are_lengths(params) && stands_once(params, "minLength") && stands_once(params, "maxLength")
+    are_lengths(params) && is_once(params, "minLength") && is_once(params, "maxLength")
 }
 
 // each parameter is a bound on numbers, and none occurs twice
 fn takes_bounds(params: &[(String, String)]) -> bool
-    ensures { result ≡ takes_bounds (map parameter_of params.now) }
+    ensures { result ≡ are_facets bound_of (codes "minInclusive") (codes "maxInclusive") (map parameter_of params.now) }
 {
-    are_bounds(params) && stands_once(params, "minInclusive") && stands_once(params, "maxInclusive")
+    are_bounds(params) && is_once(params, "minInclusive") && is_once(params, "maxInclusive")
 }
 
 // each parameter is a bound on lengths
 fn are_lengths(params: &[(String, String)]) -> bool
-    ensures { result ≡ list_all is_length (map parameter_of params.now) }
+    ensures { result ≡ list_all (is_facet length_of (codes "minLength") (codes "maxLength")) (map parameter_of params.now) }
 {
     params.iter().all(is_length)
 }
 
 // each parameter is a bound on numbers
 fn are_bounds(params: &[(String, String)]) -> bool
-    ensures { result ≡ list_all is_bound (map parameter_of params.now) }
+    ensures { result ≡ list_all (is_facet bound_of (codes "minInclusive") (codes "maxInclusive")) (map parameter_of params.now) }
 {
     params.iter().all(is_bound)
 }
 
 fn is_length(param: &(String, String)) -> bool
-    ensures { result ≡ is_length (parameter_of param.now) }
+    ensures { result ≡ is_facet length_of (codes "minLength") (codes "maxLength") (parameter_of param.now) }
 {
     (is_named(param, "minLength") || is_named(param, "maxLength"))
         && length(param.1.as_str()).is_some()
 }
 
 fn is_bound(param: &(String, String)) -> bool
-    ensures { result ≡ is_bound (parameter_of param.now) }
+    ensures { result ≡ is_facet bound_of (codes "minInclusive") (codes "maxInclusive") (parameter_of param.now) }
 {
     (is_named(param, "minInclusive") || is_named(param, "maxInclusive"))
         && integer(param.1.as_str()).is_some()
@@ -87,19 +87,19 @@ fn is_bound(param: &(String, String)) -> bool
 fn is_named(param: &(String, String), name: &str) -> bool
     ensures { result ≡ is_named name.now (parameter_of param.now) }
 {
-    param.0.as_str() == name
+    name == param.0.as_str()
 }
 
 // at most one parameter has the name
-fn stands_once(params: &[(String, String)], name: &str) -> bool
-    ensures { result ≡ stands_once name.now (map parameter_of params.now) }
+fn is_once(params: &[(String, String)], name: &str) -> bool
+    ensures { result ≡ is_once name.now (map parameter_of params.now) }
 {
     params.iter().filter(|param| is_named(param, name)).count() <= 1
 }
 
 // the length that the parameter of that name writes
 fn length_named(params: &[(String, String)], name: &str) -> Option<usize>
-    ensures { result ≡ read_named length_of (value_named name.now (map parameter_of params.now)) }
+    ensures { result ≡ option_and_then length_of (named name.now (map parameter_of params.now)) }
 {
     match value_named(params, name) {
         Some(value) => length(value),
@@ -109,7 +109,7 @@ fn length_named(params: &[(String, String)], name: &str) -> Option<usize>
 
 // the number that the parameter of that name writes
 fn bound_named(params: &[(String, String)], name: &str) -> Option<i128>
-    ensures { result ≡ read_named bound_of (value_named name.now (map parameter_of params.now)) }
+    ensures { result ≡ option_and_then bound_of (named name.now (map parameter_of params.now)) }
 {
     match value_named(params, name) {
         Some(value) => integer(value),
@@ -119,7 +119,7 @@ fn bound_named(params: &[(String, String)], name: &str) -> Option<i128>
 
 // the value of the parameter of that name
 fn value_named<'a>(params: &'a [(String, String)], name: &str) -> Option<&'a str>
-    ensures { option_copied result ≡ value_named name.now (map parameter_of params.now) }
+    ensures { option_copied result ≡ named name.now (map parameter_of params.now) }
 {
     for param in params {
         if is_named(param, name) {

@@ -1,7 +1,7 @@
 // Grammars, built from what fits.
 ghost use Rattle.std.specs.Bool.{OnTrue};
 ghost use Rattle.rng_model.specs.datatypes.Datatypes.{IsKnownDatatype};
-ghost use Rattle.rng_model.specs.simple.Table.{AreChildrenBelow, IsClassPaired, IsDatatypeKnown, IsLeafListed, IsPaired};
+ghost use Rattle.rng_model.specs.simple.TableRules.{AreChildrenBelow, IsClassPaired, IsDatatypeKnown, IsLeafListed, IsPaired};
 ghost use Rattle.rng_types.specs.views.View.{datatype_at};
 
 use rng_model::{NameClass, PatternId, Simple, SimpleGrammar};
@@ -20,7 +20,7 @@ pub struct GrammarBuilder {
 
 impl Model for GrammarBuilder {
     ghost use Rattle.std.specs.Prelude.{◌<◌, ℕ, List, length, All};
-    ghost use Rattle.rng_model.specs.simple.Table.{Falls, IsClassPaired, IsDatatypeKnown, IsLeafListed, IsPaired};
+    ghost use Rattle.rng_model.specs.simple.TableRules.{Falls, IsClassPaired, IsDatatypeKnown, IsLeafListed, IsPaired};
     ghost use Rattle.rng_model.specs.declared.simple.Simple.{Simple};
     ghost use Rattle.rng_model.specs.declared.simple.PatternId.{PatternId};
     ghost use Rattle.rng_model.specs.declared.name.NameClass.{NameClass};

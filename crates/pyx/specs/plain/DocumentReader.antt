@@ -7,9 +7,9 @@ use Rattle.rng_model.specs.documents.PyxLines as lines
 use Rattle.rng_model.specs.documents.PyxLines.{Said, WrittenName}
 use Rattle.rng_model.specs.documents.PyxNamespaces.{WrittenAttribute}
 use Rattle.rng_model.specs.documents.PyxTrees.{Event, a_start, a_string, an_end}
-use Rattle.pyx_namespaces.specs.plain.Cuts.{behind}
+use Rattle.pyx.specs.plain.Cuts.{behind}
 use Rattle.pyx.specs.plain.LineReader.{said_of}
-use Rattle.pyx_namespaces.specs.plain.Declarations.{Declared, declared_by, same_written}
+use Rattle.pyx.specs.plain.Declarations.{Declared, declared_by, same_written}
 use Rattle.pyx.specs.plain.TagReader.{Element, tag_read}
 
 -- a tag: its name, its `A` lines (declarations, and others), each in order, and the number of bytes in its lines

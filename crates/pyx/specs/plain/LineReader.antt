@@ -6,8 +6,8 @@ use Rattle.std.specs.Str.{chars, is_utf8}
 use Rattle.rng_model.specs.names.Characters.{is_ncname, is_xml_char}
 use Rattle.rng_model.specs.documents.Lines.{Line, line_limit}
 use Rattle.rng_model.specs.documents.PyxLines.{Said, WrittenName, start, attribute, text, end, instruction}
-use Rattle.pyx_namespaces.specs.plain.Cuts.{behind, either_way, at_byte}
-use Rattle.pyx_namespaces.specs.plain.WrittenNames.{written_of}
+use Rattle.pyx.specs.plain.Cuts.{behind, either_way, at_byte}
+use Rattle.pyx.specs.plain.WrittenNames.{written_of}
 use Rattle.pyx.specs.plain.Escapes.{unescaped}
 
 abbrev pub are_ncnames : Option (List ℕ × List ℕ) → List ℕ → Bool

@@ -2,7 +2,7 @@
 use Rattle.std.specs.Prelude.{◌≡◌, List, Bool, true}
 use Rattle.std.specs.List.{AllByRecursion}
 use Rattle.rng_model.specs.matching.Document.{Attribute}
-use Rattle.pyx_namespaces.specs.plain.Slots.{is_met}
+use Rattle.pyx.specs.plain.NamespacesSlots.{is_met}
 
 -- the slots of all names are set
 abbrev pub AreMet : List Bool → List Attribute → Type 0

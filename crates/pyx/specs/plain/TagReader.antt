@@ -5,7 +5,7 @@ use Rattle.rng_model.specs.names.Names.{Name}
 use Rattle.rng_model.specs.matching.Document.{Attribute}
 use Rattle.rng_model.specs.documents.PyxLines.{WrittenName}
 use Rattle.rng_model.specs.documents.PyxNamespaces.{WrittenAttribute}
-use Rattle.pyx_namespaces.specs.plain.Declarations.{Declared, any_forbidden, is_written_twice, namespace_of}
+use Rattle.pyx.specs.plain.Declarations.{Declared, any_forbidden, is_written_twice, namespace_of}
 
 -- ---- names and their namespaces
 

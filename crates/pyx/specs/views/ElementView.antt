@@ -10,14 +10,14 @@ use Rattle.rng_model.specs.names.NameViews.{name_of}
 use Rattle.rng_model.specs.declared.document.Attr.{Attr}
 use Rattle.pyx.specs.declared.fault.LineFault.{LineFault}
 use Rattle.pyx.specs.declared.fault.LineFault.TheVariants as faults
-use Rattle.pyx_namespaces.specs.declared.written.WrittenAttribute as written
+use Rattle.pyx.specs.declared.namespaces.written.WrittenAttribute as written
 use Rattle.pyx.specs.declared.elements.OpenElement.{OpenElement}
 use Rattle.pyx.specs.declared.known.KnownName.{KnownName}
 use Rattle.rng_model.specs.documents.PyxLines.{WrittenName}
 use Rattle.pyx.specs.plain.LineReader.{is_name}
-use Rattle.pyx_namespaces.specs.plain.WrittenNames.{written_of}
-use Rattle.pyx_namespaces.specs.views.WrittenAttributes.{written_attribute}
-use Rattle.pyx_namespaces.specs.plain.Declarations.{Declared, same_written}
+use Rattle.pyx.specs.plain.WrittenNames.{written_of}
+use Rattle.pyx.specs.views.WrittenAttributes.{written_attribute}
+use Rattle.pyx.specs.plain.Declarations.{Declared, same_written}
 use Rattle.pyx.specs.plain.TagReader.{Element, element_name}
 use Rattle.pyx.specs.plain.DocumentReader.{Open}
 

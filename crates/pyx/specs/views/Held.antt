@@ -1,7 +1,7 @@
 -- How many bytes are kept, as they are counted.
 use Rattle.std.specs.Prelude.{ℕ, List, [], ◌∷◌, length}
 use Rattle.rng_model.specs.documents.PyxHeld.{name_length}
-use Rattle.pyx_namespaces.specs.plain.Held.{declarations_held, plus}
+use Rattle.pyx.specs.plain.Held.{declarations_held, plus}
 use Rattle.pyx.specs.plain.DocumentReader.{Open, State, tag_bytes}
 use Rattle.pyx.specs.plain.Pieces.{Progress}
 

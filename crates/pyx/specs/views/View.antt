@@ -5,7 +5,7 @@ use Rattle.rng_model.specs.documents.Lines as lines
 use Rattle.rng_model.specs.documents.PyxFaults.{Fault}
 use Rattle.rng_model.specs.documents.PyxTrees.{Event}
 use Rattle.pyx.specs.declared.line.Line.{Line}
-use Rattle.pyx_namespaces.specs.plain.WrittenNames.{written_of}
+use Rattle.pyx.specs.plain.WrittenNames.{written_of}
 use Rattle.rng_model.specs.declared.pyx_fault.PyxFault.{PyxFault}
 use Rattle.rng_model.specs.declared.pyx_fault.PyxFault.TheVariants as faults_at
 use Rattle.pyx.specs.declared.pieces.Pieces.{Pieces}
@@ -13,7 +13,7 @@ use Rattle.pyx.specs.declared.state.State.{State}
 use Rattle.pyx.specs.declared.state.Tag.{Tag}
 use Rattle.pyx.specs.plain.DocumentReader as reader
 use Rattle.pyx.specs.plain.DocumentReader.{Turn}
-use Rattle.pyx_namespaces.specs.views.WrittenAttributes.{written_attribute}
+use Rattle.pyx.specs.views.WrittenAttributes.{written_attribute}
 use Rattle.pyx.specs.plain.Pieces.{Progress}
 
 abbrev pub line_of : Line → lines.Line

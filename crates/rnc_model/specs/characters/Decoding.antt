@@ -1,7 +1,7 @@
 -- From the bytes of a file to characters (RELAX NG Compact Syntax, "Lexical structure"). The bytes are UTF-8. A CR LF,
 -- a CR and an LF are one line end each. An escape `\x{H}` represents the character with the number H. A CR or LF that
 -- an escape writes does not end a line.
-use Rattle.std.specs.Prelude.{◌≡◌, ◌⊎◌, ◌==◌, ◌≢◌, ℕ, ◌+◌, ◌*◌, ◌<◌, ◌≤◌, true, List, [], ◌∷◌, ◌++◌, length, Some}
+use Rattle.std.specs.Prelude.{◌≡◌, ◌==◌, ◌≢◌, ℕ, ◌+◌, ◌*◌, ◌<◌, ◌≤◌, true, List, [], ◌∷◌, ◌++◌, length, Some}
 use Rattle.std.specs.List.{fold, list_all, slice_get}
 use Rattle.std.specs.Char.{is_digit, digit_value}
 use Rattle.std.specs.Str.{IsUtf8, IsValidUpTo, encode_utf8_all, all_scalars}
@@ -72,7 +72,3 @@ pub record BreaksCharactersAt (bytes : List ℕ) (offset : ℕ) : Type 0 where
   pub some : 0 < length rest
   pub nothing : (c : Character) (after : List ℕ) → ¬ (Begins rest c after)
   pub offset_is : offset + length (encode_utf8_all rest) ≡ length bytes
-
--- one of these two clauses, and the offset where the bytes break it
-abbrev pub BreaksTextAt : List ℕ → ℕ → ℕ → Type 0
-BreaksTextAt bytes clause offset = ((clause ≡ 3) × BreaksUtf8At bytes offset) ⊎ ((clause ≡ 4) × BreaksCharactersAt bytes offset)

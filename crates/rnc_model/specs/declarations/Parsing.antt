@@ -1,7 +1,7 @@
 -- Which file tree a list of tokens has, and which clause it breaks if it has none.
-use Rattle.std.specs.Prelude.{◌≡◌, List, Some}
+use Rattle.std.specs.Prelude.{◌≡◌, List}
+use Rattle.rnc_model.specs.declarations.AppliedDeclarations.{tree_of_file}
 use Rattle.rnc_model.specs.declarations.DeclarationRules.{BreaksDeclarationRule}
-use Rattle.rnc_model.specs.declarations.Declarations.{file_tree}
 use Rattle.rnc_model.specs.declarations.FileTree.{FileTree}
 use Rattle.rnc_model.specs.grammar.Grammar.{IsFile}
 use Rattle.rnc_model.specs.tokens.Lexeme.{Lexeme}
@@ -21,4 +21,4 @@ pub record IsFileTree (ts : List Lexeme) (t : FileTree) : Type 0 where
   pub file : File
   pub sentence : IsFile ts file
   pub kept : ¬ (BreaksDeclarationRule file)
-  pub tree : file_tree file ≡ Some t
+  pub tree : tree_of_file file ≡ t

@@ -63,16 +63,7 @@ pub record IsStuckAt (ts : List Lexeme) (number : ℕ) : Type 0 where
   pub begins : BeginsSentence (number - 1) ts
   pub stuck : (us : List Lexeme) → BeginsAlike number ts us → ¬ IsSentence us
 
--- the tokens nest within the limit and are no sentence (clause 6)
-abbrev pub BreaksGrammar : List Lexeme → Type 0
-BreaksGrammar ts = NestsWithin nesting_limit ts × ¬ IsSentence ts
-
--- the same, where the token with this number is the first that no sentence can have there
+-- the tokens nest within the limit, and the one with this number is the first that no sentence can have there (clause 6)
 pub record BreaksGrammarAt (ts : List Lexeme) (number : ℕ) : Type 0 where
   pub nesting : NestsWithin nesting_limit ts
   pub stuck : IsStuckAt ts number
-
--- the tokens nest within the limit, and this is their syntax tree
-pub record IsSyntaxTree (ts : List Lexeme) (f : File) : Type 0 where
-  pub nesting : NestsWithin nesting_limit ts
-  pub sentence : IsFile ts f

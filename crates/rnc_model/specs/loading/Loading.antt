@@ -63,14 +63,6 @@ hrefs_if (Some t) = hrefs_of t
 abbrev pub hrefs_in : TakenFiles → Name → List Name
 hrefs_in read f = hrefs_if (tree_in read f)
 
-abbrev pub grammar_if : Option FileTree → Option tree.Components
-grammar_if None = None
-grammar_if (Some t) = grammar_of t
-
--- the components of the grammar that the file of this name is
-abbrev pub grammar_in : TakenFiles → Name → Option tree.Components
-grammar_in read f = grammar_if (tree_in read f)
-
 module _ (read : TakenFiles) where
   -- an include, in a file or in a component that is overridden: the file that it mentions is not a grammar, or the
   -- braces override a name, or a start, that the grammar of this file does not have

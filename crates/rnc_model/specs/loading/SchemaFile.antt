@@ -63,11 +63,6 @@ pub record NamedFile : Type 0 where
   pub name : Name
   pub bytes : List ℕ
 
--- the verdict on a file by itself: it breaks this clause first, or it has this tree
-pub data FileVerdict : Type 0 where
-  breaks : ℕ → FileVerdict
-  has_tree : FileTree → FileVerdict
-
 module _ (files : List NamedFile) where
   -- there is no file of this name
   abbrev pub IsMissing : Name → Type 0
@@ -100,23 +95,3 @@ module _ (files : List NamedFile) where
       pub handed_in : IsHandedIn f bytes
       pub small : ¬ (BreaksLimit f bytes)
       pub is : IsSchemaFile bytes t
-
-    abbrev pub FileHasVerdict : Name → FileVerdict → Type 0
-    FileHasVerdict f (breaks k) = BreaksOwn f k
-    FileHasVerdict f (has_tree t) = HasTree f t
-
-    -- the file has this verdict and no other
-    pub record FileHasOnlyVerdict (f : Name) (v : FileVerdict) : Type 0 where
-      pub is : FileHasVerdict f v
-      pub only : (other : FileVerdict) → FileHasVerdict f other → v ≡ other
-
--- ---- the same for bytes, however many there are
-
-abbrev pub ContentHasVerdict : List ℕ → FileVerdict → Type 0
-ContentHasVerdict bytes (breaks clause) = BreaksFileClause bytes clause
-ContentHasVerdict bytes (has_tree t) = IsSchemaFile bytes t
-
--- the bytes have this verdict and no other
-pub record ContentHasOnlyVerdict (bytes : List ℕ) (v : FileVerdict) : Type 0 where
-  pub is : ContentHasVerdict bytes v
-  pub only : (other : FileVerdict) → ContentHasVerdict bytes other → v ≡ other

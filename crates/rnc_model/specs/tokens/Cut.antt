@@ -1,11 +1,10 @@
 -- The cut of a text into blanks, comments and tokens, each the longest that begins at its offset
 -- (RELAX NG Compact Syntax, "Lexical structure").
-use Rattle.std.specs.Prelude.{◌≡◌, ℕ, ◌+◌, ◌<◌, ◌≤◌, List, [], ◌∷◌, ◌++◌, length, map}
+use Rattle.std.specs.Prelude.{◌≡◌, ℕ, ◌+◌, ◌<◌, ◌≤◌, List, [], ◌∷◌, ◌++◌, length}
 use Rattle.rnc_model.specs.characters.Characters.{bytes_of, byte_length}
 use Rattle.rnc_model.specs.tokens.Tokens.{Piece, gap, token, characters_in, IsPiece}
 use Rattle.rnc_model.specs.declared.character.Character.{Character}
 use Rattle.rnc_model.specs.declared.token.TokenKind.{TokenKind}
-use Rattle.rnc_model.specs.declared.token.Token as declared
 
 -- the characters begin with the piece, the rest follows it, and no longer front of the characters is a piece
 pub record IsNext (cs : List Character) (piece : Piece) (rest : List Character) : Type 0 where
@@ -31,13 +30,6 @@ pub record Token : Type 0 where
   pub starts : ℕ
   pub ends : ℕ
 
--- a token of the code, without its place in memory
-abbrev pub token_of : declared.Token → Token
-token_of t = record { kind = t.kind; text = t.text.now; starts = t.start; ends = t.end }
-
-abbrev pub tokens_of : List declared.Token → List Token
-tokens_of ts = map token_of ts
-
 -- the tokens among pieces, the first of which starts at an offset
 abbrev pub tokens_at : ℕ → List Piece → List Token
 tokens_at start [] = []
@@ -59,8 +51,3 @@ pub record BreaksTokensAt (cs : List Character) (offset : ℕ) : Type 0 where
   pub some : 0 < length rest
   pub nothing : NothingBegins rest
   pub offset_is : offset + byte_length rest ≡ byte_length cs
-
--- each token starts at or after the end of the one before it, and is not empty
-abbrev pub AreInOrder : ℕ → List Token → Type 0
-AreInOrder start [] = Unit {0}
-AreInOrder start (t ∷ ts) = (start ≤ t.starts) × (t.starts < t.ends) × AreInOrder t.ends ts

@@ -1,7 +1,8 @@
 -- The tokens as the grammar reads them: the text of each, and for a keyword also its number (RELAX NG Compact Syntax,
 -- "Lexical structure").
-use Rattle.std.specs.Prelude.{ℕ, ◌+◌, ◌==◌, Bool, List, [], ◌∷◌}
+use Rattle.std.specs.Prelude.{ℕ, ◌+◌, List, [], ◌∷◌}
 use Rattle.std.specs.List.{before_first, after_first}
+use Rattle.rng_model.specs.names.Characters.{is_colon}
 use Rattle.rnc_model.specs.declared.token.Keyword.{Keyword}
 use Rattle.rnc_model.specs.declared.token.Sign.{Sign}
 use Rattle.rnc_model.specs.declared.token.TokenKind.{TokenKind}
@@ -21,9 +22,6 @@ pub data Lexeme : Type 0 where
   ns_name : List ℕ → Lexeme
   segment : List ℕ → Lexeme
   sign : Sign → Lexeme
-
-abbrev pub is_colon : ℕ → Bool
-is_colon c = c == 58
 
 -- the prefix of a name: everything before its first colon
 abbrev pub prefix_in : List ℕ → List ℕ

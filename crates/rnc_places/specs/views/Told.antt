@@ -7,7 +7,7 @@ use Rattle.rnc_model.specs.declarations.FaultyTokens.{BreaksDeclarationsAt}
 use Rattle.rnc_model.specs.declared.file_place.FilePlace.{FilePlace}
 use Rattle.rnc_model.specs.grammar.Sentence.{BreaksGrammarAt}
 use Rattle.rnc_model.specs.loading.FaultPlaces.{BreaksClauseAt, IsTooDeepAt}
-use Rattle.rnc_model.specs.loading.SchemaFile.{ContentHasOnlyVerdict, breaks, has_tree}
+use Rattle.rnc_model.specs.loading.FileVerdicts.{ContentHasOnlyVerdict, breaks, has_tree}
 use Rattle.rnc_model.specs.tokens.Lexeme.{Lexeme}
 
 -- the only clause that the file breaks, with its place, or nothing if it breaks none

@@ -2,13 +2,13 @@
 use Rattle.std.specs.Prelude.{◌≡◌, ◌⊎◌, ℕ, ℤ, List, [], ◌++◌, Some, None, Result, Ok, Err, IfErr, IfOk, IfSome, OnOk, unwrap_or}
 use Rattle.rng_model.specs.schema.Schema.{Schema}
 use Rattle.rng_model.specs.declared.fault.OutOfMemory.{OutOfMemory}
-use Rattle.rncv_model.specs.answers.Compiled.{IsVerdictOn}
+use Rattle.rncv_model.specs.answers.Compiled.{IsUnknownIn, IsVerdictOn}
 use Rattle.rng_model.specs.matching.SchemaMatching.{IsValidBySchema}
-use Rattle.rncv_model.specs.answers.Run.{IsUnknownIn}
 use Rattle.rncv_model.specs.answers.Verdict.{IsMalformed}
 use Rattle.rncv_model.specs.declared.verdict.Verdict.{Verdict}
 use Rattle.rncv_model.specs.declared.verdict.Verdict.TheVariants.{Invalid}
-use Rattle.rncv_validator.specs.views.Documents.{HasBeenFed, HaveEnded, IsFaultOfFed, IsHopelessFrom, Judging, KnowsStarts, UnlessMemory, failed_since, told_by}
+use Rattle.rncv_validator.specs.views.Documents.{HaveEnded, IsFaultOfFed, IsHopelessFrom, KnowsStarts, UnlessMemory, failed_since, told_by}
+use Rattle.rncv_validator.specs.views.FedDocuments.{HasBeenFed, Judging}
 use Rattle.rncv_validator.specs.views.Validators.{Judges}
 use Rattle.rncv_validator.specs.declared.fault.DocumentFault.{DocumentFault}
 use Rattle.rncv_validator.specs.declared.fault.DocumentFault.TheVariants as faults
@@ -65,8 +65,8 @@ pub record HasEnded (document : Judging) (number : ℤ) (old new : Judgement) : 
   pub told : new ≡ told_at_end old answer
 
 -- The line after which no continuation is valid, or 0 if it is not known. If it is known, it is one of the lines that were
--- fed, and no document with the same lines up to it is valid. If it is not, no document with the same ended lines has, at
--- these, a start with a name that no element of the simple form may have.
+-- fed, and no document with the same lines up to it is valid. If it is not, and there is no fault, no document with the
+-- same ended lines has, at one of these, the event of a start with a name that no element of the simple form may have.
 pub record IsInvalidSince (line : ℕ) (document : Judging) : Type 0 where
   pub value : line ≡ unwrap_or (failed_since document) 0
   pub hopeless : IfSome (failed_since document) (λ since. (s : Schema) (bytes : List ℕ) → Judges document.grammar s → HasBeenFed document bytes

@@ -1,7 +1,7 @@
 -- What handles hold, and the numbers that calls return to C.
 use Rattle.std.specs.Prelude.{ℤ, pos, Option, Some, None}
 use Rattle.rng_model.specs.simple.Table.{Table}
-use Rattle.rncv_validator.specs.views.Documents.{Judging}
+use Rattle.rncv_validator.specs.views.FedDocuments.{Judging}
 use Rattle.rncv_c.specs.declared.handle.Held.{Held}
 use Rattle.rncv_c.specs.declared.handle.Held.TheVariants.{Schema, Document}
 use Rattle.rncv_c.specs.declared.status.Status.{Status}

@@ -1,4 +1,4 @@
--- The simple form of a schema, printed to a buffer of C.
+-- A text that is written to a buffer of C: the simple form of a schema, or the name of a refused file.
 use Rattle.std.specs.Prelude.{◌≡◌, ℕ, ◌<◌, List, ◌++◌, drop, length}
 use Rattle.rng_model.specs.schema.Schema.{Schema}
 use Rattle.rng_model.specs.simple.Table.{Table}
@@ -9,16 +9,16 @@ use Rattle.rncv_validator.specs.views.Validators.{Judges}
 abbrev pub IsTextOf : Table → List ℕ → Type 0
 IsTextOf grammar text = (s : Schema) → Judges grammar s → IsPrintedForm s text
 
--- the buffer begins with the printed form, and is unchanged after it; this is the length of the form
-pub record IsWritten (grammar : Table) (count : ℕ) (old new : List ℕ) : Type 0 where
+-- the buffer begins with such a text, and is unchanged after it; this is the length of the text
+pub record IsWritten (IsText : List ℕ → Type 0) (count : ℕ) (old new : List ℕ) : Type 0 where
   pub text : List ℕ
-  pub is : IsTextOf grammar text
+  pub is : IsText text
   pub count_is : count ≡ length text
   pub written : new ≡ text ++ drop (length text) old
 
--- the printed form does not fit the buffer; this is the length of the form
-pub record IsTooLong (grammar : Table) (count : ℕ) (buffer : List ℕ) : Type 0 where
+-- such a text does not fit the buffer; this is the length of the text
+pub record IsTooLong (IsText : List ℕ → Type 0) (count : ℕ) (buffer : List ℕ) : Type 0 where
   pub text : List ℕ
-  pub is : IsTextOf grammar text
+  pub is : IsText text
   pub count_is : count ≡ length text
   pub too_long : length buffer < length text

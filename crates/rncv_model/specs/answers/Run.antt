@@ -1,18 +1,15 @@
 -- What a run answers, and what it leaves written.
-use Rattle.std.specs.Prelude.{◌≡◌, ℕ, List, [], ◌∷◌, All, Option, string_bytes}
+use Rattle.std.specs.Prelude.{◌≡◌, ℕ, List, [], ◌∷◌, Option, string_bytes}
 use Rattle.std.specs.Io.KnownBytes.{Appends, Keeps}
-use Rattle.rng_model.specs.names.Names.{In, Name}
 use Rattle.rng_model.specs.schema.Schema.{Schema}
-use Rattle.rng_model.specs.schema.SchemaClauses.{BreaksNoClause, IsLeastClause}
-use Rattle.rng_model.specs.simple.SchemaForm.{SimpleForm, IsSimpleFormOfSchema}
 use Rattle.rng_model.specs.matching.SchemaMatching.{IsValidBySchema}
-use Rattle.rncv_model.specs.answers.Answer.{Answer, refused, refused_file, schema_ok, printed, judged, output_of, status_of}
-use Rattle.rnc_model.specs.loading.Loading.{FilesVerdict, file_breaks, together_break, are_taken, FilesHaveOnlyVerdict}
-use Rattle.rnc_model.specs.loading.LoadedSchema.{AreSchema}
-use Rattle.rnc_model.specs.loading.SchemaFile.{NamedFile}
 use Rattle.rng_model.specs.devices.Written.{AppendsBeginning}
-use Rattle.rncv_model.specs.printed.SchemaText.{IsPrintedForm}
+use Rattle.rnc_model.specs.loading.Loading.{file_breaks, together_break, FilesHaveOnlyVerdict}
+use Rattle.rnc_model.specs.loading.SchemaFile.{Name, NamedFile}
+use Rattle.rncv_model.specs.answers.Answer.{Answer, refused, refused_file, schema_ok, printed, judged, output_of, status_of}
+use Rattle.rncv_model.specs.answers.Compiled.{AreGoodSchema, HaveLeastClause, IsUnknownIn}
 use Rattle.rncv_model.specs.answers.Verdict.{IsJudgedBy}
+use Rattle.rncv_model.specs.printed.SchemaText.{IsPrintedForm}
 use Rattle.rncv_model.specs.declared.status.Status.{Status}
 use Rattle.rncv_model.specs.declared.verdict.Verdict.{Verdict}
 use Rattle.rncv_model.specs.declared.command.Command.{Command}
@@ -22,54 +19,33 @@ use Rattle.rncv_model.specs.declared.run_fault.RunFault.TheVariants.{Memory, Rea
 use Rattle.std.proofs.Common.{String, Vec, Global}
 
 -- the name of the first file, which is the main one
-abbrev pub main_name : List (String Global × Vec ℕ Global) → List ℕ
+abbrev pub main_name : List (String Global × Vec ℕ Global) → Name
 main_name [] = []
 main_name (file ∷ files) = string_bytes file.0
-
--- the answer about the schema alone: the least clause that it breaks; or, if it breaks none, that it is good for
--- `check`, and its simple form for `simple`
-pub data IsTold (command : Command) (s : Schema) : Answer → Type 0 where
-  breaks_clause : {clause : ℕ} → IsLeastClause s clause → IsTold command s (refused clause)
-  is_good : command ≡ Check → BreaksNoClause s → IsTold command s schema_ok
-  has_form : {text : List ℕ} → command ≡ Simple → BreaksNoClause s → IsPrintedForm s text → IsTold command s (printed text)
-
--- the command judges documents, and the schema breaks no clause
-pub record JudgesDocuments (command : Command) (s : Schema) : Type 0 where
-  pub command_is : command ≡ Valid
-  pub breaks_none : BreaksNoClause s
-
--- no element of the schema's simple form may have this name
-abbrev pub IsUnknownIn : Schema → Name → Type 0
-IsUnknownIn s name = (f : SimpleForm) × IsSimpleFormOfSchema s f × All (λ e. ¬ (In e.class name)) f.elements
 
 -- the verdict on what the reader had left, by this schema as it is written
 abbrev pub IsJudged : Schema → Verdict → Option (List ℕ) → Option (List ℕ) → Type 0
 IsJudged s = IsJudgedBy (IsValidBySchema s) (IsUnknownIn s)
 
--- the answer by the schema: the one about the schema alone, or the verdict on the document
-pub data IsAnswerBy (command : Command) (s : Schema) (input_old input_new : Option (List ℕ)) : Answer → Type 0 where
-  schema_is_told : {answer : Answer} → IsTold command s answer → IsAnswerBy command s input_old input_new answer
-  document_is_judged : {verdict : Verdict} → JudgesDocuments command s → IsJudged s verdict input_old input_new
-      → IsAnswerBy command s input_old input_new (judged verdict)
+-- the command judges a document, and the files are a schema that breaks no clause
+pub record JudgesDocument (command : Command) (files : List NamedFile) (main : Name) : Type 0 where
+  pub command_is : command ≡ Valid
+  pub schema : Schema
+  pub good : AreGoodSchema files main schema
 
--- no document is judged if this is the verdict on the files, with the main one of this name
-abbrev pub JudgesNone : Command → List ℕ → FilesVerdict → Type 0
-JudgesNone command main (file_breaks f clause) = Unit {0}
-JudgesNone command main (together_break clause) = Unit {0}
-JudgesNone command main (are_taken read) = (s : Schema) × AreSchema read main s × ¬ (JudgesDocuments command s)
-
--- The answer for files with this verdict: a broken clause, with the name of the file that breaks it by itself;
--- otherwise the answer by the schema that the files are.
-abbrev pub IsAnswerTo : Command → List ℕ → FilesVerdict → Option (List ℕ) → Option (List ℕ) → Answer → Type 0
-IsAnswerTo command main (file_breaks f clause) input_old input_new answer = answer ≡ refused_file clause f
-IsAnswerTo command main (together_break clause) input_old input_new answer = answer ≡ refused clause
-IsAnswerTo command main (are_taken read) input_old input_new answer = (s : Schema) × AreSchema read main s × IsAnswerBy command s input_old input_new answer
-
--- the answer follows from the verdict on the files, which is unique
-pub record IsAnswer (command : Command) (files : List NamedFile) (main : List ℕ) (input_old input_new : Option (List ℕ)) (answer : Answer) : Type 0 where
-  pub verdict : FilesVerdict
-  pub is_verdict : FilesHaveOnlyVerdict files main verdict
-  pub follows : IsAnswerTo command main verdict input_old input_new answer
+-- The answer: the clause that a file breaks by itself, with the name of the file; otherwise the clause that the files
+-- break together; otherwise the least clause that their schema breaks. If it breaks none: that it is good, its printed
+-- simple form, or the verdict on the document.
+pub data IsAnswer (command : Command) (files : List NamedFile) (main : Name) (input_old input_new : Option (List ℕ)) : Answer → Type 0 where
+  file_refused : {f : Name} {clause : ℕ} → FilesHaveOnlyVerdict files main (file_breaks f clause)
+      → IsAnswer command files main input_old input_new (refused_file clause f)
+  files_refused : {clause : ℕ} → FilesHaveOnlyVerdict files main (together_break clause) → IsAnswer command files main input_old input_new (refused clause)
+  schema_refused : {clause : ℕ} → HaveLeastClause files main clause → IsAnswer command files main input_old input_new (refused clause)
+  schema_good : {s : Schema} → command ≡ Check → AreGoodSchema files main s → IsAnswer command files main input_old input_new schema_ok
+  form_printed : {s : Schema} {text : List ℕ} → command ≡ Simple → AreGoodSchema files main s → IsPrintedForm s text
+      → IsAnswer command files main input_old input_new (printed text)
+  document_judged : {s : Schema} {verdict : Verdict} → command ≡ Valid → AreGoodSchema files main s → IsJudged s verdict input_old input_new
+      → IsAnswer command files main input_old input_new (judged verdict)
 
 -- exactly the answer is written, and the status is the status of the answer
 pub record WritesAnswer (answers : Answer → Type 0) (status : Status) (old new : Option (List ℕ)) : Type 0 where

@@ -1,5 +1,5 @@
 -- Things in the order in which they first occur, without repeats, each with its position.
-use Rattle.std.specs.Prelude.{◌≡◌, ℕ, zero, suc, ◌+◌, Bool, if◌then◌else◌, List, [], ◌∷◌, ◌++◌, slice_get, Option, Some, None, flat_map, Contains}
+use Rattle.std.specs.Prelude.{◌≡◌, ℕ, Bool, if◌then◌else◌, List, [], ◌∷◌, ◌++◌, flat_map, Contains}
 use Rattle.std.specs.List.{list_any, position_or_len, AllByRecursion}
 
 module _ {A : Type 0} (same : A → A → Bool) where
@@ -34,17 +34,3 @@ module _ {A : Type 0} (same : A → A → Bool) where
   pub record IsNumbering (start : List A) (line : A → List A) (all : List A) : Type 0 where
     pub in_order : all ≡ first_times (start ++ flat_map line all)
     pub reached : AllByRecursion (IsReached start line) all
-
-  -- The same step by step, as it is computed. As long as something is written and has no line, the first such thing
-  -- gets its line. In `numbered_from`, `lines` is the number of lines so far.
-  abbrev pub numbered_at : Option A → (A → List A → List A) → List A → List A
-  numbered_at None next written = written
-  numbered_at (Some a) next written = next a written
-
-  unfoldable pub numbered_from : (A → List A) → ℕ → ℕ → List A → List A
-  numbered_from line zero lines written = written
-  numbered_from line (suc steps) lines written =
-      numbered_at (slice_get written lines) (λ a written. numbered_from line steps (1 + lines) (and_new written (line a))) written
-
-  unfoldable pub numbered : ℕ → List A → (A → List A) → List A
-  numbered steps start line = numbered_from line steps 0 (first_times start)

@@ -7,7 +7,7 @@ use Rattle.std.specs.Str.{bytes_eq}
 use Rattle.rng_model.specs.names.Names.{NameClass, any_name, any_except, ns_name, ns_except, name_is, one_of, NameClasses, no_classes, class_and}
 use Rattle.rng_model.specs.simple.Tree.{Datatype, Connector, choice, group, interleave, Simple, s_not_allowed, s_empty, s_text, s_leaf, s_attribute, s_list, s_data}
 use Rattle.rng_model.specs.simple.Tree.{s_data_except, s_value, s_one_or_more, s_joined}
-use Rattle.rng_model.specs.simple.Table.{Grammar}
+use Rattle.rng_model.specs.simple.Grammar.{Grammar}
 use Rattle.rncv_model.specs.printed.Numbering.{first_times, place_in, IsNumbering}
 use Rattle.rncv_model.specs.printed.Same.{same_tree}
 

@@ -1,7 +1,7 @@
 -- What is written when a grammar is printed.
 use Rattle.std.specs.Prelude.{ℕ, List, Option}
 use Rattle.std.specs.Io.KnownBytes.{Appends}
-use Rattle.rng_model.specs.simple.Table.{Grammar}
+use Rattle.rng_model.specs.simple.Grammar.{Grammar}
 use Rattle.rng_model.specs.devices.Written.{AppendsBeginning}
 use Rattle.rncv_model.specs.printed.PrintedText.{IsPrinted}
 

@@ -2,7 +2,7 @@
 use Rattle.std.specs.Prelude.{ℕ, List}
 use Rattle.rng_model.specs.schema.Schema.{Schema}
 use Rattle.rng_model.specs.simple.SchemaForm.{IsOnlySimpleGrammarOf, IsSimpleGrammarOf}
-use Rattle.rng_model.specs.simple.Table.{Grammar}
+use Rattle.rng_model.specs.simple.Grammar.{Grammar}
 use Rattle.rncv_model.specs.printed.PrintedText.{IsPrinted}
 
 -- the text is the text of a grammar that is a simple form of the schema, and the only one up to the numbers of its

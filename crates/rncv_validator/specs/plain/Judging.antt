@@ -2,7 +2,7 @@
 use Rattle.std.specs.Prelude.{ℕ}
 use Rattle.rng_model.specs.names.Names.{In, Name, NameClass}
 use Rattle.rng_model.specs.restrictions.Restrictions.{ClassIn}
-use Rattle.rng_model.specs.simple.Table.{Grammar}
+use Rattle.rng_model.specs.simple.Grammar.{Grammar}
 use Rattle.rng_model.specs.declared.outcome.Outcome.{Outcome}
 use Rattle.rng_model.specs.declared.outcome.Outcome.TheVariants as outcome
 use Rattle.rncv_model.specs.declared.verdict.Verdict.{Verdict}

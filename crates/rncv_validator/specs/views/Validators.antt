@@ -1,12 +1,9 @@
 -- What a validator represents.
 use Rattle.std.specs.Prelude.{List}
 use Rattle.rng_model.specs.schema.Schema.{Schema}
-use Rattle.rng_model.specs.schema.SchemaClauses.{IsLeastClause}
 use Rattle.rng_model.specs.simple.SchemaForm.{IsOnlySimpleGrammarOf, IsSimpleGrammarOf}
-use Rattle.rng_model.specs.matching.SchemaMatching.{AreSameDocuments}
+use Rattle.rng_model.specs.simple.SimplifiedSchema.{AreSameDocuments}
 use Rattle.rng_model.specs.simple.Table.{Table, grammar_of}
-use Rattle.rng_model.specs.declared.fault.SchemaFault.{SchemaFault}
-use Rattle.rng_model.specs.declared.fault.SchemaFault.TheVariants as faults
 use Rattle.rnc_model.specs.loading.SchemaFile.{Name, NamedFile}
 use Rattle.rncv_model.specs.answers.Compiled.{AreGoodSchema}
 
@@ -21,9 +18,3 @@ pub record IsOneFor (files : List NamedFile) (main : Name) (g : Table) : Type 0 
   pub schema : Schema
   pub are : AreGoodSchema files main schema
   pub judges : Judges g schema
-
--- the least clause that the schema breaks; out of memory claims nothing
-abbrev pub IsLeastFault : Schema → SchemaFault → Type 0
-IsLeastFault s (faults.Clause clause) = IsLeastClause s clause
-IsLeastFault s (faults.File clause name) = ⊥
-IsLeastFault s faults.Memory = Unit {0}

@@ -4,14 +4,14 @@ use Rattle.rng_model.specs.simple.Table.{Table}
 use Rattle.rng_model.specs.documents.PyxTrees.{Event}
 use Rattle.rng_model.specs.matching.Reading.{Reading}
 use Rattle.rng_model.specs.matching.GrammarReading.{reading_of}
-use Rattle.rng_pattern_table.specs.views.Node.{Node}
-use Rattle.rng_pattern_table.specs.views.Trees.{trees}
-use Rattle.rng_event_matcher.specs.views.Basis.{Basis}
-use Rattle.rng_event_matcher.specs.views.Positions.{IsFailed, IsKnown, IsLost, IsProgressInside}
+use Rattle.rng_deriv_table.specs.views.Node.{Node}
+use Rattle.rng_deriv_table.specs.views.Trees.{trees}
+use Rattle.rng_deriv_events.specs.views.Basis.{Basis}
+use Rattle.rng_deriv_events.specs.views.Positions.{IsFailed, IsKnown, IsLost, IsProgressInside}
 use Rattle.rng_deriv.specs.views.Serving.{Serves, nodes_of}
 use Rattle.rng_deriv.specs.declared.matcher_state.MatcherState.{MatcherState}
-use Rattle.rng_event_matcher.specs.declared.progress.Progress.{Progress}
-use Rattle.rng_event_matcher.specs.declared.progress.Progress.TheVariants as progress
+use Rattle.rng_deriv_events.specs.declared.progress.Progress.{Progress}
+use Rattle.rng_deriv_events.specs.declared.progress.Progress.TheVariants as progress
 
 -- a grammar, the patterns that are made of it, and what is known of a document by them
 pub record Matching : Type 0 where

@@ -2,9 +2,9 @@
 use Rattle.std.specs.Prelude.{◌≡◌, ◌<◌, List, length}
 use Rattle.std.specs.List.{AllZip}
 use Rattle.rng_model.specs.simple.Table.{Table}
-use Rattle.rng_pattern_table.specs.views.Node.{Node}
-use Rattle.rng_pattern_table.specs.views.Trees.{tree_of}
-use Rattle.rng_pattern_table.specs.declared.pattern.PatternNumber.{PatternNumber}
+use Rattle.rng_deriv_table.specs.views.Node.{Node}
+use Rattle.rng_deriv_table.specs.views.Trees.{tree_of}
+use Rattle.rng_deriv_table.specs.declared.pattern.PatternNumber.{PatternNumber}
 
 -- the number in the new table represents the same tree as the one in the old table
 abbrev pub IsSameTree : Table → List Node → List Node → PatternNumber → PatternNumber → Type 0

@@ -2,13 +2,13 @@
 use Rattle.std.specs.Prelude.{⊤, List, [], Bool, true, false}
 use Rattle.rng_names.specs.plain.Keys.{Keys, KeysServe}
 use Rattle.rng_model.specs.simple.Table.{Table, grammar_of}
-use Rattle.rng_model.specs.restrictions.BreaksNone.{BreaksNone}
-use Rattle.rng_pattern_table.specs.views.Node.{Node}
-use Rattle.rng_pattern_table.specs.declared.pattern.PatternNumber.{PatternNumber}
-use Rattle.rng_pattern_derivatives.specs.views.KnownWays.{AreAllKnown}
-use Rattle.rng_pattern_derivatives.specs.plain.Starting.{IsReady, HasRestrictedBodies}
-use Rattle.rng_pattern_derivatives.specs.declared.known.Known.{Known}
-use Rattle.rng_event_matcher.specs.views.Basis.{Basis}
+use Rattle.rng_model.specs.restrictions.Restrictions.{BreaksNone}
+use Rattle.rng_deriv_table.specs.views.Node.{Node}
+use Rattle.rng_deriv_table.specs.declared.pattern.PatternNumber.{PatternNumber}
+use Rattle.rng_deriv_ways.specs.views.KnownWays.{AreAllKnown}
+use Rattle.rng_deriv_ways.specs.plain.Starting.{IsReady, HasRestrictedBodies}
+use Rattle.rng_deriv_ways.specs.declared.known.Known.{Known}
+use Rattle.rng_deriv_events.specs.views.Basis.{Basis}
 use Rattle.rng_deriv.specs.declared.learned.Learned.{Learned}
 
 -- the grammar obeys the restrictions, its patterns are in the table under these numbers, and the bodies of its elements

@@ -6,14 +6,14 @@ use Rattle.rng_model.specs.simple.Table.{Table}
 use Rattle.rng_deriv_laws.specs.plain.Derivatives as tree
 use Rattle.rng_deriv_laws.specs.plain.Restricted.{IsRestricted}
 use Rattle.rng_deriv_laws.specs.plain.Ways.{EachWay, Opens}
-use Rattle.rng_event_matcher.specs.views.Numbers.{way_of}
-use Rattle.rng_event_matcher.specs.declared.derivatives.StartWay.{StartWay}
-use Rattle.rng_pattern_table.specs.views.Node.{Node}
-use Rattle.rng_pattern_table.specs.views.Trees.{trees, tree_of}
+use Rattle.rng_deriv_events.specs.views.Numbers.{way_of}
+use Rattle.rng_deriv_events.specs.declared.derivatives.StartWay.{StartWay}
+use Rattle.rng_deriv_table.specs.views.Node.{Node}
+use Rattle.rng_deriv_table.specs.views.Trees.{trees, tree_of}
 use Rattle.rng_model.specs.matching.GrammarReading.{reading_of}
-use Rattle.rng_pattern_derivatives.specs.plain.Starting.{IsRestrictedBodyNamed}
-use Rattle.rng_pattern_derivatives.specs.plain.Ways.{way_by}
-use Rattle.rng_pattern_derivatives.specs.declared.way.LeafWay as numbered
+use Rattle.rng_deriv_ways.specs.plain.Starting.{IsRestrictedBodyNamed}
+use Rattle.rng_deriv_ways.specs.plain.Ways.{way_by}
+use Rattle.rng_deriv_ways.specs.declared.way.LeafWay as numbered
 
 -- the numbers of the way are in the table
 abbrev pub IsWayInside : List Node → StartWay → Type 0

@@ -10,7 +10,7 @@ use Rattle.rnc_model.specs.declarations.FileTree.{FileTree, grammar_file, patter
 use Rattle.rnc_model.specs.loading.Mentions.{MentionedFile, external_file, included_file, mention_of, mentions_of, mentions_of_pattern}
 use Rattle.rnc_model.specs.loading.Mentions.{mentions_of_components}
 use Rattle.rng_model.specs.names.Lists.{Among}
-use Rattle.rnc_model.specs.loading.Loading.{grammar_if}
+use Rattle.rnc_model.specs.loading.FileGrammars.{grammar_if}
 use Rattle.rnc_model.specs.loading.Places.{TreePath, Nested, Gathered, is_overridden, uri_in, class_in, datatype_in}
 
 -- a pattern of a file that inherits a namespace, at a way: the pattern of the schema, and the grammars that are nested

@@ -6,7 +6,7 @@ use Rattle.rnc_grammar.specs.declared.fault.ParseFault.{ParseFault}
 use Rattle.rnc_grammar.specs.declared.fault.ParseFault.TheVariants as parses
 use Rattle.rnc_grammar.specs.declared.file_tree.FileTree as declared
 use Rattle.rnc_grammar.specs.views.View.{file_of}
-use Rattle.rnc_model.specs.loading.SchemaFile.{FileVerdict, breaks, has_tree}
+use Rattle.rnc_model.specs.loading.FileVerdicts.{FileVerdict, breaks, has_tree}
 use Rattle.rng_load.specs.declared.fault.FileFault.{FileFault}
 use Rattle.rng_load.specs.declared.fault.FileFault.TheVariants.{Clause, Memory}
 

@@ -1,10 +1,8 @@
 -- Views of the components that the code gathers, without their place in memory.
-use Rattle.std.specs.Prelude.{ℕ, List, Bool, Option, Some, None, drop, map, reverse}
-use Rattle.std.specs.List.{list_any}
-use Rattle.std.specs.Str.{bytes_eq}
+use Rattle.std.specs.Prelude.{List, drop, map, reverse}
+use Rattle.rng_overrides.specs.declared.gathered.GatheredComponent.{GatheredComponent}
 use Rattle.rng_model.specs.views.SchemaView.{schema_component_of}
-use Rattle.rng_load.specs.declared.gathering.GatheredComponent.{GatheredComponent}
-use Rattle.rng_load.specs.declared.gathering.OverridingNames.{OverridingNames}
+use Rattle.rng_load.specs.declared.reading_patterns.NestedGrammar.{NestedGrammar}
 use Rattle.rng_load.specs.declared.open_components.AtEnd.{AtEnd}
 use Rattle.rng_load.specs.declared.open_components.AtEnd.TheVariants as ends
 use Rattle.rng_load.specs.declared.open_components.GatheredComponents as declared
@@ -16,13 +14,8 @@ use Rattle.rng_load.specs.plain.OpenComponents as plain
 use Rattle.rng_load.specs.plain.OpenComponents.{OpenList}
 use Rattle.rng_load.specs.views.ReadPatterns.{nested_of}
 
-abbrev pub gathered_of : GatheredComponent → Gathered
+abbrev pub gathered_of : GatheredComponent NestedGrammar → Gathered
 gathered_of g = record { component = schema_component_of g.component; nested = map nested_of g.grammars.items }
-
--- one of the names is this one; no name means a start
-abbrev pub has_name : OverridingNames → Option (List ℕ) → Bool
-has_name names None = names.has_start
-has_name names (Some y) = list_any (λ n. bytes_eq y n) (map (λ n. n.now) names.defines.keys)
 
 abbrev pub end_of : AtEnd → plain.AtEnd
 end_of ends.Nothing = plain.nothing

@@ -9,7 +9,8 @@ use Rattle.rng_load.specs.views.FilesView.{taken_files_of}
 use Rattle.rnc_model.specs.loading.Loading.{FilesVerdict, file_breaks, together_break, are_taken, AreTaken, IsFirstBroken}
 use Rattle.rng_load.specs.declared.fault.ReadingFault.{ReadingFault}
 use Rattle.rng_load.specs.declared.fault.ReadingFault.TheVariants as readings
-use Rattle.rnc_model.specs.loading.SchemaFile.{Name, NamedFile, breaks, has_tree, FileHasOnlyVerdict}
+use Rattle.rnc_model.specs.loading.SchemaFile.{Name, NamedFile}
+use Rattle.rnc_model.specs.loading.FileVerdicts.{breaks, has_tree, FileHasOnlyVerdict}
 use Rattle.rnc_model.specs.loading.FaultVerdicts.{verdict_of_fault}
 
 -- the verdict that is reported if not all files can be read

@@ -3,53 +3,34 @@ use Rattle.std.specs.Prelude.{ℕ, List, Bool, true, Option, Some, None, ℤ, na
 use Rattle.std.specs.Str.{chars}
 use Rattle.rng_model.specs.datatypes.Values.{Value, number}
 
--- minLength and maxLength, if there is one
-pub record Lengths : Type 0 where
-  pub least : Option ℕ
-  pub greatest : Option ℕ
+-- the least and the greatest that is allowed, if there is one
+pub record Range (A : Type 0) : Type 0 where
+  pub least : Option A
+  pub greatest : Option A
 
--- minInclusive and maxInclusive, if there is one
-pub record Bounds : Type 0 where
-  pub least : Option ℤ
-  pub greatest : Option ℤ
+-- minLength and maxLength
+abbrev pub Lengths : Type 0
+Lengths = Range ℕ
 
-abbrev pub no_lengths : Lengths
-no_lengths = record { least = None; greatest = None }
+-- minInclusive and maxInclusive
+abbrev pub Bounds : Type 0
+Bounds = Range ℤ
 
-abbrev pub no_bounds : Bounds
-no_bounds = record { least = None; greatest = None }
-
--- there is no bound, or the number is not below it
-abbrev pub is_at_least : Option ℕ → ℕ → Bool
-is_at_least None n = true
-is_at_least (Some least) n = nat_le least n
-
--- there is no bound, or the number is not above it
-abbrev pub is_at_most : Option ℕ → ℕ → Bool
-is_at_most None n = true
-is_at_most (Some greatest) n = nat_le n greatest
+-- there is no bound, or the bound passes the test
+abbrev pub passes : {A : Type 0} → (A → Bool) → Option A → Bool
+passes test None = true
+passes test (Some bound) = test bound
 
 -- the number is within the bounds, and may be equal to them
 abbrev pub is_within : Lengths → ℕ → Bool
-is_within l n = is_at_least l.least n && is_at_most l.greatest n
+is_within l n = passes (λ least. nat_le least n) l.least && passes (λ greatest. nat_le n greatest) l.greatest
+
+abbrev pub is_inside : Bounds → ℤ → Bool
+is_inside b n = passes (λ least. int_le least n) b.least && passes (λ greatest. int_le n greatest) b.greatest
 
 -- the number of characters of the text is within the bounds
 abbrev pub fits : Lengths → List ℕ → Bool
 fits l s = is_within l (length (chars s))
-
--- there is no bound, or the number is not below it
-abbrev pub is_no_less : Option ℤ → ℤ → Bool
-is_no_less None n = true
-is_no_less (Some least) n = int_le least n
-
--- there is no bound, or the number is not above it
-abbrev pub is_no_more : Option ℤ → ℤ → Bool
-is_no_more None n = true
-is_no_more (Some greatest) n = int_le n greatest
-
--- the number is within the bounds, and may be equal to them
-abbrev pub is_inside : Bounds → ℤ → Bool
-is_inside b n = is_no_less b.least n && is_no_more b.greatest n
 
 -- the number as a value, if there is one and it is within the bounds
 abbrev pub number_inside : Bounds → Option ℤ → Option Value

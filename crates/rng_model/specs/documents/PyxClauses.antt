@@ -8,7 +8,7 @@ use Rattle.rng_model.specs.documents.Lines.{Line, line_limit, attribute_limit, o
 use Rattle.rng_model.specs.matching.WellFormed.{Distinct}
 use Rattle.rng_model.specs.documents.PyxFaults.{Fault, HasKind, IsBalanced, IsBefore, EndsInTag}
 use Rattle.rng_model.specs.documents.PyxLines.{Said, WrittenName, start, IsGoodLine, AreGoodLines, BreaksAlone}
-use Rattle.rng_model.specs.documents.PyxNamespaces.{WrittenAttribute, AreWritten, AreParted, Declaration, IsForbidden, Scope, IsUndeclared, AreExpanded}
+use Rattle.rng_model.specs.documents.PyxNamespaces.{WrittenAttribute, AreWritten, AreParted, NamespaceDeclaration, IsForbidden, NamespaceScope, HasNoNamespace, AreExpanded}
 use Rattle.rng_model.specs.documents.PyxTrees.{IsRun}
 
 -- ---- open tags, by first bytes
@@ -39,28 +39,28 @@ pub record SaysTag (tag : Tag) (name : WrittenName) (written : List WrittenAttri
   pub are_written : AreWritten said written
 
 -- the declarations of the open tags
-pub data HasScope : List Tag → Scope → Type 0 where
+pub data HasScope : List Tag → NamespaceScope → Type 0 where
   no_tags : HasScope [] []
-  one_tag : {tag : Tag} {outer : List Tag} {scope : Scope} {name : WrittenName} {written others : List WrittenAttribute} {ds : List Declaration} →
+  one_tag : {tag : Tag} {outer : List Tag} {scope : NamespaceScope} {name : WrittenName} {written others : List WrittenAttribute} {ds : List NamespaceDeclaration} →
       SaysTag tag name written → AreParted written ds others → HasScope outer scope → HasScope (tag ∷ outer) (ds ∷ scope)
 
 -- P11, for such a tag inside this scope: a declaration is not allowed, or a prefix is not declared
-pub data BreaksNamespaces (outer : Scope) (name : WrittenName) (written : List WrittenAttribute) : Type 0 where
-  forbidden : {ds : List Declaration} {others : List WrittenAttribute} {d : Declaration} → AreParted written ds others → Among d ds → IsForbidden d
+pub data BreaksNamespaces (outer : NamespaceScope) (name : WrittenName) (written : List WrittenAttribute) : Type 0 where
+  forbidden : {ds : List NamespaceDeclaration} {others : List WrittenAttribute} {d : NamespaceDeclaration} → AreParted written ds others → Among d ds → IsForbidden d
       → BreaksNamespaces outer name written
-  element_prefix : {ds : List Declaration} {others : List WrittenAttribute} {p : List ℕ} → AreParted written ds others → name.prefix ≡ Some p
-      → IsUndeclared (ds ∷ outer) p → BreaksNamespaces outer name written
-  attribute_prefix : {ds : List Declaration} {others : List WrittenAttribute} {a : WrittenAttribute} {p : List ℕ} → AreParted written ds others
-      → Among a others → a.name.prefix ≡ Some p → IsUndeclared (ds ∷ outer) p → BreaksNamespaces outer name written
+  element_prefix : {ds : List NamespaceDeclaration} {others : List WrittenAttribute} {p : List ℕ} → AreParted written ds others → name.prefix ≡ Some p
+      → HasNoNamespace (ds ∷ outer) p → BreaksNamespaces outer name written
+  attribute_prefix : {ds : List NamespaceDeclaration} {others : List WrittenAttribute} {a : WrittenAttribute} {p : List ℕ} → AreParted written ds others
+      → Among a others → a.name.prefix ≡ Some p → HasNoNamespace (ds ∷ outer) p → BreaksNamespaces outer name written
 
 -- P12, for such a tag: two `A` lines have the same name, or two attributes have the same expanded name
-pub data RepeatsName (outer : Scope) (written : List WrittenAttribute) : Type 0 where
+pub data RepeatsName (outer : NamespaceScope) (written : List WrittenAttribute) : Type 0 where
   written_twice : HasTwice (map (λ a. a.name) written) → RepeatsName outer written
-  expanded_twice : {ds : List Declaration} {others : List WrittenAttribute} {attrs : List Attribute} → AreParted written ds others
+  expanded_twice : {ds : List NamespaceDeclaration} {others : List WrittenAttribute} {attrs : List Attribute} → AreParted written ds others
       → AreExpanded (ds ∷ outer) others attrs → (Distinct attrs → ⊥) → RepeatsName outer written
 
 -- these lines end with a tag with this meaning, inside tags with these declarations
-pub record EndsWithTag (ls : List Line) (outer : Scope) (name : WrittenName) (written : List WrittenAttribute) : Type 0 where
+pub record EndsWithTag (ls : List Line) (outer : NamespaceScope) (name : WrittenName) (written : List WrittenAttribute) : Type 0 where
   pub ends : EndsInTag ls
   pub says : SaysTag (record { first = ends.tag; attributes = ends.others }) name written
   pub around : List Tag
@@ -78,29 +78,34 @@ pub record EndsInText (ls : List Line) (joined : List ℕ) : Type 0 where
 
 -- ---- clauses
 
--- The clause is broken by this line, between these lines. A line that is too long breaks only P10.
-pub data BreaksHere (before : List Line) (l : Line) (behind : List Line) : ℕ → Type 0 where
-  -- P1 to P6, and P10: by the line itself
-  alone : {clause : ℕ} → BreaksAlone l clause → BreaksHere before l behind clause
+-- a line that is not too long breaks the clause, between these lines
+pub data BreaksBetween (before : List Line) (l : Line) (behind : List Line) : ℕ → Type 0 where
+  -- P1 to P6: by itself
+  alone : {clause : ℕ} → BreaksAlone l clause → BreaksBetween before l behind clause
   -- P7: an attribute that is in no tag
-  no_tag : length l.bytes ≤ line_limit → HasKind 65 l → (EndsInTag before → ⊥) → BreaksHere before l behind 7
+  no_tag : HasKind 65 l → (EndsInTag before → ⊥) → BreaksBetween before l behind 7
   -- P8: an end tag where no element is open, or with a name that is not the name of the open element
-  none_to_end : length l.bytes ≤ line_limit → HasKind 41 l → AreOpenTags before [] → BreaksHere before l behind 8
-  other_name : {name opened_name : List ℕ} {tag : Tag} {outer : List Tag} → length l.bytes ≤ line_limit → l.bytes ≡ 41 ∷ name
-      → AreOpenTags before (tag ∷ outer) → tag.first.bytes ≡ 40 ∷ opened_name → name ≢ opened_name → BreaksHere before l behind 8
+  none_to_end : HasKind 41 l → AreOpenTags before [] → BreaksBetween before l behind 8
+  other_name : {name opened_name : List ℕ} {tag : Tag} {outer : List Tag} → l.bytes ≡ 41 ∷ name → AreOpenTags before (tag ∷ outer)
+      → tag.first.bytes ≡ 40 ∷ opened_name → name ≢ opened_name → BreaksBetween before l behind 8
   -- P9: a text outside the root, or a start tag after it
-  text_outside : length l.bytes ≤ line_limit → HasKind 45 l → AreOpenTags before [] → BreaksHere before l behind 9
-  second_root : (front rest : List Line) (root : Line) → length l.bytes ≤ line_limit → HasKind 40 l → AreOpenTags before []
-      → before ≡ front ++ root ∷ rest → HasKind 40 root → BreaksHere before l behind 9
+  text_outside : HasKind 45 l → AreOpenTags before [] → BreaksBetween before l behind 9
+  second_root : (front rest : List Line) (root : Line) → HasKind 40 l → AreOpenTags before [] → before ≡ front ++ root ∷ rest → HasKind 40 root
+      → BreaksBetween before l behind 9
   -- P10: one attribute too many in a tag, one open element too many, or a joined text that is too long
-  attributes : HasKind 65 l → (tag : EndsInTag before) → attribute_limit ≤ length tag.others → BreaksHere before l behind 10
-  elements : {opened : List Tag} → HasKind 40 l → AreOpenTags before opened → open_limit ≤ length opened → BreaksHere before l behind 10
-  joined_text : {joined : List ℕ} → EndsInText (before ++ l ∷ []) joined → text_limit < length joined → BreaksHere before l behind 10
+  attributes : HasKind 65 l → (tag : EndsInTag before) → attribute_limit ≤ length tag.others → BreaksBetween before l behind 10
+  elements : {opened : List Tag} → HasKind 40 l → AreOpenTags before opened → open_limit ≤ length opened → BreaksBetween before l behind 10
+  joined_text : {joined : List ℕ} → EndsInText (before ++ l ∷ []) joined → text_limit < length joined → BreaksBetween before l behind 10
   -- P11 and P12: by the tag that ends here
-  namespaces : {outer : Scope} {name : WrittenName} {written : List WrittenAttribute} → EndsWithTag (before ++ l ∷ []) outer name written
-      → BeginsOtherwise 65 behind → BreaksNamespaces outer name written → BreaksHere before l behind 11
-  repeated_name : {outer : Scope} {name : WrittenName} {written : List WrittenAttribute} → EndsWithTag (before ++ l ∷ []) outer name written
-      → BeginsOtherwise 65 behind → RepeatsName outer written → BreaksHere before l behind 12
+  namespaces : {outer : NamespaceScope} {name : WrittenName} {written : List WrittenAttribute} → EndsWithTag (before ++ l ∷ []) outer name written
+      → BeginsOtherwise 65 behind → BreaksNamespaces outer name written → BreaksBetween before l behind 11
+  repeated_name : {outer : NamespaceScope} {name : WrittenName} {written : List WrittenAttribute} → EndsWithTag (before ++ l ∷ []) outer name written
+      → BeginsOtherwise 65 behind → RepeatsName outer written → BreaksBetween before l behind 12
+
+-- the clause is broken by this line, between these lines; a line that is too long, ended or not, breaks only P10
+pub data BreaksHere (before : List Line) (l : Line) (behind : List Line) : ℕ → Type 0 where
+  too_long : line_limit < length l.bytes → BreaksHere before l behind 10
+  within : {clause : ℕ} → length l.bytes ≤ line_limit → BreaksBetween before l behind clause → BreaksHere before l behind clause
 
 -- the clause is broken at this line of all lines
 pub data Breaks (all : List Line) : Fault → Type 0 where

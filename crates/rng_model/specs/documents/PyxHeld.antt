@@ -5,7 +5,7 @@ use Rattle.std.specs.Prelude.{◌≡◌, ◌⊎◌, ℕ, ◌+◌, List, [], ◌�
 use Rattle.rng_model.specs.documents.Lines.{Line, lines}
 use Rattle.rng_model.specs.documents.PyxFaults.{HasKind, EndsInTag}
 use Rattle.rng_model.specs.documents.PyxLines.{WrittenName}
-use Rattle.rng_model.specs.documents.PyxNamespaces.{WrittenAttribute, AreParted, Declaration}
+use Rattle.rng_model.specs.documents.PyxNamespaces.{WrittenAttribute, AreParted, NamespaceDeclaration}
 use Rattle.rng_model.specs.documents.PyxClauses.{Tag, AreOpenTags, SaysTag, EndsInText}
 
 -- the number of bytes of a name as it is written
@@ -21,13 +21,13 @@ abbrev pub declared_length : Option (List ℕ) → ℕ
 declared_length None = 5
 declared_length (Some p) = 6 + length p
 
-abbrev pub declaration_length : Declaration → ℕ
+abbrev pub declaration_length : NamespaceDeclaration → ℕ
 declaration_length d = declared_length d.prefix + length d.uri
 
 -- the number of bytes that are kept of open elements
 pub data KeptOfTags : List Tag → ℕ → Type 0 where
   of_none : KeptOfTags [] 0
-  of_tag : {tag : Tag} {outer : List Tag} {name : WrittenName} {written others : List WrittenAttribute} {ds : List Declaration} {n m : ℕ} →
+  of_tag : {tag : Tag} {outer : List Tag} {name : WrittenName} {written others : List WrittenAttribute} {ds : List NamespaceDeclaration} {n m : ℕ} →
       SaysTag tag name written → AreParted written ds others → KeptOfTags outer m → n ≡ name_length name + sum_by declaration_length ds + m
       → KeptOfTags (tag ∷ outer) n
 

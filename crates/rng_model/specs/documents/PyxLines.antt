@@ -1,7 +1,6 @@
--- The meaning of a line of a document in PYX, and which clause a line breaks by itself: P1 to P6, and P10 by its
--- length. Texts are lists of bytes. (docs/LANGUAGE.md; Namespaces in XML 1.0, sections 3 and 4; XML 1.0 Fifth Edition,
+-- The meaning of a line of a document in PYX, and which clause a line breaks by itself: P1 to P6. Texts are lists of bytes. (docs/LANGUAGE.md; Namespaces in XML 1.0, sections 3 and 4; XML 1.0 Fifth Edition,
 -- section 2.2)
-use Rattle.std.specs.Prelude.{◌≡◌, ◌≢◌, ℕ, ◌<◌, ◌≤◌, true, false, List, [], ◌∷◌, ◌++◌, Option, Some, None, length, All}
+use Rattle.std.specs.Prelude.{◌≡◌, ◌≢◌, ℕ, ◌≤◌, true, false, List, [], ◌∷◌, ◌++◌, Option, Some, None, length, All}
 use Rattle.std.specs.Str.{IsUtf8, chars}
 use Rattle.rng_model.specs.names.Characters.{is_ncname, is_xml_char}
 use Rattle.rng_model.specs.documents.Lines.{Line, line_limit}
@@ -15,14 +14,14 @@ pub record WrittenName : Type 0 where
   pub local : List ℕ
 
 -- an NCName
-pub record IsNcname (text : List ℕ) : Type 0 where
+pub record IsNcnameText (text : List ℕ) : Type 0 where
   pub utf8 : IsUtf8 text
   pub ncname : is_ncname (chars text) ≡ true
 
 -- an NCName, or two of them joined by a colon
 pub data IsName : List ℕ → WrittenName → Type 0 where
-  alone : {local : List ℕ} → IsNcname local → IsName local (record { prefix = None; local = local })
-  prefixed : {text prefix local : List ℕ} → IsNcname prefix → IsNcname local → text ≡ prefix ++ 58 ∷ local
+  alone : {local : List ℕ} → IsNcnameText local → IsName local (record { prefix = None; local = local })
+  prefixed : {text prefix local : List ℕ} → IsNcnameText prefix → IsNcnameText local → text ≡ prefix ++ 58 ∷ local
       → IsName text (record { prefix = Some prefix; local = local })
 
 -- the meaning of a value or a text: `\n`, `\t` and `\\` mean a line feed, a tab and a backslash; every other byte means
@@ -88,25 +87,20 @@ abbrev pub IsNoName : List ℕ → Type 0
 IsNoName written = (name : WrittenName) → IsName written name → ⊥
 
 -- a line that is not too long breaks this clause by itself
-pub data BreaksWithin (l : Line) : ℕ → Type 0 where
-  -- P1: no line feed ends it
-  unended : l.ended ≡ false → BreaksWithin l 1
-  -- P2: it is not UTF-8
-  no_utf8 : (IsUtf8 l.bytes → ⊥) → BreaksWithin l 2
-  -- P3: it has a character that XML does not have
-  no_xml_char : IsUtf8 l.bytes → (All (λ c. is_xml_char c ≡ true) (chars l.bytes) → ⊥) → BreaksWithin l 3
-  -- P4: it has no kind
-  no_kind : HasNoKind l → BreaksWithin l 4
-  -- P5: a text or a value has another escape, or ends with a single backslash
-  bad_text : {written : List ℕ} → l.bytes ≡ 45 ∷ written → StandsForNothing written → BreaksWithin l 5
-  bad_value : {bytes before written : List ℕ} → l.bytes ≡ 65 ∷ bytes → IsCutAtSpace bytes before written → StandsForNothing written → BreaksWithin l 5
-  -- P6: a name is not a name, or an attribute has no space
-  bad_start_name : {written : List ℕ} → l.bytes ≡ 40 ∷ written → IsNoName written → BreaksWithin l 6
-  bad_end_name : {written : List ℕ} → l.bytes ≡ 41 ∷ written → IsNoName written → BreaksWithin l 6
-  bad_attribute_name : {bytes written value : List ℕ} → l.bytes ≡ 65 ∷ bytes → IsCutAtSpace bytes written value → IsNoName written → BreaksWithin l 6
-  no_space : {bytes : List ℕ} → l.bytes ≡ 65 ∷ bytes → All (λ c. c ≢ 32) bytes → BreaksWithin l 6
-
--- the line breaks this clause by itself; a line that is too long, ended or not, breaks only P10
 pub data BreaksAlone (l : Line) : ℕ → Type 0 where
-  within : {clause : ℕ} → length l.bytes ≤ line_limit → BreaksWithin l clause → BreaksAlone l clause
-  too_long : line_limit < length l.bytes → BreaksAlone l 10
+  -- P1: no line feed ends it
+  unended : l.ended ≡ false → BreaksAlone l 1
+  -- P2: it is not UTF-8
+  no_utf8 : (IsUtf8 l.bytes → ⊥) → BreaksAlone l 2
+  -- P3: it has a character that XML does not have
+  no_xml_char : IsUtf8 l.bytes → (All (λ c. is_xml_char c ≡ true) (chars l.bytes) → ⊥) → BreaksAlone l 3
+  -- P4: it has no kind
+  no_kind : HasNoKind l → BreaksAlone l 4
+  -- P5: a text or a value has another escape, or ends with a single backslash
+  bad_text : {written : List ℕ} → l.bytes ≡ 45 ∷ written → StandsForNothing written → BreaksAlone l 5
+  bad_value : {bytes before written : List ℕ} → l.bytes ≡ 65 ∷ bytes → IsCutAtSpace bytes before written → StandsForNothing written → BreaksAlone l 5
+  -- P6: a name is not a name, or an attribute has no space
+  bad_start_name : {written : List ℕ} → l.bytes ≡ 40 ∷ written → IsNoName written → BreaksAlone l 6
+  bad_end_name : {written : List ℕ} → l.bytes ≡ 41 ∷ written → IsNoName written → BreaksAlone l 6
+  bad_attribute_name : {bytes written value : List ℕ} → l.bytes ≡ 65 ∷ bytes → IsCutAtSpace bytes written value → IsNoName written → BreaksAlone l 6
+  no_space : {bytes : List ℕ} → l.bytes ≡ 65 ∷ bytes → All (λ c. c ≢ 32) bytes → BreaksAlone l 6

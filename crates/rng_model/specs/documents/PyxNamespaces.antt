@@ -18,7 +18,7 @@ pub data AreWritten : List Said → List WrittenAttribute → Type 0 where
       → AreWritten (attribute name content ∷ lines) (record { name = name; content = content } ∷ more)
 
 -- the namespace of a prefix, or the default one
-pub record Declaration : Type 0 where
+pub record NamespaceDeclaration : Type 0 where
   pub prefix : Option (List ℕ)
   pub uri : List ℕ
 
@@ -35,18 +35,18 @@ abbrev pub DeclaresNothing : WrittenName → Type 0
 DeclaresNothing name = (p : Option (List ℕ)) → Declares name p → ⊥
 
 -- which of the `A` lines of a tag are declarations and which are attributes, in order
-pub data AreParted : List WrittenAttribute → List Declaration → List WrittenAttribute → Type 0 where
+pub data AreParted : List WrittenAttribute → List NamespaceDeclaration → List WrittenAttribute → Type 0 where
   nothing : AreParted [] [] []
-  declaration : {a : WrittenAttribute} {p : Option (List ℕ)} {all others : List WrittenAttribute} {ds : List Declaration} → Declares a.name p
+  declaration : {a : WrittenAttribute} {p : Option (List ℕ)} {all others : List WrittenAttribute} {ds : List NamespaceDeclaration} → Declares a.name p
       → AreParted all ds others → AreParted (a ∷ all) (record { prefix = p; uri = a.content } ∷ ds) others
-  other : {a : WrittenAttribute} {all others : List WrittenAttribute} {ds : List Declaration} → DeclaresNothing a.name
+  other : {a : WrittenAttribute} {all others : List WrittenAttribute} {ds : List NamespaceDeclaration} → DeclaresNothing a.name
       → AreParted all ds others → AreParted (a ∷ all) ds (a ∷ others)
 
 -- ---- the namespaces of names
 
 -- the declarations of the open tags, those of the innermost first
-abbrev pub Scope : Type 0
-Scope = List (List Declaration)
+abbrev pub NamespaceScope : Type 0
+NamespaceScope = List (List NamespaceDeclaration)
 
 abbrev pub xml_uri : List ℕ
 xml_uri = codes "http://www.w3.org/XML/1998/namespace"
@@ -55,35 +55,35 @@ abbrev pub xmlns_uri : List ℕ
 xmlns_uri = codes "http://www.w3.org/2000/xmlns/"
 
 -- the tag declares the prefix, or the default namespace, as this
-abbrev pub IsDeclared : Option (List ℕ) → List ℕ → List Declaration → Type 0
+abbrev pub IsDeclared : Option (List ℕ) → List ℕ → List NamespaceDeclaration → Type 0
 IsDeclared p uri ds = Among (record { prefix = p; uri = uri }) ds
 
 -- the tag does not declare it
-abbrev pub DeclaresNone : Option (List ℕ) → List Declaration → Type 0
+abbrev pub DeclaresNone : Option (List ℕ) → List NamespaceDeclaration → Type 0
 DeclaresNone p ds = All (λ d. d.prefix ≢ p) ds
 
 -- The namespace of the prefix, or the default namespace: the one that the innermost tag that declares it declares. If
 -- no tag declares it: `xml` has its own namespace, and there is no default namespace.
-pub data HasNamespace : Scope → Option (List ℕ) → List ℕ → Type 0 where
-  declared_here : {ds : List Declaration} {outer : Scope} {p : Option (List ℕ)} {uri : List ℕ} → IsDeclared p uri ds → HasNamespace (ds ∷ outer) p uri
-  declared_outside : {ds : List Declaration} {outer : Scope} {p : Option (List ℕ)} {uri : List ℕ} → DeclaresNone p ds → HasNamespace outer p uri
+pub data HasNamespace : NamespaceScope → Option (List ℕ) → List ℕ → Type 0 where
+  declared_here : {ds : List NamespaceDeclaration} {outer : NamespaceScope} {p : Option (List ℕ)} {uri : List ℕ} → IsDeclared p uri ds → HasNamespace (ds ∷ outer) p uri
+  declared_outside : {ds : List NamespaceDeclaration} {outer : NamespaceScope} {p : Option (List ℕ)} {uri : List ℕ} → DeclaresNone p ds → HasNamespace outer p uri
       → HasNamespace (ds ∷ outer) p uri
   xml_beforehand : HasNamespace [] (Some (codes "xml")) xml_uri
   no_default : HasNamespace [] None []
 
 -- the expanded name of an element: without a prefix it has the default namespace
-pub data NamesElement (scope : Scope) : WrittenName → Name → Type 0 where
+pub data NamesElement (scope : NamespaceScope) : WrittenName → Name → Type 0 where
   element_name : {name : WrittenName} {uri : List ℕ} → HasNamespace scope name.prefix uri
       → NamesElement scope name (record { ns = uri; local = name.local })
 
 -- the expanded name of an attribute: without a prefix it has no namespace
-pub data NamesAttribute (scope : Scope) : WrittenName → Name → Type 0 where
+pub data NamesAttribute (scope : NamespaceScope) : WrittenName → Name → Type 0 where
   without_prefix : {local : List ℕ} → NamesAttribute scope (record { prefix = None; local = local }) (record { ns = []; local = local })
   with_prefix : {p local uri : List ℕ} → HasNamespace scope (Some p) uri
       → NamesAttribute scope (record { prefix = Some p; local = local }) (record { ns = uri; local = local })
 
 -- attributes with their expanded names
-pub data AreExpanded (scope : Scope) : List WrittenAttribute → List Attribute → Type 0 where
+pub data AreExpanded (scope : NamespaceScope) : List WrittenAttribute → List Attribute → Type 0 where
   none_left : AreExpanded scope [] []
   expanded_and : {a : WrittenAttribute} {name : Name} {more : List WrittenAttribute} {attrs : List Attribute} → NamesAttribute scope a.name name
       → AreExpanded scope more attrs → AreExpanded scope (a ∷ more) (record { name = name; content = a.content } ∷ attrs)
@@ -91,17 +91,17 @@ pub data AreExpanded (scope : Scope) : List WrittenAttribute → List Attribute 
 -- ---- declarations that are not allowed, and prefixes that are not declared
 
 -- the declaration is not allowed (Namespaces in XML 1.0, sections 3 and 5)
-pub data IsForbidden : Declaration → Type 0 where
+pub data IsForbidden : NamespaceDeclaration → Type 0 where
   -- a prefix, or the default, is declared as the namespace of declarations
-  of_xmlns_uri : {d : Declaration} → d.uri ≡ xmlns_uri → IsForbidden d
+  of_xmlns_uri : {d : NamespaceDeclaration} → d.uri ≡ xmlns_uri → IsForbidden d
   -- `xmlns` is declared
-  of_xmlns : {d : Declaration} → d.prefix ≡ Some xmlns → IsForbidden d
+  of_xmlns : {d : NamespaceDeclaration} → d.prefix ≡ Some xmlns → IsForbidden d
   -- a prefix is declared as no namespace
-  of_nothing : {d : Declaration} {p : List ℕ} → d.prefix ≡ Some p → d.uri ≡ [] → IsForbidden d
+  of_nothing : {d : NamespaceDeclaration} {p : List ℕ} → d.prefix ≡ Some p → d.uri ≡ [] → IsForbidden d
   -- `xml` is declared as another namespace, or another prefix or the default as the namespace of `xml`
-  xml_as_another : {d : Declaration} → d.prefix ≡ Some (codes "xml") → d.uri ≢ xml_uri → IsForbidden d
-  another_as_xml : {d : Declaration} → d.prefix ≢ Some (codes "xml") → d.uri ≡ xml_uri → IsForbidden d
+  xml_as_another : {d : NamespaceDeclaration} → d.prefix ≡ Some (codes "xml") → d.uri ≢ xml_uri → IsForbidden d
+  another_as_xml : {d : NamespaceDeclaration} → d.prefix ≢ Some (codes "xml") → d.uri ≡ xml_uri → IsForbidden d
 
 -- the prefix has no namespace
-abbrev pub IsUndeclared : Scope → List ℕ → Type 0
-IsUndeclared scope p = (uri : List ℕ) → HasNamespace scope (Some p) uri → ⊥
+abbrev pub HasNoNamespace : NamespaceScope → List ℕ → Type 0
+HasNoNamespace scope p = (uri : List ℕ) → HasNamespace scope (Some p) uri → ⊥

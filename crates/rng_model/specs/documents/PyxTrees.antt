@@ -7,7 +7,7 @@ use Rattle.rng_model.specs.matching.Document.{Attribute, Item, a_text, an_elemen
 use Rattle.rng_model.specs.documents.Lines.{lines, attribute_limit, open_limit, text_limit}
 use Rattle.rng_model.specs.matching.WellFormed.{Distinct}
 use Rattle.rng_model.specs.documents.PyxLines.{Said, WrittenName, start, text, end, instruction, AreGoodLines}
-use Rattle.rng_model.specs.documents.PyxNamespaces.{WrittenAttribute, AreWritten, AreParted, Declaration, IsForbidden, Scope, NamesElement, AreExpanded}
+use Rattle.rng_model.specs.documents.PyxNamespaces.{WrittenAttribute, AreWritten, AreParted, NamespaceDeclaration, IsForbidden, NamespaceScope, NamesElement, AreExpanded}
 
 -- ---- trees with lines, and events
 
@@ -68,12 +68,12 @@ string_before n [] rest = rest
 string_before n (c ∷ cs) rest = placed_and (text_at n (c ∷ cs)) rest
 
 -- A tag: a start and its `A` lines. Its declarations hold in the whole tag, together with those of the tags around it.
-pub record IsTag (outer : Scope) (name : WrittenName) (attributes : List Said) (q : Name) (attrs : List Attribute) (scope : Scope) : Type 0 where
+pub record IsTag (outer : NamespaceScope) (name : WrittenName) (attributes : List Said) (q : Name) (attrs : List Attribute) (scope : NamespaceScope) : Type 0 where
   pub written : List WrittenAttribute
   pub are_written : AreWritten attributes written
   pub within : length written ≤ attribute_limit
   pub once : HasTwice (map (λ a. a.name) written) → ⊥
-  pub declarations : List Declaration
+  pub declarations : List NamespaceDeclaration
   pub others : List WrittenAttribute
   pub are_parted : AreParted written declarations others
   pub allowed : All (λ d. IsForbidden d → ⊥) declarations
@@ -86,18 +86,18 @@ pub record IsTag (outer : Scope) (name : WrittenName) (attributes : List Said) (
 -- before. The event of a start has the first line after its tag. The event of a string has the next line that is a
 -- start or an end. The event of an end has its own line.
 mutual
-  pub data IsElement : ℕ → Scope → ℕ → List Said → Placed → Type 0 where
-    element : {room n : ℕ} {outer scope : Scope} {all attributes content : List Said} {tree : Placed} {name : WrittenName} {q : Name}
+  pub data IsElement : ℕ → NamespaceScope → ℕ → List Said → Placed → Type 0 where
+    element : {room n : ℕ} {outer scope : NamespaceScope} {all attributes content : List Said} {tree : Placed} {name : WrittenName} {q : Name}
         {attrs : List Attribute} {kids : PlacedItems} →
         IsTag outer name attributes q attrs scope → IsContent room scope (n + 1 + length attributes) content kids →
         all ≡ start name ∷ (attributes ++ (content ++ end name ∷ [])) →
         tree ≡ element_at (n + 1 + length attributes + 1) q attrs kids (n + 1 + length attributes + length content + 1) →
         IsElement (suc room) outer n all tree
 
-  pub data IsContent : ℕ → Scope → ℕ → List Said → PlacedItems → Type 0 where
-    last_run : {room n : ℕ} {scope : Scope} {run : List Said} {kids : PlacedItems} {joined : List ℕ} → IsRun run joined → length joined ≤ text_limit →
+  pub data IsContent : ℕ → NamespaceScope → ℕ → List Said → PlacedItems → Type 0 where
+    last_run : {room n : ℕ} {scope : NamespaceScope} {run : List Said} {kids : PlacedItems} {joined : List ℕ} → IsRun run joined → length joined ≤ text_limit →
         kids ≡ string_before (n + length run + 1) joined none_placed → IsContent room scope n run kids
-    run_and_element : {room n : ℕ} {scope : Scope} {all run inner more : List Said} {kids rest : PlacedItems} {joined : List ℕ} {tree : Placed} →
+    run_and_element : {room n : ℕ} {scope : NamespaceScope} {all run inner more : List Said} {kids rest : PlacedItems} {joined : List ℕ} {tree : Placed} →
         IsRun run joined → length joined ≤ text_limit → IsElement room scope (n + length run) inner tree →
         IsContent room scope (n + length run + length inner) more rest →
         all ≡ run ++ (inner ++ more) → kids ≡ string_before (n + length run + 1) joined (placed_and tree rest) → IsContent room scope n all kids

@@ -1,6 +1,6 @@
 -- How a matcher reads a grammar of the code.
 use Rattle.rng_model.specs.simple.Table.{Table, grammar_of}
-use Rattle.rng_model.specs.datatypes.DatatypeTests.{text_tests}
+use Rattle.rng_model.specs.datatypes.Datatypes.{text_tests}
 use Rattle.rng_model.specs.matching.Reading.{Reading}
 
 -- a grammar as matching reads it

@@ -1,7 +1,8 @@
 -- The outcome of a document, and its line (RELAX NG Specification, sections 6.2 and 6.3).
 use Rattle.std.specs.Prelude.{◌≡◌, ⊤, ℕ, List, [], ◌∷◌, ◌++◌, All}
 use Rattle.rng_model.specs.names.Names.{NameClass, In}
-use Rattle.rng_model.specs.simple.Table.{Grammar, IsValidBy}
+use Rattle.rng_model.specs.matching.GrammarMatching.{IsValidBy}
+use Rattle.rng_model.specs.simple.Grammar.{Grammar}
 use Rattle.rng_model.specs.restrictions.Restrictions.{ClassIn}
 use Rattle.rng_model.specs.datatypes.Texts.{texts_of}
 use Rattle.rng_model.specs.documents.PyxTrees.{Event, EventKind, a_start, a_string, an_end, Placed, item_of, events_of, IsPyxDocument}
@@ -15,12 +16,12 @@ KnowsName g (a_start q xs) = ¬ ((k : ℕ) (c : NameClass) → ClassIn g k c →
 KnowsName g (a_string s) = ⊤
 KnowsName g an_end = ⊤
 
-abbrev pub IsValid : Reading → Placed → Type 0
-IsValid g d = IsValidBy g.grammar (texts_of g.tests) (item_of d)
+abbrev pub IsValidByReading : Reading → Placed → Type 0
+IsValidByReading g d = IsValidBy g.grammar (texts_of g.tests) (item_of d)
 
 -- no document that begins with these events is valid
-abbrev pub CannotBeValid : Reading → List Event → Type 0
-CannotBeValid g es = (more : List Event) (bytes : List ℕ) (d : Placed) → IsPyxDocument bytes d → events_of d ≡ es ++ more → ¬ (IsValid g d)
+abbrev pub NoneIsValidAfter : Reading → List Event → Type 0
+NoneIsValidAfter g es = (more : List Event) (bytes : List ℕ) (d : Placed) → IsPyxDocument bytes d → events_of d ≡ es ++ more → ¬ (IsValidByReading g d)
 
 -- No continuation after one of the events, at this line, is valid. Before it, each start of an element has a name that
 -- the grammar has.
@@ -29,10 +30,10 @@ pub record FailsAt (g : Reading) (es : List Event) (line : ℕ) : Type 0 where
   pub kind : EventKind
   pub behind : List Event
   pub parts : es ≡ before ++ record { line = line; kind = kind } ∷ behind
-  pub cannot : CannotBeValid g (before ++ record { line = line; kind = kind } ∷ [])
+  pub cannot : NoneIsValidAfter g (before ++ record { line = line; kind = kind } ∷ [])
   pub known : All (λ e. KnowsName g.grammar e.kind) before
 
 -- this is the outcome of the document
 abbrev pub IsOutcome : Reading → Placed → Outcome → Type 0
-IsOutcome g d outcome.Valid = IsValid g d
-IsOutcome g d (outcome.Invalid line) = ¬ (IsValid g d) × FailsAt g (events_of d) line
+IsOutcome g d outcome.Valid = IsValidByReading g d
+IsOutcome g d (outcome.Invalid line) = ¬ (IsValidByReading g d) × FailsAt g (events_of d) line

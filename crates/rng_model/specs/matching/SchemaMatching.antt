@@ -1,14 +1,15 @@
 -- How matching reads a schema as it is written (RELAX NG Specification, section 6; a ref is what it refers to, 4.18 and
--- 4.19), and when a grammar has the documents of the schema.
-use Rattle.std.specs.Prelude.{◌≡◌, ◌↔◌, ℕ, List, Some, ◌∷◌}
+-- 4.19).
+use Rattle.std.specs.Prelude.{◌≡◌, ℕ, List, Some, ◌∷◌}
 use Rattle.rng_model.specs.names.Names.{NameClass, In}
 use Rattle.rng_model.specs.simple.Tree.{Tree}
 use Rattle.rng_model.specs.matching.Document.{Item}
 use Rattle.rng_model.specs.matching.Matching.{Leaves, Texts, IsValid}
 use Rattle.rng_model.specs.matching.Lex.{HasText}
 use Rattle.rng_model.specs.datatypes.Texts.{texts_of}
-use Rattle.rng_model.specs.datatypes.DatatypeTests.{text_tests}
-use Rattle.rng_model.specs.simple.Table.{Grammar, IsValidBy}
+use Rattle.rng_model.specs.datatypes.Datatypes.{text_tests}
+use Rattle.rng_model.specs.simple.Grammar.{Grammar}
+use Rattle.rng_model.specs.matching.GrammarMatching.{IsValidBy}
 use Rattle.rng_model.specs.schema.Patterns.{Place, Position, Pattern, Point, an_element, pattern_tree}
 use Rattle.rng_model.specs.schema.Schema.{Schema, Definition, main_start, body}
 use Rattle.rng_model.specs.schema.Unfolding.{Leaf, to_definition, aim, Unfolds}
@@ -38,7 +39,3 @@ module _ (s : Schema) where
   -- the same, with the tests of the known datatypes
   abbrev pub IsValidBySchema : Item → Type 0
   IsValidBySchema root = IsValidOver (texts_of text_tests) root
-
-  -- a document is valid by the grammar exactly if it is valid by the schema as it is written
-  abbrev pub AreSameDocuments : Grammar → Type 0
-  AreSameDocuments g = (root : Item) → IsValidBy g (texts_of text_tests) root ↔ IsValidBySchema root

@@ -1,7 +1,7 @@
--- Items as they are in documents.
-use Rattle.std.specs.Prelude.{◌≢◌, ℕ, List, [], ◌∷◌}
+-- The attributes of one element.
+use Rattle.std.specs.Prelude.{◌≢◌, List, [], ◌∷◌}
 use Rattle.rng_model.specs.names.Names.{Name}
-use Rattle.rng_model.specs.matching.Document.{Attribute, Item, a_text, an_element, Items, no_items, item_and, list_of}
+use Rattle.rng_model.specs.matching.Document.{Attribute}
 
 -- no attribute has this name
 pub data HasNoName (name : Name) : List Attribute → Type 0 where
@@ -12,22 +12,3 @@ pub data HasNoName (name : Name) : List Attribute → Type 0 where
 pub data Distinct : List Attribute → Type 0 where
   none : Distinct []
   one_more : {a : Attribute} {attrs : List Attribute} → HasNoName a.name attrs → Distinct attrs → Distinct (a ∷ attrs)
-
--- no two strings are adjacent
-pub data Separate : List Item → Type 0 where
-  nothing : Separate []
-  string : {s : List ℕ} → Separate (a_text s ∷ [])
-  element : {q : Name} {xs : List Attribute} {kids : Items} {ns : List Item} → Separate ns → Separate (an_element q xs kids ∷ ns)
-  string_element : {s : List ℕ} {q : Name} {xs : List Attribute} {kids : Items} {ns : List Item} → Separate ns
-      → Separate (a_text s ∷ an_element q xs kids ∷ ns)
-
--- in each element the attributes have distinct names, no string is empty, and no two strings are adjacent (RELAX NG
--- Specification, section 2; Namespaces in XML 1.0, section 6.3)
-abbrev mutual
-  pub IsWellFormed : Item → Type 0
-  IsWellFormed (a_text s) = s ≢ []
-  IsWellFormed (an_element q xs kids) = Distinct xs × Separate (list_of kids) × AreWellFormed kids
-
-  pub AreWellFormed : Items → Type 0
-  AreWellFormed no_items = Unit {0}
-  AreWellFormed (item_and n ns) = IsWellFormed n × AreWellFormed ns

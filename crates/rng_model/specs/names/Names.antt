@@ -55,7 +55,3 @@ IsPairOfTexts q = IsUtf8 q.ns × IsUtf8 q.local
 -- some name is in both classes (RELAX NG Specification, section 7.3)
 abbrev pub Overlap : NameClass → NameClass → Type 0
 Overlap c d = (q : Name) × IsPairOfTexts q × In c q × In d q
-
--- no name is in both classes, whatever its bytes
-abbrev pub AreApart : NameClass → NameClass → Type 0
-AreApart c d = (q : Name) → In c q → ¬ (In d q)

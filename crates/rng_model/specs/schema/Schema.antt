@@ -6,7 +6,7 @@ use Rattle.std.specs.Str.{bytes_eq}
 use Rattle.rng_model.specs.names.Lists.{Among}
 use Rattle.rng_model.specs.simple.Tree.{Connector, choice, interleave}
 use Rattle.rng_model.specs.simple.Tree.{Tree, joined, no_trees}
-use Rattle.rng_model.specs.schema.Patterns.{Place, Pattern, grammar, Point, pattern_tree, IsWrittenIn}
+use Rattle.rng_model.specs.schema.Patterns.{Place, Pattern, Point, pattern_tree, IsWrittenIn}
 use Rattle.rng_model.specs.declared.method.Method.{Method}
 use Rattle.rng_model.specs.declared.method.Method.TheVariants as methods
 
@@ -51,10 +51,10 @@ is_interleaved methods.Choice = false
 is_interleaved methods.Interleave = true
 
 -- an interleave if a component of this name has `&=`, otherwise a choice
-abbrev pub connector_of : Option (List ℕ) → List Component → Connector
-connector_of y [] = choice
-connector_of y (c ∷ cs) =
-    if same_name y c.name then (if is_interleaved c.method then interleave else connector_of y cs) else connector_of y cs
+abbrev pub combining_connector : Option (List ℕ) → List Component → Connector
+combining_connector y [] = choice
+combining_connector y (c ∷ cs) =
+    if same_name y c.name then (if is_interleaved c.method then interleave else combining_connector y cs) else combining_connector y cs
 
 -- trees joined by a connector, nested in twos from the left
 abbrev pub nested_from : {L : Type 0} → Connector → Tree L → List (Tree L) → Tree L
@@ -67,7 +67,7 @@ nested k (a ∷ ts) = Some (nested_from k a ts)
 
 abbrev pub body_among : Option (List ℕ) → Option (List Component) → Option (Tree Point)
 body_among y None = None
-body_among y (Some cs) = nested (connector_of y cs) (trees_named y 0 cs)
+body_among y (Some cs) = nested (combining_connector y cs) (trees_named y 0 cs)
 
 -- the combined body of a definition (section 4.17), if some component has its name
 unfoldable pub body : Schema → Definition → Option (Tree Point)
@@ -84,11 +84,3 @@ pub record IsWrittenAt (s : Schema) (x : Place) (q : Pattern) : Type 0 where
   pub component : Component
   pub there : HasComponent s x component
   pub written : IsWrittenIn q component.pattern
-
--- The grammars of a schema are in their places. The main one is there, and no grammar is around it. Each grammar that
--- is nested in another is there, and the grammar around it is the one in which it is written.
-pub record IsWellPlaced (s : Schema) : Type 0 where
-  pub components : List Component
-  pub main : s.components s.main ≡ Some components
-  pub outermost : s.outer s.main ≡ None
-  pub nested : (x z : Place) → IsWrittenAt s x (grammar z) → (cs : List Component) × (s.components z ≡ Some cs) × (s.outer z ≡ Some x)

@@ -6,7 +6,7 @@ use Rattle.rng_model.specs.schema.Least.{IsLeast}
 use Rattle.rng_model.specs.names.Lists.{Among, HasTwo}
 use Rattle.rng_model.specs.names.Names.{Name, NameClass, NameClasses, any_name, any_except, ns_name, ns_except, name_is, one_of, class_and}
 use Rattle.rng_model.specs.simple.Tree.{Tree, Datatype, Simple, as_tree}
-use Rattle.rng_model.specs.simple.Table.{Grammar}
+use Rattle.rng_model.specs.simple.Grammar.{Grammar}
 use Rattle.rng_model.specs.datatypes.Datatypes.{IsKnownDatatype, IsAllowed}
 use Rattle.rng_model.specs.simple.ClassSteps.{IsSimpleClassOf}
 use Rattle.rng_model.specs.schema.Patterns.{Place, Pattern, element, attribute, data_of, data_except, value, without_parameters, ref, parent_ref}

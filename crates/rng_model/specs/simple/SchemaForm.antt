@@ -3,7 +3,7 @@
 use Rattle.std.specs.Prelude.{◌≡◌, ℕ, ◌<◌, List, length, slice_get, Some, All, Contains}
 use Rattle.rng_model.specs.names.Names.{NameClass}
 use Rattle.rng_model.specs.simple.Tree.{Tree, Simple, as_tree}
-use Rattle.rng_model.specs.simple.Table.{Grammar}
+use Rattle.rng_model.specs.simple.Grammar.{Grammar}
 use Rattle.rng_model.specs.simple.Leaves.{renamed, AreLeavesBelow}
 use Rattle.rng_model.specs.simple.ClassSteps.{IsSimpleClassOf}
 use Rattle.rng_model.specs.schema.Schema.{Schema, main_start}

@@ -1,11 +1,18 @@
 -- What the simplification of a schema has to return.
-use Rattle.std.specs.Prelude.{ℕ, ◌<◌, length}
+use Rattle.std.specs.Prelude.{◌↔◌, ℕ, ◌<◌, length}
 use Rattle.rng_model.specs.schema.Least.{IsLeast}
-use Rattle.rng_model.specs.restrictions.Restrictions.{IsPart, StandsIn}
+use Rattle.rng_model.specs.restrictions.Restrictions.{IsPart}
+use Rattle.rng_model.specs.simple.Inside.{StandsIn}
 use Rattle.rng_model.specs.schema.Schema.{Schema}
 use Rattle.rng_model.specs.schema.SchemaClauses.{BreaksSchemaClause}
+use Rattle.rng_model.specs.simple.Grammar.{Grammar}
 use Rattle.rng_model.specs.simple.Table.{Table, grammar_of, tree_at}
 use Rattle.rng_model.specs.simple.Tree.{Simple}
+use Rattle.rng_model.specs.matching.Document.{Item}
+use Rattle.rng_model.specs.matching.GrammarMatching.{IsValidBy}
+use Rattle.rng_model.specs.matching.SchemaMatching.{IsValidBySchema}
+use Rattle.rng_model.specs.datatypes.Texts.{texts_of}
+use Rattle.rng_model.specs.datatypes.Datatypes.{text_tests}
 use Rattle.rng_model.specs.declared.fault.SchemaFault.{SchemaFault}
 use Rattle.rng_model.specs.declared.fault.SchemaFault.TheVariants as faults
 
@@ -18,3 +25,7 @@ IsSchemaFault s faults.Memory = Unit {0}
 -- the tables hold no more than the grammar: each pattern is in the start, or in the body of an element
 abbrev pub AreAllUsed : Table → Type 0
 AreAllUsed t = (i : ℕ) → i < length t.patterns → (part : Simple ℕ) × IsPart (grammar_of t) part × StandsIn (tree_at t.patterns (record { 0 = i })) part
+
+-- a document is valid by the grammar exactly if it is valid by the schema as it is written
+abbrev pub AreSameDocuments : Schema → Grammar → Type 0
+AreSameDocuments s g = (root : Item) → IsValidBy g (texts_of text_tests) root ↔ IsValidBySchema s root

@@ -64,32 +64,3 @@ as_tree (s_data_except d s) = data_except d (as_tree s)
 as_tree (s_value d v) = value d v
 as_tree (s_one_or_more s) = one_or_more (as_tree s)
 as_tree (s_joined k s u) = joined k (as_tree s) (as_tree u) no_trees
-
--- notAllowed does not occur in the tree
-abbrev pub IsFreeOfNotAllowed : {L : Type 0} → Simple L → Type 0
-IsFreeOfNotAllowed s_not_allowed = ⊥
-IsFreeOfNotAllowed s_empty = Unit {0}
-IsFreeOfNotAllowed s_text = Unit {0}
-IsFreeOfNotAllowed (s_leaf l) = Unit {0}
-IsFreeOfNotAllowed (s_attribute c s) = IsFreeOfNotAllowed s
-IsFreeOfNotAllowed (s_list s) = IsFreeOfNotAllowed s
-IsFreeOfNotAllowed (s_data d) = Unit {0}
-IsFreeOfNotAllowed (s_data_except d s) = IsFreeOfNotAllowed s
-IsFreeOfNotAllowed (s_value d v) = Unit {0}
-IsFreeOfNotAllowed (s_one_or_more s) = IsFreeOfNotAllowed s
-IsFreeOfNotAllowed (s_joined k s u) = IsFreeOfNotAllowed s × IsFreeOfNotAllowed u
-
--- what a start or a body may be in the simple syntax: notAllowed as a whole, or a tree in which notAllowed does not
--- occur (RELAX NG Specification, section 5 after 4.20)
-abbrev pub IsSimpleBody : {L : Type 0} → Simple L → Type 0
-IsSimpleBody s_not_allowed = Unit {0}
-IsSimpleBody s_empty = Unit {0}
-IsSimpleBody s_text = Unit {0}
-IsSimpleBody (s_leaf l) = Unit {0}
-IsSimpleBody (s_attribute c s) = IsFreeOfNotAllowed s
-IsSimpleBody (s_list s) = IsFreeOfNotAllowed s
-IsSimpleBody (s_data d) = Unit {0}
-IsSimpleBody (s_data_except d s) = IsFreeOfNotAllowed s
-IsSimpleBody (s_value d v) = Unit {0}
-IsSimpleBody (s_one_or_more s) = IsFreeOfNotAllowed s
-IsSimpleBody (s_joined k s u) = IsFreeOfNotAllowed s × IsFreeOfNotAllowed u

@@ -1,7 +1,7 @@
 -- The clauses that the parts of a grammar break, of those that a part breaks by itself.
 use Rattle.std.specs.Prelude.{ℕ, ◌≤◌, List, map, fold, Option, Some, None, Bool, true, false, not, ◌&&◌, ◌||◌}
 use Rattle.rng_model.specs.restrictions.Restrictions.{BreaksRestriction}
-use Rattle.rng_model.specs.simple.Table.{Grammar}
+use Rattle.rng_model.specs.simple.Grammar.{Grammar}
 use Rattle.rng_rules.specs.plain.Facts.{facts_of}
 use Rattle.rng_rules.specs.declared.broken.Broken.{Broken}
 use Rattle.rng_rules.specs.declared.content.ContentType.{ContentType}

@@ -2,7 +2,8 @@
 -- Private contracts cite it.
 use Rattle.std.specs.Prelude.{◌≡◌, ◌<◌, ◌⊎◌, ◌↔◌, ◌&&◌, ◌||◌, ◌==◌, ℕ, List, [], ◌∷◌, length, slice_get, slice_index_or, Option, Some, None, Bool, false, All}
 use Rattle.std.specs.Prelude.{if◌then◌else◌}
-use Rattle.rng_model.specs.simple.Table.{Table, IsTable}
+use Rattle.rng_model.specs.simple.Table.{Table}
+use Rattle.rng_model.specs.simple.TableRules.{IsTable}
 use Rattle.rng_model.specs.declared.simple.Simple.{Simple}
 use Rattle.rng_rules.specs.declared.names_meet.NamesOf.{NamesOf}
 use Rattle.rng_rules.specs.declared.names_meet_sides.Marks.{Marks}

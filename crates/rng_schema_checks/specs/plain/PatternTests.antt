@@ -5,7 +5,7 @@ use Rattle.rng_model.specs.simple.Tree.{Datatype}
 use Rattle.rng_model.specs.schema.Patterns.{Pattern, Patterns, not_allowed, empty, text, element, attribute, list, data_of, data_except, value, mixed}
 use Rattle.rng_model.specs.schema.Patterns.{optional, zero_or_more, one_or_more, joined, ref, parent_ref, grammar, external, no_patterns, pattern_and}
 use Rattle.rng_model.specs.schema.Patterns.{without_parameters}
-use Rattle.rng_model.specs.datatypes.DatatypeTests.{type_of, text_tests}
+use Rattle.rng_model.specs.datatypes.Datatypes.{meaning_of, text_tests}
 use Rattle.rng_schema_checks.specs.plain.ClassTests.{has_part, breaks_except, declaration_test}
 
 -- what to search for in patterns: elements and attributes of some classes, datatypes, values, refs and parent refs
@@ -94,7 +94,7 @@ class_test = record {
 -- ---- datatypes
 
 abbrev pub is_unknown : Datatype → Bool
-is_unknown d = not (is_some (type_of d))
+is_unknown d = not (is_some (meaning_of d))
 
 abbrev pub is_refused : List ℕ → List ℕ → List ℕ → Bool
 is_refused library name v = not (text_tests.allows (without_parameters library name) v)

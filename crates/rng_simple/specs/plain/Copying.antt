@@ -3,7 +3,8 @@ use Rattle.std.specs.Prelude.{◌≡◌, ℕ, ◌<◌, ◌≤◌, ⊤, List, [],
 use Rattle.rng_model.specs.simple.Tree as tree
 use Rattle.rng_model.specs.simple.Tree.{as_tree}
 use Rattle.rng_model.specs.simple.Leaves.{AreLeavesBelow}
-use Rattle.rng_model.specs.simple.Table.{tree_over, AreChildrenBelow, Falls, IsLeafListed, IsClassPaired}
+use Rattle.rng_model.specs.simple.Table.{tree_over}
+use Rattle.rng_model.specs.simple.TableRules.{AreChildrenBelow, Falls, IsLeafListed, IsClassPaired}
 use Rattle.rng_model.specs.simple.Table as tables
 use Rattle.rng_model.specs.declared.simple.Simple.{Simple}
 use Rattle.rng_simple.specs.plain.Renamed.{simple_renamed}

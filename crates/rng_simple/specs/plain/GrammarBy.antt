@@ -2,10 +2,10 @@
 use Rattle.std.specs.Prelude.{◌≡◌, ◌↔◌, ℕ, List, length, slice_get, slice_index_or, Some, Contains}
 use Rattle.rng_model.specs.names.Names.{NameClass}
 use Rattle.rng_model.specs.simple.Tree.{Tree, empty, Simple, s_leaf, as_tree}
-use Rattle.rng_model.specs.simple.Table.{Grammar}
+use Rattle.rng_model.specs.simple.Grammar.{Grammar}
 use Rattle.rng_model.specs.simple.Leaves.{LeafIn, AreLeavesBelow}
-use Rattle.rng_graph.specs.plain.InTwos.{nested}
-use Rattle.rng_graph.specs.plain.Graph.{Spot, Graph, of_spot, IsFilledBy}
+use Rattle.rng_simple.specs.plain.InTwos.{nested}
+use Rattle.rng_simple.specs.plain.Graph.{Spot, Graph, of_spot, IsFilledBy}
 use Rattle.rng_simple.specs.plain.Renamed.{simple_renamed}
 use Rattle.rng_simple.specs.plain.SimpleWith.{simple_with}
 

@@ -3,7 +3,7 @@ use Rattle.std.specs.Prelude.{◌≡◌, [], All}
 use Rattle.rng_model.specs.simple.Tree.{Datatype, Simple, s_not_allowed, s_empty, s_text, s_leaf, s_attribute, s_list, s_data, s_data_except, s_value}
 use Rattle.rng_model.specs.simple.Tree.{s_one_or_more, s_joined}
 use Rattle.rng_model.specs.datatypes.Datatypes.{IsKnownDatatype}
-use Rattle.rng_model.specs.simple.Table.{Grammar}
+use Rattle.rng_model.specs.simple.Grammar.{Grammar}
 
 -- the datatype of a value: it is known and has no parameters
 abbrev pub IsValueDatatype : Datatype → Type 0

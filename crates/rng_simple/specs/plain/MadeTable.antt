@@ -1,8 +1,9 @@
 -- What the simplification of a schema must return.
 use Rattle.std.specs.Prelude.{ℕ, List}
 use Rattle.rng_model.specs.names.Names.{NameClass}
-use Rattle.rng_model.specs.simple.Table.{AreToldApart, Table, grammar_of, IsInSimpleSyntax}
-use Rattle.rng_graph.specs.plain.Graph.{Graph}
+use Rattle.rng_model.specs.simple.Table.{AreToldApart, Table, grammar_of}
+use Rattle.rng_model.specs.simple.Grammar.{IsInSimpleSyntax}
+use Rattle.rng_simple.specs.plain.Graph.{Graph}
 use Rattle.rng_simple.specs.plain.GrammarBy.{IsMadeOf}
 use Rattle.rng_model.specs.simple.SimplifiedSchema.{AreAllUsed}
 

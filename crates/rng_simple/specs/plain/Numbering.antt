@@ -3,13 +3,13 @@ use Rattle.std.specs.Prelude.{◌≡◌, ℕ, ◌<◌, List, [], length, slice_g
 use Rattle.rng_model.specs.names.Names as names
 use Rattle.rng_model.specs.names.Names.{NameClass}
 use Rattle.rng_model.specs.simple.Tree.{Tree, Simple, as_tree}
-use Rattle.rng_model.specs.simple.Table.{Grammar}
+use Rattle.rng_model.specs.simple.Grammar.{Grammar}
 use Rattle.rng_model.specs.simple.Leaves.{AreLeavesBelow}
 use Rattle.rng_model.specs.schema.Patterns as patterns
 use Rattle.rng_model.specs.schema.Schema.{Schema}
 use Rattle.rng_model.specs.schema.Unfolding.{Leaf, IsBodyOf}
 use Rattle.rng_model.specs.schema.Reached.{IsReachedBySimpleForms}
-use Rattle.rng_graph.specs.plain.InTwos.{nested}
+use Rattle.rng_simple.specs.plain.InTwos.{nested}
 use Rattle.rng_simple.specs.plain.SimpleOf.{simple_of}
 use Rattle.rng_simple.specs.plain.Renamed.{simple_renamed}
 

@@ -5,7 +5,7 @@ use Rattle.rng_model.specs.simple.Tree.{Datatype, Connector, choice, group, inte
 use Rattle.rng_model.specs.simple.Tree.{Tree, not_allowed, empty, text, leaf, attribute, list, data_of, data_except, value, mixed, optional, zero_or_more, one_or_more}
 use Rattle.rng_model.specs.simple.Tree.{joined, Trees, no_trees, tree_and}
 use Rattle.rng_model.specs.simple.Tree.{Simple, s_not_allowed, s_empty, s_text, s_leaf, s_attribute, s_list, s_data, s_data_except, s_value, s_one_or_more, s_joined}
-use Rattle.rng_graph.specs.plain.InTwos.{nested}
+use Rattle.rng_simple.specs.plain.InTwos.{nested}
 
 -- what the rules need to know of a side: notAllowed, empty, or something else
 pub data Sort : Type 0 where

@@ -4,9 +4,9 @@ use Rattle.rng_model.specs.simple.Tree.{Connector, choice, group, interleave, Si
 use Rattle.rng_model.specs.schema.Patterns.{without_parameters}
 use Rattle.rng_model.specs.datatypes.DatatypeViews.{datatype_of}
 use Rattle.rng_model.specs.names.NameViews.{class_of}
-use Rattle.rng_graph.specs.plain.InTwos.{nested}
-use Rattle.rng_graph.specs.declared.graph.GraphRow.{GraphRow}
-use Rattle.rng_graph.specs.declared.graph.GraphRow.TheVariants as row
+use Rattle.rng_simple.specs.plain.InTwos.{nested}
+use Rattle.rng_simple.specs.declared.graph.parts.GraphRow.{GraphRow}
+use Rattle.rng_simple.specs.declared.graph.parts.GraphRow.TheVariants as row
 use Rattle.rng_simple.specs.views.RowTable.{tree_of}
 use Rattle.rng_simple.specs.plain.SimpleOf.{attribute_by, except_by, join, list_by, some_of, sort_of}
 use Rattle.rng_simple.specs.declared.row_table.RowTable.{RowTable}

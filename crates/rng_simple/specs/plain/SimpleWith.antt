@@ -7,8 +7,8 @@ use Rattle.rng_model.specs.simple.Tree.{Simple, s_not_allowed, s_empty, s_text, 
 use Rattle.rng_model.specs.schema.Patterns.{Place, Point}
 use Rattle.rng_model.specs.schema.Schema.{Schema, Definition}
 use Rattle.rng_model.specs.schema.Unfolding.{Leaf, aim}
-use Rattle.rng_graph.specs.plain.InTwos.{nested}
-use Rattle.rng_graph.specs.plain.DepthWith.{of_aim}
+use Rattle.rng_simple.specs.plain.InTwos.{nested}
+use Rattle.rng_simple.specs.plain.DepthWith.{of_aim}
 use Rattle.rng_simple.specs.plain.SimpleOf.{sort_of, attribute_by, list_by, except_by, join, some_of}
 
 -- the simple form, given that of the tree of each point

@@ -1,11 +1,11 @@
 -- The elements of a grammar that is made of rows, and the grammar with these elements.
 use Rattle.std.specs.Prelude.{◌≡◌, ℕ, List, length, slice_get, Some}
 use Rattle.rng_model.specs.names.Names as names
-use Rattle.rng_model.specs.simple.Table.{IsPaired}
+use Rattle.rng_model.specs.simple.TableRules.{IsPaired}
 use Rattle.rng_model.specs.names.NameViews.{class_of}
 use Rattle.rng_model.specs.declared.name.NameClass.{NameClass}
 use Rattle.rng_model.specs.declared.simple.PatternId.{PatternId}
-use Rattle.rng_graph.specs.plain.InTwos.{nested}
+use Rattle.rng_simple.specs.plain.InTwos.{nested}
 use Rattle.rng_simple.specs.plain.Copying.{place_of}
 use Rattle.rng_simple.specs.plain.RowReach.{content_of}
 

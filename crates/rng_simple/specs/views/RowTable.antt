@@ -6,7 +6,7 @@ use Rattle.rng_model.specs.simple.Tree.{Datatype, Simple}
 use Rattle.rng_model.specs.datatypes.DatatypeViews.{datatype_of}
 use Rattle.rng_model.specs.names.NameViews.{class_of}
 use Rattle.rng_model.specs.declared.datatype.DatatypeValue.{DatatypeValue}
-use Rattle.rng_graph.specs.plain.InTwos.{nested}
+use Rattle.rng_simple.specs.plain.InTwos.{nested}
 use Rattle.rng_labels.specs.plain.LabelCodes.{Part, AreCodesApart, class_code, codes_of, datatype_code, value_code}
 use Rattle.rng_simple.specs.views.RowIndex.{IsIndex}
 use Rattle.rng_simple.specs.views.Rows.{Labels, tree_at, AreRows}

@@ -1,7 +1,8 @@
 -- A table of numbered patterns, and the trees that its rows represent.
 use Rattle.std.specs.Prelude.{◌≡◌, ℕ, ◌<◌, ⊤, List, [], ◌∷◌, ◌++◌, length, fold, slice_get, slice_index_or, Some}
 use Rattle.rng_model.specs.names.Names.{NameClass, any_name}
-use Rattle.rng_model.specs.simple.Tree.{Datatype, choice, group, interleave, IsSimpleBody}
+use Rattle.rng_model.specs.simple.Tree.{Datatype, choice, group, interleave}
+use Rattle.rng_simple.specs.plain.SimpleBodies.{IsPlainBody}
 use Rattle.rng_model.specs.simple.Tree.{Simple, s_not_allowed, s_empty, s_text, s_leaf, s_attribute, s_list, s_data, s_data_except, s_value, s_one_or_more, s_joined}
 use Rattle.rng_simple.specs.declared.rows.Row.{Row}
 use Rattle.rng_simple.specs.declared.rows.Row.TheVariants as row
@@ -105,7 +106,7 @@ pub record AreRows (l : Labels) (rs : List Row) : Type 0 where
   pub first : slice_get rs 0 ≡ Some row.Empty
   pub falls : Falls rs
   pub labelled : AreLabelled l rs
-  pub simple : (i : ℕ) → IsSimpleBody (tree_at l rs i)
+  pub simple : (i : ℕ) → IsPlainBody (tree_at l rs i)
 
 -- the new labels begin with the old ones
 pub record AreMoreLabels (old new : Labels) : Type 0 where

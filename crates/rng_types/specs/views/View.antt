@@ -3,7 +3,7 @@ use Rattle.std.specs.Prelude.{ℕ, List, map, String, Result, Ok, Err}
 use Rattle.rng_model.specs.simple.Tree.{Datatype}
 use Rattle.rng_model.specs.datatypes.DatatypeViews.{parameter_of}
 use Rattle.rng_model.specs.datatypes.Facets as facets
-use Rattle.rng_model.specs.datatypes.Datatypes.{BuiltInType, plain_string, plain_token, xsd_string, xsd_token, xsd_ncname, xsd_nmtoken, xsd_boolean, xsd_integer}
+use Rattle.rng_model.specs.datatypes.Datatypes.{Meaning, plain_string, plain_token, xsd_string, xsd_token, xsd_ncname, xsd_nmtoken, xsd_boolean, xsd_integer}
 use Rattle.rng_types.specs.declared.lengths.Lengths.{Lengths}
 use Rattle.rng_types.specs.declared.numerals.Bounds.{Bounds}
 use Rattle.rng_types.specs.declared.builtin.Builtin.{Builtin}
@@ -16,15 +16,16 @@ lengths_of l = record { least = l.min; greatest = l.max }
 abbrev pub bounds_of : Bounds → facets.Bounds
 bounds_of b = record { least = b.min; greatest = b.max }
 
-abbrev pub built_in_type_of : Builtin → BuiltInType
-built_in_type_of (types.PlainString d) = plain_string
-built_in_type_of (types.PlainToken d) = plain_token
-built_in_type_of (types.XsdString d) = xsd_string (lengths_of d.lengths)
-built_in_type_of (types.XsdToken d) = xsd_token (lengths_of d.lengths)
-built_in_type_of (types.NcName d) = xsd_ncname (lengths_of d.lengths)
-built_in_type_of (types.NmToken d) = xsd_nmtoken (lengths_of d.lengths)
-built_in_type_of (types.Boolean d) = xsd_boolean
-built_in_type_of (types.Integer d) = xsd_integer (bounds_of d.bounds)
+-- the values of texts in a datatype
+abbrev pub meaning_by : Builtin → Meaning
+meaning_by (types.PlainString d) = plain_string
+meaning_by (types.PlainToken d) = plain_token
+meaning_by (types.XsdString d) = xsd_string (lengths_of d.lengths)
+meaning_by (types.XsdToken d) = xsd_token (lengths_of d.lengths)
+meaning_by (types.NcName d) = xsd_ncname (lengths_of d.lengths)
+meaning_by (types.NmToken d) = xsd_nmtoken (lengths_of d.lengths)
+meaning_by (types.Boolean d) = xsd_boolean
+meaning_by (types.Integer d) = xsd_integer (bounds_of d.bounds)
 
 -- the datatype of this library and name, with these parameters
 abbrev pub datatype_at : {Z : Type 0} → List ℕ → List ℕ → List (String Z × String Z) → Datatype

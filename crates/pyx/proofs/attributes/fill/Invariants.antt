@@ -3,7 +3,7 @@ use Rattle.std.specs.Vec.Iter.{drain_items}
 use Rattle.rng_model.specs.documents.DocumentViews.{attribute_of}
 use Rattle.pyx.specs.plain.DocumentReader.{declared_in}
 use Rattle.pyx.specs.plain.TagReader.{expanded}
-use Rattle.pyx_namespaces.specs.views.WrittenAttributes.{written_attribute}
+use Rattle.pyx.specs.views.WrittenAttributes.{written_attribute}
 use Rattle.pyx.proofs.attributes.fill.Given as goal
 
 abbrev pub invariant-others : goal.invariant-others

@@ -1,5 +1,5 @@
 use Rattle.std.proofs.Common.{ℕ, ◌-◌, length}
-use Rattle.pyx_namespaces.specs.plain.Declarations.{Declared}
+use Rattle.pyx.specs.plain.Declarations.{Declared}
 use Rattle.pyx.specs.views.ElementView.{AreKnown}
 use Rattle.pyx.proofs.known.make_places.Given as goal
 

@@ -1,6 +1,6 @@
 use Rattle.std.proofs.Common.{◌-◌, ◌∙◌, length, take, drop, map, ap, sym}
 use Rattle.rng_model.specs.documents.DocumentViews.{attribute_of}
-use Rattle.pyx_namespaces.specs.plain.Slots.{is_met}
+use Rattle.pyx.specs.plain.NamespacesSlots.{is_met}
 use Rattle.pyx.specs.plain.TagReader.{is_named_twice}
 use Rattle.pyx.proofs.TagSlots.{all_kept, first_and_rest, unmet}
 use Rattle.pyx.proofs.slots.+is_repeated.Goals as goal

@@ -1,7 +1,7 @@
 use Rattle.std.proofs.Common.{◌≡◌, ◌∙◌, ◌-◌, Some, None, option_map, ap, refl, sym}
 use Rattle.std.specs.List.{slice_get}
 use Rattle.std.proofs.lemmas.Option.{slice_get-map, slice_get_past, slice_get_read}
-use Rattle.rnc_model.specs.tokens.Cut.{token_of, tokens_of}
+use Rattle.rnc_model.specs.tokens.CutTokens.{token_of, tokens_of}
 use Rattle.rnc_places.proofs.ToldPlaces.{place_of_none, place_of_some}
 use Rattle.rnc_places.proofs.places.place_of_token.Goals as goal
 

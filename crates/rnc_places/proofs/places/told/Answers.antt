@@ -5,7 +5,7 @@ use Rattle.rnc_model.specs.declarations.FileTree.{FileTree}
 use Rattle.rnc_model.specs.declarations.Parsing.{IsFileTree}
 use Rattle.rnc_model.specs.declared.token.Token.{Token}
 use Rattle.rnc_model.specs.loading.FaultPlaces.{IsPlaceOfToken}
-use Rattle.rnc_model.specs.tokens.Cut.{tokens_of}
+use Rattle.rnc_model.specs.tokens.CutTokens.{tokens_of}
 use Rattle.rnc_model.specs.tokens.Lexeme.{lexemes}
 use Rattle.rng_model.specs.plain.Answers.{Gives}
 use Rattle.rnc_places.specs.views.Told.{IsNumberOf, IsTold}

@@ -1,5 +1,5 @@
 use Rattle.std.proofs.Common.{subst}
-use Rattle.rnc_model.specs.tokens.Cut.{tokens_of}
+use Rattle.rnc_model.specs.tokens.CutTokens.{tokens_of}
 use Rattle.rng_model.specs.plain.Answers.{Gives}
 use Rattle.rnc_syntax.specs.views.Fault.{unless_memory}
 use Rattle.rnc_model.specs.tokens.Lexeme.{lexemes}

@@ -1,7 +1,7 @@
 use Rattle.std.proofs.Common.{◌≡◌, ◌∙◌, Some, sym, ap, refl}
 use Rattle.std.proofs.lemmas.Bool.{eqb-true}
 use Rattle.std.proofs.lemmas.List.{map-append}
-use Rattle.rnc_model.specs.tokens.Cut.{token_of, tokens_of}
+use Rattle.rnc_model.specs.tokens.CutTokens.{token_of, tokens_of}
 use Rattle.rnc_text.specs.plain.Cursors.{told}
 use Rattle.rnc_text.proofs.OneDecoding.{not_empty}
 use Rattle.rnc_text.proofs.OneCut.{cut_none, cut_gap, cut_token, cut_done, cut_stops, shorter_rest}

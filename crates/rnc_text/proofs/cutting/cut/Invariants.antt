@@ -1,5 +1,5 @@
 use Rattle.std.proofs.Common.{length}
-use Rattle.rnc_model.specs.tokens.Cut.{tokens_of}
+use Rattle.rnc_model.specs.tokens.CutTokens.{tokens_of}
 use Rattle.rnc_text.proofs.OneCut.{HasCut}
 use Rattle.rnc_text.proofs.cutting.cut.Given as goal
 

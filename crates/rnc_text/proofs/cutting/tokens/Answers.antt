@@ -1,4 +1,4 @@
-use Rattle.rnc_model.specs.tokens.Cut.{tokens_of}
+use Rattle.rnc_model.specs.tokens.CutTokens.{tokens_of}
 use Rattle.rnc_text.proofs.OneCut.{in_order, gives_tokens, gives_five, whole_cut}
 use Rattle.rnc_text.proofs.cutting.tokens.Goals as goal
 

@@ -3,7 +3,8 @@ use Rattle.std.proofs.Common.{◌∙◌, ℕ, List, Option, IfSome, ap, subst}
 use Rattle.std.specs.Prelude.{unwrap_or}
 use Rattle.rng_model.specs.schema.Schema.{Schema}
 use Rattle.rng_model.specs.matching.SchemaMatching.{IsValidBySchema}
-use Rattle.rncv_validator.specs.views.Documents.{HasBeenFed, IsHopelessFrom, Judging}
+use Rattle.rncv_validator.specs.views.Documents.{IsHopelessFrom}
+use Rattle.rncv_validator.specs.views.FedDocuments.{HasBeenFed, Judging}
 use Rattle.rncv_validator.specs.views.Validators.{Judges}
 use Rattle.rncv_c.proofs.documents.hopeless_line.Goals as goal
 

@@ -1,6 +1,6 @@
 use Rattle.std.proofs.Common.{◌≡◌, ◌-◌, ◌^◌, length}
 use Rattle.rng_model.specs.devices.Device.{device_inner, device_failures, device_taken}
-use Rattle.rncv_validator.specs.views.Documents.{HasBeenFed}
+use Rattle.rncv_validator.specs.views.FedDocuments.{HasBeenFed}
 use Rattle.rncv_run.proofs.FedInput.{IsBegun}
 use Rattle.rncv_run.proofs.document_input.feed_whole.Given as goal
 

@@ -3,7 +3,7 @@ use Rattle.rng_model.specs.declared.fault.OutOfMemory.{OutOfMemory}
 use Rattle.rng_model.specs.schema.Schema.{Schema}
 use Rattle.rncv_model.specs.answers.Compiled.{IsVerdictOn}
 use Rattle.rncv_model.specs.declared.verdict.Verdict.{Verdict}
-use Rattle.rncv_validator.specs.views.Documents.{HasBeenFed, Judging}
+use Rattle.rncv_validator.specs.views.FedDocuments.{HasBeenFed, Judging}
 use Rattle.rncv_validator.specs.views.Validators.{Judges}
 use Rattle.rncv_run.specs.views.DocumentInput.{IsFaultOfInput}
 use Rattle.rncv_run.specs.declared.document_input.JudgeFault.TheVariants as judging

@@ -1,12 +1,13 @@
-use Rattle.rncv_model.specs.answers.Run.{document_is_judged, has_form, is_good, schema_is_told}
+use Rattle.rncv_model.specs.answers.Run.{document_judged, form_printed, schema_good}
 use Rattle.rncv_run.proofs.running.answer_by.Goals as goal
 
 pub returns-in-Check-clause-answer : goal.returns-in-Check-clause-answer
-returns-in-Check-clause-answer g c = λ s good judges. schema_is_told (is_good c.in-Check.is good)
+returns-in-Check-clause-answer g c = λ files main one. schema_good c.in-Check.is one.are
 
 pub returns-in_ok-simple_text-in-Simple-clause-answer : goal.returns-in_ok-simple_text-in-Simple-clause-answer
-returns-in_ok-simple_text-in-Simple-clause-answer g c = λ s good judges. schema_is_told (has_form c.in-Simple.is good (c.in_ok-simple_text-in-Simple.ensures s judges))
+returns-in_ok-simple_text-in-Simple-clause-answer g c = λ files main one.
+    form_printed c.in-Simple.is one.are (c.in_ok-simple_text-in-Simple.ensures one.schema one.judges)
 
 pub returns-in_ok-judge-in-Valid-clause-answer : goal.returns-in_ok-judge-in-Valid-clause-answer
-returns-in_ok-judge-in-Valid-clause-answer g c = λ s good judges.
-    document_is_judged (record { command_is = c.in-Valid.is; breaks_none = good }) (c.in_ok-judge-in-Valid.ensures.judged s judges)
+returns-in_ok-judge-in-Valid-clause-answer g c = λ files main one.
+    document_judged c.in-Valid.is one.are (c.in_ok-judge-in-Valid.ensures.judged one.schema one.judges)

@@ -1,10 +1,10 @@
 use Rattle.std.proofs.Common.{◌≡◌, ◌∙◌, ◌++◌, ◌∷◌, [], List, All, ap, length, sym, subst}
 use Rattle.rng_deriv_laws.specs.plain.Restricted.{IsRestricted, IsTyped}
-use Rattle.rng_pattern_table.proofs.Taking.{choice_of_two}
-use Rattle.rng_pattern_table.specs.views.Trees.{tree_of}
+use Rattle.rng_deriv_table.proofs.Taking.{choice_of_two}
+use Rattle.rng_deriv_table.specs.views.Trees.{tree_of}
 use Rattle.rng_model.specs.matching.GrammarReading.{reading_of}
-use Rattle.rng_pattern_derivatives.proofs.AddedWays.{two_below}
-use Rattle.rng_event_matcher.specs.declared.derivatives.StartWay.{StartWay}
+use Rattle.rng_deriv_ways.proofs.AddedWays.{two_below}
+use Rattle.rng_deriv_events.specs.declared.derivatives.StartWay.{StartWay}
 use Rattle.rng_deriv.specs.views.Starts.{IsWayInside, OpensLike, with_way}
 use Rattle.rng_deriv.proofs.JoinedStarts.{all_of_two, at_middle, joined_more, nothing_more}
 use Rattle.rng_deriv.proofs.starts.add_way.Goals as goal

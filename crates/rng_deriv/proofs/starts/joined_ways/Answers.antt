@@ -1,10 +1,10 @@
 use Rattle.std.proofs.Common.{subst, List, []}
 use Rattle.std.proofs.lemmas.List.{take_all}
 use Rattle.rng_model.specs.simple.Table.{Table}
-use Rattle.rng_pattern_table.specs.views.Trees.{tree_of}
-use Rattle.rng_pattern_table.proofs.Trees.{Longer-trans}
-use Rattle.rng_pattern_derivatives.specs.plain.Ways.{ways_by}
-use Rattle.rng_pattern_derivatives.specs.declared.way.LeafWay as numbered
+use Rattle.rng_deriv_table.specs.views.Trees.{tree_of}
+use Rattle.rng_deriv_table.proofs.Trees.{Longer-trans}
+use Rattle.rng_deriv_ways.specs.plain.Ways.{ways_by}
+use Rattle.rng_deriv_ways.specs.declared.way.LeafWay as numbered
 use Rattle.rng_deriv.specs.views.Starts.{OpensLike}
 use Rattle.rng_deriv.proofs.JoinedStarts.{next_joined}
 use Rattle.rng_deriv.proofs.starts.joined_ways.Goals as goal

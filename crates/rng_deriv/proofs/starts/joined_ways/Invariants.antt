@@ -1,8 +1,8 @@
 use Rattle.std.proofs.Common.{take}
 use Rattle.rng_model.specs.simple.Table.{Table}
-use Rattle.rng_pattern_table.specs.views.PatternTable.{Longer}
-use Rattle.rng_pattern_table.specs.views.Trees.{tree_of}
-use Rattle.rng_pattern_derivatives.specs.plain.Ways.{ways_by}
+use Rattle.rng_deriv_table.specs.views.PatternTable.{Longer}
+use Rattle.rng_deriv_table.specs.views.Trees.{tree_of}
+use Rattle.rng_deriv_ways.specs.plain.Ways.{ways_by}
 use Rattle.rng_deriv.specs.views.Starts.{OpensLike}
 use Rattle.rng_deriv.proofs.starts.joined_ways.Given as goal
 

@@ -1,7 +1,7 @@
 use Rattle.std.proofs.lemmas.Option.{get_or_from_slice_get}
 use Rattle.std.proofs.Common.{◌≡◌, List, Some, slice_get, sym, ap, ◌∙◌, subst}
-use Rattle.rng_event_matcher.specs.declared.derivatives.StartWay.{StartWay}
-use Rattle.rng_pattern_derivatives.proofs.AddedWays.{taken_out}
+use Rattle.rng_deriv_events.specs.declared.derivatives.StartWay.{StartWay}
+use Rattle.rng_deriv_ways.proofs.AddedWays.{taken_out}
 use Rattle.rng_deriv.proofs.starts.take_rest.Goals as goal
 
 pub returns-clause-found : goal.returns-clause-found

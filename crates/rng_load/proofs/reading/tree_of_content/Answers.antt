@@ -1,6 +1,6 @@
 use Rattle.std.proofs.Common.{Vec, Global, Ok, Err}
 use Rattle.std.proofs.lemmas.Result.{err_from_is_err_and}
-use Rattle.rnc_model.specs.tokens.Cut.{tokens_of}
+use Rattle.rnc_model.specs.tokens.CutTokens.{tokens_of}
 use Rattle.rnc_model.specs.tokens.Lexeme.{lexemes}
 use Rattle.rnc_model.specs.declared.token.Token.{Token}
 use Rattle.rnc_grammar.specs.views.Fault.{fault_of}

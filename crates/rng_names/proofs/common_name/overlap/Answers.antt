@@ -1,5 +1,6 @@
 use Rattle.std.proofs.Common.{IsTrue, IsFalse, rules, subst}
-use Rattle.rng_model.specs.names.Names.{Overlap, AreApart}
+use Rattle.rng_model.specs.names.Names.{Overlap}
+use Rattle.rng_model.specs.plain.ClassesApart.{AreApart}
 use Rattle.rng_model.specs.names.NameViews.{class_of, name_of}
 use Rattle.rng_names.proofs.PlainNames.{either_way, plain_common, plain_apart, swapped}
 use Rattle.rng_names.proofs.NameViews.{are_texts, name_class_is}

@@ -1,8 +1,8 @@
 use Rattle.std.proofs.Common.{◌≡◌, map, drop}
 use Rattle.rng_model.specs.names.Names.{classes_of, some_of}
-use Rattle.rng_model.specs.simple.Table.{IsPaired}
+use Rattle.rng_model.specs.simple.TableRules.{IsPaired}
 use Rattle.rng_model.specs.names.NameViews.{class_of}
-use Rattle.rng_graph.specs.plain.InTwos.{nested as nested_tree, nested_after}
+use Rattle.rng_simple.specs.plain.InTwos.{nested as nested_tree, nested_after}
 use Rattle.rng_simple.proofs.name_class.+classes.Given as goal
 
 abbrev pub invariant-nested_members-loop-member : goal.invariant-nested_members-loop-member

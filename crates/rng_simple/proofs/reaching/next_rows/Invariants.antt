@@ -1,5 +1,5 @@
 use Rattle.std.proofs.Common.{◌≡◌, map, take}
-use Rattle.rng_graph.specs.plain.Search.{lists}
+use Rattle.rng_simple.specs.plain.Search.{lists}
 use Rattle.rng_simple.specs.plain.RowReach.{content_of, nexts}
 use Rattle.rng_simple.proofs.reaching.next_rows.Given as goal
 

@@ -1,7 +1,7 @@
 use Rattle.std.proofs.Common.{◌≡◌, ◌↔◌, ◌<◌, ◌∷◌, [], ap, sym, ◌∙◌, subst, ℕ, length, map, slice_get, slice_index_or, Some, true}
 use Rattle.rng_model.specs.names.NameViews.{class_of}
-use Rattle.rng_graph.specs.plain.Graph.{IsFilledBy}
-use Rattle.rng_graph.specs.views.GraphView.{classes_of, graph_of}
+use Rattle.rng_simple.specs.plain.Graph.{IsFilledBy}
+use Rattle.rng_simple.specs.views.GraphView.{classes_of, graph_of}
 use Rattle.rng_simple.specs.plain.Copying.{AreCopied}
 use Rattle.rng_simple.specs.plain.GrammarBy.{content_simple, spot_simple}
 use Rattle.rng_simple.specs.plain.RowReach.{row_next, content_of}

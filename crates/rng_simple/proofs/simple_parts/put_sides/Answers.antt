@@ -1,7 +1,7 @@
 use Rattle.std.proofs.Common.{◌≡◌, ◌∙◌, ◌-◌, ◌++◌, ◌∷◌, [], ap, ap₂, sym, length, map, take}
 use Rattle.rng_model.proofs.ReplacedLists.{rest_from}
-use Rattle.rng_graph.specs.views.GraphView.{arity}
-use Rattle.rng_graph.proofs.Forests.{no_rows}
+use Rattle.rng_simple.specs.views.GraphView.{arity}
+use Rattle.rng_simple.proofs.Forests.{no_rows}
 use Rattle.rng_simple.specs.plain.GrammarBy.{spot_simple}
 use Rattle.rng_simple.specs.plain.SimpleParts.{values_in}
 use Rattle.rng_simple.specs.views.RowTable.{tree_of}

@@ -1,5 +1,5 @@
 use Rattle.std.proofs.Common.{◌≡◌, map, take}
-use Rattle.rng_graph.specs.views.GraphView.{forest}
+use Rattle.rng_simple.specs.views.GraphView.{forest}
 use Rattle.rng_simple.specs.plain.GrammarBy.{spot_simple}
 use Rattle.rng_simple.specs.views.RowTable.{IsGrown, row_count, tree_of}
 use Rattle.rng_simple.specs.plain.SimpleParts.{AreRowsBelow, values_in}

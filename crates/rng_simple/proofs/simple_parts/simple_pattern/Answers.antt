@@ -1,6 +1,6 @@
 use Rattle.std.proofs.Common.{◌∙◌, ap, map}
 use Rattle.std.proofs.lemmas.Result.{IfOk-weaker}
-use Rattle.rng_graph.specs.views.GraphView.{forest}
+use Rattle.rng_simple.specs.views.GraphView.{forest}
 use Rattle.rng_simple.specs.plain.SimpleParts.{side, values_in}
 use Rattle.rng_simple.specs.views.RowTable.{tree_of}
 use Rattle.rng_simple.proofs.SimpleParts.{child_is}

@@ -2,7 +2,7 @@ use Rattle.std.proofs.Common.{◌≡◌, ◌<◌, inl, inr, [], ◌∷◌, ◌�
 use Rattle.std.proofs.lemmas.Bool.{cases_lt}
 use Rattle.std.proofs.lemmas.List.{length-map, get_or-map}
 use Rattle.rng_model.specs.simple.Tree.{empty}
-use Rattle.rng_graph.specs.views.GraphView.{child, forest, graph_pattern_of, graph_of}
+use Rattle.rng_simple.specs.views.GraphView.{child, forest, graph_pattern_of, graph_of}
 use Rattle.rng_simple.specs.plain.GrammarBy.{spot_simple, content_simple}
 use Rattle.rng_simple.specs.views.RowTable.{tree_of}
 use Rattle.rng_simple.specs.plain.SimpleParts.{values_in}

@@ -1,5 +1,5 @@
 use Rattle.std.proofs.Common.{◌≡◌, ◌<◌, ℕ, length, slice_index_or}
-use Rattle.rng_graph.specs.views.GraphView.{graph_of}
+use Rattle.rng_simple.specs.views.GraphView.{graph_of}
 use Rattle.rng_simple.specs.plain.GrammarBy.{content_simple}
 use Rattle.rng_simple.specs.views.RowTable.{IsGrown, row_count, tree_of}
 use Rattle.rng_simple.specs.plain.SimpleParts.{AreRowsBelow, values_in}

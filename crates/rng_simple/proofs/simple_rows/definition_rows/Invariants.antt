@@ -1,6 +1,6 @@
 use Rattle.std.proofs.Common.{◌≡◌, length, take}
-use Rattle.rng_graph.specs.plain.Graph.{IsFilledBy}
-use Rattle.rng_graph.specs.views.GraphView.{graph_of}
+use Rattle.rng_simple.specs.plain.Graph.{IsFilledBy}
+use Rattle.rng_simple.specs.views.GraphView.{graph_of}
 use Rattle.rng_simple.specs.plain.GrammarBy.{spot_simple}
 use Rattle.rng_simple.specs.views.RowTable.{IsGrown, row_count}
 use Rattle.rng_simple.specs.plain.SimpleParts.{AreRowsBelow, values_in}

@@ -1,10 +1,10 @@
 use Rattle.std.proofs.Common.{rules, ◌≡◌, sym, subst, ◌∙◌, ℕ, ◌<◌, [], length, slice_get, slice_index_or, All, Some, vec_items, refl, arith}
 use Rattle.std.proofs.lemmas.List.{length-map}
-use Rattle.rng_graph.specs.plain.Search.{lists}
+use Rattle.rng_simple.specs.plain.Search.{lists}
 use Rattle.rng_simple.specs.plain.Worklist.{Adds}
 use Rattle.rng_simple.proofs.QueueMarks.{queue_begins, queue_goes, below_more, queue_is_done, queue_is_short}
 use Rattle.rng_simple.proofs.Queues.{All-from_contains}
-use Rattle.rng_graph.proofs.ListParts.{read_at}
+use Rattle.rng_simple.proofs.ListParts.{read_at}
 use Rattle.rng_simple.proofs.worklist.collect.Goals as goal
 
 nothing_below : (n : ℕ) → All (λ k. k < n) []

@@ -1,5 +1,5 @@
 use Rattle.std.proofs.Common.{◌≡◌, ◌-◌, ◌<◌, [], length, slice_index_or, All}
-use Rattle.rng_graph.specs.plain.Search.{lists}
+use Rattle.rng_simple.specs.plain.Search.{lists}
 use Rattle.rng_simple.specs.plain.Worklist.{IsMarked, IsQueue}
 use Rattle.rng_simple.proofs.worklist.collect.Given as goal
 

@@ -1,8 +1,8 @@
 use Rattle.std.proofs.Common.{◌≡◌, ◌∙◌, ◌&&◌, ℕ, List, ap, drop, string_bytes, subst, sym, take}
 use Rattle.std.specs.Str.{IsCharBoundary}
 use Rattle.std.proofs.lemmas.Bool.{eqb-true}
-use Rattle.pyx_namespaces.specs.plain.WrittenNames.{written_of}
-use Rattle.pyx_namespaces.specs.plain.Declarations.{same_written}
+use Rattle.pyx.specs.plain.WrittenNames.{written_of}
+use Rattle.pyx.specs.plain.Declarations.{same_written}
 use Rattle.pyx.specs.plain.LineReader.{is_name}
 use Rattle.pyx.specs.views.ElementView.{Elements, is_innermost}
 use Rattle.pyx.proofs.OpenNames.{front_of, named_parts, not_innermost, same_as_innermost, some}

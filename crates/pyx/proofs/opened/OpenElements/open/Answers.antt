@@ -5,8 +5,8 @@ use Rattle.std.proofs.lemmas.List.{nil_from_length}
 use Rattle.rng_model.specs.documents.PyxNamespaces.{WrittenAttribute}
 use Rattle.pyx.specs.plain.DocumentReader.{declared_in}
 use Rattle.pyx.specs.plain.TagReader.{element_name}
-use Rattle.pyx_namespaces.specs.plain.WrittenNames.{written_of}
-use Rattle.pyx_namespaces.specs.views.WrittenAttributes.{written_attribute}
+use Rattle.pyx.specs.plain.WrittenNames.{written_of}
+use Rattle.pyx.specs.views.WrittenAttributes.{written_attribute}
 use Rattle.pyx.specs.views.ElementView.{Elements, IsPlace, resolved, stack_of}
 use Rattle.pyx.proofs.DeclaredNamespaces.{name_within, name_within_none}
 use Rattle.pyx.proofs.opened.OpenElements.open.Goals as goal

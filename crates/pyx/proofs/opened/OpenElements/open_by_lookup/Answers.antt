@@ -3,8 +3,8 @@ use Rattle.pyx.specs.declared.elements.OpenElement.{OpenElement}
 use Rattle.rng_model.specs.documents.PyxNamespaces.{WrittenAttribute}
 use Rattle.rng_model.specs.names.Names.{Name}
 use Rattle.rng_model.specs.plain.Answers.{Gives}
-use Rattle.pyx_namespaces.specs.plain.WrittenNames.{written_of}
-use Rattle.pyx_namespaces.specs.views.WrittenAttributes.{written_attribute}
+use Rattle.pyx.specs.plain.WrittenNames.{written_of}
+use Rattle.pyx.specs.views.WrittenAttributes.{written_attribute}
 use Rattle.pyx.specs.plain.DocumentReader.{Open, declared_in}
 use Rattle.pyx.specs.plain.TagReader.{element_name}
 use Rattle.pyx.specs.views.ElementView.{AreNamed, Elements, clause_of, name_at, names_of, resolved, stack_of}

@@ -4,7 +4,8 @@ use Rattle.rncv_validator.specs.declared.fault.DocumentFault.{DocumentFault}
 use Rattle.rncv_validator.specs.declared.fault.DocumentFault.TheVariants as faults
 use Rattle.rng_model.specs.documents.Handing.{Hands}
 use Rattle.rng_deriv.specs.views.Matchers.{HasGoneOn}
-use Rattle.rncv_validator.specs.views.Documents.{HasNotRunOut, IsFaultOfReader, Judging, UnlessMemory, matching_of}
+use Rattle.rncv_validator.specs.views.Documents.{UnlessMemory}
+use Rattle.rncv_validator.specs.views.FedDocuments.{HasNotRunOut, IsFaultOfReader, Judging, matching_of}
 use Rattle.rncv_validator.proofs.FedDocuments.{fault_of_fed, fault_put, fault_there, gone, grammar_put, kept_put, known_put, none_kept, piece_fed, resumed}
 use Rattle.rncv_validator.proofs.FedDocuments.{since_kept, state_put, state_there, stuck_fed}
 use Rattle.rncv_validator.proofs.document.Document.feed.Goals as goal

@@ -8,7 +8,8 @@ use Rattle.rncv_model.specs.answers.Verdict.{IsMalformed}
 use Rattle.rncv_model.specs.declared.verdict.Verdict.{Verdict}
 use Rattle.rncv_model.specs.declared.verdict.Verdict.TheVariants.{Invalid}
 use Rattle.rng_deriv.specs.views.Matchers.{HasGoneOn}
-use Rattle.rncv_validator.specs.views.Documents.{HasBeenFed, IsFaultOfReader, Judging, failed_since}
+use Rattle.rncv_validator.specs.views.Documents.{failed_since}
+use Rattle.rncv_validator.specs.views.FedDocuments.{HasBeenFed, IsFaultOfReader, Judging}
 use Rattle.rncv_validator.specs.views.Validators.{Judges}
 use Rattle.rncv_validator.proofs.FedDocuments.{ended_grammar, ended_since, ended_verdict, fault_there, fault_verdict, resumed, state_kept}
 use Rattle.rncv_validator.proofs.document.Document.finish.Goals as goal

@@ -1,5 +1,5 @@
 use Rattle.std.proofs.Common.{◌≡◌, ◌∙◌, None, ap, rules, subst}
-use Rattle.rncv_validator.specs.views.Documents.{Judging}
+use Rattle.rncv_validator.specs.views.FedDocuments.{Judging}
 use Rattle.rncv_validator.proofs.FedDocuments.{hopeless_from, names_known, of_some, reader_works}
 use Rattle.rncv_validator.proofs.document.Document.invalid_since.Goals as goal
 

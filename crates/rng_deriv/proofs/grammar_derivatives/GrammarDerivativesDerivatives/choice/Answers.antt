@@ -1,6 +1,6 @@
 use Rattle.std.proofs.Common.{ap}
 use Rattle.rng_model.specs.matching.GrammarReading.{reading_of}
-use Rattle.rng_pattern_derivatives.proofs.KnownWays.{all_longer}
+use Rattle.rng_deriv_ways.proofs.KnownWays.{all_longer}
 use Rattle.rng_deriv.specs.views.Serving.{seen_of}
 use Rattle.rng_deriv.proofs.KeptStarts.{serves_longer}
 use Rattle.rng_deriv.proofs.ServedTables.{all_below_there, choice_added, seen_there, there_served}

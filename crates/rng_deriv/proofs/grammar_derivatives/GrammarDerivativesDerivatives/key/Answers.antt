@@ -1,8 +1,8 @@
 use Rattle.std.proofs.Common.{◌≡◌, ◌∙◌, ◌<◌, List, ap, length, subst, sym}
 use Rattle.rng_model.specs.names.NameViews.{name_of}
 use Rattle.rng_names.specs.plain.Keys.{key_of}
-use Rattle.rng_pattern_table.specs.views.Node.{Node}
-use Rattle.rng_event_matcher.specs.views.Basis.{Basis}
+use Rattle.rng_deriv_table.specs.views.Node.{Node}
+use Rattle.rng_deriv_events.specs.views.Basis.{Basis}
 use Rattle.rng_deriv.proofs.grammar_derivatives.GrammarDerivativesDerivatives.key.Goals as goal
 
 pub returns-clause-key : goal.returns-clause-key

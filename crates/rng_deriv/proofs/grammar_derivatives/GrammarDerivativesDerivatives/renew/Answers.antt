@@ -1,5 +1,5 @@
 use Rattle.std.proofs.Common.{List, subst, ap}
-use Rattle.rng_pattern_table.specs.declared.pattern.PatternNumber.{PatternNumber}
+use Rattle.rng_deriv_table.specs.declared.pattern.PatternNumber.{PatternNumber}
 use Rattle.rng_deriv.specs.views.PatternRenewal.{AreSameTrees}
 use Rattle.rng_deriv.specs.views.Serving.{seen_of}
 use Rattle.rng_deriv.proofs.PatternRenewal.{held_renewed, served_renewed}

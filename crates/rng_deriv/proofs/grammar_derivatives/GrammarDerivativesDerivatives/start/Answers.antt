@@ -3,10 +3,10 @@ use Rattle.rng_model.specs.simple.Table.{Table, tree_at}
 use Rattle.rng_model.specs.declared.simple.PatternId.{PatternId}
 use Rattle.rng_model.specs.matching.GrammarReading.{reading_of}
 use Rattle.rng_deriv_laws.specs.plain.Taking.{Same}
-use Rattle.rng_pattern_table.specs.declared.pattern.PatternNumber.{PatternNumber}
-use Rattle.rng_pattern_table.specs.views.Node.{Node}
-use Rattle.rng_pattern_table.specs.views.Trees.{trees}
-use Rattle.rng_event_matcher.specs.views.Numbers.{IsInside, tree_of}
+use Rattle.rng_deriv_table.specs.declared.pattern.PatternNumber.{PatternNumber}
+use Rattle.rng_deriv_table.specs.views.Node.{Node}
+use Rattle.rng_deriv_table.specs.views.Trees.{trees}
+use Rattle.rng_deriv_events.specs.views.Numbers.{IsInside, tree_of}
 use Rattle.rng_deriv.specs.views.Serving.{seen_of}
 use Rattle.rng_deriv.proofs.ServedTables.{seen_there, start_inside, start_same, there_served}
 use Rattle.rng_deriv.proofs.grammar_derivatives.GrammarDerivativesDerivatives.start.Goals as goal

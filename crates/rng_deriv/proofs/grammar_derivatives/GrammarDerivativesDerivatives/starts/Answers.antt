@@ -1,18 +1,18 @@
 use Rattle.std.proofs.Common.{◌≡◌, ◌∙◌, ◌<◌, List, ap, length, subst, sym}
 use Rattle.rng_model.specs.simple.Table.{Table}
 use Rattle.rng_names.specs.plain.Keys.{Keys, key_of, name_at}
-use Rattle.rng_pattern_table.specs.views.Node.{Node}
-use Rattle.rng_pattern_table.specs.views.Trees.{tree_of, trees}
-use Rattle.rng_pattern_table.specs.declared.pattern.PatternNumber.{PatternNumber}
-use Rattle.rng_pattern_table.proofs.Trees.{Longer-trans}
-use Rattle.rng_pattern_derivatives.specs.plain.Ways.{ways_by}
-use Rattle.rng_pattern_derivatives.specs.plain.Starting.{AreStarts}
-use Rattle.rng_pattern_derivatives.specs.declared.way.LeafWay as numbered
-use Rattle.rng_event_matcher.specs.views.Basis.{Basis}
-use Rattle.rng_event_matcher.specs.views.Numbers as table
+use Rattle.rng_deriv_table.specs.views.Node.{Node}
+use Rattle.rng_deriv_table.specs.views.Trees.{tree_of, trees}
+use Rattle.rng_deriv_table.specs.declared.pattern.PatternNumber.{PatternNumber}
+use Rattle.rng_deriv_table.proofs.Trees.{Longer-trans}
+use Rattle.rng_deriv_ways.specs.plain.Ways.{ways_by}
+use Rattle.rng_deriv_ways.specs.plain.Starting.{AreStarts}
+use Rattle.rng_deriv_ways.specs.declared.way.LeafWay as numbered
+use Rattle.rng_deriv_events.specs.views.Basis.{Basis}
+use Rattle.rng_deriv_events.specs.views.Numbers as table
 use Rattle.rng_deriv.specs.views.Serving.{seen_of}
 use Rattle.rng_deriv.specs.views.Starts.{OpensLike}
-use Rattle.rng_pattern_derivatives.proofs.KnownWays.{all_longer}
+use Rattle.rng_deriv_ways.proofs.KnownWays.{all_longer}
 use Rattle.rng_deriv.proofs.KeptStarts.{for_each_name, serves_longer}
 use Rattle.rng_deriv.proofs.ServedTables.{below_there, seen_there, starts_added, there_served, trees_longer}
 use Rattle.rng_deriv.proofs.grammar_derivatives.GrammarDerivativesDerivatives.starts.Goals as goal

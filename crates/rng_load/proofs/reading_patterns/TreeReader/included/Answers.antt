@@ -1,7 +1,7 @@
 use Rattle.std.proofs.Common.{◌∙◌, ◌<◌, rules, arith, sym, ap, map}
 use Rattle.rng_model.specs.names.NamespaceViews.{namespace_bytes}
 use Rattle.rnc_model.specs.declarations.FileTree.{components_of}
-use Rattle.rnc_model.specs.loading.Loading.{grammar_if}
+use Rattle.rnc_model.specs.loading.FileGrammars.{grammar_if}
 use Rattle.rnc_model.specs.loading.Places.{uri_in}
 use Rattle.rnc_grammar.specs.views.View.{component_of, mention_of}
 use Rattle.rng_load.specs.views.ReadPatterns.{files_in}

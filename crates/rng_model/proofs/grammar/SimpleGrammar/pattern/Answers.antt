@@ -1,5 +1,5 @@
 use Rattle.std.proofs.Common.{◌≡◌, option_copied, slice_get, rules, subst}
-use Rattle.rng_model.specs.simple.Table.{IsTable}
+use Rattle.rng_model.specs.simple.TableRules.{IsTable}
 use Rattle.rng_model.proofs.Table.{tree_of_found}
 use Rattle.rng_model.proofs.grammar.SimpleGrammar.pattern.Goals as goal
 

@@ -1,7 +1,7 @@
 use Rattle.std.proofs.Common.{◌∙◌, ap}
 use Rattle.std.specs.List.{list_any}
 use Rattle.std.specs.Str.{bytes_eq}
-use Rattle.rng_schema_checks.proofs.NameSets.{one_more_text}
+use Rattle.rng_overrides.proofs.InsertedKeys.{one_more_text}
 use Rattle.rng_schema_checks.proofs.definitions.DefinedNames.add.Goals as goal
 
 pub returns : goal.returns

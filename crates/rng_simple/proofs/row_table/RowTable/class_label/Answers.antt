@@ -2,7 +2,7 @@ use Rattle.std.proofs.Common.{refl, ap, subst, ◌∙◌, [], ◌++◌, map, Som
 use Rattle.std.proofs.lemmas.List.{map_push}
 use Rattle.rng_model.specs.names.Names.{any_name}
 use Rattle.rng_model.specs.names.NameViews.{class_of}
-use Rattle.rng_graph.specs.plain.InTwos.{nested}
+use Rattle.rng_simple.specs.plain.InTwos.{nested}
 use Rattle.rng_labels.specs.plain.LabelCodes.{IsPlaced, class_code, codes_of, part_of}
 use Rattle.rng_simple.proofs.NestedCodes.{same_classes}
 use Rattle.rng_simple.proofs.RowLabels.{codes_more, label_found}

@@ -1,6 +1,6 @@
 use Rattle.std.proofs.Common.{sym, ◌∙◌}
 use Rattle.rng_model.specs.datatypes.Blanks.{collapse}
-use Rattle.rng_model.specs.datatypes.Datatypes.{is_nmtoken, xsd_nmtoken, value_of}
+use Rattle.rng_model.specs.datatypes.Datatypes.{is_nmtoken, xsd_nmtoken}
 use Rattle.rng_types.specs.views.View.{lengths_of}
 use Rattle.rng_types.proofs.TextValues.{texts_equal, never_equal, passes}
 use Rattle.rng_types.proofs.texts.NmTokenDatatype.equal.Goals as goal
@@ -12,5 +12,5 @@ returns-then-allows c =
 
 pub returns-else-allows : goal.returns-else-allows
 returns-else-allows c =
-    let value = value_of (xsd_nmtoken (lengths_of c.args.self.now.lengths)) in
+    let value = xsd_nmtoken (lengths_of c.args.self.now.lengths) in
     c.if-allows.false ∙ sym (never_equal (value c.args.a.now) (value c.args.b.now) (sym c.allows.ensures ∙ c.if-allows.false))

@@ -1,6 +1,6 @@
 use Rattle.std.proofs.Common.{rules, ◌≡◌, ◌++◌, ◌∷◌, [], All, length, subst, sym}
 use Rattle.std.proofs.lemmas.List.Elements.{All-push}
-use Rattle.rng_model.specs.simple.Table.{AreChildrenBelow, IsDatatypeKnown}
+use Rattle.rng_model.specs.simple.TableRules.{AreChildrenBelow, IsDatatypeKnown}
 use Rattle.rng_model.proofs.Table.{falls_after_push}
 use Rattle.written_grammars.proofs.grammar_builder.GrammarBuilder.add.Goals as goal
 

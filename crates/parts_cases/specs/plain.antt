@@ -1,2 +1,0 @@
--- Plain functions that the code is proved against, and private relations.
-pub mod Separate

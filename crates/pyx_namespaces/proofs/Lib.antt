@@ -1,5 +1,0 @@
-pub mod TextCuts
-pub mod WrittenNames
-pub mod DeclarationSlots
-pub mod DeclarationPlaces
-mod DeclarationBytes

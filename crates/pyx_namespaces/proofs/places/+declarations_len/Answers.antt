@@ -1,6 +1,0 @@
-use Rattle.std.proofs.Common.{rules}
-use Rattle.pyx_namespaces.proofs.DeclarationBytes.{held_push}
-use Rattle.pyx_namespaces.proofs.places.+declarations_len.Goals as goal
-
-pub returns-in-Some : goal.returns-in-Some
-returns-in-Some t c = rw (held_push c.args.declarations.now c.in-Some.rest.now c.in-Some.last.now c.in-Some.ensures.cases.0) (search rules)

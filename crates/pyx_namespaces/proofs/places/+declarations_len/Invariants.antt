@@ -1,5 +1,0 @@
-use Rattle.std.proofs.Common.{length}
-use Rattle.pyx_namespaces.proofs.places.+declarations_len.Given as goal
-
-abbrev pub decreases-declarations_len : goal.decreases-declarations_len
-decreases-declarations_len l = length l.declarations.now

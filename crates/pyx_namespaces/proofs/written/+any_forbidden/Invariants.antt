@@ -1,5 +1,0 @@
-use Rattle.std.proofs.Common.{length}
-use Rattle.pyx_namespaces.proofs.written.+any_forbidden.Given as goal
-
-abbrev pub decreases-any_forbidden : goal.decreases-any_forbidden
-decreases-any_forbidden l = length l.declarations.now

@@ -1,5 +1,0 @@
-use Rattle.std.proofs.Common.{length}
-use Rattle.pyx_namespaces.proofs.written.+is_repeated.Given as goal
-
-abbrev pub decreases-is_repeated : goal.decreases-is_repeated
-decreases-is_repeated l = length l.attributes.now

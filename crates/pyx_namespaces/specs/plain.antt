@@ -1,6 +1,0 @@
--- Plain functions that the code is proved against.
-pub mod Cuts
-pub mod Declarations
-pub mod Held
-pub mod Slots
-pub mod WrittenNames

@@ -1,0 +1,49 @@
+// Outcomes by the matcher over owned trees, and whether others agree.
+ghost use Rattle.rng_model.specs.restrictions.Restrictions.{BreaksNone};
+ghost use Rattle.rng_model.specs.simple.Table.{grammar_of};
+
+use crate::watched::read;
+use rng_deriv::Outcome;
+use rng_model::{PyxFault, SimpleGrammar};
+use rng_plain_matcher::PlainMatcher;
+use std::alloc::Global;
+use std::io;
+
+/// How many rows there were, and how many of them are valid.
+#[derive(Drop)]
+pub struct Verdicts {
+    pub rows: u32,
+    pub valid: u32,
+}
+
+impl Verdicts {
+    /// Counts a row. Returns whether the two outcomes are the same and the verdict of the row is theirs.
+    pub fn count(&mut self, verdict: &str, outcome: Outcome, by_trees: Outcome) -> bool {
+        self.rows = self.rows.wrapping_add(1);
+        let is_valid = matches!(outcome, Outcome::Valid);
+        if is_valid {
+            self.valid = self.valid.wrapping_add(1);
+        }
+        outcome == by_trees && is_valid == (verdict == "V")
+    }
+}
+
+/// Returns the outcome of a document by the matcher over owned trees.
+///
+/// The error is `OutOfMemory`, or `InvalidData` if the bytes are no document.
+pub fn outcome_by_trees(
+    alloc: Global,
+    grammar: &SimpleGrammar,
+    document: &[u8],
+) -> io::Result<Outcome>
+    requires { BreaksNone (grammar_of grammar.now) }
+{
+    let Ok(mut matcher) = PlainMatcher::new(alloc, grammar) else {
+        return Err(io::Error::from(io::ErrorKind::OutOfMemory));
+    };
+    match read(alloc, document, &mut matcher) {
+        Ok(()) => Ok(matcher.outcome()),
+        Err(PyxFault::Memory) => Err(io::Error::from(io::ErrorKind::OutOfMemory)),
+        Err(PyxFault::At { .. }) => Err(io::Error::from(io::ErrorKind::InvalidData)),
+    }
+}

@@ -1,0 +1,211 @@
+//! Prints what the matcher returns for each row of `cases.txt`. A matcher that begins anew must return the same, and so
+//! must the matcher over owned trees; any other outcome is printed after it. Then it prints a line for each document of
+//! `documents.txt`, with a letter for each schema of `schemas.txt`: V for valid, I for invalid, and X if the two matchers
+//! differ. At last it prints how many rows of `generated.txt` there are, and how many of them are valid. Before that it
+//! prints each row of that file whose schema is refused, or for which the two matchers, or the row, differ.
+//!
+//! A row of `cases.txt` has a schema and a document, possibly in pieces, each followed by how often it is repeated. The
+//! schemas of `schemas.txt`, the documents and their letters come from a second program, `tools/all_splits`. The rows of
+//! `generated.txt` come from `dev/search/fuzz/matcher_rows.py`: a verdict, a schema and a document.
+#![tactic(auto)]
+
+mod compared;
+mod watched;
+
+ghost use Rattle.std.specs.Prelude.{All, IfOk, IfSome};
+ghost use Rattle.rng_model.specs.restrictions.Restrictions.{BreaksNone};
+ghost use Rattle.rng_model.specs.simple.Table.{grammar_of};
+
+use case_rows::{Row, rows};
+use compared::{Verdicts, outcome_by_trees};
+use rng_deriv::{Matcher, Outcome};
+use rng_load::load;
+use rng_model::{SchemaFault, SimpleGrammar};
+use rng_rules::restrict;
+use rng_simple::simplify;
+use std::alloc::Global;
+use std::io;
+use std::rt::Files;
+use watched::taken;
+
+fn main(rt: HostRuntime) -> io::Result<()> {
+    for row in rows(&rt, "cases.txt")? {
+        print_case(&rt, &row)?;
+    }
+    let grammars = grammars_of(rt.alloc(), rows(&rt, "schemas.txt")?.as_slice())?;
+    for document in rows(&rt, "documents.txt")? {
+        let letters = letters_of(rt.alloc(), grammars.as_slice(), document.bytes(0)?)?;
+        println!(rt; "{letters}")?;
+    }
+    print_generated(&rt)
+}
+
+/// Prints each row of `generated.txt` that is refused or for which something differs, and then how many others there are.
+fn print_generated(rt: &(impl Files + Print + AllocGlobal)) -> io::Result<()> {
+    let mut verdicts = Verdicts { rows: 0, valid: 0 };
+    for row in rows(rt, "generated.txt")? {
+        print_compared(rt, &row, &mut verdicts)?;
+    }
+    println!(rt; "{} rows, {} valid", verdicts.rows, verdicts.valid)
+}
+
+/// Counts a row of `generated.txt`, and prints it if something differs. A row whose schema is refused is printed alone.
+fn print_compared(
+    rt: &(impl Print + AllocGlobal),
+    row: &Row,
+    verdicts: &mut Verdicts,
+) -> io::Result<()> {
+    let schema = row.text(1)?;
+    let Some(grammar) = accepted(rt.alloc(), schema.as_bytes())? else {
+        return println!(rt; "refused: {schema}");
+    };
+    let document = row.bytes(2)?;
+    let outcome = judged(rt.alloc(), &grammar, document, false)?;
+    let by_trees = outcome_by_trees(rt.alloc(), &grammar, document)?;
+    if !verdicts.count(row.text(0)?, outcome, by_trees) {
+        println!(rt; "row {}", verdicts.rows)?;
+        print_outcome(rt, outcome)?;
+        print_outcome(rt, by_trees)?;
+    }
+    Ok(())
+}
+
+/// Prints the outcome of a row: `valid`, or `invalid line N`.
+fn print_case(rt: &(impl Print + AllocGlobal), row: &Row) -> io::Result<()> {
+    let grammar = grammar_of_schema(rt.alloc(), row.bytes(0)?)?;
+    let document = joined(rt.alloc(), row)?;
+    let outcome = judged(rt.alloc(), &grammar, document.as_slice(), false)?;
+    print_outcome(rt, outcome)?;
+    let again = judged(rt.alloc(), &grammar, document.as_slice(), true)?;
+    if again != outcome {
+        print!(rt; "anew: ")?;
+        print_outcome(rt, again)?;
+    }
+    let by_trees = outcome_by_trees(rt.alloc(), &grammar, document.as_slice())?;
+    if by_trees != outcome {
+        print!(rt; "by trees: ")?;
+        print_outcome(rt, by_trees)?;
+    }
+    Ok(())
+}
+
+/// Prints an outcome.
+fn print_outcome(rt: &impl Print, outcome: Outcome) -> io::Result<()> {
+    match outcome {
+        Outcome::Valid => println!(rt; "valid"),
+        Outcome::Invalid(line) => println!(rt; "invalid line {line}"),
+    }
+}
+
+/// Returns the pieces from the second field on, each repeated as often as the next field says.
+fn joined(alloc: Global, row: &Row) -> io::Result<Vec<u8>> {
+    let mut all = Vec::new(alloc);
+    for field in (1..row.field_count()).step_by(2) {
+        let times = match row.text(field.wrapping_add(1)) {
+            Ok(number) => number.parse::<u32>().unwrap_or(1),
+            Err(_) => 1,
+        };
+        for _ in 0..times {
+            all.extend_from_slice(row.bytes(field)?)?;
+        }
+    }
+    Ok(all)
+}
+
+/// Returns the simple grammar of a schema of one file. The error is `InvalidData` if the schema breaks a clause.
+fn grammar_of_schema(alloc: Global, schema: &[u8]) -> io::Result<SimpleGrammar>
+    ensures { IfOk result (λ g. BreaksNone (grammar_of g)) }
+{
+    match accepted(alloc, schema)? {
+        Some(grammar) => Ok(grammar),
+        None => Err(io::Error::from(io::ErrorKind::InvalidData)),
+    }
+}
+
+/// Returns the simple grammar of a schema of one file, or `None` if the schema breaks a clause.
+fn accepted(alloc: Global, schema: &[u8]) -> io::Result<Option<SimpleGrammar>>
+    ensures { IfOk result (λ found. IfSome found (λ g. BreaksNone (grammar_of g))) }
+{
+    let name = String::from_str(alloc, "s.rnc")?;
+    let bytes = Vec::from_slice(alloc, schema)?;
+    match compiled(alloc, &[(name, bytes)]) {
+        Ok(grammar) => Ok(Some(grammar)),
+        Err(SchemaFault::Memory) => Err(io::Error::from(io::ErrorKind::OutOfMemory)),
+        Err(_) => Ok(None),
+    }
+}
+
+/// Returns the simple grammar of files that break no clause.
+fn compiled(alloc: Global, files: &[(String, Vec<u8>)]) -> Result<SimpleGrammar, SchemaFault>
+    ensures { IfOk result (λ g. BreaksNone (grammar_of g)) }
+{
+    let schema = load(alloc, files, "s.rnc")?;
+    let grammar = simplify(alloc, &schema)?;
+    restrict(alloc, &grammar)?;
+    Ok(grammar)
+}
+
+/// Returns the simple grammars of schemas.
+fn grammars_of(alloc: Global, schemas: &[Row]) -> io::Result<Vec<SimpleGrammar>>
+    ensures { IfOk result (λ gs. All (λ g. BreaksNone (grammar_of g)) gs.items) }
+{
+    let mut grammars = Vec::new(alloc);
+    'schemas: for schema in schemas {
+        grammars.push(grammar_of_schema(alloc, schema.bytes(0)?)?)?;
+    }
+    Ok(grammars)
+}
+
+/// Returns the outcome of a document, for a new matcher or for one that begins anew after it judged the document.
+fn judged(
+    alloc: Global,
+    grammar: &SimpleGrammar,
+    document: &[u8],
+    anew: bool,
+) -> io::Result<Outcome>
+    requires { BreaksNone (grammar_of grammar.now) }
+{
+    let Ok(matcher) = Matcher::new(alloc, grammar) else {
+        return Err(io::Error::from(io::ErrorKind::OutOfMemory));
+    };
+    let matcher = taken(alloc, matcher, document, anew)?;
+    if !anew {
+        return ended(matcher);
+    }
+    let Ok(matcher) = matcher.begin_anew() else {
+        return Err(io::Error::from(io::ErrorKind::OutOfMemory));
+    };
+    ended(taken(alloc, matcher, document, anew)?)
+}
+
+/// Returns the outcome of a matcher that has taken all events.
+fn ended(matcher: Matcher<'_>) -> io::Result<Outcome> {
+    match matcher.finish() {
+        Ok(outcome) => Ok(outcome),
+        Err(_) => Err(io::Error::from(io::ErrorKind::OutOfMemory)),
+    }
+}
+
+/// Returns a letter for each grammar.
+fn letters_of(alloc: Global, grammars: &[SimpleGrammar], document: &[u8]) -> io::Result<String>
+    requires { All (λ g. BreaksNone (grammar_of g)) grammars.now }
+{
+    let mut letters = String::new(alloc);
+    'grammars: for grammar in grammars {
+        let outcome = judged(alloc, grammar, document, false)?;
+        let by_trees = outcome_by_trees(alloc, grammar, document)?;
+        letters.push(letter(outcome, by_trees))?;
+    }
+    Ok(letters)
+}
+
+/// Returns the letter of an outcome, if the matcher over owned trees has the same.
+fn letter(outcome: Outcome, by_trees: Outcome) -> char {
+    if outcome != by_trees {
+        return 'X';
+    }
+    match outcome {
+        Outcome::Valid => 'V',
+        Outcome::Invalid(_) => 'I',
+    }
+}

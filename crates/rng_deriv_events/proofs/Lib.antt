@@ -1,0 +1,13 @@
+pub mod Lookups
+pub mod Numbers
+pub mod AddedLinks
+pub mod StartedElements
+pub mod EndedElements
+pub mod StateSteps
+pub mod Positions
+pub mod KeptLevels
+pub mod SampledLevels
+pub mod OpenStates
+pub mod LevelTests
+pub mod LevelRenewal
+pub mod KnownDocuments

@@ -1,0 +1,11 @@
+-- Views of types, and invariants.
+pub mod LevelTable
+pub mod Basis
+pub mod KeptLevels
+pub mod Levels
+pub mod Numbers
+pub mod OpenPositions
+pub mod Positions
+pub mod LevelRenewal
+pub mod States
+pub mod Strings

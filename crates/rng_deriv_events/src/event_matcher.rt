@@ -1,0 +1,180 @@
+// A matcher over any derivatives.
+ghost use Rattle.std.specs.Prelude.{◌≡◌, ℕ, List, [], ◌∷◌, ◌++◌, IfOk, IsErr, OnErr, OnOk, map};
+ghost use Rattle.rng_names.specs.plain.Keys.{Keys};
+ghost use Rattle.rng_model.specs.simple.Tree.{Simple};
+ghost use Rattle.rng_model.specs.matching.Reading.{Reading};
+ghost use Rattle.rng_deriv_events.specs.views.KeptLevels.{AreKept};
+ghost use Rattle.rng_model.specs.documents.EventView.{event_of};
+ghost use Rattle.rng_model.specs.documents.PyxTrees as trees;
+ghost use Rattle.rng_model.specs.documents.PyxTrees.{IsPyxDocument, Placed, events_of};
+ghost use Rattle.rng_model.specs.matching.Outcomes.{IsOutcome};
+ghost use Rattle.rng_deriv_events.specs.views.Positions.{IsFailed, IsKnown, IsLost, IsProgressInside};
+ghost use Rattle.rng_model.specs.declared.outcome.Outcome.{Outcome};
+
+use crate::derivatives::Derivatives;
+use crate::ends::some_end;
+use crate::level_table::LevelTable;
+use crate::numbering::level_of;
+use crate::position::Position;
+use crate::progress::{Progress, take_event};
+use crate::state::State;
+use rng_model::{Event, OutOfMemory, Outcome};
+use smallvec::SmallVec;
+use std::alloc::Global;
+use std::marker::Model;
+
+/// A matcher over any derivatives. It takes the events of a document one by one, and reports whether the document is
+/// valid.
+///
+/// RELAX NG Specification, sections 6.2 and 6.3. After a call runs out of memory, each call fails with that error.
+#[derive(Drop)]
+pub struct EventMatcher<D: Derivatives + Drop> {
+    alloc: Global,
+    derivatives: D,
+    progress: Progress,
+}
+
+impl<D: Derivatives + Drop> Model for EventMatcher<D> {
+    ghost use Rattle.rng_deriv_events.specs.declared.progress.Progress.{Progress};
+    ghost use Rattle.rng_deriv_events.specs.views.Positions.{IsProgressInside};
+
+    ghost Value = { D × Progress };
+
+    ghost view = { λ m. (m.derivatives, m.progress) };
+
+    ghost invariant = { λ m. IsProgressInside (D.reading m.derivatives) (D.basis m.derivatives).keys (D.trees m.derivatives) m.progress };
+}
+
+/// Returns what is kept of levels, or an empty table if nothing is kept.
+fn table_of(alloc: Global, progress: Progress) -> LevelTable
+    ensures { (g : Reading) (keys : Keys) (trees : List (Simple ℕ)) → IsProgressInside g keys trees progress → AreKept g keys trees result }
+{
+    match progress {
+        Progress::Going { position, .. } => {
+            let Position { state, .. } = position;
+            let State { table, .. } = state;
+            table
+        }
+        Progress::Failed(_) | Progress::Lost => LevelTable::new(alloc, 0),
+    }
+}
+
+impl<D: Derivatives + Drop> EventMatcher<D> {
+    /// Creates a matcher that has had no event yet. Fails only when this call, or an earlier call of the derivatives,
+    /// is out of memory.
+    pub fn new(alloc: Global, derivatives: D) -> Result<Self, OutOfMemory>
+        ensures derivatives { IfOk result (λ m. m.0 ≡ derivatives) }
+        ensures known { IfOk result (λ m. IsKnown (D.reading m.0) (D.trees m.0) m.1 []) }
+        ensures kept { IfOk result (λ m. ¬ (IsLost m.1)) }
+    {
+        let nothing = LevelTable::new(alloc, 0);
+        EventMatcher::with_table(alloc, derivatives, nothing)
+    }
+
+    /// Creates a matcher that has had no event yet, with what is kept of levels. Fails only when this call, or an
+    /// earlier call of the derivatives, is out of memory.
+    fn with_table(alloc: Global, derivatives: D, mut table: LevelTable) -> Result<Self, OutOfMemory>
+        requires { AreKept (D.reading derivatives) (D.basis derivatives).keys (D.trees derivatives) table }
+        ensures derivatives { IfOk result (λ m. m.0 ≡ derivatives) }
+        ensures known { IfOk result (λ m. IsKnown (D.reading m.0) (D.trees m.0) m.1 []) }
+        ensures kept { IfOk result (λ m. ¬ (IsLost m.1)) }
+    {
+        let start = derivatives.start()?;
+        let numbers = SmallVec::from_slice(alloc, &[start])?;
+        let now = level_of(&derivatives, alloc, &mut table, numbers)?;
+        let state = State {
+            table,
+            now,
+            carried: Vec::new(alloc),
+            steps: Vec::new(alloc),
+        };
+        let position = Position {
+            state,
+            has_begun: false,
+            held: None,
+        };
+        Ok(EventMatcher {
+            alloc,
+            derivatives,
+            progress: Progress::Going { position, line: 0 },
+        })
+    }
+
+    /// Returns a matcher that has had no event yet, over the same derivatives. Fails only when this call, or an earlier
+    /// one, is out of memory.
+    pub fn begin_anew(self) -> Result<Self, OutOfMemory>
+        ensures derivatives { IfOk result (λ m. m.0 ≡ self.0) }
+        ensures known { IfOk result (λ m. IsKnown (D.reading m.0) (D.trees m.0) m.1 []) }
+        ensures kept { IfOk result (λ m. ¬ (IsLost m.1)) }
+    {
+        let EventMatcher {
+            alloc,
+            derivatives,
+            progress,
+        } = self;
+        let table = table_of(alloc, progress);
+        EventMatcher::with_table(alloc, derivatives, table)
+    }
+
+    /// Creates a matcher with these derivatives and this progress.
+    pub fn of_parts(alloc: Global, derivatives: D, progress: Progress) -> Self
+        requires { IsProgressInside (D.reading derivatives) (D.basis derivatives).keys (D.trees derivatives) progress }
+        ensures { result ≡ (derivatives, progress) }
+    {
+        EventMatcher {
+            alloc,
+            derivatives,
+            progress,
+        }
+    }
+
+    /// Returns the derivatives, and what is known of the document.
+    pub fn into_parts(self) -> (D, Progress)
+        ensures parts { result ≡ self }
+        ensures inside { IsProgressInside (D.reading result.0) (D.basis result.0).keys (D.trees result.0) result.1 }
+    {
+        (self.derivatives, self.progress)
+    }
+
+    /// Returns the outcome of the document with the events that were taken. Fails only if an earlier call ran out of
+    /// memory.
+    pub fn outcome(&self) -> Result<Outcome, OutOfMemory>
+        ensures outcome { IfOk result (λ o. (bytes : List ℕ) (d : Placed) → IsPyxDocument bytes d
+            → IsKnown (D.reading self.now.0) (D.trees self.now.0) self.now.1 (events_of d) → IsOutcome (D.reading self.now.0) d o) }
+        ensures failed { (line : ℕ) → IsFailed line self.now.1 → IfOk result (λ o. o ≡ Outcome.Invalid line) }
+        ensures lost { OnErr result (IsLost self.now.1) }
+        ensures again { IsLost self.now.1 → IsErr result }
+    {
+        match &self.progress {
+            Progress::Going { position, line } => {
+                if some_end(
+                    &self.derivatives,
+                    position.state.table.numbers(position.state.now),
+                ) {
+                    return Ok(Outcome::Valid);
+                }
+                Ok(Outcome::Invalid(*line))
+            }
+            Progress::Failed(line) => Ok(Outcome::Invalid(*line)),
+            Progress::Lost => Err(OutOfMemory),
+        }
+    }
+
+    /// Takes the next event. Fails only when out of memory, and always after a call that ran out of memory.
+    pub fn take(&mut self, event: Event<'_>) -> Result<(), OutOfMemory>
+        ensures basis { OnOk result (D.basis self.new.0 ≡ D.basis self.old.0) }
+        ensures reading { OnOk result (D.reading self.new.0 ≡ D.reading self.old.0) }
+        ensures known { OnOk result ((events : List trees.Event) → IsKnown (D.reading self.old.0) (D.trees self.old.0) self.old.1 events
+            → IsKnown (D.reading self.new.0) (D.trees self.new.0) self.new.1 (events ++ event_of event.entry ∷ [])) }
+        ensures failed { (line : ℕ) → IsFailed line self.old.1 → OnOk result (IsFailed line self.new.1) }
+        ensures kept { OnOk result (¬ (IsLost self.new.1)) }
+        ensures lost { OnErr result (IsLost self.new.1) }
+        ensures again { IsLost self.old.1 → IsErr result }
+    {
+        if let Ok(()) = take_event(&mut self.derivatives, self.alloc, &mut self.progress, event) {
+            return Ok(());
+        }
+        self.progress = Progress::Lost;
+        Err(OutOfMemory)
+    }
+}

@@ -1,0 +1,85 @@
+// Strings that may still turn out to be only children.
+ghost use Rattle.std.specs.Prelude.{◌≡◌, ◌<◌, ℕ, List, [], Some, IfOk, OnOk, length};
+ghost use Rattle.rng_model.specs.datatypes.Texts.{is_blank};
+ghost use Rattle.rng_deriv_events.specs.views.LevelTable.{levels_in, numbers_in};
+ghost use Rattle.rng_deriv_events.specs.views.KeptLevels.{AddsLevels, AreKept};
+ghost use Rattle.rng_deriv_events.specs.views.OpenPositions.{IsHeldKept, held_string, open_string};
+ghost use Rattle.rng_deriv_events.specs.views.Strings.{AddsHeld, IsHeld};
+
+use crate::derivatives::Derivatives;
+use crate::level_table::{LevelNumber, LevelTable};
+use crate::numbering::level_after_text;
+use rng_model::OutOfMemory;
+use std::alloc::Global;
+
+/// A string: whether it is blank, and the level after it.
+#[derive(Drop)]
+pub struct Held {
+    pub blank: bool,
+    pub after: LevelNumber,
+}
+
+/// The content of an element without child elements: the level before its string, and the string.
+#[derive(Drop)]
+pub struct Content {
+    pub level: LevelNumber,
+    pub string: Held,
+}
+
+/// Returns whether a text has only spaces, tabs and line ends.
+fn is_blank(text: &str) -> bool
+    ensures { result ≡ is_blank text.now }
+{
+    text.as_bytes()
+        .iter()
+        .all(|byte| matches!(*byte, b' ' | b'\t' | b'\n' | b'\r'))
+}
+
+/// Holds a string.
+pub fn hold<D: Derivatives>(
+    derivatives: &mut D,
+    alloc: Global,
+    table: &mut LevelTable,
+    now: LevelNumber,
+    text: &str,
+) -> Result<Held, OutOfMemory>
+    requires kept { AreKept (D.reading derivatives.old) (D.basis derivatives.old).keys (D.trees derivatives.old) table.old }
+    requires now { now.0 < length (levels_in table.old) }
+    ensures reading { OnOk result (D.reading derivatives.new ≡ D.reading derivatives.old) }
+    ensures basis { OnOk result (D.basis derivatives.new ≡ D.basis derivatives.old) }
+    ensures adds { OnOk result (AddsLevels (D.reading derivatives.new) (D.basis derivatives.new).keys (D.trees derivatives.new) table.old table.new) }
+    ensures inside { IfOk result (λ h. IsHeldKept table.new now (Some h)) }
+    ensures held { IfOk result (λ h. AddsHeld (λ s. s ≡ text.now) (D.reading derivatives.old) (D.trees derivatives.old)
+        (D.trees derivatives.new) (numbers_in (levels_in table.old) now.0) (held_string table.new h)) }
+{
+    let after = level_after_text(derivatives, alloc, table, now, text)?;
+    Ok(Held {
+        blank: is_blank(text),
+        after,
+    })
+}
+
+/// Returns the held string, or the empty one if no string is held.
+pub fn held_or_empty<D: Derivatives>(
+    derivatives: &mut D,
+    alloc: Global,
+    table: &mut LevelTable,
+    now: LevelNumber,
+    string: Option<Held>,
+) -> Result<Held, OutOfMemory>
+    requires kept { AreKept (D.reading derivatives.old) (D.basis derivatives.old).keys (D.trees derivatives.old) table.old }
+    requires now { now.0 < length (levels_in table.old) }
+    requires string { IsHeldKept table.old now string }
+    ensures reading { OnOk result (D.reading derivatives.new ≡ D.reading derivatives.old) }
+    ensures basis { OnOk result (D.basis derivatives.new ≡ D.basis derivatives.old) }
+    ensures adds { OnOk result (AddsLevels (D.reading derivatives.new) (D.basis derivatives.new).keys (D.trees derivatives.new) table.old table.new) }
+    ensures inside { IfOk result (λ h. IsHeldKept table.new now (Some h)) }
+    ensures held { IfOk result (λ h. AddsHeld (IsHeld (D.reading derivatives.old) (D.trees derivatives.old) (numbers_in (levels_in table.old) now.0)
+        (open_string table.old string)) (D.reading derivatives.old) (D.trees derivatives.old) (D.trees derivatives.new)
+        (numbers_in (levels_in table.old) now.0) (held_string table.new h)) }
+{
+    match string {
+        Some(string) => Ok(string),
+        None => hold(derivatives, alloc, table, now, ""),
+    }
+}

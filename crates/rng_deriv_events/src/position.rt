@@ -1,0 +1,111 @@
+// What a matcher keeps between two events.
+ghost use Rattle.std.specs.Prelude.{◌≡◌, ℕ, List, None, OnOk, map};
+ghost use Rattle.rng_model.specs.documents.PyxTrees as trees;
+ghost use Rattle.rng_model.specs.simple.Tree.{Simple};
+ghost use Rattle.rng_model.specs.documents.DocumentViews.{attribute_of};
+ghost use Rattle.rng_model.specs.names.NameViews.{name_of};
+ghost use Rattle.rng_names.specs.plain.Keys.{Keys};
+ghost use Rattle.rng_deriv_laws.specs.plain.LevelEvents.{LevelMatcher, SettlesLevels};
+ghost use Rattle.rng_model.specs.matching.Reading.{Reading};
+ghost use Rattle.rng_deriv_events.specs.views.Positions.{AddsStep, IsPositionOf};
+ghost use Rattle.rng_deriv_events.specs.views.OpenPositions.{IsPositionKept, IsStateKept, open_position, open_state};
+ghost use Rattle.rng_deriv_events.specs.views.States.{state_of};
+
+use crate::closing::{after_elements, after_lone_string};
+use crate::derivatives::Derivatives;
+use crate::held::{Held, hold};
+use crate::state::{State, enter};
+use rng_model::{Attr, Name, OutOfMemory};
+use std::alloc::Global;
+
+/// The position of a matcher in a document.
+#[derive(Drop)]
+pub struct Position {
+    pub state: State,
+    /// Whether the innermost open element has a child element already.
+    pub has_begun: bool,
+    pub held: Option<Held>,
+}
+
+/// Settles the held string, given that an element is beside it. A blank string counts as nothing there (RELAX NG
+/// Specification, section 6.2.7).
+fn settle(position: &mut Position)
+    ensures kept { (g : Reading) (keys : Keys) (trees : List (Simple ℕ)) → IsPositionKept g keys trees position.old
+        → IsStateKept g keys trees position.new.state }
+    ensures settles { (g : Reading) (trees : List (Simple ℕ)) (m : LevelMatcher) → IsPositionOf g trees (open_position position.old) m
+        → SettlesLevels g m.held m.state (state_of trees (open_state position.new.state)) }
+    ensures begun { position.new.has_begun ≡ position.old.has_begun }
+    ensures held { position.new.held ≡ None }
+{
+    let Some(Held { blank, after }) = position.held.take() else {
+        return;
+    };
+    if blank {
+        return;
+    }
+    position.state.now = after;
+}
+
+/// Takes a start tag.
+pub fn after_start<D: Derivatives>(
+    derivatives: &mut D,
+    alloc: Global,
+    position: &mut Position,
+    name: &Name,
+    attrs: &[Attr],
+) -> Result<(), OutOfMemory>
+    requires { IsPositionKept (D.reading derivatives.old) (D.basis derivatives.old).keys (D.trees derivatives.old) position.old }
+    ensures reading { OnOk result (D.reading derivatives.new ≡ D.reading derivatives.old) }
+    ensures basis { OnOk result (D.basis derivatives.new ≡ D.basis derivatives.old) }
+    ensures kept { OnOk result (IsPositionKept (D.reading derivatives.new) (D.basis derivatives.new).keys (D.trees derivatives.new) position.new) }
+    ensures step { OnOk result (AddsStep (D.reading derivatives.old) (trees.a_start (name_of name.now) (map attribute_of attrs.now))
+        (D.trees derivatives.old) (D.trees derivatives.new) (open_position position.old) (open_position position.new)) }
+{
+    settle(position);
+    enter(derivatives, alloc, &mut position.state, name, attrs)?;
+    position.has_begun = false;
+    Ok(())
+}
+
+/// Takes a string.
+pub fn after_text<D: Derivatives>(
+    derivatives: &mut D,
+    alloc: Global,
+    position: &mut Position,
+    text: &str,
+) -> Result<(), OutOfMemory>
+    requires { IsPositionKept (D.reading derivatives.old) (D.basis derivatives.old).keys (D.trees derivatives.old) position.old }
+    ensures reading { OnOk result (D.reading derivatives.new ≡ D.reading derivatives.old) }
+    ensures basis { OnOk result (D.basis derivatives.new ≡ D.basis derivatives.old) }
+    ensures kept { OnOk result (IsPositionKept (D.reading derivatives.new) (D.basis derivatives.new).keys (D.trees derivatives.new) position.new) }
+    ensures step { OnOk result (AddsStep (D.reading derivatives.old) (trees.a_string text.now)
+        (D.trees derivatives.old) (D.trees derivatives.new) (open_position position.old) (open_position position.new)) }
+{
+    let now = position.state.now;
+    let held = hold(derivatives, alloc, &mut position.state.table, now, text)?;
+    position.held = Some(held);
+    Ok(())
+}
+
+/// Takes an end tag.
+pub fn after_end<D: Derivatives>(
+    derivatives: &mut D,
+    alloc: Global,
+    position: &mut Position,
+) -> Result<(), OutOfMemory>
+    requires { IsPositionKept (D.reading derivatives.old) (D.basis derivatives.old).keys (D.trees derivatives.old) position.old }
+    ensures reading { OnOk result (D.reading derivatives.new ≡ D.reading derivatives.old) }
+    ensures basis { OnOk result (D.basis derivatives.new ≡ D.basis derivatives.old) }
+    ensures kept { OnOk result (IsPositionKept (D.reading derivatives.new) (D.basis derivatives.new).keys (D.trees derivatives.new) position.new) }
+    ensures step { OnOk result (AddsStep (D.reading derivatives.old) trees.an_end
+        (D.trees derivatives.old) (D.trees derivatives.new) (open_position position.old) (open_position position.new)) }
+{
+    if position.has_begun {
+        settle(position);
+        return after_elements(derivatives, alloc, &mut position.state);
+    }
+    let string = position.held.take();
+    after_lone_string(derivatives, alloc, &mut position.state, string)?;
+    position.has_begun = true;
+    Ok(())
+}

@@ -1,0 +1,174 @@
+-- What is left of a pattern where no more than two rests are left.
+use Rattle.std.proofs.Common.{Bor, ◌≡◌, ◌∙◌, ◌||◌, inl, inr, ℕ, ◌<◌, ◌↔◌, List, [], ◌∷◌, ◌++◌, length, refl, sym, subst, arith}
+use Rattle.std.proofs.Common.{Bool, true, false, Option, Some, None, Contains}
+use Rattle.std.specs.Prelude.{IfSome}
+use Rattle.std.proofs.lemmas.List.Elements.{Contains-append_cases, Contains-append_left, Contains-append_right, Contains-get_or}
+use Rattle.rng_model.specs.simple.Tree.{Simple, s_not_allowed}
+use Rattle.rng_model.specs.matching.Document.{Attribute, Item, a_text, no_texts, text_and}
+use Rattle.rng_model.specs.matching.GrammarReading.{reading_of}
+use Rattle.rng_model.specs.simple.Table.{Table}
+use Rattle.rng_deriv_laws.specs.plain.Blanks.{strings_alone}
+use Rattle.rng_deriv_laws.proofs.ListFacts.{either_left, either_right, in_either}
+use Rattle.rng_deriv_laws.specs.plain.Restricted.{IsRestricted}
+use Rattle.rng_deriv_laws.specs.plain.Taking.{Takes}
+use Rattle.rng_deriv_table.specs.plain.Reduced.{HasAlternative}
+use Rattle.rng_deriv_table.specs.views.Choices.{IsAlternativeOf, SomeTakes}
+use Rattle.rng_deriv_table.specs.views.Node.{Node}
+use Rattle.rng_deriv_table.specs.views.Trees.{tree_of}
+use Rattle.rng_deriv_table.specs.declared.pattern.PatternNumber.{PatternNumber}
+use Rattle.rng_deriv_table.proofs.Choices.{only_one}
+use Rattle.rng_deriv_table.proofs.Trees.{Longer-refl}
+use Rattle.rng_deriv_ways.specs.plain.Kinds.{Obeys}
+use Rattle.rng_deriv_ways.specs.plain.Ways.{IsInside}
+use Rattle.rng_deriv_ways.specs.declared.way.LeafWay.{LeafWay}
+use Rattle.rng_deriv_ways.specs.declared.way.Place.TheVariants as places
+use Rattle.rng_deriv_ways.proofs.KeptRestrictions.{Obeys-hereditary}
+use Rattle.rng_deriv_texts.specs.plain.After.{AreWaysFor, IsLeft, TellsTaken, place_of}
+use Rattle.rng_deriv_texts.specs.plain.Settling.{AreLeft, IsCovered, IsRestInside, IsSettled, with_told}
+use Rattle.rng_deriv_texts.specs.declared.first.First.{First}
+use Rattle.rng_deriv_texts.specs.declared.first.First.TheVariants as firsts
+use Rattle.rng_deriv_texts.specs.declared.settled.Rest.{Rest}
+use Rattle.rng_deriv_texts.specs.declared.settled.Rest.TheVariants as rest_kinds
+use Rattle.rng_deriv_texts.proofs.RestsOfWays.{contained, leaf_covered, leaf_leaves, leaf_leaves_none, left_behind, takes_nothing, those_same}
+
+pub if_some : {X : Type 0} (o : Option X) (P Q : X → Type 0) → ((x : X) → P x → Q x) → IfSome o P → IfSome o Q
+if_some (Some x) P Q f h = f x h
+if_some None P Q f h = tt
+
+has_one : (m : PatternNumber) → Contains (m ∷ []) m
+has_one m = Contains-get_or (m ∷ []) 0 m (omega arith)
+
+has_none : (m : PatternNumber) → Contains [] m → ⊥
+has_none m (i, h, e) = omega (arith, h)
+
+has_first : (m n : PatternNumber) → Contains (m ∷ n ∷ []) m
+has_first m n = Contains-append_left (m ∷ []) (n ∷ []) m (has_one m)
+
+has_second : (m n : PatternNumber) → Contains (m ∷ n ∷ []) n
+has_second m n = Contains-append_right (m ∷ []) (n ∷ []) n (has_one n)
+
+-- ---- one more way
+
+module _ (t : Table) (ns : List Node) (first : First) (ws : List LeafWay) (w : LeafWay) (inside : IsInside ns w) where
+  pub covered_more : (r : Rest) → IsCovered r w → AreLeft t ns first ws r → AreLeft t ns first (ws ++ w ∷ []) r
+  covered_more rest_kinds.Unknown c was = tt
+  covered_more rest_kinds.Nothing c was = absurd c
+  covered_more (rest_kinds.Only r) c was =
+      leaf_covered t ns ns ns first ws w (r ∷ []) (Longer-refl ns) (Longer-refl ns) inside was r (has_one r) c
+  covered_more (rest_kinds.Two r q) (inl c) was =
+      leaf_covered t ns ns ns first ws w (r ∷ q ∷ []) (Longer-refl ns) (Longer-refl ns) inside was r (has_first r q) c
+  covered_more (rest_kinds.Two r q) (inr c) was =
+      leaf_covered t ns ns ns first ws w (r ∷ q ∷ []) (Longer-refl ns) (Longer-refl ns) inside was q (has_second r q) c
+
+  pub told_more : (told : Option Bool) (r : Rest) → IfSome told (TellsTaken (reading_of t) first (tree_of t ns w.leaf.0))
+      → AreLeft t ns first ws r → AreLeft t ns first (ws ++ w ∷ []) (with_told told r w)
+  told_more None r tells was = tt
+  told_more (Some false) rest_kinds.Unknown tells was = tt
+  told_more (Some false) rest_kinds.Nothing tells was =
+      leaf_leaves_none t ns ns ns first ws w [] (Longer-refl ns) (Longer-refl ns) inside was false refl tells
+  told_more (Some false) (rest_kinds.Only r) tells was =
+      leaf_leaves_none t ns ns ns first ws w (r ∷ []) (Longer-refl ns) (Longer-refl ns) inside was false refl tells
+  told_more (Some false) (rest_kinds.Two r q) tells was =
+      leaf_leaves_none t ns ns ns first ws w (r ∷ q ∷ []) (Longer-refl ns) (Longer-refl ns) inside was false refl tells
+  told_more (Some true) rest_kinds.Unknown tells was = tt
+  told_more (Some true) rest_kinds.Nothing tells was =
+      leaf_leaves t ns ns ns first ws w [] (Longer-refl ns) (Longer-refl ns) inside was true (w.rest ∷ []) refl refl tells
+  told_more (Some true) (rest_kinds.Only r) tells was =
+      leaf_leaves t ns ns ns first ws w (r ∷ []) (Longer-refl ns) (Longer-refl ns) inside was true (r ∷ w.rest ∷ []) refl refl tells
+  told_more (Some true) (rest_kinds.Two r q) tells was = tt
+
+-- ---- all ways
+
+pub settled_by : (t : Table) (ns : List Node) (first : First) (p : Simple ℕ) (ws : List LeafWay) (r : Rest) → AreWaysFor t ns first p ws
+    → AreLeft t ns first ws r → IsSettled t ns first p r
+settled_by t ns first p ws rest_kinds.Unknown all left = tt
+settled_by t ns first p ws rest_kinds.Nothing all left = (ws, all, left)
+settled_by t ns first p ws (rest_kinds.Only r) all left = (ws, all, left)
+settled_by t ns first p ws (rest_kinds.Two r q) all left = (ws, all, left)
+
+pub rest_inside : (t : Table) (ns : List Node) (first : First) (p : Simple ℕ) (r : Rest) → IsSettled t ns first p r → IsRestInside ns r
+rest_inside t ns first p rest_kinds.Unknown settled = tt
+rest_inside t ns first p rest_kinds.Nothing settled = tt
+rest_inside t ns first p (rest_kinds.Only r) (ws, all, some) = contained (λ m. m.0 < length ns) (r ∷ []) r some.inside (has_one r)
+rest_inside t ns first p (rest_kinds.Two r q) (ws, all, some) = some.inside
+
+-- what the rest of some ways tells
+pub told : (t : Table) (old new : List Node) (first : First) (number : PatternNumber) (r : Rest) (o : Option PatternNumber) (left : PatternNumber) → o ≡ Some left
+    → IfSome o (λ left. (f : First) (n : PatternNumber) → IsSettled t old f (tree_of t old n.0) r → IsLeft t old new f n left)
+    → IsSettled t old first (tree_of t old number.0) r → IsLeft t old new first number left
+told t old new first number r o left is all settled =
+    subst (λ o. IfSome o (λ left. (f : First) (n : PatternNumber) → IsSettled t old f (tree_of t old n.0) r → IsLeft t old new f n left)) is all first number settled
+
+module _ (t : Table) (ns : List Node) (first : First) (number : PatternNumber) where
+  pub only_left : (rest : PatternNumber) → IsSettled t ns first (tree_of t ns number.0) (rest_kinds.Only rest) → IsLeft t ns ns first number rest
+  only_left rest (ws, all, some) =
+      let g = reading_of t in
+      let In : PatternNumber → Type 0 = λ m. m.0 < length ns in
+      let Kept : PatternNumber → Type 0 = λ m. Obeys (place_of first) (tree_of t ns m.0) in record {
+        inside = contained In (rest ∷ []) rest some.inside (has_one rest);
+        law = λ o. those_same g first (tree_of t ns number.0) _ _ (λ xs ks.
+            let Own : PatternNumber → Type 0 = λ m. Takes g (tree_of t ns m.0) xs ks in
+            let f = some.takes (all.kept o) xs ks in (
+              λ h. f.0 (rest, has_one rest, h),
+              λ h. let d = f.1 h in subst Own (sym (only_one rest d.0 d.1)) d.2,
+            )) (all.law o);
+        kept = λ o. contained Kept (rest ∷ []) rest (some.kept (all.kept o)) (has_one rest);
+      }
+
+  -- a choice of the two
+  pub two_left : (new : List Node) (rest other n : PatternNumber) → IsSettled t ns first (tree_of t ns number.0) (rest_kinds.Two rest other)
+      → n.0 < length new → ((s : Simple ℕ) → HasAlternative (tree_of t new n.0) s → IsAlternativeOf (tree_of t ns) (rest ∷ other ∷ []) s)
+      → ((xs : List Attribute) (ks : List Item) → Takes (reading_of t) (tree_of t new n.0) xs ks ↔ SomeTakes (reading_of t) (tree_of t ns) (rest ∷ other ∷ []) xs ks)
+      → IsLeft t ns new first number n
+  two_left new rest other n (ws, all, some) inside alternatives matches =
+      left_behind t ns ns ns new first number n ws (rest ∷ other ∷ []) all some inside alternatives matches
+
+  pub nothing_left : (new : List Node) (rest : PatternNumber) → IsSettled t ns first (tree_of t ns number.0) rest_kinds.Nothing → rest.0 < length new
+      → tree_of t new rest.0 ≡ s_not_allowed → IsLeft t ns new first number rest
+  nothing_left new rest (ws, all, some) inside is = record {
+    inside = inside;
+    law = λ o. those_same (reading_of t) first (tree_of t ns number.0) _ _ (λ xs ks.
+        let f = some.takes (all.kept o) xs ks in (
+          λ h. absurd (takes_nothing (subst (λ p. Takes (reading_of t) p xs ks) is h)),
+          λ h. let d = f.1 h in absurd (has_none d.0 d.1),
+        )) (all.law o);
+    kept = λ o. subst (Obeys (place_of first)) (sym is) (Obeys-hereditary (place_of first)).of_not_allowed;
+  }
+
+-- ---- a string alone
+
+module _ (t : Table) (ns : List Node) (s : Bor (List ℕ)) (number : PatternNumber) where
+  abbrev TakesIt : Type 0
+  TakesIt = Takes (reading_of t) (tree_of t ns number.0) [] (a_text s.now ∷ [])
+
+  pub only_told : (rest : PatternNumber) (b : Bool) → IsSettled t ns (firsts.Text places.Content s) (tree_of t ns number.0) (rest_kinds.Only rest)
+      → ((b ≡ true) ↔ Takes (reading_of t) (tree_of t ns rest.0) [] []) → IsRestricted (tree_of t ns number.0) → (b ≡ true) ↔ TakesIt
+  only_told rest b settled nullable o =
+      let left = only_left t ns (firsts.Text places.Content s) number rest settled in
+      let law = left.law o [] (strings_alone (text_and no_texts)) in
+      (λ e. law.0 (nullable.0 e), λ d. nullable.1 (law.1 d))
+
+  pub two_told : (rest other : PatternNumber) (a b c : Bool)
+      → IsSettled t ns (firsts.Text places.Content s) (tree_of t ns number.0) (rest_kinds.Two rest other)
+      → ((a ≡ true) ↔ Takes (reading_of t) (tree_of t ns rest.0) [] []) → ((b ≡ true) ↔ Takes (reading_of t) (tree_of t ns other.0) [] [])
+      → c ≡ a || b → IsRestricted (tree_of t ns number.0) → (c ≡ true) ↔ TakesIt
+  two_told rest other a b c (ws, all, some) first second is o =
+      let Own : PatternNumber → Type 0 = λ m. Takes (reading_of t) (tree_of t ns m.0) [] [] in
+      let law = all.law o [] (strings_alone (text_and no_texts)) in
+      let f = some.takes (all.kept o) [] [] in (
+        λ e. law.0 (f.0 (elim (in_either a b (sym is ∙ e)) [
+          | inl h ↦ (rest, has_first rest other, first.0 h)
+          | inr h ↦ (other, has_second rest other, second.0 h)
+        ])),
+        λ d. let m = f.1 (law.1 d) in is ∙ elim (Contains-append_cases (rest ∷ []) (other ∷ []) m.0 m.1) [
+          | inl h ↦ either_left a b (first.1 (subst Own (sym (only_one rest m.0 h)) m.2))
+          | inr h ↦ either_right a b (second.1 (subst Own (sym (only_one other m.0 h)) m.2))
+        ],
+      )
+
+  pub nothing_told : IsSettled t ns (firsts.Text places.Content s) (tree_of t ns number.0) rest_kinds.Nothing → IsRestricted (tree_of t ns number.0)
+      → (false ≡ true) ↔ TakesIt
+  nothing_told (ws, all, some) o =
+      let law = all.law o [] (strings_alone (text_and no_texts)) in
+      let f = some.takes (all.kept o) [] [] in
+      (λ e. absurd (cc), λ d. let m = f.1 (law.1 d) in absurd (has_none m.0 m.1))

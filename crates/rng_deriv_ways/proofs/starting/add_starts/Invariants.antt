@@ -1,0 +1,7 @@
+use Rattle.std.proofs.Common.{take}
+use Rattle.rng_model.specs.names.NameViews.{name_of}
+use Rattle.rng_deriv_ways.specs.plain.Starting.{AreBodies}
+use Rattle.rng_deriv_ways.proofs.starting.add_starts.Given as goal
+
+abbrev pub invariant-ways : goal.invariant-ways
+invariant-ways l = AreBodies l.grammar l.table l.numbers (name_of l.name) (take l.way-index l.ways) l.starts.items

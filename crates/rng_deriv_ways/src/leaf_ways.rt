@@ -1,0 +1,82 @@
+// The ways of a pattern to take a string or an attribute.
+ghost use Rattle.std.specs.Prelude.{◌<◌, IfOk, OnOk, length};
+ghost use Rattle.rng_deriv_table.specs.views.PatternTable.{Longer};
+ghost use Rattle.rng_deriv_table.specs.views.Trees.{tree_of};
+ghost use Rattle.rng_deriv_ways.specs.views.KnownWays.{AreAllKnown, AreKnown};
+ghost use Rattle.rng_deriv_ways.specs.plain.Ways.{AreWaysOf};
+ghost use Rattle.rng_deriv_ways.specs.declared.way.Kind.TheVariants as kinds;
+
+use crate::by_key::ways_by_key;
+use crate::deep_ways::ways_of;
+use crate::known::{Known, KnownWays, keep_last};
+use crate::spans::add_spans;
+use crate::way::{Candidates, Kind, Ways};
+use crate::ways::is_kept;
+use rng_deriv_table::{PatternNumber, PatternTable};
+use rng_model::{Name, OutOfMemory, SimpleGrammar};
+use rng_names::NameKeys;
+use std::alloc::Global;
+
+/// Returns the ways of a pattern to take a string first. Fails only when out of memory. Those of its parts are kept.
+pub fn text_ways(
+    alloc: Global,
+    grammar: &SimpleGrammar,
+    table: &mut PatternTable,
+    known: &mut KnownWays,
+    number: PatternNumber,
+) -> Result<Ways, OutOfMemory>
+    requires inside { number.0 < length table.old }
+    requires known { AreKnown grammar.now table.old kinds.Text known.old }
+    ensures longer { OnOk result (Longer table.old table.new) }
+    ensures known { OnOk result (AreKnown grammar.now table.new kinds.Text known.new) }
+    ensures ways { IfOk result (λ ws. AreWaysOf grammar.now table.new kinds.Text (tree_of grammar.now table.old number.0) ws.items) }
+{
+    ways_of(
+        alloc,
+        grammar,
+        table,
+        known,
+        Candidates::Any,
+        Kind::Text,
+        number,
+    )
+}
+
+/// Returns the ways of a pattern to take an attribute with this name first. They are those for the representative of
+/// its key, which no name class distinguishes from the name. Fails only when out of memory. Those of its parts are kept.
+/// Those of the pattern are kept as the last ones, if its ways are kept.
+pub fn attribute_ways(
+    alloc: Global,
+    grammar: &SimpleGrammar,
+    keys: &NameKeys,
+    table: &mut PatternTable,
+    known: &mut Known,
+    name: &Name,
+    number: PatternNumber,
+) -> Result<Ways, OutOfMemory>
+    requires inside { number.0 < length table.old }
+    requires known { AreAllKnown grammar.now keys.now table.old known.old }
+    ensures longer { OnOk result (Longer table.old table.new) }
+    ensures known { OnOk result (AreAllKnown grammar.now keys.now table.new known.new) }
+    ensures ways { IfOk result (λ ws. AreWaysOf grammar.now table.new (kinds.Attribute name.entry) (tree_of grammar.now table.old number.0) ws.items) }
+{
+    add_spans(table, &mut known.spans)?;
+    let key = keys.key(name);
+    let takers = known.attribute_takers.of(key);
+    let candidates = Candidates::Attributes(takers, known.spans.as_slice());
+    let ways = ways_by_key(
+        alloc,
+        grammar,
+        table,
+        &mut known.attributes,
+        key,
+        candidates,
+        Kind::Attribute(keys.name(key)),
+        number,
+    )?;
+    if !is_kept(table, number) {
+        return Ok(ways);
+    }
+    keep_last(alloc, &mut known.last, number, key, ways.as_slice())?;
+    Ok(ways)
+}

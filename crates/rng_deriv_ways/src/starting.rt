@@ -1,0 +1,155 @@
+// Patterns after a start tag.
+ghost use Rattle.std.specs.Prelude.{◌≡◌, [], ◌<◌, IfOk, OnOk, length, slice_index_or};
+ghost use Rattle.rng_names.specs.plain.Keys.{name_at};
+ghost use Rattle.rng_model.specs.names.NameViews.{name_of};
+ghost use Rattle.rng_deriv_table.specs.views.PatternTable.{Longer};
+ghost use Rattle.rng_deriv_table.specs.views.Trees.{tree_of};
+ghost use Rattle.rng_deriv_ways.specs.views.KnownWays.{AreAllKnown, AreKnownByKey, IsElementKind};
+ghost use Rattle.rng_deriv_ways.specs.declared.way.Kind.{Kind};
+ghost use Rattle.rng_deriv_ways.specs.plain.Ways.{AreInside, AreWaysOf};
+ghost use Rattle.rng_deriv_ways.specs.plain.Starting.{AreBodies, AreStarts, IsBodyOf, IsReady};
+ghost use Rattle.rng_deriv_ways.specs.plain.Takers.{AreCandidates};
+
+use crate::by_key::ways_by_key;
+use crate::known::{Known, KnownByKey};
+use crate::leaves::element_takes;
+use crate::way::{Candidates, Kind, LeafWay, Ways};
+use rng_deriv_table::{Pattern, PatternNumber, PatternTable};
+use rng_model::{Name, OutOfMemory, PatternId, SimpleGrammar};
+use rng_names::{NameKey, NameKeys};
+use smallvec::SmallVec;
+use std::alloc::Global;
+
+/// Returns the bodies by which a pattern takes an element with the representative name of a key, each with what is left
+/// after the element.
+///
+/// RELAX NG Specification, section 6.2.7. `numbers` are those of the grammar's patterns, and `keys` those of its names.
+/// Fails only when out of memory. The ways of the pattern's parts are kept in `known`.
+pub fn start(
+    alloc: Global,
+    grammar: &SimpleGrammar,
+    keys: &NameKeys,
+    table: &mut PatternTable,
+    known: &mut Known,
+    numbers: &[PatternNumber],
+    number: PatternNumber,
+    key: NameKey,
+) -> Result<Ways, OutOfMemory>
+    requires inside { number.0 < length table.old }
+    requires key { key.0 < length keys.now.names }
+    requires ready { IsReady grammar.now table.old numbers.now }
+    requires known { AreAllKnown grammar.now keys.now table.old known.old }
+    ensures longer { OnOk result (Longer table.old table.new) }
+    ensures known { OnOk result (AreAllKnown grammar.now keys.now table.new known.new) }
+    ensures starts { IfOk result (λ ws. AreStarts grammar.now table.new numbers.now (tree_of grammar.now table.old number.0)
+        (name_at keys.now key.0) ws.items) }
+{
+    known.skips.add(alloc, table)?;
+    let name = keys.name(key);
+    let takers = known.takers.of(key);
+    let candidates = Candidates::Elements(takers, known.alike.as_slice(), &known.skips);
+    let ways = element_ways(
+        alloc,
+        grammar,
+        keys,
+        table,
+        &mut known.elements,
+        candidates,
+        key,
+        number,
+    )?;
+    let mut starts = SmallVec::new(alloc);
+    add_starts(grammar, table, numbers, name, ways.as_slice(), &mut starts)?;
+    Ok(starts)
+}
+
+/// Returns the ways of a pattern to take an element with the representative name of a key.
+fn element_ways(
+    alloc: Global,
+    grammar: &SimpleGrammar,
+    keys: &NameKeys,
+    table: &mut PatternTable,
+    known: &mut KnownByKey,
+    candidates: Candidates,
+    key: NameKey,
+    number: PatternNumber,
+) -> Result<Ways, OutOfMemory>
+    requires inside { number.0 < length table.old }
+    requires key { key.0 < length keys.now.names }
+    requires known { AreKnownByKey IsElementKind grammar.now keys.now table.old known.old }
+    requires candidates { (kind : Kind) → IsElementKind (name_at keys.now key.0) kind → AreCandidates grammar.now table.old kind candidates }
+    ensures longer { OnOk result (Longer table.old table.new) }
+    ensures known { OnOk result (AreKnownByKey IsElementKind grammar.now keys.now table.new known.new) }
+    ensures ways { IfOk result (λ ws. (kind : Kind) × IsElementKind (name_at keys.now key.0) kind
+        × AreWaysOf grammar.now table.new kind (tree_of grammar.now table.old number.0) ws.items) }
+{
+    let name = keys.name(key);
+    ways_by_key(
+        alloc,
+        grammar,
+        table,
+        known,
+        key,
+        candidates,
+        Kind::Element(name),
+        number,
+    )
+}
+
+/// Returns the body of a leaf that takes an element with this name.
+fn body(
+    grammar: &SimpleGrammar,
+    table: &PatternTable,
+    numbers: &[PatternNumber],
+    leaf: PatternNumber,
+    name: &Name,
+) -> Option<PatternNumber>
+    requires inside { leaf.0 < length table.now }
+    requires ready { IsReady grammar.now table.now numbers.now }
+    ensures { IsBodyOf grammar.now table.now numbers.now (tree_of grammar.now table.now leaf.0) (name_of name.now) result }
+{
+    let Pattern::Element(element) = table.pattern(leaf) else {
+        return None;
+    };
+    if !element_takes(grammar, *element, Kind::Element(name)) {
+        return None;
+    }
+    match grammar.element(*element) {
+        Some((_, body)) => Some(number_at(numbers, *body)),
+        None => None,
+    }
+}
+
+/// Returns the number of the grammar's pattern at a position.
+pub fn number_at(numbers: &[PatternNumber], position: PatternId) -> PatternNumber
+    requires { position.0 < length numbers.now }
+    ensures { result ≡ slice_index_or numbers.now position.0 (record { 0 = 0 }) }
+{
+    numbers[position.0]
+}
+
+/// Adds the bodies of the leaves that take an element with this name.
+fn add_starts(
+    grammar: &SimpleGrammar,
+    table: &PatternTable,
+    numbers: &[PatternNumber],
+    name: &Name,
+    ways: &[LeafWay],
+    starts: &mut Ways,
+) -> Result<(), OutOfMemory>
+    requires ready { IsReady grammar.now table.now numbers.now }
+    requires ways { AreInside table.now ways.now }
+    requires none { starts.old.items ≡ [] }
+    ensures starts { OnOk result (AreBodies grammar.now table.now numbers.now (name_of name.now) ways.now starts.new.items) }
+{
+    'ways: for way in ways {
+        let Some(body) = body(grammar, table, numbers, way.leaf, name) else {
+            continue;
+        };
+        starts.push(LeafWay {
+            leaf: body,
+            rest: way.rest,
+        })?;
+    }
+    Ok(())
+}

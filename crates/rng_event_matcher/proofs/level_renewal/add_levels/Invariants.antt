@@ -1,6 +1,0 @@
-use Rattle.std.proofs.Common.{◌≡◌, ◌++◌, take}
-use Rattle.rng_event_matcher.specs.views.LevelRenewal.{rests_in}
-use Rattle.rng_event_matcher.proofs.level_renewal.add_levels.Given as goal
-
-abbrev pub invariant-levels : goal.invariant-levels
-invariant-levels l = l.held.items ≡ l.fn.held.items ++ rests_in (take l.level-index l.levels)

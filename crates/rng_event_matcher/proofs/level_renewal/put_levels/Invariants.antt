@@ -1,5 +1,0 @@
-use Rattle.rng_event_matcher.proofs.LevelRenewal.{ArePut}
-use Rattle.rng_event_matcher.proofs.level_renewal.put_levels.Given as goal
-
-abbrev pub invariant-levels : goal.invariant-levels
-invariant-levels l = ArePut l.fn.levels.items l.numbers l.level-index l.level-items l.behind

@@ -1,8 +1,0 @@
-use Rattle.std.proofs.Common.{◌≡◌, ℕ, ◌<◌, slice_get, Some}
-use Rattle.rng_graph.specs.plain.MemberDepths.{IsDeepElement}
-use Rattle.rng_graph.specs.declared.graph.GraphElement.{GraphElement}
-use Rattle.rng_graph.proofs.depth_table.is_too_deep.Given as goal
-
-abbrev pub invariant-elements : goal.invariant-elements
-invariant-elements l =
-    (k : ℕ) (e : GraphElement) → k < l.element-index → slice_get l.graph.elements.items k ≡ Some e → IsDeepElement l.definitions e → ⊥

@@ -1,6 +1,0 @@
-use Rattle.std.proofs.Common.{◌≡◌, [], ◌∷◌, ◌++◌, map, take}
-use Rattle.rng_graph.specs.declared.order.Task.TheVariants as task
-use Rattle.rng_graph.proofs.order.enter.Given as goal
-
-abbrev pub invariant-loop-i : goal.invariant-loop-i
-invariant-loop-i l = l.tasks.items ≡ (l.fn.tasks.items ++ task.Leave l.j ∷ []) ++ map task.Enter (take l.i-index l.mentions)

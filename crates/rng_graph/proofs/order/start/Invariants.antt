@@ -1,5 +1,0 @@
-use Rattle.rng_graph.specs.plain.Search.{IsStart}
-use Rattle.rng_graph.proofs.order.start.Given as goal
-
-abbrev pub invariant-loop-k : goal.invariant-loop-k
-invariant-loop-k l = IsStart l.k l.marks.items l.tasks.items

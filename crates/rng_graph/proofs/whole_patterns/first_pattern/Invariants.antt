@@ -1,5 +1,0 @@
-use Rattle.rng_graph.proofs.WholePatterns.{IsFirst}
-use Rattle.rng_graph.proofs.whole_patterns.first_pattern.Given as goal
-
-abbrev pub invariant-loop-index : goal.invariant-loop-index
-invariant-loop-index l = IsFirst l.rows l.index l.count l.end

@@ -1,5 +1,0 @@
-use Rattle.std.proofs.Common.{◌+◌, ◌-◌, length}
-use Rattle.rng_levels.proofs.level_index.make_place.Given as goal
-
-abbrev pub decreases-places : goal.decreases-places
-decreases-places l = (l.number + 1) - length l.near.items

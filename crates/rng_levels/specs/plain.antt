@@ -1,2 +1,0 @@
--- Plain functions that the code computes.
-pub mod Bits

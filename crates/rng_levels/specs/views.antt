@@ -1,2 +1,0 @@
--- Views of types.
-pub mod LevelTable

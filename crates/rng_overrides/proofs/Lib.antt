@@ -1,0 +1,3 @@
+pub mod InsertedKeys
+mod NamesThatOverride
+mod AppendedLists

@@ -1,0 +1,3 @@
+-- Views of types, and invariants.
+pub mod Gathered
+pub mod OverridingNames

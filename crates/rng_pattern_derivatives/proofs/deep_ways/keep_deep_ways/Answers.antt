@@ -1,6 +1,0 @@
-use Rattle.rng_pattern_derivatives.proofs.AttributeTakers.{candidates_longer}
-use Rattle.rng_pattern_derivatives.proofs.deep_ways.keep_deep_ways.Goals as goal
-
-pub take_step-requires-clause-candidates : goal.take_step-requires-clause-candidates
-take_step-requires-clause-candidates c =
-    candidates_longer c.args.grammar.now c.args.table.now c.steps.table c.steps.invariant.longer c.args.kind c.args.candidates c.requires.candidates

@@ -1,7 +1,0 @@
-use Rattle.rng_pattern_derivatives.proofs.KnownWays.{known_longer}
-use Rattle.rng_pattern_derivatives.proofs.deep_ways.take_step.Goals as goal
-
-pub returns-in_ok-add_beginnings-in-Some-Parts-clause-known : goal.returns-in_ok-add_beginnings-in-Some-Parts-clause-known
-returns-in_ok-add_beginnings-in-Some-Parts-clause-known c =
-    known_longer c.args.grammar.now c.args.table.now c.add_beginnings.new.table c.args.kind c.in_ok-add_beginnings-in-Some-Parts.ensures.longer
-    c.args.known.now c.requires.known

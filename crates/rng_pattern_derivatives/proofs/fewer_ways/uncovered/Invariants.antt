@@ -1,6 +1,0 @@
-use Rattle.std.proofs.Common.{take}
-use Rattle.rng_pattern_derivatives.specs.plain.FewerWays.{AreUncovered}
-use Rattle.rng_pattern_derivatives.proofs.fewer_ways.uncovered.Given as goal
-
-abbrev pub invariant-seconds : goal.invariant-seconds
-invariant-seconds l = AreUncovered l.table l.fn.second l.firsts (take l.way-index l.way-items) l.left.items

@@ -1,7 +1,0 @@
-use Rattle.std.proofs.Common.{take}
-use Rattle.rng_model.specs.names.NameViews.{name_of}
-use Rattle.rng_pattern_derivatives.specs.plain.Starting.{AreBodies}
-use Rattle.rng_pattern_derivatives.proofs.starting.add_starts.Given as goal
-
-abbrev pub invariant-ways : goal.invariant-ways
-invariant-ways l = AreBodies l.grammar l.table l.numbers (name_of l.name) (take l.way-index l.ways) l.starts.items

@@ -1,5 +1,0 @@
-use Rattle.std.proofs.Common.{◌+◌}
-use Rattle.rng_pattern_table.proofs.pattern_table.PatternTable.+balanced.Given as goal
-
-abbrev pub decreases-balanced : goal.decreases-balanced
-decreases-balanced l = l.first.0 + l.second.0

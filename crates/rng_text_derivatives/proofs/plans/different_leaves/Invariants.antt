@@ -1,7 +1,0 @@
-use Rattle.std.proofs.Common.{All, List, ◌<◌, length}
-use Rattle.rng_pattern_table.specs.views.Node.{Node}
-use Rattle.rng_pattern_derivatives.specs.plain.Ways.{AreInside}
-use Rattle.rng_text_derivatives.proofs.plans.different_leaves.Given as goal
-
-abbrev pub invariant-ways : goal.invariant-ways
-invariant-ways l = (ns : List Node) → AreInside ns l.ways → All (λ m. m.0 < length ns) l.leaves.items

@@ -1,6 +1,0 @@
-use Rattle.std.proofs.Common.{take}
-use Rattle.rng_pattern_derivatives.specs.views.Plans.{AreRestsBy}
-use Rattle.rng_text_derivatives.proofs.plans.rests_by.Given as goal
-
-abbrev pub invariant-ways : goal.invariant-ways
-invariant-ways l = AreRestsBy l.leaves l.taken (take l.way-index l.ways) l.rests.items

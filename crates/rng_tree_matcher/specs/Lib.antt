@@ -1,2 +1,0 @@
-pub mod plain
-pub mod views

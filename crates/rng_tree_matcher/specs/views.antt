@@ -1,2 +1,0 @@
--- Views of types, and invariants.
-pub mod PatternTable

@@ -1,0 +1,62 @@
+#!/usr/bin/env python3
+"""Quick tests of what the timers share:   dev/bench/test.py"""
+import contextlib
+import io
+import pathlib
+import sys
+import unittest
+
+sys.dont_write_bytecode = True
+sys.path.insert(0, str(pathlib.Path(__file__).resolve().parent))
+from measuring import Table, answer, below, spent, took, wanted  # noqa: E402
+from workloads import as_xml  # noqa: E402
+
+SHELL = ["/bin/sh", "-c"]
+
+
+class Measuring(unittest.TestCase):
+    """Runs of small programs."""
+
+    def test_a_run(self):
+        for has_memory in (True, False):
+            run = took([*SHELL, "echo \\ a; exit 3"], has_memory=has_memory)
+            self.assertEqual((run.printed, run.status, answer(run)), ("a", 3, "a"))
+            self.assertGreater(run.clock, 0)
+            self.assertGreater(run.memory, 0)
+
+    def test_standard_input(self):
+        self.assertEqual(took(["cat"]).printed, "")
+        self.assertEqual(took(["cat"], pieces=[b"a", b"b"] * 3).printed, "ababab")
+        self.assertEqual(took(["wc", "-l"], stdin=__file__).printed, str(pathlib.Path(__file__).read_text(encoding="utf-8").count("\n")))
+
+    def test_a_program_that_wants_no_more(self):
+        self.assertEqual(took(["true"], pieces=[bytes(100_000)] * 100).status, 0)
+
+    def test_a_run_that_takes_too_long(self):
+        run = took([*SHELL, "sleep 60"], seconds=0.2)
+        self.assertEqual((run.status, answer(run, 0.2)), (None, "given up after 0.2 s"))
+        self.assertLess(run.clock, 30_000)
+
+    def test_a_run_that_fails(self):
+        self.assertEqual(answer(took(["false"])), "status 1")
+        with self.assertRaisesRegex(SystemExit, "the work: status 1"):
+            wanted(took(["false"]), "the work")
+
+    def test_a_call(self):
+        found, clock, processor = spent(lambda: 7)
+        self.assertEqual((found, clock >= 0, processor >= 0), (7, True, True))
+
+    def test_a_table(self):
+        with contextlib.redirect_stdout(io.StringIO()) as printed:
+            Table("A", "B").row(1, "x")
+        self.assertEqual(printed.getvalue(), "| A | B |\n|---|---|\n| 1 | x |\n")
+
+    def test_crates_below(self):
+        self.assertEqual(set(below("pyx indexmap")), {"pyx", "rng_model"})
+
+    def test_xml_of_a_document(self):
+        self.assertEqual(as_xml("(a\nAx 1 2\nAy \n(b\n)b\n-t\n)a\n"), '<a x="1 2" y=""><b></b>t</a>')
+
+
+if __name__ == "__main__":
+    unittest.main()

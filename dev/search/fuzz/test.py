@@ -1,0 +1,140 @@
+#!/usr/bin/env python3
+"""A quick test of the fuzz tool:   dev/search/fuzz/test.py [PROGRAM]
+
+Some cases of a fixed seed find nothing. In a program with a planted fault the fault is found, and the case is made small. The same holds of documents in
+XML, for the `rncv-xml` in the folder that RNCV_XML_PROGRAMS names.
+"""
+import os
+import pathlib
+import subprocess
+import sys
+import tempfile
+import unittest
+
+import xml_differences
+import xml_documents
+import xml_judges
+import xml_run
+
+HERE = pathlib.Path(__file__).resolve().parent
+PROGRAM = HERE.parents[2] / "crates/rncv/out/rncv"
+RNCV_XML = pathlib.Path(os.environ.get("RNCV_XML_PROGRAMS", HERE.parents[2] / "build/xml")).resolve() / "rncv-xml"
+# It calls a valid document invalid if the schema has an interleave.
+FAULTY = """#!/bin/sh
+answer=$("$REAL_PROGRAM" "$@")
+status=$?
+if [ "$answer" = valid ] && grep -q '&' "$2"; then
+  echo 'invalid line 1'
+  exit 1
+fi
+printf '%s\\n' "$answer"
+exit $status
+"""
+# It reports each invalid document at its first line.
+HASTY = """#!/bin/sh
+answer=$("$REAL_PROGRAM" "$@")
+status=$?
+printf '%s\\n' "$answer" | sed 's/^invalid line .*/invalid line 1/'
+exit $status
+"""
+
+
+# It ends by a signal if a document has a section of CDATA.
+CRASHING = """#!/bin/sh
+for name; do
+  case $name in *.xml) grep -q 'CDATA' "$name" && kill -SEGV $$ ;; esac
+done
+exec "$REAL_PROGRAM" "$@"
+"""
+
+
+def fuzz(*words):
+    run = subprocess.run([sys.executable, "-B", HERE / "run.py", "--no-jing", *map(str, words)], capture_output=True, text=True,
+                         env={**os.environ, "REAL_PROGRAM": str(PROGRAM), "RNCV_LIBRARY": ""})
+    return run.returncode, run.stdout + run.stderr
+
+
+class FuzzTest(unittest.TestCase):
+    def test_that_nothing_is_found(self):
+        status, reported = fuzz("--seed", "test", "--cases", 50, PROGRAM)
+        self.assertEqual(status, 0, reported)
+        self.assertIn("0 faults found", reported)
+
+    def found(self, text, check):
+        """What is found in a faulty program: the schema, the document and the report."""
+        with tempfile.TemporaryDirectory() as room:
+            faulty = pathlib.Path(room, "faulty")
+            faulty.write_text(text)
+            faulty.chmod(0o755)
+            status, reported = fuzz("--seed", "test", "--minutes", 1, "--most", 1, "--found", pathlib.Path(room, "found"), faulty)
+            self.assertEqual(status, 1, reported)
+            case = pathlib.Path(room, "found", check + "-0")
+            return tuple((case / it).read_text() for it in ("plain/s.rnc", "document.pyx", "report.txt"))
+
+    def test_that_a_wrong_answer_is_found_and_made_small(self):
+        schema, document, report = self.found(FAULTY, "matcher")
+        self.assertLess(len(schema), 80, report)
+        self.assertLess(len(document.splitlines()), 6, report)
+        self.assertIn("again: dev/search/fuzz/run.py --seed test --from ", report)
+
+    def test_that_a_hasty_line_is_found(self):
+        schema, _, report = self.found(HASTY, "continuations")
+        self.assertLess(len(schema), 80, report)
+
+
+class XmlTest(unittest.TestCase):
+    """`xml_run.py` without jing: the runs of rncv-xml alone are looked at."""
+
+    def test_that_parts_join_to_the_document(self):
+        for number in range(50):
+            data = xml_documents.mutant(number)
+            for split in (xml_documents.markup, xml_documents.tokens, xml_documents.characters):
+                self.assertEqual(b"".join(split(data)), data)
+            self.assertEqual(data, xml_documents.mutant(number))
+
+    def test_that_each_explanation_is_in_the_table(self):
+        table = (HERE.parents[2] / "docs/XML.md").read_text(encoding="utf-8")
+        self.assertEqual([key for key in sorted(xml_differences.KEYS) if f"\n| `{key}` | " not in table], [])
+
+    def test_that_a_difference_is_explained(self):
+        said = xml_judges.Said
+        for ours, theirs, data, agreed, key in (
+                (said("outside", "external entity 's.ent' is not loaded: outside the profile"), said("valid"), b"<a/>", None, "unread"),
+                (said("valid"), said("malformed"), "<\ua000/>".encode(), "valid", "names"),
+                (said("valid"), said("malformed"), "<\ua000/>".encode(), "malformed", None),
+                (said("valid"), said("malformed"), b"<?xml version='1.7'?><a/>", "valid", "versions"),
+                (said("malformed"), said("valid"), b"<?xml version='1.0' encoding='EUC-JP'?><a>\xa4</a>", None, "jing-bytes"),
+                (said("malformed"), said("valid"), b"<a/>", None, None)):
+            found = xml_differences.explanation(data, xml_run.Difference("any.rnc", ours, theirs), lambda changed, agreed=agreed: agreed)
+            self.assertEqual(found, key)
+
+    def judged(self, program, *words):
+        with tempfile.TemporaryDirectory() as room:
+            run = subprocess.run([sys.executable, "-B", HERE / "xml_run.py", "--no-jing", "--seed", "test", "--program", program, "--found", room,
+                                  *map(str, words)], capture_output=True, text=True, check=False,
+                                 env={**os.environ, "REAL_PROGRAM": str(RNCV_XML)})
+            found = [it.read_bytes() for it in sorted(pathlib.Path(room).glob("*.xml"))]
+            return run.returncode, run.stdout + run.stderr, found
+
+    def test_that_each_document_is_answered(self):
+        if not RNCV_XML.exists():
+            self.skipTest(f"there is no {RNCV_XML}")
+        status, reported, _ = self.judged(RNCV_XML, "--count", 100, "--mutants", 100)
+        self.assertEqual(status, 0, reported)
+        self.assertIn("0 differences without an explanation", reported)
+
+    def test_that_a_crash_is_found_and_made_small(self):
+        if not RNCV_XML.exists():
+            self.skipTest(f"there is no {RNCV_XML}")
+        with tempfile.TemporaryDirectory() as room:
+            crashing = pathlib.Path(room, "rncv-xml")
+            crashing.write_text(CRASHING)
+            crashing.chmod(0o755)
+            status, reported, found = self.judged(crashing, "--count", 20, "--mutants", 0, "--most", 1)
+        self.assertEqual((status, found), (1, [b"CDATA"]), reported)
+
+
+if __name__ == "__main__":
+    if len(sys.argv) > 1:
+        PROGRAM = pathlib.Path(sys.argv.pop(1)).resolve()
+    unittest.main()

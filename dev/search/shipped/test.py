@@ -1,0 +1,83 @@
+"""Tests of `run.py`, over the repository's own examples and a folder of a schema of each kind:   test.py
+
+RNCV_XML_PROGRAMS names the folder of rncv-xml, by default build/xml. Without it the tests are skipped, or fail if RNCV_REQUIRED is set.
+"""
+import contextlib
+import io
+import os
+import pathlib
+import shutil
+import sys
+import tempfile
+import unittest
+import unittest.mock
+
+import run
+
+PROGRAM = pathlib.Path(os.environ.get("RNCV_XML_PROGRAMS", run.TOP / "build/xml")) / "rncv-xml"
+XSD = 'datatypeLibrary="http://www.w3.org/2001/XMLSchema-datatypes"'
+FILES = {
+    "served.rnc": 'include "part.rnc" start = element a { attribute x { xsd:integer }?, text, b }', "part.rnc": "b = element b { text }",
+    "same.rng": f'<element name="a" xmlns="http://relaxng.org/ns/structure/1.0" {XSD}><data type="token"/></element>',
+    "dates.rnc": 'include "part.rnc" start = element a { attribute x { xsd:date }, attribute y { xsd:string { pattern = "a" } }, b }',
+    "broken.rnc": "start = element a {",
+    "hidden.rnc": "start = element a { attribute x { xsd:date }, attribute x { text } }", "far.rnc": 'start = external "http://example.org/x.rnc"',
+}
+DOCUMENTS = {"good.xml": "<a>1<b/></a>", "bad.xml": "<a/>", "cut.xml": "<a>", "left-out.xml": "<!DOCTYPE a SYSTEM 'none.dtd'><a/>"}
+
+
+class Shipped(unittest.TestCase):
+    def setUp(self):
+        if not PROGRAM.is_file():
+            self.assertNotIn("RNCV_REQUIRED", os.environ, f"no {PROGRAM}")
+            self.skipTest(f"no {PROGRAM}")
+        folder = tempfile.TemporaryDirectory()
+        self.addCleanup(folder.cleanup)
+        self.folder = pathlib.Path(folder.name) / "some"
+        self.folder.mkdir()
+        for name, text in {**FILES, **DOCUMENTS}.items():
+            (self.folder / name).write_text(text, encoding="utf-8")
+
+    def report(self, *words, has_jing=False):
+        """The lines that the script prints, and its status."""
+        out = io.StringIO()
+        which = shutil.which if has_jing else lambda name: None
+        with contextlib.redirect_stdout(out), unittest.mock.patch.object(sys, "argv", ["run.py", "--program", str(PROGRAM), *map(str, words)]), \
+                unittest.mock.patch.object(run.shutil, "which", which):
+            status = run.run()
+        return out.getvalue().split("\n"), status
+
+    def test_each_kind(self):
+        lines, status = self.report(self.folder)
+        self.assertIn("| some | 7 | 2 | 1 | 1 | 3 | 0 | 0, 0 | 0 |", lines)
+        self.assertEqual(status, 1)
+        self.assertIn("| `xsd:date` | 1 | 0 |", lines)
+        self.assertIn("| `pattern` | 1 | 0 |", lines)
+        for name, clause in (("hidden", "S24"), ("broken", "S6"), ("far", "S1")):
+            self.assertTrue(any(f"{name}.rnc: " in it and f" {clause} " in it for it in lines), lines)
+
+    def test_beside_jing(self):
+        if not shutil.which("jing"):
+            self.skipTest("jing is not installed")
+        for name in ("hidden.rnc", "far.rnc"):
+            (self.folder / name).unlink()
+        lines, status = self.report("--documents", self.folder, self.folder, has_jing=True)
+        self.assertIn("| some | 5 | 2 | 1 | 2 | 0 | 0 | 6, 2 | 0 |", lines)
+        self.assertEqual((lines[-2:], status), (["", ""], 0))
+
+    def test_a_difference_is_told(self):
+        verdicts = {self.folder / "good.xml": "invalid"}
+        with unittest.mock.patch.object(run.Jing, "judge", lambda *_: (True, "", verdicts)):
+            tried = run.try_schema(run.Rncv(PROGRAM), run.Jing(), self.folder / "served.rnc", list(verdicts))
+        self.assertEqual(tried.differences, (f"{self.folder}/good.xml: valid, and by jing invalid",))
+
+    def test_the_examples(self):
+        lines, _ = self.report(run.TOP / "examples")
+        row = next(it for it in lines if it.startswith("| examples |")).split(" | ")
+        self.assertGreater(int(row[1]), 10)
+        self.assertGreaterEqual(int(row[2]), 8)
+        self.assertEqual(lines[2].replace("examples", "all"), lines[3])
+
+
+if __name__ == "__main__":
+    unittest.main(verbosity=1)

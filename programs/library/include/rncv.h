@@ -1,0 +1,175 @@
+/* rncv.h: a RELAX NG validator. It compiles a schema once, and then judges documents, one after the other.
+ *
+ * A schema is a set of files in the RELAX NG Compact Syntax. A document is in PYX, one event a line (docs/XML.md says how to make it of XML).
+ *
+ *     rncv_schema schema = RNCV_NOTHING;
+ *     rncv_fault fault;
+ *     rncv_verdict verdict;
+ *
+ *     if (rncv_compile(files, count, &schema, &fault) == RNCV_DONE) {
+ *         rncv_document_begin(&schema);
+ *         while (...) {
+ *             rncv_document_feed(&schema, bytes, length);
+ *         }
+ *         rncv_document_end(&schema, &verdict);
+ *         rncv_schema_free(&schema);
+ *     }
+ *
+ * Handles. `rncv_schema` holds nothing, or a schema, or a schema with a document in progress. Start each one as RNCV_NOTHING, pass its address,
+ * and free it by rncv_schema_free. Do not change what is in it. Do not copy it and use both copies: rncv_schema_share makes a second one.
+ *
+ * Ownership. Each function copies what it keeps. The caller may free its bytes as soon as a function returns. The library allocates by `malloc`
+ * and `realloc`, and frees by `free`. A program that replaces these takes all three from one allocator, and aligns each block as the C library does:
+ * to each power of two up to 16 that divides its size.
+ *
+ * Threads. There is no global state. Calls on different handles may run in different threads at the same time. Calls on one handle may not: give
+ * each thread a handle of its own by rncv_schema_share. A handle may move to another thread between two calls, if a lock, the start of a thread, a
+ * join, or an atomic operation in sequential order (memory_order_seq_cst) is between them. Handles that share a schema count in it, so what `hidden`
+ * points to is for the library alone: do not read it, do not write to it.
+ *
+ * Rules for the caller. The arguments of one call are different objects. No pointer is NULL, unless a comment allows it. Do not call a function from
+ * a signal handler, or in the child of a fork of a process with several threads.
+ *
+ * Output. The library writes nothing, opens no file, and does not end the process.
+ */
+#ifndef RNCV_H
+#define RNCV_H
+
+#include <stddef.h>
+#include <stdint.h>
+
+#define RNCV_VERSION_MAJOR 0
+#define RNCV_VERSION_MINOR 9
+#define RNCV_VERSION_PATCH 0
+#define RNCV_VERSION "0.9.0"
+
+#ifdef __cplusplus
+extern "C" {
+#endif
+
+/* A handle: a schema, and perhaps a document in progress. */
+typedef struct rncv_schema {
+    void *hidden;
+} rncv_schema;
+
+/* A handle that holds nothing. */
+#define RNCV_NOTHING {NULL}
+
+/* A file of a schema. `name` is UTF-8. Other files mention the file by this name. The text need not end in a zero.
+ * The pointers are not NULL, even if the length beside them is 0. */
+typedef struct rncv_file {
+    const uint8_t *name;
+    size_t name_length;
+    const uint8_t *bytes;
+    size_t length;
+} rncv_file;
+
+/* Why files are refused: they break the clause S1 to S27 with this number (rncv_clause_title). */
+typedef struct rncv_fault {
+    int32_t clause; /* 1 to 27 */
+    int64_t file;   /* the index of the first file with the name of the file that breaks the clause; -1 if the clause is not about one file,
+                       or no file with that name was passed (rncv_refused_name writes that name) */
+    int64_t offset; /* where in that file, in bytes from 0, for the clauses 3 to 8; otherwise -1 */
+    int64_t line;   /* the line, from 1, for the clauses 3 to 8; otherwise -1. CR LF, CR and LF each end a line. */
+    int64_t column; /* the column, from 1, in characters as they are written, for the clauses 3 to 8; otherwise -1 */
+} rncv_fault;
+
+/* The verdict on a document. */
+typedef struct rncv_verdict {
+    int32_t kind;   /* RNCV_VALID, RNCV_INVALID or RNCV_BROKEN */
+    int32_t clause; /* RNCV_BROKEN: the document breaks the clause P1 to P13 with this number; otherwise 0 */
+    uint64_t line;  /* RNCV_INVALID: the line, from 1, after which no continuation is valid; RNCV_BROKEN: the line of the clause, 0 if the
+                       document has no line; RNCV_VALID: 0 */
+} rncv_verdict;
+
+/* The kinds of a verdict. */
+enum {
+    RNCV_VALID = 0,
+    RNCV_INVALID = 1,
+    RNCV_BROKEN = 2
+};
+
+/* The statuses. The comment of each function names those that it returns besides RNCV_DONE. */
+enum {
+    RNCV_DONE = 0,      /* the call did what it says */
+    RNCV_REFUSED = 1,   /* the files of the schema break a clause */
+    RNCV_MALFORMED = 2, /* the document breaks a clause */
+    RNCV_MEMORY = 3,    /* out of memory */
+    RNCV_MISUSE = 4,    /* the handle does not hold what the call needs, or an argument is wrong */
+    RNCV_SPACE = 5      /* the buffer is too small */
+};
+
+/* Compiles the schema of `count` files, and puts it into `schema`. The first file is the main one. What `schema` held is freed.
+ *
+ * RNCV_REFUSED: the files break a clause, and `fault` says which. RNCV_MEMORY: out of memory. RNCV_MISUSE: `count` is 0, or a name is not UTF-8.
+ * Unless the status is RNCV_DONE, `schema` is unchanged. Unless it is RNCV_REFUSED, `fault` is unchanged. `files` may be NULL if `count` is 0.
+ *
+ * The caller keeps `files` and may free them after the call. Only one thread at a time may use `schema`. */
+int32_t rncv_compile(const rncv_file *files, size_t count, rncv_schema *schema, rncv_fault *fault);
+
+/* Writes the name of the file that breaks a clause by itself, S1 to S8, to `buffer`, which has `size` bytes, and the name's length to `length`. The
+ * clause is the one that rncv_compile reports of these files. For S1 the file may be one that was not handed in; its name is then the one by which
+ * another file mentions it. The name does not end in a zero. `buffer` may be NULL if `size` is 0. Each call compiles the files again.
+ *
+ * RNCV_SPACE: the name does not fit; nothing is written to `buffer`, and `length` is the number of bytes that it needs. RNCV_MEMORY: out of memory.
+ * RNCV_MISUSE: `count` is 0, or a name is not UTF-8, or no file breaks a clause by itself: the files are a schema, or they break one of S9 to S27.
+ * After these two `buffer` and `length` are unchanged. `files` may be NULL if `count` is 0. The caller keeps `files` and `buffer`. Several threads may
+ * call this at the same time, each with a buffer and a length of its own. */
+int32_t rncv_refused_name(const rncv_file *files, size_t count, uint8_t *buffer, size_t size, size_t *length);
+
+/* Makes `other` a second handle on the same schema, for example for another thread. What `other` held is freed. Free each of the two by itself.
+ * The schema is shared and not copied.
+ *
+ * RNCV_MEMORY: out of memory. RNCV_MISUSE: `schema` holds no schema, or a document is in progress. Unless the status is RNCV_DONE, `other` is
+ * unchanged. Only one thread at a time may use each of the two handles, and two threads may use both at the same time. */
+int32_t rncv_schema_share(rncv_schema *schema, rncv_schema *other);
+
+/* Frees what the handle holds, including a document in progress. Then the handle holds nothing. A second call does nothing. Only one thread at a
+ * time may use the handle. */
+void rncv_schema_free(rncv_schema *schema);
+
+/* Begins a document, and drops one that is in progress. What was worked out from the schema for earlier documents is kept, and makes this one cheaper.
+ * No name, text or attribute value of those documents is kept.
+ *
+ * RNCV_MEMORY: out of memory; no document is in progress, and the handle still holds the schema. RNCV_MISUSE: the handle holds nothing.
+ * The handle owns the document until rncv_document_end. Only one thread at a time may use the handle. */
+int32_t rncv_document_begin(rncv_schema *schema);
+
+/* Takes the next bytes of the document. A piece may end anywhere, even inside a line or a character. `bytes` may be NULL if `length` is 0.
+ *
+ * RNCV_MALFORMED: the document breaks a clause; rncv_document_end says which, and where. RNCV_MEMORY: out of memory, or the document would have
+ * 2^63 bytes or more. After one of these two, each later call for this document returns the same. RNCV_MISUSE: no document is in progress.
+ * The caller keeps `bytes` and may free them after the call. Only one thread at a time may use the handle. */
+int32_t rncv_document_feed(rncv_schema *schema, const uint8_t *bytes, size_t length);
+
+/* Writes to `line` the line, from 1, after which no continuation is valid, or 0 while no such line is known. It is one of the lines that were fed, and
+ * no document with the same lines up to it is valid. Once it is known, the verdict of rncv_document_end is RNCV_INVALID with this line, or
+ * RNCV_BROKEN, or its status is RNCV_MEMORY. Allocates nothing.
+ *
+ * RNCV_MISUSE: no document is in progress; `line` is unchanged. Only one thread at a time may use the handle. */
+int32_t rncv_document_invalid_since(rncv_schema *schema, uint64_t *line);
+
+/* Ends the document and writes the verdict on it to `verdict`. Then the handle holds the schema, for the next document. The status is RNCV_DONE
+ * for every verdict.
+ *
+ * RNCV_MEMORY: memory ran out for the document; it has ended, and `verdict` is unchanged. RNCV_MISUSE: no document is in progress; `verdict` is
+ * unchanged. Only one thread at a time may use the handle. */
+int32_t rncv_document_end(rncv_schema *schema, rncv_verdict *verdict);
+
+/* Writes the simple form of the schema, as text, to `buffer`, which has `size` bytes, and the text's length to `length`. The text does not end in
+ * a zero. `buffer` may be NULL if `size` is 0. Each call prints the form again.
+ *
+ * RNCV_SPACE: the text does not fit; nothing is written to `buffer`, and `length` is the number of bytes that it needs. RNCV_MEMORY: out of memory.
+ * RNCV_MISUSE: the handle holds no schema, or a document is in progress. After these two `length` is unchanged. The caller owns `buffer`. Only one
+ * thread at a time may use the handle. */
+int32_t rncv_simple(rncv_schema *schema, uint8_t *buffer, size_t size, size_t *length);
+
+/* The title of a clause, in English: group 'S' with 1 to 27, or group 'P' with 1 to 13. NULL for any other. The text is constant, ends in a
+ * zero, and is never freed. Any thread may call this at any time. */
+const char *rncv_clause_title(char group, int32_t clause);
+
+#ifdef __cplusplus
+}
+#endif
+
+#endif

@@ -1,0 +1,151 @@
+/* Refuses each allocation in turn, and all from each one on. It is linked with -Wl,--wrap=malloc,--wrap=realloc, so that the two functions below are
+ * the library's malloc and realloc. */
+#include "testing.h"
+
+void *__real_malloc(size_t size);
+void *__real_realloc(void *block, size_t size);
+void *__wrap_malloc(size_t size);
+void *__wrap_realloc(void *block, size_t size);
+
+/* Growths are counted from 0; those from `first` to `last` are refused. */
+static long growth = 0;
+static long first = -1;
+static long last = -1;
+
+static int is_granted(void) {
+    long number = growth++;
+    return number < first || last < number;
+}
+
+void *__wrap_malloc(size_t size) {
+    return is_granted() ? __real_malloc(size) : NULL;
+}
+
+void *__wrap_realloc(void *block, size_t size) {
+    return is_granted() ? __real_realloc(block, size) : NULL;
+}
+
+#define SCHEMA "start = element a { attribute b { xsd:integer { minInclusive = \"1\" } }?, (element c { text } | d)* }\n" \
+               "d = element d { list { \"x\", xsd:token* } }\n"
+#define DOCUMENT "(a\nAb 12\n(c\n-one\n)c\n(d\n-x y\n)d\n)a\n"
+
+/* One run: returns 1 if it reached its end, 0 if a call returned RNCV_MEMORY. Every other answer is right. */
+static int run_once(void) {
+    rncv_schema schema = RNCV_NOTHING;
+    rncv_schema other = RNCV_NOTHING;
+    rncv_verdict verdict = {7, 7, 7};
+    uint8_t buffer[1024];
+    size_t length = 99;
+    uint64_t line = 99;
+    int32_t status;
+
+    status = compile(SCHEMA, &schema);
+    CHECK(status == RNCV_DONE || schema.hidden == NULL);
+    if (status == RNCV_DONE) {
+        status = rncv_schema_share(&schema, &other);
+        CHECK(status == RNCV_DONE || other.hidden == NULL);
+    }
+    if (status == RNCV_DONE) {
+        status = rncv_simple(&other, buffer, sizeof buffer, &length);
+        CHECK(status == RNCV_DONE || length == 99);
+    }
+    for (int turn = 0; turn < 2 && status == RNCV_DONE; turn++) {
+        status = rncv_document_begin(&other);
+        CHECK(status == RNCV_DONE || feed(&other, "(a\n") == RNCV_MISUSE);
+        if (status == RNCV_DONE) {
+            status = feed(&other, DOCUMENT);
+            CHECK(rncv_document_invalid_since(&other, &line) == RNCV_DONE && line == 0);
+            int32_t ended = rncv_document_end(&other, &verdict);
+            CHECK(status == RNCV_DONE || ended == status);
+            CHECK(ended != RNCV_DONE || verdict.kind == RNCV_VALID);
+            CHECK(ended == RNCV_DONE || verdict.kind == 7 || turn > 0);
+            status = ended;
+        }
+    }
+    CHECK(status == RNCV_DONE || status == RNCV_MEMORY);
+    rncv_schema_free(&other);
+    rncv_schema_free(&schema);
+    return status == RNCV_DONE;
+}
+
+/* Asks for the name of a file that is not there: returns 1 if it is written, 0 if the call ran out of memory. */
+static int name_once(void) {
+    rncv_file file = file_of("s.rnc", "include \"parts.rnc\"");
+    uint8_t buffer[16] = {'.'};
+    size_t length = 99;
+    int32_t status = rncv_refused_name(&file, 1, buffer, sizeof buffer, &length);
+    CHECK(status == RNCV_MEMORY ? length == 99 && buffer[0] == '.' : status == RNCV_DONE);
+    CHECK(status == RNCV_MEMORY || (length == 9 && memcmp(buffer, "parts.rnc", 9) == 0));
+    return status == RNCV_DONE;
+}
+
+/* Refuses each growth of that call in turn. */
+static void names(void) {
+    growth = 0;
+    first = last = -1;
+    CHECK(name_once());
+    long count = growth;
+    CHECK(count > 2);
+    for (long refused = 0; refused < count; refused++) {
+        growth = 0;
+        first = last = refused;
+        name_once();
+    }
+    growth = 0;
+    first = 0;
+    last = 1000000;
+    CHECK(!name_once());
+    first = last = -1;
+}
+
+/* After a document ran out of memory, the schema still works. */
+static void recovers(void) {
+    rncv_schema schema = RNCV_NOTHING;
+    rncv_verdict verdict;
+
+    first = last = -1;
+    CHECK(compile(SCHEMA, &schema) == RNCV_DONE);
+    for (long refused = 0; refused < 200; refused++) {
+        growth = 0;
+        first = refused;
+        last = refused + 1000000;
+        if (rncv_document_begin(&schema) == RNCV_DONE) {
+            int32_t status = feed(&schema, DOCUMENT);
+            CHECK(status == RNCV_DONE || status == RNCV_MEMORY);
+            if (status == RNCV_MEMORY) {
+                CHECK(feed(&schema, "") == RNCV_MEMORY);
+            }
+        }
+        first = last = -1;
+        CHECK(rncv_document_begin(&schema) == RNCV_DONE);
+        CHECK(feed(&schema, DOCUMENT) == RNCV_DONE);
+        CHECK(rncv_document_end(&schema, &verdict) == RNCV_DONE && verdict.kind == RNCV_VALID);
+    }
+    rncv_schema_free(&schema);
+}
+
+int main(void) {
+    long count;
+    long step;
+
+    growth = 0;
+    CHECK(run_once());
+    count = growth;
+    step = is_quick() ? 1 + count / 100 : 1;
+    CHECK(count > 10);
+    for (long refused = 0; refused < count; refused += step) {
+        growth = 0;
+        first = last = refused;
+        run_once();
+        growth = 0;
+        first = refused;
+        last = refused + 1000000;
+        CHECK(!run_once() || refused > 0); /* a run can do without some later growths */
+    }
+    first = last = -1;
+    CHECK(run_once());
+    recovers();
+    names();
+    printf("growths: %ld\n", count);
+    return outcome("memory");
+}

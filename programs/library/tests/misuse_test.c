@@ -1,0 +1,96 @@
+/* Calls in the wrong order, on empty handles and with wrong arguments: each returns RNCV_MISUSE and changes nothing. */
+#include "testing.h"
+
+/* Each call that needs a schema with no document, or any schema, on a handle that holds nothing. */
+static void on_nothing(rncv_schema *schema) {
+    rncv_schema other = RNCV_NOTHING;
+    rncv_verdict verdict = {7, 7, 7};
+    uint64_t line = 99;
+    size_t length = 99;
+    uint8_t buffer[4] = {'.', '.', '.', '.'};
+
+    CHECK(rncv_schema_share(schema, &other) == RNCV_MISUSE && other.hidden == NULL);
+    CHECK(rncv_document_begin(schema) == RNCV_MISUSE);
+    CHECK(feed(schema, "(a\n") == RNCV_MISUSE);
+    CHECK(rncv_document_feed(schema, NULL, 0) == RNCV_MISUSE);
+    CHECK(rncv_document_invalid_since(schema, &line) == RNCV_MISUSE && line == 99);
+    CHECK(rncv_document_end(schema, &verdict) == RNCV_MISUSE);
+    CHECK(verdict.kind == 7 && verdict.clause == 7 && verdict.line == 7);
+    CHECK(rncv_simple(schema, buffer, sizeof buffer, &length) == RNCV_MISUSE && length == 99);
+    CHECK(memcmp(buffer, "....", 4) == 0);
+    CHECK(schema->hidden == NULL);
+}
+
+static void on_a_schema(void) {
+    rncv_schema schema = RNCV_NOTHING;
+    rncv_verdict verdict = {7, 7, 7};
+    uint64_t line = 99;
+
+    CHECK(compile("element a { empty }", &schema) == RNCV_DONE);
+    CHECK(feed(&schema, "(a\n") == RNCV_MISUSE);
+    CHECK(rncv_document_invalid_since(&schema, &line) == RNCV_MISUSE && line == 99);
+    CHECK(rncv_document_end(&schema, &verdict) == RNCV_MISUSE && verdict.kind == 7);
+    /* it still works */
+    CHECK(rncv_document_begin(&schema) == RNCV_DONE);
+    CHECK(feed(&schema, "(a\n)a\n") == RNCV_DONE);
+    CHECK(rncv_document_end(&schema, &verdict) == RNCV_DONE && verdict.kind == RNCV_VALID);
+    /* after the end */
+    verdict.kind = 7;
+    CHECK(rncv_document_end(&schema, &verdict) == RNCV_MISUSE && verdict.kind == 7);
+    CHECK(feed(&schema, "(a\n") == RNCV_MISUSE);
+    rncv_schema_free(&schema);
+    on_nothing(&schema);
+    rncv_schema_free(&schema);
+    on_nothing(&schema);
+}
+
+static void on_a_document(void) {
+    rncv_schema schema = RNCV_NOTHING;
+    rncv_schema other = RNCV_NOTHING;
+    rncv_verdict verdict;
+    size_t length = 99;
+
+    CHECK(compile("element a { empty }", &schema) == RNCV_DONE);
+    CHECK(rncv_document_begin(&schema) == RNCV_DONE);
+    CHECK(rncv_schema_share(&schema, &other) == RNCV_MISUSE && other.hidden == NULL);
+    CHECK(rncv_simple(&schema, NULL, 0, &length) == RNCV_MISUSE && length == 99);
+    CHECK(feed(&schema, "(a\n)a\n") == RNCV_DONE);
+    CHECK(rncv_document_end(&schema, &verdict) == RNCV_DONE && verdict.kind == RNCV_VALID);
+    /* a shared schema outlives the handle from which it was shared */
+    CHECK(rncv_schema_share(&schema, &other) == RNCV_DONE);
+    rncv_schema_free(&schema);
+    CHECK(rncv_document_begin(&other) == RNCV_DONE);
+    CHECK(feed(&other, "(a\n)a\n") == RNCV_DONE);
+    CHECK(rncv_document_end(&other, &verdict) == RNCV_DONE && verdict.kind == RNCV_VALID);
+    rncv_schema_free(&other);
+}
+
+static void on_files(void) {
+    rncv_schema schema = RNCV_NOTHING;
+    rncv_fault fault = {7, 7, 7, 7, 7};
+    rncv_file named_badly[2] = {file_of("s.rnc", "element a { empty }"), file_of("\xFF", "x = empty")};
+    rncv_file nameless = file_of("", "element a { empty }");
+    uint8_t buffer[4] = {'.', '.', '.', '.'};
+    size_t length = 99;
+
+    CHECK(rncv_compile(NULL, 0, &schema, &fault) == RNCV_MISUSE);
+    CHECK(rncv_compile(named_badly, 2, &schema, &fault) == RNCV_MISUSE);
+    CHECK(rncv_compile(named_badly + 1, 1, &schema, &fault) == RNCV_MISUSE);
+    CHECK(schema.hidden == NULL && fault.clause == 7 && fault.file == 7);
+    CHECK(rncv_refused_name(NULL, 0, buffer, sizeof buffer, &length) == RNCV_MISUSE);
+    CHECK(rncv_refused_name(named_badly, 2, buffer, sizeof buffer, &length) == RNCV_MISUSE);
+    CHECK(rncv_refused_name(&nameless, 1, NULL, 0, &length) == RNCV_MISUSE);
+    CHECK(length == 99 && memcmp(buffer, "....", 4) == 0);
+    /* an empty name is a name */
+    CHECK(rncv_compile(&nameless, 1, &schema, &fault) == RNCV_DONE);
+    rncv_schema_free(&schema);
+}
+
+int main(void) {
+    rncv_schema schema = RNCV_NOTHING;
+    on_nothing(&schema);
+    on_a_schema();
+    on_a_document();
+    on_files();
+    return outcome("misuse");
+}

@@ -1,0 +1,61 @@
+"""Threads that judge documents. Only the last job for each document counts."""
+from __future__ import annotations
+
+import threading
+from typing import Callable, Dict, Set
+
+Job = Callable[[], None]
+THREADS = 3
+STACK_BYTES = 67_108_864
+
+
+def start_thread(action: Job, name: str) -> None:
+    """Starts a thread that does not keep the process alive, with a stack for schemas that nest deeply (docs/LIBRARY.md)."""
+    before = threading.stack_size(STACK_BYTES)
+    try:
+        threading.Thread(target=action, name=name, daemon=True).start()
+    finally:
+        threading.stack_size(before)
+
+
+class Jobs:
+    """Runs jobs: at most one for each name at a time, and waiting jobs in their order."""
+
+    def __init__(self, report: Callable[[BaseException], None]) -> None:
+        self._report = report
+        self._changed = threading.Condition()
+        self._waiting: Dict[str, Job] = {}
+        self._running: Set[str] = set()
+        self._threads = 0
+
+    def put(self, name: str, job: Job) -> None:
+        """Takes a job, and drops a job of the same name that still waits."""
+        with self._changed:
+            self._waiting[name] = job
+            self._changed.notify()
+            is_new = self._threads < min(THREADS, len(self._waiting) + len(self._running))
+            self._threads += is_new
+        if is_new:
+            start_thread(self._work, "jobs")
+
+    def _next(self) -> "tuple[str, Job]":
+        """Waits for a job whose name is not running, and takes it."""
+        with self._changed:
+            while True:
+                name = next((name for name in self._waiting if name not in self._running), None)
+                if name is not None:
+                    self._running.add(name)
+                    return name, self._waiting.pop(name)
+                self._changed.wait()
+
+    def _work(self) -> None:
+        """Runs one job after another."""
+        while True:
+            name, job = self._next()
+            try:
+                job()
+            except Exception as error:  # whatever happens, the thread continues
+                self._report(error)
+            with self._changed:
+                self._running.discard(name)
+                self._changed.notify()

@@ -1,0 +1,66 @@
+"""The program `rncv-lsp`: its arguments, its streams and its end."""
+from __future__ import annotations
+
+import argparse
+import os
+import sys
+
+from rncv_lsp import __version__
+
+# The threads that judge give way to the one that reads messages after this time.
+SWITCH_SECONDS = 0.001
+DESCRIPTION = """A language server for RELAX NG schemas in the compact syntax, and for XML documents that have such a schema. It uses the Language Server
+Protocol on its standard streams, and reads no files except schemas. The variable RNCV_LIBRARY names the library. docs/EDITORS.md says how to set up
+editors."""
+
+
+def failed(why: str) -> int:
+    """Prints why the server ends, if there is a standard error, and returns the exit status."""
+    if sys.stderr is not None:
+        try:
+            print(f"rncv-lsp: {why}", file=sys.stderr, flush=True)
+        except OSError:
+            pass
+    return 1
+
+
+def parse_arguments(parser: argparse.ArgumentParser) -> None:
+    """Parses the arguments, or ends the process. Output that cannot be written gives one line."""
+    try:
+        parser.parse_args()
+    except SystemExit:
+        try:
+            if sys.stdout is not None:
+                sys.stdout.flush()
+        except OSError as error:
+            os._exit(failed(f"standard output: {error.strerror}"))
+        raise
+
+
+def main() -> None:
+    """Runs the server, and ends the process with its status."""
+    parser = argparse.ArgumentParser(prog="rncv-lsp", description=DESCRIPTION)
+    parser.add_argument("--version", action="version", version=f"rncv-lsp {__version__}")
+    parser.add_argument("--stdio", action="store_true", help="use the standard streams (it always does)")
+    parse_arguments(parser)
+    try:
+        from rncv_lsp.server import Server
+    except ImportError as error:
+        print(f"rncv-lsp: {error}: it needs the folder `programs` around it, as in the repository", file=sys.stderr)
+        sys.exit(2)
+    if sys.stdin is None or sys.stdout is None:
+        sys.exit(failed("a standard stream is closed"))
+    source, sink = sys.stdin.buffer, sys.stdout.buffer
+    # Other output goes to standard error.
+    sys.stdout = sys.stderr
+    sys.setswitchinterval(SWITCH_SECONDS)
+    try:
+        status = Server(source, sink).run()
+    except KeyboardInterrupt:
+        status = 130
+    except OSError as error:
+        status = failed(f"standard input: {error.strerror}")
+    except Exception as error:  # whatever happens, one line reports it
+        status = failed(f"internal error: {type(error).__name__}: {error}")
+    # Do not wait for the threads that judge.
+    os._exit(status)

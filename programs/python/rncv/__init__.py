@@ -1,0 +1,726 @@
+"""Judges documents by RELAX NG schemas, with the C library of `rncv`. Nothing in this module is proved; docs/LIBRARY.md says what is.
+
+    import rncv
+
+    with rncv.compile("examples/letter/s.rnc") as validator, open("examples/letter/document.pyx", "rb") as document:
+        print(validator.validate(document))
+
+A schema is a set of files in the RELAX NG Compact Syntax. A document is XML (`Validator.validate_xml`), or PYX, one event a line (`Validator.validate`;
+docs/XML.md says how to make it from XML). A schema is compiled once, and then judges documents, one after another.
+
+The variable RNCV_LIBRARY names the library, or a folder that has `lib/librncv.so`. Without it the module searches beside this package, in
+`build/library/lib` of the checkout that has this package, where `make install` put the library, and where the system keeps libraries. It loads the
+library at the first call that needs it. The library for XML, `librncv_xml.so`, is beside it. Without that one `validate_xml` raises LibraryError, and all
+else works.
+
+Threads. A validator judges one document at a time: a second one at the same time is a RuntimeError. `Validator.share` makes another validator for the
+same schema, for example for another thread. The library runs without the lock of the interpreter. No object of this module can be copied or pickled. After
+`os.fork` in a process with several threads, do not use the validators of the parent in the child.
+"""
+
+from __future__ import annotations
+
+import contextlib
+import ctypes
+import ctypes.util
+import dataclasses
+import functools
+import os
+import pathlib
+import threading
+import weakref
+from collections.abc import Callable, Generator, Iterable, Iterator, Mapping
+from types import TracebackType
+from typing import Any, BinaryIO, NoReturn, Optional, Type, Union, overload
+
+from . import _schema_files, _xml
+from ._xml import XmlVerdict
+
+__all__ = ["Document", "LibraryError", "SchemaError", "Validator", "Verdict", "XmlVerdict", "clause_title", "compile"]
+__version__ = "0.9.0"
+
+Bytes = Union[bytes, bytearray, memoryview]
+Path = Union[str, "os.PathLike[str]"]
+
+# How much is read at once from the file of a document, and up to how much small pieces are joined.
+_READ_BYTES = 65_536
+# How much is passed to the library in one call. Between two calls the interpreter handles signals.
+_CALL_BYTES = 1_048_576
+# The size of the first buffer for a text. For a longer text the library is called twice.
+_TEXT_BYTES = 65_536
+
+# From S9 on a schema breaks a clause as a whole: the proved library knows no place. For S6 there are hints about names in annotations.
+_HINTED = (6, *range(9, 28))
+
+_DONE, _REFUSED, _MALFORMED, _MEMORY, _MISUSE, _SPACE = range(6)
+_KINDS = ("valid", "invalid", "malformed")
+_NAMES = ("librncv.so", "librncv.so.0", "librncv.dylib")
+
+
+class LibraryError(OSError):
+    """The C library, or the one for XML, was not found, or does not fit this module."""
+
+
+class SchemaError(ValueError):
+    """The files are not a schema: they break a clause, S1 to S27.
+
+    `clause` is its number, and `title` says in English what it requires. `file` is the path or the name of the file that breaks it, and `index` the position
+    of the first file with this name: those that were given come first, and then those that were found. Both are None if the clause is not about one file.
+    For S3 to S8 `offset`, in bytes from 0, and `line` and `column`, from 1, say where the file breaks the clause. For the other clauses these are None.
+
+    If a file is mentioned and is not there (S1), `file` is the name by which it is mentioned, as the proved library reports it, and `index` is None. `missing`
+    is the path where it was looked for, or else its name. `mentioned_at` is the file, the line and the column of the mention, or None if that was not found.
+    For files that are there these two are None.
+
+    For S9 to S27, and for a name in an annotation (S6), `hint` says, in a few words, what most likely breaks the clause, and `hint_file`, `hint_line` and
+    `hint_column` where. `hint_file` is the path or the name of the file. A hint is a guess outside the proof. All four are None if none is known, or if there
+    is no library for XML.
+    """
+
+    def __init__(
+        self,
+        clause: int,
+        title: str,
+        file: Optional[str] = None,
+        index: Optional[int] = None,
+        offset: Optional[int] = None,
+        line: Optional[int] = None,
+        column: Optional[int] = None,
+        missing: Optional[str] = None,
+        mentioned_at: Optional[tuple[str, int, int]] = None,
+        hint: Optional[str] = None,
+        hint_file: Optional[str] = None,
+        hint_line: Optional[int] = None,
+        hint_column: Optional[int] = None,
+    ) -> None:
+        super().__init__(clause, title, file, index, offset, line, column, missing, mentioned_at, hint, hint_file, hint_line, hint_column)
+        self.clause, self.title, self.file, self.index = clause, title, file, index
+        self.offset, self.line, self.column = offset, line, column
+        self.missing, self.mentioned_at = missing, mentioned_at
+        self.hint, self.hint_file, self.hint_line, self.hint_column = hint, hint_file, hint_line, hint_column
+
+    def __str__(self) -> str:
+        file = "" if self.file is None else f" file {self.file}"
+        missing = "" if self.missing is None else f": there is no {self.missing}"
+        place = "" if self.mentioned_at is None else " ({}:{}:{})".format(*self.mentioned_at)
+        hint = "" if self.hint is None else f": hint: {self.hint} ({self.hint_file}:{self.hint_line}:{self.hint_column})"
+        return f"refused S{self.clause}{file}: {self.title}{missing}{place}{hint}"
+
+
+@dataclasses.dataclass(frozen=True)
+class Verdict:
+    """The verdict on a document. It is true exactly if the document is valid, and its `str` is the answer of the program.
+
+    `kind` is "valid", "invalid" or "malformed". `clause` is the number of the clause P1 to P13 that a malformed document breaks, otherwise 0. `line`
+    counts from 1. For an invalid document it is the line after which no continuation is valid. For a malformed one it is the line of the clause, or 0
+    if the document has no line. For a valid one it is 0.
+    """
+
+    kind: str
+    clause: int = 0
+    line: int = 0
+
+    @property
+    def valid(self) -> bool:
+        """Whether the document is valid."""
+        return self.kind == "valid"
+
+    @property
+    def title(self) -> Optional[str]:
+        """What the broken clause requires, in English; None if the document breaks none."""
+        return clause_title("P", self.clause)
+
+    def __bool__(self) -> bool:
+        return self.valid
+
+    def __str__(self) -> str:
+        if self.kind == "malformed":
+            return f"malformed P{self.clause} line {self.line}"
+        return self.kind if self.valid else f"{self.kind} line {self.line}"
+
+
+class _Schema(ctypes.Structure):
+    """A handle of the library."""
+
+    _fields_ = [("hidden", ctypes.c_void_p)]
+
+
+class _File(ctypes.Structure):
+    """A file of a schema, as the library takes it."""
+
+    _fields_ = [
+        ("name", ctypes.c_char_p),
+        ("name_length", ctypes.c_size_t),
+        ("bytes", ctypes.c_char_p),
+        ("length", ctypes.c_size_t),
+    ]
+
+
+class _Fault(ctypes.Structure):
+    """Why files are refused, as the library reports it."""
+
+    _fields_ = [
+        ("clause", ctypes.c_int32),
+        ("file", ctypes.c_int64),
+        ("offset", ctypes.c_int64),
+        ("line", ctypes.c_int64),
+        ("column", ctypes.c_int64),
+    ]
+
+
+class _Verdict(ctypes.Structure):
+    """The verdict on a document, as the library reports it."""
+
+    _fields_ = [("kind", ctypes.c_int32), ("clause", ctypes.c_int32), ("line", ctypes.c_uint64)]
+
+
+class Validator:
+    """A compiled schema. `rncv.compile` makes one. It judges documents one after another.
+
+    What it computes from the schema for one document is kept for the next ones. A `with` block closes it at its end. A validator that is no longer used
+    is freed with or without `close`. Every call on a closed validator raises ValueError.
+    """
+
+    def __init__(self, handle: _Schema, texts: tuple[bytes, ...] = ()) -> None:
+        if not isinstance(handle, _Schema):
+            raise TypeError("a validator is made by rncv.compile")
+        self._library = _library()
+        self._handle = handle
+        # The first XML document makes the judge. From the files of the schema it takes values to try, and then they are not needed.
+        self._judge: Optional[_xml.Judge] = None
+        self._texts = texts
+        # Each call on the handle holds this lock. A destructor or a signal may make another call in the same thread, before or after such a call.
+        self._lock = threading.RLock()
+        self._document: Optional[Callable[[], Any]] = None
+        self._closed = False
+        self._free = weakref.finalize(self, self._library.rncv_schema_free, handle)
+        # Do not free it at the end of the process: a thread may still be in a call.
+        self._free.atexit = False
+
+    def validate(self, document: Union[Bytes, BinaryIO, Iterable[Bytes]]) -> Verdict:
+        """Judges a document in PYX: bytes, a binary file, or pieces that come one after another, such as lines. A file is read from its position to its end.
+
+        Once the document is malformed, no more of a file is read, and of the pieces at most 65,536 bytes more: small ones are joined, since a call of the
+        library for each line would take longer than the line. An exception from the file or the pieces goes to the caller, and the validator can judge the
+        next document. RuntimeError: another document is in progress. MemoryError: out of memory.
+        """
+        pieces = _pieces_of(document)
+        with self.begin() as begun:
+            for piece in pieces:
+                if not begun.feed(piece):
+                    break
+            return begun.finish()
+
+    def validate_xml(self, document: Union[Path, Bytes, BinaryIO], ids: bool = True) -> XmlVerdict:
+        """Judges an XML document: the path of a file, bytes, or a binary file. A binary file is read from its position to its end, in pieces of 64 KiB.
+
+        If the schema is a copy by `rncv-profile` of one with the datatypes ID, IDREF and IDREFS, each ID has to be there once, and what refers to one has to
+        find it. `ids=False` leaves that out. It is not proved. If RELAX NG DTD Compatibility does not allow the schema, a note says why nothing is checked.
+
+        OSError: the file cannot be read. An exception from a binary file goes to the caller, and the validator can judge the next document. LibraryError:
+        there is no library for XML. RuntimeError: another document is in progress. MemoryError: out of memory.
+        """
+        with self._lock:
+            if self._closed or self._document is not None:
+                self._want_free()
+            judge = self._judge or self._new_judge()
+            self._document = _in_progress
+        try:
+            judge.want_ids(bool(ids))
+            verdict = judge.of_bytes(document) if type(document) is bytes else _judged_xml(judge, document)
+        finally:
+            with self._lock:
+                self._document = None
+                if self._closed:
+                    judge.free()
+        if self._closed:
+            self._want_open()
+        return verdict
+
+    def begin(self) -> Document:
+        """Begins a document in PYX. It is then fed piece by piece.
+
+        RuntimeError: another document is in progress, that is, not finished, not closed, and still referred to. MemoryError: out of memory.
+        """
+        with self._lock:
+            self._want_free()
+            document = Document(self)
+            self._document = weakref.ref(document)
+            status = self._library.rncv_document_begin(self._handle)
+            if status != _DONE:
+                self._document = None
+            _want_done(status)
+            return document
+
+    def share(self) -> Validator:
+        """Returns another validator for the same schema, for example for another thread. The schema is not copied. Close each of the two separately.
+
+        RuntimeError: a document is in progress. MemoryError: out of memory.
+        """
+        with self._lock:
+            self._let_go()
+            other = _Schema()
+            _want_done(self._library.rncv_schema_share(self._handle, other))
+            validator = Validator(other, self._texts)
+            if self._judge is not None:
+                validator._keep_judge(self._judge.share())
+            return validator
+
+    def simple_text(self) -> bytes:
+        """Returns the printed simple form of the schema. This is a schema in the compact syntax too.
+
+        RuntimeError: a document is in progress. MemoryError: out of memory.
+        """
+        with self._lock:
+            self._let_go()
+            return _written_by(self._library.rncv_simple, self._handle)
+
+    def close(self) -> None:
+        """Frees the schema, and drops a document in progress. A second call does nothing."""
+        with self._lock:
+            is_judging = self._document is _in_progress
+            self._closed, self._document = True, None
+            self._free()
+            # A judge that is judging is freed at the end of that call.
+            if self._judge is not None and not is_judging:
+                self._judge.free()
+
+    @property
+    def closed(self) -> bool:
+        """Whether the validator is closed."""
+        return self._closed
+
+    def __enter__(self) -> Validator:
+        self._want_open()
+        return self
+
+    def __exit__(self, kind: Optional[Type[BaseException]], error: Optional[BaseException], trace: Optional[TracebackType]) -> None:
+        self.close()
+
+    def __reduce__(self) -> NoReturn:
+        raise TypeError("a validator is not copied or pickled: Validator.share makes another one")
+
+    def _want_open(self) -> None:
+        if self._closed:
+            raise ValueError("the validator is closed")
+
+    def _want_free(self) -> None:
+        """Raises an error if a document is in progress and is still referred to."""
+        self._want_open()
+        if self._document is not None and self._document() is not None:
+            raise RuntimeError("a document is in progress: a validator judges one at a time, and Validator.share makes another one")
+        self._document = None
+
+    def _new_judge(self) -> _xml.Judge:
+        """Makes the judge for XML documents."""
+        library = _xml_library()
+        self._let_go()
+        files = (_File * len(self._texts))(*[_File(b"", 0, text, len(text)) for text in self._texts])
+        return self._keep_judge(_xml.Judge.of_schema(library, self._handle, files))
+
+    def _keep_judge(self, judge: _xml.Judge) -> _xml.Judge:
+        self._judge, self._texts = judge, ()
+        weakref.finalize(self, judge.free).atexit = False
+        return judge
+
+    def _let_go(self) -> None:
+        """Drops a document that is no longer referred to. Raises an error if another document is in progress."""
+        self._want_free()
+        self._library.rncv_document_end(self._handle, _Verdict())
+
+
+class Document:
+    """A document in progress. `Validator.begin` makes one.
+
+    A `with` block drops it at its end. Every call on a finished or dropped document raises ValueError.
+    """
+
+    def __init__(self, validator: Validator) -> None:
+        self._validator = validator
+
+    def feed(self, piece: Bytes) -> bool:
+        """Takes the next bytes. A piece may end anywhere, even inside a line or a character.
+
+        Returns False once the document is malformed, and then more bytes change nothing; otherwise True. MemoryError: out of memory, and each later
+        call for this document raises it too.
+        """
+        if type(piece) is bytes and len(piece) <= _CALL_BYTES:
+            return self._feed_part(piece)
+        with contextlib.closing(_parts_of(piece)) as parts:
+            return all(map(self._feed_part, parts))
+
+    def invalid_since(self) -> Optional[int]:
+        """Returns the line, from 1, after which no continuation is valid; None while no such line is known. It is one of the lines that were fed, and no
+        document with the same lines up to it is valid."""
+        line = ctypes.c_uint64()
+        with self._validator._lock:
+            self._want_progress()
+            _want_done(self._validator._library.rncv_document_invalid_since(self._validator._handle, line))
+        return line.value or None
+
+    def finish(self) -> Verdict:
+        """Ends the document and returns the verdict. The validator can judge the next one. MemoryError: out of memory; the document has ended."""
+        reported = _Verdict()
+        with self._validator._lock:
+            self._want_progress()
+            status = self._validator._library.rncv_document_end(self._validator._handle, reported)
+            self._validator._document = None
+        _want_done(status)
+        return Verdict(_KINDS[reported.kind], reported.clause, reported.line)
+
+    def close(self) -> None:
+        """Drops the document, without a verdict. Does nothing if it has ended."""
+        with self._validator._lock:
+            if self._is_in_progress():
+                self._validator._document = None
+                self._validator._library.rncv_document_end(self._validator._handle, _Verdict())
+
+    def __enter__(self) -> Document:
+        with self._validator._lock:
+            self._want_progress()
+        return self
+
+    def __exit__(self, kind: Optional[Type[BaseException]], error: Optional[BaseException], trace: Optional[TracebackType]) -> None:
+        self.close()
+
+    def __reduce__(self) -> NoReturn:
+        raise TypeError("a document is not copied or pickled")
+
+    def _feed_part(self, part: bytes) -> bool:
+        """Passes an object of type `bytes` to the library in one call. Returns what `feed` returns."""
+        with self._validator._lock:
+            self._want_progress()
+            status = self._validator._library.rncv_document_feed(self._validator._handle, part, len(part))
+        if status == _MALFORMED:
+            return False
+        _want_done(status)
+        return True
+
+    def _is_in_progress(self) -> bool:
+        current = self._validator._document
+        return current is not None and current() is self
+
+    def _want_progress(self) -> None:
+        self._validator._want_open()
+        if not self._is_in_progress():
+            raise ValueError("the document has ended")
+
+
+@overload
+def compile(files: Mapping[str, Bytes], /, *, annotations: bool = False) -> Validator: ...
+
+
+@overload
+def compile(*paths: Path) -> Validator: ...
+
+
+def compile(*files: Any, annotations: bool = False) -> Validator:
+    """Compiles the schema of these files. The first file is the main one.
+
+    They are paths, or one mapping of names to bytes. With paths the main file is enough, whatever folder the process is in: a file that another one mentions
+    is found beside that one, as for `rncv-xml` (docs/XML.md). Nothing is fetched. Further paths are files too, and a mention of such a path, byte for byte,
+    means that file. (`pathlib` gives `./a.rnc` as `a.rnc`.) In a mapping a file is mentioned by its name, byte for byte, and nothing is read. At most
+    1,048,577 bytes of a file are read, since a longer file is refused. Files that are nested very deeply may need more stack than the thread has, and that
+    ends the process: docs/LIBRARY.md has figures.
+
+    Annotations of the compact syntax that the library does not have (docs/XML.md) become blanks in files that are read, as for `rncv-xml`. Places are those in
+    the file as it is written. With `annotations=True` that is done for the files of a mapping too; else they are handed in as they are. It needs the library
+    for XML: without it all files are handed in as they are, and S6 refuses those annotations.
+
+    SchemaError: the files break a clause. OSError: a file cannot be read. ValueError: there is no file, a name is not UTF-8, or a mention may mean several
+    files. MemoryError: out of memory. LibraryError: there is no library.
+    """
+    library = _library()
+    if len(files) == 1 and isinstance(files[0], Mapping):
+        sources = _sources_of(files[0], annotations)
+    else:
+        sources = _sources_found(files)
+    if not sources.names:
+        raise ValueError("a schema has at least one file")
+    given = _array_of(sources.names, sources.texts)
+    handle, fault = _Schema(), _Fault()
+    status = library.rncv_compile(given, len(given), handle, fault)
+    if status == _REFUSED:
+        raise _refusal(fault, sources, given)
+    _want_done(status)
+    return Validator(handle, tuple(sources.texts))
+
+
+def clause_title(group: str, clause: int) -> Optional[str]:
+    """Returns the title of a clause, in English: group "S" with 1 to 27, or group "P" with 1 to 13. None for any other."""
+    if group not in ("S", "P") or not 0 < clause < 100:
+        return None
+    title: Optional[bytes] = _library().rncv_clause_title(group.encode("ascii"), clause)
+    return None if title is None else title.decode("utf-8")
+
+
+@dataclasses.dataclass
+class _Sources:
+    """The files of a schema: their names for the library, their names for people, their texts as they are written, and as the library gets them. `missing`
+    finds a mention of a file that is not there."""
+
+    names: list[bytes]
+    shown: list[str]
+    written: list[bytes]
+    texts: list[bytes]
+    missing: Callable[[], Optional[_schema_files.Missing]]
+
+
+def _sources_of(files: Mapping[Any, Any], annotations: bool) -> _Sources:
+    """The files of a mapping of names to bytes."""
+    written = [_whole(text) for text in files.values()]
+    texts = [_blanked(text) for text in written] if annotations else written
+    shown = list(files)
+    return _Sources([_utf8_of(name) for name in shown], shown, written, texts, lambda: _schema_files.missing_in(dict(zip(shown, written))))
+
+
+def _sources_found(paths: Iterable[Any]) -> _Sources:
+    """The files at these paths, and those that are found beside them."""
+    shown = [_name_of(path) for path in paths]
+    finder = _schema_files.Finder([(_utf8_of(path), path) for path in shown], _blanked)
+    files = finder.files[:_schema_files.MOST_FILES + 1]
+    names, texts = [file.name for file in files], [file.content for file in files]
+    return _Sources(names, [file.path for file in files], [file.written for file in files], texts, lambda: finder.missing)
+
+
+def _blanked(written: bytes) -> bytes:
+    """A file with blanks for annotations; as it is written if there is no library for XML."""
+    try:
+        return _xml.blanked(_xml_library(), written)
+    except LibraryError:
+        return written
+
+
+def _array_of(names: list[bytes], texts: list[bytes]) -> Any:
+    """Files as the libraries take them."""
+    return (_File * len(names))(*[_File(name, len(name), text, len(text)) for name, text in zip(names, texts)])
+
+
+def _refusal(fault: _Fault, sources: _Sources, given: Any) -> SchemaError:
+    """The error for files that the library refuses; `given` is the files as it took them."""
+    index = _known(fault.file)
+    name = None if index is None else sources.shown[index]
+    reported: tuple[Optional[str], Optional[tuple[str, int, int]]] = (None, None)
+    if fault.clause == 1 and index is None:
+        name = _written_by(_library().rncv_refused_name, given, len(given)).decode("utf-8")
+        missing = sources.missing()
+        reported = (name, None) if missing is None else (missing.what, (missing.file, missing.line, missing.column))
+    title = clause_title("S", fault.clause) or ""
+    hint = _hint(fault, sources) if fault.clause in _HINTED else ()
+    offset, line, column = _known(fault.offset), _known(fault.line), _known(fault.column)
+    if index is not None and offset is not None and sources.written[index] is not sources.texts[index]:
+        column = _schema_files.place_of(sources.written[index], offset)[1]  # a blank is a character for each byte
+    if offset is not None and hint[1:] != (name, line, column):
+        hint = ()  # the library has found another fault
+    return SchemaError(fault.clause, title, name, index, offset, line, column, *reported, *hint)
+
+
+def _hint(fault: _Fault, sources: _Sources) -> tuple[Any, ...]:
+    """The words and the place of a hint: the text, the file, the line and the column; nothing if there is none, or no library for XML."""
+    try:
+        found = _xml.hint_of(_xml_library(), _array_of(sources.names, sources.written), sources.shown, fault.clause)
+    except (LibraryError, MemoryError):
+        return ()
+    return () if found is None else (found.text, sources.shown[found.file], found.line, found.column)
+
+
+def _written_by(call: Callable[..., int], *words: Any) -> bytes:
+    """The text that a call of the library writes to a buffer. If the buffer is too small, a second call gets one that is not."""
+    length = ctypes.c_size_t(_TEXT_BYTES)
+    while True:
+        size = length.value
+        text = ctypes.create_string_buffer(size)
+        status = call(*words, text, size, length)
+        if status != _SPACE:
+            _want_done(status)
+            return ctypes.string_at(text, length.value)
+
+
+def _known(number: int) -> Optional[int]:
+    """A number that the library returns, or None for -1."""
+    return None if number < 0 else number
+
+
+def _want_done(status: int) -> None:
+    """Raises an error if a call failed."""
+    if status == _MEMORY:
+        raise MemoryError("rncv: out of memory")
+    if status != _DONE:
+        raise RuntimeError(f"rncv: a call of the library returned {status}")
+
+
+def _name_of(path: Any) -> str:
+    name = os.fspath(path)
+    if not isinstance(name, str):
+        raise TypeError(f"a path is text, and not {type(name).__name__}")
+    return name
+
+
+def _utf8_of(name: Any) -> bytes:
+    if not isinstance(name, str):
+        raise TypeError(f"the name of a file is text, and not {type(name).__name__}")
+    try:
+        return str.encode(name, "utf-8")
+    except UnicodeEncodeError:
+        raise ValueError(f"the name of the file {name!r} is not UTF-8") from None
+
+
+def _whole(data: Any) -> bytes:
+    """The data as `bytes`; copied unless its type is `bytes`."""
+    if type(data) is bytes:
+        return data
+    with memoryview(data) as view:
+        return view.tobytes()
+
+
+def _parts_of(data: Any) -> Generator[bytes, None, None]:
+    """Copies of the bytes in parts, each for one call. There is one part if they are empty."""
+    with _flat(data) as view:
+        for begin in range(0, max(1, len(view)), _CALL_BYTES):
+            yield view[begin:begin + _CALL_BYTES].tobytes()
+
+
+def _flat(data: Any) -> memoryview:
+    """A one-dimensional view of single bytes."""
+    view = memoryview(data)
+    if view.ndim == 1 and view.itemsize == 1:
+        return view
+    with view:
+        return memoryview(view.tobytes())
+
+
+def _pieces_of(document: Any) -> Iterator[Any]:
+    """The pieces of a document, in whatever form it was given."""
+    if isinstance(document, str):
+        raise TypeError("a document is bytes, and not str")
+    if isinstance(document, (bytes, bytearray, memoryview)):
+        return iter([document])
+    if hasattr(document, "read"):
+        return _read_pieces(document)
+    return iter([document]) if _is_buffer(document) else _joined(iter(document))
+
+
+def _joined(pieces: Iterator[Any]) -> Iterator[Any]:
+    """The pieces, with small ones joined. Only those of type `bytes` are: others may change once the next one is asked for."""
+    waiting: list[bytes] = []
+    size = 0
+    for piece in pieces:
+        is_small = type(piece) is bytes and len(piece) < _READ_BYTES
+        if is_small and piece:
+            waiting.append(piece)
+            size += len(piece)
+        if waiting and (size >= _READ_BYTES or not is_small):
+            yield b"".join(waiting)
+            waiting, size = [], 0
+        if not is_small:
+            yield piece
+    if waiting:
+        yield b"".join(waiting)
+
+
+def _read_pieces(file: Any) -> Iterator[Any]:
+    """The pieces of a binary file, to its end."""
+    while True:
+        piece = file.read(_READ_BYTES)
+        if piece is None:
+            raise BlockingIOError("the file has no bytes yet: it must be a file that waits for them")
+        if not piece:
+            if isinstance(piece, str):
+                raise TypeError("a document is a binary file, not a text file")
+            return
+        yield piece
+
+
+def _is_buffer(document: Any) -> bool:
+    """Whether an object gives access to its bytes, as an array does."""
+    try:
+        memoryview(document).release()
+    except TypeError:
+        return False
+    return True
+
+
+def _in_progress() -> bool:
+    """Takes the place of a document while an XML document is judged."""
+    return True
+
+
+def _judged_xml(judge: _xml.Judge, document: Any) -> XmlVerdict:
+    """The verdict on an XML document, in whatever form it was given."""
+    if isinstance(document, (str, os.PathLike)):
+        return judge.of_path(_name_of(document))
+    if not isinstance(document, (bytes, bytearray, memoryview)) and hasattr(document, "read"):
+        return judge.of_file(document)
+    if _is_buffer(document):
+        return judge.of_bytes(_whole(document))
+    raise TypeError(f"an XML document is a path, bytes or a binary file, and not {type(document).__name__}")
+
+
+@functools.lru_cache(maxsize=None)
+def _xml_library() -> ctypes.CDLL:
+    """The library for XML, which is beside the other one and uses it."""
+    other = _library()._name
+    folder, name = os.path.split(other)
+    there = [path for path in (os.path.join(folder, name) for name in _xml.NAMES) if os.path.exists(path)]
+    path = (there[0] if there else None) if folder else ctypes.util.find_library("rncv_xml")
+    if path is None:
+        raise LibraryError(f"no library of rncv for XML: there is no {_xml.NAMES[0]} beside {other}. programs/xml/library.sh builds it")
+    try:
+        return _xml.typed(ctypes.CDLL(path))
+    except (OSError, AttributeError) as error:
+        raise LibraryError(f"the library of rncv for XML cannot be used: {path}: {error}") from None
+
+
+@functools.lru_cache(maxsize=None)
+def _library() -> ctypes.CDLL:
+    """The library, with the types of its functions."""
+    missed = []
+    for place, path in _places():
+        try:
+            if path is not None:
+                return _typed(ctypes.CDLL(path))
+            missed.append(f"  {place}: not there")
+        except (OSError, AttributeError) as error:
+            missed.append(f"  {place}: {error}")
+    looked_for = "\n".join(missed)
+    raise LibraryError(f"no library of rncv. programs/library/build.sh builds it, and RNCV_LIBRARY may name it. These places were searched:\n{looked_for}")
+
+
+def _places() -> Iterator[tuple[str, Optional[str]]]:
+    """The places where the library may be, in search order, each with the file or the name to load, if there is one."""
+    named = os.environ.get("RNCV_LIBRARY")
+    if named:
+        path = pathlib.Path(named).resolve()
+        yield f"RNCV_LIBRARY={named}", str(path / "lib/librncv.so" if path.is_dir() else path)
+        return
+    package = pathlib.Path(__file__).resolve().parent
+    folders = [package, package.parent]
+    top = package.parents[2] if len(package.parents) > 2 else package
+    if (top / "programs/library/include/rncv.h").is_file():
+        folders.append(top / "build/library/lib")
+    if package.parts[-4:-1] == ("share", "rncv", "python"):
+        folders.append(package.parents[3] / "lib")
+    for folder in folders:
+        there = [folder / name for name in _NAMES if (folder / name).exists()]
+        yield f"{folder}/{' or '.join(_NAMES)}", str(there[0]) if there else None
+    yield "the library rncv of the system", ctypes.util.find_library("rncv")
+
+
+def _typed(library: ctypes.CDLL) -> ctypes.CDLL:
+    """Returns the library with the types of its functions. Raises AttributeError if it lacks one."""
+    schema, size, status = ctypes.POINTER(_Schema), ctypes.c_size_t, ctypes.c_int32
+    for name, kinds, kind in [
+        ("rncv_compile", [ctypes.POINTER(_File), size, schema, ctypes.POINTER(_Fault)], status),
+        ("rncv_refused_name", [ctypes.POINTER(_File), size, ctypes.c_char_p, size, ctypes.POINTER(size)], status),
+        ("rncv_schema_share", [schema, schema], status),
+        ("rncv_schema_free", [schema], None),
+        ("rncv_document_begin", [schema], status),
+        ("rncv_document_feed", [schema, ctypes.c_char_p, size], status),
+        ("rncv_document_invalid_since", [schema, ctypes.POINTER(ctypes.c_uint64)], status),
+        ("rncv_document_end", [schema, ctypes.POINTER(_Verdict)], status),
+        ("rncv_simple", [schema, ctypes.c_char_p, size, ctypes.POINTER(size)], status),
+        ("rncv_clause_title", [ctypes.c_char, ctypes.c_int32], ctypes.c_char_p),
+    ]:
+        call = getattr(library, name)
+        call.argtypes, call.restype = kinds, kind
+    return library

@@ -1,0 +1,59 @@
+#!/bin/sh
+# Builds rncv-xml, rng2rnc and xml2pyx:   programs/xml/build.sh [FOLDER]
+#
+# FOLDER, by default build/xml at the top of the repository, then has the three programs. They need a C compiler, the headers of libxml2 (2.9.10 or later)
+# and, but for xml2pyx, the library. RNCV_LIBRARY names its folder, by default build/library, where programs/library/build.sh leaves it. If something is
+# missing, the script says what, and ends with status 2. It uses CC and CFLAGS. ONLY=xml2pyx builds that program alone, which needs no library.
+set -eu
+
+here=$(cd "$(dirname "$0")" && pwd)
+top=$(cd "$here/../.." && pwd)
+folder=${1:-$top/build/xml}
+library=${RNCV_LIBRARY:-$top/build/library}
+cc=${CC:-cc}
+flags="-std=c17 -Wall -Wextra -Wconversion -Werror -pedantic -D_XOPEN_SOURCE=700 -D_FILE_OFFSET_BITS=64"
+
+missing() { echo "programs/xml/build.sh: $1" >&2; exit 2; }
+
+command -v "$cc" > /dev/null || missing "no C compiler '$cc': install gcc or clang (Debian: apt-get install gcc libc6-dev), or name one by CC"
+
+mkdir -p "$folder"
+work=$(mktemp -d "$folder/objects.XXXXXX")
+trap 'rm -rf "$work"' EXIT
+
+. "$here/parser.sh"
+has_parser "$work" ||
+    missing "no libxml2 2.9.10 or later: install its headers (Debian: apt-get install libxml2-dev; Fedora: libxml2-devel; Homebrew: libxml2)"
+
+flags="$flags $("$top/programs/packaging/hardening.sh" objects)"
+linked=$("$top/programs/packaging/hardening.sh" program)
+
+compile() {
+    for source in "$@"; do
+        $cc $flags ${CFLAGS:--O2} -I"$library/include" $parser_flags -c -o "$work/$source.o" "$here/src/$source.c"
+    done
+}
+
+objects() { for source in "$@"; do printf '%s ' "$work/$source.o"; done; }
+
+shared="$parser_parts program"
+rng="rng_tree rng_namespaces rng_grammar rng_uri rng_prefixes rng_words rng_patterns rng_writer"
+hints="schema_tree schema_grammars schema_words schema_restrictions schema_hints"
+merging="schema_walk schema_merging schema_merged_text"
+reading="two_threads paths schema_tokens annotation_names schema_annotations xml_names origins $rng catalogs schema_files schema_xml $merging"
+ids="text_table id_form id_types id_check schema_ids"
+judging="$reading $ids $hints options documents line_places judging probes progress formats report jobs"
+converting="$reading $ids line_places judging probes"
+
+compile $shared xml2pyx
+$cc $linked ${CFLAGS:--O2} -o "$work/xml2pyx" $(objects $shared xml2pyx) $parser_libs -lpthread ${LIBS:-}
+mv "$work/xml2pyx" "$folder/xml2pyx"
+[ "${ONLY:-}" != xml2pyx ] || exit 0
+
+[ -f "$library/include/rncv.h" ] && [ -f "$library/lib/librncv.a" ] ||
+    missing "no librncv in $library: build it by programs/library/build.sh, or name its folder by RNCV_LIBRARY"
+compile $judging rncv-xml rng2rnc
+$cc $linked ${CFLAGS:--O2} -o "$work/rncv-xml" $(objects $shared $judging rncv-xml) "$library/lib/librncv.a" $parser_libs -lpthread ${LIBS:-}
+mv "$work/rncv-xml" "$folder/rncv-xml"
+$cc $linked ${CFLAGS:--O2} -o "$work/rng2rnc" $(objects $shared $converting rng2rnc) "$library/lib/librncv.a" $parser_libs -lpthread ${LIBS:-}
+mv "$work/rng2rnc" "$folder/rng2rnc"

@@ -1,0 +1,313 @@
+#include "feed.h"
+
+#include "parser_memory.h"
+
+#include <string.h>
+
+enum {
+    PIECE_BYTES = 65536,    /* of the document, read at once */
+    TOKEN_BYTES = 16777216, /* the longest markup */
+    MOST_CHOICES = 10000,   /* of a declaration: libxml2 compares them in pairs */
+    FORGOTTEN_BYTES = 65536 /* the text that was read is forgotten in pieces of this length */
+};
+
+const char too_many_choices[] = "over a limit of this program: a declaration has more than 10,000 choices";
+const char too_many_attributes[] = "over a limit of this program: a tag has more than 256 attributes and declarations";
+
+void feed_open(struct feed *feed, const struct byte_source *source, struct fault *fault) {
+    static const struct decoding new_decoding = NO_DECODING;
+    memset(feed, 0, sizeof *feed);
+    feed->source = source;
+    feed->fault = fault;
+    feed->decoding = new_decoding;
+    feed->place = (struct place){1, 1};
+}
+
+void feed_close(struct feed *feed) {
+    decoding_free(&feed->decoding);
+    bytes_free(&feed->text);
+    bytes_free(&feed->room);
+}
+
+static bool is_blank(char byte) {
+    return byte == ' ' || byte == '\t' || byte == '\n';
+}
+
+static uint64_t end_of(const struct feed *feed) {
+    return feed->begin + feed->text.length;
+}
+
+uint64_t feed_offset(const struct feed *feed) {
+    if (feed->is_away) {
+        return feed->away_at;
+    }
+    if (feed->parser->inputNr < 1) {
+        return feed->begin + feed->given;
+    }
+    const xmlParserInput *input = feed->parser->inputTab[0];
+    return (uint64_t)input->consumed + (uint64_t)(input->cur - input->base);
+}
+
+bool feed_offset_of(const struct feed *feed, const xmlChar *pointer, uint64_t *offset) {
+    if (feed->parser->inputNr < 1 || feed->is_away) {
+        return false;
+    }
+    const xmlParserInput *input = feed->parser->inputTab[0];
+    if (pointer < input->base || pointer >= input->end) {
+        return false;
+    }
+    *offset = (uint64_t)input->consumed + (uint64_t)(pointer - input->base);
+    return true;
+}
+
+char feed_byte(const struct feed *feed, uint64_t offset) {
+    return offset < feed->begin || offset >= end_of(feed) ? '\0' : feed->text.data[offset - feed->begin];
+}
+
+static bool is_at(const struct feed *feed, uint64_t offset, const char *text) {
+    size_t length = strlen(text);
+    return offset >= feed->begin && offset + length <= end_of(feed) && memcmp(feed->text.data + (offset - feed->begin), text, length) == 0;
+}
+
+uint64_t feed_last(const struct feed *feed, uint64_t end, const char *text) {
+    uint64_t last = end < end_of(feed) ? end : end_of(feed);
+    const char *at = feed->text.data + (last - feed->begin);
+    while (at > feed->text.data) {
+        at--;
+        if (*at == text[0] && is_at(feed, feed->begin + (uint64_t)(at - feed->text.data), text)) {
+            return feed->begin + (uint64_t)(at - feed->text.data);
+        }
+    }
+    return end;
+}
+
+struct place feed_place(struct feed *feed, uint64_t offset) {
+    uint64_t end = offset < end_of(feed) ? offset : end_of(feed);
+    if (end <= feed->place_at) {
+        return feed->place;
+    }
+    const char *last = feed->text.data + (end - feed->begin);
+    uint64_t line = feed->place.line;
+    uint64_t column = feed->place.column;
+    for (const char *at = feed->text.data + (feed->place_at - feed->begin); at < last; at++) {
+        if (*at == '\n') {
+            line++;
+            column = 1;
+        } else if (((unsigned char)*at & 0xC0) != 0x80) {
+            column++;
+        }
+    }
+    feed->place_at = end;
+    feed->place = (struct place){line, column};
+    return feed->place;
+}
+
+void feed_move(struct feed *feed, uint64_t next) {
+    feed->next = next > feed->next ? next : feed->next;
+}
+
+uint64_t feed_settle(struct feed *feed, uint64_t end) {
+    if (end == feed->settled) {
+        return feed->next;
+    }
+    feed->settled = end;
+    while (feed_byte(feed, feed->next) == '&') {
+        uint64_t at = feed->next;
+        while (at < end && feed_byte(feed, at) != ';') {
+            at++;
+        }
+        if (at + 1 >= end) {
+            break;
+        }
+        feed->next = at + 1;
+    }
+    return feed->next;
+}
+
+/* Forgets the text that was read. What may be asked for again is kept. */
+static void forget(struct feed *feed) {
+    feed_place(feed, feed->next < feed->begin + feed->given ? feed->next : feed->begin + feed->given);
+    uint64_t read = feed->place_at < feed->next ? feed->place_at : feed->next;
+    size_t length = read > feed->begin ? (size_t)(read - feed->begin) : 0;
+    if (length > feed->given) {
+        length = feed->given;
+    }
+    if (length >= FORGOTTEN_BYTES) {
+        bytes_cut_front(&feed->text, length);
+        feed->begin += length;
+        feed->given -= length;
+    }
+}
+
+/* Reads the next bytes of the document. False: there is a fault. */
+static bool read_more(struct feed *feed) {
+    size_t length = 0;
+    if (!bytes_reserve(&feed->room, PIECE_BYTES)) {
+        fault_set(feed->fault, FAULT_MEMORY, (struct place){0, 0}, "out of memory");
+        return false;
+    }
+    parser_memory_pause(true); /* the source may use libxml2 itself */
+    bool is_read = feed->source->read(feed->source->context, feed->room.data, PIECE_BYTES, &length, feed->fault);
+    parser_memory_pause(false);
+    if (!is_read) {
+        fault_set(feed->fault, FAULT_DEVICE, (struct place){0, 0}, "read failed"); /* unless the source has set a fault */
+        return false;
+    }
+    if (length == 0) {
+        decoding_end(&feed->decoding, &feed->text);
+        feed->has_ended = true;
+    } else {
+        decoding_take(&feed->decoding, feed->room.data, length, &feed->text);
+    }
+    return true;
+}
+
+/* Scans what has come of a tag. */
+static void scan(struct tag_scan *scan, struct span text) {
+    for (size_t at = 0; at < text.length && !scan->has_ended; at++) {
+        char byte = text.data[at];
+        if (scan->quote != 0) {
+            scan->quote = byte == scan->quote ? '\0' : scan->quote;
+        } else if (byte == '"' || byte == '\'') {
+            scan->quote = byte;
+        } else if (byte == '=') {
+            scan->count++;
+        }
+        scan->has_ended = scan->quote == 0 && (byte == '>' || byte == '<');
+    }
+}
+
+/* The offset behind a comment, an instruction or a CDATA section that begins at `at`; `at` if none does. */
+static size_t skipped(struct span text, size_t at) {
+    static const char *const kinds[][2] = {{"<!--", "-->"}, {"<?", "?>"}, {"<![CDATA[", "]]>"}};
+    for (size_t kind = 0; kind < sizeof kinds / sizeof *kinds; kind++) {
+        size_t length = strlen(kinds[kind][0]);
+        if (text.length - at < length || memcmp(text.data + at, kinds[kind][0], length) != 0) {
+            continue;
+        }
+        size_t end = strlen(kinds[kind][1]);
+        for (at += length; at + end <= text.length; at++) {
+            if (memcmp(text.data + at, kinds[kind][1], end) == 0) {
+                return at + end;
+            }
+        }
+        return text.length;
+    }
+    return at;
+}
+
+bool has_too_many_choices(struct span text) {
+    size_t count = 0;
+    for (size_t at = 0; at < text.length && count <= MOST_CHOICES;) {
+        size_t behind = text.data[at] == '<' ? skipped(text, at) : at;
+        count = text.data[at] == '>' ? 0 : count + (text.data[at] == '|' && behind == at);
+        at = behind > at ? behind : at + 1;
+    }
+    return count > MOST_CHOICES;
+}
+
+bool has_too_many_attributes(struct span text) {
+    struct tag_scan found = {0, 0, '\0', 0, true};
+    for (size_t at = 0; at < text.length; at++) {
+        size_t behind = found.has_ended && text.data[at] == '<' ? skipped(text, at) : at;
+        if (behind > at) {
+            at = behind - 1;
+            continue;
+        }
+        if (found.has_ended && text.data[at] == '<') {
+            found = (struct tag_scan){0, 0, '\0', 0, false};
+        } else {
+            scan(&found, (struct span){text.data + at, 1});
+        }
+        if (found.count > MOST_ATTRIBUTES) {
+            return true;
+        }
+    }
+    return false;
+}
+
+uint64_t feed_markup(struct feed *feed) {
+    feed->markup = feed->markup > feed->next ? feed->markup : feed->next;
+    while (is_blank(feed_byte(feed, feed->markup))) {
+        feed->markup++;
+    }
+    return feed->markup;
+}
+
+/* Refuses a tag with too many attributes, before all of it has come. */
+static void check_tag(struct feed *feed, uint64_t markup) {
+    uint64_t given = feed->begin + feed->given;
+    char after = feed_byte(feed, markup + 1);
+    bool is_tag = feed_byte(feed, markup) == '<' && after != '\0' && strchr("!?/", after) == NULL;
+    if (feed->parser->instate == XML_PARSER_DTD || !is_tag || markup >= given) {
+        return;
+    }
+    if (feed->scan.tag != markup || feed->scan.next == 0) {
+        feed->scan = (struct tag_scan){markup, markup + 1, '\0', 0, false};
+    }
+    scan(&feed->scan, (struct span){feed->text.data + (feed->scan.next - feed->begin), (size_t)(given - feed->scan.next)});
+    feed->scan.next = given;
+    if (feed->scan.count > MOST_ATTRIBUTES) {
+        fault_set(feed->fault, FAULT_OUTSIDE, feed_place(feed, markup), "%s", too_many_attributes);
+    }
+}
+
+/* Refuses a declaration with too many choices, before all of it has come. */
+static void check_choices(struct feed *feed, uint64_t markup) {
+    uint64_t given = feed->begin + feed->given;
+    if (feed->parser->instate != XML_PARSER_DTD || is_at(feed, markup, "<!--") || is_at(feed, markup, "<?")) {
+        return;
+    }
+    if (feed->choices_begin != feed->next) {
+        feed->choices_begin = feed->next;
+        feed->choices_at = feed->next;
+        feed->choices = 0;
+    }
+    for (; feed->choices_at < given; feed->choices_at++) {
+        feed->choices += feed_byte(feed, feed->choices_at) == '|';
+    }
+    if (feed->choices > MOST_CHOICES) {
+        fault_set(feed->fault, FAULT_OUTSIDE, feed_place(feed, feed->next), "%s", too_many_choices);
+    }
+}
+
+/* Refuses markup that is too long. Comments, instructions and CDATA have no limit. */
+static void check_length(struct feed *feed, uint64_t markup) {
+    if (feed->begin + feed->given > markup + TOKEN_BYTES && !is_at(feed, markup, "<!--") && !is_at(feed, markup, "<![CDATA[") &&
+        (!is_at(feed, markup, "<?") || is_at(feed, markup, "<?xml "))) {
+        fault_set(feed->fault, FAULT_OUTSIDE, feed_place(feed, markup), "markup of more than 16,777,216 bytes: outside the profile");
+    }
+}
+
+/* libxml2 looks ahead in what it gets at once, so it gets all that it asks for unless the document ends. */
+int feed_read(void *context, char *bytes, int length) {
+    struct feed *feed = context;
+    size_t wanted = length > 0 ? (size_t)length : 0;
+    while (feed->fault->kind == FAULT_NONE && feed->text.length - feed->given < wanted && !feed->has_ended && feed->decoding.fault.kind == FAULT_NONE) {
+        forget(feed);
+        feed->before_read(feed->context);
+        if (feed->fault->kind != FAULT_NONE || !read_more(feed)) {
+            return -1;
+        }
+    }
+    if (feed->given == feed->text.length && feed->decoding.fault.kind != FAULT_NONE) {
+        struct fault *why = &feed->decoding.fault;
+        struct place place = why->kind == FAULT_MEMORY ? (struct place){0, 0} : feed_place(feed, end_of(feed));
+        fault_set(feed->fault, why->kind, place, "%s", bytes_text(&why->what));
+    }
+    if (feed->fault->kind != FAULT_NONE) {
+        return -1;
+    }
+    size_t left = feed->text.length - feed->given;
+    size_t count = left < wanted ? left : wanted;
+    if (count == 0) {
+        return 0;
+    }
+    memcpy(bytes, feed->text.data + feed->given, count);
+    feed->given += count;
+    uint64_t markup = feed_markup(feed);
+    check_tag(feed, markup);
+    check_choices(feed, markup);
+    check_length(feed, markup);
+    return feed->fault->kind == FAULT_NONE ? (int)count : -1;
+}

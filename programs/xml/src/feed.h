@@ -1,0 +1,87 @@
+/* Gives a document's text to libxml2 as it reads, and knows the place of each offset in the text.
+ *
+ * The text is what `decoding.h` makes of the document, so libxml2 sees UTF-8 with a line feed for each line end, whatever the document's encoding. */
+#ifndef FEED_H
+#define FEED_H
+
+#include "conversion.h"
+#include "decoding.h"
+
+#include <libxml/parser.h>
+
+enum { MOST_ATTRIBUTES = 256 }; /* with declarations of namespaces: PYX has no more in a tag */
+
+/* The start tag that is being read: how many attributes it has. It is scanned while its text comes, before libxml2 compares them in pairs. */
+struct tag_scan {
+    uint64_t tag; /* its offset */
+    uint64_t next; /* the offset from which on it is not scanned */
+    char quote;   /* the quote of the value that is being read; 0: none */
+    unsigned count;
+    bool has_ended;
+};
+
+struct feed {
+    const struct byte_source *source;
+    struct fault *fault;
+    xmlParserCtxtPtr parser; /* of the document itself; an entity's text may have a parser of its own */
+    struct decoding decoding;
+    struct bytes text;  /* what is kept of the text */
+    uint64_t begin;     /* the offset of its first byte */
+    size_t given;       /* how many of its bytes libxml2 has */
+    bool has_ended;     /* there is no more of the document */
+    uint64_t place_at;  /* an offset, and its place */
+    struct place place;
+    bool is_away;       /* libxml2 reads the external DTD, and the parser's first input is that (`away_at`: where it is in the document) */
+    uint64_t away_at;
+    uint64_t markup;    /* the offset after the blanks at `next`, as far as they are known */
+    uint64_t settled;   /* the last offset up to which references that gave nothing were passed */
+    uint64_t choices_at;    /* the offset from which on the choices of a declaration are not counted */
+    size_t choices;         /* how many there are before that */
+    uint64_t choices_begin; /* where the counting began */
+    uint64_t next;      /* the offset of the markup or the text that is being read */
+    struct tag_scan scan;
+    struct bytes room;  /* where the document's bytes are read */
+    void (*before_read)(void *context); /* is called before more of the document is read, which may take long */
+    void *context;
+};
+
+void feed_open(struct feed *feed, const struct byte_source *source, struct fault *fault);
+void feed_close(struct feed *feed);
+
+/* Reads for libxml2, as its input callback. */
+int feed_read(void *feed, char *bytes, int length);
+
+/* The offset at which libxml2 is in the document. */
+uint64_t feed_offset(const struct feed *feed);
+
+/* Whether the pointer is into the text of the document as libxml2 has it. Then sets its offset. */
+bool feed_offset_of(const struct feed *feed, const xmlChar *pointer, uint64_t *offset);
+
+/* The byte at the offset; 0: it is not kept. */
+char feed_byte(const struct feed *feed, uint64_t offset);
+
+/* The last offset before `end`, and not before what is kept, at which the text is; `end` if there is none. */
+uint64_t feed_last(const struct feed *feed, uint64_t end, const char *text);
+
+/* The place of an offset. Offsets before the last one that was asked for have its place. */
+struct place feed_place(struct feed *feed, uint64_t offset);
+
+/* Moves on: what is before the offset was read. */
+void feed_move(struct feed *feed, uint64_t next);
+
+/* The offset of the markup that is being read, after blanks. */
+uint64_t feed_markup(struct feed *feed);
+
+/* Moves on to the text or markup that ends at or before `end`, over references that gave nothing. Returns its offset. */
+uint64_t feed_settle(struct feed *feed, uint64_t end);
+
+/* Whether a tag in the text has more attributes than PYX has. */
+bool has_too_many_attributes(struct span text);
+
+/* Whether a declaration in the text has more choices than are read. */
+bool has_too_many_choices(struct span text);
+
+extern const char too_many_attributes[];
+extern const char too_many_choices[];
+
+#endif

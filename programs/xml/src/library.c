@@ -1,0 +1,621 @@
+/* The library over the parts of rncv-xml. */
+#include "rncv_xml.h"
+
+#include "judging.h"
+#include "paths.h"
+#include "schema_annotations.h"
+#include "schema_files.h"
+#include "schema_hints.h"
+#include "schema_ids.h"
+#include "schema_tokens.h"
+
+#include <errno.h>
+#include <fcntl.h>
+#include <inttypes.h>
+#include <stdlib.h>
+#include <string.h>
+#include <unistd.h>
+
+/* What all judges by one schema have in common: the values that they try, and the attributes with an ID-type. The last judge frees it. */
+struct values {
+    atomic_size_t owners;
+    char **list;
+    size_t count;
+    struct id_types *ids;  /* NULL: there are none */
+    struct bytes unsound;  /* why they are not checked; empty if they are */
+};
+
+/* What a judge's handle holds. */
+struct held {
+    struct values *values;
+    struct shared shared; /* `schema` is for making other judges */
+    struct judge judge;
+    struct answer answer; /* the last one */
+    struct bytes notes;   /* its notes, as lines */
+    bool is_busy;         /* a document is being judged */
+};
+
+/* What a handle of files holds. */
+struct found {
+    struct schema_files files;
+    rncv_file *list;
+    const char **paths;
+};
+
+/* A document that is being read. */
+struct reading {
+    int file;
+    int error;
+    struct span left;
+    rncv_xml_read read;
+    void *context;
+};
+
+static void no_tick(void *context) {
+    (void)context;
+}
+
+static void values_let_go(struct values *values) {
+    if (values == NULL || atomic_fetch_sub(&values->owners, 1) > 1) {
+        return;
+    }
+    for (size_t at = 0; at < values->count; at++) {
+        free(values->list[at]);
+    }
+    free(values->list);
+    schema_ids_free(values->ids);
+    bytes_free(&values->unsound);
+    free(values);
+}
+
+/* Takes the values out of the files of a schema, and reads its ID-types. NULL: out of memory. */
+static struct values *values_of(rncv_schema *schema, struct schema_files *files) {
+    struct values *values = calloc(1, sizeof *values);
+    if (values == NULL) {
+        return NULL;
+    }
+    atomic_init(&values->owners, 1);
+    values->list = files->values;
+    values->count = files->value_count;
+    files->values = NULL;
+    files->value_count = 0;
+    if (!schema_ids_read(schema, files, &values->ids, &values->unsound)) {
+        values_let_go(values);
+        return NULL;
+    }
+    return values;
+}
+
+static void held_free(struct held *held) {
+    if (held != NULL) {
+        judge_close(&held->judge);
+        rncv_schema_free(&held->shared.schema);
+        answer_free(&held->answer);
+        bytes_free(&held->notes);
+        values_let_go(held->values);
+        free(held);
+    }
+}
+
+/* Makes a judge and puts it into the handle. Owns `values`, even if it fails. */
+static int32_t hold(rncv_schema *schema, struct values *values, rncv_xml_judge *judge) {
+    struct held *held = calloc(1, sizeof *held);
+    if (held == NULL) {
+        values_let_go(values);
+        return RNCV_MEMORY;
+    }
+    held->values = values;
+    held->answer = (struct answer)NO_ANSWER;
+    held->shared.wants_earlier = true;
+    held->shared.values = (const char *const *)values->list;
+    held->shared.value_count = values->count;
+    held->shared.ids = values->ids;
+    held->shared.tick = no_tick;
+    atomic_init(&held->shared.bytes_read, 0);
+    int32_t status = rncv_schema_share(schema, &held->shared.schema);
+    if (status == RNCV_DONE && !judge_open(&held->judge, &held->shared)) {
+        status = RNCV_MEMORY;
+    }
+    if (status == RNCV_DONE) {
+        held_free(judge->hidden);
+        judge->hidden = held;
+    } else {
+        held_free(held);
+    }
+    return status;
+}
+
+static bool is_busy(const rncv_xml_judge *judge) {
+    const struct held *held = judge->hidden;
+    return held != NULL && held->is_busy;
+}
+
+/* The bytes as a text of the caller's; NULL: out of memory. */
+static char *taken(struct bytes *bytes) {
+    bytes_add_byte(bytes, '\0');
+    if (bytes->failed) {
+        bytes_free(bytes);
+    }
+    char *text = bytes->data;
+    *bytes = (struct bytes)NO_BYTES;
+    return text;
+}
+
+static void add_text(struct bytes *to, struct bytes *from) {
+    bytes_add(to, from->data, from->length);
+}
+
+void rncv_xml_fault_free(rncv_xml_fault *fault) {
+    if (fault != NULL) {
+        free(fault->path);
+        free(fault->message);
+        free(fault->missing);
+        *fault = (rncv_xml_fault)RNCV_XML_NO_FAULT;
+    }
+}
+
+static void found_free(struct found *found) {
+    schema_files_free(&found->files);
+    free(found->list);
+    free(found->paths);
+    free(found);
+}
+
+void rncv_xml_files_free(rncv_xml_files *files) {
+    if (files != NULL && files->hidden != NULL) {
+        found_free(files->hidden);
+    }
+    if (files != NULL) {
+        *files = (rncv_xml_files)RNCV_XML_NO_FILES;
+    }
+}
+
+/* Lists the files for rncv_compile. */
+static bool list(struct found *found, rncv_xml_files *files) {
+    size_t count = found->files.handed;
+    found->list = calloc(count, sizeof *found->list);
+    found->paths = calloc(count, sizeof *found->paths);
+    for (size_t at = 0; found->list != NULL && found->paths != NULL && at < count; at++) {
+        struct schema_file *file = &found->files.list[at];
+        const struct bytes *handed = schema_file_handed(file);
+        const char *text = handed->data == NULL ? "" : handed->data;
+        found->list[at] = (rncv_file){(const uint8_t *)bytes_text(&file->name), file->name.length, (const uint8_t *)text, handed->length};
+        found->paths[at] = bytes_text(&file->path);
+    }
+    *files = (rncv_xml_files){found->list, found->paths, count, found};
+    return found->list != NULL && found->paths != NULL;
+}
+
+/* The status for files that were not collected. */
+static int32_t status_of_problem(struct schema_files *files, rncv_xml_fault *fault) {
+    int32_t status = files->failed ? RNCV_MEMORY : files->problem_status == STATUS_REFUSED ? RNCV_REFUSED : RNCV_XML_UNREAD;
+    if (fault != NULL && !files->failed) {
+        fault->path = taken(&files->problem_path);
+        fault->message = taken(&files->problem);
+        fault->line = files->problem_place.line;
+        fault->column = files->problem_place.column;
+    }
+    return status;
+}
+
+/* Copies the mappings for the files. NULL: a text is NULL, and `status` says so, or memory ran out. */
+static struct mapping *mapped(const rncv_xml_mapping *mappings, size_t count, int32_t *status) {
+    struct mapping *copies = calloc(count + 1, sizeof *copies);
+    *status = copies == NULL ? RNCV_MEMORY : RNCV_DONE;
+    for (size_t at = 0; copies != NULL && at < count && *status == RNCV_DONE; at++) {
+        if (mappings[at].href == NULL || mappings[at].path == NULL) {
+            *status = RNCV_MISUSE;
+        } else {
+            copies[at] = (struct mapping){mappings[at].href, strlen(mappings[at].href), mappings[at].path};
+        }
+    }
+    return copies;
+}
+
+/* Collects the files that the request asks for. */
+static int32_t collect(const struct schema_request *request, rncv_xml_files *files, rncv_xml_fault *fault) {
+    struct found *found = calloc(1, sizeof *found);
+    if (found == NULL) {
+        return RNCV_MEMORY;
+    }
+    rncv_xml_files fresh = RNCV_XML_NO_FILES;
+    int32_t status = RNCV_DONE;
+    if (!schema_files_collect(&found->files, request)) {
+        status = status_of_problem(&found->files, fault);
+    } else if (!list(found, &fresh)) {
+        status = RNCV_MEMORY;
+    }
+    if (status == RNCV_DONE) {
+        rncv_xml_files_free(files);
+        *files = fresh;
+    } else {
+        found_free(found);
+    }
+    return status;
+}
+
+int32_t rncv_xml_files_find(const char *path, const rncv_xml_mapping *mappings, size_t count, rncv_xml_files *files, rncv_xml_fault *fault) {
+    if (path == NULL || files == NULL || (mappings == NULL && count > 0)) {
+        return RNCV_MISUSE;
+    }
+    rncv_xml_fault_free(fault);
+    /* for the program this name is standard input */
+    const char *given = strcmp(path, "-") == 0 ? "./-" : path;
+    int32_t status;
+    struct mapping *copies = mapped(mappings, count, &status);
+    if (status == RNCV_DONE) {
+        struct schema_request request = {&given, 1, copies, count, NULL, NULL, false, false, 0};
+        status = collect(&request, files, fault);
+    }
+    free(copies);
+    return status;
+}
+
+int32_t rncv_xml_annotations_blank(void *bytes, size_t length, int32_t *changed) {
+    if (changed == NULL || (bytes == NULL && length > 0)) {
+        return RNCV_MISUSE;
+    }
+    size_t mark = length > 0 ? mark_length(bytes, length) : 0;
+    struct annotations found = {false, NULL, 0};
+    bool is_good = length == mark || annotations_blank((char *)bytes + mark, length - mark, &found);
+    *changed = found.is_changed;
+    return is_good ? RNCV_DONE : RNCV_MEMORY;
+}
+
+/* The files as the search for a hint takes them. NULL: out of memory. */
+static struct schema_hint_file *hint_files(const rncv_file *files, const char *const *paths, size_t count) {
+    struct schema_hint_file *list = calloc(count, sizeof *list);
+    for (size_t at = 0; list != NULL && at < count; at++) {
+        const rncv_file *file = &files[at];
+        const char *name = file->name == NULL ? "" : (const char *)file->name;
+        list[at] = (struct schema_hint_file){name, file->name_length, (const char *)file->bytes, file->length, paths == NULL ? NULL : paths[at], NULL};
+    }
+    return list;
+}
+
+/* Looks for a hint in the list, and frees the list. */
+static void find_hint(struct schema_hint_file *list, size_t count, int32_t clause, rncv_xml_hint *hint) {
+    _Static_assert(RNCV_XML_HINT_BYTES == SCHEMA_HINT_BYTES, "a text fits");
+    struct schema_hint found;
+    hint->file = 0;
+    hint->line = 0;
+    hint->column = 0;
+    hint->text[0] = '\0';
+    if (list != NULL && schema_hint_find(list, count, clause, &found)) {
+        hint->file = found.file;
+        hint->line = found.line;
+        hint->column = found.column;
+        memcpy(hint->text, found.text, strlen(found.text) + 1);
+    }
+    free(list);
+}
+
+int32_t rncv_xml_hint_find(const rncv_file *files, const char *const *paths, size_t count, int32_t clause, rncv_xml_hint *hint) {
+    if (files == NULL || count == 0 || hint == NULL) {
+        return RNCV_MISUSE;
+    }
+    find_hint(hint_files(files, paths, count), count, clause, hint);
+    return RNCV_DONE;
+}
+
+/* Says which mentioned file is not there. */
+static void explain_missing(struct missing *missing, rncv_xml_fault *fault, struct bytes *message) {
+    bool is_sought = missing->sought.length > 0;
+    struct bytes path = NO_BYTES;
+    struct bytes name = NO_BYTES;
+    add_text(&path, &missing->path);
+    add_text(&name, is_sought ? &missing->sought : &missing->name);
+    bytes_format(message, ": there is no %s%s", bytes_text(&name), is_sought ? "" : ", and nothing is fetched");
+    fault->line = missing->place.line;
+    fault->column = missing->place.column;
+    fault->path = taken(&path);
+    fault->missing = taken(&name);
+}
+
+/* Looks for a hint in files that were found. Its places are those of the files that were read, also where the compact syntax was written of them. */
+static void find_own_hint(const rncv_xml_files *files, int32_t clause, rncv_xml_hint *hint) {
+    const struct found *found = files->hidden;
+    const struct schema_files *read = &found->files;
+    struct schema_hint_file *list = calloc(read->count, sizeof *list);
+    for (size_t at = 0; list != NULL && at < read->count; at++) {
+        const struct schema_file *file = &read->list[at];
+        const struct bytes *written = schema_file_written(file);
+        list[at] = (struct schema_hint_file){file->name.data, file->name.length, written->data, written->length, file->path.data, &file->origins};
+    }
+    find_hint(list, read->count, clause, hint);
+}
+
+/* Says what is wrong in an annotation, if that is at the place where the library refuses the file. */
+static void add_annotation_hint(const rncv_xml_files *files, uint64_t file, const rncv_xml_fault *fault, struct bytes *message) {
+    rncv_xml_hint hint;
+    find_own_hint(files, 6, &hint);
+    if (hint.line > 0 && hint.line == fault->line && hint.column == fault->column && hint.file == file) {
+        bytes_format(message, ": hint: %s", hint.text);
+    }
+}
+
+/* Says where the file is refused, or else where a hint is. */
+static void explain_place(const rncv_xml_files *files, const rncv_fault *refused, rncv_xml_fault *fault, struct bytes *message) {
+    struct schema_files *read = &((struct found *)files->hidden)->files;
+    bool is_known = refused->file >= 0 && (uint64_t)refused->file < read->count;
+    struct bytes path = NO_BYTES;
+    rncv_xml_hint hint = {.line = 0};
+    uint64_t file = is_known ? (uint64_t)refused->file : 0;
+    if (refused->line > 0) {
+        int64_t column = schema_files_column(read, refused);
+        struct place place = {(uint64_t)refused->line, column > 0 ? (uint64_t)column : 0};
+        place = place_before(read->list[file].content.data, read->list[file].content.length, &read->list[file].origins, place);
+        fault->line = place.line;
+        fault->column = place.column;
+        if (refused->clause == 6) {
+            add_annotation_hint(files, file, fault, message);
+        }
+    } else {
+        fault->line = 0;
+        fault->column = 0;
+        find_own_hint(files, refused->clause, &hint);
+    }
+    if (hint.line > 0) {
+        bytes_format(message, ": hint: %s", hint.text);
+        file = hint.file;
+        fault->line = hint.line;
+        fault->column = hint.column;
+    }
+    bytes_add_text(&path, bytes_text(&read->list[file].path));
+    fault->path = taken(&path);
+}
+
+int32_t rncv_xml_files_explain(const rncv_xml_files *files, const rncv_fault *refused, rncv_xml_fault *fault) {
+    if (files == NULL || files->hidden == NULL || refused == NULL || fault == NULL) {
+        return RNCV_MISUSE;
+    }
+    struct found *found = files->hidden;
+    refused = found->files.is_judged ? &found->files.judged : refused; /* there are too many files for the library to say it */
+    struct bytes message = NO_BYTES;
+    const char *title = rncv_clause_title('S', refused->clause);
+    rncv_xml_fault_free(fault);
+    fault->clause = refused->clause;
+    bytes_format(&message, "S%d %s", (int)refused->clause, title == NULL ? "" : title);
+    if (refused->clause == 1 && refused->file < 0 && found->files.missing.is_there) {
+        explain_missing(&found->files.missing, fault, &message);
+    } else {
+        explain_place(files, refused, fault, &message);
+    }
+    fault->message = taken(&message);
+    return fault->path == NULL || fault->message == NULL ? RNCV_MEMORY : RNCV_DONE;
+}
+
+/* Compiles the files, and makes a judge. */
+static int32_t open_judge(rncv_xml_files *files, rncv_xml_judge *judge, rncv_xml_fault *fault) {
+    rncv_schema schema = RNCV_NOTHING;
+    rncv_fault refused;
+    int32_t status = schema_files_compile(&((struct found *)files->hidden)->files, &schema, &refused);
+    if (status == RNCV_REFUSED && fault != NULL) {
+        rncv_xml_files_explain(files, &refused, fault);
+    }
+    if (status == RNCV_DONE) {
+        struct values *values = values_of(&schema, &((struct found *)files->hidden)->files);
+        status = values == NULL ? RNCV_MEMORY : hold(&schema, values, judge);
+    }
+    rncv_schema_free(&schema);
+    return status;
+}
+
+int32_t rncv_xml_judge_open(const char *path, const rncv_xml_mapping *mappings, size_t count, rncv_xml_judge *judge, rncv_xml_fault *fault) {
+    if (judge == NULL || is_busy(judge)) {
+        return RNCV_MISUSE;
+    }
+    rncv_xml_files files = RNCV_XML_NO_FILES;
+    int32_t status = rncv_xml_files_find(path, mappings, count, &files, fault);
+    if (status == RNCV_DONE) {
+        status = open_judge(&files, judge, fault);
+    }
+    rncv_xml_files_free(&files);
+    return status;
+}
+
+int32_t rncv_xml_judge_new(rncv_schema *schema, const rncv_file *files, size_t count, rncv_xml_judge *judge) {
+    if (schema == NULL || judge == NULL || is_busy(judge) || (files == NULL && count > 0)) {
+        return RNCV_MISUSE;
+    }
+    struct schema_files read;
+    struct values *values = NULL;
+    rncv_schema own = RNCV_NOTHING;
+    int32_t status = rncv_schema_share(schema, &own);
+    if (status != RNCV_DONE) {
+        return status;
+    }
+    bool is_good = schema_files_collect(&read, &(struct schema_request){NULL, 0, NULL, 0, NULL, NULL, false, false, 0});
+    for (size_t at = 0; at < count && is_good; at++) {
+        is_good = files[at].length == 0 || schema_files_add_values(&read, (const char *)files[at].bytes, files[at].length);
+    }
+    if (is_good) {
+        values = values_of(&own, &read);
+    }
+    schema_files_free(&read);
+    status = values == NULL ? RNCV_MEMORY : hold(&own, values, judge);
+    rncv_schema_free(&own);
+    return status;
+}
+
+int32_t rncv_xml_judge_share(rncv_xml_judge *judge, rncv_xml_judge *other) {
+    if (judge == NULL || other == NULL || judge == other || judge->hidden == NULL || is_busy(judge) || is_busy(other)) {
+        return RNCV_MISUSE;
+    }
+    struct held *held = judge->hidden;
+    atomic_fetch_add(&held->values->owners, 1);
+    return hold(&held->shared.schema, held->values, other);
+}
+
+int32_t rncv_xml_judge_ids(rncv_xml_judge *judge, int32_t wanted) {
+    struct held *held = judge == NULL ? NULL : judge->hidden;
+    if (held == NULL || is_busy(judge)) {
+        return RNCV_MISUSE;
+    }
+    held->shared.ids = wanted != 0 ? held->values->ids : NULL;
+    held->judge.ids.types = held->shared.ids;
+    return RNCV_DONE;
+}
+
+void rncv_xml_judge_free(rncv_xml_judge *judge) {
+    if (judge != NULL && !is_busy(judge)) {
+        held_free(judge->hidden);
+        judge->hidden = NULL;
+    }
+}
+
+static bool read_file(void *context, char *bytes, size_t size, size_t *length, struct fault *fault) {
+    struct reading *reading = context;
+    ssize_t count;
+    do {
+        count = read(reading->file, bytes, size);
+    } while (count < 0 && errno == EINTR);
+    if (count < 0) {
+        reading->error = errno;
+        fault_set(fault, FAULT_DEVICE, (struct place){0, 0}, "%s", strerror(reading->error));
+        return false;
+    }
+    *length = (size_t)count;
+    return true;
+}
+
+static bool read_bytes(void *context, char *bytes, size_t size, size_t *length, struct fault *fault) {
+    struct reading *reading = context;
+    (void)fault;
+    *length = size < reading->left.length ? size : reading->left.length;
+    if (*length > 0) {
+        memcpy(bytes, reading->left.data, *length);
+        reading->left = (struct span){reading->left.data + *length, reading->left.length - *length};
+    }
+    return true;
+}
+
+static bool read_given(void *context, char *bytes, size_t size, size_t *length, struct fault *fault) {
+    struct reading *reading = context;
+    rncv_xml_piece piece = {reading->context, bytes, size, SIZE_MAX};
+    reading->read(&piece);
+    if (piece.length > size) {
+        fault_set(fault, FAULT_DEVICE, (struct place){0, 0}, "read failed");
+        return false;
+    }
+    *length = piece.length;
+    return true;
+}
+
+/* Writes the notes of the answer as lines, and returns them. */
+static const char *joined_notes(struct held *held) {
+    bytes_clear(&held->notes);
+    if (held->values->unsound.length > 0) {
+        bytes_add_text(&held->notes, "1:1: note: IDs are not checked: ");
+        bytes_add(&held->notes, held->values->unsound.data, held->values->unsound.length);
+        bytes_add_byte(&held->notes, '\n');
+    }
+    for (size_t at = 0; at < held->answer.note_count; at++) {
+        struct note *note = &held->answer.notes[at];
+        bytes_format(&held->notes, "%" PRIu64 ":%" PRIu64 ": note: ", note->place.line, note->place.column);
+        bytes_add(&held->notes, note->what.data, note->what.length);
+        bytes_add_byte(&held->notes, '\n');
+        held->notes.failed |= note->what.failed;
+    }
+    return bytes_text(&held->notes);
+}
+
+/* The answer for the caller, and the status. Without memory for its texts there is no answer. */
+static int32_t give_answer(struct held *held, int error, rncv_xml_answer *answer) {
+    static const int32_t verdicts[] = {RNCV_XML_VALID, RNCV_XML_INVALID, RNCV_XML_MALFORMED, RNCV_XML_OUTSIDE, RNCV_XML_FAILED};
+    static const int32_t places[] = {RNCV_XML_AT_UNKNOWN, RNCV_XML_AT_ELEMENT, RNCV_XML_AT_ATTRIBUTE, RNCV_XML_AT_TEXT, RNCV_XML_AT_END};
+    struct answer *own = &held->answer;
+    const char *name = bytes_text(&own->name);
+    const char *message = bytes_text(&own->message);
+    const char *notes = joined_notes(held);
+    bool is_lost = own->name.failed || own->message.failed || held->notes.failed || own->notes_failed;
+    if (own->earlier != NULL) {
+        bytes_text(&own->earlier->name);
+        bytes_text(&own->earlier->message);
+        is_lost = is_lost || own->earlier->name.failed || own->earlier->message.failed;
+    }
+    if (is_lost || (own->verdict == VERDICT_FAILED && (message[0] == '\0' || strcmp(message, "out of memory") == 0))) {
+        return RNCV_MEMORY;
+    }
+    *answer = (rncv_xml_answer){verdicts[own->verdict], places[own->stands], own->clause, error, own->place.line, own->place.column,
+                                name, message, notes, own->note_count + (held->values->unsound.length > 0), RNCV_XML_AT_UNKNOWN, 0, 0, "", ""};
+    if (own->earlier != NULL) {
+        answer->earlier_at = places[own->earlier->stands];
+        answer->earlier_line = own->earlier->place.line;
+        answer->earlier_column = own->earlier->place.column;
+        answer->earlier_name = bytes_text(&own->earlier->name);
+        answer->earlier_message = bytes_text(&own->earlier->message);
+    }
+    return RNCV_DONE;
+}
+
+/* Makes the judge as good as new after memory ran out: what could not grow would stay so. */
+static void recover(struct judge *judge) {
+    if (judge->prefix.failed) {
+        bytes_free(&judge->prefix);
+    }
+    judge->ids.failed |= judge->ids.texts.failed || judge->ids.names.failed || judge->ids.prefixes.failed;
+    if (judge->line_places.tag.failed || judge->line_places.lines.failed || judge->line_places.text.failed || judge->line_places.before.failed) {
+        line_places_free(&judge->line_places);
+    }
+}
+
+/* Judges what is read. */
+static int32_t judge_reading(struct held *held, const struct byte_source *source, rncv_xml_answer *answer) {
+    const struct reading *reading = source->context;
+    answer_free(&held->answer);
+    held->answer = (struct answer)NO_ANSWER;
+    recover(&held->judge);
+    if (held->notes.failed) {
+        bytes_free(&held->notes);
+    }
+    held->is_busy = true;
+    judge_by(&held->judge, source, &held->answer);
+    held->is_busy = false;
+    return give_answer(held, reading->error, answer);
+}
+
+/* Whether a document can be judged. Writes an answer without a verdict. */
+static bool is_ready(rncv_xml_judge *judge, rncv_xml_answer *answer) {
+    if (answer != NULL) {
+        *answer = (rncv_xml_answer){.name = "", .message = "", .notes = "", .earlier_name = "", .earlier_message = ""};
+    }
+    return answer != NULL && judge != NULL && judge->hidden != NULL && !is_busy(judge);
+}
+
+/* The answer for a file that cannot be opened. */
+static int32_t give_unopened(struct held *held, int error, rncv_xml_answer *answer) {
+    answer_free(&held->answer);
+    held->answer = (struct answer)NO_ANSWER;
+    bytes_add_text(&held->answer.message, strerror(error));
+    return give_answer(held, error, answer);
+}
+
+int32_t rncv_xml_judge_file(rncv_xml_judge *judge, const char *path, rncv_xml_answer *answer) {
+    if (!is_ready(judge, answer) || path == NULL) {
+        return RNCV_MISUSE;
+    }
+    struct reading reading = {.file = open(path, O_RDONLY | O_CLOEXEC | O_NOCTTY)};
+    if (reading.file < 0) {
+        return give_unopened(judge->hidden, errno, answer);
+    }
+    int32_t status = judge_reading(judge->hidden, &(struct byte_source){read_file, &reading, NULL}, answer);
+    close(reading.file);
+    return status;
+}
+
+int32_t rncv_xml_judge_bytes(rncv_xml_judge *judge, const void *bytes, size_t length, rncv_xml_answer *answer) {
+    if (!is_ready(judge, answer) || (bytes == NULL && length > 0)) {
+        return RNCV_MISUSE;
+    }
+    struct reading reading = {.file = -1, .left = {bytes, length}};
+    return judge_reading(judge->hidden, &(struct byte_source){read_bytes, &reading, NULL}, answer);
+}
+
+int32_t rncv_xml_judge_by(rncv_xml_judge *judge, rncv_xml_read read, void *context, rncv_xml_answer *answer) {
+    if (!is_ready(judge, answer) || read == NULL) {
+        return RNCV_MISUSE;
+    }
+    struct reading reading = {.file = -1, .read = read, .context = context};
+    return judge_reading(judge->hidden, &(struct byte_source){read_given, &reading, NULL}, answer);
+}

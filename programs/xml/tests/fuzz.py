@@ -1,0 +1,90 @@
+"""The loop of fuzz.sh:   fuzz.py SECONDS FOLDER"""
+import io
+import os
+import pathlib
+import random
+import subprocess
+import sys
+import time
+
+import differences
+import generated
+from testing import RNCV_XML, XML2PYX
+
+import pyx_writer
+
+SCHEMAS = ("start = any\nany = element * { (attribute * { text } | text | any)* }\n",
+           "start = element a { attribute x { 'v' }?, (element b { xsd:integer } | text) }\n")
+WORDS = (b"<!DOCTYPE a [", b"]>", b"<!ENTITY e '&e;'>", b"<!ENTITY % p '%p;'>", b"<!ATTLIST a x CDATA '&e;'>", b"%p;", b"&#0;", b"&#x110000;",
+         b"<?xml version='1.0' encoding='EUC-JP'?>", b"<?xml version='1.0' encoding='GB18030'?>", b"\xff\xfe", b"\xfe\xff", b"<a" * 600, b"x" * 70_000,
+         b"&e;" * 500, b"<!--" + b"-" * 3_000, b"xmlns:p=''", b"\x00" * 7)
+
+
+def changed(data, chance):
+    """A mutant, sometimes with larger pieces put in."""
+    data = generated.mutant(data, chance.random())
+    if chance.random() < 0.3:
+        at = chance.randrange(len(data) + 1)
+        data = data[:at] + chance.choice(WORDS) + data[at:]
+    return data
+
+
+def in_python(data):
+    """The PYX of the converter in Python, or None, and what it says of a fault."""
+    lines = []
+    try:
+        pyx_writer.convert(io.BytesIO(data), lines.append)
+        return b"".join(lines), []
+    except pyx_writer.OutsideProfile as fault:
+        return None, [fault.what]
+
+
+def ran(words, folder):
+    """The status, what is reported, and what is wrong with the run itself."""
+    run = subprocess.run(words, cwd=folder, capture_output=True, timeout=60, check=False)
+    errors = run.stderr.decode("utf-8", "replace")
+    if run.returncode not in range(5) or "Sanitizer" in errors or "runtime error" in errors:
+        return run.returncode, errors, f"{words[0]}: status {run.returncode}\n{errors[-3000:]}"
+    return run.returncode, errors, None
+
+
+def one(seed, folder):
+    """What is wrong with a document of this seed, if anything."""
+    chance = random.Random(seed)
+    data = changed(generated.document(seed), chance)
+    (folder / "d.xml").write_bytes(data)
+    status, reported, fault = ran([XML2PYX, "d.xml"], folder)
+    if fault:
+        return fault
+    pyx, reported_in_python = in_python(data)
+    is_same = status == 2 if differences.has_lone_surrogates(data) else (status == 0) == (pyx is not None)
+    if not is_same and not differences.is_explained(data, reported.splitlines(), pyx, reported_in_python):
+        return f"xml2pyx ends with {status}: {reported}, and the converter in Python says {reported_in_python}"
+    if RNCV_XML.exists():
+        for name in ("s0.rnc", "s1.rnc"):
+            judged, _, fault = ran([RNCV_XML, "-j1", "--all", name, "d.xml"], folder)
+            if fault or (status == 2 and judged != 2):
+                return fault or f"rncv-xml ends with {judged}, and xml2pyx with {status}"
+    return None
+
+
+def main():
+    seconds, folder = float(sys.argv[1]), pathlib.Path(sys.argv[2])
+    for number, schema in enumerate(SCHEMAS):
+        (folder / f"s{number}.rnc").write_text(schema)
+    seed = first = int(os.environ.get("FUZZ_SEED", random.randrange(10**9)))
+    end = time.monotonic() + seconds
+    while time.monotonic() < end:
+        fault = one(seed, folder)
+        if fault:
+            kept = pathlib.Path(f"fuzz-{seed}.xml")
+            kept.write_bytes((folder / "d.xml").read_bytes())
+            print(f"fuzz.py: FUZZ_SEED={seed} ({kept}): {fault}")
+            return 1
+        seed += 1
+    print(f"fuzz.py: {seed - first} documents from the seed {first} on, no fault" + ("" if RNCV_XML.exists() else "; without rncv-xml"))
+    return 0
+
+
+if __name__ == "__main__":
+    sys.exit(main())

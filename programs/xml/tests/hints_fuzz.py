@@ -1,0 +1,153 @@
+#!/usr/bin/env python3
+"""Random schemas for the hints of `rncv-xml`:   programs/xml/tests/hints_fuzz.py [SECONDS [SEED]]
+
+It needs a C compiler with sanitizers, and the library (RNCV_LIBRARY, by default build/library). It makes schemas in many written forms, with mutants of their
+tokens, and sequences of random tokens. The library says which clause is the first one that is broken. Then these must hold:
+
+- no clause before that one has a hint, and a schema that breaks none has no hint at all;
+- whatever the files are, each hint is a place in them, and the sanitizers say nothing.
+
+It is not in the gate. The same seed gives the same schemas.
+"""
+import collections
+import ctypes
+import os
+import pathlib
+import random
+import re
+import subprocess
+import sys
+import tempfile
+import time
+
+HERE = pathlib.Path(__file__).resolve().parent
+TOP = HERE.parents[2]
+LIBRARY = pathlib.Path(os.environ.get("RNCV_LIBRARY", TOP / "build/library")) / "lib/librncv.so"
+SOURCES = [HERE.parent / "src" / f"{name}.c" for name in (
+    "schema_hints", "schema_restrictions", "schema_words", "schema_grammars", "schema_tree", "schema_annotations", "annotation_names", "schema_tokens",
+    "xml_names", "origins", "paths", "bytes")]
+# What finds out how a file is written needs the parser of XML. It is not called here.
+STUBS = """
+#include "conversion.h"
+void convert(const struct byte_source *source, const struct pyx_sink *sink, struct fault *fault) { (void)source; (void)sink; (void)fault; }
+void fault_free(struct fault *fault) { (void)fault; }
+"""
+CLAUSES = range(9, 28)
+TOKEN = re.compile(r'"""(?:.|\n)*?"""|"[^"\n]*"|\'[^\'\n]*\'|[A-Za-z_][\w.:*-]*|\|=|&=|[^\s]|\s+')
+PIECES = ("empty|text|notAllowed|string|token|xsd:integer|\"v\"|element q { text }|attribute x { text }|attribute * { text }|list { token }|(empty, text)|"
+          "mixed { empty }|xsd:date|x|y|parent x|grammar { start = text }|string - \"a\"|element * { text }|xsd:int \"1\"|text?|attribute y { text }*").split("|")
+WORDS = ("attribute default datatypes div element empty external grammar include inherit list mixed namespace notAllowed parent start string text token a b c "
+         "p:a p:* xsd:integer \\a { { } } ( ( ) ) , | & = |= &= - ? * + ~ [ ] >> # \" 'b.rnc' \"s.rnc\" \\x{61} \u00e9 \x01").split(" ")
+sys.path.insert(0, str(TOP / "dev/search/fuzz"))
+import schemas  # noqa: E402
+import writing  # noqa: E402
+
+
+class File(ctypes.Structure):
+    _fields_ = [("name", ctypes.c_char_p), ("name_length", ctypes.c_size_t), ("bytes", ctypes.c_char_p), ("length", ctypes.c_size_t),
+                ("shown", ctypes.c_char_p), ("origins", ctypes.c_void_p)]
+
+
+class Hint(ctypes.Structure):
+    _fields_ = [("file", ctypes.c_uint64), ("line", ctypes.c_uint64), ("column", ctypes.c_uint64), ("text", ctypes.c_char * 512)]
+
+
+class LibraryFile(ctypes.Structure):
+    _fields_ = File._fields_[:4]
+
+
+class Fault(ctypes.Structure):
+    _fields_ = [("clause", ctypes.c_int32), ("file", ctypes.c_int64), ("offset", ctypes.c_int64), ("line", ctypes.c_int64), ("column", ctypes.c_int64)]
+
+
+class Bench:
+    """The hints and the library."""
+
+    def __init__(self, hints):
+        self.hints, self.library = ctypes.CDLL(hints), ctypes.CDLL(str(LIBRARY))
+
+    def hint(self, files, clause):
+        """The hint about a clause, or None. Its place has to be in the file."""
+        array, hint = (File * len(files))(*(File(name, len(name), text, len(text), name) for name, text in files)), Hint()
+        if not self.hints.schema_hint_find(array, ctypes.c_size_t(len(files)), clause, ctypes.byref(hint)):
+            return None
+        lines = re.split(b"\r\n|\r|\n", files[hint.file][1])
+        assert hint.line <= len(lines) and 0 < hint.column <= len(lines[hint.line - 1]) + 1 and hint.text.decode(), (files, clause, hint.line, hint.column)
+        return hint.line, hint.column, hint.text.decode()
+
+    def clause(self, files):
+        """The clause that the files break; 0: none."""
+        array = (LibraryFile * len(files))(*(LibraryFile(name, len(name), text, len(text)) for name, text in files))
+        schema, fault = ctypes.c_void_p(None), Fault()
+        status = self.library.rncv_compile(array, ctypes.c_size_t(len(files)), ctypes.byref(schema), ctypes.byref(fault))
+        self.library.rncv_schema_free(ctypes.byref(schema))
+        return fault.clause if status == 1 else 0
+
+
+def mutant(text, chance):
+    """The text with some tokens changed."""
+    tokens = TOKEN.findall(text) or [""]
+    for _ in range(chance.choice([1, 1, 1, 2, 3])):
+        at = chance.randrange(len(tokens))
+        same = next((signs for signs in (",&|", "?*+", ("=", "|=", "&=")) if tokens[at] and tokens[at] in signs), None)
+        words = [token for token in tokens if re.match("[a-z]", token)]
+        changes = [chance.choice(PIECES), chance.choice(words or [""]), f"{tokens[at]} {chance.choice(',&|')} {chance.choice(PIECES)} ",
+                   tokens[at] + chance.choice("+*?")]
+        tokens[at] = chance.choice(same) if same else chance.choice(changes)
+    return "".join(tokens)
+
+
+def written(chance):
+    """The files of a random schema, and mutants of them."""
+    schema = schemas.Maker(random.Random(chance.random()), wild=chance.random() < 0.6).schema()
+    features = [it for it in (*writing.FEATURES, writing.ORDER) if chance.random() < 0.6]
+    files = [(name.encode(), text.encode()) for name, text in writing.written(schema, chance.randrange(10 ** 6), features)]
+    yield files
+    for _ in range(6):
+        at = chance.randrange(len(files))
+        yield [*files[:at], (files[at][0], mutant(files[at][1].decode(), chance).encode()), *files[at + 1:]]
+
+
+def odd(chance):
+    """Files of random tokens."""
+    names = chance.sample([b"s.rnc", b"b.rnc", b"c.rnc"], chance.choice([1, 2, 3]))
+    return [(name, " ".join(chance.choice(WORDS) for _ in range(chance.randrange(60))).encode()) for name in names]
+
+
+def run(bench, seconds, seed):
+    """Prints how many schemas break each clause and how many of these have a hint. Returns the status."""
+    chance, end = random.Random(seed), time.monotonic() + seconds
+    broken, hinted, wrong = collections.Counter(), collections.Counter(), 0
+    while time.monotonic() < end:
+        for clause in (1, *CLAUSES):
+            bench.hint(odd(chance), clause)
+        for files in written(chance):
+            clause = bench.clause(files)
+            broken[clause] += 1
+            hinted[clause] += clause in CLAUSES and bench.hint(files, clause) is not None
+            for before in CLAUSES if clause == 0 else range(9, clause):
+                hint = bench.hint(files, before)
+                if hint:
+                    wrong += 1
+                    print(f"S{before} is not broken (S{clause} is): {hint} in {files}")
+    print(", ".join(f"S{clause}: {hinted[clause]} of {broken[clause]}" for clause in sorted(broken) if clause in CLAUSES), f"{wrong} wrong hints", sep="; ")
+    return 1 if wrong else 0
+
+
+def begin(script, sources, work):
+    """Builds the sources with the sanitizers, and begins again with those loaded. Then `work` gets the built file, the seconds and the seed."""
+    seconds, seed = float(sys.argv[1]) if len(sys.argv) > 1 else 60, int(sys.argv[2]) if len(sys.argv) > 2 else 1
+    if "FUZZ_BUILT" in os.environ:
+        return work(os.environ["FUZZ_BUILT"], seconds, seed)
+    with tempfile.TemporaryDirectory() as room:
+        compiler, built, stubs = os.environ.get("CC", "cc"), f"{room}/built.so", pathlib.Path(room, "stubs.c")
+        stubs.write_text(STUBS)
+        subprocess.run([compiler, "-std=c17", "-D_XOPEN_SOURCE=700", "-g", "-O1", "-fPIC", "-shared", "-fsanitize=address,undefined",
+                        "-fno-sanitize-recover=all", f"-I{HERE.parent / 'src'}", "-o", built, *sources, stubs], check=True)
+        loaded = subprocess.run([compiler, "-print-file-name=libasan.so"], capture_output=True, text=True, check=True).stdout.strip()
+        environment = {**os.environ, "FUZZ_BUILT": built, "LD_PRELOAD": loaded, "ASAN_OPTIONS": "detect_leaks=0"}
+        return subprocess.run([sys.executable, "-B", script, str(seconds), str(seed)], env=environment, check=False).returncode
+
+
+if __name__ == "__main__":
+    sys.exit(begin(__file__, SOURCES, lambda built, seconds, seed: run(Bench(built), seconds, seed)))

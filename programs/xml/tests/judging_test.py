@@ -1,0 +1,505 @@
+"""Tests of `rncv-xml`: its lines, statuses, options and ends."""
+import json
+import os
+import re
+import signal
+import subprocess
+import sys
+import unittest
+
+from testing import RNCV_XML, SCHEMA, TOP, InFolder, peak_of, processor_seconds
+
+
+class Lines(InFolder):
+    """What is printed about a document."""
+
+    def line(self, schema, xml, **more):
+        self.write("t.rnc", schema)
+        self.write("d.xml", xml)
+        out, status = self.judge("t.rnc", "d.xml", **more)
+        return out, status
+
+    def invalid(self, schema, xml, reported):
+        """Checks that one line is printed, for a file and for standard input."""
+        self.assertEqual(self.line(schema, xml), (f"d.xml:{reported}\n", 1))
+        self.assertEqual(self.judge("t.rnc", "-", given=xml.encode()), (f"-:{reported}\n", 1))
+
+    def test_valid_documents_are_silent(self):
+        self.assertEqual(self.run_in(RNCV_XML, "s.rnc", "good.xml"), ("", "", 0))
+        self.assertEqual(self.judge("--all", "s.rnc", "good.xml", "bad.xml"), ("good.xml: valid\nbad.xml:3:3: invalid: at <c>\n", 1))
+        self.assertEqual(self.run_in(RNCV_XML, "--verbose", "s.rnc", "good.xml"), ("good.xml: valid\n", "rncv-xml: schema file s.rnc\n1 valid\n", 0))
+        self.assertEqual(self.run_in(RNCV_XML, "--quiet", "s.rnc", "bad.xml", "none.xml"), ("", "", 4))
+
+    def test_what_stands_at_the_place(self):
+        self.invalid("element a { element b { empty } }", "<a>\n <c/></a>", "2:2: invalid: at <c>")
+        self.invalid("element a { element b { empty } }", "<a>\n <b/>\n <b>x</b></a>", "3:2: invalid: at <b>")
+        self.invalid("element a { element b { xsd:integer } }", "<a>\n <b>12x</b></a>", '2:5: invalid: at text "12x"')
+        self.invalid("element a { element b { xsd:integer } }", "<a>\n <b><!-- 1 -->1<![CDATA[\n2]]>\n</b></a>", '2:15: invalid: at text "1\\n2\\n"')
+        self.invalid('element a { element b { "x" } }', "<a>\n <b/></a>", "2:2: invalid: at the end of <b>")
+        self.invalid("element a { element b { empty }, element c { empty } }", "<a>\n <b/>\n </a>", "3:2: invalid: at the end of <a>")
+        self.invalid("element a { mixed { element b { empty } } }", "<a>\n text </a>", "2:7: invalid: at the end of <a>")
+        self.invalid("element a { element b { empty }* }", "<a>\n <b/> text <b/></a>", '2:7: invalid: at text "text "')
+
+    def test_a_text_begins_behind_its_blanks(self):
+        listed = "element a { element b { empty }* }"
+        self.invalid(listed, "<a>\n <b/>\n\n\t  stray\n<b/></a>", '4:4: invalid: at text "stray\\n"')
+        self.invalid(listed, "<a>\r\n <b/>\r\n\r  stray</a>", '4:3: invalid: at text "stray"')
+        self.invalid(listed, "<a>\n t&#228;xt &amp; \u00e9</a>", '2:2: invalid: at text "t\u00e4xt & \u00e9"')
+        self.invalid(listed, "<a>\n <?i\n?>\n <?i?> <?i?>\n  stray<?i?> and more<b/></a>", '5:3: invalid: at text "stray and more"')
+        self.invalid(listed, f"<a>{' ' * 100_000}\n stray</a>", '2:2: invalid: at text "stray"')
+        self.invalid(listed, f"<a>\n{'&#13; ' * 50_000}\n stray</a>", '3:2: invalid: at text "stray"')
+        self.invalid("element a { element b { xsd:integer } }", "<a><b>\n  12x</b></a>", '2:3: invalid: at text "12x"')
+        self.invalid("element a { element b { xsd:integer } }", "<a><b>\n \t</b></a>", "2:3: invalid: at the end of <b>")
+
+    def test_a_text_is_never_reported_beyond_its_line(self):
+        """Blanks that are written as references, or come from an entity, do not move a line down."""
+        listed = "element a { element b { empty }* }"
+        for xml in ("<a>\n<b/>&#10;&#10;stray</a>", "<a>\n<b/>&#10; stray\n\n\n</a>", "<a>\n<b/>&blanks;stray</a>", "<a>\n<b/>&all;</a>",
+                    "<a>\n<b/>&all;<b/></a>", "<a>\n<b/><![CDATA[ stray]]></a>", "<a>\n<b/>&tags;</a>"):
+            self.write("t.rnc", listed)
+            entities = "<!DOCTYPE a [<!ENTITY blanks '&#10;&#10; '><!ENTITY all '&#10;&#10; stray'><!ENTITY tags '&#10; stray<b/>'>]>"
+            self.write("d.xml", entities + xml)
+            out, status = self.judge("t.rnc", "d.xml")
+            self.assertEqual(status, 1)
+            self.assertRegex(out, r'^d\.xml:2:\d+: invalid: at text "stray(\\n){0,3}"\n$', xml)
+
+    def test_a_text_that_is_not_allowed_at_an_end(self):
+        """The text before an end tag is told if it is wrong whatever follows it, and the end if something is missing after it."""
+        text, end = '2:5: invalid: at text "two"', "2:8: invalid: at the end of <i>"
+        for content, reported in (("empty", text), ("element j { empty }", text), ("element j { empty }*", text), ("element j { empty }, text", text),
+                              ("xsd:NCName { minLength = '100' }", text), ("xsd:NCName { minLength = '100' } | element j { empty }", text),
+                              ("list { xsd:NCName, xsd:integer, xsd:integer, xsd:integer }", text), ("attribute x { text }?", text),
+                              ("text, element j { empty }", end), ("mixed { element j { empty } }", end), ("mixed { element * { empty } }", end),
+                              ("mixed { element * - (j | k) { empty } }", end), ("mixed { element * - j { empty } }", end),
+                              ("mixed { element j { attribute k { text } } }", end), ('element j { " text " }, element text { text }', text)):
+            self.invalid(f"element a {{ element i {{ {content} }} }}", "<a>\n <i>two</i></a>", reported)
+        twice = "element a { mixed { element j { empty }, element k { empty } } }"
+        self.invalid(twice, "<a>one<j/>two</a>", "1:14: invalid: at the end of <a>")
+        self.invalid("element a { text, element j { empty }, element k { empty } }", "<a>one<j/>two</a>", '1:11: invalid: at text "two"')
+
+    def test_attributes(self):
+        hours = 'element a { attribute at { xsd:integer { minInclusive = "0" maxInclusive = "23" } }, attribute k { "on" | "off" }? }'
+        self.invalid(hours, '<a\n at="24"/>', "1:1: invalid: at attribute at")
+        self.invalid(hours, '<a at="2" k="of"/>', "1:1: invalid: at attribute k")
+        self.invalid(hours, '<a at="2" l="on"/>', "1:1: invalid: at attribute l")
+        self.invalid(hours, '<a k="on"/>', "1:1: invalid: at <a>")
+        self.invalid("element a { element b { attribute x { 'yes' }, attribute y { 'no' } } }", '<a>\n <b x="yes" y="yes"/></a>',
+                     "2:2: invalid: at attribute y")
+
+    def test_long_texts_are_shown_by_their_beginning(self):
+        self.invalid("element a { xsd:integer }", f"<a>{'x' * 100}</a>", f'1:4: invalid: at text "{"x" * 40}.."')
+
+    def test_a_long_text_is_cut_between_characters(self):
+        for before in range(5):
+            for unit in ("\u00e9", "\u20ac", "\U0001f600", "\t", "\\", "\n"):
+                text = "x" * (before + 1) + unit * 600
+                self.write("t.rnc", "element a { xsd:integer }")
+                self.write("d.xml", f"<a>{text}</a>")
+                out, _ = self.judge("--format", "json", "t.rnc", "d.xml")
+                name = json.loads(out)["name"]
+                self.assertTrue(len(name) > 100 and text.startswith(name), name)
+                name.encode("utf-8")
+
+    def test_malformed(self):
+        self.assertEqual(self.judge("s.rnc", "cut.xml"), ("cut.xml:3:1: malformed XML: mismatched tag: </a> where <b> is open\n", 2))
+        self.assertEqual(self.line(SCHEMA, '<a x="1">\n<p:b/></a>'), (
+            "d.xml:2:1: malformed P11: the prefix 'p' is not declared (NS 5), see docs/CLAUSES.md\n", 2))
+        self.assertEqual(self.line(SCHEMA, '<a x="1">\n<c/></b>'), ("d.xml:2:5: malformed XML: mismatched tag: </b> where <a> is open\n", 2))
+
+    def test_clauses_in_the_words_of_xml(self):
+        for document, reported in (
+                ("<p:a:b/>", "P6: the name of the element 'p:a:b' is no QName (NS 4)"),
+                ("<a p:x:y=''/>", "P6: the name of the attribute 'p:x:y' is no QName (NS 4)"),
+                ("<a y='' :x='' z=''/>", "P6: the name of the attribute ':x' is no QName (NS 4)"),
+                ("<a xmlns:p='u' p:x='' q:y=''/>", "P11: the prefix 'q' is not declared (NS 5)"),
+                (f"<a q='{'u' * 100_000}'/>", "attribute of more than 65,536 bytes: outside the profile"),
+                ("<a y='' xmlns:p='u' p:x='' xmlns:q='u' q:x=''/>", "P12: the attributes 'p:x' and 'q:x' have one name (NS 6.3)")):
+            wanted = f"malformed {reported}, see docs/CLAUSES.md" if reported[0] == "P" else reported
+            self.assertEqual(self.line("element a { empty }", document), (f"d.xml:1:1: {wanted}\n", 2))
+
+    def test_the_first_fault_counts(self):
+        """What the reader of PYX refuses comes before what is malformed behind it."""
+        self.assertEqual(self.line("element a { empty }", "<a><p:b/></b>"), (
+            "d.xml:1:4: malformed P11: the prefix 'p' is not declared (NS 5), see docs/CLAUSES.md\n", 2))
+
+    def test_forbidden_declarations(self):
+        xml, xmlns = "http://www.w3.org/XML/1998/namespace", "http://www.w3.org/2000/xmlns/"
+        for declaration in ("xmlns:p=''", "xmlns:xml='u'", f"xmlns:p='{xml}'", f"xmlns='{xml}'", f"xmlns='{xmlns}'", f"xmlns:p='{xmlns}'", "xmlns:xmlns='u'"):
+            self.assertRegex(self.line("element a { empty }", f"<a {declaration}/>")[0], "malformed XML: ")
+        self.assertEqual(self.line("element a { empty }", f"<a xmlns:xml='{xml}'/>"), ("", 0))
+
+    def test_the_prefix_that_is_not_declared(self):
+        """Of several prefixes that the tag does not declare itself, the one that no tag around it declares."""
+        page = "<a xmlns:s='s'>{}<b xmlns:t='t'><t:c/></b>\n<s:b xml:lang='' s:x='' {}=''/></a>"
+        for filling in ("", "<!-- -->" * 3_000, "<b y='1'>text</b>" * 3_000):
+            self.assertEqual(self.line("element a { empty }", page.format(filling, "t:x")), (
+                "d.xml:2:1: malformed P11: the prefix 't' is not declared (NS 5), see docs/CLAUSES.md\n", 2))
+        twice = "<a xmlns:s='s' xmlns:t='s' xmlns:v='v'>{}\n<s:b v:x='' t:x='' v:y='' s:x=''/></a>"
+        for filling in ("", "<b y='1'>text</b>" * 3_000):
+            self.assertEqual(self.line("element a { empty }", twice.format(filling)), (
+                "d.xml:2:1: malformed P12: the attributes 't:x' and 's:x' have one name (NS 6.3), see docs/CLAUSES.md\n", 2))
+        many = "<b y='1'>text and more text</b>" * 60_000
+        self.assertEqual(self.line("element a { empty }", page.format(many, "t:x")), (
+            "d.xml:2:1: malformed P11: prefixes are declared, and no declaration is a forbidden one (NS 3, 5), see docs/CLAUSES.md\n", 2))
+        self.assertEqual(self.line("element a { empty }", f"<a>{many}\n<t:b/></a>"), (
+            "d.xml:2:1: malformed P11: the prefix 't' is not declared (NS 5), see docs/CLAUSES.md\n", 2))
+
+    def test_a_tag_in_several_pieces(self):
+        """The names are known also if the tag's lines come in several pieces, or its last line ends a piece."""
+        for size in (*range(21_830, 21_845), 60_000):
+            values = " ".join(f"x{number}='{'y' * size}'" for number in range(3))
+            self.assertEqual(self.line("element a { empty }", f"<a>\n<b {values} p:z=''/></a>"), (
+                "d.xml:2:1: malformed P11: the prefix 'p' is not declared (NS 5), see docs/CLAUSES.md\n", 2), size)
+
+    def test_limits_say_which(self):
+        over = "over a limit of this program:"
+        self.assertEqual(self.line("start = a a = element a { a? }", "<a>" * 513 + "</a>" * 513), (
+            f"d.xml:1:1537: {over} more than 512 elements are open\n", 2))
+        attributes = " ".join(f'a{number}=""' for number in range(257))
+        self.assertEqual(self.line("element a { attribute * { text }* }", f"<a {attributes}/>"), (
+            f"d.xml:1:1: {over} a tag has more than 256 attributes and declarations\n", 2))
+        self.assertEqual(self.line("element a { text }", f"<a>{'x' * 1_100_000}</a>"), (
+            f"d.xml:1:4: {over} a text has more than 1,048,576 bytes\n", 2))
+        found = json.loads(self.judge("--format", "json", "t.rnc", "d.xml")[0])
+        self.assertEqual((found["verdict"], found["clause"]), ("outside", "P10"))
+
+    def test_pyx_is_not_xml(self):
+        self.write("pyx", "(a\nAx 1\n)a\n")
+        self.write("other", "a\n(a\n")
+        out, status = self.judge("s.rnc", "pyx", "other", "cut.xml")
+        lines = out.splitlines()
+        self.assertEqual(status, 2)
+        self.assertRegex(lines[0], r"^pyx:1:1: malformed XML: .*; this looks like PYX: rncv reads PYX$")
+        self.assertEqual([line for line in lines[1:] if "PYX" in line], [])
+
+    def test_outside_the_profile(self):
+        self.write("e.rnc", 'element a { attribute x { "" }? }\n')
+        self.write("attribute.xml", '<!DOCTYPE a SYSTEM "def.dtd"><a x="&ext;"/>')
+        self.write("behind.xml", '<!DOCTYPE a [<!ENTITY % p SYSTEM "def.dtd"> %p; <!ATTLIST a own CDATA "d">]><a/>')
+        self.write("plain.xml", '<!DOCTYPE a SYSTEM "def.dtd"><a x=""/>')
+        out, errors, status = self.run_in(RNCV_XML, "--all", "-j1", "e.rnc", "attribute.xml", "behind.xml", "plain.xml")
+        self.assertEqual((out, status), (
+            "attribute.xml:1:30: entity 'ext' is not declared in the document itself: outside the profile\n"
+            "behind.xml:1:49: a declaration behind a parameter entity that is not loaded: outside the profile\n"
+            "plain.xml: valid\n", 2))
+        self.assertEqual(errors.splitlines()[-1],
+                         "plain.xml:1:1: note: the external DTD 'def.dtd' is not loaded: its entities and attribute defaults are not there")
+
+    def test_strict(self):
+        self.write("e.rnc", 'element a { attribute x { "" }? }\n')
+        self.write("plain.xml", '<!DOCTYPE a SYSTEM "def.dtd"><a x=""/>')
+        self.write("wrong.xml", '<!DOCTYPE a SYSTEM "def.dtd"><a y=""/>')
+        self.write("cut.xml", '<!DOCTYPE a SYSTEM "def.dtd"><a>')
+        self.write("own.xml", '<!DOCTYPE a [<!ATTLIST a x CDATA "">]><a/>')
+        words = "the external DTD 'def.dtd' is not loaded: its entities and attribute defaults are not there"
+        self.assertEqual(self.judge("--all", "--strict", "e.rnc", "plain.xml", "wrong.xml", "own.xml"), (
+            f"plain.xml:1:1: {words}\nwrong.xml:1:1: {words}\nown.xml: valid\n", 2))
+        self.assertEqual(self.judge("-q", "--strict", "e.rnc", "plain.xml"), ("", 2))
+        self.assertEqual(self.judge("-q", "e.rnc", "plain.xml"), ("", 0))
+        self.assertRegex(self.judge("--strict", "e.rnc", "cut.xml")[0], r"^cut\.xml:1:\d+: malformed XML: ")
+
+    def test_the_words_of_today(self):
+        self.assertEqual(self.judge("--all", "s.rnc", "--", "good.xml"), ("good.xml: valid\n", 0))
+        self.assertEqual(self.judge("--all", "--", "s.rnc", "good.xml"), ("good.xml: valid\n", 0))
+        self.write("-d.xml", '<a x="1"/>')
+        self.assertEqual(self.judge("--all", "s.rnc", "--", "-d.xml"), ("-d.xml: valid\n", 0))
+
+    def test_a_schema_alone(self):
+        self.assertEqual(self.run_in(RNCV_XML, "s.rnc"), ("", "rncv-xml: the schema is good; no document is named\n", 0))
+
+
+class Batches(InFolder):
+    """Many documents: a fault of one does not stop the others."""
+
+    def setUp(self):
+        super().setUp()
+        self.write("bogus.xml", '<?xml version="1.0" encoding="bogus"?><a/>')
+        self.write("utf7.xml", '<?xml version="1.0" encoding="UTF-7"?><a/>')
+        self.write("dashes.xml", "<a>-- - -")
+        self.write("comment.xml", "<a><!-- -- - --></a>")
+        self.write("empty.xml", "")
+        self.write("nul.xml", "<a>\0</a>")
+        (self.folder / "folder.xml").mkdir()
+        for encoding in ("Shift_JIS", "EUC-JP", "GB18030"):
+            self.write(f"{encoding}.xml", f'<?xml version="1.0" encoding="{encoding}"?><a x="\u3042"/>'.encode(encoding))
+        self.names = ("bogus.xml", "utf7.xml", "dashes.xml", "comment.xml", "empty.xml", "nul.xml", "folder.xml", "none.xml", "Shift_JIS.xml",
+                      "EUC-JP.xml", "GB18030.xml", "good.xml")
+
+    def test_a_fault_of_one_document_is_its_own(self):
+        for jobs in ("1", "3", "0", "100000"):
+            out, status = self.judge("-j", jobs, "--all", "s.rnc", *self.names)
+            lines = out.splitlines()
+            self.assertEqual((status, len(lines)), (4, len(self.names)))
+            self.assertEqual(lines[:2] + lines[4:5] + lines[6:], [
+                "bogus.xml:1:1: the encoding 'bogus' is not served", "utf7.xml:1:1: the encoding 'UTF-7' is not served",
+                "empty.xml:1:1: malformed XML: no root element", "folder.xml: it is a folder: --recursive judges the documents in folders",
+                "none.xml: No such file or directory", "Shift_JIS.xml: valid", "EUC-JP.xml: valid", "GB18030.xml: valid", "good.xml: valid"])
+            self.assertNotIn("Traceback", out)
+
+    def test_the_greatest_status(self):
+        for names, status in ((("good.xml",), 0), (("good.xml", "bad.xml"), 1), (("cut.xml", "bad.xml"), 2), (("bogus.xml", "bad.xml"), 2),
+                              (("cut.xml", "none.xml", "bad.xml"), 4)):
+            self.assertEqual(self.judge("s.rnc", *names)[1], status, names)
+
+    def test_names_that_are_not_utf_8(self):
+        for name, text in ((b"s\xff.rnc", SCHEMA), (b"t\xff.rnc", "element a {"), (b"good\xff.xml", '<a x="1"/>'), (b"bad\xff.xml", "<a/>")):
+            (self.folder / os.fsdecode(name)).write_text(text)
+        for locale in ("C", "C.UTF-8"):
+            environment = {**os.environ, "LC_ALL": locale}
+            self.assertEqual(self.judge("--all", b"s\xff.rnc", b"good\xff.xml", env=environment), ("good\\xff.xml: valid\n", 0))
+            self.assertEqual(self.judge("s.rnc", b"none\xff.xml", env=environment), ("none\\xff.xml: No such file or directory\n", 4))
+            self.assertRegex(self.judge(b"t\xff.rnc", "good.xml", env=environment)[0], r"^t\\xff\.rnc:(\d+:\d+:)? S6 ")
+            out, _ = self.judge("--format", "json", "s.rnc", b"bad\xff.xml", env=environment)
+            self.assertEqual(json.loads(out)["file"], "bad\udcff.xml")
+
+    def test_names_with_line_ends(self):
+        self.write("a\nb.xml", "<a/>")
+        self.assertRegex(self.judge("s.rnc", "a\nb.xml")[0], r"^a\\nb\.xml:1:1: invalid")
+
+    def test_many_in_order(self):
+        names = [f"d{number}.xml" for number in range(300)]
+        for number, name in enumerate(names):
+            self.write(name, '<a x="1"/>' if number % 3 else "<a>" + "<c/>" * (number * 7 % 500) + "</a>")
+        outs = {jobs: self.judge("-j", jobs, "--all", "s.rnc", *names) for jobs in ("1", "2", "7")}
+        self.assertEqual(outs["1"], outs["2"])
+        self.assertEqual(outs["1"], outs["7"])
+        self.assertEqual([line.split(":")[0] for line in outs["1"][0].splitlines()], names)
+
+    def test_folders(self):
+        for name in ("top/b.xml", "top/a/c.xml", "top/a/d.xml", "top/a/e.txt", "top/f.XML"):
+            self.write(name, '<a x="1"/>')
+        (self.folder / "top/circle.xml").symlink_to(".")
+        (self.folder / "top/link.xml").symlink_to("f.XML")
+        (self.folder / "top/gone.xml").symlink_to("nowhere")
+        self.assertEqual(self.judge("--all", "-r", "s.rnc", "top"), (
+            "top/a/c.xml: valid\ntop/a/d.xml: valid\ntop/b.xml: valid\ntop/gone.xml: No such file or directory\ntop/link.xml: valid\n", 4))
+        self.assertEqual(self.judge("--all", "--recursive", "--glob", "*.txt", "--glob", "[f-z].*", "s.rnc", "top/", "good.xml"), (
+            "top/a/e.txt: valid\ntop/f.XML: valid\ngood.xml: valid\n", 0))
+        self.assertEqual(self.judge("s.rnc", "top"), ("top: it is a folder: --recursive judges the documents in folders\n", 4))
+
+    def test_names_from_a_file(self):
+        self.write("with blank.xml", '<a x="1"/>')
+        wanted = "good.xml: valid\nwith blank.xml: valid\n", 0
+        self.write("lines", "good.xml\nwith blank.xml\n")
+        self.write("zeros", "good.xml\0with blank.xml\0")
+        self.assertEqual(self.judge("--all", "--files-from", "lines", "s.rnc"), wanted)
+        self.assertEqual(self.judge("--all", "--files-from", "zeros", "s.rnc"), wanted)
+        self.assertEqual(self.judge("--all", "--files-from=-", "s.rnc", given=b"good.xml\0with blank.xml"), wanted)
+        self.assertEqual(self.judge("--files-from", "none", "s.rnc"), ("none: No such file or directory\n", 4))
+        self.assertEqual(self.judge("--files-from", "-", "s.rnc", given=b""), ("", 0))
+        many = b"".join(b"good.xml\n" for _ in range(20_000))
+        self.assertEqual(self.judge("--all", "--files-from", "-", "s.rnc", given=many), ("good.xml: valid\n" * 20_000, 0))
+
+    def test_standard_input(self):
+        self.assertEqual(self.judge("--all", "s.rnc", "-", given=b'<a x=""/>'), ("-: valid\n", 0))
+        self.assertEqual(self.judge("--stdin-name", "page.xml", "s.rnc", "-", given=b"<a>\n</b>"), ("page.xml:2:1: malformed XML: mismatched tag: </b> where <a> is open\n", 2))
+        twice = "-: standard input is named twice, and can be read only once\n"
+        for jobs in ("1", "3"):
+            self.assertEqual(self.judge("-j", jobs, "--all", "s.rnc", "-", "-", "good.xml", given=b'<a x=""/>'), (
+                f"-: valid\n{twice}good.xml: valid\n", 4))
+        self.assertEqual(self.shell("rncv-xml --all s.rnc - good.xml <&-"), ("-: standard input is closed\ngood.xml: valid\n", 4))
+        out, status = self.shell("rncv-xml s.rnc <(cat bad.xml) /dev/stdin < bad.xml")
+        self.assertRegex(out, r"^/dev/fd/\d+:3:3: invalid: at <c>\n/dev/stdin:3:3: invalid: at <c>\n$")
+        self.assertEqual(status, 1)
+
+
+class Formats(InFolder):
+    """What other programs read."""
+
+    NAMES = "good.xml", "bad.xml", "cut.xml", "none.xml"
+
+    def test_json(self):
+        out, status = self.judge("--format", "json", "s.rnc", *self.NAMES)
+        found = [json.loads(line) for line in out.splitlines()]
+        self.assertEqual((status, [each["verdict"] for each in found]), (4, ["valid", "invalid", "malformed", "failed"]))
+        self.assertEqual(found[0], {"file": "good.xml", "verdict": "valid"})
+        self.assertEqual(found[1], {"file": "bad.xml", "verdict": "invalid", "line": 3, "column": 3, "at": "element", "name": "c",
+                                    "message": "invalid: at <c>"})
+        self.write("t.rnc", "element a {")
+        refused = json.loads(self.judge("--format=json", "t.rnc", "good.xml")[0])
+        self.assertEqual((refused["file"], refused["verdict"], refused["clause"]), ("t.rnc", "refused", "S6"))
+
+    def test_sarif(self):
+        for names, count in ((self.NAMES, 3), (("good.xml",), 0)):
+            log = json.loads(self.judge("--format", "sarif", "s.rnc", *names)[0])
+            self.assertEqual((log["version"], len(log["runs"][0]["results"])), ("2.1.0", count))
+        log = json.loads(self.judge("--format", "sarif", "s.rnc", *self.NAMES)[0])
+        place = log["runs"][0]["results"][0]["locations"][0]["physicalLocation"]
+        self.assertEqual(place, {"artifactLocation": {"uri": "bad.xml"}, "region": {"startLine": 3, "startColumn": 3}})
+
+    def test_github(self):
+        self.write("a,b:c.xml", "<a>\n</b>")
+        self.assertEqual(self.judge("--format", "github", "s.rnc", "bad.xml", "a,b:c.xml", "good.xml"), (
+            "::error file=bad.xml,line=3,col=3,title=invalid::invalid: at <c>\n"
+            "::error file=a%2Cb%3Ac.xml,line=2,col=1,title=malformed::malformed XML: mismatched tag: </b> where <a> is open\n", 2))
+
+    def test_notes(self):
+        """What was not read is told in each format; as text it is for people, on standard error."""
+        self.write("e.rnc", 'element a { attribute x { "" }? }\n')
+        self.write("noted.xml", '<!DOCTYPE a SYSTEM "def.dtd">\n<a y=""/>')
+        self.write("plain.xml", "<a/>")
+        words = "the external DTD 'def.dtd' is not loaded: its entities and attribute defaults are not there"
+        line = f"noted.xml:1:1: note: {words}\n"
+        self.assertEqual(self.run_in(RNCV_XML, "e.rnc", "noted.xml"), ("noted.xml:2:1: invalid: at attribute y\n", line, 1))
+        out, errors, _ = self.run_in(RNCV_XML, "--format", "json", "e.rnc", "noted.xml", "plain.xml")
+        found = [json.loads(each) for each in out.splitlines()]
+        self.assertEqual((found[0]["notes"], errors), ([{"line": 1, "column": 1, "message": words}], ""))
+        self.assertEqual(found[1], {"file": "plain.xml", "verdict": "valid"})
+        results = json.loads(self.judge("--format", "sarif", "e.rnc", "noted.xml", "plain.xml")[0])["runs"][0]["results"]
+        self.assertEqual([(each["level"], each["ruleId"]) for each in results], [("note", "note"), ("error", "invalid")])
+        self.assertEqual(results[0]["locations"][0]["physicalLocation"], {
+            "artifactLocation": {"uri": "noted.xml"}, "region": {"startLine": 1, "startColumn": 1}})
+        self.assertEqual(self.judge("--format", "github", "e.rnc", "noted.xml", "plain.xml"), (
+            f"::notice file=noted.xml,line=1,col=1,title=note::{words}\n"
+            "::error file=noted.xml,line=2,col=1,title=invalid::invalid: at attribute y\n", 1))
+        found = json.loads(self.judge("--format", "json", "--strict", "e.rnc", "noted.xml")[0])
+        self.assertEqual((found["verdict"], found["line"], found["message"], len(found["notes"])), ("outside", 1, words, 1))
+        self.assertNotIn("at", found)
+
+    def test_a_line_stays_a_line(self):
+        """No reader of lines divides what is printed for a document, and JSON is UTF-8 without halves of characters."""
+        strange = "\u2028\u2029\x85\x7f\u009f\u20ac"
+        self.write("t.rnc", "element a { xsd:integer }")
+        for name, text in ((f"d{strange}\n.xml", f"<a>x{strange}</a>"), ("e.xml", f"<!DOCTYPE a SYSTEM '{strange}'><a>1</a>")):
+            self.write(name, text)
+            for form in ("text", "json", "github", "sarif"):
+                out, errors, _ = self.run_in(RNCV_XML, "--all", "--format", form, "t.rnc", name)
+                if form == "json":
+                    self.assertEqual(len(out.splitlines()), 1)
+                    found = json.loads(out)
+                    self.assertEqual(found["file"], name)
+                    self.assertEqual(found.get("name", ""), f"x{strange}" if "name" in found else "")
+                    json.dumps(found, ensure_ascii=False).encode("utf-8")
+                elif form == "text":
+                    self.assertEqual([len(each.splitlines()) for each in (out, errors) if each], [1] * (1 + (name == "e.xml")))
+                elif form == "sarif":
+                    json.loads(out)
+
+    def test_bytes_that_are_no_utf_8(self):
+        """Only the name of a file has halves of characters in JSON, for its bytes that are no UTF-8."""
+        for name in (b"n\xe2\x82.xml", b"n\xff\xe2\x80\xa8\xe2\x82\xac\x80.xml"):
+            (self.folder / os.fsdecode(name)).write_text("<b/>")
+            found = json.loads(self.judge("--format", "json", "s.rnc", name)[0])
+            self.assertEqual(os.fsencode(found.pop("file")), name)
+            json.dumps(found, ensure_ascii=False).encode("utf-8")
+        (self.folder / os.fsdecode(b"t\xff.rnc")).write_text(f"{SCHEMA}# rncv-profile: 1 datatype loosened, see t.profile.txt\n")
+        found = json.loads(self.judge("--format", "json", b"t\xff.rnc", "good.xml")[0])
+        json.dumps(found, ensure_ascii=False).encode("utf-8")
+        self.assertEqual(found["verdict"], "valid")
+
+    def test_color(self):
+        self.assertEqual(self.judge("s.rnc", "bad.xml")[0], "bad.xml:3:3: invalid: at <c>\n")
+        colored = "\x1b[1mbad.xml:3:3:\x1b[0m \x1b[31minvalid: at <c>\x1b[0m\n"
+        self.assertEqual(self.judge("--color", "always", "s.rnc", "bad.xml")[0], colored)
+        self.wanted("script")
+        environment = {name: value for name, value in os.environ.items() if name != "NO_COLOR"}
+        plain = "bad.xml:3:3: invalid: at <c>\n"
+        for more, wanted in (({}, colored), ({"NO_COLOR": "1"}, plain), ({"TERM": "dumb"}, plain)):
+            run = subprocess.run(["script", "-qec", f"{RNCV_XML} s.rnc bad.xml", "/dev/null"], cwd=self.folder, stdin=subprocess.DEVNULL,
+                                 capture_output=True, check=False, env={**environment, "TERM": "xterm", **more})
+            self.assertEqual(run.stdout.decode().replace("\r\n", "\n"), wanted)
+
+    def test_progress(self):
+        self.wanted("script", "sh")
+        command = f"(sleep 1.3; cat good.xml) | {RNCV_XML} s.rnc bad.xml - cut.xml"
+        run = subprocess.run(["script", "-qec", f"sh -c '{command}'", "/dev/null"], cwd=self.folder, stdin=subprocess.DEVNULL, capture_output=True,
+                             check=False, env={**os.environ, "NO_COLOR": "1"})
+        self.assertIn(b" of 3 documents, 0 MB", run.stdout)
+        self.assertTrue(run.stdout.rstrip().endswith(b"\r\x1b[Kcut.xml:3:1: malformed XML: mismatched tag: </a> where <b> is open"), run.stdout)
+
+
+class Words(InFolder):
+    """The command line."""
+
+    def test_wrong_words(self):
+        for words in ((), ("--",), ("--bogus", "s.rnc"), ("-j",), ("-j", "x", "s.rnc"), ("-j", "-1", "s.rnc"), ("--format", "xml", "s.rnc"),
+                      ("--map", "x", "s.rnc"), ("--quiet", "--all", "s.rnc"), ("-", "good.xml"), ("--files-from", "-", "s.rnc", "-")):
+            out, errors, status = self.run_in(RNCV_XML, *words)
+            self.assertEqual((out, status), ("", 5), words)
+            self.assertRegex(errors, r"^rncv-xml: .*\nusage: rncv-xml .*\n$")
+
+    def test_help(self):
+        out, errors, status = self.run_in(RNCV_XML, "--help")
+        self.assertEqual((errors, status), ("", 0))
+        page = (TOP / "man/rncv-xml.1").read_text()
+        for option in re.findall(r"--[a-z][-a-z]+", out):
+            self.assertIn(option.replace("-", "\\-"), page)
+        self.assertRegex(self.run_in(RNCV_XML, "--version")[0], r"^rncv-xml \d+\.\d+\.\d+ \(librncv \d+\.\d+\.\d+\)\n$")
+        self.assertEqual(self.run_in(RNCV_XML, "-h")[0], out)
+        self.assertEqual(out.splitlines()[-1], "`man rncv-xml` has more. `man rncv` is about the proved program.")
+
+    def test_values(self):
+        for words in (("-j2",), ("-j", "2"), ("--jobs=2",), ("--jobs", "2")):
+            self.assertEqual(self.judge(*words, "s.rnc", "good.xml"), ("", 0))
+
+
+class Ends(InFolder):
+    """How the program ends."""
+
+    def test_output_that_is_not_there(self):
+        self.assertEqual(self.shell("rncv-xml --all s.rnc good.xml >&-"), ("rncv-xml: standard output is closed\n", 4))
+        self.assertEqual(self.shell("rncv-xml --all s.rnc good.xml > /dev/full"), ("rncv-xml: No space left on device\n", 4))
+        self.assertEqual(self.shell("rncv-xml s.rnc bad.xml 2>&-"), ("bad.xml:3:3: invalid: at <c>\n", 1))
+
+    def test_a_closed_pipe(self):
+        many = "bad.xml " * 3000
+        for jobs in ("1", "3"):
+            script = f"rncv-xml -j {jobs} s.rnc {many} | head -n 1; echo ${{PIPESTATUS[0]}}"
+            self.assertEqual(self.shell(script), ("bad.xml:3:3: invalid: at <c>\n141\n", 0))
+
+    def test_interrupt(self):
+        for jobs in ("1", "3"):
+            words = RNCV_XML, "-j", jobs, "--all", "s.rnc", "good.xml", "-", *["good.xml"] * 9
+            with subprocess.Popen(words, cwd=self.folder, stdin=subprocess.PIPE, stdout=subprocess.PIPE, stderr=subprocess.PIPE,
+                                  preexec_fn=lambda: signal.signal(signal.SIGINT, signal.SIG_DFL)) as run:
+                self.assertEqual(run.stdout.readline(), b"good.xml: valid\n")
+                run.send_signal(signal.SIGINT)
+                self.assertEqual((run.wait(30), run.stdout.read(), run.stderr.read()), (130, b"", b""))
+
+    def test_little_memory(self):
+        """However little memory there is, nothing is called valid, and nothing crashes."""
+        bounded = ("import os, resource, sys\n"
+                   "resource.setrlimit(resource.RLIMIT_AS, (int(sys.argv[1]) * 1024,) * 2)\n"
+                   "os.execv(sys.argv[2], sys.argv[2:])\n")
+        self.write("large.xml", '<a x="1"><!--' + "x" * 3_000_000 + f"--><b/>{' ' * 300_000}<c/></a>")
+        self.write("tag.xml", f'<a x="{"y" * 60_000}"><b z="{"q" * 3_000_000}"/></a>')
+        seen = set()
+        for size in range(3_000, 160_000, 3_500):
+            run = subprocess.run([sys.executable, "-c", bounded, str(size), RNCV_XML, "-j1", "s.rnc", "large.xml", "tag.xml"], cwd=self.folder,
+                                 capture_output=True, check=False)
+            seen.add(run.returncode)
+            self.assertIn(run.returncode, (1, 2, 4, 127, -11 if b"error while loading" in run.stderr else 4), (size, run.stdout, run.stderr))
+        self.assertIn(2, seen)
+
+    def test_an_answer_does_not_wait_for_the_rest(self):
+        """What is malformed ends the reading of a pipe at once."""
+        with subprocess.Popen([RNCV_XML, "s.rnc", "-"], cwd=self.folder, stdin=subprocess.PIPE, stdout=subprocess.PIPE) as run:
+            run.stdin.write(b'<a x="1"><p:b/>' + b"<b/>" * 10_000)
+            run.stdin.flush()
+            self.assertEqual(run.wait(30), 2)
+            self.assertRegex(run.stdout.read(), b"^-:1:10: malformed P11: ")
+
+    def test_one_thread_and_two_say_the_same(self):
+        good = '<a x="1">\n' + "<!-- some words -->\n" * 30_000 + "<b/></a>"
+        changed = good.replace("<b/>", "<c/>"), good.replace("<b/>", "<p:b/>"), good + "<", good.replace('"1"', "1")
+        for number, text in enumerate((good, good[:-4], *changed)):
+            self.write(f"{number}.xml", text)
+            one, two = (self.judge("-j", jobs, "--all", "s.rnc", f"{number}.xml") for jobs in ("1", "2"))
+            self.assertEqual(one, two)
+            self.assertEqual(one[1], (0, 2, 1, 2, 2, 2)[number])
+
+    def test_costs(self):
+        self.write("r.rnc", "element r { element b { attribute x { text }, text }* }")
+        small, large = (peak_of([RNCV_XML, "-j1", self.folder / "r.rnc", self.write("d.xml", "<r>" + '<b x="1">t</b>\n' * count + "</r>")])
+                        for count in (20_000, 400_000))
+        self.assertEqual((small[1], large[1]), (0, 0))
+        self.assertLess(large[0], small[0] + 2_000)
+        self.assertLess(large[0], 16_384)
+        names = [self.write(f"d{number}.xml", '<r><b x="1"/></r>') for number in range(2_000)]
+        begun = processor_seconds()
+        self.assertEqual(self.judge("-j1", "r.rnc", *names), ("", 0))
+        self.assertLess(processor_seconds() - begun, 3)
+
+
+if __name__ == "__main__":
+    unittest.main(verbosity=1)
