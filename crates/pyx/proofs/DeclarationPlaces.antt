@@ -4,6 +4,7 @@ use Rattle.std.proofs.Common.{ap, arith, get_or, length, map, refl, reverse, sub
 use Rattle.std.specs.BTreeMap.{get_by_text}
 use Rattle.std.specs.Str.{bytes_eq}
 use Rattle.std.proofs.lemmas.List.{get_or_append_left, get_or_push, length-reverse, reverse-append, reverse-reverse}
+use Rattle.std.proofs.lemmas.Option.{same_Some, none-some}
 use Rattle.pyx.specs.declared.namespaces.places.Declaration.{Declaration}
 use Rattle.pyx.specs.declared.namespaces.places.Places.{Places}
 use Rattle.pyx.specs.plain.WrittenNames.{written_of}
@@ -11,14 +12,8 @@ use Rattle.pyx.specs.plain.Declarations.{declared_by, declares, found_in, same_p
 use Rattle.pyx.specs.views.DeclarationView.{AreFound, declaration_of, innermost_place, is_of, place_in}
 use Rattle.pyx.proofs.WrittenNames.{prefix_itself, prefix_same}
 
-none_some : {A : Type 0} {x : A} → None ≡ Some x → ⊥
-none_some e = cc
-
 false_true : false ≡ true → ⊥
 false_true e = cc
-
-some_same : {A : Type 0} {x y : A} → Some x ≡ Some y → x ≡ y
-some_same e = cc
 
 -- ---- no declaration
 
@@ -108,12 +103,12 @@ covers (Ok hidden) old new name place p is before sets = λ outer own n h l all.
 -- ---- a declaration is looked up
 
 place_inside : (p : Option (List ℕ)) (list : List Declaration) (at : ℕ) → innermost_place p list ≡ Some at → at < length list
-place_inside p [] at e = absurd (none_some e)
+place_inside p [] at e = absurd (none-some _ e)
 place_inside p (own ∷ outer) at e = go (is_of p own) e (place_inside p outer at) where
   go : (b : Bool) → cond b (Some (length outer)) (innermost_place p outer) ≡ Some at → (innermost_place p outer ≡ Some at → at < length outer)
       → at < length (own ∷ outer)
   go true k more =
-      let same : length outer ≡ at = some_same k in
+      let same : length outer ≡ at = same_Some _ _ k in
       omega (arith, same)
   go false k more = omega (arith, more k)
 
@@ -121,7 +116,7 @@ place_inside p (own ∷ outer) at e = go (is_of p own) e (place_inside p outer a
 place_tells : (p : Option (List ℕ)) (list : List Declaration) (at : ℕ) (d : Declaration) → innermost_place p list ≡ Some at
     → found_in p (map declaration_of list) ≡ Some (declaration_of (get_or (reverse list) at d)).content
 unfolding found_in
-place_tells p [] at d e = absurd (none_some e)
+place_tells p [] at d e = absurd (none-some _ e)
 place_tells p (own ∷ outer) at d e = go (is_of p own) e (place_inside p outer at) (place_tells p outer at d) where
   last : get_or (reverse (own ∷ outer)) at d ≡ get_or (reverse outer ++ own ∷ []) at d
   last = ap (λ (x : List Declaration). get_or x at d) (reverse-append (own ∷ []) outer)
@@ -132,7 +127,7 @@ place_tells p (own ∷ outer) at d e = go (is_of p own) e (place_inside p outer 
       → cond b (Some (declaration_of own).content) (found_in p (map declaration_of outer))
       ≡ Some (declaration_of (get_or (reverse (own ∷ outer)) at d)).content
   go true k inside more =
-      let same : length outer ≡ at = some_same k in
+      let same : length outer ≡ at = same_Some _ _ k in
       let this : get_or (reverse (own ∷ outer)) at d ≡ own = last ∙ get_or_push (reverse outer) own d at (length-reverse outer ∙ same) in
       ap (λ (x : Declaration). Some (declaration_of x).content) (sym this)
   go false k inside more =
@@ -147,7 +142,7 @@ no_place_tells p (own ∷ outer) e = go (is_of p own) e (no_place_tells p outer)
   go : (b : Bool) → cond b (Some (length outer)) (innermost_place p outer) ≡ None
       → (innermost_place p outer ≡ None → found_in p (map declaration_of outer) ≡ None)
       → cond b (Some (declaration_of own).content) (found_in p (map declaration_of outer)) ≡ None
-  go true k more = absurd (none_some (sym k))
+  go true k more = absurd (none-some _ (sym k))
   go false k more = more k
 
 -- ---- in the form of the code: of the list, the innermost is last

@@ -1,6 +1,7 @@
 -- The characters of a text with escapes: reading agrees with the definition.
 use Rattle.std.proofs.Common.{◌≡◌, ℕ, Bool, true, false, cond, eqb, List, [], ◌∷◌, Option, Some, None, refl, sym, subst, ◌∙◌}
 use Rattle.std.proofs.lemmas.Bool.{eqb-true}
+use Rattle.std.proofs.lemmas.Option.{none-some}
 use Rattle.rng_model.specs.documents.PyxLines.{StandsFor, at_end, itself, line_feed, tab, backslash, StandsForNothing}
 use Rattle.pyx.specs.plain.Escapes.{unescaped, escaped, in_front}
 use Rattle.pyx.proofs.NamesInLines.{not_equal, differs}
@@ -13,12 +14,9 @@ value_is (line_feed d) = rw (value_is d) refl
 value_is (tab d) = rw (value_is d) refl
 value_is (backslash d) = rw (value_is d) refl
 
-none_some : {A : Type 0} (v : A) → None ≡ Some v → ⊥
-none_some v e = cc
-
 front_value : (k : ℕ) (whole cs : List ℕ) (o : Option (List ℕ)) (v : List ℕ) → ((w : List ℕ) → o ≡ Some w → StandsFor cs w)
     → ((w : List ℕ) → StandsFor cs w → StandsFor whole (k ∷ w)) → in_front (k ∷ []) o ≡ Some v → StandsFor whole v
-front_value k whole cs None v more make e = absurd (none_some v e)
+front_value k whole cs None v more make e = absurd (none-some v e)
 front_value k whole cs (Some w) v more make e = let p : k ∷ w ≡ v = cc in subst (StandsFor whole) p (make w (more w refl))
 
 value_by : (b : Bool) (c : ℕ) (cs v : List ℕ) → eqb c 92 ≡ b → cond b (escaped cs) (in_front (c ∷ []) (unescaped cs)) ≡ Some v
@@ -35,7 +33,7 @@ escape_by false true z d cs v p q r e more = subst (λ (x : ℕ). StandsFor (92 
     (front_value 9 (92 ∷ 116 ∷ cs) cs (unescaped cs) v more (λ w k. tab k) e)
 escape_by false false true d cs v p q r e more = subst (λ (x : ℕ). StandsFor (92 ∷ x ∷ cs) v) (sym (eqb-true d 92 r))
     (front_value 92 (92 ∷ 92 ∷ cs) cs (unescaped cs) v more (λ w k. backslash k) e)
-escape_by false false false d cs v p q r e more = absurd (none_some v e)
+escape_by false false false d cs v p q r e more = absurd (none-some v e)
 
 unescaped_cons : (c : ℕ) (cs : List ℕ) → unescaped (c ∷ cs) ≡ cond (eqb c 92) (escaped cs) (in_front (c ∷ []) (unescaped cs))
 unfolding unescaped
@@ -71,4 +69,4 @@ no_value t n = go (unescaped t) refl where
   go (Some v) e = absurd (n v (value_of t v e))
 
 pub none_stands : (t : List ℕ) → unescaped t ≡ None → StandsForNothing t
-none_stands t e = λ v d. none_some v (sym e ∙ value_is d)
+none_stands t e = λ v d. none-some v (sym e ∙ value_is d)

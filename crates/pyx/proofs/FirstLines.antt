@@ -8,6 +8,7 @@ use Rattle.pyx.specs.plain.PlainBytes.{is_plain}
 use Rattle.pyx.proofs.WrittenNames.{joins, at_joins}
 use Rattle.std.specs.List.{prefix_len, position_or_len}
 use Rattle.std.proofs.lemmas.List.Sums.{position_or_len_is}
+use Rattle.std.proofs.lemmas.Bool.{false_from_ne_true}
 use Rattle.memchr.specs.Find.{Nowhere, NoneBefore, Passes, is_byte}
 use Rattle.pyx.specs.plain.Cuts.{at_byte, at_front}
 use Rattle.pyx.specs.plain.Pieces.{is_within}
@@ -41,10 +42,6 @@ cut_none bytes front rest e f g = sym (line_cut bytes ∙ rw (← e, ← f, g) r
 
 -- ---- by a search for the line feed
 
-fails : (b : Bool) → (b ≡ true → ⊥) → b ≡ false
-fails true n = absurd (n refl)
-fails false n = refl
-
 same_len : (bytes : List ℕ) → position_or_len (is_byte 10) bytes ≡ prefix_len is_within bytes
 same_len [] = refl
 same_len (b ∷ bs) = go (eqb b 10) refl (same_len bs) where
@@ -59,11 +56,11 @@ is_len bytes k e = sym e ∙ same_len bytes
 pub line_feed_at : (bytes : List ℕ) (k : ℕ) → NoneBefore (Passes (is_byte 10) bytes) 0 (length bytes) k → Passes (is_byte 10) bytes k
     → k ≡ prefix_len is_within bytes
 line_feed_at bytes k none here = is_len bytes k (position_or_len_is (is_byte 10) bytes k 0 (omega (arith, none.high))
-    (λ j l. fails _ (none.before j (omega arith) l)) (λ l. here))
+    (λ j l. false_from_ne_true _ (none.before j (omega arith) l)) (λ l. here))
 
 pub no_line_feed : (bytes : List ℕ) → Nowhere (Passes (is_byte 10) bytes) 0 (length bytes) → length bytes ≡ prefix_len is_within bytes
 no_line_feed bytes none = is_len bytes (length bytes) (position_or_len_is (is_byte 10) bytes (length bytes) 0 (omega arith)
-    (λ j l. fails _ (none j (omega arith) l)) (λ l. absurd (omega (arith, l))))
+    (λ j l. false_from_ne_true _ (none j (omega arith) l)) (λ l. absurd (omega (arith, l))))
 
 -- ---- a line of plain bytes
 

@@ -1,6 +1,7 @@
 -- What a line that begins or ends a tag leads to, once its name is judged.
 use Rattle.std.proofs.Common.{◌≡◌, ◌<◌, ◌≤◌, rules, ◌∙◌, ◌&&◌, ◌==◌, ap, arith, sym, ℕ, Bool, true, false, cond, List, [], ◌∷◌, length, Option, Ok, refl}
 use Rattle.std.specs.Prelude.{nat_le}
+use Rattle.std.proofs.lemmas.Bool.{and_parts}
 use Rattle.rng_model.specs.documents.Lines.{open_limit}
 use Rattle.rng_model.specs.documents.PyxLines as lines
 use Rattle.rng_model.specs.documents.PyxTrees.{Event, an_end, a_string}
@@ -10,7 +11,6 @@ use Rattle.pyx.specs.plain.LineReader.{is_name, named}
 use Rattle.pyx.specs.plain.WrittenNames.{written_of}
 use Rattle.pyx.specs.views.ElementView.{is_innermost}
 use Rattle.pyx.proofs.OpenNames.{and_false}
-use Rattle.pyx.proofs.TagRepeats.{both}
 
 pub not_outside : (s : State) (opened : List Open) → opened ≡ s.opened → (length opened == 0) ≡ false → (s.root && is_outside s) ≡ false
 not_outside s opened e some =
@@ -56,7 +56,7 @@ pub end_judged : (bytes : ℕ) (name : List ℕ) (s : State) → (is_name name &
     → judged bytes (named (λ x. lines.end x) name) s ≡ followed (text_ended s) ended_after
 unfolding named said_read ended
 end_judged bytes name s e =
-    let p = both (is_name name) (is_innermost (written_of name) s.opened) e in
+    let p = and_parts (is_name name) (is_innermost (written_of name) s.opened) e in
     rw (p.0) (end_first (written_of name) s.opened s p.1)
 
 pub closes : (turn : Turn State) (new : State) → turn.0 ≡ Ok new → followed turn ended_after ≡ after_events turn.1 (ended_after new)

@@ -5,7 +5,7 @@ use Rattle.std.specs.Prelude.{◌≢◌}
 use Rattle.std.specs.List.{list_all, AllByRecursion}
 use Rattle.std.specs.Str.{IsUtf8, chars}
 use Rattle.std.proofs.Math.Seq.{take-append_seam}
-use Rattle.std.proofs.lemmas.Bool.{eqb-true}
+use Rattle.std.proofs.lemmas.Bool.{eqb-true, and_parts}
 use Rattle.std.proofs.lemmas.List.{length-append}
 use Rattle.std.proofs.lemmas.Str.{encode_ascii, IsUtf8-take, IsUtf8-drop, IsUtf8-append, IsUtf8-from_ascii, IsCharBoundary-before_ascii}
 use Rattle.std.proofs.lemmas.Str.{IsCharBoundary-after_ascii, chars-append, chars_past_char}
@@ -144,15 +144,11 @@ name_has_no_space (alone {local} n) = no_space_in local n
 name_has_no_space (prefixed {text = bytes} {prefix = p} {local} m n e) = subst (AllByRecursion (λ c. c ≢ 32)) (sym e)
     (all_append 32 p (58 ∷ local) (no_space_in p m) (differs 58 32 refl, no_space_in local n))
 
-both : (a b : Bool) → (a && b) ≡ true → (a ≡ true) × (b ≡ true)
-both true b e = (refl, e)
-both false b e = absurd cc
-
 name_by : (bytes : List ℕ) (o : Option (List ℕ × List ℕ)) → IsUtf8 bytes → Found 58 bytes o → are_ncnames o bytes ≡ true → IsName bytes (cut_name o bytes)
 name_by bytes None u f e = alone (record { utf8 = u; ncname = e })
 name_by bytes (Some p) u f e =
     let parts = utf8_parts p.0 p.1 58 (lit< tt) (subst IsUtf8 f.0 u) in
-    let good = both (is_ncname (chars p.0)) (is_ncname (chars p.1)) e in
+    let good = and_parts (is_ncname (chars p.0)) (is_ncname (chars p.1)) e in
     prefixed (record { utf8 = parts.0; ncname = good.0 }) (record { utf8 = parts.1; ncname = good.1 }) f.0
 
 pub good_name : (bytes : List ℕ) → IsUtf8 bytes → is_name bytes ≡ true → IsName bytes (written_of bytes)

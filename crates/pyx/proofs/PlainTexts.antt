@@ -1,5 +1,5 @@
 -- What plain bytes imply for a text.
-use Rattle.std.proofs.Common.{◌≡◌, ℕ, ◌<◌, ◌≤◌, Bool, true, false, eqb, not, ◌&&◌, ◌||◌, List, [], ◌∷◌, None, Err, refl, sym, ap, ◌∙◌}
+use Rattle.std.proofs.Common.{◌≡◌, ℕ, ◌<◌, ◌≤◌, Bool, true, false, eqb, not, ◌&&◌, List, [], ◌∷◌, None, Err, refl, sym, ap, ◌∙◌}
 use Rattle.std.proofs.Common.{arith}
 use Rattle.std.proofs.lemmas.Bool.Decides.{nat_tests}
 use Rattle.std.specs.List.{list_all}
@@ -7,6 +7,7 @@ use Rattle.std.specs.Str.{chars, IsUtf8, IsAscii}
 use Rattle.std.proofs.lemmas.List.Folds.{list_all-append}
 use Rattle.std.proofs.lemmas.Str.{encodes-chars, scalars-chars, chars-IsAscii, is_utf8-from_IsUtf8}
 use Rattle.std.proofs.lemmas.Str.Ascii.{IsAscii-nil, IsAscii-cons}
+use Rattle.std.proofs.lemmas.Bool.{or_right}
 use lib.Utf8.{scalar, scalars, encode, encodes}
 use Rattle.rng_model.specs.names.Characters.{is_ncname, is_xml_char, is_name_char, is_name_start, is_colon, is_in_ranges, more_name_ranges}
 use Rattle.pyx.specs.plain.Cuts.{at_byte}
@@ -52,10 +53,6 @@ plain_text bs u e = plain_chars (chars bs) (scalars-chars bs u) (ap (list_all is
 
 begins : (b : ℕ) → may_begin b ≡ true → (is_name_start b && not (is_colon b)) ≡ true
 begins b e = grind (arith, nat_tests)
-
-or_right : (a b : Bool) → b ≡ true → (a || b) ≡ true
-or_right true b e = refl
-or_right false b e = e
 
 follow_parts : (b : ℕ) → may_follow b ≡ true → may_begin b ≡ false → (is_in_ranges more_name_ranges b ≡ true) × (is_colon b ≡ false)
 follow_parts b e f = (grind (arith, nat_tests), grind (arith, nat_tests))

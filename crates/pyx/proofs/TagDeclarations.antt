@@ -4,18 +4,13 @@ use Rattle.std.proofs.Common.{rules}
 use Rattle.std.specs.Prelude.{◌==◌, ◌≢◌, is_some}
 use Rattle.std.specs.List.{AllByRecursion}
 use Rattle.std.specs.Str.{bytes_eq}
+use Rattle.std.proofs.lemmas.Option.{none-some, same_Some}
 use Rattle.rng_model.specs.documents.PyxLines.{WrittenName}
 use Rattle.rng_model.specs.documents.PyxNamespaces.{WrittenAttribute, NamespaceDeclaration, xmlns, xml_uri, xmlns_uri, Declares, default_namespace, prefix_declared}
 use Rattle.rng_model.specs.documents.PyxNamespaces.{DeclaresNothing, AreParted, nothing, declaration, other, IsForbidden, of_xmlns_uri, of_xmlns, of_nothing}
 use Rattle.rng_model.specs.documents.PyxNamespaces.{xml_as_another, another_as_xml}
 use Rattle.pyx.specs.plain.Declarations.{declared_prefix, declared_by, forbidden_prefix, forbidden_by}
 use Rattle.pyx.proofs.WrittenNames.{same_bytes, bytes_same}
-
-some_same : {A : Type 0} (x y : A) → Some x ≡ Some y → x ≡ y
-some_same x y e = cc
-
-none_some : {A : Type 0} (x : A) → None ≡ Some x → ⊥
-none_some x e = cc
 
 -- ---- which lines are declarations
 
@@ -25,14 +20,14 @@ declares_by None local p e = go (bytes_eq local xmlns) refl e where
   go : (b : Bool) → bytes_eq local xmlns ≡ b → cond {A = Option (Option (List ℕ))} b (Some None) None ≡ Some p
       → Declares (record { prefix = None; local = local }) p
   go true q k = subst (λ (x : List ℕ). Declares (record { prefix = None; local = x }) p) (sym (bytes_same local xmlns q))
-      (subst (λ (x : Option (List ℕ)). Declares (record { prefix = None; local = xmlns }) x) (some_same None p k) default_namespace)
-  go false q k = absurd (none_some p k)
+      (subst (λ (x : Option (List ℕ)). Declares (record { prefix = None; local = xmlns }) x) (same_Some None p k) default_namespace)
+  go false q k = absurd (none-some p k)
 declares_by (Some x) local p e = go (bytes_eq x xmlns) refl e where
   go : (b : Bool) → bytes_eq x xmlns ≡ b → cond {A = Option (Option (List ℕ))} b (Some (Some local)) None ≡ Some p
       → Declares (record { prefix = Some x; local = local }) p
   go true q k = subst (λ (y : List ℕ). Declares (record { prefix = Some y; local = local }) p) (sym (bytes_same x xmlns q))
-      (subst (λ (y : Option (List ℕ)). Declares (record { prefix = Some xmlns; local = local }) y) (some_same (Some local) p k) prefix_declared)
-  go false q k = absurd (none_some p k)
+      (subst (λ (y : Option (List ℕ)). Declares (record { prefix = Some xmlns; local = local }) y) (same_Some (Some local) p k) prefix_declared)
+  go false q k = absurd (none-some p k)
 
 pub declares_it : (name : WrittenName) (p : Option (List ℕ)) → declared_by name ≡ Some p → Declares name p
 declares_it name p e = declares_by name.prefix name.local p e
@@ -42,7 +37,7 @@ is_declared default_namespace = refl
 is_declared (prefix_declared {p}) = refl
 
 pub declares_nothing : (name : WrittenName) → declared_by name ≡ None → DeclaresNothing name
-declares_nothing name e = λ p d. none_some p (sym e ∙ is_declared d)
+declares_nothing name e = λ p d. none-some p (sym e ∙ is_declared d)
 
 -- ---- declarations and others
 
@@ -87,7 +82,7 @@ empty_is [] e = refl
 empty_is (c ∷ uri) e = search rules
 
 prefix_not : (p q : List ℕ) → p ≢ q → Some p ≢ Some q
-prefix_not p q n e = n (some_same p q e)
+prefix_not p q n e = n (same_Some p q e)
 
 forbidden_default : (uri : List ℕ) → (bytes_eq uri xmlns_uri || bytes_eq uri xml_uri) ≡ true → IsForbidden (record { prefix = None; uri = uri })
 forbidden_default uri e = go (bytes_eq uri xmlns_uri) (bytes_eq uri xml_uri) refl refl e where
@@ -142,12 +137,12 @@ by_uri (Some p) uri e = let k : bytes_eq uri xmlns_uri ≡ true = ap (λ (x : Li
     ap (λ (b : Bool). (length uri == 0) || b || bytes_eq p xmlns || xml_rule p uri) k ∙ second (length uri == 0) (bytes_eq p xmlns) (xml_rule p uri)
 
 by_xmlns : (p : Option (List ℕ)) (uri : List ℕ) → p ≡ Some xmlns → forbidden_by (Some p) uri ≡ true
-by_xmlns None uri e = absurd (none_some xmlns e)
-by_xmlns (Some p) uri e = let k : bytes_eq p xmlns ≡ true = ap (λ (x : List ℕ). bytes_eq x xmlns) (some_same p xmlns e) ∙ same_bytes xmlns in
+by_xmlns None uri e = absurd (none-some xmlns e)
+by_xmlns (Some p) uri e = let k : bytes_eq p xmlns ≡ true = ap (λ (x : List ℕ). bytes_eq x xmlns) (same_Some p xmlns e) ∙ same_bytes xmlns in
     ap (λ (b : Bool). (length uri == 0) || bytes_eq uri xmlns_uri || b || xml_rule p uri) k ∙ third (length uri == 0) (bytes_eq uri xmlns_uri) (xml_rule p uri)
 
 by_nothing : (p : Option (List ℕ)) (q uri : List ℕ) → p ≡ Some q → uri ≡ [] → forbidden_by (Some p) uri ≡ true
-by_nothing None q uri e f = absurd (none_some q e)
+by_nothing None q uri e f = absurd (none-some q e)
 by_nothing (Some p) q uri e f = rw f refl
 
 xml_same : (p uri : List ℕ) → p ≡ codes "xml" → uri ≢ xml_uri → xml_rule p uri ≡ true
@@ -167,8 +162,8 @@ by_rule p uri k = ap (λ (b : Bool). (length uri == 0) || bytes_eq uri xmlns_uri
     ∙ fourth (length uri == 0) (bytes_eq uri xmlns_uri) (bytes_eq p xmlns)
 
 by_xml : (p : Option (List ℕ)) (uri : List ℕ) → p ≡ Some (codes "xml") → uri ≢ xml_uri → forbidden_by (Some p) uri ≡ true
-by_xml None uri e n = absurd (none_some (codes "xml") e)
-by_xml (Some p) uri e n = by_rule p uri (xml_same p uri (some_same p (codes "xml") e) n)
+by_xml None uri e n = absurd (none-some (codes "xml") e)
+by_xml (Some p) uri e n = by_rule p uri (xml_same p uri (same_Some p (codes "xml") e) n)
 
 by_other : (p : Option (List ℕ)) (uri : List ℕ) → p ≢ Some (codes "xml") → uri ≡ xml_uri → forbidden_by (Some p) uri ≡ true
 by_other None uri n e = go (bytes_eq uri xmlns_uri) where

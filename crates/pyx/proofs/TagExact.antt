@@ -5,6 +5,7 @@ use Rattle.std.proofs.Common.{subst, ◌∙◌, ◌⊎◌, inl, inr}
 use Rattle.std.specs.Prelude.{is_some}
 use Rattle.std.specs.List.{AllByRecursion}
 use Rattle.std.proofs.lemmas.List.Elements.{All-from_recursion, recursion_from_All}
+use Rattle.std.proofs.lemmas.Option.{same_Some, none-some}
 use Rattle.rng_model.specs.matching.Document.{Attribute}
 use Rattle.rng_model.specs.names.Lists.{Among, here, there, HasTwice, at_first, later}
 use Rattle.rng_model.specs.names.Names.{Name}
@@ -32,12 +33,6 @@ use Rattle.pyx.proofs.TagUnique.{prefixes_of, IsScopeOnce, parted_same, element_
 
 true_false : true ≡ false → ⊥
 true_false e = cc
-
-none_some : {A : Type 0} (x : A) → None ≡ Some x → ⊥
-none_some x e = cc
-
-some_same : {A : Type 0} (x y : A) → Some x ≡ Some y → x ≡ y
-some_same x y e = cc
 
 or_second : (a : Bool) → (a || true) ≡ true
 or_second true = refl
@@ -67,7 +62,7 @@ among_declared (declares_none d r) (there m) e s = among_declared r m (rest_same
 among_others : {all ds os : List WrittenAttribute} {name : WrittenName} {names : List WrittenName} → IsSplit all ds os → Among name names
     → names ≡ names_of all → declared_by name ≡ None → Among name (names_of os)
 among_others no_lines m e s = absurd (nowhere m e)
-among_others (declares {a} {p} d r) here e s = absurd (none_some p (sym s ∙ ap declared_by (first_same e) ∙ d))
+among_others (declares {a} {p} d r) here e s = absurd (none-some p (sym s ∙ ap declared_by (first_same e) ∙ d))
 among_others (declares d r) (there m) e s = among_others r m (rest_same e) s
 among_others (declares_none {a} {all} {ds} {os} d r) here e s = subst (λ (x : WrittenName). Among x (names_of (a ∷ os))) (sym (first_same e)) here
 among_others (declares_none d r) (there m) e s = there (among_others r m (rest_same e) s)
@@ -118,9 +113,9 @@ record Parts (scope : Declared) (a : WrittenAttribute) (more : List WrittenAttri
 
 parts_by : (scope : Declared) (a : WrittenAttribute) (more : List WrittenAttribute) (attrs : List Attribute) (o : Option Name) (r : Option (List Attribute))
     → attribute_name scope a.name ≡ o → expanded scope more ≡ r → and_more o a.content r ≡ Some attrs → Parts scope a more attrs
-parts_by scope a more attrs None r e f g = absurd (none_some attrs g)
-parts_by scope a more attrs (Some q) None e f g = absurd (none_some attrs g)
-parts_by scope a more attrs (Some q) (Some rest) e f g = record { name = q; rest = rest; named = e; others = f; is = sym (some_same _ _ g) }
+parts_by scope a more attrs None r e f g = absurd (none-some attrs g)
+parts_by scope a more attrs (Some q) None e f g = absurd (none-some attrs g)
+parts_by scope a more attrs (Some q) (Some rest) e f g = record { name = q; rest = rest; named = e; others = f; is = sym (same_Some _ _ g) }
 
 parts_of : (scope : Declared) (a : WrittenAttribute) (more : List WrittenAttribute) (attrs : List Attribute) → expanded scope (a ∷ more) ≡ Some attrs
     → Parts scope a more attrs
@@ -136,7 +131,7 @@ unfolding is_named_in
 named_in scope name names [] attrs q m e x n = absurd (nowhere m e)
 named_in scope name names (a ∷ more) attrs q here e x n =
     let p = parts_of scope a more attrs x in
-    let same : p.name ≡ q = some_same p.name q (sym p.named ∙ ap (attribute_name scope) (sym (first_same e)) ∙ n) in
+    let same : p.name ≡ q = same_Some p.name q (sym p.named ∙ ap (attribute_name scope) (sym (first_same e)) ∙ n) in
     rw (p.is) (ap (λ (y : Name). same_name y q || is_named_in q p.rest) same ∙ rw (name_itself q) refl)
 named_in scope name names (a ∷ more) attrs q (there {xs} m) e x n =
     let p = parts_of scope a more attrs x in
@@ -167,8 +162,8 @@ with_namespace (element_name {name} {uri} h) = (uri, h)
 
 with_prefix_of : {scope : NamespaceScope} {name : WrittenName} {q : Name} → NamesAttribute scope name q → (p : List ℕ) → name.prefix ≡ Some p
     → (uri : List ℕ) × HasNamespace scope (Some p) uri
-with_prefix_of without_prefix p e = absurd (none_some p e)
-with_prefix_of {scope} (with_prefix {p = r} {uri} h) p e = (uri, subst (λ (x : List ℕ). HasNamespace scope (Some x) uri) (some_same r p e) h)
+with_prefix_of without_prefix p e = absurd (none-some p e)
+with_prefix_of {scope} (with_prefix {p = r} {uri} h) p e = (uri, subst (λ (x : List ℕ). HasNamespace scope (Some x) uri) (same_Some r p e) h)
 
 with_name_of : {scope : NamespaceScope} {all : List WrittenAttribute} {attrs : List Attribute} {a : WrittenAttribute} → AreExpanded scope all attrs → Among a all
     → (q : Name) × NamesAttribute scope a.name q
@@ -195,9 +190,9 @@ no_breach {outer} parted allowed named are (attribute_prefix {a = a} {p = x} p m
 
 declares_one : {a b : WrittenName} {p q : Option (List ℕ)} → Declares a p → Declares b q → p ≡ q → a ≡ b
 declares_one default_namespace default_namespace e = refl
-declares_one default_namespace (prefix_declared {p}) e = absurd (none_some p e)
-declares_one (prefix_declared {p}) default_namespace e = absurd (none_some p (sym e))
-declares_one (prefix_declared {p}) (prefix_declared {p = r}) e = rw (some_same p r e) refl
+declares_one default_namespace (prefix_declared {p}) e = absurd (none-some p e)
+declares_one (prefix_declared {p}) default_namespace e = absurd (none-some p (sym e))
+declares_one (prefix_declared {p}) (prefix_declared {p = r}) e = rw (same_Some p r e) refl
 
 among_prefixes : {all os : List WrittenAttribute} {ds : List NamespaceDeclaration} {p : Option (List ℕ)} {ps : List (Option (List ℕ))} {name : WrittenName}
     → AreParted all ds os → Among p ps → ps ≡ prefixes_of ds → Declares name p → Among name (names_of all)

@@ -4,6 +4,7 @@ use Rattle.std.specs.Prelude.{◌≢◌, is_some}
 use Rattle.std.specs.List.{AllByRecursion}
 use Rattle.std.specs.Str.{bytes_eq}
 use Rattle.std.proofs.lemmas.List.Elements.{All-from_recursion}
+use Rattle.std.proofs.lemmas.Option.{none-some, same_Some}
 use Rattle.rng_model.specs.names.Lists.{Among, here, there}
 use Rattle.rng_model.specs.names.Names.{Name}
 use Rattle.rng_model.specs.documents.PyxLines.{WrittenName}
@@ -15,12 +16,6 @@ use Rattle.pyx.specs.plain.TagReader.{in_namespace, attribute_in}
 use Rattle.pyx.specs.plain.TagReader.{attribute_name}
 use Rattle.pyx.proofs.WrittenNames.{same_bytes, bytes_same, prefix_same, prefix_itself}
 use Rattle.pyx.proofs.TagDeclarations.{declaration_of, prefix_of, AreDeclared}
-
-some_same : {A : Type 0} (x y : A) → Some x ≡ Some y → x ≡ y
-some_same x y e = cc
-
-none_some : {A : Type 0} (x : A) → None ≡ Some x → ⊥
-none_some x e = cc
 
 false_true : false ≡ true → ⊥
 false_true e = cc
@@ -72,8 +67,8 @@ Space scope p (Some uri) = HasNamespace (scope_in scope) p uri
 only_xml : {s : NamespaceScope} {p : Option (List ℕ)} {uri : List ℕ} → HasNamespace s p uri → s ≡ [] → (q : List ℕ) → p ≡ Some q → q ≡ codes "xml"
 only_xml (declared_here d) e q f = absurd cc
 only_xml (declared_outside d h) e q f = absurd cc
-only_xml xml_beforehand e q f = some_same q (codes "xml") (sym f)
-only_xml no_default e q f = absurd (none_some q f)
+only_xml xml_beforehand e q f = same_Some q (codes "xml") (sym f)
+only_xml no_default e q f = absurd (none-some q f)
 
 here_or_outside : {s : NamespaceScope} {p : Option (List ℕ)} {uri : List ℕ} → HasNamespace s p uri → (ds : List NamespaceDeclaration) (outer : NamespaceScope) → s ≡ ds ∷ outer
     → IsDeclared p uri ds ⊎ HasNamespace outer p uri

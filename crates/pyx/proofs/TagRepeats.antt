@@ -1,6 +1,7 @@
 -- Names that occur twice in a tag: the search agrees with the definition.
-use Rattle.std.proofs.Common.{◌≡◌, ℕ, Bool, true, false, ◌&&◌, ◌||◌, List, [], ◌∷◌, map, refl, sym, ap, subst, ◌∙◌, ◌⊎◌, inl, inr}
+use Rattle.std.proofs.Common.{◌≡◌, ℕ, Bool, true, false, ◌||◌, List, [], ◌∷◌, map, refl, sym, ap, subst, ◌∙◌, ◌⊎◌, inl, inr}
 use Rattle.std.specs.Str.{bytes_eq}
+use Rattle.std.proofs.lemmas.Bool.{or_cases, and_parts}
 use Rattle.rng_model.specs.matching.Document.{Attribute}
 use Rattle.rng_model.specs.names.Lists.{Among, here, there, HasTwice, at_first, later}
 use Rattle.rng_model.specs.names.Names.{Name}
@@ -13,14 +14,6 @@ use Rattle.pyx.proofs.WrittenNames.{same_bytes, bytes_same, written_same}
 
 pub true_false : true ≡ false → ⊥
 true_false e = cc
-
-pub both : (a b : Bool) → (a && b) ≡ true → (a ≡ true) × (b ≡ true)
-both true b e = (refl, e)
-both false b e = absurd cc
-
-either : (a b : Bool) → (a || b) ≡ true → (a ≡ true) ⊎ (b ≡ true)
-either true b e = inl refl
-either false b e = inr e
 
 or_second : (a : Bool) → (a || true) ≡ true
 or_second true = refl
@@ -37,7 +30,7 @@ written_first name a more e = subst (λ (x : WrittenName). Among name (x ∷ nam
 pub among_written : (name : WrittenName) (all : List WrittenAttribute) → is_written_in name all ≡ true → Among name (names_of all)
 unfolding is_written_in
 among_written name [] e = absurd cc
-among_written name (a ∷ more) e = go (either (same_written a.name name) (is_written_in name more) e) (among_written name more) where
+among_written name (a ∷ more) e = go (or_cases (same_written a.name name) (is_written_in name more) e) (among_written name more) where
   go : (same_written a.name name ≡ true) ⊎ (is_written_in name more ≡ true) → (is_written_in name more ≡ true → Among name (names_of more))
       → Among name (names_of (a ∷ more))
   go (inl k) f = written_first name a more k
@@ -46,7 +39,7 @@ among_written name (a ∷ more) e = go (either (same_written a.name name) (is_wr
 pub twice_written : (all : List WrittenAttribute) → is_written_twice all ≡ true → HasTwice (names_of all)
 unfolding is_written_twice
 twice_written [] e = absurd cc
-twice_written (a ∷ more) e = go (either (is_written_in a.name more) (is_written_twice more) e) (twice_written more) where
+twice_written (a ∷ more) e = go (or_cases (is_written_in a.name more) (is_written_twice more) e) (twice_written more) where
   go : (is_written_in a.name more ≡ true) ⊎ (is_written_twice more ≡ true) → (is_written_twice more ≡ true → HasTwice (names_of more))
       → HasTwice (names_of (a ∷ more))
   go (inl k) f = at_first (among_written a.name more k)
@@ -55,7 +48,7 @@ twice_written (a ∷ more) e = go (either (is_written_in a.name more) (is_writte
 -- ---- expanded names
 
 pub names_same : (a b : Name) → same_name a b ≡ true → a ≡ b
-names_same a b e = let p = both (bytes_eq a.local b.local) (bytes_eq a.ns b.ns) e in
+names_same a b e = let p = and_parts (bytes_eq a.local b.local) (bytes_eq a.ns b.ns) e in
     join a.ns b.ns a.local b.local (bytes_same a.ns b.ns p.1) (bytes_same a.local b.local p.0) where
       join : (p q x y : List ℕ) → p ≡ q → x ≡ y → ◌≡◌ {A = Name} (record { ns = p; local = x }) (record { ns = q; local = y })
       join p q x y e f = rw (e, f) refl

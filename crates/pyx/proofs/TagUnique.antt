@@ -3,6 +3,7 @@ use Rattle.std.proofs.Common.{◌≡◌, ℕ, List, [], ◌∷◌, map, Option, 
 use Rattle.std.specs.Prelude.{◌≢◌}
 use Rattle.std.specs.List.{AllByRecursion}
 use Rattle.std.proofs.lemmas.List.Elements.{recursion_from_All}
+use Rattle.std.proofs.lemmas.Option.{same_Some}
 use Rattle.rng_model.specs.matching.Document.{Attribute}
 use Rattle.rng_model.specs.names.Lists.{Among, here, there, HasTwice, at_first, later}
 use Rattle.rng_model.specs.names.Names.{Name}
@@ -12,11 +13,8 @@ use Rattle.rng_model.specs.documents.PyxNamespaces.{HasNamespace, declared_here,
 use Rattle.rng_model.specs.documents.PyxNamespaces.{without_prefix, with_prefix, AreExpanded, none_left, expanded_and}
 use Rattle.pyx.proofs.TagDeclarations.{is_declared}
 
-some_same : {A : Type 0} (x y : A) → Some x ≡ Some y → x ≡ y
-some_same x y e = cc
-
 declared_same : {name : WrittenName} {p q : Option (List ℕ)} → Declares name p → Declares name q → p ≡ q
-declared_same {p = p} {q = q} d e = some_same p q (sym (is_declared d) ∙ is_declared e)
+declared_same {p = p} {q = q} d e = same_Some p q (sym (is_declared d) ∙ is_declared e)
 
 -- ---- namespaces
 
@@ -108,7 +106,7 @@ attribute_same once (with_prefix {p} {local} h) (without_prefix {local = more}) 
   no_prefix : (p : List ℕ) → Some p ≡ None → ⊥
   no_prefix p e = cc
 attribute_same {scope} once (with_prefix {p} {local} {uri} h) (with_prefix {p = o} {local = more} {uri = v} k) e =
-    let same : p ≡ o = some_same p o (ap (λ (n : WrittenName). n.prefix) e) in
+    let same : p ≡ o = same_Some p o (ap (λ (n : WrittenName). n.prefix) e) in
     let u : uri ≡ v = namespace_same once h (subst (λ (x : List ℕ). HasNamespace scope (Some x) v) (sym same) k) in
     ap (λ (n : WrittenName). in_space n.local uri) e ∙ ap (in_space more) u
 

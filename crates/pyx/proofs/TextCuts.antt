@@ -3,7 +3,7 @@ use Rattle.std.proofs.Common.{◌≡◌, ℕ, ◌<◌, ◌+◌, List, [], ◌∷
 use Rattle.std.proofs.Common.{Bool, true, false, add-one}
 use Rattle.std.specs.Prelude.{◌≢◌, MatchOption}
 use Rattle.std.specs.List.{position_or_len, before_first, after_first}
-use Rattle.std.proofs.lemmas.Bool.{eqb-true}
+use Rattle.std.proofs.lemmas.Bool.{eqb-true, false_from_ne_true}
 use Rattle.std.proofs.lemmas.Str.Pattern.{strip_prefix_char}
 use Rattle.std.specs.Option.{option_map}
 use Rattle.std.specs.Str.Pattern.{FindsCharPrefix}
@@ -74,20 +74,16 @@ at_byte_cases : (k : ℕ) (bs : List ℕ) (r : Option (Bor (List ℕ) × Bor (Li
 at_byte_cases k bs None h = sym (at_byte_none k bs h)
 at_byte_cases k bs (Some x) h = rw (at_byte_some k bs h.0, h.1, h.2) refl
 
-fails : (b : Bool) → (b ≡ true → ⊥) → b ≡ false
-fails true n = absurd (n refl)
-fails false n = refl
-
 found_mark : (k : ℕ) (bs : List ℕ) (i : ℕ) → NoneBefore (Passes (is_byte k) bs) 0 (length bs) i → Passes (is_byte k) bs i
     → at_byte k bs ≡ Some (take i bs, drop (i + 1) bs)
 found_mark k bs i none here =
     let e : position_or_len (λ x. eqb x k) bs ≡ i = position_or_len_is (is_byte k) bs i 0 (omega (arith, none.high))
-    (λ j l. fails _ (none.before j (omega arith) l)) (λ l. here) in
+    (λ j l. false_from_ne_true _ (none.before j (omega arith) l)) (λ l. here) in
     at_byte_some k bs (omega (arith, e, none.high)) ∙ rw e refl
 
 no_mark : (k : ℕ) (bs : List ℕ) → Nowhere (Passes (is_byte k) bs) 0 (length bs) → at_byte k bs ≡ None
 no_mark k bs none = at_byte_none k bs (position_or_len_is (is_byte k) bs (length bs) 0 (omega arith)
-    (λ j l. fails _ (none j (omega arith) l)) (λ l. absurd (omega (arith, l))))
+    (λ j l. false_from_ne_true _ (none j (omega arith) l)) (λ l. absurd (omega (arith, l))))
 
 -- in the form of the code: in the bytes of the text
 pub cut_here : (k : ℕ) (bs text front after : List ℕ) (i : ℕ) → bs ≡ text → NoneBefore (Passes (is_byte k) bs) 0 (length bs) i → Passes (is_byte k) bs i

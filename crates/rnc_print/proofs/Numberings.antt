@@ -1,9 +1,9 @@
 -- There is at most one numbering, and the steps find it.
 use Rattle.std.proofs.Common.{◌≡◌, ◌∙◌, ◌⊎◌, inl, inr, ℕ, zero, suc, ◌+◌, ◌≤◌, ◌<◌, Bool, true, false, cond, List, [], ◌∷◌, ◌++◌, length, flat_map, refl, sym}
 use Rattle.std.proofs.Common.{ap, subst, Some, None, append_assoc, arith}
-use Rattle.std.specs.Prelude.{◌||◌, Contains, slice_get}
+use Rattle.std.specs.Prelude.{Contains, slice_get}
 use Rattle.std.specs.List.{AllByRecursion}
-use Rattle.std.proofs.lemmas.Bool.{or_cases}
+use Rattle.std.proofs.lemmas.Bool.{or_cases, or_right, or_left}
 use Rattle.std.proofs.lemmas.List.{append-nil}
 use Rattle.rncv_model.specs.printed.Numbering.{has, with_new, and_new, first_times, IsReached, at_start, in_line, IsNumbering}
 use Rattle.rncv_model.specs.printed.NumberingSteps.{numbered_from, numbered}
@@ -28,13 +28,6 @@ contains_here x xs a e = (zero, omega arith, e)
 contains_later : {A : Type 0} (x : A) (xs : List A) (a : A) → Contains xs a → Contains (x ∷ xs) a
 contains_later x xs a (k, lt, e) = (suc k, omega (arith, lt), e)
 
-pub or_first : (a b : Bool) → a ≡ true → (a || b) ≡ true
-or_first a b e = rw e refl
-
-pub or_second : (a b : Bool) → b ≡ true → (a || b) ≡ true
-or_second true b e = refl
-or_second false b e = e
-
 pub all_append : {A : Type 0} (P : A → Type 0) (xs ys : List A) → AllByRecursion P xs → AllByRecursion P ys → AllByRecursion P (xs ++ ys)
 all_append P [] ys h i = i
 all_append P (x ∷ xs) ys h i = (h.0, all_append P xs ys h.1 i)
@@ -53,8 +46,8 @@ module _ {A : Type 0} (same : A → A → Bool) (exact : (a b : A) → same a b 
   pub has_contained : (xs : List A) (a : A) → Contains xs a → has same xs a ≡ true
   has_contained [] a c = absurd (contains_none a c)
   has_contained (x ∷ xs) a c = elim (contains_first x xs a c) [
-    | inl e ↦ or_first (same a x) (has same xs a) (subst (λ (y : A). same a y ≡ true) (sym e) (itself a))
-    | inr d ↦ or_second (same a x) (has same xs a) (has_contained xs a d)
+    | inl e ↦ or_left (same a x) (has same xs a) (subst (λ (y : A). same a y ≡ true) (sym e) (itself a))
+    | inr d ↦ or_right (same a x) (has same xs a) (has_contained xs a d)
   ]
 
   pub contained_has : (xs : List A) (a : A) → has same xs a ≡ true → Contains xs a
@@ -67,16 +60,16 @@ module _ {A : Type 0} (same : A → A → Bool) (exact : (a b : A) → same a b 
   pub has_left : (xs ys : List A) (a : A) → has same xs a ≡ true → has same (xs ++ ys) a ≡ true
   has_left [] ys a h = absurd (false_true h)
   has_left (x ∷ xs) ys a h = elim (or_cases (same a x) (has same xs a) h) [
-    | inl e ↦ or_first (same a x) _ e
-    | inr d ↦ or_second (same a x) _ (has_left xs ys a d)
+    | inl e ↦ or_left (same a x) _ e
+    | inr d ↦ or_right (same a x) _ (has_left xs ys a d)
   ]
 
   pub has_right : (xs ys : List A) (a : A) → has same ys a ≡ true → has same (xs ++ ys) a ≡ true
   has_right [] ys a h = h
-  has_right (x ∷ xs) ys a h = or_second (same a x) _ (has_right xs ys a h)
+  has_right (x ∷ xs) ys a h = or_right (same a x) _ (has_right xs ys a h)
 
   pub has_last : (xs : List A) (a : A) → has same (xs ++ a ∷ []) a ≡ true
-  has_last xs a = has_right xs (a ∷ []) a (or_first (same a a) false (itself a))
+  has_last xs a = has_right xs (a ∷ []) a (or_left (same a a) false (itself a))
 
   -- ---- the new ones
 
@@ -213,7 +206,7 @@ module _ {A : Type 0} (same : A → A → Bool) (exact : (a b : A) → same a b 
         let p = parts (b ∷ rest) done [] xs e s w in
         let n : AreNew (done ++ []) (b ∷ rest) = subst (AreNew (done ++ [])) (sym p.is) p.new in
         let there : has same xs b ≡ true =
-        subst (λ (x : List A). has same x b ≡ true) (sym e) (has_right done (b ∷ rest) b (or_first (same b b) _ (itself b))) in
+        subst (λ (x : List A). has same x b ≡ true) (sym e) (has_right done (b ∷ rest) b (or_left (same b b) _ (itself b))) in
         let reached = all_contained (IsReached same start line) xs r b (contained_has xs b there) in
         absurd (false_true (sym n.0 ∙ ap (λ (x : List A). has same x b) (append-nil done) ∙ closed done (w ∙ append-nil done) b reached))
     follows (b ∷ rest) done (a ∷ waiting) xs e s r w =

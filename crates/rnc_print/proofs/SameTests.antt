@@ -1,8 +1,8 @@
 -- The tests of `Same` are exact.
-use Rattle.std.proofs.Common.{◌≡◌, ◌∙◌, ◌≢◌, ℕ, Bool, true, false, List, [], ◌∷◌, refl, sym, ap, subst}
+use Rattle.std.proofs.Common.{◌≡◌, ◌∙◌, ◌≢◌, ℕ, true, false, List, [], ◌∷◌, refl, sym, ap, subst}
 use Rattle.std.specs.Prelude.{◌&&◌, ◌==◌}
 use Rattle.std.specs.Str.{bytes_eq}
-use Rattle.std.proofs.lemmas.Bool.{and_parts, eqb-true, eq-eqb, false_from_ne_true}
+use Rattle.std.proofs.lemmas.Bool.{and_parts, eqb-true, eq-eqb, false_from_ne_true, and_from}
 use Rattle.rng_model.specs.names.Names.{Name, NameClass, any_name, any_except, ns_name, ns_except, name_is, one_of, NameClasses, no_classes, class_and}
 use Rattle.rng_model.specs.simple.Tree.{Datatype, Connector, choice, group, interleave, Simple, s_not_allowed, s_empty, s_text, s_leaf, s_attribute, s_list, s_data}
 use Rattle.rng_model.specs.simple.Tree.{s_data_except, s_value, s_one_or_more, s_joined}
@@ -10,15 +10,12 @@ use Rattle.rncv_model.specs.printed.Same.{same_name, same_class, same_classes, s
 use Rattle.rncv_model.specs.printed.PrintedText.{Item, element, pattern, same_item}
 use Rattle.rnc_print.proofs.FailedTests.{false_true}
 
-pub both_true : (a b : Bool) → a ≡ true → b ≡ true → (a && b) ≡ true
-both_true a b e f = rw (e, f) refl
-
 pub number_itself : (n : ℕ) → (n == n) ≡ true
 number_itself n = eq-eqb n n refl
 
 pub bytes_itself : (w : List ℕ) → bytes_eq w w ≡ true
 bytes_itself [] = refl
-bytes_itself (c ∷ w) = both_true (c == c) (bytes_eq w w) (number_itself c) (bytes_itself w)
+bytes_itself (c ∷ w) = and_from (c == c) (bytes_eq w w) (number_itself c) (bytes_itself w)
 
 pub bytes_exact : (v w : List ℕ) → bytes_eq v w ≡ true → v ≡ w
 bytes_exact [] [] e = refl
@@ -37,7 +34,7 @@ pub bytes_other_way : (v w : List ℕ) → bytes_eq v w ≡ false → bytes_eq w
 bytes_other_way v w e = bytes_differ w v (λ h. false_true (sym e ∙ subst (λ (x : List ℕ). bytes_eq v x ≡ true) (sym h) (bytes_itself v)))
 
 name_itself : (n : Name) → same_name n n ≡ true
-name_itself n = both_true (bytes_eq n.ns n.ns) _ (bytes_itself n.ns) (bytes_itself n.local)
+name_itself n = and_from (bytes_eq n.ns n.ns) _ (bytes_itself n.ns) (bytes_itself n.local)
 
 name_exact : (n m : Name) → same_name n m ≡ true → n ≡ m
 name_exact n m e =
@@ -51,14 +48,14 @@ mutual
   class_itself any_name = refl
   class_itself (any_except c) = class_itself c
   class_itself (ns_name u) = bytes_itself u
-  class_itself (ns_except u c) = both_true (bytes_eq u u) (same_class c c) (bytes_itself u) (class_itself c)
+  class_itself (ns_except u c) = and_from (bytes_eq u u) (same_class c c) (bytes_itself u) (class_itself c)
   class_itself (name_is n) = name_itself n
   class_itself (one_of c d cs) =
-      both_true (same_class c c) _ (class_itself c) (both_true (same_class d d) (same_classes cs cs) (class_itself d) (classes_itself cs))
+      and_from (same_class c c) _ (class_itself c) (and_from (same_class d d) (same_classes cs cs) (class_itself d) (classes_itself cs))
 
   classes_itself : (cs : NameClasses) → same_classes cs cs ≡ true
   classes_itself no_classes = refl
-  classes_itself (class_and c cs) = both_true (same_class c c) (same_classes cs cs) (class_itself c) (classes_itself cs)
+  classes_itself (class_and c cs) = and_from (same_class c c) (same_classes cs cs) (class_itself c) (classes_itself cs)
 
 mutual
   class_exact : (c d : NameClass) → same_class c d ≡ true → c ≡ d
@@ -92,7 +89,7 @@ mutual
 parameters_itself : (ps : List (List ℕ × List ℕ)) → same_parameters ps ps ≡ true
 parameters_itself [] = refl
 parameters_itself (p ∷ ps) =
-    both_true (bytes_eq p.0 p.0 && bytes_eq p.1 p.1) _ (both_true (bytes_eq p.0 p.0) _ (bytes_itself p.0) (bytes_itself p.1)) (parameters_itself ps)
+    and_from (bytes_eq p.0 p.0 && bytes_eq p.1 p.1) _ (and_from (bytes_eq p.0 p.0) _ (bytes_itself p.0) (bytes_itself p.1)) (parameters_itself ps)
 
 parameters_exact : (ps qs : List (List ℕ × List ℕ)) → same_parameters ps qs ≡ true → ps ≡ qs
 parameters_exact [] [] e = refl
@@ -108,8 +105,8 @@ parameters_exact (p ∷ ps) (q ∷ qs) e =
 
 datatype_itself : (d : Datatype) → same_datatype d d ≡ true
 datatype_itself d =
-    both_true (bytes_eq d.library d.library) _ (bytes_itself d.library)
-    (both_true (bytes_eq d.name d.name) _ (bytes_itself d.name) (parameters_itself d.parameters))
+    and_from (bytes_eq d.library d.library) _ (bytes_itself d.library)
+    (and_from (bytes_eq d.name d.name) _ (bytes_itself d.name) (parameters_itself d.parameters))
 
 datatype_exact : (d e : Datatype) → same_datatype d e ≡ true → d ≡ e
 datatype_exact d e h =
@@ -138,13 +135,13 @@ tree_itself s_not_allowed = refl
 tree_itself s_empty = refl
 tree_itself s_text = refl
 tree_itself (s_leaf k) = number_itself k
-tree_itself (s_attribute c a) = both_true (same_class c c) (same_tree a a) (class_itself c) (tree_itself a)
+tree_itself (s_attribute c a) = and_from (same_class c c) (same_tree a a) (class_itself c) (tree_itself a)
 tree_itself (s_list a) = tree_itself a
 tree_itself (s_data d) = datatype_itself d
-tree_itself (s_data_except d a) = both_true (same_datatype d d) (same_tree a a) (datatype_itself d) (tree_itself a)
-tree_itself (s_value d v) = both_true (same_datatype d d) (bytes_eq v v) (datatype_itself d) (bytes_itself v)
+tree_itself (s_data_except d a) = and_from (same_datatype d d) (same_tree a a) (datatype_itself d) (tree_itself a)
+tree_itself (s_value d v) = and_from (same_datatype d d) (bytes_eq v v) (datatype_itself d) (bytes_itself v)
 tree_itself (s_one_or_more a) = tree_itself a
-tree_itself (s_joined k a b) = both_true (same_connector k k) _ (connector_itself k) (both_true (same_tree a a) (same_tree b b) (tree_itself a) (tree_itself b))
+tree_itself (s_joined k a b) = and_from (same_connector k k) _ (connector_itself k) (and_from (same_tree a a) (same_tree b b) (tree_itself a) (tree_itself b))
 
 pub tree_exact : (s u : Simple ℕ) → same_tree s u ≡ true → s ≡ u
 tree_exact s_not_allowed s_not_allowed e = refl

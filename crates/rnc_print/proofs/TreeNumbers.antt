@@ -4,7 +4,7 @@ use Rattle.std.proofs.Common.{◌≡◌, ◌↔◌, ◌∙◌, inl, inr, sym, ap
 use Rattle.std.proofs.Common.{length-append}
 use Rattle.std.proofs.lemmas.Bool.{cases_lt}
 use Rattle.std.proofs.lemmas.List.{get_or_append_left, get_or_push}
-use Rattle.std.proofs.lemmas.Option.{slice_get_cases}
+use Rattle.std.proofs.lemmas.Option.{slice_get_cases, same_Some}
 use Rattle.rng_labels.specs.plain.LabelCodes.{Part, AreCodesApart}
 use Rattle.rng_model.specs.simple.Table.{Table, tree_at, tree_over}
 use Rattle.rng_model.specs.simple.TableRules.{Falls, IsTable}
@@ -22,9 +22,6 @@ pub record AreNumbered (t : Table) (numbers : List ℕ) (codes : List (List Part
   pub within : length numbers ≤ length t.patterns
   pub placed : (id : PatternId) (p : Simple) → id.0 < length numbers → slice_get t.patterns id.0 ≡ Some p
       → slice_get codes (number_at numbers id) ≡ Some (pattern_code (number_at numbers) p)
-
-some_is : {A : Type 0} {x y : A} → Some x ≡ Some y → x ≡ y
-some_is e = cc
 
 pub none_apart : (codes : List (List Part)) → codes ≡ [] → AreCodesApart codes
 none_apart codes e i j c f g = let n : slice_get [] i ≡ Some c = ap (λ cs. slice_get cs i) (sym e) ∙ f in cc
@@ -61,7 +58,7 @@ module _ (t : Table) (table : IsTable t) (old new : List ℕ) (was now : List (L
           ∙ ap (λ c. Some c) (same_code id q (omega (arith, l)) e)
       | inr g ↦
           let last : length old ≡ id.0 = omega (arith, g, h, ap length more, length-append old (n ∷ [])) in
-          let same : p ≡ q = some_is (sym found ∙ ap (slice_get t.patterns) last ∙ e) in
+          let same : p ≡ q = same_Some _ _ (sym found ∙ ap (slice_get t.patterns) last ∙ e) in
           ap (slice_get now) (ap (λ ns. number_at ns id) more ∙ get_or_push old n 0 id.0 last) ∙ there
           ∙ ap (λ r. Some (pattern_code (number_at old) r)) same ∙ ap (λ c. Some c) (same_code id q (omega (arith, last)) e)
     ];
@@ -98,7 +95,7 @@ module _ (t : Table) (table : IsTable t) (numbers : List ℕ) (codes : List (Lis
         λ e. first
             ∙ same_trees (tree_at t.patterns) (number_at numbers) a.0 b.0 p.0 q.0 (table.falls a.0 p.0 p.1) (table.falls b.0 q.0 q.1)
             (class_paired t table a.0 p.0 p.1) (class_paired t table b.0 q.0 q.1) before
-            (some_is (sym place_a ∙ ap (slice_get codes) e ∙ place_b))
+            (same_Some _ _ (sym place_a ∙ ap (slice_get codes) e ∙ place_b))
             ∙ sym second,
         λ e. are.apart (number_at numbers a) (number_at numbers b) (pattern_code (number_at numbers) p.0) place_a (place_b
             ∙ ap (λ c. Some c)

@@ -3,7 +3,7 @@ use Rattle.std.proofs.Common.{◌≡◌, ◌∙◌, inl, inr, refl, sym, subst, 
 use Rattle.std.specs.Prelude.{nat_le, nat_lt}
 use Rattle.std.specs.List.{list_all, AllByRecursion}
 use Rattle.std.specs.Str.{all_scalars, IsUtf8, chars}
-use Rattle.std.proofs.lemmas.Bool.{and_parts, or_cases, lt-ltb, le-ltb, le-leb, leb-true}
+use Rattle.std.proofs.lemmas.Bool.{and_parts, or_cases, lt-ltb, le-ltb, le-leb, leb-true, and_from}
 use Rattle.std.proofs.lemmas.Str.{chars-encodes}
 use Rattle.rng_model.specs.names.Characters.{is_xml_char, is_ncname}
 use Rattle.rnc_model.specs.characters.Characters.{number_of, numbers_of, bytes_of}
@@ -17,9 +17,6 @@ use Rattle.rnc_print_laws.specs.plain.Printable.{IsText, IsName}
 
 pub false_true : {P : Type 0} → false ≡ true → P
 false_true e = absurd (cc)
-
-both_true : (a b : Bool) → a ≡ true → b ≡ true → (a && b) ≡ true
-both_true a b d e = rw (d, e) refl
 
 -- ---- Chars are scalar values
 
@@ -84,7 +81,7 @@ begins_char (decoding.other n m x o e) = x
 decodes_chars : {numbers rest : List ℕ} {cs : List Character} → Decodes numbers cs rest → AreChars cs
 decodes_chars (decoding.here e) = refl
 decodes_chars (decoding.next_is {numbers} {all} {rest} {c} {after} {cs} b d e) =
-    subst AreChars (sym e) (both_true (is_xml_char (number_of c)) (list_all is_xml_char (numbers_of cs)) (begins_char b) (decodes_chars d))
+    subst AreChars (sym e) (and_from (is_xml_char (number_of c)) (list_all is_xml_char (numbers_of cs)) (begins_char b) (decodes_chars d))
 
 pub decoded_chars : (bytes : List ℕ) (cs : List Character) → IsDecoded bytes cs → AreChars cs
 decoded_chars bytes cs d = decodes_chars d.decoded
@@ -94,7 +91,7 @@ chars_parts [] ys h = (refl, h)
 chars_parts (x ∷ xs) ys h =
     let p = and_parts (is_xml_char (number_of x)) (list_all is_xml_char (numbers_of (xs ++ ys))) h in
     let q = chars_parts xs ys p.1 in
-    (both_true (is_xml_char (number_of x)) (list_all is_xml_char (numbers_of xs)) p.0 q.0, q.1)
+    (and_from (is_xml_char (number_of x)) (list_all is_xml_char (numbers_of xs)) p.0 q.0, q.1)
 
 pub chars_behind : (x : Character) (xs : List Character) → AreChars (x ∷ xs) → AreChars xs
 chars_behind x xs h = (and_parts (is_xml_char (number_of x)) (list_all is_xml_char (numbers_of xs)) h).1
@@ -103,7 +100,7 @@ scalars_of : (cs : List Character) → AreChars cs → all_scalars (numbers_of c
 scalars_of [] h = refl
 scalars_of (c ∷ cs) h =
     let p = and_parts (is_xml_char (number_of c)) (list_all is_xml_char (numbers_of cs)) h in
-    both_true (scalar (number_of c)) (all_scalars (numbers_of cs)) (xml_scalar (number_of c) p.0) (scalars_of cs p.1)
+    and_from (scalar (number_of c)) (all_scalars (numbers_of cs)) (xml_scalar (number_of c) p.0) (scalars_of cs p.1)
 
 chars_of : (cs : List Character) → AreChars cs → chars (bytes_of cs) ≡ numbers_of cs
 chars_of cs h = chars-encodes (numbers_of cs) (scalars_of cs h)

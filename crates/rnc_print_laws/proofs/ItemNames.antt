@@ -2,15 +2,15 @@
 use Rattle.std.proofs.Common.{◌≡◌, ◌∙◌, refl, sym, ap, subst, inl, inr, ℕ, ◌<◌, ◌^◌, Bool, true, List, [], ◌∷◌, length, Option, Some, None, arith}
 use Rattle.std.specs.Prelude.{◌==◌, decimal}
 use Rattle.std.specs.List.{filter_map, cons_option}
-use Rattle.std.proofs.lemmas.Bool.{or_cases, eqb-true}
+use Rattle.std.proofs.lemmas.Bool.{or_cases, eqb-true, or_right, or_left}
+use Rattle.std.proofs.lemmas.Fmt.{decimal_injective}
 use Rattle.rncv_model.specs.printed.Numbering.{has, place_in}
 use Rattle.rncv_model.specs.printed.Same.{same_tree}
 use Rattle.rncv_model.specs.printed.PrintedText.{Item, element, pattern, same_item, element_in, pattern_in, item_name}
 use Rattle.rnc_print.proofs.FailedTests.{false_true}
 use Rattle.rnc_print.proofs.SameTests.{item_exact, tree_exact, tree_itself, number_itself}
-use Rattle.rnc_print.proofs.Numberings.{or_first, or_second}
 use Rattle.rng_model.specs.names.Lists.{Among}
-use Rattle.rnc_print_laws.proofs.NumberedNames.{one_number, place_le, kept_le, one_place, tail_is}
+use Rattle.rnc_print_laws.proofs.NumberedNames.{place_le, kept_le, one_place, tail_is}
 use Rattle.rnc_print_laws.proofs.ListedLines.{among_has}
 
 heads_apart : (v w : List ℕ) → ◌≡◌ {A = List ℕ} (0x65 ∷ v) (0x70 ∷ w) → ⊥
@@ -25,11 +25,11 @@ kept g same itself exact (x ∷ items) i a e h = elim (or_cases (same_item i x) 
 ]
   where
     kept_here : (o : Option _) → o ≡ Some a → has same (cons_option o (filter_map g items)) a ≡ true
-    kept_here o e = subst (λ (p : Option _). has same (cons_option p (filter_map g items)) a ≡ true) (sym e) (or_first (same a a) _ (itself a))
+    kept_here o e = subst (λ (p : Option _). has same (cons_option p (filter_map g items)) a ≡ true) (sym e) (or_left (same a a) _ (itself a))
 
     kept_later : (o : Option _) → has same (filter_map g items) a ≡ true → has same (cons_option o (filter_map g items)) a ≡ true
     kept_later None h = h
-    kept_later (Some b) h = or_second (same a b) _ h
+    kept_later (Some b) h = or_right (same a b) _ h
 
 module _ {A : Type 0} (g : Item → Option A) (same : A → A → Bool) (itself : (a : A) → same a a ≡ true) (exact : (a b : A) → same a b ≡ true → a ≡ b)
     (items : List Item) (few : length items < 2 ^ 64) where
@@ -40,7 +40,7 @@ module _ {A : Type 0} (g : Item → Option A) (same : A → A → Bool) (itself 
       → decimal (place_in same (filter_map g items) a) ≡ decimal (place_in same (filter_map g items) b) → a ≡ b
   one_kept i j a b e f h k d =
       one_place same exact (filter_map g items) a b (kept g same itself exact items i a e h) (kept g same itself exact items j b f k)
-      (one_number _ _ (below a) (below b) d)
+      (decimal_injective _ _ (below a) (below b) d)
 
 names_differ : (items : List Item) → length items < 2 ^ 64 → (i j : Item) → has same_item items i ≡ true → has same_item items j ≡ true
     → item_name items i ≡ item_name items j → i ≡ j

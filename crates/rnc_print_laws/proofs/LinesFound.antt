@@ -1,6 +1,7 @@
 -- A name finds its line.
 use Rattle.std.proofs.Common.{◌≡◌, ◌∙◌, refl, sym, ap, subst, ℕ, ◌+◌, ◌<◌, ◌^◌, Bool, true, false, List, [], ◌∷◌, ◌++◌, length, map, Option, Some, None, arith}
 use Rattle.std.specs.Str.{bytes_eq}
+use Rattle.std.proofs.lemmas.Bool.{false_from_ne_true, or_left}
 use Rattle.rng_model.specs.names.Lists.{Among, here, there}
 use Rattle.rng_model.specs.simple.Tree.{Tree, Connector}
 use Rattle.rng_model.specs.simple.Grammar.{Grammar}
@@ -10,7 +11,7 @@ use Rattle.rncv_model.specs.printed.Numbering.{has, place_in}
 use Rattle.rncv_model.specs.printed.PrintedText.{Item, same_item, item_name, IsItemsOf}
 use Rattle.rnc_print.proofs.FailedTests.{false_true}
 use Rattle.rnc_print.proofs.SameTests.{item_exact, item_itself, bytes_exact, bytes_itself}
-use Rattle.rnc_print.proofs.Numberings.{AreNew, has_left, has_right, or_first}
+use Rattle.rnc_print.proofs.Numberings.{AreNew, has_left, has_right}
 use Rattle.rnc_print_laws.specs.plain.LinesSchema.{reference_pattern, item_pattern, item_line, lines_components, IsSchemaOfLines}
 use Rattle.rnc_print_laws.proofs.ListedLines.{each_once}
 use Rattle.rnc_print_laws.proofs.ItemNames.{names_apart}
@@ -18,10 +19,6 @@ use Rattle.rnc_print_laws.proofs.ItemNames.{names_apart}
 -- the number of the line of an item; the line of the start has the number 0
 abbrev pub line_number : List Item → Item → ℕ
 line_number items i = 1 + place_in same_item items i
-
-false_by : (b : Bool) → (b ≡ true → ⊥) → b ≡ false
-false_by true n = absurd (n refl)
-false_by false n = refl
 
 abbrev pub AreItemsNew : List Item → List Item → Type 0
 AreItemsNew = AreNew same_item item_exact item_itself
@@ -32,11 +29,11 @@ new_among w [] i n a = elim a [ ]
 new_among w (x ∷ xs) i n here = n.0
 new_among w (x ∷ xs) i n (there a) =
     let later = new_among (w ++ x ∷ []) xs i n.1 a in
-    false_by (has same_item w i) (λ e. false_true (sym later ∙ has_left same_item item_exact item_itself w (x ∷ []) i e))
+    false_from_ne_true (has same_item w i) (λ e. false_true (sym later ∙ has_left same_item item_exact item_itself w (x ∷ []) i e))
 
 pub not_again : (w xs : List Item) (x : Item) → AreItemsNew (w ++ x ∷ []) xs → Among x xs → ⊥
 not_again w xs x n a =
-    let last = has_right same_item item_exact item_itself w (x ∷ []) x (or_first (same_item x x) false (item_itself x)) in
+    let last = has_right same_item item_exact item_itself w (x ∷ []) x (or_left (same_item x x) false (item_itself x)) in
     false_true (sym (new_among (w ++ x ∷ []) xs x n a) ∙ last)
 
 pub in_rest : (i j : Item) (js : List Item) → same_item i j ≡ false → Among i (j ∷ js) → Among i js
@@ -63,7 +60,7 @@ module _ (g : Grammar) (items : List Item) where
   none_named y n [] h = refl
   none_named y n (j ∷ js) h =
       without_name (Some y) n (item_line g items j) (rows js)
-      (false_by (bytes_eq y (item_name items j)) (λ e. h j here (sym (bytes_exact y (item_name items j) e))))
+      (false_from_ne_true (bytes_eq y (item_name items j)) (λ e. h j here (sym (bytes_exact y (item_name items j) e))))
       ∙ none_named y (n + 1) js (λ i a. h i (there a))
 
   no_start : (n : ℕ) (js : List Item) → trees_named None n (rows js) ≡ []
@@ -97,7 +94,7 @@ module _ (g : Grammar) (items : List Item) where
             ∙ ap (λ (k : Item). line_tree n k ∷ []) (sym is)
             ∙ ap (λ (m : ℕ). line_tree m i ∷ []) place
         by_test rest_named false e =
-            let name = false_by (bytes_eq (item_name items i) (item_name items j))
+            let name = false_from_ne_true (bytes_eq (item_name items i) (item_name items j))
             (λ f. false_true (sym e ∙
             subst (λ (k : Item). same_item i k ≡ true) (name_of (bytes_exact (item_name items i) (item_name items j) f)) (item_itself i))) in
             let place : (n + 1) + place_in same_item js i ≡ n + place_in same_item (j ∷ js) i = rw e (omega arith) in

@@ -2,14 +2,14 @@
 use Rattle.std.proofs.Common.{◌≡◌, sym, subst, inl, inr, zero, suc, true, List, [], ◌∷◌, ◌++◌, flat_map, arith}
 use Rattle.std.specs.Prelude.{Contains}
 use Rattle.std.specs.List.{AllByRecursion}
-use Rattle.std.proofs.lemmas.Bool.{or_cases}
+use Rattle.std.proofs.lemmas.Bool.{or_cases, or_right, or_left}
 use Rattle.rng_model.specs.names.Lists.{Among, here, there}
 use Rattle.rng_model.specs.simple.Grammar.{Grammar}
 use Rattle.rncv_model.specs.printed.Numbering.{has, IsReached, at_start, in_line}
 use Rattle.rncv_model.specs.printed.PrintedText.{Item, same_item, item_of, mentions, IsItemsOf}
 use Rattle.rnc_print.proofs.FailedTests.{false_true}
 use Rattle.rnc_print.proofs.SameTests.{item_exact, item_itself}
-use Rattle.rnc_print.proofs.Numberings.{AreNew, numbering_new, and_has_right, or_first, or_second}
+use Rattle.rnc_print.proofs.Numberings.{AreNew, numbering_new, and_has_right}
 
 -- ---- what is among a list
 
@@ -22,8 +22,8 @@ among_right [] i = i
 among_right (y ∷ xs) i = there (among_right xs i)
 
 pub among_has : {x : Item} {xs : List Item} → Among x xs → has same_item xs x ≡ true
-among_has {x} (here {xs}) = or_first (same_item x x) (has same_item xs x) (item_itself x)
-among_has {x} (there {y} {xs} i) = or_second (same_item x y) (has same_item xs x) (among_has i)
+among_has {x} (here {xs}) = or_left (same_item x x) (has same_item xs x) (item_itself x)
+among_has {x} (there {y} {xs} i) = or_right (same_item x y) (has same_item xs x) (among_has i)
 
 pub has_among : (xs : List Item) (x : Item) → has same_item xs x ≡ true → Among x xs
 has_among [] x h = absurd (false_true h)

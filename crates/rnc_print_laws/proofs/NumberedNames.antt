@@ -4,11 +4,10 @@ use Rattle.std.proofs.Common.{Option, Some, None, arith}
 use Rattle.std.specs.Prelude.{◌&&◌, ◌||◌, ◌==◌, not, nat_le, decimal, encode_utf8_all}
 use Rattle.std.specs.List.{list_all, filter_map, cons_option}
 use Rattle.std.specs.Str.{bytes_eq}
-use Rattle.std.specs.Str.Parse.{digits_value}
 use Rattle.std.proofs.lemmas.Bool.{ne_eqb, le-leb, and_parts, and_from, or_left, or_right}
 use Rattle.std.proofs.lemmas.Str.{encode_ascii, encodes-IsAscii}
 use Rattle.std.proofs.lemmas.List.Sums.{prefix_len-le-length}
-use Rattle.std.proofs.lemmas.Fmt.{decimal_by_steps, decimal_is_IsNumeral, IsAscii-decimal}
+use Rattle.std.proofs.lemmas.Fmt.{decimal_by_steps, IsAscii-decimal, decimal_injective}
 use Rattle.rng_model.specs.names.Characters.{is_ncname, is_name_char, is_name_start, is_colon}
 use Rattle.rnc_model.specs.tokens.Tokens.{keyword_of}
 use Rattle.rncv_model.specs.printed.Numbering.{has, place_in}
@@ -61,9 +60,6 @@ more_digits n ds h = record {
 
 digits : (n : ℕ) → n < 2 ^ 64 → Digits (decimal n)
 digits n lt = decimal_by_steps (λ n ds. Digits ds) (λ n lt. one_digit n lt) (λ n ds le h. more_digits n ds h) n lt
-
-pub one_number : (m n : ℕ) → m < 2 ^ 64 → n < 2 ^ 64 → decimal m ≡ decimal n → m ≡ n
-one_number m n i j e = sym (decimal_is_IsNumeral m i).1 ∙ ap (digits_value 10) e ∙ (decimal_is_IsNumeral n j).1
 
 -- ---- NCNames
 
@@ -153,7 +149,7 @@ pub prefix_apart : (ns : List (List ℕ)) → length ns < 2 ^ 64 → (u v : List
 prefix_apart ns lt u v h i n =
     bytes_differ (prefix_of ns u) (prefix_of ns v)
     (λ e. n (one_place bytes_eq bytes_exact ns u v h i
-    (one_number _ _ (let a = place_le bytes_eq ns u in omega (arith, a, lt)) (let a = place_le bytes_eq ns v in omega (arith, a, lt)) (tail_is 0x6E _ _ e))))
+    (decimal_injective _ _ (let a = place_le bytes_eq ns u in omega (arith, a, lt)) (let a = place_le bytes_eq ns v in omega (arith, a, lt)) (tail_is 0x6E _ _ e))))
 
 -- ---- they are ASCII
 

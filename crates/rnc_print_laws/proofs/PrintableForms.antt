@@ -5,6 +5,7 @@ use Rattle.std.specs.List.{AllByRecursion}
 use Rattle.std.specs.Str.{bytes_eq}
 use Rattle.std.proofs.lemmas.List.Elements.{All-contains}
 use Rattle.std.proofs.lemmas.Slice.Eq.{bytes_eq-Decides}
+use Rattle.std.proofs.lemmas.Option.{none-some}
 use Rattle.rng_model.specs.names.Lists.{Among, here, there}
 use Rattle.rng_model.specs.names.Names.{NameClass}
 use Rattle.rng_model.specs.simple.Tree.{Datatype, Tree, Trees, Simple}
@@ -26,7 +27,7 @@ use Rattle.rnc_print_laws.specs.plain.Printable.{IsName, IsPrintableClass, CanBe
 use Rattle.rnc_print_laws.specs.plain.WellSpelledSchemas.{IsWellSpelledPattern, AreWellSpelledPatterns, IsWellSpelledSchema}
 use Rattle.rnc_print_laws.proofs.NamedDatatypes.{datatype_named, allowed_named}
 use Rattle.rnc_print_laws.proofs.PrintableClasses.{simple_printable}
-use Rattle.rnc_print_laws.proofs.PrintableTrees.{IsGoodTree, AreGoodTrees, AreAllGood, leaf_of, steps_good, nested_good, simple_good, none_is_not_some}
+use Rattle.rnc_print_laws.proofs.PrintableTrees.{IsGoodTree, AreGoodTrees, AreAllGood, leaf_of, steps_good, nested_good, simple_good}
 
 -- ---- known types
 
@@ -132,7 +133,7 @@ module _ (s : Schema) (good : IsWellSpelledSchema s) (kept : ¬ (BreaksDatatype 
   body_good d a e = at_components (s.components d.place) refl e
     where
       at_components : (o : Option (List Component)) → s.components d.place ≡ o → body_among d.name o ≡ Some a → IsGoodTree (IsGoodPoint d.place) a
-      at_components None f e = absurd (none_is_not_some e)
+      at_components None f e = absurd (none-some _ e)
       at_components (Some cs) f e = nested_good (IsGoodPoint d.place) (combining_connector d.name cs) (trees_named d.name 0 cs) a e
           (trees_good d.place d.name 0 cs (λ c m. record { components = cs; there = f; among = m }))
 

@@ -1,5 +1,6 @@
 -- Trees with only printable parts: the steps of simplification and the joining of bodies keep them so.
-use Rattle.std.proofs.Common.{◌≡◌, subst, ℕ, List, [], ◌∷◌, Some, None}
+use Rattle.std.proofs.Common.{◌≡◌, subst, ℕ, List, [], ◌∷◌, Some}
+use Rattle.std.proofs.lemmas.Option.{same_Some, none-some}
 use Rattle.rng_model.specs.simple.Tree.{Connector, Tree, not_allowed, empty, text, leaf, attribute, list, data_of, data_except, value, mixed, optional}
 use Rattle.rng_model.specs.simple.Tree.{zero_or_more, one_or_more, joined, Trees, no_trees, tree_and, as_tree}
 use Rattle.rng_model.specs.simple.Tree.{Simple, s_not_allowed, s_empty, s_text, s_leaf, s_attribute, s_list, s_data, s_data_except, s_value}
@@ -11,12 +12,6 @@ use Rattle.rng_model.specs.simple.Simplification as step
 use Rattle.rng_model.specs.simple.Simplification.{RuleGroup, Step, StepAmong, AnyStep, Steps}
 use Rattle.rnc_print_laws.specs.plain.Printable.{IsText, IsPrintableClass, IsPrintableType, IsPrintableTree}
 use Rattle.rnc_print_laws.proofs.PrintableClasses.{step_printable}
-
-pub none_is_not_some : {A : Type 0} {x : A} → None ≡ Some x → ⊥
-none_is_not_some e = cc
-
-pub some_is : {A : Type 0} {x y : A} → Some x ≡ Some y → x ≡ y
-some_is e = cc
 
 module _ {L : Type 0} (P : L → Type 0) where
   -- its classes, datatypes and texts are printable, and so is each leaf
@@ -111,8 +106,8 @@ module _ {L : Type 0} (P : L → Type 0) where
   from_good k a (b ∷ ts) h hs = from_good k (joined k a b no_trees) ts (h, hs.0, tt) hs.1
 
   pub nested_good : (k : Connector) (ts : List (Tree L)) (a : Tree L) → nested k ts ≡ Some a → AreAllGood ts → IsGoodTree a
-  nested_good k [] a e hs = absurd (none_is_not_some e)
-  nested_good k (t ∷ ts) a e hs = subst IsGoodTree (some_is e) (from_good k t ts hs.0 hs.1)
+  nested_good k [] a e hs = absurd (none-some _ e)
+  nested_good k (t ∷ ts) a e hs = subst IsGoodTree (same_Some _ _ e) (from_good k t ts hs.0 hs.1)
 
   -- ---- trees of a numbered grammar
 

@@ -5,6 +5,7 @@ use Rattle.std.proofs.Common.{List, [], ◌∷◌, ◌++◌, Some}
 use Rattle.std.specs.Prelude.{take}
 use Rattle.std.specs.List.{AllByRecursion, count_by}
 use Rattle.std.proofs.lemmas.List.Sums.{sum_by-cons}
+use Rattle.std.proofs.lemmas.Option.{same_Some, none-some}
 use Rattle.rng_model.specs.simple.Tree.{Connector}
 use Rattle.rng_model.specs.declared.method.Method.{Method}
 use Rattle.rnc_model.specs.declared.token.Keyword.{Keyword}
@@ -17,7 +18,6 @@ use Rattle.rnc_model.specs.tokens.Lexeme.{Lexeme, Spelling, keyword, identifier,
 use Rattle.rnc_model.specs.grammar.Sentence.{is_opening, is_closing, NestsWithin}
 use Rattle.rnc_model.specs.grammar.Syntax.{DatatypeName, string_type, token_type, prefixed_type}
 use Rattle.rnc_print_laws.specs.plain.Printable.{IsText, IsName}
-use Rattle.rnc_print_laws.proofs.PrintableTrees.{none_is_not_some, some_is}
 use Rattle.rnc_print_laws.proofs.FileCharacters.{false_true}
 
 -- the words of a token are NCNames, and its text is made of Chars
@@ -115,12 +115,12 @@ pub past_segment : {ts : List Lexeme} {r : ℕ} {P : Type 0} {w : List ℕ} → 
 past_segment f = record { keeps = λ e h. let p = f.keeps e h.1 in (p.0, (h.0, p.1)) }
 
 pub past_word : {ts : List Lexeme} {r : ℕ} {P : Type 0} (x : Lexeme) {w : List ℕ} → word_of x ≡ Some w → Keeps ts r P → Keeps (x ∷ ts) r (IsName w × P)
-past_word (keyword k s) i f = record { keeps = λ e h. let p = f.keeps e h.1 in (p.0, (subst IsName (some_is i) h.0, p.1)) }
-past_word (identifier v) i f = record { keeps = λ e h. let p = f.keeps e h.1 in (p.0, (subst IsName (some_is i) h.0, p.1)) }
-past_word (cname p l) i f = absurd (none_is_not_some i)
-past_word (ns_name p) i f = absurd (none_is_not_some i)
-past_word (segment v) i f = absurd (none_is_not_some i)
-past_word (sign s) i f = absurd (none_is_not_some i)
+past_word (keyword k s) i f = record { keeps = λ e h. let p = f.keeps e h.1 in (p.0, (subst IsName (same_Some _ _ i) h.0, p.1)) }
+past_word (identifier v) i f = record { keeps = λ e h. let p = f.keeps e h.1 in (p.0, (subst IsName (same_Some _ _ i) h.0, p.1)) }
+past_word (cname p l) i f = absurd (none-some _ i)
+past_word (ns_name p) i f = absurd (none-some _ i)
+past_word (segment v) i f = absurd (none-some _ i)
+past_word (sign s) i f = absurd (none-some _ i)
 
 -- the name of a datatype has an NCName after its prefix
 abbrev pub IsWellSpelledName : DatatypeName → Type 0
@@ -130,22 +130,22 @@ IsWellSpelledName (prefixed_type p l) = IsName l
 
 pub past_type : {ts : List Lexeme} {r : ℕ} {P : Type 0} (x : Lexeme) {d : DatatypeName} → type_of x ≡ Some d → Keeps ts r P
     → Keeps (x ∷ ts) r (IsWellSpelledName d × P)
-past_type (cname p l) i f = record { keeps = λ e h. let q = f.keeps e h.1 in (q.0, (subst IsWellSpelledName (some_is i) h.0.1, q.1)) }
-past_type (keyword keywords.String s) i f = record { keeps = λ e h. let q = f.keeps e h.1 in (q.0, (subst IsWellSpelledName (some_is i) tt, q.1)) }
-past_type (keyword keywords.Token s) i f = record { keeps = λ e h. let q = f.keeps e h.1 in (q.0, (subst IsWellSpelledName (some_is i) tt, q.1)) }
-past_type _ i f = absurd (none_is_not_some i)
+past_type (cname p l) i f = record { keeps = λ e h. let q = f.keeps e h.1 in (q.0, (subst IsWellSpelledName (same_Some _ _ i) h.0.1, q.1)) }
+past_type (keyword keywords.String s) i f = record { keeps = λ e h. let q = f.keeps e h.1 in (q.0, (subst IsWellSpelledName (same_Some _ _ i) tt, q.1)) }
+past_type (keyword keywords.Token s) i f = record { keeps = λ e h. let q = f.keeps e h.1 in (q.0, (subst IsWellSpelledName (same_Some _ _ i) tt, q.1)) }
+past_type _ i f = absurd (none-some _ i)
 
 pub past_method : {ts : List Lexeme} {r : ℕ} {P : Type 0} (x : Lexeme) {m : Method} → method_of x ≡ Some m → Keeps ts r P → Keeps (x ∷ ts) r P
 past_method (sign Equal) i f = record { keeps = λ e h. f.keeps e h.1 }
 past_method (sign BarEqual) i f = record { keeps = λ e h. f.keeps e h.1 }
 past_method (sign AndEqual) i f = record { keeps = λ e h. f.keeps e h.1 }
-past_method _ i f = absurd (none_is_not_some i)
+past_method _ i f = absurd (none-some _ i)
 
 pub past_connector : {ts : List Lexeme} {r : ℕ} {P : Type 0} (s : Sign) {k : Connector} → connector_of s ≡ Some k → Keeps ts r P → Keeps (sign s ∷ ts) r P
 past_connector Comma i f = record { keeps = λ e h. f.keeps e h.1 }
 past_connector And i f = record { keeps = λ e h. f.keeps e h.1 }
 past_connector Bar i f = record { keeps = λ e h. f.keeps e h.1 }
-past_connector _ i f = absurd (none_is_not_some i)
+past_connector _ i f = absurd (none-some _ i)
 
 -- a sign that is not a brace or a parenthesis
 abbrev IsPlain : Sign → Type 0

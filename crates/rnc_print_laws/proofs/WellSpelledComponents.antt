@@ -3,6 +3,7 @@ use Rattle.std.proofs.Common.{◌≡◌, ◌∙◌, refl, sym, subst, ℕ, Bool,
 use Rattle.std.specs.Prelude.{filter}
 use Rattle.std.specs.List.{AllByRecursion}
 use Rattle.std.specs.Str.{bytes_eq}
+use Rattle.std.proofs.lemmas.Option.{same_Some, none-some}
 use Rattle.rng_model.specs.names.Lists.{Among, here, there}
 use Rattle.rng_model.specs.schema.Patterns.{Place, Pattern, members, patterns_of}
 use Rattle.rng_model.specs.schema.Schema.{Schema}
@@ -24,7 +25,6 @@ use Rattle.rnc_print_laws.specs.plain.WellSpelledFiles.{IsTextNamespace, AreWell
 use Rattle.rnc_print_laws.specs.plain.WellSpelledSchemas.{IsWellSpelledPattern, AreWellSpelledPatterns as AreWellSpelled, IsWellSpelledComponent, IsWellSpelledSchema}
 use Rattle.rnc_print_laws.proofs.WellSpelledFileTrees.{uri_text, empty_text, schema_file_spelled}
 use Rattle.rnc_print_laws.proofs.PrintableForms.{grammar_printable}
-use Rattle.rnc_print_laws.proofs.PrintableTrees.{none_is_not_some, some_is}
 
 -- ---- lists
 
@@ -63,11 +63,11 @@ members_spelled k (p ∷ (q ∷ ps)) h = (h.0, h.1.0, patterns_spelled ps h.1.1)
 -- ---- grammars of files
 
 whole_spelled : (p : tree.Pattern) (cs : tree.Components) → whole_grammar p ≡ Some cs → spelled.IsWellSpelledPattern p → AreWellSpelledComponents cs
-whole_spelled (tree.grammar ds) cs e h = subst AreWellSpelledComponents (some_is e) h
-whole_spelled _ cs e h = absurd (none_is_not_some e)
+whole_spelled (tree.grammar ds) cs e h = subst AreWellSpelledComponents (same_Some _ _ e) h
+whole_spelled _ cs e h = absurd (none-some _ e)
 
 grammar_spelled : (t : FileTree) (cs : tree.Components) → grammar_of t ≡ Some cs → IsWellSpelledFile t → AreWellSpelledComponents cs
-grammar_spelled (grammar_file ds) cs e h = subst AreWellSpelledComponents (some_is e) h
+grammar_spelled (grammar_file ds) cs e h = subst AreWellSpelledComponents (same_Some _ _ e) h
 grammar_spelled (pattern_file p) cs e h = whole_spelled p cs e h
 
 main_spelled : (t : FileTree) → IsWellSpelledFile t → AreWellSpelledComponents (main_grammar t)
@@ -147,7 +147,7 @@ module _ (files : List ℕ → Option FileTree) (good : (f : List ℕ) (t : File
         let own = is.there x at.0 at.1 at.2 at.3 in
         let h = grammar_there at.3 in
         let all : AllByRecursion IsSpelledGathered own.0 = gathers own.1 h.0 h.1 in
-        let same : has.components ≡ map (λ g. g.component) own.0 = some_is (sym has.there ∙ own.2) in
+        let same : has.components ≡ map (λ g. g.component) own.0 = same_Some _ _ (sym has.there ∙ own.2) in
         all_among IsWellSpelledComponent
         (all_same IsWellSpelledComponent same (mapped own.0 all)) has.among
       where
@@ -166,11 +166,11 @@ taken_spelled files main (loading.one_more {read} {all} {names} {more} {f} {t} t
 
 found_spelled : (f : Name) (read : TakenFiles) → AllByRecursion (λ file. IsWellSpelledFile file.1) read → (t : FileTree) → tree_in read f ≡ Some t
     → IsWellSpelledFile t
-found_spelled f [] h t e = absurd (none_is_not_some e)
+found_spelled f [] h t e = absurd (none-some _ e)
 found_spelled f (file ∷ read) h t e = by_name (bytes_eq f file.0) (found_spelled f read h.1 t) e
   where
     by_name : (b : Bool) → (tree_in read f ≡ Some t → IsWellSpelledFile t) → (if b then Some file.1 else tree_in read f) ≡ Some t → IsWellSpelledFile t
-    by_name true more e = subst IsWellSpelledFile (some_is e) h.0
+    by_name true more e = subst IsWellSpelledFile (same_Some _ _ e) h.0
     by_name false more e = more e
 
 -- the schema is well spelled

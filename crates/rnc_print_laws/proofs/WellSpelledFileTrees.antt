@@ -6,6 +6,7 @@ use Rattle.std.specs.List.{AllByRecursion}
 use Rattle.std.specs.Char.{encode_utf8}
 use Rattle.std.specs.Str.{bytes_eq, is_utf8, chars}
 use Rattle.std.proofs.lemmas.Str.{IsUtf8-from_is_utf8}
+use Rattle.std.proofs.lemmas.Option.{same_Some, none-some}
 use Rattle.rng_model.specs.names.Names as names
 use Rattle.rng_model.specs.names.Names.{classes_of, some_of}
 use Rattle.rng_model.specs.datatypes.Datatypes.{xsd_uri}
@@ -31,10 +32,9 @@ use Rattle.rnc_print_laws.proofs.RoomForBrackets.{IsWellSpelledName, fits}
 use Rattle.rnc_print_laws.proofs.WellSpelledSyntaxTrees.{IsSpelledName, IsSpelledClass, AreSpelledClasses, around, around_all, inside, IsSpelledPattern, AreSpelledPatterns}
 use Rattle.rnc_print_laws.proofs.WellSpelledSyntaxTrees.{IsSpelledComponent, AreSpelledComponents, IsSpelledUri, IsSpelledDeclaration, IsSpelledBody, IsSpelledFile, file}
 use Rattle.rnc_print_laws.proofs.WellSpelledTokens.{tokens_spelled}
-use Rattle.rnc_print_laws.proofs.PrintableTrees.{none_is_not_some, some_is}
 
 bind_some : {A B : Type 0} (o : Option A) (f : A → Option B) {b : B} → (o >>= f) ≡ Some b → (a : A) × (o ≡ Some a) × (f a ≡ Some b)
-bind_some None f e = absurd (none_is_not_some e)
+bind_some None f e = absurd (none-some _ e)
 bind_some (Some a) f e = (a, refl, e)
 
 -- ---- what is declared
@@ -61,12 +61,12 @@ module _ {A : Type 0} (P : A → Type 0) where
   one_more p a declared all h i e = by_test (is_none (declared p)) e
     where
       found : (q : List ℕ) (v : A) (b : Bool) → (if b then Some a else declared q) ≡ Some v → P v
-      found q v true e = subst P (some_is e) h
+      found q v true e = subst P (same_Some _ _ e) h
       found q v false e = i q v e
 
       by_test : (b : Bool) → (if b then Some (λ (q : List ℕ). if bytes_eq p q then Some a else declared q) else None) ≡ Some all → AreAll all
-      by_test true e = subst AreAll (some_is e) (λ q v f. found q v (bytes_eq p q) f)
-      by_test false e = absurd (none_is_not_some e)
+      by_test true e = subst AreAll (same_Some _ _ e) (λ q v f. found q v (bytes_eq p q) f)
+      by_test false e = absurd (none-some _ e)
 
 prefix_text : (p : List ℕ) (u : Namespace) (s r : Scope) → IsTextNamespace u → IsTextScope s → with_prefix p u s ≡ Some r → IsTextScope r
 prefix_text p u s r h i e = by_test (may_stand_for p u) e
@@ -74,21 +74,21 @@ prefix_text p u s r h i e = by_test (may_stand_for p u) e
     by_test : (b : Bool) → (if b then (with_one p u s.namespaces >>= λ all. Some (record s { namespaces = all })) else None) ≡ Some r → IsTextScope r
     by_test true e =
         let a = bind_some (with_one p u s.namespaces) _ e in
-        subst IsTextScope (some_is a.2) (record {
+        subst IsTextScope (same_Some _ _ a.2) (record {
           default = i.default;
           namespaces = one_more IsTextNamespace p u s.namespaces a.0 h i.namespaces a.1;
           datatypes = i.datatypes;
         })
-    by_test false e = absurd (none_is_not_some e)
+    by_test false e = absurd (none-some _ e)
 
 default_text : (u : Namespace) (s r : Scope) → IsTextNamespace u → IsTextScope s → with_default u s ≡ Some r → IsTextScope r
 default_text u s r h i e = by_default s.default e
   where
     by_default : (o : Option Namespace) → option_none_else o (Some (record s { default = Some u })) ≡ Some r → IsTextScope r
     by_default None e =
-        subst IsTextScope (some_is e)
-        (record { default = λ v f. subst IsTextNamespace (some_is f) h; namespaces = i.namespaces; datatypes = i.datatypes })
-    by_default (Some v) e = absurd (none_is_not_some e)
+        subst IsTextScope (same_Some _ _ e)
+        (record { default = λ v f. subst IsTextNamespace (same_Some _ _ f) h; namespaces = i.namespaces; datatypes = i.datatypes })
+    by_default (Some v) e = absurd (none-some _ e)
 
 types_text : (p l : List ℕ) (s r : Scope) → IsText l → IsTextScope s → with_datatypes p l s ≡ Some r → IsTextScope r
 types_text p l s r h i e = by_test (may_stand_for_types p l) e
@@ -96,12 +96,12 @@ types_text p l s r h i e = by_test (may_stand_for_types p l) e
     by_test : (b : Bool) → (if b then (with_one p l s.datatypes >>= λ all. Some (record s { datatypes = all })) else None) ≡ Some r → IsTextScope r
     by_test true e =
         let a = bind_some (with_one p l s.datatypes) _ e in
-        subst IsTextScope (some_is a.2) (record {
+        subst IsTextScope (same_Some _ _ a.2) (record {
           default = i.default;
           namespaces = i.namespaces;
           datatypes = one_more IsText p l s.datatypes a.0 h i.datatypes a.1;
         })
-    by_test false e = absurd (none_is_not_some e)
+    by_test false e = absurd (none-some _ e)
 
 declare_text : (s r : Scope) (d : syntax.Declaration) → IsTextScope s → IsSpelledDeclaration d → declare s d ≡ Some r → IsTextScope r
 declare_text s r (syntax.namespace p u) i h e = prefix_text p (uri_of u) s r (literal_text u h) i e
@@ -113,16 +113,16 @@ declare_text s r (syntax.datatypes p l) i h e = types_text p l s r h i e
 
 declare_all_text : (s r : Scope) (ds : List syntax.Declaration) → IsTextScope s → AllByRecursion IsSpelledDeclaration ds → declare_all s ds ≡ Some r
     → IsTextScope r
-declare_all_text s r [] i h e = subst IsTextScope (some_is e) i
+declare_all_text s r [] i h e = subst IsTextScope (same_Some _ _ e) i
 declare_all_text s r (d ∷ ds) i h e =
     let a = bind_some (declare s d) _ e in
     declare_all_text a.0 r ds (declare_text s a.0 d i h.0 a.1) h.1 a.2
 
 nothing_text : IsTextScope nothing_declared
 nothing_text = record {
-  default = λ v e. absurd (none_is_not_some e);
-  namespaces = λ p v e. absurd (none_is_not_some e);
-  datatypes = λ p l e. absurd (none_is_not_some e);
+  default = λ v e. absurd (none-some _ e);
+  namespaces = λ p v e. absurd (none-some _ e);
+  datatypes = λ p l e. absurd (none-some _ e);
 }
 
 -- ---- texts and names that are predefined
@@ -207,7 +207,7 @@ namespace_text : (s : Scope) → IsTextScope s → (p : List ℕ) (v : Namespace
 namespace_text s i p v e = by_test (bytes_eq p (codes "xml")) e
   where
     by_test : (b : Bool) → (if b then Some (given xml_uri) else s.namespaces p) ≡ Some v → IsTextNamespace v
-    by_test true e = subst IsTextNamespace (some_is e) xml_text
+    by_test true e = subst IsTextNamespace (same_Some _ _ e) xml_text
     by_test false e = i.namespaces p v e
 
 default_of_text : (s : Scope) → IsTextScope s → IsTextNamespace (default_of s)
@@ -222,48 +222,48 @@ module _ (s : Scope) (i : IsTextScope s) where
     name_spelled : (n : syntax.Name) (m : tree.Name) → name_in s ns n ≡ Some m → IsSpelledName n
         → IsText (uri_in u m.namespace) × IsName m.local
     name_spelled (syntax.unprefixed l) m e h =
-        subst (λ (m : tree.Name). IsText (uri_in u m.namespace) × IsName m.local) (some_is e) (uri_text u ns u-is ns-is, h)
+        subst (λ (m : tree.Name). IsText (uri_in u m.namespace) × IsName m.local) (same_Some _ _ e) (uri_text u ns u-is ns-is, h)
     name_spelled (syntax.prefixed p l) m e h =
         let a = bind_some (namespace_in s p) _ e in
-        subst (λ (m : tree.Name). IsText (uri_in u m.namespace) × IsName m.local) (some_is a.2)
+        subst (λ (m : tree.Name). IsText (uri_in u m.namespace) × IsName m.local) (same_Some _ _ a.2)
         (uri_text u a.0 u-is (namespace_text s i p a.0 a.1), h)
 
     mutual
       class_spelled : (c : syntax.NameClass) (t : tree.NameClass) → class_in s ns c ≡ Some t → IsSpelledClass c → Fits u c t
-      class_spelled syntax.any_name t e h = subst (Fits u syntax.any_name) (some_is e) (tt, omega arith, omega arith)
+      class_spelled syntax.any_name t e h = subst (Fits u syntax.any_name) (same_Some _ _ e) (tt, omega arith, omega arith)
       class_spelled (syntax.any_except c) t e h =
           let a = bind_some (class_in s ns c) _ e in
           let f = class_spelled c a.0 a.1 h in
           let l = f.2 in
-          subst (Fits u (syntax.any_except c)) (some_is a.2) (f.0, l, omega (arith, l))
+          subst (Fits u (syntax.any_except c)) (same_Some _ _ a.2) (f.0, l, omega (arith, l))
       class_spelled (syntax.ns_name p) t e h =
           let a = bind_some (namespace_in s p) _ e in
-          subst (Fits u (syntax.ns_name p)) (some_is a.2) (uri_text u a.0 u-is (namespace_text s i p a.0 a.1), omega arith, omega arith)
+          subst (Fits u (syntax.ns_name p)) (same_Some _ _ a.2) (uri_text u a.0 u-is (namespace_text s i p a.0 a.1), omega arith, omega arith)
       class_spelled (syntax.ns_except p c) t e h =
           let a = bind_some (namespace_in s p) _ e in
           let b = bind_some (class_in s ns c) _ a.2 in
           let f = class_spelled c b.0 b.1 h in
           let l = f.2 in
-          subst (Fits u (syntax.ns_except p c)) (some_is b.2) ((uri_text u a.0 u-is (namespace_text s i p a.0 a.1), f.0), l, omega (arith, l))
+          subst (Fits u (syntax.ns_except p c)) (same_Some _ _ b.2) ((uri_text u a.0 u-is (namespace_text s i p a.0 a.1), f.0), l, omega (arith, l))
       class_spelled (syntax.name_is n) t e h =
           let a = bind_some (name_in s ns n) _ e in
-          subst (Fits u (syntax.name_is n)) (some_is a.2) (name_spelled n a.0 a.1 h, omega arith, omega arith)
+          subst (Fits u (syntax.name_is n)) (same_Some _ _ a.2) (name_spelled n a.0 a.1 h, omega arith, omega arith)
       class_spelled (syntax.one_of cs) t e h =
           let a = bind_some (classes_in s ns cs) _ e in
-          subst (Fits u (syntax.one_of cs)) (some_is a.2)
+          subst (Fits u (syntax.one_of cs)) (same_Some _ _ a.2)
           (some_fit (around_all cs) (places.classes_in u a.0) (classes_spelled cs a.0 a.1 h (around_all cs) (omega arith)))
 
       classes_spelled : (cs : syntax.NameClasses) (ts : tree.NameClasses) → classes_in s ns cs ≡ Some ts → AreSpelledClasses cs → (n : ℕ) → around_all cs ≤ n
           → AllByRecursion (FitsIn n) (places.classes_in u ts)
       classes_spelled syntax.no_classes ts e h n l =
-          subst (λ (ts : tree.NameClasses). AllByRecursion (FitsIn n) (places.classes_in u ts)) (some_is e) tt
+          subst (λ (ts : tree.NameClasses). AllByRecursion (FitsIn n) (places.classes_in u ts)) (same_Some _ _ e) tt
       classes_spelled (syntax.class_and c cs) ts e h n l =
           let a = bind_some (class_in s ns c) _ e in
           let b = bind_some (classes_in s ns cs) _ a.2 in
           let f = class_spelled c a.0 a.1 h.0 in
           let k : around c ≤ n = omega (arith, l) in
           let m : around_all cs ≤ n = omega (arith, l) in
-          subst (λ (ts : tree.NameClasses). AllByRecursion (FitsIn n) (places.classes_in u ts)) (some_is b.2)
+          subst (λ (ts : tree.NameClasses). AllByRecursion (FitsIn n) (places.classes_in u ts)) (same_Some _ _ b.2)
           ((f.0, below (enclosed (places.class_in u a.0)) (around c) n f.2 k), classes_spelled cs b.0 b.1 h.1 n m)
 
   nested_spelled : (ns : Namespace) → IsTextNamespace ns → (c : syntax.NameClass) (t : tree.NameClass) → class_in s ns c ≡ Some t
@@ -278,23 +278,23 @@ module _ (s : Scope) (i : IsTextScope s) where
   library_text p l e = by_test (bytes_eq p (codes "xsd")) e
     where
       by_test : (b : Bool) → (if b then Some xsd_uri else s.datatypes p) ≡ Some l → IsText l
-      by_test true e = subst IsText (some_is e) xsd_text
+      by_test true e = subst IsText (same_Some _ _ e) xsd_text
       by_test false e = i.datatypes p l e
 
   type_spelled : (d : syntax.DatatypeName) (e : tree.DatatypeName) → type_in s d ≡ Some e → IsWellSpelledName d → IsWellSpelledType e
-  type_spelled syntax.string_type e f h = subst IsWellSpelledType (some_is f) (empty_text, string_name)
-  type_spelled syntax.token_type e f h = subst IsWellSpelledType (some_is f) (empty_text, token_name)
+  type_spelled syntax.string_type e f h = subst IsWellSpelledType (same_Some _ _ f) (empty_text, string_name)
+  type_spelled syntax.token_type e f h = subst IsWellSpelledType (same_Some _ _ f) (empty_text, token_name)
   type_spelled (syntax.prefixed_type p l) e f h =
       let a = bind_some (library_in s p) _ f in
-      subst IsWellSpelledType (some_is a.2) (library_text p a.0 a.1, h)
+      subst IsWellSpelledType (same_Some _ _ a.2) (library_text p a.0 a.1, h)
 
   mention_text : (m : syntax.Mention) (t : tree.Mention) → mention_in s m ≡ Some t → IsText m.href → IsWellSpelledMention t
   mention_text m t e h =
       let a = bind_some (handed_on s m.inherit) _ e in
-      subst IsWellSpelledMention (some_is a.2) (h, handed m.inherit a.0 a.1)
+      subst IsWellSpelledMention (same_Some _ _ a.2) (h, handed m.inherit a.0 a.1)
     where
       handed : (o : Option (List ℕ)) (v : Namespace) → handed_on s o ≡ Some v → IsTextNamespace v
-      handed None v e = subst IsTextNamespace (some_is e) (default_of_text s i)
+      handed None v e = subst IsTextNamespace (same_Some _ _ e) (default_of_text s i)
       handed (Some p) v e = namespace_text s i p v e
 
   mutual
@@ -302,74 +302,74 @@ module _ (s : Scope) (i : IsTextScope s) where
     pattern_spelled (syntax.element c p) t e h =
         let a = bind_some (class_in s (default_of s) c) _ e in
         let b = bind_some (pattern_in s p) _ a.2 in
-        subst IsWellSpelledPattern (some_is b.2)
+        subst IsWellSpelledPattern (same_Some _ _ b.2)
         (nested_spelled (default_of s) (default_of_text s i) c a.0 a.1 h.0, pattern_spelled p b.0 b.1 h.1)
     pattern_spelled (syntax.attribute c p) t e h =
         let a = bind_some (class_in s (given []) c) _ e in
         let b = bind_some (pattern_in s p) _ a.2 in
-        subst IsWellSpelledPattern (some_is b.2) (nested_spelled (given []) empty_text c a.0 a.1 h.0, pattern_spelled p b.0 b.1 h.1)
+        subst IsWellSpelledPattern (same_Some _ _ b.2) (nested_spelled (given []) empty_text c a.0 a.1 h.0, pattern_spelled p b.0 b.1 h.1)
     pattern_spelled (syntax.list p) t e h =
-        let a = bind_some (pattern_in s p) _ e in subst IsWellSpelledPattern (some_is a.2) (pattern_spelled p a.0 a.1 h)
+        let a = bind_some (pattern_in s p) _ e in subst IsWellSpelledPattern (same_Some _ _ a.2) (pattern_spelled p a.0 a.1 h)
     pattern_spelled (syntax.mixed p) t e h =
-        let a = bind_some (pattern_in s p) _ e in subst IsWellSpelledPattern (some_is a.2) (pattern_spelled p a.0 a.1 h)
+        let a = bind_some (pattern_in s p) _ e in subst IsWellSpelledPattern (same_Some _ _ a.2) (pattern_spelled p a.0 a.1 h)
     pattern_spelled (syntax.optional p) t e h =
-        let a = bind_some (pattern_in s p) _ e in subst IsWellSpelledPattern (some_is a.2) (pattern_spelled p a.0 a.1 h)
+        let a = bind_some (pattern_in s p) _ e in subst IsWellSpelledPattern (same_Some _ _ a.2) (pattern_spelled p a.0 a.1 h)
     pattern_spelled (syntax.zero_or_more p) t e h =
-        let a = bind_some (pattern_in s p) _ e in subst IsWellSpelledPattern (some_is a.2) (pattern_spelled p a.0 a.1 h)
+        let a = bind_some (pattern_in s p) _ e in subst IsWellSpelledPattern (same_Some _ _ a.2) (pattern_spelled p a.0 a.1 h)
     pattern_spelled (syntax.one_or_more p) t e h =
-        let a = bind_some (pattern_in s p) _ e in subst IsWellSpelledPattern (some_is a.2) (pattern_spelled p a.0 a.1 h)
-    pattern_spelled (syntax.ref n) t e h = subst IsWellSpelledPattern (some_is e) h
-    pattern_spelled (syntax.parent_ref n) t e h = subst IsWellSpelledPattern (some_is e) h
-    pattern_spelled syntax.empty t e h = subst IsWellSpelledPattern (some_is e) tt
-    pattern_spelled syntax.text t e h = subst IsWellSpelledPattern (some_is e) tt
-    pattern_spelled syntax.not_allowed t e h = subst IsWellSpelledPattern (some_is e) tt
+        let a = bind_some (pattern_in s p) _ e in subst IsWellSpelledPattern (same_Some _ _ a.2) (pattern_spelled p a.0 a.1 h)
+    pattern_spelled (syntax.ref n) t e h = subst IsWellSpelledPattern (same_Some _ _ e) h
+    pattern_spelled (syntax.parent_ref n) t e h = subst IsWellSpelledPattern (same_Some _ _ e) h
+    pattern_spelled syntax.empty t e h = subst IsWellSpelledPattern (same_Some _ _ e) tt
+    pattern_spelled syntax.text t e h = subst IsWellSpelledPattern (same_Some _ _ e) tt
+    pattern_spelled syntax.not_allowed t e h = subst IsWellSpelledPattern (same_Some _ _ e) tt
     pattern_spelled (syntax.value d v) t e h =
-        let a = bind_some (type_in s d) _ e in subst IsWellSpelledPattern (some_is a.2) (type_spelled d a.0 a.1 h.0, h.1)
+        let a = bind_some (type_in s d) _ e in subst IsWellSpelledPattern (same_Some _ _ a.2) (type_spelled d a.0 a.1 h.0, h.1)
     pattern_spelled (syntax.data_of d ps) t e h =
-        let a = bind_some (type_in s d) _ e in subst IsWellSpelledPattern (some_is a.2) (type_spelled d a.0 a.1 h.0, h.1)
+        let a = bind_some (type_in s d) _ e in subst IsWellSpelledPattern (same_Some _ _ a.2) (type_spelled d a.0 a.1 h.0, h.1)
     pattern_spelled (syntax.data_except d ps p) t e h =
         let a = bind_some (type_in s d) _ e in
         let b = bind_some (pattern_in s p) _ a.2 in
-        subst IsWellSpelledPattern (some_is b.2) ((type_spelled d a.0 a.1 h.0.0, h.0.1), pattern_spelled p b.0 b.1 h.1)
+        subst IsWellSpelledPattern (same_Some _ _ b.2) ((type_spelled d a.0 a.1 h.0.0, h.0.1), pattern_spelled p b.0 b.1 h.1)
     pattern_spelled (syntax.external m) t e h =
-        let a = bind_some (mention_in s m) _ e in subst IsWellSpelledPattern (some_is a.2) (mention_text m a.0 a.1 h)
+        let a = bind_some (mention_in s m) _ e in subst IsWellSpelledPattern (same_Some _ _ a.2) (mention_text m a.0 a.1 h)
     pattern_spelled (syntax.grammar cs) t e h =
-        let a = bind_some (components_in s cs) _ e in subst IsWellSpelledPattern (some_is a.2) (components_spelled cs a.0 a.1 h)
+        let a = bind_some (components_in s cs) _ e in subst IsWellSpelledPattern (same_Some _ _ a.2) (components_spelled cs a.0 a.1 h)
     pattern_spelled (syntax.joined k ps) t e h =
-        let a = bind_some (patterns_in s ps) _ e in subst IsWellSpelledPattern (some_is a.2) (patterns_spelled ps a.0 a.1 h)
+        let a = bind_some (patterns_in s ps) _ e in subst IsWellSpelledPattern (same_Some _ _ a.2) (patterns_spelled ps a.0 a.1 h)
 
     patterns_spelled : (ps : syntax.Patterns) (ts : tree.Patterns) → patterns_in s ps ≡ Some ts → AreSpelledPatterns ps → AreWellSpelledPatterns ts
-    patterns_spelled syntax.no_patterns ts e h = subst AreWellSpelledPatterns (some_is e) tt
+    patterns_spelled syntax.no_patterns ts e h = subst AreWellSpelledPatterns (same_Some _ _ e) tt
     patterns_spelled (syntax.pattern_and p ps) ts e h =
         let a = bind_some (pattern_in s p) _ e in
         let b = bind_some (patterns_in s ps) _ a.2 in
-        subst AreWellSpelledPatterns (some_is b.2) (pattern_spelled p a.0 a.1 h.0, patterns_spelled ps b.0 b.1 h.1)
+        subst AreWellSpelledPatterns (same_Some _ _ b.2) (pattern_spelled p a.0 a.1 h.0, patterns_spelled ps b.0 b.1 h.1)
 
     component_spelled : (c : syntax.Component) (t : tree.Component) → component_in s c ≡ Some t → IsSpelledComponent c → IsWellSpelledComponent t
     component_spelled (syntax.start m p) t e h =
-        let a = bind_some (pattern_in s p) _ e in subst IsWellSpelledComponent (some_is a.2) (pattern_spelled p a.0 a.1 h)
+        let a = bind_some (pattern_in s p) _ e in subst IsWellSpelledComponent (same_Some _ _ a.2) (pattern_spelled p a.0 a.1 h)
     component_spelled (syntax.define n m p) t e h =
-        let a = bind_some (pattern_in s p) _ e in subst IsWellSpelledComponent (some_is a.2) (h.0, pattern_spelled p a.0 a.1 h.1)
+        let a = bind_some (pattern_in s p) _ e in subst IsWellSpelledComponent (same_Some _ _ a.2) (h.0, pattern_spelled p a.0 a.1 h.1)
     component_spelled (syntax.div cs) t e h =
-        let a = bind_some (components_in s cs) _ e in subst IsWellSpelledComponent (some_is a.2) (components_spelled cs a.0 a.1 h)
+        let a = bind_some (components_in s cs) _ e in subst IsWellSpelledComponent (same_Some _ _ a.2) (components_spelled cs a.0 a.1 h)
     component_spelled (syntax.include m cs) t e h =
         let a = bind_some (mention_in s m) _ e in
         let b = bind_some (components_in s cs) _ a.2 in
-        subst IsWellSpelledComponent (some_is b.2) (mention_text m a.0 a.1 h.0, components_spelled cs b.0 b.1 h.1)
+        subst IsWellSpelledComponent (same_Some _ _ b.2) (mention_text m a.0 a.1 h.0, components_spelled cs b.0 b.1 h.1)
 
     components_spelled : (cs : syntax.Components) (ts : tree.Components) → components_in s cs ≡ Some ts → AreSpelledComponents cs
         → AreWellSpelledComponents ts
-    components_spelled syntax.no_components ts e h = subst AreWellSpelledComponents (some_is e) tt
+    components_spelled syntax.no_components ts e h = subst AreWellSpelledComponents (same_Some _ _ e) tt
     components_spelled (syntax.component_and c cs) ts e h =
         let a = bind_some (component_in s c) _ e in
         let b = bind_some (components_in s cs) _ a.2 in
-        subst AreWellSpelledComponents (some_is b.2) (component_spelled c a.0 a.1 h.0, components_spelled cs b.0 b.1 h.1)
+        subst AreWellSpelledComponents (same_Some _ _ b.2) (component_spelled c a.0 a.1 h.0, components_spelled cs b.0 b.1 h.1)
 
   body_spelled : (b : syntax.Body) (t : FileTree) → body_in s b ≡ Some t → IsSpelledBody b → IsWellSpelledFile t
   body_spelled (syntax.pattern_body p) t e h =
-      let a = bind_some (pattern_in s p) _ e in subst IsWellSpelledFile (some_is a.2) (pattern_spelled p a.0 a.1 h)
+      let a = bind_some (pattern_in s p) _ e in subst IsWellSpelledFile (same_Some _ _ a.2) (pattern_spelled p a.0 a.1 h)
   body_spelled (syntax.grammar_body cs) t e h =
-      let a = bind_some (components_in s cs) _ e in subst IsWellSpelledFile (some_is a.2) (components_spelled cs a.0 a.1 h)
+      let a = bind_some (components_in s cs) _ e in subst IsWellSpelledFile (same_Some _ _ a.2) (components_spelled cs a.0 a.1 h)
 
 -- ---- files
 

@@ -1,5 +1,6 @@
 -- The steps of reading an annotation, by the role of the first token.
 use Rattle.std.proofs.Common.{◌≡◌, ℕ, zero, suc, ◌+◌, ◌-◌, List, [], ◌∷◌, length, Some, None, Ok, refl, sym, ap, ◌∙◌, add-one, sub-one}
+use Rattle.std.proofs.lemmas.Option.{same_Some}
 use Rattle.rnc_syntax.specs.declared.annotations.Role.{Role}
 use Rattle.rnc_syntax.specs.declared.annotations.Role.TheVariants as roles
 use Rattle.rnc_syntax.specs.declared.fault.ReadFault.{ReadFault}
@@ -9,7 +10,6 @@ use Rattle.rnc_model.specs.tokens.Lexeme.{Lexeme}
 use Rattle.rnc_syntax.specs.plain.Combinators.{Outcome, unexpected}
 use Rattle.rng_model.specs.plain.Answers.{Refuses}
 use Rattle.rnc_syntax.specs.views.Fault.{stop_of}
-use Rattle.rnc_syntax.proofs.Soundness.{some_is}
 use Rattle.rnc_syntax.specs.plain.Productions.{role_of, role_front, by_role, one_less, annotation_end}
 
 -- what follows a token of this role, with n annotations open
@@ -24,7 +24,7 @@ module _ (n : ℕ) (r : Role) where
   goes_on : (ts us : List Lexeme) → Some (r, us) ≡ role_front ts → annotation_end n ts ≡ onwards r n ts us
   goes_on [] us e = absurd cc
   goes_on (x ∷ ts) us e =
-      let p = some_is (r, us) (role_of x, ts) e in
+      let p = same_Some (r, us) (role_of x, ts) e in
       by_front (role_of x) n x ts refl ∙ sym (ap (λ (y : Role × List Lexeme). onwards y.0 n (x ∷ ts) y.1) p)
 
   module _ (ts us : List Lexeme) (front : Some (r, us) ≡ role_front ts) where

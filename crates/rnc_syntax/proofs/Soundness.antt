@@ -30,9 +30,6 @@ done x = Ok x
 pub ok_is : {A : Type 0} (x y : A) → done x ≡ done y → x ≡ y
 ok_is x y e = cc
 
-pub some_is : {A : Type 0} (x y : A) → Some x ≡ Some y → x ≡ y
-some_is x y e = cc
-
 pub same_sign_true : (r s : Sign) → same_sign r s ≡ true → r ≡ s
 same_sign_true Equal Equal e = refl
 same_sign_true BarEqual BarEqual e = refl

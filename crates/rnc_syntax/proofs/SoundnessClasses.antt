@@ -1,6 +1,7 @@
 -- Whatever is read is in the grammar: name classes.
 use Rattle.std.proofs.Common.{◌≡◌, ℕ, List, [], ◌∷◌, ◌++◌, Option, Some, None, Ok, refl, sym, ap, subst, ◌∙◌, append_assoc}
 use Rattle.std.proofs.lemmas.List.{append-nil}
+use Rattle.std.proofs.lemmas.Option.{same_Some}
 use Rattle.rnc_model.specs.declared.token.Sign.TheVariants.{Bar, Star, Minus, OpenParenthesis, CloseParenthesis}
 use Rattle.rnc_model.specs.tokens.Lexeme.{Lexeme, keyword, identifier, cname, ns_name, segment, sign}
 use Rattle.rnc_model.specs.grammar.Syntax as syntax
@@ -10,7 +11,7 @@ use Rattle.rnc_model.specs.grammar.Grammar.{MayBeAnnotation, IsClass, AreMoreCla
 use Rattle.rnc_syntax.specs.plain.Combinators.{Outcome, ◌>>=◌, follow, either_way, many}
 use Rattle.rnc_syntax.specs.plain.Productions.{class_in_parens, bare_basic_with, basic_with, choice_with, wide_front, except_front, excepted, bare_class_with}
 use Rattle.rnc_syntax.specs.plain.Productions.{class_with}
-use Rattle.rnc_syntax.proofs.Soundness.{bind_ok, front_some, ok_is, some_is, follow_is, TakesFront, Sound, Preceded, closes_sound, Each, no_items, and_item}
+use Rattle.rnc_syntax.proofs.Soundness.{bind_ok, front_some, ok_is, follow_is, TakesFront, Sound, Preceded, closes_sound, Each, no_items, and_item}
 use Rattle.rnc_syntax.proofs.Soundness.{many_sound, some_is_read, preceded_sound, nothing_left}
 use Rattle.rnc_syntax.proofs.SoundnessAnnotations.{SoundBehind, annotated_sound, bare_sound}
 
@@ -77,8 +78,8 @@ except_tokens None ts = sign Star ∷ sign Minus ∷ ts
 except_tokens (Some p) ts = ns_name p ∷ sign Minus ∷ ts
 
 wide_is : (ts : List Lexeme) (y : Option (List ℕ) × List Lexeme) → wide_front ts ≡ Some y → ts ≡ wide_tokens y.0 y.1
-wide_is (sign Star ∷ ts) y e = subst (λ (y : Option (List ℕ) × List Lexeme). sign Star ∷ ts ≡ wide_tokens y.0 y.1) (some_is (None, ts) y e) refl
-wide_is (ns_name p ∷ ts) y e = subst (λ (y : Option (List ℕ) × List Lexeme). ns_name p ∷ ts ≡ wide_tokens y.0 y.1) (some_is (Some p, ts) y e) refl
+wide_is (sign Star ∷ ts) y e = subst (λ (y : Option (List ℕ) × List Lexeme). sign Star ∷ ts ≡ wide_tokens y.0 y.1) (same_Some (None, ts) y e) refl
+wide_is (ns_name p ∷ ts) y e = subst (λ (y : Option (List ℕ) × List Lexeme). ns_name p ∷ ts ≡ wide_tokens y.0 y.1) (same_Some (Some p, ts) y e) refl
 wide_is _ y e = absurd cc
 
 wide_minus : (o : Option (List ℕ)) (ts rest : List Lexeme) → ts ≡ sign Minus ∷ rest → wide_tokens o ts ≡ except_tokens o rest
@@ -89,7 +90,7 @@ pub except_is : (ts : List Lexeme) (y : Option (List ℕ) × List Lexeme) → ex
 except_is ts y e =
     let w = front_some (wide_front ts) (λ x. either_way (follow Minus x.1) None (λ us. Some (x.0, us))) y e in
     let m = front_some (follow Minus w.0.1) (λ us. Some (w.0.0, us)) y w.2 in
-    subst (λ (y : Option (List ℕ) × List Lexeme). ts ≡ except_tokens y.0 y.1) (some_is (w.0.0, m.0) y m.2)
+    subst (λ (y : Option (List ℕ) × List Lexeme). ts ≡ except_tokens y.0 y.1) (same_Some (w.0.0, m.0) y m.2)
     (wide_is ts w.0 w.1 ∙ wide_minus w.0.0 w.0.1 m.0 (follow_is Minus w.0.1 m.0 m.1))
 
 -- after an annotation

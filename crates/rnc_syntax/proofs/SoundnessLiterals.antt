@@ -1,6 +1,7 @@
 -- Whatever is read is in the grammar: literals, parameters, and what mentions inherit.
 use Rattle.std.proofs.Common.{◌≡◌, ℕ, List, [], ◌∷◌, ◌++◌, Option, Some, None, Ok, refl, sym, ap, subst, ◌∙◌, append_assoc}
 use Rattle.std.proofs.lemmas.List.{append-nil}
+use Rattle.std.proofs.lemmas.Option.{same_Some}
 use Rattle.rnc_model.specs.declared.token.Keyword.TheVariants as keywords
 use Rattle.rnc_model.specs.declared.token.Sign.TheVariants.{Equal, OpenBrace, CloseBrace, OpenBracket, Tilde}
 use Rattle.rnc_model.specs.tokens.Lexeme.{Lexeme, Spelling, keyword, identifier, segment, sign}
@@ -11,7 +12,7 @@ use Rattle.rnc_syntax.specs.plain.Combinators.{follow, follow_keyword, after, wo
 use Rattle.rnc_syntax.specs.plain.Productions.{literal_at, parameter_at, parameter_front, annotated_parameter_at, in_braces_at, parameters_at, word_after_equal}
 use Rattle.rnc_syntax.specs.plain.Productions.{inherit_at, mention_at}
 use Rattle.rnc_model.specs.grammar.Syntax.{joined_text}
-use Rattle.rnc_syntax.proofs.Soundness.{bind_ok, ok_is, some_is, same_inherit, keyword_follows, after_is, TakesFront, Sound, IsWord, word_sound, IsSegment}
+use Rattle.rnc_syntax.proofs.Soundness.{bind_ok, ok_is, same_inherit, keyword_follows, after_is, TakesFront, Sound, IsWord, word_sound, IsSegment}
 use Rattle.rnc_syntax.proofs.Soundness.{segment_sound, Closed, Preceded, in_braces_sound, Each, no_items, and_item, many_sound, preceded_sound, both_sound}
 use Rattle.rnc_syntax.proofs.Soundness.{bracketed, IsSetting, setting_sound}
 use Rattle.rnc_syntax.proofs.SoundnessAnnotations.{annotated_sound, bare_sound}
@@ -72,9 +73,9 @@ parameters_are {ts} (and_item {a = a} {b = b} {x = x} p q parts) = grammar.and_p
 
 pub parameter_front_is : (ts us : List Lexeme) → parameter_front ts ≡ Some us → ts ≡ us
 parameter_front_is [] us e = absurd cc
-parameter_front_is (identifier w ∷ ts) us e = some_is _ us e
-parameter_front_is (keyword k s ∷ ts) us e = some_is _ us e
-parameter_front_is (sign OpenBracket ∷ ts) us e = some_is _ us e
+parameter_front_is (identifier w ∷ ts) us e = same_Some _ us e
+parameter_front_is (keyword k s ∷ ts) us e = same_Some _ us e
+parameter_front_is (sign OpenBracket ∷ ts) us e = same_Some _ us e
 parameter_front_is (_ ∷ ts) us e = absurd cc
 
 pub parameter_item : (ts us : List Lexeme) (x : (List ℕ × List ℕ) × List Lexeme) → parameter_front ts ≡ Some us → annotated_parameter_at us ≡ Ok x

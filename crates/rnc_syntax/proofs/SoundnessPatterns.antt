@@ -1,6 +1,7 @@
 -- Whatever is read is in the grammar: patterns and components.
 use Rattle.std.proofs.Common.{◌≡◌, ℕ, zero, suc, List, [], ◌∷◌, ◌++◌, Option, Some, None, Ok, refl, sym, ap, subst, ◌∙◌, append_assoc, inl, inr, if◌then◌else◌}
 use Rattle.std.proofs.lemmas.List.{append-nil}
+use Rattle.std.proofs.lemmas.Option.{same_Some}
 use Rattle.rng_model.specs.simple.Tree.{Connector, choice, group, interleave}
 use Rattle.rnc_model.specs.declared.token.Keyword.TheVariants as keywords
 use Rattle.rnc_model.specs.declared.token.Sign.{Sign}
@@ -23,7 +24,7 @@ use Rattle.rnc_syntax.specs.plain.Productions.{bare_pattern_with, pattern_with, 
 use Rattle.rnc_syntax.specs.plain.Productions.{overrides_with, begins_component, component_front, assigned_at, assigned, bare_component_with, component_with}
 use Rattle.rnc_syntax.specs.plain.Productions.{components_with, inside_at}
 use Rattle.rnc_syntax.proofs.ReadItems.{bind_bind}
-use Rattle.rnc_syntax.proofs.Soundness.{bind_ok, chosen, front_some, ok_is, some_is, follow_is, identifier_is, TakesFront, Sound, Closed, Preceded}
+use Rattle.rnc_syntax.proofs.Soundness.{bind_ok, chosen, front_some, ok_is, follow_is, identifier_is, TakesFront, Sound, Closed, Preceded}
 use Rattle.rnc_syntax.proofs.Soundness.{closes_sound, in_braces_sound, Each, no_items, and_item, many_sound, some_is_read, preceded_sound, nothing_left, Behind}
 use Rattle.rnc_syntax.proofs.Soundness.{behind, mapped_sound, both_sound, open_sound, Bracketed, bracketed}
 use Rattle.rnc_syntax.proofs.SoundnessAnnotations.{SoundBehind, annotated_sound, bare_sound, taken_behind}
@@ -53,13 +54,13 @@ method_sound _ x e = absurd cc
 
 type_front_is : (ts : List Lexeme) (d : DatatypeName × List Lexeme) → type_front ts ≡ Some d → (t : Lexeme) × (type_of t ≡ Some d.0) × (ts ≡ t ∷ d.1)
 type_front_is (cname p l ∷ ts) d e =
-    let q = some_is (syntax.prefixed_type p l, ts) d e in
+    let q = same_Some (syntax.prefixed_type p l, ts) d e in
     (cname p l, ap (λ (d : DatatypeName × List Lexeme). Some d.0) q, ap (λ (d : DatatypeName × List Lexeme). cname p l ∷ d.1) q)
 type_front_is (keyword keywords.String s ∷ ts) d e =
-    let q = some_is (syntax.string_type, ts) d e in
+    let q = same_Some (syntax.string_type, ts) d e in
     (keyword keywords.String s, ap (λ (d : DatatypeName × List Lexeme). Some d.0) q, ap (λ (d : DatatypeName × List Lexeme). keyword keywords.String s ∷ d.1) q)
 type_front_is (keyword keywords.Token s ∷ ts) d e =
-    let q = some_is (syntax.token_type, ts) d e in
+    let q = same_Some (syntax.token_type, ts) d e in
     (keyword keywords.Token s, ap (λ (d : DatatypeName × List Lexeme). Some d.0) q, ap (λ (d : DatatypeName × List Lexeme). keyword keywords.Token s ∷ d.1) q)
 type_front_is _ d e = absurd cc
 
@@ -67,7 +68,7 @@ no_segment_front : (x d : DatatypeName × List Lexeme) → (if begins_segment x.
 no_segment_front x d e =
     elim (chosen (begins_segment x.1) None (Some x) (Some d) e) [
       | inl h ↦ absurd (let q = h.1 in cc)
-      | inr h ↦ some_is x d h.1
+      | inr h ↦ same_Some x d h.1
     ]
 
 -- if the name of a datatype is first
@@ -91,11 +92,11 @@ typed_sound d t ts x is e =
 pub separator_is : (s : Sign) (ts : List Lexeme) → separator_of ts ≡ Some s → (us : List Lexeme) × (follow s ts ≡ Some us) × (k : Connector)
     × (connector_of s ≡ Some k) × ((all : List Pattern) → joined s all ≡ syntax.members k all)
 separator_is s (sign Comma ∷ ts) e = subst (λ (s : Sign). (us : List Lexeme) × (follow s (sign Comma ∷ ts) ≡ Some us) × (k : Connector)
-    × (connector_of s ≡ Some k) × ((all : List Pattern) → joined s all ≡ syntax.members k all)) (some_is Comma s e) (ts, refl, group, refl, λ all. refl)
+    × (connector_of s ≡ Some k) × ((all : List Pattern) → joined s all ≡ syntax.members k all)) (same_Some Comma s e) (ts, refl, group, refl, λ all. refl)
 separator_is s (sign And ∷ ts) e = subst (λ (s : Sign). (us : List Lexeme) × (follow s (sign And ∷ ts) ≡ Some us) × (k : Connector) × (connector_of s ≡ Some k)
-    × ((all : List Pattern) → joined s all ≡ syntax.members k all)) (some_is And s e) (ts, refl, interleave, refl, λ all. refl)
+    × ((all : List Pattern) → joined s all ≡ syntax.members k all)) (same_Some And s e) (ts, refl, interleave, refl, λ all. refl)
 separator_is s (sign Bar ∷ ts) e = subst (λ (s : Sign). (us : List Lexeme) × (follow s (sign Bar ∷ ts) ≡ Some us) × (k : Connector) × (connector_of s ≡ Some k)
-    × ((all : List Pattern) → joined s all ≡ syntax.members k all)) (some_is Bar s e) (ts, refl, choice, refl, λ all. refl)
+    × ((all : List Pattern) → joined s all ≡ syntax.members k all)) (same_Some Bar s e) (ts, refl, choice, refl, λ all. refl)
 separator_is s _ e = absurd cc
 
 repeated_by : (ts us rest front : List Lexeme) (r : Sign) (t u : Pattern) → ((a : List Lexeme) → IsPrimary a t → IsParticle (a ++ sign r ∷ []) u)
@@ -143,7 +144,7 @@ components_are w (and_item p q parts) = grammar.and_component p (components_are 
 pub component_front_is : (w : Setting) (ts us : List Lexeme) → component_front w ts ≡ Some us → ts ≡ us
 component_front_is w ts us e =
     elim (chosen (begins_component w ts) (Some ts) None (Some us) e) [
-      | inl h ↦ some_is ts us h.1
+      | inl h ↦ same_Some ts us h.1
       | inr h ↦ absurd (let q = h.1 in cc)
     ]
 

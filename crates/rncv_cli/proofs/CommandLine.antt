@@ -6,6 +6,7 @@ use Rattle.std.specs.List.{AllByRecursion}
 use Rattle.std.specs.Str.{IsUtf8, bytes_eq}
 use Rattle.std.proofs.lemmas.Slice.Eq.{bytes_eq-Decides}
 use Rattle.std.proofs.lemmas.Str.{IsUtf8-string_bytes}
+use Rattle.std.proofs.lemmas.Option.{same_Some}
 use Rattle.clap.specs.Lexer.{usize_max}
 use Rattle.clap.specs.Words.{fault_of, matches_of}
 use Rattle.rncv_model.specs.declared.command.Command.{Command}
@@ -41,16 +42,13 @@ has_name Valid = refl
 has_name Check = refl
 has_name Simple = refl
 
-same_in_some : {A : Type 0} (x y : A) → Some x ≡ Some y → x ≡ y
-same_in_some x y e = cc
-
 -- what clap finds in words that it accepts is their command line
 pub is_command_line : (words : List Text) → AllByRecursion IsUtf8 words → fault_of form words ≡ [] → (command : Command) (files : List Text)
     → command_in (matches_of form words) ≡ Some command → files_in (matches_of form words) ≡ Some files → IsCommandLine words command files
 is_command_line words utf8 fits command files command_is files_is =
     let found = are_found words utf8 fits in
     let named = is_name found.command command (sym (ap (option_and_then command_named) found.finds.command_is) ∙ command_is) in
-    let same = same_in_some found.files files (sym found.finds.files_are ∙ files_is) in
+    let same = same_Some found.files files (sym found.finds.files_are ∙ files_is) in
     record {
       arguments = subst (λ (all : List Text). WithoutDashes words (name_of command ∷ all)) same
           (subst (λ (name : Text). WithoutDashes words (name ∷ found.files)) named found.parts);

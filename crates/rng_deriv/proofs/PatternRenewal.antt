@@ -1,8 +1,9 @@
 -- What holds of some patterns holds of them in another table too.
 use Rattle.std.proofs.Common.{◌≡◌, ◌∙◌, ℕ, zero, suc, ◌<◌, List, [], ◌∷◌, ◌++◌, length, map, take, drop, All, get_or, slice_index_or}
-use Rattle.std.proofs.Common.{refl, sym, ap, ap₂, subst, arith}
+use Rattle.std.proofs.Common.{refl, sym, ap₂, subst, arith}
 use Rattle.std.specs.List.{AllZip}
 use Rattle.std.proofs.lemmas.List.Elements.{All-cons, All-head, All-nil, All-tail}
+use Rattle.std.proofs.lemmas.Slice.Zip.{AllZip-long}
 use Rattle.rng_model.specs.simple.Table.{Table, tree_at}
 use Rattle.rng_model.specs.declared.simple.PatternId.{PatternId}
 use Rattle.rng_deriv_laws.specs.plain.Restricted.{IsRestricted, IsRestrictedBody}
@@ -27,12 +28,6 @@ zip_both P R [] (y ∷ ys) all h = absurd h
 zip_both P R (x ∷ xs) [] all h = absurd h
 zip_both P R (x ∷ xs) (y ∷ ys) all h = ((All-head P y ys all, h.0), zip_both P R xs ys (All-tail P y ys all) h.1)
 
-zip_length : {A B : Type 0} (R : A → B → Type 0) (xs : List A) (ys : List B) → AllZip R xs ys → length ys ≡ length xs
-zip_length R [] [] h = refl
-zip_length R [] (y ∷ ys) h = absurd h
-zip_length R (x ∷ xs) [] h = absurd h
-zip_length R (x ∷ xs) (y ∷ ys) h = ap suc (zip_length R xs ys h.1)
-
 zip_at : {A B : Type 0} (R : A → B → Type 0) (xs : List A) (ys : List B) (i : ℕ) (a : A) (b : B) → AllZip R xs ys → i < length ys
     → R (get_or xs i a) (get_or ys i b)
 zip_at R [] [] i a b h within = absurd (omega (arith, within))
@@ -53,7 +48,7 @@ module _ (t : Table) (old new : List Node) (ms ns : List PatternNumber) (same : 
 
   pub served_renewed : IsServed t old ms → IsServed t new ns
   served_renewed served =
-      let long = zip_length (IsSameTree t old new) ms ns same in
+      let long = AllZip-long (IsSameTree t old new) ms ns same in
       let ready = served.ready in
       record {
         keeps = served.keeps;

@@ -4,6 +4,7 @@ use Rattle.std.proofs.Common.{Bool, Contains, append_assoc}
 use Rattle.std.specs.List.{list_all, list_any}
 use Rattle.std.proofs.lemmas.List.Elements.{All-push, All-nil, All-cons, All-contains, Contains-append_left, Contains-append_right, Contains-get_or, Contains-push}
 use Rattle.std.proofs.lemmas.List.Folds.{Any-from_list_any}
+use Rattle.std.proofs.lemmas.Bool.{or_parts, and_parts}
 use Rattle.rng_model.specs.simple.Tree.{Simple}
 use Rattle.rng_model.specs.matching.Document.{Item}
 use Rattle.rng_model.specs.documents.PyxLines.{Said}
@@ -25,14 +26,6 @@ use Rattle.rng_deriv_events.specs.views.OpenPositions.{OpenPosition}
 use Rattle.rng_deriv_events.proofs.Numbers.{all_before}
 
 -- ---- tests over numbers, and their meaning for patterns
-
-and_parts : (a b : Bool) → (a && b) ≡ true → (a ≡ true) × (b ≡ true)
-and_parts true b e = (refl, e)
-and_parts false b e = absurd (cc)
-
-or_parts : (a b : Bool) → (a || b) ≡ false → (a ≡ false) × (b ≡ false)
-or_parts true b e = absurd (cc)
-or_parts false b e = (refl, e)
 
 module _ (test : Simple ℕ → Bool) (f : PatternNumber → Simple ℕ) where
   all_pass : (ns : List PatternNumber) → list_all (λ n. test (f n)) ns ≡ true → All (λ p. test p ≡ true) (map f ns)

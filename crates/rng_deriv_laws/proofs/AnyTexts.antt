@@ -1,5 +1,6 @@
 -- What is left after a string of a pattern that contains no data, no value and no list: the same for each string.
 use Rattle.std.proofs.Common.{◌≡◌, ℕ, List, [], ◌∷◌, Bool, true, false, ◌||◌, refl, inl, inr}
+use Rattle.std.proofs.lemmas.Bool.{or_from}
 use Rattle.rng_model.specs.simple.Tree.{Simple, s_not_allowed, s_empty, s_text, s_leaf, s_attribute, s_list, s_data, s_data_except}
 use Rattle.rng_model.specs.simple.Tree.{s_value, s_one_or_more, s_joined}
 use Rattle.rng_model.specs.matching.Document.{Item, a_text, AllTexts, no_texts, text_and}
@@ -17,10 +18,6 @@ use Rattle.rng_deriv_laws.proofs.KeptRestrictions.{IsHereditary, item_ways-keep}
 abbrev HasNoData : Simple ℕ → Type 0
 HasNoData p = has_data p ≡ false
 
-neither : (a b : Bool) → a ≡ false → b ≡ false → (a || b) ≡ false
-neither false b e f = f
-neither true b e f = absurd (cc)
-
 pub not_first : (a b : Bool) → (a || b) ≡ false → a ≡ false
 not_first false b e = refl
 not_first true b e = e
@@ -34,7 +31,7 @@ no_data-hereditary = record {
   of_not_allowed = refl;
   of_empty = refl;
   of_text = refl;
-  of_both = λ k p q h i. neither (has_data p) (has_data q) h i;
+  of_both = λ k p q h i. or_from (has_data p) (has_data q) h i;
   sides = λ k p q h. (not_first (has_data p) (has_data q) h, not_second (has_data p) (has_data q) h);
   copy = λ p h. h;
 }

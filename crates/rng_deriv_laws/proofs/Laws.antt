@@ -1,5 +1,6 @@
 -- The laws of this crate.
 use Rattle.std.proofs.Common.{◌≡◌, ◌↔◌, ℕ, List, [], ◌∷◌, refl, sym, ap, ◌∙◌, subst, Bool, true, false, Option, Some, None, slice_get}
+use Rattle.std.proofs.lemmas.Bool.{false_from_ne_true}
 use Rattle.rng_model.specs.names.Names.{Name, NameClass, In}
 use Rattle.rng_model.specs.simple.Tree.{Simple}
 use Rattle.rng_model.specs.matching.Document.{Attribute, an_element}
@@ -72,10 +73,7 @@ never_is_invalid g keeps tests es more h bytes d is parts v =
 pub not_named : (g : Grammar) (q : Name) → ((k : ℕ) (c : NameClass) → ClassIn g k c → In c q → ⊥) → (k : ℕ) (o : Option (NameClass × Simple ℕ)) →
     slice_get g.elements k ≡ o → named_in o q ≡ false
 not_named g q none k None e = refl
-not_named g q none k (Some (c, p)) e = not_held (holds c q) (λ h. none k c (p, e) ((holds-Decides c q).0 h)) where
-  not_held : (b : Bool) → (b ≡ true → ⊥) → b ≡ false
-  not_held true f = absurd (f refl)
-  not_held false f = refl
+not_named g q none k (Some (c, p)) e = false_from_ne_true (holds c q) (λ h. none k c (p, e) ((holds-Decides c q).0 h))
 
 pub unknown_name_is_never : UnknownNameIsNever
 unknown_name_is_never g tests m q xs none =

@@ -6,6 +6,7 @@ use Rattle.std.specs.List.{AllZip}
 use Rattle.std.proofs.lemmas.Option.{same_Some}
 use Rattle.std.proofs.lemmas.List.Elements.{All-contains, All-append, Contains-push, Contains-push_cases}
 use Rattle.std.proofs.lemmas.List.Elements.{Contains-append_left, Contains-append_right, Contains-append_cases}
+use Rattle.std.proofs.lemmas.Bool.{cases_eq}
 use Rattle.rng_model.specs.names.Names.{Name}
 use Rattle.rng_model.specs.simple.Tree.{Simple}
 use Rattle.rng_model.specs.matching.Document.{Attribute, Item, an_element, Items, list_of}
@@ -19,12 +20,6 @@ use Rattle.rng_deriv_laws.specs.plain.Ways.{Opens, EachWay, AreItemWays, IsItemL
 use Rattle.rng_deriv_laws.specs.plain.LevelStates.{Link, IsBodyNamed, AreStarts, OpensAt, AreOpened, AreEnded}
 use Rattle.rng_deriv_laws.proofs.Starts.{bodies_in, bodies_out, bodies_keep}
 use Rattle.rng_deriv_laws.proofs.LevelStates.{beside_second, contained, found_at}
-
-nat_same : (m n : ℕ) → (m ≡ n) ⊎ (m ≡ n → ⊥)
-nat_same zero zero = inl refl
-nat_same zero (suc n) = inr (λ e. omega (arith, e))
-nat_same (suc m) zero = inr (λ e. omega (arith, e))
-nat_same (suc m) (suc n) = elim (nat_same m n) [ inl e ↦ inl (ap suc e) | inr f ↦ inr (λ e. f (omega (arith, e))) ]
 
 -- ---- look-ups in a list that grows
 
@@ -155,7 +150,7 @@ module _ (g : Reading) where
         (joined : (ns : List Item) → Takes g new [] ns ↔ (Takes g old [] ns ⊎ Takes g l.rest [] ns)) where
       joined_to : (k : Link) (ns : List Item) → (Contains links k ⊎ (l ≡ k)) → slice_get good k.inner ≡ Some true → Takes g k.rest [] ns
           → (r : Simple ℕ) × (slice_get after k.outer ≡ Some r) × Takes g r [] ns
-      joined_to k ns (inl c) is d = let o = e.to k ns c is d in elim (nat_same k.outer l.outer) [
+      joined_to k ns (inl c) is d = let o = e.to k ns c is d in elim (cases_eq k.outer l.outer) [
         | inl f ↦ let r : o.0 ≡ old = same_Some _ _ (sym o.1 ∙ ap (slice_get outside) f ∙ was) in
             (new, ap (slice_get after) f ∙ now, (joined ns).1 (inl (subst (λ r. Takes g r [] ns) r o.2)))
         | inr f ↦ (o.0, (same k.outer o.0 f).1 o.1, o.2)
@@ -177,5 +172,5 @@ module _ (g : Reading) where
       pub ended_more : AreEnded g good (links ++ l ∷ []) after
       ended_more = record {
         to = λ k ns c is d. joined_to k ns (Contains-push_cases links l k c) is d;
-        back = λ i r ns f d. joined_back i r ns f d (nat_same i l.outer);
+        back = λ i r ns f d. joined_back i r ns f d (cases_eq i l.outer);
       }

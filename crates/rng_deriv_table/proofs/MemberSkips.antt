@@ -4,7 +4,7 @@ use Rattle.std.proofs.Common.{Option, Some, None, Vec, cond, get_or, slice_get, 
 use Rattle.std.proofs.lemmas.Bool.{cases_lt}
 use Rattle.std.proofs.lemmas.Bool.Decides.{Decides-eqb}
 use Rattle.std.proofs.lemmas.List.{get_or_append_left}
-use Rattle.std.proofs.lemmas.Option.{get_or_from_slice_get, slice_get-get_or, slice_get_within}
+use Rattle.std.proofs.lemmas.Option.{get_or_from_slice_get, slice_get-get_or, slice_get_within, none-some, same_Some}
 use Rattle.std.specs.HashMap.{HashMap, IsEmpty, get}
 use Rattle.std.specs.Map.{lookup}
 use Rattle.rng_model.specs.simple.Table.{Table}
@@ -22,14 +22,11 @@ use Rattle.rng_deriv_table.proofs.KnownFacts.{joined_first, joined_second}
 use Rattle.rng_deriv_table.proofs.TableRows.{found_new, found_old}
 use Rattle.rng_deriv_table.proofs.Trees.{Longer-length, tree_stays}
 
-some_is : {A : Type 0} {x y : A} → Some x ≡ Some y → x ≡ y
-some_is e = cc
-
 -- an element of a list after one is set
 set_cases : {A : Type 0} (xs : List A) (k : ℕ) (y : A) (i : ℕ) (x : A) → slice_get (slice_set xs k y) i ≡ Some x
     → (slice_get xs i ≡ Some x) ⊎ ((i ≡ k) × (x ≡ y))
 set_cases [] k y i x e = inl e
-set_cases (z ∷ xs) zero y zero x e = inr (refl, sym (some_is e))
+set_cases (z ∷ xs) zero y zero x e = inr (refl, sym (same_Some _ _ e))
 set_cases (z ∷ xs) zero y (suc i) x e = inl e
 set_cases (z ∷ xs) (suc k) y zero x e = inl e
 set_cases (z ∷ xs) (suc k) y (suc i) x e = ⊎_elim (λ a. inl a) (λ b. inr (ap suc b.0, b.1)) (set_cases xs k y i x e)
@@ -64,7 +61,7 @@ module _ (ns : List Node) (ms : List ℕ) where
         further = omega (arith, one);
         within = λ j n low high at t e has.
             let same_place : j ≡ i = omega (arith, low, high, one) in
-            let same_member = some_is (sym at ∙ ap (slice_get ms) same_place ∙ found) in
+            let same_member = same_Some _ _ (sym at ∙ ap (slice_get ms) same_place ∙ found) in
             elements t e (subst (λ n. HasElement e (tree_of t ns n)) same_member has);
       }
 
@@ -78,7 +75,7 @@ pub one_kept : {Y Z : Type 0} (old more : HashMap PatternNumber (Vec Skip Y) Z) 
 one_kept {Y} {Z} old more n v m s e h = by (same.ghosts.eq n m) refl (sym e ∙ h.1)
   where
     by : (t : Bool) → same.ghosts.eq n m ≡ t → cond t (Some v) (get same.ghosts.eq old m) ≡ Some h.0 → HasSkips old m s ⊎ ((m ≡ n) × (s ≡ v.items))
-    by true f g = inr (sym (same_number n m f), sym h.2 ∙ ap (λ (w : Vec Skip Y). w.items) (sym (some_is g)))
+    by true f g = inr (sym (same_number n m f), sym h.2 ∙ ap (λ (w : Vec Skip Y). w.items) (sym (same_Some _ _ g)))
     by false f g = inl (h.0, g, h.2)
 
 pub skips_found : (skips : Skips) (n : PatternNumber) (o : Option (Bor (List Skip))) → IfSome o (λ s. HasSkips skips.by_choice n s.now)
@@ -102,10 +99,7 @@ choice_put ns old more n ms skips inside is below right within all = λ m s h. �
 
 -- no choice has skips
 pub no_skips : {Y Z : Type 0} (ns : List Node) (kept : HashMap PatternNumber (Vec Skip Y) Z) → IsEmpty kept → AreSkipsIn ns kept
-no_skips {Y} {Z} ns kept empty n skips h = absurd (none_is (subst (λ es. lookup (same.ghosts.eq n) es ≡ Some h.0) empty h.1))
-  where
-    none_is : {A : Type 0} {x : A} → None ≡ Some x → ⊥
-    none_is e = cc
+no_skips {Y} {Z} ns kept empty n skips h = absurd (none-some _ (subst (λ es. lookup (same.ghosts.eq n) es ≡ Some h.0) empty h.1))
 
 -- ---- longer tables
 

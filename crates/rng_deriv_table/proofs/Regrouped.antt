@@ -3,6 +3,7 @@ use Rattle.std.proofs.Common.{◌≡◌, ◌∙◌, ℕ, ◌<◌, ◌≤◌, inl
 use Rattle.std.proofs.lemmas.List.{append-nil}
 use Rattle.std.specs.HashMap.{HashMap, IsEmpty, get}
 use Rattle.std.specs.Map.{lookup}
+use Rattle.std.proofs.lemmas.Option.{none-some, same_Some}
 use Rattle.rng_model.specs.matching.Document.{Attribute, Item, Interleaves, done}
 use Rattle.rng_model.specs.matching.Reading.{Reading}
 use Rattle.rng_model.specs.restrictions.ContentTypes.{ContentType, empty_content, complex_content, simple_content}
@@ -265,14 +266,8 @@ more_made p o q inner made c inside is takes e = record {
 
 -- ---- options that are kept
 
-some_is : {A : Type 0} {x y : A} → Some x ≡ Some y → x ≡ y
-some_is e = cc
-
 pub no_options : {Z : Type 0} (ns : List Node) (kept : HashMap PatternNumber PatternNumber Z) → IsEmpty kept → AreOptions ns kept
-no_options {Z} ns kept empty p o h = absurd (none_is (subst (λ es. lookup (number.ghosts.eq p) es ≡ Some o) empty h))
-  where
-    none_is : {A : Type 0} {x : A} → None ≡ Some x → ⊥
-    none_is e = cc
+no_options {Z} ns kept empty p o h = absurd (none-some _ (subst (λ es. lookup (number.ghosts.eq p) es ≡ Some o) empty h))
 
 -- one more
 pub option_put : {Z : Type 0} (ns : List Node) (old more : HashMap PatternNumber PatternNumber Z) (p o : PatternNumber) → IsOptionOf ns p o
@@ -281,7 +276,7 @@ pub option_put : {Z : Type 0} (ns : List Node) (old more : HashMap PatternNumber
 option_put {Z} ns old more p o is put all m n h = by (number.ghosts.eq p m) refl (sym (put m) ∙ h)
   where
     by : (b : Bool) → number.ghosts.eq p m ≡ b → cond b (Some o) (get number.ghosts.eq old m) ≡ Some n → IsOptionOf ns m n
-    by true f e = subst (λ n. IsOptionOf ns m n) (some_is e) (subst (λ m. IsOptionOf ns m o) (same_number p m f) is)
+    by true f e = subst (λ n. IsOptionOf ns m n) (same_Some _ _ e) (subst (λ m. IsOptionOf ns m o) (same_number p m f) is)
     by false f e = all m n e
 
 pub options_longer : {Z : Type 0} (old new : List Node) (kept : HashMap PatternNumber PatternNumber Z) → Longer old new → AreOptions old kept

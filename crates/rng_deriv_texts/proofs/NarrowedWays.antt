@@ -7,6 +7,7 @@ use Rattle.std.specs.Map.{lookup}
 use Rattle.std.specs.Str.{bytes_eq}
 use Rattle.std.proofs.lemmas.List.Elements.{All-contains, Contains-push, Contains-push_cases, Contains-append_cases, Contains-append_left, Contains-append_right, Contains-get_or}
 use Rattle.std.proofs.lemmas.Slice.Eq.{bytes_eq-Decides}
+use Rattle.std.proofs.lemmas.Option.{same_Some, none-some}
 use Rattle.smallvec.specs.SmallVec.{SmallVec}
 use Rattle.rng_model.specs.datatypes.Blanks.{collapse}
 use Rattle.rng_model.specs.datatypes.Datatypes.{Meaning, plain_string, plain_token, xsd_string, xsd_token, xsd_ncname, xsd_nmtoken}
@@ -76,12 +77,6 @@ value_takes_only t ns leaf d v type inside is named compares = record {
 
 -- ---- what is kept for a text
 
-none_is : {A : Type 0} {x : A} → None ≡ Some x → ⊥
-none_is e = cc
-
-some_is : {A : Type 0} {x y : A} → Some x ≡ Some y → x ≡ y
-some_is e = cc
-
 has_none : (w : LeafWay) → Contains [] w → ⊥
 has_none w (i, h, e) = omega (arith, h)
 
@@ -112,7 +107,7 @@ module _ {Y Z : Type 0} (before middle after : HashMap (String Y) (SmallVec Leaf
     kept_within q w h = by (bytes_eq (string_bytes put) (string_bytes q)) refl where
       by : (b : Bool) → bytes_eq (string_bytes put) (string_bytes q) ≡ b → IsKeptOrIs before q way w
       by true e =
-          let same : h.0 ≡ all = some_is (sym h.1 ∙ at_put q e) in
+          let same : h.0 ≡ all = same_Some _ _ (sym h.1 ∙ at_put q e) in
           let c = subst (λ ws. Contains ws w) more (subst (λ (v : SmallVec LeafWay). Contains v.items w) same h.2) in
           ⊎_elim (λ a. inl (was_kept q w _ refl (base_at q e) a)) (λ i. inr (sym i)) (Contains-push_cases base.items way w c)
       by false e = inl (h.0, sym (elsewhere q e) ∙ h.1, h.2)
@@ -142,7 +137,7 @@ module _ {Y Z : Type 0} (before middle after : HashMap (String Y) (SmallVec Leaf
 pub no_index : (t : Table) (ns : List Node) (index : ValueIndex) → index.others.items ≡ [] → index.by_text.entries ≡ [] → IsIndex t ns [] index
 no_index t ns index others texts = record {
   others = λ w c. subst (λ ws. Contains ws w) others c;
-  kept = λ text w h. absurd (none_is (sym (ap (λ es. lookup (λ k. bytes_eq (string_bytes text) (string_bytes k)) es) texts) ∙ h.1));
+  kept = λ text w h. absurd (none-some _ (sym (ap (λ es. lookup (λ k. bytes_eq (string_bytes text) (string_bytes k)) es) texts) ∙ h.1));
   all = λ w c. absurd (has_none w c);
 }
 

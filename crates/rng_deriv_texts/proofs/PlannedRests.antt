@@ -1,9 +1,9 @@
 -- What is left of a pattern by its plan.
-use Rattle.std.proofs.Common.{◌≡◌, ◌∙◌, ◌⊎◌, inl, inr, ⊎_elim, ℕ, zero, suc, ◌<◌, List, [], ◌∷◌, ◌++◌, length, All, Bool, true, false, Contains, Bor, Some, None, string_bytes}
+use Rattle.std.proofs.Common.{◌≡◌, ◌∙◌, ◌⊎◌, inl, inr, ⊎_elim, ℕ, zero, suc, ◌<◌, List, [], ◌∷◌, ◌++◌, length, All, Bool, true, false, Contains, Bor, Some, string_bytes}
 use Rattle.std.proofs.Common.{slice_get, refl, sym, ap, subst, arith}
 use Rattle.std.specs.Prelude.{IfSome}
 use Rattle.std.proofs.lemmas.List.Elements.{All-append}
-use Rattle.std.proofs.lemmas.Option.{get_or_from_slice_get, slice_get_within}
+use Rattle.std.proofs.lemmas.Option.{get_or_from_slice_get, slice_get_within, none-some, same_Some}
 use Rattle.smallvec.specs.SmallVec.{SmallVec}
 use Rattle.rng_names.specs.plain.Keys.{Keys, KeysServe, key_of}
 use Rattle.rng_names.specs.declared.name_keys.NameKey.{NameKey}
@@ -120,10 +120,7 @@ outcome_kept t old new longer before after taken rest ways leaves values within 
 
 slice_get_front : {A : Type 0} (xs : List A) (y x : A) (i : ℕ) → slice_get (xs ++ y ∷ []) i ≡ Some x
     → (slice_get xs i ≡ Some x) ⊎ ((i ≡ length xs) × (y ≡ x))
-slice_get_front [] y x (zero) e = inr (refl, some_is e)
-  where
-    some_is : {A : Type 0} {x y : A} → Some x ≡ Some y → x ≡ y
-    some_is e = cc
+slice_get_front [] y x (zero) e = inr (refl, same_Some _ _ e)
 slice_get_front [] y x (suc i) e = absurd (cc)
 slice_get_front (z ∷ xs) y x (zero) e = inl e
 slice_get_front (z ∷ xs) y x (suc i) e = ⊎_elim (λ a. inl a) (λ b. inr (ap suc b.0, b.1)) (slice_get_front xs y x i e)
@@ -147,21 +144,15 @@ module _ (t : Table) (old new : List Node) (first : First) (leaves : List Patter
     one_more_test taken leaf i b count at tests tells = λ other c told. ⊎_elim
         (λ was. tests other c (told.0, told.1, was))
         (λ is.
-        let same : leaf ≡ other = some_is (sym at ∙ subst (λ k. slice_get leaves k ≡ Some other) (is.0 ∙ count) told.1) in
+        let same : leaf ≡ other = same_Some _ _ (sym at ∙ subst (λ k. slice_get leaves k ≡ Some other) (is.0 ∙ count) told.1) in
         let P : PatternNumber → Type 0 = λ m. TellsTaken (reading_of t) first (tree_of t old m.0) c in
         subst P same (subst (λ c. TellsTaken (reading_of t) first (tree_of t old leaf.0) c) is.1
         (subst (λ l. TellsTaken (reading_of t) first l b) (tree_stays t old new leaf.0 longer (there leaf i at)) tells)))
         (slice_get_front taken b c told.0 told.2)
-      where
-        some_is : {x y : PatternNumber} → Some x ≡ Some y → x ≡ y
-        some_is e = cc
 
 -- before any test
 pub no_tests : (t : Table) (ns : List Node) (first : First) (leaves : List PatternNumber) (taken : List Bool) → taken ≡ [] → AreTests t ns first leaves taken
-no_tests t ns first leaves taken e = λ leaf b told. absurd (none_is (sym (ap (λ bs. slice_get bs told.0) e) ∙ told.2))
-  where
-    none_is : {A : Type 0} {x : A} → None ≡ Some x → ⊥
-    none_is e = cc
+no_tests t ns first leaves taken e = λ leaf b told. absurd (none-some _ (sym (ap (λ bs. slice_get bs told.0) e) ∙ told.2))
 
 -- ---- what a pattern is asked
 

@@ -2,7 +2,7 @@
 -- name.
 use Rattle.std.proofs.Common.{◌≡◌, ◌∙◌, ◌+◌, ◌<◌, ℕ, zero, suc, ◌⊎◌, inl, inr, ⊎_elim, List, [], ◌∷◌, ◌++◌, slice_get, slice_set, Some, None}
 use Rattle.std.proofs.Common.{subst, sym, refl, true, false, arith}
-use Rattle.std.proofs.lemmas.Option.{slice_get_cases}
+use Rattle.std.proofs.lemmas.Option.{slice_get_cases, same_Some}
 use Rattle.rng_names.specs.plain.Keys.{Keys, key_of}
 use Rattle.rng_model.specs.names.Names.{Name}
 use Rattle.rng_model.specs.simple.Table.{Table}
@@ -31,7 +31,6 @@ use Rattle.rng_deriv_ways.specs.declared.takers.Takers.{Takers}
 use Rattle.rng_deriv_ways.specs.declared.way.Kind.{Kind}
 use Rattle.rng_deriv_ways.specs.declared.way.Kind.TheVariants as kinds
 use Rattle.rng_deriv_ways.proofs.AttributeTakers.{less_or_same}
-use Rattle.rng_deriv_ways.proofs.KnownWays.{some_is}
 use Rattle.rng_deriv_ways.proofs.GrammarRows.{class_there, no_class_there}
 
 module _ (q : Name) where
@@ -147,7 +146,7 @@ module _ (t : Table) (keys : Keys) (k : ℕ) (q : Name) (own : key_of keys q ≡
 
 set_same : {A : Type 0} (xs : List A) (k : ℕ) (y m : A) → slice_get (slice_set xs k y) k ≡ Some m → m ≡ y
 set_same [] k y m e = absurd (cc)
-set_same (x ∷ xs) zero y m e = sym (some_is e)
+set_same (x ∷ xs) zero y m e = sym (same_Some _ _ e)
 set_same (x ∷ xs) (suc k) y m e = set_same xs k y m e
 
 -- the claim of `IsTold` about the lists

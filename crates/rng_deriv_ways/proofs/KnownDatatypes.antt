@@ -1,14 +1,13 @@
 -- The meanings of datatypes that are kept.
 use Rattle.std.proofs.Common.{◌≡◌, ◌∙◌, ◌+◌, ◌<◌, ℕ, List, Option, Some, None, ⊎_elim, slice_get, refl, sym, ap, subst, arith}
 use Rattle.std.proofs.lemmas.Bool.{cases_lt}
-use Rattle.std.proofs.lemmas.Option.{slice_get_within}
+use Rattle.std.proofs.lemmas.Option.{slice_get_within, same_Some}
 use Rattle.rng_model.specs.simple.Table.{Table}
 use Rattle.rng_model.specs.datatypes.Datatypes.{known_allows, known_equates}
 use Rattle.rng_model.specs.declared.simple.Simple.{Simple}
 use Rattle.rng_deriv_table.proofs.Taking.{past_end}
 use Rattle.rng_deriv_ways.specs.views.Datatypes.{AreDatatypesOf, position_count, meaning_at, meaning_named_by}
 use Rattle.rng_deriv_ways.specs.declared.datatypes.Datatypes.{Datatypes}
-use Rattle.rng_deriv_ways.proofs.KnownWays.{some_is}
 
 -- ---- by position
 
@@ -40,7 +39,7 @@ module _ (t : Table) (old new : Datatypes) (n : ℕ) (row : Simple) where
         (λ below. others k (omega (arith, below, before.count)) ∙ before.kept k other below there)
         (λ above.
         let same : k ≡ n = omega (arith, less, above) in
-        let is : row ≡ other = some_is (sym at ∙ subst (λ k. slice_get t.patterns k ≡ Some other) same there) in
+        let is : row ≡ other = same_Some _ _ (sym at ∙ subst (λ k. slice_get t.patterns k ≡ Some other) same there) in
         subst (λ k. meaning_at new k ≡ meaning_named_by other) (before.count ∙ sym same) (own ∙ ap meaning_named_by is))
         (cases_lt k n);
     count = omega (arith, more, before.count);

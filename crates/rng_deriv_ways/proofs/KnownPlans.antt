@@ -2,6 +2,7 @@
 use Rattle.std.proofs.Common.{◌≡◌, ◌⊎◌, ◌<◌, ℕ, Bool, List, [], ◌∷◌, All, string_bytes, Box, Contains, Option, Some, None, length, true, false, cond, IfSome, inl, inr, ⊎_elim, refl, sym, subst, arith, rules}
 use Rattle.std.specs.HashMap.{HashMap, IsEmpty, get}
 use Rattle.std.specs.Map.{lookup}
+use Rattle.std.proofs.lemmas.Option.{same_Some, none-some}
 use Rattle.rng_names.specs.plain.Keys.{Keys}
 use Rattle.rng_model.specs.matching.Document.{a_text}
 use Rattle.rng_model.specs.matching.GrammarReading.{reading_of}
@@ -113,22 +114,13 @@ module _ {Z : Type 0} (t : Table) (keys : Keys) (ns : List Node) (plans more : H
       (λ is. subst (λ b. IsPlanFor t keys ns b p) (sym is.0) (subst (IsPlanFor t keys ns a) (sym is.1) own)) (within b p h)
 
 pub no_plans : {Z : Type 0} (t : Table) (keys : Keys) (ns : List Node) (plans : HashMap Asked Plan Z) → IsEmpty plans → ArePlans t keys ns plans
-no_plans t keys ns plans empty a plan h = absurd (none_there (subst (λ es. lookup (same.ghosts.eq a) es ≡ Some plan) empty h))
-  where
-    none_there : {A : Type 0} {x : A} → None ≡ Some x → ⊥
-    none_there e = cc
+no_plans t keys ns plans empty a plan h = absurd (none-some _ (subst (λ es. lookup (same.ghosts.eq a) es ≡ Some plan) empty h))
 
 -- ---- the map of plans
 
-none_is : {A : Type 0} {x : A} → None ≡ Some x → ⊥
-none_is e = cc
-
-some_is : {A : Type 0} {x y : A} → Some x ≡ Some y → x ≡ y
-some_is e = cc
-
 -- a value is found beside the key that was taken out
 pub others_stay : {A : Type 0} (b : Bool) (o : Option A) (x : A) → cond b None o ≡ Some x → o ≡ Some x
-others_stay true o x e = absurd (none_is e)
+others_stay true o x e = absurd (none-some _ e)
 others_stay false o x e = e
 
 same_asked : (a b : Asked) → same.ghosts.eq a b ≡ true → a ≡ b
@@ -139,7 +131,7 @@ pub one_put : (a b : Asked) (plan p : Plan) (o : Option Plan) → cond (same.gho
 one_put a b plan p o e = by (same.ghosts.eq a b) refl e
   where
     by : (t : Bool) → same.ghosts.eq a b ≡ t → cond t (Some plan) o ≡ Some p → (o ≡ Some p) ⊎ ((b ≡ a) × (p ≡ plan))
-    by true f g = inr (sym (same_asked a b f), sym (some_is g))
+    by true f g = inr (sym (same_asked a b f), sym (same_Some _ _ g))
     by false f g = inl g
 
 pub plan_found : {Z : Type 0} (t : Table) (keys : Keys) (ns : List Node) (plans : HashMap Asked Plan Z) (a : Asked) (o : Option Plan)

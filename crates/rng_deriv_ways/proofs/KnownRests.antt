@@ -1,7 +1,8 @@
 -- Known rests of patterns stay right as a table grows.
-use Rattle.std.proofs.Common.{◌≡◌, ◌⊎◌, ◌<◌, List, Some, None, length, ⊎_elim, sym, subst, arith}
+use Rattle.std.proofs.Common.{◌≡◌, ◌⊎◌, ◌<◌, List, Some, length, ⊎_elim, sym, subst, arith}
 use Rattle.std.specs.HashMap.{HashMap, IsEmpty}
 use Rattle.std.specs.Map.{lookup}
+use Rattle.std.proofs.lemmas.Option.{none-some}
 use Rattle.rng_model.specs.simple.Table.{Table}
 use Rattle.rng_deriv_laws.specs.plain.Derivatives.{closed}
 use Rattle.rng_deriv_laws.specs.plain.Restricted.{HasTexts, MayBeListed}
@@ -61,7 +62,4 @@ closed_before old mid new n rest longer inside h =
     }
 
 pub no_rests : {Z : Type 0} (ns : List Node) (known : HashMap PatternNumber PatternNumber Z) → IsEmpty known → AreRestsOf ns known
-no_rests ns known empty n rest h = absurd (none_is (subst (λ es. lookup (same.ghosts.eq n) es ≡ Some rest) empty h))
-  where
-    none_is : {A : Type 0} {x : A} → None ≡ Some x → ⊥
-    none_is e = cc
+no_rests ns known empty n rest h = absurd (none-some _ (subst (λ es. lookup (same.ghosts.eq n) es ≡ Some rest) empty h))

@@ -1,10 +1,11 @@
 -- Known ways of patterns stay right as a table grows.
-use Rattle.std.proofs.Common.{◌≡◌, ◌∙◌, ◌⊎◌, ◌<◌, ℕ, Bool, Box, List, [], length, Option, Some, None, slice_get}
+use Rattle.std.proofs.Common.{◌≡◌, ◌∙◌, ◌⊎◌, ◌<◌, ℕ, Bool, Box, List, [], length, Option, Some, slice_get}
 use Rattle.std.proofs.Common.{true, ⊎_elim, sym, ap, subst, arith}
 use Rattle.std.proofs.lemmas.Bool.{cases_Bool}
 use Rattle.std.proofs.lemmas.Bool.Decides.{Decides-eqb}
 use Rattle.std.specs.HashMap.{HashMap, IsEmpty, get}
 use Rattle.std.specs.Map.{lookup}
+use Rattle.std.proofs.lemmas.Option.{none-some, same_Some}
 use Rattle.smallvec.specs.SmallVec.{SmallVec}
 use Rattle.rng_names.specs.plain.Keys.{Keys, name_at}
 use Rattle.rng_names.specs.declared.name_keys.NameKey.{NameKey}
@@ -68,10 +69,7 @@ known_more t ns kind known more n ways all those within = λ m ws h. ⊎_elim (�
     (λ b. subst (λ m. AreThoseOf t ns kind m ws) (sym b.0) (subst (AreThoseOf t ns kind n) (sym b.1) those)) (within m ws h)
 
 none_found : {K X Z : Type 0} (eq : K → K → Bool) (m : HashMap K X Z) → IsEmpty m → (k : K) (x : X) → get eq m k ≡ Some x → ⊥
-none_found eq m empty k x e = none_is (subst (λ es. lookup (eq k) es ≡ Some x) empty e)
-  where
-    none_is : {A : Type 0} {x : A} → None ≡ Some x → ⊥
-    none_is e = cc
+none_found eq m empty k x e = none-some _ (subst (λ es. lookup (eq k) es ≡ Some x) empty e)
 
 -- nothing is known
 pub none_known : {Z : Type 0} (t : Table) (ns : List Node) (kind : Kind) (known : HashMap PatternNumber (SmallVec LeafWay) Z) → IsEmpty known
@@ -80,9 +78,6 @@ none_known t ns kind known empty n ways h = absurd (none_found same.ghosts.eq kn
 
 -- ---- by key
 
-pub some_is : {A : Type 0} {x y : A} → Some x ≡ Some y → x ≡ y
-some_is e = cc
-
 same_number : (a b : NameKey) → same_key.ghosts.eq a b ≡ true → a ≡ b
 same_number a b e = ap (λ k. record { 0 = k }) ((Decides-eqb a.0 b.0).0 e)
 
@@ -90,7 +85,7 @@ same_number a b e = ap (λ k. record { 0 = k }) ((Decides-eqb a.0 b.0).0 e)
 pub known_for : {Y Z : Type 0} (t : Table) (ns : List Node) (kind : Kind) (key : NameKey)
     (known : HashMap NameKey (HashMap PatternNumber (SmallVec LeafWay) Z) Y) (own : HashMap PatternNumber (SmallVec LeafWay) Z) → HasForKey known key own
     → AreKnown t ns kind own → AreKnownFor t ns kind key known
-known_for t ns kind key known own at h = λ m there. subst (AreKnown t ns kind) (some_is (sym at ∙ there)) h
+known_for t ns kind key known own at h = λ m there. subst (AreKnown t ns kind) (same_Some _ _ (sym at ∙ there)) h
 
 pub none_by_key : {Y Z : Type 0} (Are : Name → Kind → Type 0) (t : Table) (keys : Keys) (ns : List Node)
     (known : HashMap NameKey (HashMap PatternNumber (SmallVec LeafWay) Z) Y) → IsEmpty known → AreKnownByKey Are t keys ns known
@@ -150,11 +145,8 @@ pub last_longer : {Z : Type 0} (t : Table) (keys : Keys) (old new : List Node) �
     → AreLast t keys old last → AreLast t keys new last
 last_longer t keys old new longer last all = λ n ws h kind named. those_stay t old new kind longer n ws.ways.items (all n ws h kind named)
 
-none_there : {A : Type 0} {x : A} → None ≡ Some x → ⊥
-none_there e = cc
-
 pub no_last : {Z : Type 0} (t : Table) (keys : Keys) (ns : List Node) (last : List (Option (Box LastWays Z))) → last ≡ [] → AreLast t keys ns last
-no_last t keys ns last none = λ n ws h kind named. absurd (none_there (sym (ap (λ l. slice_get l n.0) none) ∙ h.1))
+no_last t keys ns last none = λ n ws h kind named. absurd (none-some _ (sym (ap (λ l. slice_get l n.0) none) ∙ h.1))
 
 -- the ways of one pattern become the last ones
 pub last_more : {Z : Type 0} (t : Table) (keys : Keys) (ns : List Node) (last more : List (Option (Box LastWays Z))) (number : PatternNumber) (key : NameKey)

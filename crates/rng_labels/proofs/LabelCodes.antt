@@ -8,6 +8,7 @@ use Rattle.std.proofs.lemmas.Slice.Eq.{bytes_eq-Decides}
 use Rattle.std.specs.Cmp.Lexicographic.{pointwise}
 use Rattle.std.specs.List.{AllByRecursion, IsDistinct, list_any}
 use Rattle.std.specs.Str.{bytes_eq}
+use Rattle.std.proofs.lemmas.Option.{same_Some}
 use Rattle.indexmap.specs.IndexSet.{insert_key}
 use Rattle.rng_model.specs.names.Names.{NameClass, any_name, any_except, ns_name, ns_except, name_is, one_of, NameClasses, no_classes, class_and}
 use Rattle.rng_model.specs.names.Names.{classes_of, some_of}
@@ -87,12 +88,9 @@ equal_lists (p ∷ ps) (q ∷ qs) e =
 
 -- ---- codes in a set
 
-some_is : {A : Type 0} {x y : A} → Some x ≡ Some y → x ≡ y
-some_is e = cc
-
 nothing_there : (c : Code) (ks : List Code) → AllByRecursion (λ k. code_eq c k ≡ false) ks → (i : ℕ) → slice_get (map code_of ks) i ≡ Some (code_of c) → ⊥
 nothing_there c [] h i e = cc
-nothing_there c (k ∷ ks) h zero e = true≢false (sym (equal_lists c.items k.items (sym (some_is e))) ∙ h.0)
+nothing_there c (k ∷ ks) h zero e = true≢false (sym (equal_lists c.items k.items (sym (same_Some _ _ e))) ∙ h.0)
 nothing_there c (k ∷ ks) h (suc i) e = nothing_there c ks h.1 i e
 
 pub codes_apart : (ks : List Code) → IsDistinct code_eq ks → AreCodesApart (map code_of ks)
@@ -119,7 +117,7 @@ not_put ks c e = by_test (list_any (code_eq c) ks) e
 
 pub code_at : (ks : List Code) (c k : Code) (n : ℕ) → slice_get ks n ≡ Some k → code_eq c k ≡ true → slice_get (map code_of ks) n ≡ Some (code_of c)
 code_at [] c k n e f = cc
-code_at (x ∷ ks) c k zero e f = ap Some (ap code_of (some_is e) ∙ sym (same_lists c.items k.items f))
+code_at (x ∷ ks) c k zero e f = ap Some (ap code_of (same_Some _ _ e) ∙ sym (same_lists c.items k.items f))
 code_at (x ∷ ks) c k (suc n) e f = code_at ks c k n e f
 
 -- ---- codes of name classes

@@ -9,6 +9,7 @@ use Rattle.std.specs.Map.{lookup, values_of}
 use Rattle.std.specs.Prelude.{not}
 use Rattle.std.specs.Str.{bytes_eq}
 use Rattle.std.proofs.lemmas.List.{map_more, take-append-drop, map-append, take_all}
+use Rattle.std.proofs.lemmas.Option.{same_Some, none-some}
 use Rattle.rng_model.specs.names.Lists.{Among, here}
 use Rattle.rnc_grammar.specs.declared.file_tree.FileTree as declared
 use Rattle.rnc_model.specs.declarations.FileTree as tree
@@ -18,14 +19,11 @@ use Rattle.rnc_model.specs.loading.Loading.{TakenFiles, tree_in, BreaksInclude, 
 use Rattle.rnc_model.specs.loading.GrammarNames.{HasName}
 use Rattle.rnc_model.specs.loading.SchemaFile.{Name}
 use Rattle.rng_load.proofs.MentionedNames.{tree_found}
-use Rattle.rng_load.proofs.NameLists.{some_is, in_none, in_left, in_right, in_more, in_map, from_map}
+use Rattle.rng_load.proofs.NameLists.{in_none, in_left, in_right, in_more, in_map, from_map}
 use Rattle.rng_load.proofs.ReadInOrder.{entries_of}
 
 no_truth : IsTrue false → ⊥
 no_truth t = cc
-
-none_some : {A : Type 0} {x : A} → None ≡ Some x → ⊥
-none_some e = cc
 
 -- ---- one include
 
@@ -33,8 +31,8 @@ module _ (read : TakenFiles) (m : Mention) (over : tree.Components) where
   pub unread : tree_in read m.href ≡ None → IsTrue false ↔ BreaksInclude read m over
   unread none = (λ t. absurd (no_truth t), λ b. absurd (breaks b)) where
     breaks : BreaksInclude read m over → ⊥
-    breaks (no_grammar is e) = none_some (sym none ∙ is)
-    breaks (nothing_to_override is e h n) = none_some (sym none ∙ is)
+    breaks (no_grammar is e) = none-some _ (sym none ∙ is)
+    breaks (nothing_to_override is e h n) = none-some _ (sym none ∙ is)
 
   module _ (t : FileTree) (is : tree_in read m.href ≡ Some t) where
     pub is_no_grammar : grammar_of t ≡ None → IsTrue true ↔ BreaksInclude read m over
@@ -42,10 +40,10 @@ module _ (read : TakenFiles) (m : Mention) (over : tree.Components) where
 
     module _ (cs : tree.Components) (grammar : grammar_of t ≡ Some cs) where
       its_components : {u : FileTree} {ds : tree.Components} → tree_in read m.href ≡ Some u → grammar_of u ≡ Some ds → ds ≡ cs
-      its_components j e = some_is (sym e ∙ ap grammar_of (some_is (sym j ∙ is)) ∙ grammar)
+      its_components j e = same_Some _ _ (sym e ∙ ap grammar_of (same_Some _ _ (sym j ∙ is)) ∙ grammar)
 
       a_grammar : {u : FileTree} → tree_in read m.href ≡ Some u → grammar_of u ≡ None → ⊥
-      a_grammar j e = none_some (sym e ∙ ap grammar_of (some_is (sym j ∙ is)) ∙ grammar)
+      a_grammar j e = none-some _ (sym e ∙ ap grammar_of (same_Some _ _ (sym j ∙ is)) ∙ grammar)
 
       pub nothing_in_braces : over ≡ tree.no_components → IsTrue false ↔ BreaksInclude read m over
       nothing_in_braces empty = (λ w. absurd (no_truth w), λ b. absurd (breaks b)) where

@@ -14,13 +14,14 @@ use Rattle.rnc_model.specs.declarations.FileTree.{FileTree}
 use Rattle.rnc_grammar.specs.views.View.{file_of}
 use Rattle.rnc_model.specs.loading.Mentions.{MentionedFile, mention_of, mentions_of_component, mentions_of_components}
 use Rattle.std.proofs.lemmas.List.{map-append, take_all, take-append-le, length-map}
+use Rattle.std.proofs.lemmas.Option.{same_Some}
 use Rattle.rng_load.specs.plain.ComponentNames.{Names, gather, gather_component, gather_if, HasIt, no_names}
 use Rattle.rnc_model.specs.loading.Loading.{TakenFiles, with_name, tree_in, hrefs_of}
 use Rattle.rnc_model.specs.loading.FileGrammars.{grammar_if, grammar_in}
 use Rattle.rnc_model.specs.loading.GrammarNames.{HasName, NamesIt, of_first, of_later, of_start, of_define, of_div, of_braces, of_file}
 use Rattle.rnc_model.specs.loading.SchemaFile.{Name}
 use Rattle.rng_load.proofs.MentionedNames.{tree_found}
-use Rattle.rng_load.proofs.NameLists.{some_is, any_in, in_any, from_map, false_true, in_cons, in_none, in_first, in_left, in_right, in_at, none_twice, no_more}
+use Rattle.rng_load.proofs.NameLists.{any_in, in_any, from_map, false_true, in_cons, in_none, in_first, in_left, in_right, in_at, none_twice, no_more}
 use Rattle.rng_load.proofs.TakenFiles.{kept_name, added_name, name_origin, name_grows, name_differs}
 use Rattle.rng_load.proofs.NameSets.{any_seen}
 use Rattle.rng_load.proofs.PlainReading.{grammar_mentions}
@@ -294,7 +295,7 @@ module _ (read : TakenFiles) where
       covered = still_covered (gather_extends gcs all) g.covered;
       closed = λ h hcs a i. elim (one_more_taken all.included looked at (front_taken h a)) [
         | inl b ↦ still_covered (gather_extends gcs all) (g.closed h hcs b i)
-        | inr s ↦ subst (Covers (gather all gcs)) (some_is (sym is ∙ ap (grammar_in read) (sym s) ∙ i)) (record {
+        | inr s ↦ subst (Covers (gather all gcs)) (same_Some _ _ (sym is ∙ ap (grammar_in read) (sym s) ∙ i)) (record {
           before = all;
           extends = same
               (gather all gcs);

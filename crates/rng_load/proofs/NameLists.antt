@@ -4,14 +4,12 @@ use Rattle.std.proofs.Common.{Some, slice_get, get_or, ◌<◌}
 use Rattle.std.specs.List.{list_any}
 use Rattle.std.specs.Str.{bytes_eq}
 use Rattle.std.proofs.lemmas.Slice.Eq.{bytes_eq-Decides}
+use Rattle.std.proofs.lemmas.Bool.{or_left, or_right}
 use Rattle.rng_model.specs.names.Lists.{Among, here, there, HasTwice, at_first, later}
 use Rattle.rnc_model.specs.loading.SchemaFile.{Name}
 
 pub false_true : false ≡ true → ⊥
 false_true h = cc
-
-pub some_is : {A : Type 0} {x y : A} → Some x ≡ Some y → x ≡ y
-some_is e = cc
 
 module _ {A : Type 0} where
   pub in_none : {x : A} → Among x [] → ⊥
@@ -122,14 +120,6 @@ in_by n m ns false e h ih = there (ih h)
 pub any_in : (n : Name) (ns : List Name) → list_any (λ m. bytes_eq n m) ns ≡ true → Among n ns
 any_in n [] h = absurd (false_true h)
 any_in n (m ∷ ns) h = in_by n m ns (bytes_eq n m) refl h (any_in n ns)
-
-pub or_right : (b c : Bool) → c ≡ true → (b || c) ≡ true
-or_right true c h = refl
-or_right false c h = h
-
-pub or_left : (b c : Bool) → b ≡ true → (b || c) ≡ true
-or_left true c h = refl
-or_left false c h = absurd (false_true h)
 
 pub in_any : {n : Name} {ns : List Name} → Among n ns → list_any (λ m. bytes_eq n m) ns ≡ true
 in_any {n} (here {xs}) = or_left (bytes_eq n n) (list_any (λ k. bytes_eq n k) xs) ((bytes_eq-Decides n n).1 refl)

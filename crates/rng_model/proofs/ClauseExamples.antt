@@ -19,8 +19,9 @@ use Rattle.rng_model.specs.schema.SchemaClauses as clauses
 use Rattle.rng_model.specs.schema.SchemaClauses.{BreaksClause, any_in_any, any_but_is, itself}
 use Rattle.rng_model.specs.declared.method.Method.TheVariants.{Choice, Interleave}
 use Rattle.std.proofs.lemmas.Bool.{true≢false}
+use Rattle.std.proofs.lemmas.Option.{same_Some}
 use Rattle.rng_model.proofs.Unfolding.{not_both, one_definition}
-use Rattle.rng_model.proofs.SchemaExamples.{named, an_element_of, start, one_grammar, only_main, some_is, in_main, looping, no_tree_of_c}
+use Rattle.rng_model.proofs.SchemaExamples.{named, an_element_of, start, one_grammar, only_main, in_main, looping, no_tree_of_c}
 
 -- the pattern of the start of a schema with no other component is written there
 start_written : {p q : Pattern} → in_pattern.IsWrittenIn q p → IsWrittenAt (one_grammar (start p ∷ [])) [] q
@@ -86,7 +87,7 @@ ref_loops {t = t} (u.found {a = a} e b w) f = no_tree_of_c t (subst (λ g. IsTre
 
 start_loops : (t : Tree Leaf) → IsTreeOf looping (main_start looping) t → ⊥
 unfolding body
-start_loops t v = ref_loops (subst (λ a. Unfolds looping [] a t) (sym (some_is v.1)) v.2) refl
+start_loops t v = ref_loops (subst (λ a. Unfolds looping [] a t) (sym (same_Some _ _ v.1)) v.2) refl
 
 s16 : BreaksClause looping 16
 s16 = clauses.in_schema (clauses.in_expansion (clauses.of_start start_loops))

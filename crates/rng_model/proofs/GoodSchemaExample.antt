@@ -3,6 +3,7 @@
 use Rattle.std.proofs.Common.{◌≡◌, refl, sym, subst, ap, ◌∙◌, ◌⊎◌, inl, inr, arith, ℕ, suc, ◌<◌, List, [], ◌∷◌, Some, codes, slice_get}
 use Rattle.std.proofs.Common.{Contains, zero, Bool, true, false, true≢false}
 use Rattle.std.proofs.lemmas.List.Elements.{All-nil, All-cons, All-contains, Contains-push}
+use Rattle.std.proofs.lemmas.Option.{same_Some}
 use Rattle.rng_model.specs.names.Lists.{Among, here, there, HasTwo, first_and, both_later}
 use Rattle.rng_model.specs.names.Names.{Name, NameClass, name_is}
 use Rattle.rng_model.specs.simple.Tree as tree
@@ -33,7 +34,7 @@ use Rattle.rng_model.specs.restrictions.Restrictions as restrictions
 use Rattle.rng_model.specs.declared.method.Method.TheVariants.{Choice}
 use Rattle.rng_model.proofs.SimpleTrees.{same_simple}
 use Rattle.rng_model.proofs.Unfolding.{one_tree}
-use Rattle.rng_model.proofs.SchemaExamples.{named, start, one_grammar, only_main, some_is, no_components}
+use Rattle.rng_model.proofs.SchemaExamples.{named, start, one_grammar, only_main, no_components}
 
 abbrev texts : Pattern
 texts = joined interleave text text no_patterns
@@ -80,7 +81,7 @@ written : {x : Place} {q : Pattern} → IsWrittenAt good x q → IsOneOf q
 written {x} w = in_start (only_main x w.there) w.written
 
 components_are : {cs ds : List Component} (x : Place) → (one_grammar cs).components x ≡ Some ds → ds ≡ cs
-components_are [] e = sym (some_is e)
+components_are [] e = sym (same_Some _ _ e)
 components_are (n ∷ x) e = absurd (no_components e)
 
 only_one : {c : Component} → Among c (start whole ∷ []) → c ≡ start whole
@@ -174,7 +175,7 @@ body_tree = u.joined_is (u.joined_is u.text_is u.text_is u.none_is) u.not_allowe
 
 one_start : {t : Tree Leaf} → IsTreeOf good (main_start good) t → t ≡ as_tree (s_leaf the_element)
 unfolding body
-one_start {t} v = one_tree good (subst (λ a. Unfolds good [] a t) (sym (some_is v.1)) v.2) (u.element_is refl)
+one_start {t} v = one_tree good (subst (λ a. Unfolds good [] a t) (sym (same_Some _ _ v.1)) v.2) (u.element_is refl)
 
 one_body : {l : Leaf} {t : Tree Leaf} → l ≡ the_element → IsBodyOf good l t → t ≡ as_tree simple_inside
 one_body {t = t} e v = one_tree good (subst (λ m. IsBodyOf good m t) e v) body_tree
@@ -451,7 +452,7 @@ is_body : HasBody (named (codes "a")) s_not_allowed
 is_body = (Contains-push [] element_of_form, λ n i. no_leaves i)
 
 the_bodies : (k : ℕ) (c : NameClass) (p : Simple ℕ) → slice_get the_grammar.elements k ≡ Some (c, p) → HasBody c p
-the_bodies zero c p e = subst (λ x. HasBody x.0 x.1) (some_is e) is_body
+the_bodies zero c p e = subst (λ x. HasBody x.0 x.1) (same_Some _ _ e) is_body
 the_bodies (suc k) c p e = absurd (nothing_behind e) where
   nothing_behind : {x : NameClass × Simple ℕ} → slice_get [] k ≡ Some x → ⊥
   nothing_behind f = cc

@@ -1,5 +1,6 @@
 -- Small schemas: their definitions, and the trees of these.
 use Rattle.std.proofs.Common.{◌≡◌, refl, ap, sym, subst, ℕ, List, [], ◌∷◌, Option, Some, None, codes}
+use Rattle.std.proofs.lemmas.Option.{same_Some}
 use Rattle.rng_model.specs.names.Names.{NameClass, name_is}
 use Rattle.rng_model.specs.simple.Tree as tree
 use Rattle.rng_model.specs.simple.Tree.{Tree, choice, group, interleave}
@@ -33,15 +34,12 @@ at_main cs (n ∷ x) = None
 abbrev pub one_grammar : List Component → Schema
 one_grammar cs = record { main = []; components = at_main cs; outer = λ z. None }
 
-pub some_is : {A : Type 0} {x y : A} → Some x ≡ Some y → x ≡ y
-some_is e = cc
-
 pub no_components : {cs : List Component} → None ≡ Some cs → ⊥
 no_components e = cc
 
 -- a component at any place is in the main grammar
 pub only_main : {cs : List Component} (x : Place) {c : Component} → HasComponent (one_grammar cs) x c → Among c cs
-only_main [] {c} h = subst (λ ds. Among c ds) (sym (some_is h.there)) h.among
+only_main [] {c} h = subst (λ ds. Among c ds) (sym (same_Some _ _ h.there)) h.among
 only_main (n ∷ x) h = absurd (no_components h.there)
 
 -- a definition of the main grammar

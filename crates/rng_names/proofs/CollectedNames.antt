@@ -2,7 +2,7 @@
 use Rattle.std.proofs.Common.{◌≡◌, refl, sym, ap, ◌∙◌, subst, ℕ, suc, ◌<◌, ◌≤◌, ◌+◌, Bool, true, false, ◌||◌, ◌⊎◌, inl, inr, ⊎_elim, true≢false, arith}
 use Rattle.std.proofs.Common.{List, [], ◌∷◌, Option, Some, None, Result, Ok, Err, OnOk, option_map, map, length, get_or, slice_get, bytes_eq}
 use Rattle.std.specs.Map.{lookup}
-use Rattle.std.proofs.lemmas.Bool.{cases_lt}
+use Rattle.std.proofs.lemmas.Bool.{cases_lt, or_cases}
 use Rattle.std.proofs.lemmas.List.{length-map}
 use Rattle.std.proofs.lemmas.Option.{none-some, same_Some, slice_get-map, slice_get_read, slice_get_within}
 use Rattle.std.proofs.lemmas.Slice.Eq.{bytes_eq-Decides}
@@ -41,17 +41,8 @@ still_known old new c grows known = record {
 
 -- ---- what is written in a class, in terms of its parts
 
--- a test that fails
-pub off : (b : Bool) → (b ≡ true → ⊥) → b ≡ false
-off true none = absurd (none refl)
-off false none = refl
-
-either : (x y : Bool) → (x || y) ≡ true → (x ≡ true) ⊎ (y ≡ true)
-either true y e = inl refl
-either false y e = inr e
-
 from_either : {P : Type 0} (x y : Bool) → (x ≡ true → P) → (y ≡ true → P) → (x || y) ≡ true → P
-from_either x y f g e = ⊎_elim f g (either x y e)
+from_either x y f g e = ⊎_elim f g (or_cases x y e)
 
 module _ (w : Written) where
   pub knows_any : Knows w any_name

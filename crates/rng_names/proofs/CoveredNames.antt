@@ -5,6 +5,7 @@ use Rattle.std.specs.List.{list_any}
 use Rattle.std.proofs.lemmas.List.{take_all}
 use Rattle.std.proofs.lemmas.List.Folds.{list_any_more}
 use Rattle.std.proofs.lemmas.Slice.Eq.{bytes_eq-Decides}
+use Rattle.std.proofs.lemmas.Bool.{or_parts}
 use Rattle.rng_model.specs.names.Names.{Name, NameClass, some_of}
 use Rattle.rng_model.specs.plain.ClassesApart.{AreApart}
 use Rattle.rng_names.specs.plain.Holding.{holds}
@@ -46,20 +47,16 @@ module _ {A : Type 0} (f : A → NameClass) (xs : List A) where
 abbrev pub is_listed : List (Bor (List ℕ)) → List ℕ → Bool
 is_listed keys u = list_any (λ k. bytes_eq u k.now) keys
 
-neither : (x y : Bool) → (x || y) ≡ false → (x ≡ false) × (y ≡ false)
-neither true y e = search rules
-neither false y e = (refl, e)
-
 pub listed_apart : (keys others : List (Bor (List ℕ))) (u : List ℕ) → list_any (λ k. is_listed keys k.now) others ≡ false → is_listed keys u ≡ true
     → is_listed others u ≡ false
 listed_apart keys [] u none e = refl
 listed_apart keys (k ∷ others) u none e =
-    let parts = neither (is_listed keys k.now) _ none in
+    let parts = or_parts (is_listed keys k.now) _ none in
     ap₂ (λ x y. x || y) (by (bytes_eq u k.now) refl) (listed_apart keys others u parts.1 e) where
       by : (b : Bool) → bytes_eq u k.now ≡ b → bytes_eq u k.now ≡ false
       by false f = f
       by true f =
-          let here : is_listed keys k.now ≡ false = (neither (is_listed keys k.now) _ none).0 in
+          let here : is_listed keys k.now ≡ false = (or_parts (is_listed keys k.now) _ none).0 in
           let same : u ≡ k.now = (bytes_eq-Decides u k.now).0 f in
           absurd (clash (is_listed keys k.now) (ap (is_listed keys) (sym same) ∙ e) here) where
             clash : (x : Bool) → x ≡ true → x ≡ false → ⊥

@@ -2,6 +2,7 @@
 use Rattle.std.proofs.Common.{◌≡◌, refl, sym, subst, ap, ap₂, ◌∙◌, ℕ, ◌+◌, ◌≤◌, ◌⊎◌, inl, inr, List, [], ◌∷◌, ◌++◌, length, length-append, slice_get}
 use Rattle.std.proofs.Common.{Some, Bool, true, false, not, ◌&&◌, ◌||◌, arith, rules}
 use Rattle.std.proofs.lemmas.Option.{none-some}
+use Rattle.std.proofs.lemmas.Bool.{or_right}
 use Rattle.rng_model.specs.names.Names.{Name, NameClass}
 use Rattle.rng_model.specs.names.NameViews.{class_of}
 use Rattle.rng_names.specs.plain.Holding.{holds}
@@ -141,9 +142,5 @@ except_beyond xs k e q inside held scope there is =
 pub out_of_scope : (e : Excepted) (q : Name) → in_scope e.ns q.ns ≡ false → excepted_test q e ≡ false
 out_of_scope e q off = ap (λ x. x && not (holds (class_of e.except.now) q)) off
 
-or-last : (x y : Bool) → y ≡ true → (x || y) ≡ true
-or-last true y e = refl
-or-last false y e = e
-
 pub held_by_except : (all : Alternatives) (q : Name) → Stands all → excepted_hold all q ≡ true → holds (class_of all.class.now) q ≡ true
-held_by_except all q stands e = sym (stands q) ∙ or-last (told all q) (excepted_hold all q) e
+held_by_except all q stands e = sym (stands q) ∙ or_right (told all q) (excepted_hold all q) e

@@ -1,6 +1,7 @@
 -- A text that is longer than all that are written represents every text that is not written.
 use Rattle.std.proofs.Common.{◌≡◌, ℕ, ◌<◌, max, bytes_eq, List, length, Bool, true, false, not, ◌&&◌, ◌||◌, refl, ap, ap₂, sym, ◌∙◌, subst, rules, arith}
 use Rattle.std.proofs.lemmas.Slice.Eq.{bytes_eq-Decides}
+use Rattle.std.proofs.lemmas.Bool.{or_from, and_left, or_parts, or_right, or_left}
 use Rattle.rng_model.specs.names.Names.{Name, NameClass, NameClasses, any_name, any_except, ns_name, ns_except, name_is, one_of, no_classes, class_and}
 use Rattle.rng_model.specs.plain.ClassesApart.{AreApart}
 use Rattle.rng_names.specs.plain.Holding.{holds, some_hold, pair}
@@ -9,21 +10,9 @@ use Rattle.rng_names.proofs.Holding.{same_name-Decides, holds-Decides}
 
 -- ---- tests
 
-pub or_left : (x y : Bool) → x ≡ true → (x || y) ≡ true
-or_left true y e = refl
-or_left false y e = search rules
-
-pub or_right : (x y : Bool) → y ≡ true → (x || y) ≡ true
-or_right true y e = refl
-or_right false y e = e
-
 or_both : (x y z w : Bool) → (x ≡ true → z ≡ true) → (y ≡ true → w ≡ true) → (x || y) ≡ true → (z || w) ≡ true
 or_both true y z w f g e = or_left z w (f refl)
 or_both false y z w f g e = or_right z w (g e)
-
-neither : (x y : Bool) → (x || y) ≡ false → (x ≡ false) × (y ≡ false)
-neither true y e = search rules
-neither false y e = (refl, e)
 
 never : (x : Bool) → false ≡ true → x ≡ true
 never x e = search rules
@@ -77,14 +66,6 @@ mutual
 -- ---- a name that is not written is like any other of its namespace that is not, and so like the one with the fresh
 -- local name
 
-and-off : (x y : Bool) → x ≡ false → (x && y) ≡ false
-and-off false y e = refl
-and-off true y e = search rules
-
-or-off : (x y : Bool) → x ≡ false → y ≡ false → (x || y) ≡ false
-or-off false y e f = f
-or-off true y e f = search rules
-
 mutual
   pub like_unwritten : (c : NameClass) (u v w : List ℕ) → writes_name c (pair u v) ≡ false → writes_name c (pair u w) ≡ false
       → holds c (pair u v) ≡ holds c (pair u w)
@@ -94,10 +75,10 @@ mutual
   like_unwritten (ns_except x c) u v w e f = ap (λ b. bytes_eq x u && not b) (like_unwritten c u v w e f)
   like_unwritten (name_is n) u v w e f = e ∙ sym f
   like_unwritten (one_of c d cs) u v w e f =
-      let first = neither _ _ e in
-      let rest = neither _ _ first.1 in
-      let first' = neither _ _ f in
-      let rest' = neither _ _ first'.1 in
+      let first = or_parts _ _ e in
+      let rest = or_parts _ _ first.1 in
+      let first' = or_parts _ _ f in
+      let rest' = or_parts _ _ first'.1 in
       ap₂ (λ x y. x || y) (like_unwritten c u v w first.0 first'.0)
       (ap₂ (λ x y. x || y) (like_unwritten d u v w rest.0 rest'.0) (some_like_unwritten cs u v w rest.1 rest'.1))
 
@@ -105,8 +86,8 @@ mutual
       → some_hold cs (pair u v) ≡ some_hold cs (pair u w)
   some_like_unwritten no_classes u v w e f = refl
   some_like_unwritten (class_and c cs) u v w e f =
-      let apart = neither _ _ e in
-      let apart' = neither _ _ f in
+      let apart = or_parts _ _ e in
+      let apart' = or_parts _ _ f in
       ap₂ (λ x y. x || y) (like_unwritten c u v w apart.0 apart'.0) (some_like_unwritten cs u v w apart.1 apart'.1)
 
 mutual
@@ -115,17 +96,17 @@ mutual
   unwritten (any_except c) u fresh less = unwritten c u fresh less
   unwritten (ns_name x) u fresh less = refl
   unwritten (ns_except x c) u fresh less = unwritten c u fresh (max-below (length x) (longest c) _ less).1
-  unwritten (name_is n) u fresh less = and-off (bytes_eq n.local fresh) (bytes_eq n.ns u) (shorter n.local fresh (max-below _ _ _ less).1)
+  unwritten (name_is n) u fresh less = and_left (bytes_eq n.local fresh) (bytes_eq n.ns u) (shorter n.local fresh (max-below _ _ _ less).1)
   unwritten (one_of c d cs) u fresh less =
       let below = max-below (longest c) (max (longest d) (longest_of cs)) _ less in
       let after = max-below (longest d) (longest_of cs) _ below.1 in
-      or-off _ _ (unwritten c u fresh below.0) (or-off _ _ (unwritten d u fresh after.0) (none_written cs u fresh after.1))
+      or_from _ _ (unwritten c u fresh below.0) (or_from _ _ (unwritten d u fresh after.0) (none_written cs u fresh after.1))
 
   none_written : (cs : NameClasses) (u fresh : List ℕ) → longest_of cs < length fresh → some_write_name cs (pair u fresh) ≡ false
   none_written no_classes u fresh less = refl
   none_written (class_and c cs) u fresh less =
       let below = max-below (longest c) (longest_of cs) _ less in
-      or-off _ _ (unwritten c u fresh below.0) (none_written cs u fresh below.1)
+      or_from _ _ (unwritten c u fresh below.0) (none_written cs u fresh below.1)
 
 pub like_local : (c : NameClass) (q : Name) (fresh : List ℕ) → writes_name c q ≡ false → longest c < length fresh → holds c q ≡ holds c (pair q.ns fresh)
 like_local c q fresh e less = like_unwritten c q.ns q.local fresh e (unwritten c q.ns fresh less)
@@ -141,13 +122,13 @@ mutual
   like_ns (any_except c) v w fresh e less = ap not (like_ns c v w fresh e less)
   like_ns (ns_name u) v w fresh e less = other_ns u v fresh e less
   like_ns (ns_except u c) v w fresh e less =
-      let apart = neither _ _ e in
+      let apart = or_parts _ _ e in
       let below = max-below (length u) (longest c) _ less in
       ap₂ (λ x y. x && not y) (other_ns u v fresh apart.0 below.0) (like_ns c v w fresh apart.1 below.1)
   like_ns (name_is n) v w fresh e less = ap (λ b. bytes_eq n.local w && b) (other_ns n.ns v fresh e (max-below (length n.ns) (length n.local) _ less).0)
   like_ns (one_of c d cs) v w fresh e less =
-      let first = neither _ _ e in
-      let rest = neither _ _ first.1 in
+      let first = or_parts _ _ e in
+      let rest = or_parts _ _ first.1 in
       let below = max-below (longest c) (max (longest d) (longest_of cs)) _ less in
       let after = max-below (longest d) (longest_of cs) _ below.1 in
       ap₂ (λ x y. x || y) (like_ns c v w fresh first.0 below.0)
@@ -157,7 +138,7 @@ mutual
       → some_hold cs (pair v w) ≡ some_hold cs (pair fresh w)
   some_like_ns no_classes v w fresh e less = refl
   some_like_ns (class_and c cs) v w fresh e less =
-      let apart = neither _ _ e in
+      let apart = or_parts _ _ e in
       let below = max-below (longest c) (longest_of cs) _ less in
       ap₂ (λ x y. x || y) (like_ns c v w fresh apart.0 below.0) (some_like_ns cs v w fresh apart.1 below.1)
 

@@ -2,7 +2,7 @@
 use Rattle.std.proofs.Common.{◌≡◌, refl, sym, ap, ap₂, ◌∙◌, subst, ℕ, zero, suc, ◌<◌, ◌≤◌, ◌+◌, Bool, true, false, not, ◌&&◌, ◌||◌, ◌⊎◌, inl, inr, ⊎_elim}
 use Rattle.std.proofs.Common.{List, [], ◌∷◌, Option, Some, None, option_map, map, length, length-append, get_or, slice_get, slice_set, bytes_eq, arith}
 use Rattle.std.specs.List.{list_any}
-use Rattle.std.proofs.lemmas.Bool.{cases_eq, cases_lt}
+use Rattle.std.proofs.lemmas.Bool.{cases_eq, cases_lt, false_from_ne_true}
 use Rattle.std.proofs.lemmas.List.{length-set}
 use Rattle.std.proofs.lemmas.Option.{none-some, same_Some, slice_get-get_or, slice_get-map, slice_get_within}
 use Rattle.rng_model.specs.names.Names.{Name, NameClass, any_except, ns_except, name_is, some_of}
@@ -11,7 +11,7 @@ use Rattle.rng_names.specs.plain.Written.{writes_name}
 use Rattle.rng_names.specs.plain.Regions.{AddsPart, AreSorted, Begins, Extends, HasBegun, HoldsAlike, IsIn, IsNew, NotesRegion, Puts, Sorted}
 use Rattle.rng_names.specs.plain.WrittenNames.{Grows, Knows, Written}
 use Rattle.rng_names.proofs.ClassChoices.{holds-members}
-use Rattle.rng_names.proofs.CollectedNames.{HoldsBefore, IsKnown, holds_of_all, holds_on, name_put, off}
+use Rattle.rng_names.proofs.CollectedNames.{HoldsBefore, IsKnown, holds_of_all, holds_on, name_put}
 use Rattle.rng_names.proofs.FreshTexts.{like_unwritten}
 use Rattle.rng_names.proofs.Holding.{same_name-Decides}
 use Rattle.rng_names.proofs.KeyLookups.{at_end}
@@ -48,7 +48,7 @@ module _ (r : ℕ) (c : NameClass) (old new : Sorted) (begun : HasBegun old r) (
       by (inl a) (inl b) = alike s u l m counts other a b
       by (inl a) (inr b) = absurd (not_both s (pair u l) other a b.1)
       by (inr a) (inl b) = absurd (not_both s (pair u m) other b a.1)
-      by (inr a) (inr b) = like_unwritten c u l m (off _ (λ is. known (pair u l) is a.0)) (off _ (λ is. known (pair u m) is b.0))
+      by (inr a) (inr b) = like_unwritten c u l m (false_from_ne_true _ (λ is. known (pair u l) is a.0)) (false_from_ne_true _ (λ is. known (pair u m) is b.0))
 
 pub still_alike_known : (r : ℕ) (c : NameClass) (old new : Sorted) (w : Written) → w.names ≡ old.names → HasBegun old r → Extends r old new → Knows w c
     → HoldsAlike old r c → HoldsAlike new r c
@@ -257,8 +257,8 @@ module _ (r : ℕ) (n : Name) (old new : Sorted) (place : ℕ) (puts : Puts old.
       names = λ s q counts is. ⊎_elim inl (λ b. inr (subst (IsNew old) (sym b.0) b.1, inl b.2)) (now_in s q counts is);
     };
     alike = λ s u l m counts other a b.
-        off _ (λ e. not_this s (pair u l) counts other a ((same_name-Decides n (pair u l)).0 e))
-        ∙ sym (off _ (λ e. not_this s (pair u m) counts other b ((same_name-Decides n (pair u m)).0 e)));
+        false_from_ne_true _ (λ e. not_this s (pair u l) counts other a ((same_name-Decides n (pair u l)).0 e))
+        ∙ sym (false_from_ne_true _ (λ e. not_this s (pair u m) counts other b ((same_name-Decides n (pair u m)).0 e)));
     held = λ q counts is. ⊎_elim inl (λ b. inr ((same_name-Decides n q).1 b.0)) (now_in r q counts is);
   }
 

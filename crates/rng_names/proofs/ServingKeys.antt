@@ -8,10 +8,10 @@ use Rattle.std.proofs.lemmas.Bool.Decides.{same_from_decides}
 use Rattle.std.proofs.lemmas.List.Quantifiers.{position-Some}
 use Rattle.std.proofs.lemmas.List.Sums.{fails_before_first}
 use Rattle.std.proofs.lemmas.Option.{slice_get_within, slice_get-get_or, slice_get-map, get_or_from_slice_get, none-some, same_Some}
+use Rattle.std.proofs.lemmas.Bool.{false_from_ne_true}
 use Rattle.rng_model.specs.names.Names.{Name, NameClass, In}
 use Rattle.rng_names.specs.plain.Holding.{holds, pair, same_name}
 use Rattle.rng_names.specs.plain.Written.{longest, writes_name, writes_ns}
-use Rattle.rng_names.proofs.CollectedNames.{off}
 use Rattle.rng_names.proofs.FreshTexts.{like_local, like_ns, like_unwritten}
 use Rattle.rng_names.proofs.Holding.{holds-Decides, same_name-Decides}
 use Rattle.rng_model.specs.restrictions.Restrictions.{ClassIn}
@@ -55,11 +55,11 @@ module _ (w : Written) (places : Places) (told : IsTold w places) (fresh : List 
   by_namespace : (o : Option ℕ) → lookup (bytes_eq q.ns) places.others ≡ o → writes_name c q ≡ false → SameAt (unwrap_or o 0)
   by_namespace (Some k) e none =
       let beyond = told.others q.ns k e in
-      let other : writes_name c (pair q.ns beyond.local) ≡ false = off _ (λ is. let has = known.names (pair q.ns beyond.local) is in
+      let other : writes_name c (pair q.ns beyond.local) ≡ false = false_from_ne_true _ (λ is. let has = known.names (pair q.ns beyond.local) is in
       let longer = beyond.longer (length beyond.local) has.measured in let none : ⊥ = omega (arith, longer) in none) in
       like_unwritten c q.ns q.local beyond.local none other ∙ ap (holds c) (sym (stands k (pair q.ns beyond.local) beyond.at))
   by_namespace None e none =
-      let unwritten : writes_ns c q.ns ≡ false = off _ (λ is. let has = told.all q.ns 0 (known.namespaces q.ns is) in none_there _ e has.0 has.1) in
+      let unwritten : writes_ns c q.ns ≡ false = false_from_ne_true _ (λ is. let has = told.all q.ns 0 (known.namespaces q.ns is) in none_there _ e has.0 has.1) in
       like_local c q fresh none less ∙ like_ns c q.ns fresh fresh unwritten less ∙ ap (holds c) (sym (stands 0 (pair fresh fresh) first))
 
   by_name : (o : Option ℕ) → position (same_name q) places.names ≡ o → SameAt (unwrap_or o (unwrap_or (lookup (bytes_eq q.ns) places.others) 0))
@@ -68,7 +68,7 @@ module _ (w : Written) (places : Places) (told : IsTold w places) (fresh : List 
       ap (holds c) (sym ((same_name-Decides q (name_there places k)).0 found.1))
   by_name None e =
       by_namespace (lookup (bytes_eq q.ns) places.others) refl
-      (off _ (λ is. let has = known.names q is in has_position q places.names has.place (told.names has.place q has.at) e))
+      (false_from_ne_true _ (λ is. let has = known.names q is in has_position q places.names has.place (told.names has.place q has.at) e))
 
   -- a class whose texts are all shorter than the fresh one holds a name exactly if it holds the name at its
   -- place

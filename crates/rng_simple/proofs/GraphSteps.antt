@@ -5,7 +5,7 @@ use Rattle.std.proofs.Common.{map, take, length, length-append, slice_get, Optio
 use Rattle.std.proofs.lemmas.List.{take_all, take_more, take-append-le, length-map}
 use Rattle.std.proofs.lemmas.List.Elements.{Contains-push_cases}
 use Rattle.std.proofs.lemmas.List.Sums.{fold_push}
-use Rattle.std.proofs.lemmas.Option.{slice_get_within, get_or_from_slice_get}
+use Rattle.std.proofs.lemmas.Option.{slice_get_within, get_or_from_slice_get, none-some}
 use Rattle.rng_model.specs.names.Lists.{Among, here, there, HasTwice, at_first, later}
 use Rattle.rng_model.specs.simple.Tree.{Tree}
 use Rattle.rng_model.specs.schema.Patterns.{Point, pattern_tree}
@@ -25,7 +25,7 @@ use Rattle.rng_simple.proofs.Graphs.{contains_found, found}
 use Rattle.rng_simple.proofs.ListParts.{at_end, in_front, map_at}
 use Rattle.rng_simple.proofs.GrowingGraphs.{front}
 use Rattle.rng_simple.proofs.ResolvedPatterns.{IsNumbering, asked, is_there, is_new, none_there, stays}
-use Rattle.rng_simple.proofs.ResolvedBodies.{body_resolves, cons_is_not_nil, none_is_not_some}
+use Rattle.rng_simple.proofs.ResolvedBodies.{body_resolves, cons_is_not_nil}
 use Rattle.rng_simple.proofs.ComponentTables.{out_of_range}
 
 -- the elements of the first n definitions
@@ -168,8 +168,8 @@ unfolding body
 has_components s d a e n = among (s.components d.place) e n
   where
     among : (o : Option (List Component)) → body_among d.name o ≡ Some a → filter (λ c. same_name d.name c.name) (given o) ≡ [] → ⊥
-    among None e n = none_is_not_some e
-    among (Some cs) e n = none_is_not_some (ap (nested (combining_connector d.name cs)) (sym (none_named d.name 0 cs n)) ∙ e)
+    among None e n = none-some _ e
+    among (Some cs) e n = none-some _ (ap (nested (combining_connector d.name cs)) (sym (none_named d.name 0 cs n)) ∙ e)
 
 pub fewer : (s : Schema) → IsReady s → (t : Table) → IsTable t → ((d : Definition) → components_of t d ≡ schema_components s d)
     → (v : Numbering) (bodies : List (Tree Spot))

@@ -1,7 +1,7 @@
 -- If a schema breaks the clause about datatypes nowhere, each datatype of its simple form is known.
 use Rattle.std.proofs.Common.{◌≡◌, refl, subst, ℕ, ◌+◌, Bool, true, false, if◌then◌else◌, List, [], ◌∷◌, Option, Some, None, is_some, IsTrue, get_or, slice_get}
 use Rattle.std.proofs.lemmas.List.Elements.{All-contains, All-from_get_or}
-use Rattle.std.proofs.lemmas.Option.{slice_get-get_or}
+use Rattle.std.proofs.lemmas.Option.{slice_get-get_or, none-some}
 use Rattle.rng_model.specs.names.Lists.{Among, here, there}
 use Rattle.rng_model.specs.names.Names.{NameClass, any_name}
 use Rattle.rng_model.specs.simple.Tree.{Connector, Tree, not_allowed, empty, text, leaf, attribute, list, data_of, data_except, value, mixed, optional}
@@ -28,7 +28,6 @@ use Rattle.rng_model.specs.schema.Unfolding.{Leaf, to_element, outside, aim, Unf
 use Rattle.rng_model.specs.schema.Reached.{IsReachedBySimpleForms, from_simple_start, from_simple_body}
 use Rattle.rng_model.proofs.Unfolding.{some_is}
 use Rattle.rng_schema_checks.proofs.KeptDatatypes.{data_known, data_except_known, value_allowed}
-use Rattle.rng_simple.proofs.ResolvedBodies.{none_is_not_some}
 use Rattle.rng_simple.specs.plain.KnownDatatypes.{AreDatatypesKnown, AreGrammarDatatypesKnown, IsValueDatatype}
 
 first : {A B : Type 0} → A × B → A
@@ -137,7 +136,7 @@ module _ {L : Type 0} (P : L → Type 0) where
   from_known k a (b ∷ ts) h hs = from_known k (joined k a b no_trees) ts (h, (first hs, tt)) (second hs)
 
   nested_known : (k : Connector) (ts : List (Tree L)) (a : Tree L) → nested k ts ≡ Some a → AreAllKnown ts → IsKnownTree a
-  nested_known k [] a e hs = absurd (none_is_not_some e)
+  nested_known k [] a e hs = absurd (none-some _ e)
   nested_known k (t ∷ ts) a e hs = subst IsKnownTree (some_is refl e) (from_known k t ts (first hs) (second hs))
 
 -- ---- trees of a schema
@@ -203,7 +202,7 @@ module _ (s : Schema) (kept : ¬ (BreaksDatatype s)) where
   body_known d a e = at_components (s.components d.place) refl e
     where
       at_components : (o : Option (List Component)) → s.components d.place ≡ o → body_among d.name o ≡ Some a → IsKnownTree (IsPointThere d.place) a
-      at_components None f e = absurd (none_is_not_some e)
+      at_components None f e = absurd (none-some _ e)
       at_components (Some cs) f e = nested_known (IsPointThere d.place) (combining_connector d.name cs) (trees_named d.name 0 cs) a e
           (trees_known d.place d.name 0 cs (λ c m. record { components = cs; there = f; among = m }))
 

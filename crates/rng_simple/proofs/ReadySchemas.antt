@@ -2,6 +2,7 @@
 use Rattle.std.proofs.Common.{◌≡◌, ◌⊎◌, inl, inr, refl, sym, ap, ◌∙◌, subst, arith, ℕ, ◌+◌, Bool, true, false, true≢false}
 use Rattle.std.proofs.Common.{if◌then◌else◌, List, [], ◌∷◌, Option, Some, None, Contains}
 use Rattle.std.proofs.lemmas.List.Elements.{Contains-append_cases, Contains-append_right, Contains-push_cases}
+use Rattle.std.proofs.lemmas.Option.{none-some}
 use Rattle.rng_model.specs.names.Lists.{Among, here, there}
 use Rattle.rng_model.specs.simple.Tree.{Tree, Connector}
 use Rattle.rng_model.specs.schema.Patterns.{Place, Position, Pattern, not_allowed, empty, text, element, attribute, list, data_of, data_except, value}
@@ -22,7 +23,7 @@ use Rattle.rng_simple.specs.plain.Met.{Met, met_start, met_in_definition, met_in
 use Rattle.rng_simple.specs.plain.ReadySchema.{IsReady}
 use Rattle.rng_simple.proofs.GraphTables.{name_same}
 use Rattle.rng_simple.proofs.ResolvedPatterns.{name_is, none_there}
-use Rattle.rng_simple.proofs.ResolvedBodies.{from_nested, none_is_not_some}
+use Rattle.rng_simple.proofs.ResolvedBodies.{from_nested}
 
 -- ---- what is written in what
 
@@ -116,7 +117,7 @@ named_or_not : (s : Schema) (x : Place) (y : Option (List ℕ)) → IsNamedAt s 
 named_or_not s x y = by_grammar (s.components x) refl
   where
     by_grammar : (o : Option (List Component)) → s.components x ≡ o → IsNamedAt s x y ⊎ ¬ (IsNamedAt s x y)
-    by_grammar None e = inr (λ h. none_is_not_some (sym e ∙ h.1.there))
+    by_grammar None e = inr (λ h. none-some _ (sym e ∙ h.1.there))
     by_grammar (Some cs) e = elim (named_or_none y cs) [
       | inl h ↦ inl (named_there s x y cs e h)
       | inr none ↦ inr (λ h. none h.0 (subst (Among h.0) (some_is h.1.there e) h.1.among) h.2)
@@ -175,7 +176,7 @@ point_of_trees l y n (c ∷ cs) t m i = by_name (same_name y c.name) (λ h. poin
 
 point_of_nested : (k : Connector) (l : Point) (ts : List (Tree Point)) (a : Tree Point) → nested k ts ≡ Some a → LeafIn l a
     → (t : Tree Point) × Contains ts t × LeafIn l t
-point_of_nested k l [] a e i = absurd (none_is_not_some e)
+point_of_nested k l [] a e i = absurd (none-some _ e)
 point_of_nested k l (t ∷ ts) a e i = elim (from_nested k t ts (subst (LeafIn l) (some_is e refl) i)) [
   | inl j ↦ (t, (0, omega arith, refl), j)
   | inr (u, m, j) ↦ (u, Contains-append_right (t ∷ []) ts u m, j)
@@ -186,7 +187,7 @@ unfolding body
 point_of_body s d a l e i = at_components (s.components d.place) refl e
   where
     at_components : (o : Option (List Component)) → s.components d.place ≡ o → body_among d.name o ≡ Some a → IsWrittenAt s d.place (as_written l)
-    at_components None f e = absurd (none_is_not_some e)
+    at_components None f e = absurd (none-some _ e)
     at_components (Some cs) f e =
         let t = point_of_nested (combining_connector d.name cs) l (trees_named d.name 0 cs) a e i in
         let p = point_of_trees l d.name 0 cs t.0 t.1 t.2 in
@@ -211,7 +212,7 @@ module _ (s : Schema) (placed : IsWellPlaced s) (starts : ¬ (HasNoStart s)) (re
   ref_there x y w = elim (named_or_not s x (Some y)) [ inl h ↦ h | inr none ↦ absurd (refs (of_ref w none)) ]
 
   parent_there : (x : Place) (y : List ℕ) → IsWrittenAt s x (parent_ref y) → (o : Option Place) → s.outer x ≡ o → IsThere s (outside y o)
-  parent_there x y w None e = absurd (refs (of_parent_ref w (λ z f h. none_is_not_some (sym e ∙ f))))
+  parent_there x y w None e = absurd (refs (of_parent_ref w (λ z f h. none-some _ (sym e ∙ f))))
   parent_there x y w (Some z) e = elim (named_or_not s z (Some y)) [
     | inl h ↦ h
     | inr none ↦ absurd (refs (of_parent_ref w (λ v f h. none (subst (λ v. IsNamedAt s v (Some y)) (some_is f e) h))))

@@ -3,6 +3,7 @@ use Rattle.std.proofs.Common.{◌≡◌, ◌⊎◌, inl, inr, refl, sym, ap, ap�
 use Rattle.std.proofs.Common.{List, [], ◌∷◌, map, filter, length, Option, Some, None, Contains}
 use Rattle.std.specs.List.{list_any}
 use Rattle.std.proofs.lemmas.List.Elements.{Contains-append_cases, Contains-push_cases}
+use Rattle.std.proofs.lemmas.Option.{none-some}
 use Rattle.rng_model.specs.simple.Tree.{Tree, Connector, choice, interleave, joined, no_trees}
 use Rattle.rng_model.specs.schema.Patterns.{Place, Point, pattern_tree}
 use Rattle.rng_model.specs.schema.Schema.{Schema, Component, Definition, body, body_among, same_name, is_interleaved, trees_named, combining_connector, nested, nested_from}
@@ -20,9 +21,6 @@ use Rattle.rng_simple.proofs.ResolvedPatterns.{IsNumbering, IsMore, IsAfter, mor
 
 later_in : {A : Type 0} {x y : A} (xs : List A) → Contains xs y → Contains (x ∷ xs) y
 later_in xs c = (suc c.0, omega (arith, c.1), c.2)
-
-pub none_is_not_some : {A : Type 0} {x : A} → None ≡ Some x → ⊥
-none_is_not_some e = cc
 
 pub cons_is_not_nil : {A : Type 0} {x : A} {xs : List A} → x ∷ xs ≡ [] → ⊥
 cons_is_not_nil e = cc
@@ -138,7 +136,7 @@ module _ (s : Schema) (found : Met s to_nothing → ⊥) (x : Place) (y : Option
 
   combined_after : (k : Connector) (ts : List (Tree Point)) (a : Tree Point) (rs : List (Tree Spot)) (ls ks : List Leaf) (v w : Numbering)
       → nested k ts ≡ Some a → AreEachAfter s x ls v ts ks (rs, w) → IsAfter s x ls v a ks (combined k rs, w)
-  combined_after k [] a rs ls ks v w e after = absurd (none_is_not_some e)
+  combined_after k [] a rs ls ks v w e after = absurd (none-some _ e)
   combined_after k (t ∷ ts) a [] ls ks v w e after = absurd (cons_is_not_nil after.same)
   combined_after k (t ∷ ts) a (q ∷ qs) ls ks v w e after =
       subst (λ b. IsAfter s x ls v b ks (nested_from k q qs, w)) (some_is refl e) (nested_after k t ts q qs ls ks v w after)
@@ -174,7 +172,7 @@ among_resolves : (s : Schema) → (Met s to_nothing → ⊥) → (d : Definition
     → let cs = filter (λ c. same_name d.name c.name) (given o) in
     let r = resolve_each d.place (s.outer d.place) (map (λ c. c.pattern) cs) v in
     IsAfter s d.place ls v a (with_named_elements d.place d.name 0 (given o) ls) (combined (joining cs) r.0, r.1)
-among_resolves s found d a ls v is met e None f = absurd (none_is_not_some f)
+among_resolves s found d a ls v is met e None f = absurd (none-some _ f)
 among_resolves s found d a ls v is met e (Some cs) f =
     let those = filter (λ c. same_name d.name c.name) cs in
     let k = joining those in

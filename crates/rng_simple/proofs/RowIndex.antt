@@ -3,7 +3,7 @@ use Rattle.std.proofs.Common.{◌≡◌, ◌↔◌, ◌⊎◌, inl, inr, refl, a
 use Rattle.std.proofs.Common.{slice_get, Option, Some, None, rules, arith}
 use Rattle.std.proofs.lemmas.Bool.{cases_lt}
 use Rattle.std.proofs.lemmas.List.{get_or_append_left, get_or_push}
-use Rattle.std.proofs.lemmas.Option.{slice_get_within, slice_get-get_or, get_or_from_slice_get}
+use Rattle.std.proofs.lemmas.Option.{slice_get_within, slice_get-get_or, get_or_from_slice_get, same_Some}
 use Rattle.std.specs.HashMap.{HashMap}
 use Rattle.rng_simple.specs.declared.rows.Row.{Row}
 use Rattle.rng_simple.specs.contracts.rows.RowPartialEq.TheImpl as same
@@ -16,9 +16,6 @@ row_itself : (x : Row) → same.ghosts.eq x x ≡ true
 row_itself x = search rules
 
 -- ---- lists with one more
-
-some_is : {A : Type 0} {x y : A} → Some x ≡ Some y → x ≡ y
-some_is e = cc
 
 not_none : {A : Type 0} {x : A} {o : Option A} → o ≡ None → o ≡ Some x → ⊥
 not_none e f = cc
@@ -51,7 +48,7 @@ module _ {S : Type 0} (xs : List Row) (m n : HashMap Row ℕ S) (r : Row) (is : 
         → number_of_row n q ≡ Some j ↔ slice_get (xs ++ r ∷ []) j ≡ Some q
     by_test q j true e u =
         let x : r ≡ q = row_exact r q e in (
-          λ f. let k : i ≡ j = some_is (sym u ∙ f) in last_of xs r j (sym k ∙ last) ∙ ap Some x,
+          λ f. let k : i ≡ j = same_Some _ _ (sym u ∙ f) in last_of xs r j (sym k ∙ last) ∙ ap Some x,
           λ f. elim (at_end xs r q j f) [
             | inl h ↦ absurd (not_none new (ap (number_of_row m) x ∙ (is q j).1 h))
             | inr h ↦ u ∙ ap Some (last ∙ sym h.0)

@@ -1,14 +1,11 @@
 -- Labels of rows, by their codes.
 use Rattle.std.proofs.Common.{◌≡◌, ap, ap₂, sym, ◌∙◌, ℕ, zero, suc, ◌<◌, List, [], ◌∷◌, ◌++◌, length, map, get_or, slice_get, Some, arith}
 use Rattle.std.proofs.lemmas.List.{length-map, map_push}
-use Rattle.std.proofs.lemmas.Option.{slice_get_within, get_or_from_slice_get}
+use Rattle.std.proofs.lemmas.Option.{slice_get_within, get_or_from_slice_get, same_Some}
 use Rattle.rng_simple.proofs.Graphs.{found}
 use Rattle.rng_simple.proofs.ListParts.{map_at}
 use Rattle.rng_labels.specs.plain.LabelCodes.{Part}
 use Rattle.rng_simple.specs.views.RowTable.{AreCodes}
-
-pub some_is : {A : Type 0} {x y : A} → Some x ≡ Some y → x ≡ y
-some_is e = cc
 
 pub none_coded : (written codes : List (List Part)) → codes ≡ [] → written ≡ [] → AreCodes written codes
 none_coded written codes e f = record {
@@ -20,7 +17,7 @@ module _ {A L : Type 0} (code : A → List Part) (label : A → L) where
   label_there : (xs : List A) (k : List Part) (l : L) (n : ℕ) → slice_get (map code xs) n ≡ Some k → ((y : A) → code y ≡ k → label y ≡ l)
       → slice_get (map label xs) n ≡ Some l
   label_there [] k l n e f = cc
-  label_there (y ∷ ys) k l zero e f = ap Some (f y (some_is e))
+  label_there (y ∷ ys) k l zero e f = ap Some (f y (same_Some _ _ e))
   label_there (y ∷ ys) k l (suc n) e f = label_there ys k l n e f
 
   -- a label has the index of its code

@@ -2,7 +2,7 @@
 use Rattle.std.proofs.Common.{◌≡◌, refl, sym, ap, ap₂, ◌∙◌, subst, List, [], ◌∷◌, map, length, take, Option, Some, None, ℕ, ◌<◌, ◌≤◌, ◌++◌, inl, inr}
 use Rattle.std.proofs.Common.{slice_get, arith, Bor}
 use Rattle.std.proofs.lemmas.Bool.{cases_lt}
-use Rattle.std.proofs.lemmas.Option.{slice_get_within}
+use Rattle.std.proofs.lemmas.Option.{slice_get_within, none-some}
 use Rattle.rng_model.specs.schema.Patterns.{Place}
 use Rattle.rng_model.specs.schema.Schema.{Schema, Definition}
 use Rattle.rng_model.specs.views.SchemaView.{schema_component_of}
@@ -29,7 +29,6 @@ use Rattle.rng_simple.proofs.ElementsApart.{elements_apart}
 use Rattle.rng_simple.proofs.GraphSteps.{IsGraphSoFar, fewer, goes_on, same_classes, whole}
 use Rattle.rng_simple.proofs.Graphs.{found}
 use Rattle.rng_simple.proofs.ListParts.{map_at}
-use Rattle.rng_simple.proofs.ResolvedBodies.{none_is_not_some}
 
 -- the patterns of components as they are viewed
 pub patterns_seen : (cs : List (Bor declared.Component))
@@ -102,6 +101,6 @@ room s ready t table same n bodies d is e =
 -- no member is at the index: the list ends before it
 pub ends_before : {A : Type 0} (xs : List A) (i : ℕ) → slice_get xs i ≡ None → length xs ≤ i
 ends_before xs i e = elim (cases_lt i (length xs)) [
-  | inl h ↦ let f = found xs i h in absurd (none_is_not_some (sym e ∙ f.1))
+  | inl h ↦ let f = found xs i h in absurd (none-some _ (sym e ∙ f.1))
   | inr h ↦ omega (arith, h)
 ]

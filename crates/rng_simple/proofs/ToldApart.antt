@@ -1,5 +1,6 @@
 -- The patterns of a grammar that is made of rows are distinguished by their trees.
 use Rattle.std.proofs.Common.{◌≡◌, ap, ap₂, sym, ◌∙◌, ℕ, ◌<◌, List, [], length, Bool}
+use Rattle.std.proofs.lemmas.Option.{same_Some}
 use Rattle.rng_model.specs.names.Names.{any_name}
 use Rattle.rng_model.specs.simple.Tree as tree
 use Rattle.rng_model.specs.datatypes.DatatypeViews.{datatype_of}
@@ -14,7 +15,7 @@ use Rattle.rng_simple.specs.views.Rows.{AreDistinctRows, no_datatype, tree_at}
 use Rattle.rng_simple.specs.declared.row_table.RowTable.{RowTable}
 use Rattle.rng_simple.proofs.NestedCodes.{same_class_codes}
 use Rattle.rng_simple.proofs.OneNumber.{AreDistinctLabels, one_number}
-use Rattle.rng_simple.proofs.RowLabels.{labels_apart, some_is}
+use Rattle.rng_simple.proofs.RowLabels.{labels_apart}
 
 distinct_labels : (t : RowTable) → AreCoded t → AreDistinctLabels (labels_of t)
 distinct_labels t d = record {
@@ -27,7 +28,7 @@ distinct_labels t d = record {
 }
 
 distinct_rows : (t : RowTable) → IsRowTable t → AreDistinctRows t.rows.items
-distinct_rows t is i j r e f = some_is (sym ((is.index r i).1 e) ∙ (is.index r j).1 f)
+distinct_rows t is i j r e f = same_Some _ _ (sym ((is.index r i).1 e) ∙ (is.index r j).1 f)
 
 pub patterns_apart : (t : RowTable) → IsRowTable t → (reached : List Bool) (places : List ℕ) (ps : List Simple) (listed : List ℕ)
     → AreCopied (labels_of t) t.rows.items reached (row_count t) places ps listed → (m n : ℕ) → m < length ps → n < length ps

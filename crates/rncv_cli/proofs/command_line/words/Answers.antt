@@ -1,5 +1,6 @@
 use Rattle.std.proofs.Common.{rules, ◌≡◌, ◌≤◌, ◌∙◌, sym, length, map, string_bytes, Some, None, Err, Result, []}
 use Rattle.std.proofs.lemmas.List.{length-map}
+use Rattle.std.proofs.lemmas.Option.{none-some}
 use Rattle.clap.specs.Lexer.{usize_max}
 use Rattle.clap.specs.Words.{fault_of, matches_of}
 use Rattle.rncv_cli.specs.plain.CommandLineForm.{command_in, files_in, form}
@@ -10,9 +11,6 @@ use Rattle.rncv_cli.proofs.command_line.words.Goals as goal
 
 no_usage : {T : Type 0} (result : Result T Fault) → result ≡ Err Memory → result ≡ Err Usage → ⊥
 no_usage result memory usage = cc
-
-none_found : {T : Type 0} (found : T) → None ≡ Some found → ⊥
-none_found found e = cc
 
 pub returns-in_err-matches-clause-usage : goal.returns-in_err-matches-clause-usage
 returns-in_err-matches-clause-usage c = λ usage command files line.
@@ -27,14 +25,14 @@ returns-in_default-clause-usage c = λ usage command files line.
     let words = map string_bytes c.args.words.now in
     let few : length words ≤ usize_max = search (rules, length-map) in
     let none : command_in (matches_of form words) ≡ None = search rules in
-    none_found command (sym none ∙ (is_accepted words command files few line).command_is)
+    none-some command (sym none ∙ (is_accepted words command files few line).command_is)
 
 pub returns-in_default-names_of-clause-usage : goal.returns-in_default-names_of-clause-usage
 returns-in_default-names_of-clause-usage c = λ usage command files line.
     let words = map string_bytes c.args.words.now in
     let few : length words ≤ usize_max = search (rules, length-map) in
     let none : files_in (matches_of form words) ≡ None = search rules in
-    none_found files (sym none ∙ (is_accepted words command files few line).files_are)
+    none-some files (sym none ∙ (is_accepted words command files few line).files_are)
 
 pub returns-clause-ok : goal.returns-clause-ok
 returns-clause-ok c =
