@@ -137,7 +137,7 @@ pub record Finishes (s : State) (pending : List Event) : Type 0 where
   pub reads : all_read behind s ≡ good last (pending ++ sent)
   pub ends : at_end last ≡ None
 
-read_none : (s : State) → all_read [] s ≡ good s []
+pub read_none : (s : State) → all_read [] s ≡ good s []
 unfolding all_read
 read_none s = refl
 

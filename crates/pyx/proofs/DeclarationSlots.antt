@@ -3,12 +3,13 @@ use Rattle.std.proofs.Common.{◌≡◌, Bool, true, false, ◌||◌, ℕ, ◌�
 use Rattle.std.proofs.Common.{string_bytes}
 use Rattle.std.specs.List.{between}
 use Rattle.std.proofs.lemmas.Slice.{first_rest}
+use Rattle.rng_model.proofs.Texts.{bytes_same}
 use Rattle.pyx.specs.declared.namespaces.written.WrittenAttribute.{WrittenAttribute}
 use Rattle.pyx.specs.plain.WrittenNames.{written_of}
 use Rattle.pyx.specs.plain.NamespacesSlots.{AreAllMet, is_met}
 use Rattle.pyx.specs.plain.Declarations.{same_written, is_written_in, is_written_twice}
 use Rattle.pyx.specs.views.WrittenAttributes.{written_attribute, written_bytes}
-use Rattle.pyx.proofs.WrittenNames.{bytes_same, written_alike}
+use Rattle.pyx.proofs.WrittenNames.{written_alike}
 
 true_false : true ≡ false → ⊥
 true_false e = cc

@@ -3,6 +3,8 @@ use Rattle.std.proofs.Common.{◌≡◌, ℕ, ◌+◌, ◌≤◌, ◌<◌, Bool,
 use Rattle.std.proofs.Common.{refl, sym, ap, subst, ◌∙◌, arith, append_assoc, ◌⊎◌, inl, inr, lit≤}
 use Rattle.std.specs.Prelude.{◌==◌, ◌≢◌, is_some}
 use Rattle.std.proofs.lemmas.List.{length-append, append-nil}
+use Rattle.std.proofs.lemmas.Option.{same_Some, none-some}
+use Rattle.rng_model.proofs.Options.{same_err, same_ok}
 use Rattle.rng_model.specs.documents.Lines.{Line, line_limit}
 use Rattle.rng_model.specs.documents.PyxFaults.{HasKind, Fault, EndsInTag}
 use Rattle.rng_model.specs.documents.PyxLines as said
@@ -273,17 +275,8 @@ tag_breaks_all {front} {behind} {all} {clause} b n parts =
 
 -- ---- the end
 
-err_same : {A : Type 0} {f g : Fault} → ◌≡◌ {A = Result A Fault} (Err f) (Err g) → f ≡ g
-err_same e = cc
-
 pub ok_err : {A : Type 0} {x : A} {f : Fault} → ◌≡◌ {A = Result A Fault} (Ok x) (Err f) → ⊥
 ok_err e = cc
-
-some_fault : {f g : Fault} → Some f ≡ Some g → f ≡ g
-some_fault e = cc
-
-none_fault : {f : Fault} → None ≡ Some f → ⊥
-none_fault e = cc
 
 -- the result at the end
 pub data EndTells (all : List Line) (o : Option Fault) : Type 0 where
@@ -322,18 +315,18 @@ end_tells {all} (at_tag {os} {t} {n} c) = go (tag_read (declared_in os) t.name t
 
 last_fails : (o : Option Fault) (s : State) (f : Fault) → (at_last o s).0 ≡ Err f → o ≡ Some f
 last_fails None s f e = absurd (ok_err e)
-last_fails (Some g) s f e = ap Some (err_same e)
+last_fails (Some g) s f e = ap Some (same_err e)
 
-ended_fails : (s : State) (f : Fault) → (all_ended s).0 ≡ Err f → at_end s ≡ Some f
+pub ended_fails : (s : State) (f : Fault) → (all_ended s).0 ≡ Err f → at_end s ≡ Some f
 unfolding all_ended
 ended_fails s f e = last_fails (at_end s) s f e
 
 end_broken : {all : List Line} {s : State} {f : Fault} → Place all s → (all_ended s).0 ≡ Err f → Breaks all f
 end_broken {all} {s} {f} p e = go (end_tells p) (ended_fails s f e) where
   go : EndTells all (at_end s) → at_end s ≡ Some f → Breaks all f
-  go (ends_well q) k = absurd (none_fault (sym q ∙ k))
-  go (ends_open q b) k = subst (Breaks all) (some_fault (sym q ∙ k)) b
-  go (tag_ends_badly j q b) k = subst (Breaks all) (some_fault (sym q ∙ k)) (tag_breaks_all b begins_none (sym (append-nil all)))
+  go (ends_well q) k = absurd (none-some _ (sym q ∙ k))
+  go (ends_open q b) k = subst (Breaks all) (same_Some _ _ (sym q ∙ k)) b
+  go (tag_ends_badly j q b) k = subst (Breaks all) (same_Some _ _ (sym q ∙ k)) (tag_breaks_all b begins_none (sym (append-nil all)))
 
 abbrev pub to_end : List Line → State → Turn State
 to_end ls s = followed (all_read ls s) all_ended
@@ -356,20 +349,17 @@ to_end_cons : (l : Line) (ls : List Line) (s : State) (f : Fault) → (to_end (l
 unfolding all_read
 to_end_cons l ls s f e = first_or_rest (line_read l s).0 (line_read l s).1 (all_read ls) all_ended f e
 
-ok_same : {x y : State} → ◌≡◌ {A = Result State Fault} (Ok x) (Ok y) → x ≡ y
-ok_same e = cc
-
 broken_first : {front : List Line} {l : Line} (ls : List Line) (s : State) {f : Fault} → LineTells front l (line_read l s) → (line_read l s).0 ≡ Err f
     → Breaks (front ++ l ∷ ls) f
 broken_first ls s (goes_on q p) e = absurd (ok_err (sym q ∙ e))
 broken_first {front} {l} ls s (breaks_here k q h b) e =
-    subst (Breaks (front ++ l ∷ ls)) (err_same (sym q ∙ e)) (at_line {before = front} {behind = ls} l refl refl (b ls))
+    subst (Breaks (front ++ l ∷ ls)) (same_err (sym q ∙ e)) (at_line {before = front} {behind = ls} l refl refl (b ls))
 broken_first {front} {l} ls s (tag_breaks k q b n) e =
-    subst (Breaks (front ++ l ∷ ls)) (err_same (sym q ∙ e)) (tag_breaks_all b (begins_line l ls n) refl)
+    subst (Breaks (front ++ l ∷ ls)) (same_err (sym q ∙ e)) (tag_breaks_all b (begins_line l ls n) refl)
 
 pub next_place : {front : List Line} {l : Line} {u : State} (s : State) → LineTells front l (line_read l s) → (line_read l s).0 ≡ Ok u
     → Place (front ++ l ∷ []) u
-next_place {front} {l} s (goes_on q p) e = subst (Place (front ++ l ∷ [])) (ok_same (sym q ∙ e)) p
+next_place {front} {l} s (goes_on q p) e = subst (Place (front ++ l ∷ [])) (same_ok (sym q ∙ e)) p
 next_place s (breaks_here k q h b) e = absurd (ok_err (sym e ∙ q))
 next_place s (tag_breaks k q b n) e = absurd (ok_err (sym e ∙ q))
 

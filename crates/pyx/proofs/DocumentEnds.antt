@@ -10,11 +10,11 @@ use Rattle.pyx.specs.plain.DocumentReader.{State, Turn, followed, at_end, at_las
 use Rattle.pyx.specs.plain.Pieces.{Progress, open_line, finished}
 use Rattle.pyx.specs.views.View.{Concludes, EndsBy, Takes}
 
-last_sends : (o : Option Fault) (s : State) → (at_last o s).1 ≡ []
+pub last_sends : (o : Option Fault) (s : State) → (at_last o s).1 ≡ []
 last_sends None s = refl
 last_sends (Some f) s = refl
 
-all_sends : (s : State) → (all_ended s).1 ≡ []
+pub all_sends : (s : State) → (all_ended s).1 ≡ []
 unfolding all_ended
 all_sends s = last_sends (at_end s) s
 
@@ -22,7 +22,7 @@ ends_well : (s : State) → at_end s ≡ None → (all_ended s).0 ≡ Ok s
 unfolding all_ended
 ends_well s e = rw e refl
 
-ends_badly : (s : State) (f : Fault) → at_end s ≡ Some f → (all_ended s).0 ≡ Err f
+pub ends_badly : (s : State) (f : Fault) → at_end s ≡ Some f → (all_ended s).0 ≡ Err f
 unfolding all_ended
 ends_badly s f e = rw e refl
 

@@ -3,6 +3,9 @@ use Rattle.std.proofs.Common.{◌≡◌, ℕ, ◌+◌, ◌≤◌, ◌<◌, Bool,
 use Rattle.std.proofs.Common.{refl, sym, ap, subst, ◌∙◌, arith, append_assoc, ◌⊎◌, inl, inr, lit≤, rules}
 use Rattle.std.specs.Prelude.{◌==◌, ◌≢◌, nat_le}
 use Rattle.std.proofs.lemmas.List.{length-append, append-nil}
+use Rattle.pyx.proofs.DocumentEnds.{ends_badly}
+use Rattle.rng_model.proofs.Options.{same_err, same_ok}
+use Rattle.rng_model.proofs.Members.{same_rest, one_or_none}
 use Rattle.rng_model.specs.documents.Lines.{Line, line_limit, attribute_limit, open_limit, text_limit}
 use Rattle.rng_model.specs.documents.PyxFaults.{HasKind, Fault, EndsInTag, IsBefore}
 use Rattle.rng_model.specs.documents.PyxLines as said
@@ -50,17 +53,11 @@ pub record AtMost (g : Fault) {A : Type 0} (turn : Turn A) : Type 0 where
 same_answer : {A : Type 0} {g : Fault} {turn inner : Turn A} → turn.0 ≡ inner.0 → AtMost g inner → AtMost g turn
 same_answer e m = record { answer = m.answer; is = e ∙ m.is; before = m.before }
 
-err_same : {A : Type 0} {f g : Fault} → ◌≡◌ {A = Result A Fault} (Err f) (Err g) → f ≡ g
-err_same e = cc
-
 followed_most : {A B : Type 0} {g : Fault} {turn : Turn A} (f : A → Turn B) → AtMost g turn → AtMost g (followed turn f)
 followed_most {A = A} {B = B} {turn = turn} f m = record { answer = m.answer; is = go turn.0 turn.1 m.is; before = m.before } where
   go : (r : Result A Fault) (es : List Event) → ◌≡◌ {A = Result A Fault} r (Err m.answer) → ◌≡◌ {A = Result B Fault} (go_on r es f).0 (Err m.answer)
   go (Ok x) es e = absurd (ok_err e)
-  go (Err x) es e = ap Err (err_same e)
-
-cons_bytes : {x : ℕ} {xs ys : List ℕ} → x ∷ xs ≡ x ∷ ys → xs ≡ ys
-cons_bytes e = cc
+  go (Err x) es e = ap Err (same_err e)
 
 first_tag : {x y : clauses.Tag} {xs ys : List clauses.Tag} → x ∷ xs ≡ y ∷ ys → x ≡ y
 first_tag e = cc
@@ -102,7 +99,7 @@ module _ (front : List Line) where
   innermost {o} {tag = tag} d (one_matched {tag = own} s p n m) e written q =
       let k = start_line s.first in
       let same : own ≡ tag = first_tag (open_same d e) in
-      ap written_of (cons_bytes (sym q ∙ ap (λ (t : clauses.Tag). t.first.bytes) (sym same) ∙ k.1)) ∙ k.2
+      ap written_of (same_rest (sym q ∙ ap (λ (t : clauses.Tag). t.first.bytes) (sym same) ∙ k.1)) ∙ k.2
 
   other_name : {os : List Open} {w : List ℕ} {n b : ℕ} {root : Bool} {name : WrittenName} {turn : Turn State} {tag : clauses.Tag}
       {outer : List clauses.Tag} (l : Line) (bytes opened : List ℕ) → Content front os w n root → Move w n b root os (said.end name) turn
@@ -111,7 +108,7 @@ module _ (front : List Line) where
   other_name l bytes opened c (end_closes q e) g is d f differs =
       let k = end_line g in
       let own : written_of bytes ≡ written_of opened =
-      ap written_of (cons_bytes (sym is ∙ k.1)) ∙ k.2 ∙ sym q ∙ sym (innermost c.are_open c.matched d opened f) in
+      ap written_of (same_rest (sym is ∙ k.1)) ∙ k.2 ∙ sym q ∙ sym (innermost c.are_open c.matched d opened f) in
       absurd (differs (sym (written_back bytes) ∙ ap written_bytes own ∙ written_back opened))
   other_name l bytes opened c (end_of_other q e) g is d f differs = refused_at 8 8 e c.count (lit≤ tt)
   other_name l bytes opened c (end_of_none e) g is d f differs = refused_at 8 8 e c.count (lit≤ tt)
@@ -345,10 +342,6 @@ all_cons l ls s = refl
 pub to_end_first : (l : Line) (ls : List Line) (s : State) → to_end (l ∷ ls) s ≡ followed (line_read l s) (to_end ls)
 to_end_first l ls s = ap (λ (t : Turn State). followed t all_ended) (all_cons l ls s) ∙ followed_twice (line_read l s) (all_read ls) all_ended
 
-ended_by : (s : State) (f : Fault) → at_end s ≡ Some f → (all_ended s).0 ≡ Err f
-unfolding all_ended
-ended_by s f e = rw e refl
-
 line_closes : (l : Line) (os : List Open) (t : Tag) (n k : ℕ) → (HasKind 65 l → ⊥) → tag_read (declared_in os) t.name t.declared t.others ≡ Err k
     → (line_read l (in_tag os t n)).0 ≡ failed k n
 unfolding line_read
@@ -361,7 +354,7 @@ tag_ends_most {front} {k = k} [] (at_tag {os} {t} {n} c) b m =
     let a = tag_answered c b in
     same_answer {inner = all_ended (in_tag os t n)} (ap (λ (t : Turn State). t.0) (all_nil (in_tag os t n))) (record {
       answer = at a.clause n;
-      is = ended_by (in_tag os t n) (at a.clause n) (fault_tag os t n ∙ ap (reader.unfinished n) a.is);
+      is = ends_badly (in_tag os t n) (at a.clause n) (fault_tag os t n ∙ ap (reader.unfinished n) a.is);
       before = inr (c.count, a.le);
     })
 tag_ends_most {front} {k = k} (l ∷ ls) (at_tag {os} {t} {n} c) b m =
@@ -382,9 +375,6 @@ unfolding all_read
 all_append [] ys s = refl
 all_append (l ∷ xs) ys s = followed_same (line_read l s) (all_read (xs ++ ys)) (λ t. followed (all_read xs t) (all_read ys)) (all_append xs ys)
     ∙ sym (followed_twice (line_read l s) (all_read xs) (all_read ys))
-
-ok_same : {x y : State} → ◌≡◌ {A = Result State Fault} (Ok x) (Ok y) → x ≡ y
-ok_same e = cc
 
 -- how far the lines are read
 pub data Reached (all : List Line) (turn : Turn State) : Type 0 where
@@ -412,9 +402,9 @@ reached_from (l ∷ ls) front s p = go (line_read l s).0 (line_read l s).1 refl 
       → ((u : State) → Place (front ++ l ∷ []) u → Reached ((front ++ l ∷ []) ++ ls) (all_read ls u)) → Reached (front ++ l ∷ ls) (go_on r es (all_read ls))
   go (Ok u) es e t more = again u es (more u (next_place s t e))
   go (Err f) es e (goes_on q x) more = absurd (ok_err (sym q ∙ e))
-  go (Err f) es e (breaks_here k q h b) more = let is = err_same (sym q ∙ e) in
+  go (Err f) es e (breaks_here k q h b) more = let is = same_err (sym q ∙ e) in
       to_a_fault f refl (omega (arith, ap (λ (x : Fault). x.line) is, size)) (omega (arith, ap (λ (x : Fault). x.clause) is, h))
-  go (Err f) es e (tag_breaks k q b n) more = let is = err_same (sym q ∙ e) in
+  go (Err f) es e (tag_breaks k q b n) more = let is = same_err (sym q ∙ e) in
       to_a_fault f refl (omega (arith, ap (λ (x : Fault). x.line) is, size)) (omega (arith, ap (λ (x : Fault). x.clause) is, tag_clause b))
 
 pub reached : (all : List Line) → Reached all (reads all)
@@ -437,7 +427,7 @@ tag_then {front} {behind} {l} {k} s (goes_on {u} e p) t = record { answer = m.an
   m = subst (λ (n : ℕ). AtMost (at k n) (to_end behind u)) (length-append front (l ∷ [])) (tag_ends_most behind p t.breaks t.otherwise)
 
   go : (r : Result State Fault) (es : List Event) → r ≡ Ok u → (go_on r es (to_end behind)).0 ≡ Err m.answer
-  go (Ok x) es e = ap (λ (y : State). (to_end behind y).0) (ok_same e) ∙ m.is
+  go (Ok x) es e = ap (λ (y : State). (to_end behind y).0) (same_ok e) ∙ m.is
   go (Err x) es e = absurd (ok_err (sym e))
 tag_then {front} {behind} {l} {k} s (breaks_here j e h b) t =
     failed_most (line_read l s) (to_end behind) (at j (length front + 1)) e (inr (refl, omega (arith, h, least))) where
@@ -462,7 +452,7 @@ line_most front behind l k b = same_answer (ap (λ (t : Turn State). t.0) (ap (�
           → AtMost (at k (length front + 1)) (followed (reads front) (to_end (l ∷ behind)))
       at_state {s} e m = record { answer = m.answer; is = by (reads front).0 (reads front).1 e; before = m.before } where
         by : (r : Result State Fault) (es : List Event) → r ≡ Ok s → (go_on r es (to_end (l ∷ behind))).0 ≡ Err m.answer
-        by (Ok x) es e = ap (λ (y : State). (to_end (l ∷ behind) y).0) (ok_same e) ∙ m.is
+        by (Ok x) es e = ap (λ (y : State). (to_end (l ∷ behind) y).0) (same_ok e) ∙ m.is
         by (Err x) es e = absurd (ok_err (sym e))
 
       go : Reached front (reads front) → AtMost (at k (length front + 1)) (followed (reads front) (to_end (l ∷ behind)))
@@ -475,15 +465,15 @@ end_most : {all : List Line} {s : State} → Place all s → (at_end s ≡ None 
 end_most {all} {s} p n = go (end_tells p) where
   go : EndTells all (at_end s) → AtMost (at 13 (length all)) (all_ended s)
   go (ends_well e) = absurd (n e)
-  go (ends_open e b) = record { answer = at 13 (length all); is = ended_by s _ e; before = inr (refl, lit≤ tt) }
-  go (tag_ends_badly k e b) = record { answer = at k (length all); is = ended_by s _ e; before = inr (refl, omega (arith, tag_clause b)) }
+  go (ends_open e b) = record { answer = at 13 (length all); is = ends_badly s _ e; before = inr (refl, lit≤ tt) }
+  go (tag_ends_badly k e b) = record { answer = at k (length all); is = ends_badly s _ e; before = inr (refl, omega (arith, tag_clause b)) }
 
 all_most : (all : List Line) → ((s : State) → Place all s → at_end s ≡ None → ⊥) → AtMost (at 13 (length all)) (to_end all nothing_read)
 all_most all n = go (reached all) where
   at_state : {s : State} → (reads all).0 ≡ Ok s → AtMost (at 13 (length all)) (all_ended s) → AtMost (at 13 (length all)) (followed (reads all) all_ended)
   at_state {s} e m = record { answer = m.answer; is = by (reads all).0 (reads all).1 e; before = m.before } where
     by : (r : Result State Fault) (es : List Event) → r ≡ Ok s → (go_on r es all_ended).0 ≡ Err m.answer
-    by (Ok x) es e = ap (λ (y : State). (all_ended y).0) (ok_same e) ∙ m.is
+    by (Ok x) es e = ap (λ (y : State). (all_ended y).0) (same_ok e) ∙ m.is
     by (Err x) es e = absurd (ok_err (sym e))
 
   go : Reached all (reads all) → AtMost (at 13 (length all)) (to_end all nothing_read)
@@ -512,14 +502,11 @@ end_none (at_tag {os} {t} {n} c) e = absurd (go (tag_read (declared_in os) t.nam
     some_none : Some (at k n) ≡ None → ⊥
     some_none e = cc
 
-no_tags : {tag : clauses.Tag} {outer : List clauses.Tag} → tag ∷ outer ≡ [] → ⊥
-no_tags e = cc
-
 pub at_most : {all : List Line} {g : Fault} → Breaks all g → AtMost g (to_end all nothing_read)
 at_most {all} (at_line {before} {behind} {clause} {n} l parts q b) =
     subst (λ (m : ℕ). AtMost (at clause m) (to_end all nothing_read)) (sym q)
     (subst (λ (x : List Line). AtMost (at clause (length before + 1)) (to_end x nothing_read)) (sym parts) (line_most before behind l clause b))
-at_most {all} (unfinished d) = all_most all (λ s p e. no_tags (open_same d (end_none p e).0))
+at_most {all} (unfinished d) = all_most all (λ s p e. one_or_none (open_same d (end_none p e).0))
 at_most {all} (rootless h) = all_most all (λ s p e. true_false (sym (end_none p e).1 ∙ root_not all h))
 
 -- the fault that is returned is the least
@@ -527,6 +514,6 @@ pub first_fault : (all : List Line) (f : Fault) → (document_read all).0 ≡ Er
 unfolding document_read
 first_fault all f e = record {
   broken = broken all f e;
-  least = λ g b. let m = at_most b in subst (λ (x : Fault). IsBefore x g) (err_same (sym m.is
+  least = λ g b. let m = at_most b in subst (λ (x : Fault). IsBefore x g) (same_err (sym m.is
       ∙ e)) m.before;
 }

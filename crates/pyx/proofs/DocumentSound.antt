@@ -3,6 +3,7 @@ use Rattle.std.proofs.Common.{◌≡◌, ℕ, suc, ◌+◌, ◌≤◌, ◌<◌, 
 use Rattle.std.proofs.Common.{refl, sym, ap, subst, ◌∙◌, append_assoc, arith}
 use Rattle.std.specs.Prelude.{◌==◌, ◌-◌}
 use Rattle.std.proofs.lemmas.List.{append-nil, length-append}
+use Rattle.rng_model.proofs.Options.{same_ok, err_is_ok}
 use Rattle.rng_model.specs.documents.Lines.{Line, lines, attribute_limit, open_limit, text_limit}
 use Rattle.rng_model.specs.documents.PyxFaults.{Fault}
 use Rattle.rng_model.specs.documents.PyxLines as said
@@ -28,19 +29,13 @@ use Rattle.pyx.proofs.DocumentComplete.{attribute_longer, split_length}
 
 -- ---- results
 
-ok_same : {A : Type 0} {x y : A} → ◌≡◌ {A = Result A Fault} (Ok x) (Ok y) → x ≡ y
-ok_same e = cc
-
-err_ok : {A : Type 0} {x : Fault} {y : A} → ◌≡◌ {A = Result A Fault} (Err x) (Ok y) → ⊥
-err_ok e = cc
-
 some_none : {x : Fault} → Some x ≡ None → ⊥
 some_none e = cc
 
 pub goes_first : {A B : Type 0} (r : Result A Fault) (es : List Event) (f : A → Turn B) (b : B) → (go_on r es f).0 ≡ Ok b
     → (a : A) × (r ≡ Ok a) × ((f a).0 ≡ Ok b)
 goes_first (Ok a) es f b e = (a, refl, e)
-goes_first (Err x) es f b e = absurd (err_ok e)
+goes_first (Err x) es f b e = absurd (err_is_ok e)
 
 -- a line that is read without a fault has a content
 pub record LineGoes (l : Line) (s u : State) : Type 0 where
@@ -54,7 +49,7 @@ line_goes l s u e = go (said_of l) refl (goes_first (tag_ended l.bytes s).0 (tag
   go : (r : Result Said ℕ) → said_of l ≡ r
       → (t : State) × ((tag_ended l.bytes s).0 ≡ Ok t) × ((judged (length l.bytes) (said_of l) (record t { count = t.count + 1 })).0 ≡ Ok u) → LineGoes l s u
   go (Ok x) q p = let g = good_line l x q in record { says = x; is = g; goes = ap (λ (t : Turn State). t.0) (sym (line_said g s)) ∙ e }
-  go (Err k) q p = absurd (err_ok (ap (λ (r : Result Said ℕ). (judged (length l.bytes) r (record p.0 { count = p.0.count + 1 })).0) (sym q) ∙ p.2))
+  go (Err k) q p = absurd (err_is_ok (ap (λ (r : Result Said ℕ). (judged (length l.bytes) r (record p.0 { count = p.0.count + 1 })).0) (sym q) ∙ p.2))
 
 -- ---- content after a text that is joined so far
 
@@ -281,7 +276,7 @@ record Parses (ls : List Line) : Type 0 where
 
 no_end : {s u : State} → (all_read [] s).0 ≡ Ok u → s ≡ u
 unfolding all_read
-no_end e = ok_same e
+no_end e = same_ok e
 
 one_open : {P : Type 0} (o : Open) (os : List Open) (n : ℕ)
     → cond {A = Option Fault} (length (o ∷ os) == 0) None (Some (record { clause = 13; line = n })) ≡ None → P
@@ -338,11 +333,11 @@ module _ (l : Line) (ls : List Line) (more : Parses ls) where
     ends : at_end last ≡ None
 
   rest : {turn : Turn State} {t : State} {es : List Event} → turn ≡ good t es → Behind turn → Reads ls t
-  rest {t = t} e r = let k : t ≡ r.here = ok_same (sym (ap (λ (x : Turn State). x.0) e) ∙ r.goes) in
+  rest {t = t} e r = let k : t ≡ r.here = same_ok (sym (ap (λ (x : Turn State). x.0) e) ∙ r.goes) in
       record { last = r.last; goes = subst (λ (s : State). (all_read ls s).0 ≡ Ok r.last) (sym k) r.reads; ends = r.ends }
 
   refused : {turn : Turn State} {k n : ℕ} → turn ≡ fault k n → Behind turn → ⊥
-  refused e r = err_ok (sym (ap (λ (x : Turn State). x.0) e) ∙ r.goes)
+  refused e r = err_is_ok (sym (ap (λ (x : Turn State). x.0) e) ∙ r.goes)
 
   next_outside : (b : ℕ) (os : List Open) (w : List ℕ) (n : ℕ) (root : Bool) (x : Said) (turn : Turn State) → Fits os w root → Move w n b root os x turn
       → Behind turn → Next ls x os w n root
@@ -456,7 +451,7 @@ reads_by {ls} {s} e = let p = goes_first (all_read ls nothing_read).0 (all_read 
     record { last = p.0; goes = p.1; ends = at_none p.0 (at_end p.0) refl p.2 } where
       at_none : (t : State) (o : Option Fault) → at_end t ≡ o → (at_last (at_end t) t).0 ≡ Ok s → at_end t ≡ None
       at_none t None q g = q
-      at_none t (Some f) q g = absurd (err_ok (sym (ap (λ (x : Option Fault). (at_last x t).0) q) ∙ g))
+      at_none t (Some f) q g = absurd (err_is_ok (sym (ap (λ (x : Option Fault). (at_last x t).0) q) ∙ g))
 
 pub sound : (bytes : List ℕ) (s : State) → (document_read (lines bytes)).0 ≡ Ok s → (tree : Placed) × IsPyxDocument bytes tree
 sound bytes s e = let d = whole (reads_by e) in (

@@ -6,6 +6,7 @@ use Rattle.std.specs.Prelude.{◌==◌, nat_le, is_some}
 use Rattle.std.specs.List.{AllByRecursion}
 use Rattle.std.proofs.lemmas.List.{append-nil, length-append, length-take-le, take-append-drop}
 use Rattle.std.proofs.lemmas.List.Elements.{All-from_recursion}
+use Rattle.pyx.proofs.DocumentEnds.{last_sends}
 use Rattle.rng_model.specs.documents.Lines.{Line, lines, attribute_limit, open_limit, text_limit}
 use Rattle.rng_model.specs.documents.PyxFaults.{Fault}
 use Rattle.rng_model.specs.documents.PyxLines as said
@@ -17,7 +18,7 @@ use Rattle.pyx.specs.plain.LineReader.{said_of}
 use Rattle.pyx.specs.plain.TagReader.{Element, tag_read}
 use Rattle.pyx.specs.plain.DocumentReader.{State, Tag, Open, Turn, silent, go_on, followed, tag_closed, close_tag, tag_ended, text_ended, begin_tag, is_outside}
 use Rattle.pyx.specs.plain.DocumentReader.{started, add_attribute, attributed, joined_by, around, end_in, ended, said_read, judged, line_read, declared_in}
-use Rattle.pyx.specs.plain.DocumentReader.{all_read, nothing_read, at_end, at_last, all_ended, document_read}
+use Rattle.pyx.specs.plain.DocumentReader.{all_read, nothing_read, at_end, all_ended, document_read}
 use Rattle.pyx.specs.plain.Declarations.{same_written}
 use Rattle.pyx.proofs.LineCounts.{tag_ended_keeps, text_within, line_keeps}
 use Rattle.pyx.proofs.DocumentLeast.{all_append}
@@ -141,15 +142,11 @@ all_counted (l ∷ ls) s u e = go (line_read l s).0 (line_read l s).1 refl e (λ
 
 -- ---- the events of a document, up to a line and after it
 
-ends_silent : (o : Option Fault) (s : State) → (at_last o s).1 ≡ []
-ends_silent None s = refl
-ends_silent (Some f) s = refl
-
 end_silent : (t : Turn State) → (followed t all_ended).1 ≡ t.1
 unfolding all_ended
 end_silent t = go t.0 t.1 where
   go : (r : Result State Fault) (es : List Event) → (go_on r es all_ended).1 ≡ es
-  go (Ok s) es = ap (λ l. es ++ l) (ends_silent (at_end s) s) ∙ append-nil es
+  go (Ok s) es = ap (λ l. es ++ l) (last_sends (at_end s) s) ∙ append-nil es
   go (Err f) es = refl
 
 long_enough : (n : ℕ) (ls : List Line) → n ≤ length ls → length (take n ls) ≡ n

@@ -1,11 +1,15 @@
 -- The events that are handed out before a fault are the first events of a document. This document begins with the
 -- longest front that breaks nothing except P13.
-use Rattle.std.proofs.Common.{◌≡◌, ℕ, ◌+◌, ◌≤◌, ◌<◌, Bool, true, false, List, [], ◌∷◌, ◌++◌, length, Option, Some, None, Result, Ok, Err}
+use Rattle.std.proofs.Common.{◌≡◌, ℕ, ◌+◌, ◌≤◌, ◌<◌, Bool, true, false, List, [], ◌∷◌, ◌++◌, length, Some, None, Result, Ok, Err}
 use Rattle.std.proofs.Common.{refl, sym, ap, subst, ◌∙◌, arith, append_assoc, ◌⊎◌, inl, inr, lit≤, rules}
 use Rattle.std.specs.Prelude.{nat_le}
 use Rattle.std.specs.List.{AllByRecursion}
 use Rattle.std.proofs.lemmas.List.{length-append, append-nil}
 use Rattle.std.proofs.lemmas.List.Elements.{All-from_recursion}
+use Rattle.std.proofs.lemmas.Option.{same_Some, none-some}
+use Rattle.pyx.proofs.DocumentEnds.{all_sends}
+use Rattle.rng_model.proofs.Options.{same_err}
+use Rattle.rng_model.proofs.Members.{same_first, same_rest}
 use Rattle.rng_model.specs.documents.Lines.{Line, lines}
 use Rattle.rng_model.specs.documents.PyxFaults.{Fault, IsBefore}
 use Rattle.rng_model.specs.documents.PyxLines as said
@@ -19,7 +23,7 @@ use Rattle.pyx.specs.plain.TagReader.{Element, tag_read}
 use Rattle.pyx.specs.plain.DocumentReader as reader
 use Rattle.pyx.specs.plain.DocumentReader.{State, Tag, Open, Turn, fault, silent, go_on, followed, after_events, declared_in, tag_ended, line_read, all_read}
 use Rattle.pyx.specs.plain.DocumentReader.{nothing_read}
-use Rattle.pyx.specs.plain.DocumentReader.{at_end, at_last, all_ended, document_read}
+use Rattle.pyx.specs.plain.DocumentReader.{at_end, all_ended, document_read}
 use Rattle.rng_model.specs.documents.Documents.{BeginsDocument, AreEventsBefore}
 use Rattle.pyx.proofs.LineClauses.{good_line}
 use Rattle.pyx.proofs.SaidLines.{good, line_said}
@@ -31,18 +35,12 @@ use Rattle.pyx.proofs.JoinedText.{says_a_start, says_an_attribute}
 use Rattle.pyx.proofs.StateAfterLines.{Content, Within, Place, at_content, at_tag, content_first, marks_none, place_first}
 use Rattle.pyx.proofs.DocumentBroken.{at, TagBreaks, LineTells, goes_on, breaks_here, tag_breaks, within_few, bad_line, ended_silent, ended_closes, no_tag_ended}
 use Rattle.pyx.proofs.DocumentBroken.{not_kind, line_tells, next_place, EndTells, ends_well, ends_open, tag_ends_badly, fault_tag, end_tells, to_end}
-use Rattle.pyx.proofs.DocumentBroken.{tag_breaks_all, tag_broken, broken, ok_err}
+use Rattle.pyx.proofs.DocumentBroken.{tag_breaks_all, tag_broken, broken, ok_err, ended_fails}
 use Rattle.pyx.proofs.DocumentLeast.{at_most, all_append, all_cons, all_nil, to_end_first}
-use Rattle.pyx.proofs.ClosingLines.{IsWhole, lines_without, good_whole, Finishes, finishes_content, finishes_within, begins_less}
+use Rattle.pyx.proofs.ClosingLines.{IsWhole, lines_without, good_whole, Finishes, finishes_content, finishes_within, begins_less, read_none}
 use Rattle.pyx.proofs.ClosingLines as closing
 
 -- ---- results
-
-err_same : {A : Type 0} {f g : Fault} → ◌≡◌ {A = Result A Fault} (Err f) (Err g) → f ≡ g
-err_same e = cc
-
-ok_same : {x y : State} → ◌≡◌ {A = Result State Fault} (Ok x) (Ok y) → x ≡ y
-ok_same e = cc
 
 -- ---- fronts
 
@@ -92,26 +90,13 @@ tag_not_front {ls} {k} b i = absurd (omega (arith, i (at k (length ls)) (tag_bre
     go (inl p) = omega (arith, p.0)
     go (inr p) = omega (arith, p.0)
 
-ended_of : (s : State) (f : Fault) → (all_ended s).0 ≡ Err f → at_end s ≡ Some f
-unfolding all_ended
-ended_of s f e = go (at_end s) e where
-  go : (o : Option Fault) → (at_last o s).0 ≡ Err f → o ≡ Some f
-  go None e = absurd (ok_err e)
-  go (Some g) e = ap Some (err_same e)
-
-some_same : {f g : Fault} → Some f ≡ Some g → f ≡ g
-some_same e = cc
-
-none_some : {f : Fault} → None ≡ Some f → ⊥
-none_some e = cc
-
 -- a place where the end breaks nothing except P13
 calm_front : {front : List Line} {s : State} {es : List Event} → all_read front nothing_read ≡ good s es
     → (at_end s ≡ None) ⊎ (at_end s ≡ Some (at 13 (length front))) → IsFront front
-calm_front {front} {s} {es} r o = front_by (λ f e. go f o (ended_of s f (ap (λ (t : Turn State). (followed t all_ended).0) (sym r) ∙ e))) where
+calm_front {front} {s} {es} r o = front_by (λ f e. go f o (ended_fails s f (ap (λ (t : Turn State). (followed t all_ended).0) (sym r) ∙ e))) where
   go : (f : Fault) → (at_end s ≡ None) ⊎ (at_end s ≡ Some (at 13 (length front))) → at_end s ≡ Some f → f ≡ at 13 (length front)
-  go f (inl n) e = absurd (none_some (sym n ∙ e))
-  go f (inr n) e = some_same (sym e ∙ n)
+  go f (inl n) e = absurd (none-some _ (sym n ∙ e))
+  go f (inr n) e = same_Some _ _ (sym e ∙ n)
 
 -- ---- what a line hands out
 
@@ -150,16 +135,16 @@ refused e g = ok_err (sym (ap (λ (t : Turn State). t.0) e) ∙ g)
 move_fails : {w : List ℕ} {n b : ℕ} {root : Bool} {os : List Open} {x : Said} {turn : Turn State} {f : Fault} → Move w n b root os x turn → turn.0 ≡ Err f
     → (turn.1 ≡ []) × (f.line ≡ n + 1)
 move_fails (instruction_passes e) g = absurd (refused e g)
-move_fails (attribute_outside e) g = (first_is e, ap (λ (f : Fault). f.line) (err_same (sym g ∙ ap (λ (t : Turn State). t.0) e)))
+move_fails (attribute_outside e) g = (first_is e, ap (λ (f : Fault). f.line) (same_err (sym g ∙ ap (λ (t : Turn State). t.0) e)))
 move_fails (text_joins h e) g = absurd (refused e g)
-move_fails (text_too_long h e) g = (first_is e, ap (λ (f : Fault). f.line) (err_same (sym g ∙ ap (λ (t : Turn State). t.0) e)))
-move_fails (text_outside e) g = (first_is e, ap (λ (f : Fault). f.line) (err_same (sym g ∙ ap (λ (t : Turn State). t.0) e)))
+move_fails (text_too_long h e) g = (first_is e, ap (λ (f : Fault). f.line) (same_err (sym g ∙ ap (λ (t : Turn State). t.0) e)))
+move_fails (text_outside e) g = (first_is e, ap (λ (f : Fault). f.line) (same_err (sym g ∙ ap (λ (t : Turn State). t.0) e)))
 move_fails (start_begins fits h e) g = absurd (refused e g)
-move_fails (start_too_deep h e) g = (first_is e, ap (λ (f : Fault). f.line) (err_same (sym g ∙ ap (λ (t : Turn State). t.0) e)))
-move_fails (start_again e) g = (first_is e, ap (λ (f : Fault). f.line) (err_same (sym g ∙ ap (λ (t : Turn State). t.0) e)))
+move_fails (start_too_deep h e) g = (first_is e, ap (λ (f : Fault). f.line) (same_err (sym g ∙ ap (λ (t : Turn State). t.0) e)))
+move_fails (start_again e) g = (first_is e, ap (λ (f : Fault). f.line) (same_err (sym g ∙ ap (λ (t : Turn State). t.0) e)))
 move_fails (end_closes q e) g = absurd (refused e g)
-move_fails (end_of_other q e) g = (first_is e, ap (λ (f : Fault). f.line) (err_same (sym g ∙ ap (λ (t : Turn State). t.0) e)))
-move_fails (end_of_none e) g = (first_is e, ap (λ (f : Fault). f.line) (err_same (sym g ∙ ap (λ (t : Turn State). t.0) e)))
+move_fails (end_of_other q e) g = (first_is e, ap (λ (f : Fault). f.line) (same_err (sym g ∙ ap (λ (t : Turn State). t.0) e)))
+move_fails (end_of_none e) g = (first_is e, ap (λ (f : Fault). f.line) (same_err (sym g ∙ ap (λ (t : Turn State). t.0) e)))
 
 tag_fails : {front : List Line} {os : List Open} {t : Tag} {n b : ℕ} {x : Said} {turn : Turn State} {es : List Event} {f : Fault} → Within front os t n
     → all_read front nothing_read ≡ good (in_tag os t n) es → TagMove os t n b x turn → turn.0 ≡ Err f → Handed front (in_tag os t n) f turn.1
@@ -189,7 +174,7 @@ bad_fails {front} {f = f} l k (at_tag {os} {t} {n} c) r e g = go (is_kind 65 l.b
   go false (Ok x) p q =
       let z = closes (Ok x) q p in
       inr (
-        ap (λ (f : Fault). f.line) (err_same (sym g ∙ ap (λ (t : Turn State). t.0) z)) ∙ ap (λ (m : ℕ). m + 1) c.count,
+        ap (λ (f : Fault). f.line) (same_err (sym g ∙ ap (λ (t : Turn State). t.0) z)) ∙ ap (λ (m : ℕ). m + 1) c.count,
         subst (Calm front (in_tag os t n)) (sym (first_is z)) (calm_within x c q r),
       )
   go false (Err j) p q = inl (first_is (closes (Err j) q p))
@@ -349,12 +334,6 @@ attribute_silent {a = a} {v} l (at_tag {os} {t} {n} c) d = ap (λ (t : Turn Stat
 
 -- ---- fronts of lines
 
-cons_rest : {x y : Line} {xs ys : List Line} → x ∷ xs ≡ y ∷ ys → xs ≡ ys
-cons_rest e = cc
-
-cons_first : {x y : Line} {xs ys : List Line} → x ∷ xs ≡ y ∷ ys → x ≡ y
-cons_first e = cc
-
 cons_same : {x y : Line} {xs ys : List Line} → x ≡ y → xs ≡ ys → x ∷ xs ≡ y ∷ ys
 cons_same e f = cc
 
@@ -363,14 +342,14 @@ longer_front : (more others front behind : List Line) → more ++ others ≡ fro
 longer_front [] others front behind e h = (front, refl)
 longer_front (l ∷ more) others [] behind e h = absurd (omega (arith, h))
 longer_front (l ∷ more) others (m ∷ front) behind e h =
-    let k = longer_front more others front behind (cons_rest e) (omega (arith, h)) in (k.0, cons_same (sym (cons_first e)) k.1)
+    let k = longer_front more others front behind (same_rest e) (omega (arith, h)) in (k.0, cons_same (sym (same_first e)) k.1)
 
 beyond : (more others front behind : List Line) (l : Line) → more ++ others ≡ front ++ l ∷ behind → length front < length more
     → (x : List Line) × (more ≡ front ++ l ∷ x)
 beyond [] others front behind l e h = absurd (omega (arith, h))
-beyond (m ∷ more) others [] behind l e h = (more, cons_same (cons_first e) refl)
+beyond (m ∷ more) others [] behind l e h = (more, cons_same (same_first e) refl)
 beyond (m ∷ more) others (k ∷ front) behind l e h =
-    let r = beyond more others front behind l (cons_rest e) (omega (arith, h)) in (r.0, cons_same (cons_first e) r.1)
+    let r = beyond more others front behind l (same_rest e) (omega (arith, h)) in (r.0, cons_same (same_first e) r.1)
 
 less_or : (n m : ℕ) → (n ≤ m) ⊎ (m < n)
 less_or n m = go (nat_le n m) refl where
@@ -409,14 +388,10 @@ record Sent (front : List Line) (sent : List Event) : Type 0 where
   begins : BeginsDocument longest_front sent
   in_time : InTime (length front) sent
 
-nothing_more : (u : State) → all_read [] u ≡ good u []
-unfolding all_read
-nothing_more u = refl
-
 all_next : (front : List Line) (l : Line) (s u : State) (es fs : List Event) → all_read front nothing_read ≡ good s es → line_read l s ≡ good u fs
     → all_read (front ++ l ∷ []) nothing_read ≡ good u (es ++ fs)
 all_next front l s u es fs e g = all_append front (l ∷ []) nothing_read ∙ ap (λ (t : Turn State). followed t (all_read (l ∷ []))) e
-    ∙ ap (after_events es) (all_cons l [] s ∙ ap (λ (t : Turn State). followed t (all_read [])) g ∙ ap (after_events fs) (nothing_more u)
+    ∙ ap (after_events es) (all_cons l [] s ∙ ap (λ (t : Turn State). followed t (all_read [])) g ∙ ap (after_events fs) (read_none u)
     ∙ rw (append-nil fs) refl)
 
 no_more : (front more others : List Line) (l : Line) (x : List Line) → front ++ l ∷ [] ≡ more ++ others → more ≡ front ++ l ∷ x → more ≡ front ++ l ∷ []
@@ -504,9 +479,9 @@ module _ (front : List Line) (l : Line) (s u : State) (es fs : List Event) (plac
 
 tells_of : {front : List Line} {l : Line} {turn : Turn State} {f : Fault} → LineTells front l turn → turn.0 ≡ Err f → (f.clause ≤ 12) × (length front ≤ f.line)
 tells_of (goes_on q p) e = absurd (ok_err (sym q ∙ e))
-tells_of (breaks_here k q h b) e = let is = err_same (sym q ∙ e) in
+tells_of (breaks_here k q h b) e = let is = same_err (sym q ∙ e) in
     (omega (arith, ap (λ (x : Fault). x.clause) is, h), omega (arith, ap (λ (x : Fault). x.line) is))
-tells_of (tag_breaks k q b n) e = let is = err_same (sym q ∙ e) in
+tells_of (tag_breaks k q b n) e = let is = same_err (sym q ∙ e) in
     (omega (arith, ap (λ (x : Fault). x.clause) is, go b.breaks), omega (arith, ap (λ (x : Fault). x.line) is)) where
       go : {A B : Type 0} → ((k ≡ 11) × A) ⊎ ((k ≡ 12) × B) → k ≤ 12
       go (inl p) = omega (arith, p.0)
@@ -522,7 +497,7 @@ module _ (front : List Line) (l : Line) (s : State) (es : List Event) (f : Fault
       ∙ go (line_read l s).0 (line_read l s).1 fails where
         go : (r : Result State Fault) (fs : List Event) → r ≡ Err f → (followed (after_events es (go_on r fs (all_read behind))) all_ended).0 ≡ Err f
         go (Ok x) fs e = absurd (ok_err e)
-        go (Err x) fs e = ap Err (err_same e)
+        go (Err x) fs e = ap Err (same_err e)
 
   bound : (f.clause ≤ 12) × (length front ≤ f.line)
   bound = tells_of (line_tells l place) fails
@@ -553,24 +528,17 @@ module _ (front : List Line) (l : Line) (s : State) (es : List Event) (f : Fault
 
 -- ---- all lines
 
-end_silent : (s : State) → (all_ended s).1 ≡ []
-unfolding all_ended
-end_silent s = go (at_end s) where
-  go : (o : Option Fault) → (at_last o s).1 ≡ []
-  go None = refl
-  go (Some f) = refl
-
 end_line : {all : List Line} {s : State} {f : Fault} → Place all s → (all_ended s).0 ≡ Err f → f.line ≡ length all
-end_line {all} {s} {f} p e = go (end_tells p) (ended_of s f e) where
+end_line {all} {s} {f} p e = go (end_tells p) (ended_fails s f e) where
   go : EndTells all (at_end s) → at_end s ≡ Some f → f.line ≡ length all
-  go (ends_well q) k = absurd (none_some (sym q ∙ k))
-  go (ends_open q b) k = ap (λ (x : Fault). x.line) (some_same (sym k ∙ q))
-  go (tag_ends_badly j q b) k = ap (λ (x : Fault). x.line) (some_same (sym k ∙ q))
+  go (ends_well q) k = absurd (none-some _ (sym q ∙ k))
+  go (ends_open q b) k = ap (λ (x : Fault). x.line) (same_Some _ _ (sym k ∙ q))
+  go (tag_ends_badly j q b) k = ap (λ (x : Fault). x.line) (same_Some _ _ (sym k ∙ q))
 
 at_the_end : {all : List Line} {s : State} {es : List Event} {f : Fault} → Place all s → Sent all es → (all_ended s).0 ≡ Err f
     → AreEventsBefore all f.line (es ++ (all_ended s).1)
 at_the_end {all} {s} {es} {f} p sent e =
-    subst (AreEventsBefore all f.line) (sym (ap (λ (x : List Event). es ++ x) (end_silent s) ∙ append-nil es)) (record {
+    subst (AreEventsBefore all f.line) (sym (ap (λ (x : List Event). es ++ x) (all_sends s) ∙ append-nil es)) (record {
       in_time = All-from_recursion (λ e. e.line ≤ f.line) es (subst (λ (n : ℕ). InTime n es) (sym (end_line p e)) sent.in_time);
       front = sent.longest_front;
       longest = sent.longest;
@@ -620,7 +588,7 @@ walk (l ∷ ls) front s es f p r sent h e =
           (subst (λ (x : List Line). AreEventsBefore x f.line ((es ++ fs) ++ (to_end ls u).1)) both
           (more u fs next (all_next front l s u es fs r q) (next_sent front l s u es fs p r (place_whole ls next again) sent q next) again g))
       go (Err x) fs q g more =
-          let k : x ≡ f = err_same g in
+          let k : x ≡ f = same_err g in
           subst (λ (y : List Event). AreEventsBefore (front ++ l ∷ ls) f.line (es ++ y)) (ap (λ (t : Turn State). t.1) q)
           (at_fault front l s es f p r (ap (λ (t : Turn State). t.0) q ∙ ap Err k) ls (place_whole (l ∷ ls) p h) sent)
 
@@ -628,14 +596,14 @@ sent_none : Sent [] []
 sent_none = record {
   longest_front = [];
   longest = itself [] calm.is_front;
-  begins = begins_less (text_event 1 []) (closing.goes_on [] nothing_read [] (text_event 1 []) tt (nothing_more nothing_read) calm.finishes);
+  begins = begins_less (text_event 1 []) (closing.goes_on [] nothing_read [] (text_event 1 []) tt (read_none nothing_read) calm.finishes);
   in_time = tt;
 } where
   calm : Calm [] nothing_read (text_event 1 [])
-  calm = calm_content content_first marks_none (nothing_more nothing_read)
+  calm = calm_content content_first marks_none (read_none nothing_read)
 
 -- the events that are handed out if a fault is returned
 pub events_at_fault : (bytes : List ℕ) (f : Fault) → (document_read (lines bytes)).0 ≡ Err f
     → AreEventsBefore (lines bytes) f.line (document_read (lines bytes)).1
 unfolding document_read
-events_at_fault bytes f e = walk (lines bytes) [] nothing_read [] f place_first (nothing_more nothing_read) sent_none (lines_without bytes) e
+events_at_fault bytes f e = walk (lines bytes) [] nothing_read [] f place_first (read_none nothing_read) sent_none (lines_without bytes) e

@@ -3,6 +3,7 @@ use Rattle.std.proofs.Common.{◌≡◌, ℕ, zero, suc, ◌≤◌, ◌<◌, Boo
 use Rattle.std.proofs.Common.{refl, ap, sym, ◌∙◌, subst, arith, append_assoc, ◌⊎◌, inl, inr}
 use Rattle.std.proofs.lemmas.List.{append-nil}
 use Rattle.std.proofs.lemmas.List.Elements.{All-append, All-cons, All-head, All-nil, All-tail, All-weaker}
+use Rattle.rng_model.proofs.Options.{ok_is_err}
 use Rattle.rng_model.specs.documents.Lines.{Line, line_limit, lines}
 use Rattle.rng_model.specs.documents.PyxFaults.{Fault}
 use Rattle.rng_model.specs.documents.PyxTrees.{Event, Placed, IsPyxDocument, events_of}
@@ -76,9 +77,6 @@ no_ended (c ∷ b) n f le ended =
     not_ended : false ≡ true → ⊥
     not_ended e = cc
 
-ok_err : {A B : Type 0} {x : A} {y : B} → ◌≡◌ {A = Result A B} (Ok x) (Err y) → ⊥
-ok_err e = cc
-
 -- a line that is too long is a fault
 full_fails : (c : ℕ) (cs : List ℕ) (p q : Progress) (es : List Event) → eqb c 10 ≡ false → line_limit ≤ length p.begun → read (c ∷ cs) p ≡ (Ok q, es) → ⊥
 full_fails c cs p q es e full r =
@@ -86,7 +84,7 @@ full_fails c cs p q es e full r =
     let bad = fails_first _ (read cs) (fails_first _ (λ s. silent (with_begun (p.begun ++ c ∷ []) s))
     (long_fails (open_line (p.begun ++ c ∷ [])) p.state big)) in
     let is = read_cons c cs p ∙ ap (λ (t : Turn Progress). followed t (read cs)) (byte_full c p e full) in
-    ok_err (sym (ap (λ (t : Turn Progress). t.0) (sym is ∙ r)) ∙ bad.is)
+    ok_is_err (sym (ap (λ (t : Turn Progress). t.0) (sym is ∙ r)) ∙ bad.is)
 
 -- one line more
 one_more : (n : ℕ) (first : Line) (ls : List Line) (s : State) (q : Progress) (es : List Event) (next : State → Turn Progress)
@@ -102,7 +100,7 @@ one_more n first ls s q es next e more = λ le ended. go (line_read first s).0 (
             on.0,
             sym (ap (λ (x : Turn Progress). x.1) h) ∙ ap (λ l. fs ++ l) on.1 ∙ sym (append_assoc fs (all_read (take n ls) t).1 on.0),
           )
-      go (Err f) fs h le ended = absurd (ok_err (sym (ap (λ (x : Turn Progress). x.0) h)))
+      go (Err f) fs h le ended = absurd (ok_is_err (sym (ap (λ (x : Turn Progress). x.0) h)))
 
 ended_front : (bytes : List ℕ) (p q : Progress) (es : List Event) → NoFeed p.begun → length p.begun ≤ line_limit → read bytes p ≡ (Ok q, es) → (n : ℕ)
     → Fronts n (lines (p.begun ++ bytes)) p.state es

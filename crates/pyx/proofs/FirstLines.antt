@@ -1,6 +1,6 @@
 -- The first line of bytes.
 use Rattle.std.proofs.Common.{◌≡◌, ℕ, Bool, true, false, cond, eqb, List, [], ◌∷◌, take, drop, Option, Some, None, refl, sym, ◌∙◌, one-add}
-use Rattle.std.proofs.Common.{◌+◌, ◌<◌, length, arith, ◌&&◌, ◌++◌, ap, subst}
+use Rattle.std.proofs.Common.{◌+◌, ◌<◌, length, arith, ◌++◌, ap, subst}
 use Rattle.std.specs.List.{list_all}
 use Rattle.std.proofs.lemmas.List.{length-append}
 use Rattle.std.proofs.lemmas.List.Folds.{list_all-append}
@@ -8,7 +8,7 @@ use Rattle.pyx.specs.plain.PlainBytes.{is_plain}
 use Rattle.pyx.proofs.WrittenNames.{joins, at_joins}
 use Rattle.std.specs.List.{prefix_len, position_or_len}
 use Rattle.std.proofs.lemmas.List.Sums.{position_or_len_is}
-use Rattle.std.proofs.lemmas.Bool.{false_from_ne_true}
+use Rattle.std.proofs.lemmas.Bool.{false_from_ne_true, and_parts}
 use Rattle.memchr.specs.Find.{Nowhere, NoneBefore, Passes, is_byte}
 use Rattle.pyx.specs.plain.Cuts.{at_byte, at_front}
 use Rattle.pyx.specs.plain.Pieces.{is_within}
@@ -70,18 +70,14 @@ pub record Halves (bytes front after : List ℕ) : Type 0 where
   pub after_plain : list_all is_plain after ≡ true
   pub shorter : length front + length after < length bytes
 
-both : (a b : Bool) → a && b ≡ true → (a ≡ true) × (b ≡ true)
-both true b e = (refl, e)
-both false b e = absurd cc
-
 pub halves : (bytes front after : List ℕ) → Some (front, after) ≡ at_byte 10 bytes → list_all is_plain bytes ≡ true → Halves bytes front after
 halves bytes front after e h =
     let j : front ++ 10 ∷ after ≡ bytes = subst (λ o. joins 10 o bytes) (sym e) (at_joins 10 bytes) in
-    let p = both (list_all is_plain front) (list_all is_plain (10 ∷ after))
+    let p = and_parts (list_all is_plain front) (list_all is_plain (10 ∷ after))
     (sym (list_all-append is_plain front (10 ∷ after)) ∙ ap (list_all is_plain) j ∙ h) in
     record {
       parts = j;
       front_plain = p.0;
-      after_plain = (both (is_plain 10) (list_all is_plain after) p.1).1;
+      after_plain = (and_parts (is_plain 10) (list_all is_plain after) p.1).1;
       shorter = omega (arith, length-append front (10 ∷ after), ap length j);
     }

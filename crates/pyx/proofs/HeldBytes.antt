@@ -7,6 +7,8 @@ use Rattle.std.specs.List.{AllByRecursion}
 use Rattle.std.proofs.lemmas.List.{length-append, append-nil}
 use Rattle.std.proofs.lemmas.List.Elements.{All-from_recursion}
 use Rattle.std.proofs.lemmas.List.Sums.{sum_by-cons}
+use Rattle.pyx.proofs.DocumentSound.{goes_first}
+use Rattle.rng_model.proofs.Options.{same_ok}
 use Rattle.rng_model.specs.documents.Lines.{Line, lines, line_limit}
 use Rattle.rng_model.specs.documents.PyxFaults.{HasKind, Fault}
 use Rattle.rng_model.specs.documents.PyxLines as said
@@ -33,7 +35,7 @@ use Rattle.pyx.proofs.TagParts as split
 use Rattle.pyx.proofs.LinesOfPieces.{with_open, grown, long_fails, length-push, read_cons, read_nil, byte_full, byte_within, byte_feed, dichotomy}
 use Rattle.pyx.proofs.LinesOfPieces.{at_nil}
 use Rattle.pyx.proofs.LinesOfPieces.{fails_first}
-use Rattle.pyx.proofs.PieceCounts.{ok_first, no_ok, read_counts}
+use Rattle.pyx.proofs.PieceCounts.{no_ok, read_counts}
 use Rattle.pyx.proofs.WholeBytes.{NoFeed, lines_ended, lines_open, lines_nil, push_no_feed}
 use Rattle.pyx.proofs.OpenTags.{other_kind, no_tag}
 use Rattle.pyx.proofs.JoinedText.{good_kind, good_length, joined_with, texts, text_more}
@@ -52,9 +54,6 @@ record Came (bytes : List ℕ) (s : State) (q : Progress) : Type 0 where
   cut : IsCut (lines bytes) whole q.begun
   state : (all_read whole s).0 ≡ Ok q.state
 
-ok_same : {A : Type 0} {x y : A} → ◌≡◌ {A = Result A Fault} (Ok x) (Ok y) → x ≡ y
-ok_same e = cc
-
 nothing_more : (s : State) → (all_read [] s).0 ≡ Ok s
 unfolding all_read
 nothing_more s = refl
@@ -72,7 +71,7 @@ came_none p q f e = subst (Came (p.begun ++ []) p.state) e (go p.begun f) where
 first_state : (l : Line) (ls : List Line) (s u t : State) → (line_read l s).0 ≡ Ok u → (all_read ls u).0 ≡ Ok t → (all_read (l ∷ ls) s).0 ≡ Ok t
 first_state l ls s u t e f = ap (λ (x : Turn State). x.0) (all_cons l ls s) ∙ go (line_read l s).0 (line_read l s).1 e where
   go : (r : Result State Fault) (es : List Event) → r ≡ Ok u → (go_on r es (all_read ls)).0 ≡ Ok t
-  go (Ok x) es q = ap (λ (y : State). (all_read ls y).0) (ok_same q) ∙ f
+  go (Ok x) es q = ap (λ (y : State). (all_read ls y).0) (same_ok q) ∙ f
   go (Err x) es q = absurd cc
 
 came_line : (c : ℕ) (cs : List ℕ) (p q : Progress) (u : State) → eqb c 10 ≡ true → NoFeed p.begun → (line_read (ended_line p.begun) p.state).0 ≡ Ok u
@@ -93,13 +92,13 @@ came_line c cs p q u e f g k = record {
 
 silent_ok : (r : Result State Fault) (es : List Event) (f : State → Progress) (a : Progress) → (go_on r es (λ s. silent (f s))).0 ≡ Ok a
     → (u : State) × (r ≡ Ok u) × (f u ≡ a)
-silent_ok (Ok u) es f a e = (u, refl, ok_same e)
+silent_ok (Ok u) es f a e = (u, refl, same_ok e)
 silent_ok (Err x) es f a e = absurd cc
 
 came : (bytes : List ℕ) (p q : Progress) → NoFeed p.begun → length p.begun ≤ line_limit → (read bytes p).0 ≡ Ok q → Came (p.begun ++ bytes) p.state q
-came [] p q f h e = came_none p q f (ok_same (ap (λ (t : Turn Progress). t.0) (sym (read_nil p)) ∙ e))
+came [] p q f h e = came_none p q f (same_ok (ap (λ (t : Turn Progress). t.0) (sym (read_nil p)) ∙ e))
 came (c ∷ cs) p q f h e = go (eqb c 10) refl (dichotomy (length p.begun) line_limit)
-    (ok_first (byte_read c p).0 (byte_read c p).1 (read cs) q (ap (λ (t : Turn Progress). t.0) (sym (read_cons c cs p)) ∙ e))
+    (goes_first (byte_read c p).0 (byte_read c p).1 (read cs) q (ap (λ (t : Turn Progress). t.0) (sym (read_cons c cs p)) ∙ e))
     (λ u. came cs (with_begun [] u) q at_nil (omega arith)) (λ k j. came cs (grown c p) q k j) where
       go : (b : Bool) → eqb c 10 ≡ b → (length p.begun < line_limit) ⊎ (line_limit ≤ length p.begun)
           → (a : Progress) × ((byte_read c p).0 ≡ Ok a) × ((read cs a).0 ≡ Ok q)
@@ -111,7 +110,7 @@ came (c ∷ cs) p q f h e = go (eqb c 10) refl (dichotomy (length p.begun) line_
           let w = silent_ok t.0 t.1 (with_begun []) a.0 (ap (λ (t : Turn Progress). t.0) (sym (byte_feed c p k)) ∙ a.1) in
           came_line c cs p q w.0 k f w.1 (new w.0 (ap (λ (x : Progress). (read cs x).0) w.2 ∙ a.2))
       go false k (inl small) a new more =
-          let w : grown c p ≡ a.0 = ok_same (ap (λ (t : Turn Progress). t.0) (sym (byte_within c p k small)) ∙ a.1) in
+          let w : grown c p ≡ a.0 = same_ok (ap (λ (t : Turn Progress). t.0) (sym (byte_within c p k small)) ∙ a.1) in
           subst (λ (b : List ℕ). Came b p.state q) (append_assoc p.begun (c ∷ []) cs)
           (more (push_no_feed p.begun c f k) (omega (arith, small, length-push p.begun c)) (ap (λ (x : Progress). (read cs x).0) w ∙ a.2))
       go false k (inr full) a new more =
@@ -123,7 +122,7 @@ came (c ∷ cs) p q f h e = go (eqb c 10) refl (dichotomy (length p.begun) line_
 -- ---- a place after lines that are read
 
 placed_from : (ls front : List Line) (s t : State) → Place front s → (all_read ls s).0 ≡ Ok t → Place (front ++ ls) t
-placed_from [] front s t p e = subst (λ (x : List Line). Place x t) (sym (append-nil front)) (subst (Place front) (ok_same (sym (nothing_more s) ∙ e)) p)
+placed_from [] front s t p e = subst (λ (x : List Line). Place x t) (sym (append-nil front)) (subst (Place front) (same_ok (sym (nothing_more s) ∙ e)) p)
 placed_from (l ∷ ls) front s t p e =
     let w = first_of (line_read l s).0 (line_read l s).1 (ap (λ (x : Turn State). x.0) (sym (all_cons l ls s)) ∙ e) in
     subst (λ (x : List Line). Place x t) (append_assoc front (l ∷ []) ls)

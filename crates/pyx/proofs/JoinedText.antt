@@ -1,9 +1,12 @@
 -- Good lines have one content; the text that is joined at their end; and whether there is a root.
-use Rattle.std.proofs.Common.{◌≡◌, ℕ, ◌≤◌, Bool, true, false, ◌||◌, List, [], ◌∷◌, ◌++◌, length, Ok, refl, sym, ap, subst, ◌∙◌, append_assoc}
+use Rattle.std.proofs.Common.{◌≡◌, ℕ, ◌≤◌, Bool, true, false, ◌||◌, List, [], ◌∷◌, ◌++◌, length, refl, sym, ap, subst, ◌∙◌, append_assoc}
 use Rattle.std.proofs.Common.{arith}
 use Rattle.std.specs.List.{All, AllByRecursion}
 use Rattle.std.proofs.lemmas.List.{append-nil, length-append}
 use Rattle.std.proofs.lemmas.List.Elements.{All-from_recursion, recursion_from_All}
+use Rattle.std.proofs.Math.Bool.{or-true}
+use Rattle.rng_model.proofs.Options.{same_ok}
+use Rattle.rng_model.proofs.Members.{same_first, same_rest}
 use Rattle.rng_model.specs.documents.Lines.{Line}
 use Rattle.rng_model.specs.documents.PyxFaults.{HasKind}
 use Rattle.rng_model.specs.documents.PyxLines as said
@@ -11,7 +14,6 @@ use Rattle.rng_model.specs.documents.PyxLines.{Said, WrittenName, Says, says_sta
 use Rattle.rng_model.specs.documents.PyxLines.{no_lines, line_and}
 use Rattle.rng_model.specs.documents.PyxTrees.{IsRun, no_run, text_and, instruction_and}
 use Rattle.rng_model.specs.documents.PyxClauses.{EndsInText}
-use Rattle.pyx.specs.plain.LineReader.{Read}
 use Rattle.pyx.specs.plain.WrittenNames.{written_of}
 use Rattle.pyx.proofs.LineClauses.{line_is}
 use Rattle.pyx.proofs.NamesInLines.{name_is}
@@ -19,11 +21,8 @@ use Rattle.pyx.proofs.OpenTags.{is_kind, kind_is, has_kind, other_kind}
 
 -- ---- good lines
 
-ok_same : (x y : Said) → ◌≡◌ {A = Read Said} (Ok x) (Ok y) → x ≡ y
-ok_same x y e = cc
-
 pub said_same : {l : Line} {x y : Said} → IsGoodLine l x → IsGoodLine l y → x ≡ y
-said_same {x = x} {y = y} g h = ok_same x y (sym (line_is g) ∙ line_is h)
+said_same {x = x} {y = y} g h = same_ok (sym (line_is g) ∙ line_is h)
 
 cons_same : {A : Type 0} {x y : A} {xs ys : List A} → x ≡ y → xs ≡ ys → x ∷ xs ≡ y ∷ ys
 cons_same e f = cc
@@ -50,18 +49,13 @@ split_first : {ls : List Line} {all : List Said} (l : Line) (front behind : List
     → ((xs : List Said) → AreGoodLines (front ++ behind) xs → Split front behind xs) → Split (l ∷ front) behind all
 split_first l front behind no_lines e more = absurd cc
 split_first l front behind (line_and {l = m} {ls} {said = x} {more = xs} g n) e more =
-    let k = more xs (subst (λ (y : List Line). AreGoodLines y xs) (rest_same m l ls (front ++ behind) e) n) in record {
+    let k = more xs (subst (λ (y : List Line). AreGoodLines y xs) (same_rest e) n) in record {
       left = x ∷ k.left;
       right = k.right;
       parts = ap (λ (y : List Said). x ∷ y) k.parts;
-      are_left = line_and (subst (λ (y : Line). IsGoodLine y x) (line_same m l ls (front ++ behind) e) g) k.are_left;
+      are_left = line_and (subst (λ (y : Line). IsGoodLine y x) (same_first e) g) k.are_left;
       are_right = k.are_right;
-    } where
-      line_same : (x l : Line) (xs ys : List Line) → x ∷ xs ≡ l ∷ ys → x ≡ l
-      line_same x l xs ys e = cc
-
-      rest_same : (x l : Line) (xs ys : List Line) → x ∷ xs ≡ l ∷ ys → xs ≡ ys
-      rest_same x l xs ys e = cc
+    }
 
 pub split_lines : (front behind : List Line) (all : List Said) → AreGoodLines (front ++ behind) all → Split front behind all
 split_lines [] behind all g = record { left = []; right = all; parts = refl; are_left = no_lines; are_right = g }
@@ -223,10 +217,6 @@ unfoldable pub has_root : List Line → Bool
 has_root [] = false
 has_root (l ∷ ls) = is_kind 40 l.bytes || has_root ls
 
-or_second : (a : Bool) → (a || true) ≡ true
-or_second true = refl
-or_second false = refl
-
 pub root_stays : (ls ms : List Line) → has_root ls ≡ true → has_root (ls ++ ms) ≡ true
 unfolding has_root
 root_stays [] ms e = absurd cc
@@ -238,7 +228,7 @@ root_stays (l ∷ ls) ms e = go (is_kind 40 l.bytes) e (root_stays ls ms) where
 pub root_in : (front : List Line) (l : Line) (rest : List Line) → HasKind 40 l → has_root (front ++ l ∷ rest) ≡ true
 unfolding has_root
 root_in [] l rest h = rw (kind_is 40 l h) refl
-root_in (m ∷ front) l rest h = rw (root_in front l rest h) (or_second (is_kind 40 m.bytes))
+root_in (m ∷ front) l rest h = rw (root_in front l rest h) (or-true (is_kind 40 m.bytes))
 
 pub root_other : (ls : List Line) (l : Line) → is_kind 40 l.bytes ≡ false → has_root (ls ++ l ∷ []) ≡ has_root ls
 unfolding has_root

@@ -1,7 +1,8 @@
 -- What a line that begins or ends a tag leads to, once its name is judged.
-use Rattle.std.proofs.Common.{◌≡◌, ◌<◌, ◌≤◌, rules, ◌∙◌, ◌&&◌, ◌==◌, ap, arith, sym, ℕ, Bool, true, false, cond, List, [], ◌∷◌, length, Option, Ok, refl}
+use Rattle.std.proofs.Common.{◌≡◌, ◌<◌, ◌∙◌, ◌&&◌, ◌==◌, ap, arith, sym, ℕ, Bool, true, false, cond, List, [], ◌∷◌, length, Option, Ok, refl}
 use Rattle.std.specs.Prelude.{nat_le}
-use Rattle.std.proofs.lemmas.Bool.{and_parts}
+use Rattle.std.proofs.lemmas.Bool.{and_parts, lt-leb}
+use Rattle.std.proofs.Math.Bool.{and-false}
 use Rattle.rng_model.specs.documents.Lines.{open_limit}
 use Rattle.rng_model.specs.documents.PyxLines as lines
 use Rattle.rng_model.specs.documents.PyxTrees.{Event, an_end, a_string}
@@ -10,21 +11,14 @@ use Rattle.pyx.specs.plain.DocumentReader.{text_ended}
 use Rattle.pyx.specs.plain.LineReader.{is_name, named}
 use Rattle.pyx.specs.plain.WrittenNames.{written_of}
 use Rattle.pyx.specs.views.ElementView.{is_innermost}
-use Rattle.pyx.proofs.OpenNames.{and_false}
 
 pub not_outside : (s : State) (opened : List Open) → opened ≡ s.opened → (length opened == 0) ≡ false → (s.root && is_outside s) ≡ false
 not_outside s opened e some =
     let inside : is_outside s ≡ false = ap (λ (o : List Open). length o == 0) (sym e) ∙ some in
-    ap (λ b. s.root && b) inside ∙ and_false s.root
-
-few : (n m : ℕ) → m < n → nat_le n m ≡ false
-few n m h = go (nat_le n m) refl where
-  go : (b : Bool) → nat_le n m ≡ b → b ≡ false
-  go false e = refl
-  go true e = let k : n ≤ m = search rules in absurd (omega (arith, h, k))
+    ap (λ b. s.root && b) inside ∙ and-false s.root
 
 pub few_open : (s : State) (opened : List Open) → opened ≡ s.opened → length opened < 512 → nat_le open_limit (length s.opened) ≡ false
-few_open s opened e h = few 512 (length s.opened) (omega (arith, h, ap length e))
+few_open s opened e h = lt-leb 512 (length s.opened) (omega (arith, h, ap length e))
 
 -- the tag and its name do not matter to the text before it
 pub start_judged : (bytes : ℕ) (name : List ℕ) (s : State) (t : Option Tag) (opened : List Open) → is_name name ≡ true → (s.root && is_outside s) ≡ false

@@ -2,6 +2,7 @@
 use Rattle.std.proofs.Common.{◌≡◌, ℕ, ◌+◌, ◌≤◌, ◌<◌, Bool, true, false, ◌&&◌, List, [], ◌∷◌, ◌++◌, length, Result, Ok, Err, refl, sym, ap}
 use Rattle.std.proofs.Common.{◌∙◌, rules}
 use Rattle.std.specs.Prelude.{◌==◌, ◌≢◌, nat_le}
+use Rattle.std.proofs.lemmas.Bool.{le-leb, lt-leb}
 use Rattle.rng_model.specs.documents.Lines.{attribute_limit, open_limit, text_limit}
 use Rattle.rng_model.specs.documents.PyxLines as lines
 use Rattle.rng_model.specs.documents.PyxLines.{Said, WrittenName}
@@ -10,7 +11,7 @@ use Rattle.pyx.specs.plain.Declarations.{same_written}
 use Rattle.pyx.specs.plain.DocumentReader.{State, Tag, Open, Turn, fault, after_events, declared_in, with_attribute, started, attributed, joined_by, ended, said_read}
 use Rattle.pyx.proofs.WrittenNames.{written_itself, written_same}
 use Rattle.pyx.proofs.SaidLines.{is_attribute, said_line, good}
-use Rattle.pyx.proofs.StateSteps.{inside, in_tag, begun, open_of, text_event, end_event, start_event, not_zero, too_few, enough, attribute_step}
+use Rattle.pyx.proofs.StateSteps.{inside, in_tag, begun, open_of, text_event, end_event, start_event, not_zero, attribute_step}
 use Rattle.pyx.proofs.StateSteps.{instruction_step}
 use Rattle.pyx.proofs.StateSteps.{text_step, start_step, end_step, early}
 
@@ -44,7 +45,7 @@ attribute_refused os w n root b a v = refl
 text_refused : (o : Open) (os : List Open) (w : List ℕ) (n : ℕ) (root : Bool) (b : ℕ) (v : List ℕ) → text_limit < length w + length v
     → said_line b (lines.text v) (inside (o ∷ os) w n root) ≡ fault 10 (n + 1)
 unfolding said_line said_read joined_by
-text_refused o os w n root b v h = rw (not_zero (length os), too_few (length w + length v) text_limit h) refl
+text_refused o os w n root b v h = rw (not_zero (length os), lt-leb (length w + length v) text_limit h) refl
 
 text_first : (w : List ℕ) (n : ℕ) (root : Bool) (b : ℕ) (v : List ℕ) → said_line b (lines.text v) (inside [] w n root) ≡ fault 9 (n + 1)
 unfolding said_line said_read joined_by
@@ -53,7 +54,7 @@ text_first w n root b v = refl
 start_deep : (os : List Open) (w : List ℕ) (n : ℕ) (root : Bool) (b : ℕ) (name : WrittenName) → (root && length os == 0) ≡ false
     → open_limit ≤ length os → said_line b (lines.start name) (inside os w n root) ≡ fault 10 (n + 1)
 unfolding said_line said_read started
-start_deep os w n root b name fits h = rw (fits, enough open_limit (length os) h) refl
+start_deep os w n root b name fits h = rw (fits, le-leb open_limit (length os) h) refl
 
 start_second : (w : List ℕ) (n : ℕ) (b : ℕ) (name : WrittenName) → said_line b (lines.start name) (inside [] w n true) ≡ fault 9 (n + 1)
 unfolding said_line said_read started
@@ -112,7 +113,7 @@ pub data TagMove (os : List Open) (t : Tag) (n : ℕ) (b : ℕ) : Said → Turn 
 attribute_full : (os : List Open) (t : Tag) (n b : ℕ) (a : WrittenName) (v : List ℕ) → attribute_limit ≤ length t.declared + length t.others
     → said_line b (lines.attribute a v) (in_tag os t n) ≡ fault 10 (n + 1)
 unfolding said_line said_read attributed
-attribute_full os t n b a v h = rw (enough attribute_limit (length t.declared + length t.others) h) refl
+attribute_full os t n b a v h = rw (le-leb attribute_limit (length t.declared + length t.others) h) refl
 
 refused : (os : List Open) (t : Tag) (n b : ℕ) (x : Said) (clause : ℕ) → is_attribute x ≡ false
     → tag_read (declared_in os) t.name t.declared t.others ≡ Err clause → said_line b x (in_tag os t n) ≡ fault clause n

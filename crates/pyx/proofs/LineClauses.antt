@@ -4,10 +4,11 @@ use Rattle.std.proofs.Common.{subst, ◌∙◌, arith, rules, lit≤, lit<}
 use Rattle.std.specs.Prelude.{nat_le, ◌≢◌}
 use Rattle.std.specs.List.{All, AllByRecursion, list_all}
 use Rattle.std.specs.Str.{IsUtf8, is_utf8, chars}
-use Rattle.std.proofs.lemmas.Bool.{eqb-true}
+use Rattle.std.proofs.lemmas.Bool.{eqb-true, le-leb}
 use Rattle.std.proofs.lemmas.List.Elements.{All-from_recursion, recursion_from_All}
 use Rattle.std.proofs.lemmas.List.Sums.{AllPass-from_list_all, list_all-from_AllPass}
 use Rattle.std.proofs.lemmas.Str.{is_utf8-from_IsUtf8, IsUtf8-from_is_utf8}
+use Rattle.pyx.proofs.LineTexts.{read_when_utf8}
 use Rattle.rng_model.specs.names.Characters.{is_xml_char}
 use Rattle.rng_model.specs.schema.Least.{IsLeast}
 use Rattle.rng_model.specs.documents.Lines.{Line, line_limit}
@@ -24,9 +25,6 @@ use Rattle.pyx.proofs.NamesInLines.{not_equal, differs, Found, found, at_none, a
 use Rattle.pyx.proofs.LinesOfPieces.{said_of_long}
 
 -- ---- results
-
-ok_same : (x y : Said) → ◌≡◌ {A = Read Said} (Ok x) (Ok y) → x ≡ y
-ok_same x y e = cc
 
 err_same : (j k : ℕ) → ◌≡◌ {A = Read Said} (Err j) (Err k) → j ≡ k
 err_same j k e = cc
@@ -181,16 +179,13 @@ pub record AtMost (l : Line) (k : ℕ) : Type 0 where
   pub is : said_of l ≡ Err answer
   pub le : answer ≤ k
 
-few : (n m : ℕ) → n ≤ m → nat_le n m ≡ true
-few n m h = search rules
-
 said_unended : (l : Line) → length l.bytes ≤ line_limit → l.ended ≡ false → said_of l ≡ Err 1
 unfolding said_of
-said_unended l h e = rw (few (length l.bytes) line_limit h, e) refl
+said_unended l h e = rw (le-leb (length l.bytes) line_limit h, e) refl
 
 pub said_ended : (l : Line) → length l.bytes ≤ line_limit → l.ended ≡ true → said_of l ≡ bytes_of l.bytes
 unfolding said_of
-said_ended l h e = rw (few (length l.bytes) line_limit h, e) refl
+said_ended l h e = rw (le-leb (length l.bytes) line_limit h, e) refl
 
 -- the same for a line that is ended
 ended_most : (l : Line) (k : ℕ) → length l.bytes ≤ line_limit → 1 ≤ k → (j : ℕ) → j ≤ k → (l.ended ≡ true → bytes_of l.bytes ≡ Err j) → AtMost l k
@@ -205,10 +200,6 @@ not_utf8 bytes n = go (is_utf8 bytes) refl where
   go : (b : Bool) → is_utf8 bytes ≡ b → cond b (characters_of bytes) (Err 2) ≡ Err 2
   go true e = absurd (n (IsUtf8-from_is_utf8 bytes e))
   go false e = refl
-
-is_text : (bytes : List ℕ) → IsUtf8 bytes → bytes_of bytes ≡ characters_of bytes
-unfolding bytes_of
-is_text bytes u = rw (is_utf8-from_IsUtf8 bytes u) refl
 
 not_xml : (bytes : List ℕ) → (All (λ c. is_xml_char c ≡ true) (chars bytes) → ⊥) → characters_of bytes ≡ Err 3
 unfolding characters_of
@@ -233,13 +224,13 @@ kind_most bytes k j three le e = go (is_utf8 bytes) (list_all is_xml_char (chars
   go false c q r = record { answer = 2; is = not_utf8 bytes (λ u. false_true (sym q ∙ is_utf8-from_IsUtf8 bytes u)); le = omega (arith, three) }
   go true false q r = record {
     answer = 3;
-    is = is_text bytes (IsUtf8-from_is_utf8 bytes q)
+    is = read_when_utf8 bytes (IsUtf8-from_is_utf8 bytes q)
         ∙ not_xml bytes (λ a. false_true (sym r ∙ list_all-from_AllPass is_xml_char (chars bytes) a));
     le = three;
   }
   go true true q r = record {
     answer = j;
-    is = is_text bytes (IsUtf8-from_is_utf8 bytes q) ∙ is_xml bytes (AllPass-from_list_all is_xml_char (chars bytes) r)
+    is = read_when_utf8 bytes (IsUtf8-from_is_utf8 bytes q) ∙ is_xml bytes (AllPass-from_list_all is_xml_char (chars bytes) r)
         ∙ e;
     le = le;
   }
@@ -313,7 +304,7 @@ name_in name rest u = (utf8_parts name rest 32 (lit< tt) (utf8_parts [] (name ++
 within_most : {l : Line} {k : ℕ} → length l.bytes ≤ line_limit → BreaksAlone l k → AtMost l k
 within_most {l} h (unended e) = record { answer = 1; is = said_unended l h e; le = lit≤ tt }
 within_most {l} h (no_utf8 n) = ended_most l 2 h (lit≤ tt) 2 (lit≤ tt) (λ e. not_utf8 l.bytes n)
-within_most {l} h (no_xml_char u n) = ended_most l 3 h (lit≤ tt) 3 (lit≤ tt) (λ e. is_text l.bytes u ∙ not_xml l.bytes n)
+within_most {l} h (no_xml_char u n) = ended_most l 3 h (lit≤ tt) 3 (lit≤ tt) (λ e. read_when_utf8 l.bytes u ∙ not_xml l.bytes n)
 within_most {l} h (no_kind n) = line_most l l.bytes 4 4 h refl (lit≤ tt) (lit≤ tt) (kind_none l l.bytes refl n)
 within_most {l} h (bad_text {written} e n) = line_most l (45 ∷ written) 5 5 h e (lit≤ tt) (lit≤ tt) (kind_text written n)
 within_most {l} h (bad_value {bytes = rest} {before} {written} e c n) = line_most l (65 ∷ (before ++ 32 ∷ written)) 5 5 h (e
@@ -352,4 +343,4 @@ kind_is (says_end {written} {name} n) = let k = name_is n in rw (k.0, k.1) refl
 kind_is says_instruction = refl
 
 pub line_is : {l : Line} {said : Said} → IsGoodLine l said → said_of l ≡ Ok said
-line_is {l} g = said_ended l g.within g.ended ∙ is_text l.bytes g.utf8 ∙ is_xml l.bytes g.characters ∙ kind_is g.says
+line_is {l} g = said_ended l g.within g.ended ∙ read_when_utf8 l.bytes g.utf8 ∙ is_xml l.bytes g.characters ∙ kind_is g.says

@@ -3,7 +3,7 @@ use Rattle.std.proofs.Common.{◌≡◌, ℕ, suc, ◌+◌, ◌-◌, ◌≤◌, 
 use Rattle.std.proofs.Common.{Err, refl, ap, sym, ◌∙◌, arith, append_assoc, rules, ◌⊎◌, inl, inr}
 use Rattle.std.specs.Prelude.{nat_le}
 use Rattle.std.proofs.lemmas.List.{append-nil, length-append}
-use Rattle.std.proofs.lemmas.Bool.{lt-leb}
+use Rattle.std.proofs.lemmas.Bool.{lt-leb, le-leb}
 use Rattle.rng_model.specs.documents.Lines.{Line, line_limit}
 use Rattle.rng_model.specs.documents.PyxFaults.{Fault}
 use Rattle.rng_model.specs.documents.PyxTrees.{Event}
@@ -14,15 +14,9 @@ use Rattle.pyx.specs.plain.Pieces.{Progress, with_begun, ended_line, open_line, 
 
 -- ---- a line that is too long
 
-too_many : (n m : ℕ) → m < n → nat_le n m ≡ false
-too_many n m h = search (lt-leb, h)
-
-few : (n m : ℕ) → n ≤ m → nat_le n m ≡ true
-few n m h = search rules
-
 pub said_of_long : (l : Line) → line_limit < length l.bytes → said_of l ≡ Err 10
 unfolding said_of
-said_of_long l h = rw (too_many (length l.bytes) line_limit h) refl
+said_of_long l h = rw (lt-leb (length l.bytes) line_limit h) refl
 
 pub record Fails {A : Type 0} (turn : Turn A) : Type 0 where
   pub fault : Fault
@@ -88,12 +82,12 @@ rest_more c rest p h =
 line_full : (c : ℕ) (front : List ℕ) (p : Progress) → length p.begun ≤ line_limit → line_limit ≤ length p.begun
     → line_taken (c ∷ front) p ≡ with_open p (p.begun ++ c ∷ [])
 unfolding line_taken
-line_full c front p h k = rw (too_many (length p.begun + length (c ∷ front)) line_limit (omega (arith, k))) (overlong_one c front p h k)
+line_full c front p h k = rw (lt-leb (length p.begun + length (c ∷ front)) line_limit (omega (arith, k))) (overlong_one c front p h k)
 
 rest_full : (c : ℕ) (rest : List ℕ) (p : Progress) → length p.begun ≤ line_limit → line_limit ≤ length p.begun
     → rest_taken (c ∷ rest) p ≡ with_open p (p.begun ++ c ∷ [])
 unfolding rest_taken
-rest_full c rest p h k = rw (too_many (length p.begun + length (c ∷ rest)) line_limit (omega (arith, k))) (overlong_one c rest p h k)
+rest_full c rest p h k = rw (lt-leb (length p.begun + length (c ∷ rest)) line_limit (omega (arith, k))) (overlong_one c rest p h k)
 
 pub read_cons : (c : ℕ) (cs : List ℕ) (p : Progress) → read (c ∷ cs) p ≡ followed (byte_read c p) (read cs)
 unfolding read
@@ -101,11 +95,11 @@ read_cons c cs p = refl
 
 pub byte_full : (c : ℕ) (p : Progress) → eqb c 10 ≡ false → line_limit ≤ length p.begun → byte_read c p ≡ with_open p (p.begun ++ c ∷ [])
 unfolding byte_read
-byte_full c p e h = rw (e, few line_limit (length p.begun) h) refl
+byte_full c p e h = rw (e, le-leb line_limit (length p.begun) h) refl
 
 pub byte_within : (c : ℕ) (p : Progress) → eqb c 10 ≡ false → length p.begun < line_limit → byte_read c p ≡ silent (grown c p)
 unfolding byte_read
-byte_within c p e h = rw (e, too_many line_limit (length p.begun) h) refl
+byte_within c p e h = rw (e, lt-leb line_limit (length p.begun) h) refl
 
 pub byte_feed : (c : ℕ) (p : Progress) → eqb c 10 ≡ true → byte_read c p ≡ followed (line_read (ended_line p.begun) p.state) (λ s. silent (with_begun [] s))
 unfolding byte_read
@@ -115,13 +109,13 @@ line_none : (p : Progress) → length p.begun ≤ line_limit → line_taken [] p
 unfolding line_taken
 line_none p h =
     let n : length p.begun + 0 ≡ length p.begun = omega arith in
-    rw (n, few (length p.begun) line_limit h, append-nil p.begun) refl
+    rw (n, le-leb (length p.begun) line_limit h, append-nil p.begun) refl
 
 rest_none : (p : Progress) → length p.begun ≤ line_limit → rest_taken [] p ≡ silent p
 unfolding rest_taken
 rest_none p h =
     let n : length p.begun + 0 ≡ length p.begun = omega arith in
-    rw (n, few (length p.begun) line_limit h, append-nil p.begun) refl
+    rw (n, le-leb (length p.begun) line_limit h, append-nil p.begun) refl
 
 pub at_nil : at_byte 10 [] ≡ None
 unfolding at_byte
@@ -135,7 +129,7 @@ pub at_cons : (c : ℕ) (cs : List ℕ) → at_byte 10 (c ∷ cs) ≡ cond (eqb 
 unfolding at_byte
 at_cons c cs = refl
 
-some_pair : {A B : Type 0} (a : A) (b : B) (c : A) (d : B) → ◌≡◌ {A = Option (A × B)} (Some (a, b)) (Some (c, d)) → (a ≡ c) × (b ≡ d)
+pub some_pair : {A B : Type 0} (a : A) (b : B) (c : A) (d : B) → ◌≡◌ {A = Option (A × B)} (Some (a, b)) (Some (c, d)) → (a ≡ c) × (b ≡ d)
 some_pair {A = A} {B = B} a b c d e = let q : ◌≡◌ {A = A × B} (a, b) (c, d) = cc in (ap (λ (p : A × B). p.0) q, ap (λ (p : A × B). p.1) q)
 
 pub dichotomy : (n m : ℕ) → (n < m) ⊎ (m ≤ n)

@@ -10,6 +10,8 @@ use Rattle.std.proofs.lemmas.List.{length-append}
 use Rattle.std.proofs.lemmas.Str.{encode_ascii, IsUtf8-take, IsUtf8-drop, IsUtf8-append, IsUtf8-from_ascii, IsCharBoundary-before_ascii}
 use Rattle.std.proofs.lemmas.Str.{IsCharBoundary-after_ascii, chars-append, chars_past_char}
 use Rattle.std.proofs.lemmas.Str.Ascii.{IsAscii-nil, IsAscii-cons}
+use Rattle.std.proofs.Math.Bool.{and-false}
+use Rattle.rng_model.proofs.Truths.{number_itself}
 use Rattle.rng_model.specs.names.Characters.{is_ncname, is_name_start, is_name_char, is_colon}
 use Rattle.rng_model.specs.documents.PyxLines.{WrittenName, IsNcnameText, IsName, alone, prefixed}
 use Rattle.pyx.specs.plain.Cuts.{at_byte, at_front}
@@ -25,12 +27,9 @@ not_equal a b n = go (eqb a b) refl where
   go false e = e
 
 pub differs : (a b : ℕ) → eqb a b ≡ false → a ≢ b
-differs a b q p = absurd (true_false (sym (same b) ∙ subst (λ (x : ℕ). eqb x b ≡ false) p q)) where
+differs a b q p = absurd (true_false (sym (number_itself b) ∙ subst (λ (x : ℕ). eqb x b ≡ false) p q)) where
   true_false : true ≡ false → ⊥
   true_false e = cc
-
-  same : (b : ℕ) → eqb b b ≡ true
-  same b = search rules
 
 -- where a byte is first, or that it is nowhere
 abbrev pub Found : ℕ → List ℕ → Option (List ℕ × List ℕ) → Type 0
@@ -99,21 +98,17 @@ chars_seam a b k small u =
 
 -- ---- NCNames
 
-and_false : (a : Bool) → (a && false) ≡ false
-and_false true = refl
-and_false false = refl
-
 abbrev InName : ℕ → Bool
 InName d = is_name_char d && not (is_colon d)
 
 all_fails : (f : ℕ → Bool) (xs ys : List ℕ) (k : ℕ) → f k ≡ false → list_all f (xs ++ k ∷ ys) ≡ false
 all_fails f [] ys k e = rw e refl
-all_fails f (x ∷ xs) ys k e = rw (all_fails f xs ys k e) (and_false (f x))
+all_fails f (x ∷ xs) ys k e = rw (all_fails f xs ys k e) (and-false (f x))
 
 -- no NCName contains this character
 ncname_fails : (xs ys : List ℕ) (k : ℕ) → (is_name_start k && not (is_colon k)) ≡ false → InName k ≡ false → is_ncname (xs ++ k ∷ ys) ≡ false
 ncname_fails [] ys k e f = rw e refl
-ncname_fails (x ∷ xs) ys k e f = rw (all_fails InName xs ys k f) (and_false (is_name_start x && not (is_colon x)))
+ncname_fails (x ∷ xs) ys k e f = rw (all_fails InName xs ys k f) (and-false (is_name_start x && not (is_colon x)))
 
 true_false : true ≡ false → ⊥
 true_false e = cc

@@ -5,6 +5,8 @@ use Rattle.std.specs.Str.{IsCharBoundary, IsUtf8}
 use Rattle.std.proofs.lemmas.List.{drop_at, length-drop, length-take, reverse-append, take-take, take_at}
 use Rattle.std.proofs.lemmas.Str.{IsCharBoundary-at_seam, IsCharBoundary-end, IsCharBoundary-from_take, IsUtf8-take}
 use Rattle.std.proofs.lemmas.Str.{chars-nil}
+use Rattle.std.proofs.Math.Bool.{and-false}
+use Rattle.rng_model.proofs.Texts.{bytes_same}
 use Rattle.rng_model.specs.names.Characters.{is_ncname}
 use Rattle.pyx.specs.declared.elements.OpenElement.{OpenElement}
 use Rattle.rng_model.specs.documents.PyxNamespaces.{WrittenAttribute}
@@ -15,11 +17,7 @@ use Rattle.pyx.specs.plain.WrittenNames.{written_of}
 use Rattle.pyx.specs.plain.Declarations.{same_written}
 use Rattle.pyx.specs.views.ElementView.{AreNamed, IsJudged, is_innermost, stack_of}
 use Rattle.pyx.proofs.OpenStack.{stack_push}
-use Rattle.pyx.proofs.WrittenNames.{bytes_same, written_alike}
-
-pub and_false : (a : Bool) → (a && false) ≡ false
-and_false true = refl
-and_false false = refl
+use Rattle.pyx.proofs.WrittenNames.{written_alike}
 
 -- the innermost element and those around it
 pub named_parts : (opened outer : List OpenElement) (e : OpenElement) (names : List ℕ) → opened ≡ outer ++ e ∷ [] → AreNamed (reverse opened) names
@@ -93,7 +91,7 @@ same_as_innermost opened outer e names ds name b parts named some is =
           let same : drop e.start names ≡ name = bytes_same (drop e.start names) name (sym (written_alike (drop e.start names) name) ∙ sym is) in
           let good : is_name name ≡ true = subst (λ (n : List ℕ). 0 < length n → is_name n ≡ true) same named some in
           is ∙ sym (ap (λ b. b && same_written (written_of (drop e.start names)) (written_of name)) good)
-      go false is = sym (ap (λ b. is_name name && b) (sym is) ∙ and_false (is_name name))
+      go false is = sym (ap (λ b. is_name name && b) (sym is) ∙ and-false (is_name name))
 
 nothing_named : is_name [] ≡ false
 unfolding is_name at_byte
@@ -104,7 +102,7 @@ not_innermost [] stack e = sym (ap (λ b. b && is_innermost (written_of []) stac
 not_innermost (c ∷ cs) stack e = absurd (omega (arith, e))
 
 pub none_innermost : (name : List ℕ) (stack : List Open) → stack ≡ [] → false ≡ (is_name name && is_innermost (written_of name) stack)
-none_innermost name stack e = rw e (sym (and_false (is_name name)))
+none_innermost name stack e = rw e (sym (and-false (is_name name)))
 
 pub some : (xs : List ℕ) → (length xs == 0) ≡ false → 0 < length xs
 some [] e = absurd cc

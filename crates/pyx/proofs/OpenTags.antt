@@ -4,6 +4,7 @@ use Rattle.std.specs.List.{All}
 use Rattle.std.proofs.lemmas.Bool.{eqb-true}
 use Rattle.std.proofs.lemmas.List.{append-nil}
 use Rattle.std.proofs.lemmas.List.Elements.{All-nil, All-cons, All-head, All-tail, All-append}
+use Rattle.rng_model.proofs.Members.{same_first}
 use Rattle.rng_model.specs.documents.Lines.{Line}
 use Rattle.rng_model.specs.documents.PyxFaults.{HasKind, IsBalanced, nothing, other, pair, EndsInTag}
 use Rattle.rng_model.specs.documents.PyxClauses.{BeginsOtherwise, Tag, AreOpenTags, none_open, one_open}
@@ -30,11 +31,8 @@ kind_not k l n = go (is_kind k l.bytes) refl where
   go true e = absurd (n (has_kind k l e))
   go false e = e
 
-first_same : (j k : ℕ) (xs ys : List ℕ) → j ∷ xs ≡ k ∷ ys → j ≡ k
-first_same j k xs ys e = cc
-
 pub other_kind : (j k : ℕ) (l : Line) → (j ≡ k → ⊥) → HasKind j l → HasKind k l → ⊥
-other_kind j k l n h g = n (first_same j k h.0 g.0 (sym h.1 ∙ g.1))
+other_kind j k l n h g = n (same_first (sym h.1 ∙ g.1))
 
 -- ---- the tags so far, and whether the last line belongs to the innermost
 

@@ -2,6 +2,8 @@
 use Rattle.std.proofs.Common.{◌≡◌, ℕ, ◌+◌, ◌≤◌, ◌<◌, Bool, true, false, cond, List, [], ◌∷◌, ◌++◌, length, Result, Ok, Err, refl, sym, ◌∙◌, arith, rules, eqb}
 use Rattle.std.specs.Prelude.{nat_le}
 use Rattle.std.proofs.lemmas.List.{length-append}
+use Rattle.pyx.proofs.DocumentSound.{goes_first}
+use Rattle.rng_model.proofs.Options.{err_is_ok}
 use Rattle.rng_model.specs.documents.Lines.{line_limit}
 use Rattle.rng_model.specs.documents.PyxFaults.{Fault}
 use Rattle.rng_model.specs.documents.PyxTrees.{Event}
@@ -15,11 +17,8 @@ went_well : {A B : Type 0} (r : Result A Fault) (es : List Event) (f : A → B) 
 went_well (Ok a) es f q e = (a, refl, cc)
 went_well (Err x) es f q e = absurd cc
 
-err_ok : {A : Type 0} (x : Fault) (q : A) → ◌≡◌ {A = Result A Fault} (Err x) (Ok q) → ⊥
-err_ok x q e = cc
-
 pub no_ok : {A : Type 0} (turn : Turn A) (q : A) → Fails turn → turn.0 ≡ Ok q → ⊥
-no_ok turn q h e = err_ok h.fault q (sym h.is ∙ e)
+no_ok turn q h e = err_is_ok (sym h.is ∙ e)
 
 taken : (b : Bool) (front : List ℕ) (p q : Progress) → nat_le (length p.begun + length front) line_limit ≡ b →
     (cond b (followed (line_read (ended_line (p.begun ++ front)) p.state) (λ s. silent (with_begun [] s))) (overlong front p)).0 ≡ Ok q →
@@ -67,16 +66,11 @@ byte_counts : (c : ℕ) (p q : Progress) → (byte_read c p).0 ≡ Ok q → leng
 unfolding byte_read
 byte_counts c p q e h = byte_or (eqb c 10) c p q e h
 
-pub ok_first : {A B : Type 0} (r : Result A Fault) (es : List Event) (f : A → Turn B) (q : B) → (go_on r es f).0 ≡ Ok q
-    → (a : A) × (r ≡ Ok a) × ((f a).0 ≡ Ok q)
-ok_first (Ok a) es f q e = (a, refl, e)
-ok_first (Err x) es f q e = absurd (err_ok x q e)
-
 pub read_counts : (bytes : List ℕ) (p q : Progress) → (read bytes p).0 ≡ Ok q → length p.begun ≤ line_limit → Counted (length bytes) p q
 unfolding read
 read_counts [] p q e h = let w : p ≡ q = cc in rw (← w) (h, omega arith)
 read_counts (c ∷ cs) p q e h =
-    let w = ok_first (byte_read c p).0 (byte_read c p).1 (read cs) q e in
+    let w = goes_first (byte_read c p).0 (byte_read c p).1 (read cs) q e in
     let one = byte_counts c p w.0 w.1 h in
     let more = read_counts cs w.0 q w.2 one.0 in
     (more.0, omega (arith, more.1, one.1))

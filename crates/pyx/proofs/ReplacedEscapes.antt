@@ -1,12 +1,9 @@
 -- Replacing escapes from one backslash to the next.
 use Rattle.std.proofs.Common.{◌≡◌, ℕ, ◌<◌, suc, List, [], ◌∷◌, ◌++◌, length, Option, Some, None, refl, cond, eqb, ap, sym, arith, Bool, true, false}
-use Rattle.std.proofs.Common.{append_assoc, ◌⊎◌, inl, inr, lit<}
+use Rattle.std.proofs.Common.{append_assoc, lit<}
+use Rattle.pyx.proofs.LinesOfPieces.{some_pair}
 use Rattle.pyx.specs.plain.Cuts.{at_byte, at_front, behind}
 use Rattle.pyx.specs.plain.Escapes.{escape_of, unescaped, escaped, in_front}
-
-pub chosen : {A : Type 0} (b : Bool) (x y z : A) → cond b x y ≡ z → ((b ≡ true) × (x ≡ z)) ⊎ ((b ≡ false) × (y ≡ z))
-chosen true x y z e = inl (refl, e)
-chosen false x y z e = inr (refl, e)
 
 pub in_front_twice : (a b : List ℕ) (o : Option (List ℕ)) → in_front a (in_front b o) ≡ in_front (a ++ b) o
 in_front_twice a b None = refl
@@ -22,9 +19,6 @@ unescaped_plain (c ∷ cs) e = go (eqb c 92) (at_byte 92 cs) e (unescaped_plain 
   go true o e more = absurd cc
   go false None e more = rw (more refl) refl
   go false (Some p) e more = absurd cc
-
-some_pair : {A B : Type 0} (a : A) (b : B) (c : A) (d : B) → ◌≡◌ {A = Option (A × B)} (Some (a, b)) (Some (c, d)) → (a ≡ c) × (b ≡ d)
-some_pair {A = A} {B = B} a b c d e = let q : ◌≡◌ {A = A × B} (a, b) (c, d) = cc in (ap (λ (p : A × B). p.0) q, ap (λ (p : A × B). p.1) q)
 
 nothing_in_front : (o : Option (List ℕ)) → in_front [] o ≡ o
 nothing_in_front None = refl

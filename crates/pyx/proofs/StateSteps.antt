@@ -1,8 +1,8 @@
 -- The effect of one line in each state of a document.
 use Rattle.std.proofs.Common.{◌≡◌, ℕ, suc, ◌+◌, ◌≤◌, ◌<◌, Bool, true, false, ◌&&◌, List, [], ◌∷◌, ◌++◌, length, Some, None, Ok, refl}
 use Rattle.std.proofs.Common.{rules}
-use Rattle.std.specs.Prelude.{◌==◌, nat_le}
-use Rattle.std.proofs.lemmas.Bool.{lt-leb}
+use Rattle.std.specs.Prelude.{◌==◌}
+use Rattle.std.proofs.lemmas.Bool.{lt-leb, le-leb}
 use Rattle.std.proofs.lemmas.List.{append-nil}
 use Rattle.rng_model.specs.documents.Lines.{attribute_limit, open_limit, text_limit}
 use Rattle.rng_model.specs.documents.PyxLines as lines
@@ -45,12 +45,6 @@ start_event n e = record { line = n; kind = a_start e.name e.attrs } ∷ []
 pub not_zero : (n : ℕ) → (suc n == 0) ≡ false
 not_zero n = search rules
 
-pub too_few : (n m : ℕ) → m < n → nat_le n m ≡ false
-too_few n m h = search (lt-leb, h)
-
-pub enough : (n m : ℕ) → n ≤ m → nat_le n m ≡ true
-enough n m h = search rules
-
 -- a joined text ends here
 pub text_out : (os : List Open) (t : List ℕ) (n : ℕ) (root : Bool) → text_ended (inside os t n root) ≡ good (inside os [] n root) (text_event n t)
 unfolding text_ended
@@ -60,7 +54,7 @@ text_out os (c ∷ t) n root = rw (not_zero (length t)) refl
 pub attribute_step : (os : List Open) (t : Tag) (n b : ℕ) (a : WrittenName) (v : List ℕ) → length t.declared + length t.others < attribute_limit
     → said_line b (lines.attribute a v) (in_tag os t n) ≡ good (in_tag os (with_attribute b (record { name = a; content = v }) t) (n + 1)) []
 unfolding said_line said_read attributed
-attribute_step os t n b a v h = rw (too_few attribute_limit (length t.declared + length t.others) h) refl
+attribute_step os t n b a v h = rw (lt-leb attribute_limit (length t.declared + length t.others) h) refl
 
 pub instruction_step : (os : List Open) (t : List ℕ) (n : ℕ) (root : Bool) (b : ℕ)
     → said_line b lines.instruction (inside os t n root) ≡ good (inside os t (n + 1) root) []
@@ -70,12 +64,12 @@ instruction_step os t n root b = refl
 pub text_step : (o : Open) (os : List Open) (t : List ℕ) (n : ℕ) (root : Bool) (b : ℕ) (v : List ℕ) → length t + length v ≤ text_limit
     → said_line b (lines.text v) (inside (o ∷ os) t n root) ≡ good (inside (o ∷ os) (t ++ v) (n + 1) root) []
 unfolding said_line said_read joined_by
-text_step o os t n root b v h = rw (not_zero (length os), enough (length t + length v) text_limit h) refl
+text_step o os t n root b v h = rw (not_zero (length os), le-leb (length t + length v) text_limit h) refl
 
 pub start_step : (os : List Open) (t : List ℕ) (n : ℕ) (root : Bool) (b : ℕ) (name : WrittenName) → (root && length os == 0) ≡ false
     → length os < open_limit → said_line b (lines.start name) (inside os t n root) ≡ good (in_tag os (begun b name) (n + 1)) (text_event (n + 1) t)
 unfolding said_line said_read started
-start_step os t n root b name fits h = rw (fits, too_few open_limit (length os) h, text_out os t (n + 1) root, append-nil) refl
+start_step os t n root b name fits h = rw (fits, lt-leb open_limit (length os) h, text_out os t (n + 1) root, append-nil) refl
 
 pub end_step : (o : Open) (os : List Open) (t : List ℕ) (n : ℕ) (root : Bool) (b : ℕ) (name : WrittenName) → o.name ≡ name
     → said_line b (lines.end name) (inside (o ∷ os) t n root) ≡ good (inside os [] (n + 1) root) (text_event (n + 1) t ++ end_event (n + 1))

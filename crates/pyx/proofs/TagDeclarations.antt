@@ -1,16 +1,15 @@
 -- The declarations in the `A` lines of a tag: reading agrees with the definition.
 use Rattle.std.proofs.Common.{◌≡◌, ℕ, Bool, true, false, cond, not, ◌||◌, List, [], ◌∷◌, ◌++◌, length, codes, Option, Some, None, refl, sym, ap, subst, ◌∙◌}
-use Rattle.std.proofs.Common.{rules}
 use Rattle.std.specs.Prelude.{◌==◌, ◌≢◌, is_some}
 use Rattle.std.specs.List.{AllByRecursion}
 use Rattle.std.specs.Str.{bytes_eq}
 use Rattle.std.proofs.lemmas.Option.{none-some, same_Some}
+use Rattle.rng_model.proofs.Texts.{bytes_same, bytes_itself, no_bytes}
 use Rattle.rng_model.specs.documents.PyxLines.{WrittenName}
 use Rattle.rng_model.specs.documents.PyxNamespaces.{WrittenAttribute, NamespaceDeclaration, xmlns, xml_uri, xmlns_uri, Declares, default_namespace, prefix_declared}
 use Rattle.rng_model.specs.documents.PyxNamespaces.{DeclaresNothing, AreParted, nothing, declaration, other, IsForbidden, of_xmlns_uri, of_xmlns, of_nothing}
 use Rattle.rng_model.specs.documents.PyxNamespaces.{xml_as_another, another_as_xml}
 use Rattle.pyx.specs.plain.Declarations.{declared_prefix, declared_by, forbidden_prefix, forbidden_by}
-use Rattle.pyx.proofs.WrittenNames.{same_bytes, bytes_same}
 
 -- ---- which lines are declarations
 
@@ -70,16 +69,12 @@ abbrev xml_rule : List ℕ → List ℕ → Bool
 xml_rule p uri = cond (bytes_eq p (codes "xml")) (not (bytes_eq uri xml_uri)) (bytes_eq uri xml_uri)
 
 bytes_differ : (x y : List ℕ) → bytes_eq x y ≡ false → x ≢ y
-bytes_differ x y e p = absurd (true_false (sym (same_bytes y) ∙ subst (λ (z : List ℕ). bytes_eq z y ≡ false) p e)) where
+bytes_differ x y e p = absurd (true_false (sym (bytes_itself y) ∙ subst (λ (z : List ℕ). bytes_eq z y ≡ false) p e)) where
   true_false : true ≡ false → ⊥
   true_false e = cc
 
 none_xml : None ≡ Some (codes "xml") → ⊥
 none_xml e = cc
-
-empty_is : (uri : List ℕ) → (length uri == 0) ≡ true → uri ≡ []
-empty_is [] e = refl
-empty_is (c ∷ uri) e = search rules
 
 prefix_not : (p q : List ℕ) → p ≢ q → Some p ≢ Some q
 prefix_not p q n e = n (same_Some p q e)
@@ -103,7 +98,7 @@ forbidden_other : (p uri : List ℕ) → forbidden_prefix p uri ≡ true → IsF
 forbidden_other p uri e = go (length uri == 0) (bytes_eq uri xmlns_uri) (bytes_eq p xmlns) (xml_rule p uri) refl refl refl refl e where
   go : (a b c d : Bool) → (length uri == 0) ≡ a → bytes_eq uri xmlns_uri ≡ b → bytes_eq p xmlns ≡ c → xml_rule p uri ≡ d → (a || b || c || d) ≡ true
       → IsForbidden (record { prefix = Some p; uri = uri })
-  go true b c d q r s t k = of_nothing refl (empty_is uri q)
+  go true b c d q r s t k = of_nothing refl (no_bytes uri q)
   go false true c d q r s t k = of_xmlns_uri (bytes_same uri xmlns_uri r)
   go false false true d q r s t k = of_xmlns (ap Some (bytes_same p xmlns s))
   go false false false true q r s t k = forbidden_xml p uri t
@@ -132,13 +127,13 @@ fourth false false true = refl
 fourth false false false = refl
 
 by_uri : (p : Option (List ℕ)) (uri : List ℕ) → uri ≡ xmlns_uri → forbidden_by (Some p) uri ≡ true
-by_uri None uri e = rw (e, same_bytes xmlns_uri) refl
-by_uri (Some p) uri e = let k : bytes_eq uri xmlns_uri ≡ true = ap (λ (x : List ℕ). bytes_eq x xmlns_uri) e ∙ same_bytes xmlns_uri in
+by_uri None uri e = rw (e, bytes_itself xmlns_uri) refl
+by_uri (Some p) uri e = let k : bytes_eq uri xmlns_uri ≡ true = ap (λ (x : List ℕ). bytes_eq x xmlns_uri) e ∙ bytes_itself xmlns_uri in
     ap (λ (b : Bool). (length uri == 0) || b || bytes_eq p xmlns || xml_rule p uri) k ∙ second (length uri == 0) (bytes_eq p xmlns) (xml_rule p uri)
 
 by_xmlns : (p : Option (List ℕ)) (uri : List ℕ) → p ≡ Some xmlns → forbidden_by (Some p) uri ≡ true
 by_xmlns None uri e = absurd (none-some xmlns e)
-by_xmlns (Some p) uri e = let k : bytes_eq p xmlns ≡ true = ap (λ (x : List ℕ). bytes_eq x xmlns) (same_Some p xmlns e) ∙ same_bytes xmlns in
+by_xmlns (Some p) uri e = let k : bytes_eq p xmlns ≡ true = ap (λ (x : List ℕ). bytes_eq x xmlns) (same_Some p xmlns e) ∙ bytes_itself xmlns in
     ap (λ (b : Bool). (length uri == 0) || bytes_eq uri xmlns_uri || b || xml_rule p uri) k ∙ third (length uri == 0) (bytes_eq uri xmlns_uri) (xml_rule p uri)
 
 by_nothing : (p : Option (List ℕ)) (q uri : List ℕ) → p ≡ Some q → uri ≡ [] → forbidden_by (Some p) uri ≡ true
@@ -149,13 +144,13 @@ xml_same : (p uri : List ℕ) → p ≡ codes "xml" → uri ≢ xml_uri → xml_
 xml_same p uri e n = go (bytes_eq uri xml_uri) refl where
   go : (b : Bool) → bytes_eq uri xml_uri ≡ b → xml_rule p uri ≡ true
   go true q = absurd (n (bytes_same uri xml_uri q))
-  go false q = rw (e, same_bytes (codes "xml"), q) refl
+  go false q = rw (e, bytes_itself (codes "xml"), q) refl
 
 xml_other : (p uri : List ℕ) → p ≢ codes "xml" → uri ≡ xml_uri → xml_rule p uri ≡ true
 xml_other p uri n e = go (bytes_eq p (codes "xml")) refl where
   go : (b : Bool) → bytes_eq p (codes "xml") ≡ b → xml_rule p uri ≡ true
   go true q = absurd (n (bytes_same p (codes "xml") q))
-  go false q = rw (q, e, same_bytes xml_uri) refl
+  go false q = rw (q, e, bytes_itself xml_uri) refl
 
 by_rule : (p uri : List ℕ) → xml_rule p uri ≡ true → forbidden_by (Some (Some p)) uri ≡ true
 by_rule p uri k = ap (λ (b : Bool). (length uri == 0) || bytes_eq uri xmlns_uri || bytes_eq p xmlns || b) k
@@ -169,7 +164,7 @@ by_other : (p : Option (List ℕ)) (uri : List ℕ) → p ≢ Some (codes "xml")
 by_other None uri n e = go (bytes_eq uri xmlns_uri) where
   go : (b : Bool) → (b || bytes_eq uri xml_uri) ≡ true
   go true = refl
-  go false = rw (e, same_bytes xml_uri) refl
+  go false = rw (e, bytes_itself xml_uri) refl
 by_other (Some p) uri n e = by_rule p uri (xml_other p uri (λ q. n (ap Some q)) e)
 
 pub is_forbidden_by : {d : NamespaceDeclaration} → IsForbidden d → forbidden_by (Some d.prefix) d.uri ≡ true

@@ -6,6 +6,8 @@ use Rattle.std.specs.Prelude.{is_some}
 use Rattle.std.specs.List.{AllByRecursion}
 use Rattle.std.proofs.lemmas.List.Elements.{All-from_recursion, recursion_from_All}
 use Rattle.std.proofs.lemmas.Option.{same_Some, none-some}
+use Rattle.std.proofs.Math.Bool.{or-true}
+use Rattle.rng_model.proofs.Members.{same_first, same_rest}
 use Rattle.rng_model.specs.matching.Document.{Attribute}
 use Rattle.rng_model.specs.names.Lists.{Among, here, there, HasTwice, at_first, later}
 use Rattle.rng_model.specs.names.Names.{Name}
@@ -23,20 +25,16 @@ use Rattle.pyx.specs.plain.TagReader.{Element, attribute_name, expanded, and_mor
 use Rattle.pyx.specs.plain.TagReader.{is_named_twice}
 use Rattle.pyx.specs.plain.TagReader.{tag_read, same_name}
 use Rattle.pyx.specs.plain.Declarations.{same_written}
-use Rattle.pyx.proofs.WrittenNames.{same_bytes, written_itself}
+use Rattle.pyx.proofs.WrittenNames.{written_itself}
 use Rattle.pyx.proofs.TagDeclarations.{declaration_of}
 use Rattle.pyx.proofs.TagNamespaces.{scope_in, AllDeclared}
 use Rattle.pyx.proofs.TagParts.{IsSplit, no_lines, declares, declares_none, split_parted}
-use Rattle.pyx.proofs.TagRepeats.{names_of, distinct_all}
+use Rattle.pyx.proofs.TagRepeats.{names_of, distinct_all, name_itself}
 use Rattle.pyx.proofs.TagAnswers.{HasNames, IsRead, TagTells, tag_tells}
 use Rattle.pyx.proofs.TagUnique.{prefixes_of, IsScopeOnce, parted_same, element_same, expanded_same}
 
 true_false : true ≡ false → ⊥
 true_false e = cc
-
-or_second : (a : Bool) → (a || true) ≡ true
-or_second true = refl
-or_second false = refl
 
 -- ---- names that occur twice are found
 
@@ -44,42 +42,36 @@ nowhere : {A : Type 0} {x : A} {xs : List A} → Among x xs → xs ≡ [] → �
 nowhere here e = cc
 nowhere (there m) e = cc
 
-first_same : {A : Type 0} {x y : A} {xs ys : List A} → x ∷ xs ≡ y ∷ ys → x ≡ y
-first_same e = cc
-
-rest_same : {A : Type 0} {x y : A} {xs ys : List A} → x ∷ xs ≡ y ∷ ys → xs ≡ ys
-rest_same e = cc
-
 among_declared : {all ds os : List WrittenAttribute} {name : WrittenName} {names : List WrittenName} → IsSplit all ds os → Among name names
     → names ≡ names_of all → is_some (declared_by name) ≡ true → Among name (names_of ds)
 among_declared no_lines m e s = absurd (nowhere m e)
-among_declared {name = name} (declares {a} {p} {all} {ds} d r) here e s = subst (λ (x : WrittenName). Among x (names_of (a ∷ ds))) (sym (first_same e)) here
-among_declared (declares d r) (there m) e s = there (among_declared r m (rest_same e) s)
+among_declared {name = name} (declares {a} {p} {all} {ds} d r) here e s = subst (λ (x : WrittenName). Among x (names_of (a ∷ ds))) (sym (same_first e)) here
+among_declared (declares d r) (there m) e s = there (among_declared r m (same_rest e) s)
 among_declared {name = name} (declares_none {a} d r) here e s =
-    absurd (true_false (sym s ∙ ap (λ (x : WrittenName). is_some (declared_by x)) (first_same e) ∙ ap is_some d))
-among_declared (declares_none d r) (there m) e s = among_declared r m (rest_same e) s
+    absurd (true_false (sym s ∙ ap (λ (x : WrittenName). is_some (declared_by x)) (same_first e) ∙ ap is_some d))
+among_declared (declares_none d r) (there m) e s = among_declared r m (same_rest e) s
 
 among_others : {all ds os : List WrittenAttribute} {name : WrittenName} {names : List WrittenName} → IsSplit all ds os → Among name names
     → names ≡ names_of all → declared_by name ≡ None → Among name (names_of os)
 among_others no_lines m e s = absurd (nowhere m e)
-among_others (declares {a} {p} d r) here e s = absurd (none-some p (sym s ∙ ap declared_by (first_same e) ∙ d))
-among_others (declares d r) (there m) e s = among_others r m (rest_same e) s
-among_others (declares_none {a} {all} {ds} {os} d r) here e s = subst (λ (x : WrittenName). Among x (names_of (a ∷ os))) (sym (first_same e)) here
-among_others (declares_none d r) (there m) e s = there (among_others r m (rest_same e) s)
+among_others (declares {a} {p} d r) here e s = absurd (none-some p (sym s ∙ ap declared_by (same_first e) ∙ d))
+among_others (declares d r) (there m) e s = among_others r m (same_rest e) s
+among_others (declares_none {a} {all} {ds} {os} d r) here e s = subst (λ (x : WrittenName). Among x (names_of (a ∷ os))) (sym (same_first e)) here
+among_others (declares_none d r) (there m) e s = there (among_others r m (same_rest e) s)
 
 twice_split : {all ds os : List WrittenAttribute} {names : List WrittenName} → IsSplit all ds os → HasTwice names → names ≡ names_of all
     → HasTwice (names_of ds) ⊎ HasTwice (names_of os)
 twice_split no_lines (at_first m) e = absurd cc
 twice_split no_lines (later t) e = absurd cc
 twice_split (declares {a} {p} {all} {ds} d r) (at_first {x} {xs} m) e =
-    inl (at_first (among_declared r (subst (λ (y : WrittenName). Among y xs) (first_same e) m) (rest_same e) (ap is_some d)))
+    inl (at_first (among_declared r (subst (λ (y : WrittenName). Among y xs) (same_first e) m) (same_rest e) (ap is_some d)))
 twice_split (declares_none {a} d r) (at_first {x} {xs} m) e =
-    inr (at_first (among_others r (subst (λ (y : WrittenName). Among y xs) (first_same e) m) (rest_same e) d))
-twice_split (declares {a} {p} {all} {ds} {os} d r) (later t) e = go (twice_split r t (rest_same e)) where
+    inr (at_first (among_others r (subst (λ (y : WrittenName). Among y xs) (same_first e) m) (same_rest e) d))
+twice_split (declares {a} {p} {all} {ds} {os} d r) (later t) e = go (twice_split r t (same_rest e)) where
   go : HasTwice (names_of ds) ⊎ HasTwice (names_of os) → HasTwice (names_of (a ∷ ds)) ⊎ HasTwice (names_of os)
   go (inl u) = inl (later u)
   go (inr u) = inr u
-twice_split (declares_none {a} {all} {ds} {os} d r) (later t) e = go (twice_split r t (rest_same e)) where
+twice_split (declares_none {a} {all} {ds} {os} d r) (later t) e = go (twice_split r t (same_rest e)) where
   go : HasTwice (names_of ds) ⊎ HasTwice (names_of os) → HasTwice (names_of ds) ⊎ HasTwice (names_of (a ∷ os))
   go (inl u) = inl u
   go (inr u) = inr (later u)
@@ -90,17 +82,17 @@ written_in : {name : WrittenName} {names : List WrittenName} (all : List Written
     → is_written_in name all ≡ true
 unfolding is_written_in
 written_in [] m e = absurd (nowhere m e)
-written_in {name} (a ∷ more) here e = ap (λ (x : WrittenName). same_written x name || is_written_in name more) (sym (first_same e))
+written_in {name} (a ∷ more) here e = ap (λ (x : WrittenName). same_written x name || is_written_in name more) (sym (same_first e))
     ∙ rw (written_itself name) refl
-written_in {name} (a ∷ more) (there m) e = rw (written_in more m (rest_same e)) (or_second (same_written a.name name))
+written_in {name} (a ∷ more) (there m) e = rw (written_in more m (same_rest e)) (or-true (same_written a.name name))
 
 found_twice : {names : List WrittenName} (all : List WrittenAttribute) → HasTwice names → names ≡ names_of all → is_written_twice all ≡ true
 unfolding is_written_twice
 found_twice [] (at_first m) e = absurd cc
 found_twice [] (later t) e = absurd cc
 found_twice (a ∷ more) (at_first {x} {xs} m) e =
-    rw (written_in more (subst (λ (y : WrittenName). Among y xs) (first_same e) m) (rest_same e)) refl
-found_twice (a ∷ more) (later t) e = rw (found_twice more t (rest_same e)) (or_second (is_written_in a.name more))
+    rw (written_in more (subst (λ (y : WrittenName). Among y xs) (same_first e) m) (same_rest e)) refl
+found_twice (a ∷ more) (later t) e = rw (found_twice more t (same_rest e)) (or-true (is_written_in a.name more))
 
 -- ---- among the others: two that are written in the same way have one expanded name
 
@@ -122,20 +114,17 @@ parts_of : (scope : Declared) (a : WrittenAttribute) (more : List WrittenAttribu
 unfolding expanded
 parts_of scope a more attrs e = parts_by scope a more attrs (attribute_name scope a.name) (expanded scope more) refl refl e
 
-name_itself : (a : Name) → same_name a a ≡ true
-name_itself a = rw (same_bytes a.local, same_bytes a.ns) refl
-
 named_in : (scope : Declared) (name : WrittenName) (names : List WrittenName) (all : List WrittenAttribute) (attrs : List Attribute) (q : Name)
     → Among name names → names ≡ names_of all → expanded scope all ≡ Some attrs → attribute_name scope name ≡ Some q → is_named_in q attrs ≡ true
 unfolding is_named_in
 named_in scope name names [] attrs q m e x n = absurd (nowhere m e)
 named_in scope name names (a ∷ more) attrs q here e x n =
     let p = parts_of scope a more attrs x in
-    let same : p.name ≡ q = same_Some p.name q (sym p.named ∙ ap (attribute_name scope) (sym (first_same e)) ∙ n) in
+    let same : p.name ≡ q = same_Some p.name q (sym p.named ∙ ap (attribute_name scope) (sym (same_first e)) ∙ n) in
     rw (p.is) (ap (λ (y : Name). same_name y q || is_named_in q p.rest) same ∙ rw (name_itself q) refl)
 named_in scope name names (a ∷ more) attrs q (there {xs} m) e x n =
     let p = parts_of scope a more attrs x in
-    rw (p.is) (ap (λ (b : Bool). same_name p.name q || b) (named_in scope name xs more p.rest q m (rest_same e) p.others n) ∙ or_second (same_name p.name q))
+    rw (p.is) (ap (λ (b : Bool). same_name p.name q || b) (named_in scope name xs more p.rest q m (same_rest e) p.others n) ∙ or-true (same_name p.name q))
 
 named_twice : (scope : Declared) (names : List WrittenName) (all : List WrittenAttribute) (attrs : List Attribute) → HasTwice names → names ≡ names_of all
     → expanded scope all ≡ Some attrs → is_named_twice attrs ≡ true
@@ -145,11 +134,11 @@ named_twice scope names [] attrs (later t) e x = absurd cc
 named_twice scope names (a ∷ more) attrs (at_first {x = y} {xs} m) e x =
     let p = parts_of scope a more attrs x in
     rw (p.is) (ap (λ (b : Bool). b || is_named_twice p.rest)
-    (named_in scope y xs more p.rest p.name m (rest_same e) p.others (ap (attribute_name scope) (first_same e) ∙ p.named)))
+    (named_in scope y xs more p.rest p.name m (same_rest e) p.others (ap (attribute_name scope) (same_first e) ∙ p.named)))
 named_twice scope names (a ∷ more) attrs (later {xs} t) e x =
     let p = parts_of scope a more attrs x in
-    rw (p.is) (ap (λ (b : Bool). is_named_in p.name p.rest || b) (named_twice scope xs more p.rest t (rest_same e) p.others)
-    ∙ or_second (is_named_in p.name p.rest))
+    rw (p.is) (ap (λ (b : Bool). is_named_in p.name p.rest || b) (named_twice scope xs more p.rest t (same_rest e) p.others)
+    ∙ or-true (is_named_in p.name p.rest))
 
 -- ---- the clauses that a tag with names breaks
 
@@ -198,8 +187,8 @@ among_prefixes : {all os : List WrittenAttribute} {ds : List NamespaceDeclaratio
     → AreParted all ds os → Among p ps → ps ≡ prefixes_of ds → Declares name p → Among name (names_of all)
 among_prefixes nothing m e d = absurd (nowhere m e)
 among_prefixes (declaration {a} {all} c r) here e d =
-    subst (λ (x : WrittenName). Among x (names_of (a ∷ all))) (sym (declares_one d c (first_same e))) here
-among_prefixes (declaration c r) (there m) e d = there (among_prefixes r m (rest_same e) d)
+    subst (λ (x : WrittenName). Among x (names_of (a ∷ all))) (sym (declares_one d c (same_first e))) here
+among_prefixes (declaration c r) (there m) e d = there (among_prefixes r m (same_rest e) d)
 among_prefixes (other n r) m e d = there (among_prefixes r m e d)
 
 pub once_declared : {all os : List WrittenAttribute} {ds : List NamespaceDeclaration} {ps : List (Option (List ℕ))} → AreParted all ds os → HasTwice ps
@@ -207,8 +196,8 @@ pub once_declared : {all os : List WrittenAttribute} {ds : List NamespaceDeclara
 once_declared nothing (at_first m) e = absurd cc
 once_declared nothing (later t) e = absurd cc
 once_declared (declaration {a} {p} c r) (at_first {x} {xs} m) e =
-    at_first (among_prefixes r (subst (λ (y : Option (List ℕ)). Among y xs) (first_same e) m) (rest_same e) c)
-once_declared (declaration c r) (later t) e = later (once_declared r t (rest_same e))
+    at_first (among_prefixes r (subst (λ (y : Option (List ℕ)). Among y xs) (same_first e) m) (same_rest e) c)
+once_declared (declaration c r) (later t) e = later (once_declared r t (same_rest e))
 once_declared (other n r) t e = later (once_declared r t e)
 
 -- ---- the results

@@ -5,6 +5,7 @@ use Rattle.std.specs.List.{AllByRecursion}
 use Rattle.std.specs.Str.{bytes_eq}
 use Rattle.std.proofs.lemmas.List.Elements.{All-from_recursion}
 use Rattle.std.proofs.lemmas.Option.{none-some, same_Some}
+use Rattle.rng_model.proofs.Texts.{bytes_same, bytes_itself}
 use Rattle.rng_model.specs.names.Lists.{Among, here, there}
 use Rattle.rng_model.specs.names.Names.{Name}
 use Rattle.rng_model.specs.documents.PyxLines.{WrittenName}
@@ -14,7 +15,7 @@ use Rattle.pyx.specs.plain.TagReader as read
 use Rattle.pyx.specs.plain.Declarations.{Declared, declared_by, same_prefix, declares, found_in, beforehand, or_else, namespace_of}
 use Rattle.pyx.specs.plain.TagReader.{in_namespace, attribute_in}
 use Rattle.pyx.specs.plain.TagReader.{attribute_name}
-use Rattle.pyx.proofs.WrittenNames.{same_bytes, bytes_same, prefix_same, prefix_itself}
+use Rattle.pyx.proofs.WrittenNames.{prefix_same, prefix_itself}
 use Rattle.pyx.proofs.TagDeclarations.{declaration_of, prefix_of, AreDeclared}
 
 false_true : false ≡ true → ⊥
@@ -93,7 +94,7 @@ outermost None = no_default
 outermost (Some q) = go (bytes_eq q (codes "xml")) refl where
   go : (b : Bool) → bytes_eq q (codes "xml") ≡ b → Space [] (Some q) (cond b (Some xml_uri) None)
   go true e = subst (λ (x : List ℕ). HasNamespace [] (Some x) xml_uri) (sym (bytes_same q (codes "xml") e)) xml_beforehand
-  go false e = λ uri h. false_true (sym e ∙ ap (λ (x : List ℕ). bytes_eq x (codes "xml")) (only_xml h refl q refl) ∙ same_bytes (codes "xml"))
+  go false e = λ uri h. false_true (sym e ∙ ap (λ (x : List ℕ). bytes_eq x (codes "xml")) (only_xml h refl q refl) ∙ bytes_itself (codes "xml"))
 
 behind : (ds : List WrittenAttribute) (outer : Declared) (p : Option (List ℕ)) (o : Option (List ℕ)) → Lookup p ds None → Space outer p o
     → Space (ds ∷ outer) p o

@@ -2,6 +2,7 @@
 use Rattle.std.proofs.Common.{◌≡◌, ℕ, Bool, true, false, ◌||◌, List, [], ◌∷◌, map, refl, sym, ap, subst, ◌∙◌, ◌⊎◌, inl, inr}
 use Rattle.std.specs.Str.{bytes_eq}
 use Rattle.std.proofs.lemmas.Bool.{or_cases, and_parts}
+use Rattle.rng_model.proofs.Texts.{bytes_same, bytes_itself}
 use Rattle.rng_model.specs.matching.Document.{Attribute}
 use Rattle.rng_model.specs.names.Lists.{Among, here, there, HasTwice, at_first, later}
 use Rattle.rng_model.specs.names.Names.{Name}
@@ -10,14 +11,10 @@ use Rattle.rng_model.specs.documents.PyxNamespaces.{WrittenAttribute}
 use Rattle.rng_model.specs.matching.WellFormed.{HasNoName, nothing_named, another_name, Distinct, none, one_more}
 use Rattle.pyx.specs.plain.Declarations.{same_written, is_written_in, is_written_twice}
 use Rattle.pyx.specs.plain.TagReader.{same_name, is_named_in, is_named_twice}
-use Rattle.pyx.proofs.WrittenNames.{same_bytes, bytes_same, written_same}
+use Rattle.pyx.proofs.WrittenNames.{written_same}
 
 pub true_false : true ≡ false → ⊥
 true_false e = cc
-
-or_second : (a : Bool) → (a || true) ≡ true
-or_second true = refl
-or_second false = refl
 
 -- ---- names as they are written
 
@@ -53,8 +50,8 @@ names_same a b e = let p = and_parts (bytes_eq a.local b.local) (bytes_eq a.ns b
       join : (p q x y : List ℕ) → p ≡ q → x ≡ y → ◌≡◌ {A = Name} (record { ns = p; local = x }) (record { ns = q; local = y })
       join p q x y e f = rw (e, f) refl
 
-name_itself : (a : Name) → same_name a a ≡ true
-name_itself a = rw (same_bytes a.local, same_bytes a.ns) refl
+pub name_itself : (a : Name) → same_name a a ≡ true
+name_itself a = rw (bytes_itself a.local, bytes_itself a.ns) refl
 
 -- the result of the search
 pub named_nowhere : (name : Name) (all : List Attribute) → is_named_in name all ≡ false → HasNoName name all

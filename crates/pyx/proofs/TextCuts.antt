@@ -1,5 +1,5 @@
 -- The cuts of a text.
-use Rattle.std.proofs.Common.{◌≡◌, ℕ, ◌<◌, ◌+◌, List, [], ◌∷◌, length, drop, Option, Some, None, refl, cond, eqb, ap, sym, arith, rules, suc, one-add}
+use Rattle.std.proofs.Common.{◌≡◌, ℕ, ◌<◌, ◌+◌, List, [], ◌∷◌, length, drop, Option, Some, None, refl, cond, eqb, ap, sym, arith, suc, one-add}
 use Rattle.std.proofs.Common.{Bool, true, false, add-one}
 use Rattle.std.specs.Prelude.{◌≢◌, MatchOption}
 use Rattle.std.specs.List.{position_or_len, before_first, after_first}
@@ -10,14 +10,12 @@ use Rattle.std.specs.Str.Pattern.{FindsCharPrefix}
 use Rattle.pyx.specs.plain.Cuts.{behind, at_byte, at_front}
 use Rattle.std.proofs.Common.{take, get_or, ◌∙◌, subst}
 use Rattle.std.proofs.lemmas.List.Sums.{position_or_len_is}
+use Rattle.rng_model.proofs.Truths.{number_itself}
 use Rattle.memchr.specs.Find.{Nowhere, NoneBefore, Passes, is_byte}
 use denote.Ref.{Bor}
 
-eqb-same : (k : ℕ) → eqb k k ≡ true
-eqb-same k = search rules
-
 behind_here : (k : ℕ) (bs rest : List ℕ) → bs ≡ k ∷ rest → behind k bs ≡ Some rest
-behind_here k bs rest e = rw (e, eqb-same k) refl
+behind_here k bs rest e = rw (e, number_itself k) refl
 
 behind_not : (k : ℕ) (bs : List ℕ) → ((rest : List ℕ) → bs ≢ k ∷ rest) → behind k bs ≡ None
 behind_not k [] never = refl

@@ -3,9 +3,10 @@ use Rattle.std.proofs.Common.{◌≡◌, ◌∙◌, ◌+◌, ◌<◌, ◌≤◌,
 use Rattle.std.specs.Prelude.{nat_le}
 use Rattle.std.specs.List.{list_all}
 use Rattle.std.specs.Str.{IsUtf8}
-use Rattle.std.proofs.lemmas.Bool.{eqb-true}
+use Rattle.std.proofs.lemmas.Bool.{eqb-true, le-leb}
 use Rattle.std.proofs.lemmas.List.{append-nil, nil_from_length}
 use Rattle.std.proofs.lemmas.Str.{IsUtf8-append, encode_ascii}
+use Rattle.pyx.proofs.DocumentSound.{goes_first}
 use Rattle.rng_model.specs.documents.Handing.{Hands}
 use Rattle.rng_model.specs.documents.Lines.{line_limit, text_limit}
 use Rattle.rng_model.specs.documents.PyxFaults.{Fault}
@@ -25,7 +26,6 @@ use Rattle.pyx.proofs.LineClauses.{said_ended}
 use Rattle.pyx.proofs.LineCounts.{line_keeps}
 use Rattle.pyx.proofs.LineTurns.{followed_err, followed_ok, followed_same, followed_twice, hands_more}
 use Rattle.pyx.proofs.LinesOfPieces.{read_line}
-use Rattle.pyx.proofs.PieceCounts.{ok_first}
 use Rattle.pyx.proofs.PlainTexts.{good_text, plain_text}
 use Rattle.pyx.proofs.ReplacedEscapes.{unescaped_plain}
 
@@ -63,9 +63,6 @@ end_alike n m name s = search rules
 is_text : (text : List ℕ) → at_byte 92 text ≡ None → kind_of (45 ∷ text) ≡ Ok (lines.text text)
 unfolding kind_of text_of
 is_text text literal = rw (unescaped_plain text literal) refl
-
-few : (n m : ℕ) → n ≤ m → nat_le n m ≡ true
-few n m h = search rules
 
 -- a fault at the tag in front of the text
 pub tag_fails : (A : Type 0) {E : Type 0} (stands : E → E → List Event → Type 0) (a b : E) (s new : State) (text name : List ℕ) (e : PyxFault)
@@ -120,7 +117,7 @@ module _ (s u : State) (text name : List ℕ) (began : (tag_ended (45 ∷ []) s)
       (silent (record u { count = u.count + 1; joined = u.joined ++ text })) (fault 10 (u.count + 1)))) e
       ∙ ap (λ (j : List ℕ). cond (nat_le (length j + length text) text_limit) (silent (record u { count = u.count + 1; joined = j ++ text }))
       (fault 10 (u.count + 1))) none
-      ∙ ap (λ b. cond b (silent next) (fault 10 (u.count + 1))) (few (length no + length text) text_limit (omega (arith, short))) in
+      ∙ ap (λ b. cond b (silent next) (fault 10 (u.count + 1))) (le-leb (length no + length text) text_limit (omega (arith, short))) in
       ap (λ (t : Turn State). followed t (line_read (ended_line (41 ∷ name)))) (first ∙ ap (after_events es) w)
       ∙ followed_ok (after_events es (silent next)) next (line_read (ended_line (41 ∷ name))) refl
       ∙ ap (λ (x : List Event). after_events x (line_read (ended_line (41 ∷ name)) next)) (append-nil es)
@@ -173,7 +170,7 @@ module _ (p : Progress) (line end : List ℕ) where
       ap (λ (b : List ℕ). cond (nat_le (length b + length line) line_limit) (followed (line_read (ended_line (b ++ line)) p.state) (λ s. silent (with_begun [] s)))
       (overlong line p)) none
       ∙ ap (λ b. cond b (followed (line_read (ended_line line) p.state) (λ s. silent (with_begun [] s))) (overlong line p))
-      (few (length no + length line) line_limit (omega (arith, short)))
+      (le-leb (length no + length line) line_limit (omega (arith, short)))
 
 one_more : (line end behind : List ℕ) (s : State) → length end ≤ line_limit
     → followed (line_taken end (with_begun [] s)) (read behind)
@@ -213,7 +210,7 @@ pub two_keep : (p : Progress) (line end : List ℕ) (t : State) → (two p line 
     → (t.count ≡ p.state.count + 2) × (tag_bytes t.tag ≤ tag_bytes p.state.tag + length line + length end)
 two_keep p line end t e =
     let first = line_read (ended_line line) p.state in
-    let w = ok_first first.0 first.1 (line_read (ended_line end)) t e in
+    let w = goes_first first.0 first.1 (line_read (ended_line end)) t e in
     let k = line_keeps (ended_line line) p.state w.0 w.1 in
     let m = line_keeps (ended_line end) w.0 t w.2 in
     (omega (arith, k.0, m.0), omega (arith, k.1, m.1))

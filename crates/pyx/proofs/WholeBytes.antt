@@ -3,6 +3,7 @@ use Rattle.std.proofs.Common.{◌≡◌, ℕ, suc, ◌+◌, ◌≤◌, ◌<◌, 
 use Rattle.std.proofs.Common.{◌∙◌, arith, append_assoc, rules, ◌⊎◌, inl, inr}
 use Rattle.std.specs.Prelude.{is_some, ◌==◌}
 use Rattle.std.proofs.lemmas.List.{append-nil, length-append}
+use Rattle.pyx.proofs.DocumentLeast.{all_cons}
 use Rattle.rng_model.specs.documents.Lines.{Line, line_limit, lines, with_first}
 use Rattle.pyx.specs.plain.Cuts.{at_byte, at_front, behind}
 use Rattle.pyx.specs.plain.DocumentReader.{State, Turn, silent, fault, followed, close_tag, tag_ended, line_read, all_read, all_ended, document_read}
@@ -111,10 +112,6 @@ long_same l m more s h e =
 
 followed_fails : {A B : Type 0} (turn : Turn A) (f : A → Turn B) (h : Fails turn) → followed turn f ≡ (Err h.fault, turn.1)
 followed_fails turn f h = rw (h.is) refl
-
-all_cons : (l : Line) (ls : List Line) (s : State) → all_read (l ∷ ls) s ≡ followed (line_read l s) (all_read ls)
-unfolding all_read
-all_cons l ls s = refl
 
 all_nil : (s : State) → all_read [] s ≡ silent s
 unfolding all_read

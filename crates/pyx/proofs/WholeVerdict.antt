@@ -1,5 +1,6 @@
 -- The result for whole bytes is the verdict on them.
-use Rattle.std.proofs.Common.{◌≡◌, ℕ, List, Result, Ok, Err, sym, ap, subst, ◌∙◌}
+use Rattle.std.proofs.Common.{◌≡◌, ℕ, List, Ok, Err, sym, ap, subst, ◌∙◌}
+use Rattle.rng_model.proofs.Options.{ok_is_err}
 use Rattle.rng_model.specs.documents.Lines.{lines}
 use Rattle.rng_model.specs.documents.PyxFaults.{Fault}
 use Rattle.rng_model.specs.documents.PyxTrees.{Placed, Event, events_of, IsPyxDocument}
@@ -9,9 +10,6 @@ use Rattle.pyx.proofs.DocumentComplete.{complete}
 use Rattle.pyx.proofs.DocumentSound.{sound}
 use Rattle.pyx.proofs.DocumentLeast.{first_fault}
 use Rattle.pyx.proofs.EventsAtFault.{events_at_fault}
-
-ok_err : {A B : Type 0} {x : A} {y : B} → ◌≡◌ {A = Result A B} (Ok x) (Err y) → ⊥
-ok_err e = cc
 
 all_events : (bytes : List ℕ) (tree : Placed) → IsPyxDocument bytes tree → (document_read (lines bytes)).1 ≡ events_of tree
 all_events bytes tree d = ap (λ (t : Turn State). t.1) (complete bytes tree d).is
@@ -29,6 +27,6 @@ pub is_fault : (bytes : List ℕ) (x : Fault) (sent : List Event) → (document_
     → IsTheFault bytes x sent
 is_fault bytes x sent e f = record {
   first = first_fault (lines bytes) x e;
-  no_document = λ tree d. ok_err (sym (ap (λ (t : Turn State). t.0) (complete bytes tree d).is) ∙ e);
+  no_document = λ tree d. ok_is_err (sym (ap (λ (t : Turn State). t.0) (complete bytes tree d).is) ∙ e);
   events = subst (AreEventsBefore (lines bytes) x.line) f (events_at_fault bytes x e);
 }

@@ -1,9 +1,10 @@
 -- Names are written in the same way if their bytes are the same.
-use Rattle.std.proofs.Common.{◌≡◌, ℕ, Bool, true, false, cond, ◌&&◌, List, [], ◌∷◌, ◌++◌, Option, Some, None, refl, sym, ap, ◌∙◌, ◌+◌, length, eqb, rules}
+use Rattle.std.proofs.Common.{◌≡◌, ℕ, Bool, true, false, cond, List, [], ◌∷◌, ◌++◌, Option, Some, None, refl, sym, ap, ◌∙◌, ◌+◌, length, eqb}
 use Rattle.std.proofs.Common.{arith}
 use Rattle.std.specs.Str.{bytes_eq}
-use Rattle.std.proofs.lemmas.Bool.{eqb-true}
+use Rattle.std.proofs.lemmas.Bool.{eqb-true, and_parts}
 use Rattle.std.proofs.lemmas.List.{length-append}
+use Rattle.rng_model.proofs.Texts.{bytes_same, bytes_itself}
 use Rattle.rng_model.specs.documents.PyxHeld.{prefix_length, name_length}
 use Rattle.rng_model.specs.documents.PyxLines.{WrittenName}
 use Rattle.pyx.specs.plain.Cuts.{at_byte, at_front}
@@ -39,12 +40,6 @@ written_back bytes = go (at_byte 58 bytes) (at_joins 58 bytes) where
   go None j = refl
   go (Some p) j = j
 
-pub same_bytes : (x : List ℕ) → bytes_eq x x ≡ true
-same_bytes x = search rules
-
-pub bytes_same : (x y : List ℕ) → bytes_eq x y ≡ true → x ≡ y
-bytes_same x y e = search rules
-
 pub prefix_same : (p q : Option (List ℕ)) → same_prefix p q ≡ true → p ≡ q
 prefix_same None None e = refl
 prefix_same None (Some q) e = absurd cc
@@ -53,21 +48,17 @@ prefix_same (Some p) (Some q) e = ap Some (bytes_same p q e)
 
 pub prefix_itself : (p : Option (List ℕ)) → same_prefix p p ≡ true
 prefix_itself None = refl
-prefix_itself (Some p) = same_bytes p
-
-both : (a b : Bool) → a && b ≡ true → (a ≡ true) × (b ≡ true)
-both true b e = (refl, e)
-both false b e = absurd cc
+prefix_itself (Some p) = bytes_itself p
 
 pub written_same : (a b : WrittenName) → same_written a b ≡ true → a ≡ b
-written_same a b e = let p = both (same_prefix a.prefix b.prefix) (bytes_eq a.local b.local) e in
+written_same a b e = let p = and_parts (same_prefix a.prefix b.prefix) (bytes_eq a.local b.local) e in
     join a.prefix b.prefix a.local b.local (prefix_same a.prefix b.prefix p.0) (bytes_same a.local b.local p.1) where
       join : (p q : Option (List ℕ)) (x y : List ℕ) → p ≡ q → x ≡ y → ◌≡◌ {A = WrittenName} (record { prefix = p; local = x })
           (record { prefix = q; local = y })
       join p q x y e f = rw (e, f) refl
 
 pub written_itself : (a : WrittenName) → same_written a a ≡ true
-written_itself a = rw (prefix_itself a.prefix, same_bytes a.local) refl
+written_itself a = rw (prefix_itself a.prefix, bytes_itself a.local) refl
 
 pub written_alike : (x y : List ℕ) → same_written (written_of x) (written_of y) ≡ bytes_eq x y
 written_alike x y = go (bytes_eq x y) (same_written (written_of x) (written_of y)) refl refl where
@@ -75,7 +66,7 @@ written_alike x y = go (bytes_eq x y) (same_written (written_of x) (written_of y
   go true true e f = refl
   go false false e f = refl
   go true false e f = sym f ∙ ap (λ z. same_written (written_of x) (written_of z)) (sym (bytes_same x y e)) ∙ written_itself (written_of x)
-  go false true e f = sym (sym e ∙ ap (λ z. bytes_eq x z) (sym same) ∙ same_bytes x) where
+  go false true e f = sym (sym e ∙ ap (λ z. bytes_eq x z) (sym same) ∙ bytes_itself x) where
     same : x ≡ y
     same = sym (written_back x) ∙ ap written_bytes (written_same (written_of x) (written_of y) f) ∙ written_back y
 

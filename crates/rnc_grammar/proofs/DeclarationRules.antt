@@ -5,6 +5,7 @@ use Rattle.std.proofs.lemmas.Bool.{false_from_ne_true, or_cases, or_left, or_rig
 use Rattle.std.proofs.lemmas.Option.{none-some}
 use Rattle.std.proofs.lemmas.Slice.Eq.{bytes_eq-Decides}
 use Rattle.std.specs.Str.{bytes_eq}
+use Rattle.rng_model.proofs.Texts.{bytes_differ}
 use Rattle.rng_model.specs.datatypes.Datatypes.{xsd_uri}
 use Rattle.rng_model.specs.names.Lists.{Among, here, there}
 use Rattle.rng_model.specs.documents.PyxNamespaces.{xml_uri}
@@ -252,9 +253,6 @@ after_all ((x, u) ∷ es) s = all_after_one s x u es (λ t. after_all es t) (wit
 
 -- ---- what may be declared, and what is declared
 
-apart : (v w : List ℕ) → v ≢ w → bytes_eq v w ≡ false
-apart v w n = false_from_ne_true (bytes_eq v w) (λ e. n ((bytes_eq-Decides v w).0 e))
-
 xml_is : (u : syntax.Uri) → may_be (namespace_prefix (codes "xml")) u ≡ true → u ≡ syntax.literal xml_uri
 xml_is syntax.inherit e = absurd (true≢false (sym e))
 xml_is (syntax.literal u) e = ap syntax.literal ((bytes_eq-Decides u xml_uri).0 e)
@@ -264,10 +262,10 @@ xsd_is syntax.inherit e = absurd (true≢false (sym e))
 xsd_is (syntax.literal u) e = ap syntax.literal ((bytes_eq-Decides u xsd_uri).0 e)
 
 unknown_namespace : (s : Scope) (p : List ℕ) → p ≢ codes "xml" → is_known s (namespace_prefix p) ≡ is_declared s (namespace_prefix p)
-unknown_namespace s p n = ap (λ b. is_some (if b then Some (given xml_uri) else s.namespaces p)) (apart p (codes "xml") n)
+unknown_namespace s p n = ap (λ b. is_some (if b then Some (given xml_uri) else s.namespaces p)) (bytes_differ p (codes "xml") n)
 
 unknown_datatypes : (s : Scope) (p : List ℕ) → p ≢ codes "xsd" → is_known s (datatype_prefix p) ≡ is_declared s (datatype_prefix p)
-unknown_datatypes s p n = ap (λ b. is_some (if b then Some xsd_uri else s.datatypes p)) (apart p (codes "xsd") n)
+unknown_datatypes s p n = ap (λ b. is_some (if b then Some xsd_uri else s.datatypes p)) (bytes_differ p (codes "xsd") n)
 
 none_at_first : (x : Declarable) → is_declared nothing_declared x ≡ false
 none_at_first (namespace_prefix p) = refl

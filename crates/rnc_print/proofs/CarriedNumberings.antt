@@ -1,23 +1,14 @@
 -- A numbering mapped to other things is their numbering.
-use Rattle.std.proofs.Common.{◌≡◌, ◌∙◌, inl, inr, zero, suc, Bool, true, false, cond, List, [], ◌∷◌, ◌++◌, map, flat_map, refl, sym, ap, subst, arith}
+use Rattle.std.proofs.Common.{◌≡◌, ◌∙◌, Bool, true, false, cond, List, [], ◌∷◌, ◌++◌, map, flat_map, refl, sym, ap, subst}
 use Rattle.std.specs.Prelude.{Contains}
 use Rattle.std.specs.List.{AllByRecursion}
+use Rattle.rng_model.proofs.Members.{contains_mapped}
 use Rattle.rncv_model.specs.printed.Numbering.{has, with_new, and_new, first_times, place_in, IsReached, at_start, in_line, IsNumbering}
-use Rattle.rnc_print.proofs.Numberings.{contains_none, contains_first, all_contained, all_append}
+use Rattle.rnc_print.proofs.Numberings.{all_contained, all_append}
 
 pub map_append : {A B : Type 0} (f : A → B) (xs ys : List A) → map f (xs ++ ys) ≡ map f xs ++ map f ys
 map_append f [] ys = refl
 map_append f (x ∷ xs) ys = ap (λ (z : List _). f x ∷ z) (map_append f xs ys)
-
-contains_map : {A B : Type 0} (f : A → B) (xs : List A) (a : A) → Contains xs a → Contains (map f xs) (f a)
-contains_map f [] a c = absurd (contains_none a c)
-contains_map f (x ∷ xs) a c = elim (contains_first x xs a c) [
-  | inl e ↦ (zero, omega arith, ap f e)
-  | inr d ↦ later (contains_map f xs a d)
-]
-  where
-    later : Contains (map f xs) (f a) → Contains (f x ∷ map f xs) (f a)
-    later (k, lt, e) = (suc k, omega (arith, lt), e)
 
 each_of : {A : Type 0} (P Q : A → Type 0) (xs : List A) → ((a : A) → P a → Q a) → AllByRecursion P xs → AllByRecursion Q xs
 each_of P Q [] f h = tt
@@ -58,9 +49,9 @@ module _ {A B : Type 0} (same : A → A → Bool) (alike : B → B → Bool) (f 
     reached_all a (in_line {a = y} {x} r c) = all_contained R (line x) (line_all x (reached_all x r)) y c
 
     reached_map : (a : A) → IsReached same start line a → IsReached alike begin lane (f a)
-    reached_map a (at_start {a = x} c) = at_start (subst (λ (z : List B). Contains z (f x)) (sym starts) (contains_map f start x c))
+    reached_map a (at_start {a = x} c) = at_start (subst (λ (z : List B). Contains z (f x)) (sym starts) (contains_mapped f start x c))
     reached_map a (in_line {a = y} {x} r c) =
-        in_line (reached_map x r) (subst (λ (z : List B). Contains z (f y)) (sym (lines x (reached_all x r))) (contains_map f (line x) y c))
+        in_line (reached_map x r) (subst (λ (z : List B). Contains z (f y)) (sym (lines x (reached_all x r))) (contains_mapped f (line x) y c))
 
     flat_map_map : (xs : List A) → AllByRecursion R xs → map f (flat_map line xs) ≡ flat_map lane (map f xs)
     flat_map_map [] h = refl

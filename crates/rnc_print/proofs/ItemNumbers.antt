@@ -5,6 +5,7 @@ use Rattle.std.specs.List.{AllByRecursion, filter_map, list_any, position_or_len
 use Rattle.std.proofs.lemmas.Bool.{eqb-true}
 use Rattle.std.proofs.lemmas.List.{append-nil}
 use Rattle.std.proofs.lemmas.List.Elements.{filter_map-append}
+use Rattle.rng_model.proofs.Truths.{same_truth}
 use Rattle.rng_model.specs.simple.Table.{Table, tree_at}
 use Rattle.rng_model.specs.declared.simple.ElementId.{ElementId}
 use Rattle.rng_model.specs.declared.simple.PatternId.{PatternId}
@@ -18,16 +19,10 @@ use Rattle.rnc_print.specs.views.TreeNumbers.{AreTreeNumbers}
 use Rattle.rnc_print.specs.declared.items.Item.{Item}
 use Rattle.rnc_print.specs.declared.items.Item.TheVariants as variants
 use Rattle.rnc_print.specs.declared.items.Items.{Items}
-use Rattle.rnc_print.proofs.FailedTests.{false_true}
 use Rattle.rnc_print.proofs.SameTests.{number_itself, tree_exact, tree_itself}
 use Rattle.rnc_print.proofs.CarriedNumberings.{with_all, with_map, place_map}
 
 -- ---- one to one
-
-same_truth : (a b : Bool) → (a ≡ true → b ≡ true) → (b ≡ true → a ≡ true) → a ≡ b
-same_truth true b f g = sym (f refl)
-same_truth false true f g = absurd (false_true (g refl))
-same_truth false false f g = refl
 
 pattern_test : (t : Table) (numbers : List ℕ) → AreTreeNumbers t numbers → (p q : PatternId) → p.0 < length t.patterns → q.0 < length t.patterns
     → same_tree (tree_at t.patterns p) (tree_at t.patterns q) ≡ (number_at numbers p == number_at numbers q)

@@ -3,6 +3,7 @@ use Rattle.std.proofs.Common.{◌≡◌, ◌∙◌, ℕ, ◌<◌, length, map, s
 use Rattle.std.specs.Prelude.{slice_get, option_map}
 use Rattle.std.specs.Option.{unwrap_or}
 use Rattle.std.proofs.lemmas.Option.{slice_get-map, unwrap_or-slice_get}
+use Rattle.rng_model.proofs.Places.{all_at}
 use Rattle.rng_model.specs.names.Names as names
 use Rattle.rng_model.specs.names.Names.{any_name}
 use Rattle.rng_model.specs.simple.Tree as tree
@@ -13,7 +14,6 @@ use Rattle.rng_model.specs.declared.name.NameClass.{NameClass}
 use Rattle.rng_model.specs.declared.simple.PatternId.{PatternId}
 use Rattle.rng_model.specs.declared.simple.Simple.{Simple}
 use Rattle.rncv_model.specs.printed.PrintedText.{element_at}
-use Rattle.rnc_print.proofs.ListLookups.{all_at}
 
 module _ (t : Table) (h : IsTable t) where
   pub leaf_listed : (k : ℕ) (p : Simple) → slice_get t.patterns k ≡ Some p → IsLeafListed (length t.elements) p

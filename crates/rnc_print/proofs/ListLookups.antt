@@ -1,11 +1,10 @@
 -- Look-ups in lists.
-use Rattle.std.proofs.Common.{◌≡◌, ◌∙◌, ℕ, zero, suc, ◌<◌, Bool, true, false, cond, not, nat_lt, List, [], ◌∷◌, length, refl, sym, ap, subst, Option, Some}
+use Rattle.std.proofs.Common.{◌≡◌, ◌∙◌, ℕ, zero, suc, ◌<◌, Bool, true, false, cond, not, nat_lt, List, [], ◌∷◌, length, refl, sym, ap, Option, Some}
 use Rattle.std.proofs.Common.{None, Ok, Err, Result, position, arith}
-use Rattle.std.specs.Prelude.{All, OnOk, slice_get, slice_index_or}
+use Rattle.std.specs.Prelude.{OnOk, slice_get, slice_index_or}
 use Rattle.std.specs.Option.{unwrap_or}
 use Rattle.std.specs.List.{AllByRecursion, position_or_len}
 use Rattle.std.proofs.lemmas.Bool.{ltb-false}
-use Rattle.std.proofs.lemmas.Option.{get_or_from_slice_get}
 use Rattle.std.proofs.lemmas.List.Sums.{prefix_len-le-length}
 use Rattle.rnc_print.proofs.FailedTests.{false_true}
 
@@ -17,10 +16,6 @@ pub get_below : {X : Type 0} (xs : List X) (k : ℕ) (x : X) → slice_get xs k 
 get_below [] k x e = absurd (cc)
 get_below (y ∷ xs) zero x e = omega arith
 get_below (y ∷ xs) (suc k) x e = let h = get_below xs k x e in omega (arith, h)
-
--- what holds for all holds for the one that is found
-pub all_at : {X : Type 0} (P : X → Type 0) (xs : List X) (k : ℕ) (x : X) → All P xs → slice_get xs k ≡ Some x → P x
-all_at P xs k x h e = subst P (get_or_from_slice_get xs k x x e) (h k x (get_below xs k x e))
 
 pub each_at : {X : Type 0} (P : X → Type 0) (xs : List X) (k : ℕ) (d : X) → AllByRecursion P xs → k < length xs → P (slice_index_or xs k d)
 each_at P [] k d h l = absurd (omega (arith, l))

@@ -1,24 +1,17 @@
 -- Namespaces of a class, and their places.
-use Rattle.std.proofs.Common.{◌≡◌, ◌∙◌, ℕ, ◌+◌, ◌<◌, length, take, get_or, cond, not, List, [], ◌∷◌, ◌++◌, map, flat_map, refl, sym, ap, Bor, Vec, Global}
-use Rattle.std.proofs.Common.{rules, bytes_eq}
+use Rattle.std.proofs.Common.{◌≡◌, ◌∙◌, ℕ, ◌+◌, ◌<◌, length, take, get_or, cond, not, List, [], ◌∷◌, ◌++◌, map, flat_map, refl, sym, ap, Bor}
+use Rattle.std.proofs.Common.{bytes_eq}
 use Rattle.std.specs.List.{AllByRecursion, position_or_len}
 use Rattle.std.proofs.lemmas.List.{append-nil, take_more}
 use Rattle.std.proofs.lemmas.Grind.{flat_map-append}
+use Rattle.rng_model.proofs.Texts.{bytes_same, bytes_itself}
 use Rattle.indexmap.specs.IndexSet.{insert_key}
 use Rattle.rng_model.specs.names.Names as names
 use Rattle.rng_model.specs.names.Names.{classes_of, some_of}
-use Rattle.rng_model.specs.names.NameViews.{class_of}
-use Rattle.rng_model.specs.declared.name.NameClass.{NameClass, Choice, the_lemmas}
 use Rattle.rncv_model.specs.printed.Numbering.{and_new, with_new}
 use Rattle.rncv_model.specs.printed.PrintedText.{namespaces_in, namespaces_among}
 use Rattle.rnc_print.proofs.CarriedNumberings.{with_map}
-use Rattle.rnc_print.proofs.SameTests.{bytes_exact, bytes_itself}
 use Rattle.rnc_print.proofs.Numberings.{and_append}
-
--- the view of a choice is the choice of the views of its members
-pub choice_is : (class : NameClass) (members : Vec NameClass Global) (xs : List NameClass) → class ≡ Choice members → xs ≡ members.items
-    → class_of class ≡ some_of (map class_of xs)
-choice_is class members xs e items = ap class_of e ∙ search (rules, the_lemmas, items)
 
 any_names : (ns : List (Bor (List ℕ))) → AllByRecursion (λ n. Unit {0}) ns
 any_names [] = tt
@@ -53,7 +46,7 @@ module _ {A : Type 0} (f : A → List (List ℕ)) (old was new : List (List ℕ)
       ap (flat_map f) (take_more xs i d l) ∙ flat_map-append f (take i xs) (get_or xs i d ∷ [])
       ∙ ap (λ z. flat_map f (take i xs) ++ z) (append-nil (f (get_or xs i d))) in
       n ∙ ap (λ z. and_new bytes_eq z (f (get_or xs i d))) w
-      ∙ sym (and_append bytes_eq bytes_exact bytes_itself old (flat_map f (take i xs)) (f (get_or xs i d)))
+      ∙ sym (and_append bytes_eq bytes_same bytes_itself old (flat_map f (take i xs)) (f (get_or xs i d)))
       ∙ ap (and_new bytes_eq old) (sym more)
 
   pub member_added : d ≡ get_or xs i d → new ≡ and_new bytes_eq was (f d) → new ≡ and_new bytes_eq old (flat_map f (take (i + 1) xs))

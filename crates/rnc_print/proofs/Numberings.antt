@@ -1,10 +1,11 @@
 -- There is at most one numbering, and the steps find it.
-use Rattle.std.proofs.Common.{◌≡◌, ◌∙◌, ◌⊎◌, inl, inr, ℕ, zero, suc, ◌+◌, ◌≤◌, ◌<◌, Bool, true, false, cond, List, [], ◌∷◌, ◌++◌, length, flat_map, refl, sym}
+use Rattle.std.proofs.Common.{◌≡◌, ◌∙◌, inl, inr, ℕ, zero, suc, ◌+◌, ◌≤◌, ◌<◌, Bool, true, false, cond, List, [], ◌∷◌, ◌++◌, length, flat_map, refl, sym}
 use Rattle.std.proofs.Common.{ap, subst, Some, None, append_assoc, arith}
 use Rattle.std.specs.Prelude.{Contains, slice_get}
 use Rattle.std.specs.List.{AllByRecursion}
 use Rattle.std.proofs.lemmas.Bool.{or_cases, or_right, or_left}
 use Rattle.std.proofs.lemmas.List.{append-nil}
+use Rattle.rng_model.proofs.Members.{not_in_none, first_or_later}
 use Rattle.rncv_model.specs.printed.Numbering.{has, with_new, and_new, first_times, IsReached, at_start, in_line, IsNumbering}
 use Rattle.rncv_model.specs.printed.NumberingSteps.{numbered_from, numbered}
 use Rattle.rnc_print.proofs.FailedTests.{false_true}
@@ -14,13 +15,6 @@ use Rattle.rnc_print.proofs.FailedTests.{false_true}
 pub same_rest : {A : Type 0} (xs ys zs : List A) → xs ++ ys ≡ xs ++ zs → ys ≡ zs
 same_rest [] ys zs e = e
 same_rest (x ∷ xs) ys zs e = same_rest xs ys zs (cc)
-
-pub contains_none : {A : Type 0} (a : A) → Contains [] a → ⊥
-contains_none a (k, lt, e) = omega (arith, lt)
-
-pub contains_first : {A : Type 0} (x : A) (xs : List A) (a : A) → Contains (x ∷ xs) a → (x ≡ a) ⊎ Contains xs a
-contains_first x xs a (zero, lt, e) = inl e
-contains_first x xs a (suc k, lt, e) = inr (k, omega (arith, lt), e)
 
 contains_here : {A : Type 0} (x : A) (xs : List A) (a : A) → x ≡ a → Contains (x ∷ xs) a
 contains_here x xs a e = (zero, omega arith, e)
@@ -33,8 +27,8 @@ all_append P [] ys h i = i
 all_append P (x ∷ xs) ys h i = (h.0, all_append P xs ys h.1 i)
 
 pub all_contained : {A : Type 0} (P : A → Type 0) (xs : List A) → AllByRecursion P xs → (a : A) → Contains xs a → P a
-all_contained P [] h a c = absurd (contains_none a c)
-all_contained P (x ∷ xs) h a c = elim (contains_first x xs a c) [ inl e ↦ subst P e h.0 | inr d ↦ all_contained P xs h.1 a d ]
+all_contained P [] h a c = absurd (not_in_none c)
+all_contained P (x ∷ xs) h a c = elim (first_or_later x xs a c) [ inl e ↦ subst P e h.0 | inr d ↦ all_contained P xs h.1 a d ]
 
 pub all_each : {A : Type 0} (P : A → Type 0) (xs : List A) → ((a : A) → Contains xs a → P a) → AllByRecursion P xs
 all_each P [] h = tt
@@ -44,8 +38,8 @@ module _ {A : Type 0} (same : A → A → Bool) (exact : (a b : A) → same a b 
   -- ---- membership in a list
 
   pub has_contained : (xs : List A) (a : A) → Contains xs a → has same xs a ≡ true
-  has_contained [] a c = absurd (contains_none a c)
-  has_contained (x ∷ xs) a c = elim (contains_first x xs a c) [
+  has_contained [] a c = absurd (not_in_none c)
+  has_contained (x ∷ xs) a c = elim (first_or_later x xs a c) [
     | inl e ↦ or_left (same a x) (has same xs a) (subst (λ (y : A). same a y ≡ true) (sym e) (itself a))
     | inr d ↦ or_right (same a x) (has same xs a) (has_contained xs a d)
   ]

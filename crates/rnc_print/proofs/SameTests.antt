@@ -1,8 +1,9 @@
 -- The tests of `Same` are exact.
-use Rattle.std.proofs.Common.{◌≡◌, ◌∙◌, ◌≢◌, ℕ, true, false, List, [], ◌∷◌, refl, sym, ap, subst}
+use Rattle.std.proofs.Common.{◌≡◌, ◌∙◌, ℕ, true, false, List, [], ◌∷◌, refl, sym, ap, subst}
 use Rattle.std.specs.Prelude.{◌&&◌, ◌==◌}
 use Rattle.std.specs.Str.{bytes_eq}
-use Rattle.std.proofs.lemmas.Bool.{and_parts, eqb-true, eq-eqb, false_from_ne_true, and_from}
+use Rattle.std.proofs.lemmas.Bool.{and_parts, eqb-true, eq-eqb, and_from}
+use Rattle.rng_model.proofs.Texts.{bytes_same, bytes_itself, bytes_differ}
 use Rattle.rng_model.specs.names.Names.{Name, NameClass, any_name, any_except, ns_name, ns_except, name_is, one_of, NameClasses, no_classes, class_and}
 use Rattle.rng_model.specs.simple.Tree.{Datatype, Connector, choice, group, interleave, Simple, s_not_allowed, s_empty, s_text, s_leaf, s_attribute, s_list, s_data}
 use Rattle.rng_model.specs.simple.Tree.{s_data_except, s_value, s_one_or_more, s_joined}
@@ -13,23 +14,6 @@ use Rattle.rnc_print.proofs.FailedTests.{false_true}
 pub number_itself : (n : ℕ) → (n == n) ≡ true
 number_itself n = eq-eqb n n refl
 
-pub bytes_itself : (w : List ℕ) → bytes_eq w w ≡ true
-bytes_itself [] = refl
-bytes_itself (c ∷ w) = and_from (c == c) (bytes_eq w w) (number_itself c) (bytes_itself w)
-
-pub bytes_exact : (v w : List ℕ) → bytes_eq v w ≡ true → v ≡ w
-bytes_exact [] [] e = refl
-bytes_exact [] (d ∷ w) e = absurd (false_true e)
-bytes_exact (c ∷ v) [] e = absurd (false_true e)
-bytes_exact (c ∷ v) (d ∷ w) e =
-    let p = and_parts (c == d) (bytes_eq v w) e in
-    let a = eqb-true c d p.0 in
-    let b = bytes_exact v w p.1 in
-    cc
-
-pub bytes_differ : (v w : List ℕ) → v ≢ w → bytes_eq v w ≡ false
-bytes_differ v w n = false_from_ne_true (bytes_eq v w) (λ e. n (bytes_exact v w e))
-
 pub bytes_other_way : (v w : List ℕ) → bytes_eq v w ≡ false → bytes_eq w v ≡ false
 bytes_other_way v w e = bytes_differ w v (λ h. false_true (sym e ∙ subst (λ (x : List ℕ). bytes_eq v x ≡ true) (sym h) (bytes_itself v)))
 
@@ -39,8 +23,8 @@ name_itself n = and_from (bytes_eq n.ns n.ns) _ (bytes_itself n.ns) (bytes_itsel
 name_exact : (n m : Name) → same_name n m ≡ true → n ≡ m
 name_exact n m e =
     let p = and_parts (bytes_eq n.ns m.ns) (bytes_eq n.local m.local) e in
-    let a = bytes_exact n.ns m.ns p.0 in
-    let b = bytes_exact n.local m.local p.1 in
+    let a = bytes_same n.ns m.ns p.0 in
+    let b = bytes_same n.local m.local p.1 in
     ap (λ (x : List ℕ). record { ns = x; local = n.local }) a ∙ ap (λ (x : List ℕ). record { ns = m.ns; local = x }) b
 
 mutual
@@ -61,10 +45,10 @@ mutual
   class_exact : (c d : NameClass) → same_class c d ≡ true → c ≡ d
   class_exact any_name any_name e = refl
   class_exact (any_except c) (any_except d) e = ap any_except (class_exact c d e)
-  class_exact (ns_name u) (ns_name v) e = ap ns_name (bytes_exact u v e)
+  class_exact (ns_name u) (ns_name v) e = ap ns_name (bytes_same u v e)
   class_exact (ns_except u c) (ns_except v d) e =
       let p = and_parts (bytes_eq u v) (same_class c d) e in
-      let a = bytes_exact u v p.0 in
+      let a = bytes_same u v p.0 in
       let b = class_exact c d p.1 in
       cc
   class_exact (name_is n) (name_is m) e = ap name_is (name_exact n m e)
@@ -98,8 +82,8 @@ parameters_exact (p ∷ ps) [] e = absurd (false_true e)
 parameters_exact (p ∷ ps) (q ∷ qs) e =
     let r = and_parts (bytes_eq p.0 q.0 && bytes_eq p.1 q.1) (same_parameters ps qs) e in
     let s = and_parts (bytes_eq p.0 q.0) (bytes_eq p.1 q.1) r.0 in
-    let a = bytes_exact p.0 q.0 s.0 in
-    let b = bytes_exact p.1 q.1 s.1 in
+    let a = bytes_same p.0 q.0 s.0 in
+    let b = bytes_same p.1 q.1 s.1 in
     let c = parameters_exact ps qs r.1 in
     ap (λ (x : List ℕ). (x, p.1) ∷ ps) a ∙ ap (λ (x : List ℕ). (q.0, x) ∷ ps) b ∙ ap (λ (x : List (List ℕ × List ℕ)). q ∷ x) c
 
@@ -112,8 +96,8 @@ datatype_exact : (d e : Datatype) → same_datatype d e ≡ true → d ≡ e
 datatype_exact d e h =
     let p = and_parts (bytes_eq d.library e.library) (bytes_eq d.name e.name && same_parameters d.parameters e.parameters) h in
     let q = and_parts (bytes_eq d.name e.name) (same_parameters d.parameters e.parameters) p.1 in
-    let a = bytes_exact d.library e.library p.0 in
-    let b = bytes_exact d.name e.name q.0 in
+    let a = bytes_same d.library e.library p.0 in
+    let b = bytes_same d.name e.name q.0 in
     let c = parameters_exact d.parameters e.parameters q.1 in
     ap (λ (x : List ℕ). record { library = x; name = d.name; parameters = d.parameters }) a
     ∙ ap (λ (x : List ℕ). record { library = e.library; name = x; parameters = d.parameters }) b
@@ -163,7 +147,7 @@ tree_exact (s_data_except d a) (s_data_except f b) e =
 tree_exact (s_value d v) (s_value f w) e =
     let p = and_parts (same_datatype d f) (bytes_eq v w) e in
     let x = datatype_exact d f p.0 in
-    let y = bytes_exact v w p.1 in
+    let y = bytes_same v w p.1 in
     cc
 tree_exact (s_one_or_more a) (s_one_or_more b) e = ap (λ (x : Simple ℕ). s_one_or_more x) (tree_exact a b e)
 tree_exact (s_joined k a b) (s_joined l c d) e =

@@ -3,8 +3,10 @@ use Rattle.std.proofs.Common.{◌≡◌, ◌∙◌, inl, inr, refl, sym, subst, 
 use Rattle.std.specs.Prelude.{nat_le, nat_lt}
 use Rattle.std.specs.List.{list_all, AllByRecursion}
 use Rattle.std.specs.Str.{all_scalars, IsUtf8, chars}
-use Rattle.std.proofs.lemmas.Bool.{and_parts, or_cases, lt-ltb, le-ltb, le-leb, leb-true, and_from}
+use Rattle.std.proofs.lemmas.Bool.{and_parts, or_cases, lt-ltb, le-ltb, le-leb, and_from}
 use Rattle.std.proofs.lemmas.Str.{chars-encodes}
+use Rattle.rnc_text.proofs.MarkScalars.{ends}
+use Rattle.rng_model.proofs.Truths.{no_truth}
 use Rattle.rng_model.specs.names.Characters.{is_xml_char, is_ncname}
 use Rattle.rnc_model.specs.characters.Characters.{number_of, numbers_of, bytes_of}
 use Rattle.rnc_model.specs.tokens.Cut.{IsNext, Cuts}
@@ -14,9 +16,6 @@ use Rattle.rnc_model.specs.characters.Decoding as decoding
 use Rattle.rnc_model.specs.tokens.Tokens.{Piece, characters_in, IsPiece, IsNcname}
 use Rattle.rnc_model.specs.declared.character.Character.{Character}
 use Rattle.rnc_print_laws.specs.plain.Printable.{IsText, IsName}
-
-pub false_true : {P : Type 0} → false ≡ true → P
-false_true e = absurd (cc)
 
 -- ---- Chars are scalar values
 
@@ -29,10 +28,6 @@ low_char c h = rw (lt-ltb c 55296 h) refl
 high_char : (c : ℕ) → 57344 ≤ c → c < 1114112 → scalar c ≡ true
 high_char c h i = rw (le-ltb c 55296 (omega (arith, h)), le-leb 57344 c h, lt-ltb c 1114112 i) refl
 
--- the two ends of a range
-ends : (a b c : ℕ) → (nat_le a c && nat_le c b) ≡ true → (a ≤ c) × (c ≤ b)
-ends a b c h = let p = and_parts (nat_le a c) (nat_le c b) h in (leb-true a c p.0, leb-true c b p.1)
-
 xml_scalar : (c : ℕ) → is_xml_char c ≡ true → scalar c ≡ true
 xml_scalar c h = elim (or_cases (nat_le 0x9 c && nat_le c 0xA) _ h) [
   | inl e ↦ low_char c (let p = ends 0x9 0xA c e in omega (arith, p.1))
@@ -42,7 +37,7 @@ xml_scalar c h = elim (or_cases (nat_le 0x9 c && nat_le c 0xA) _ h) [
     last : ((nat_le 0x10000 c && nat_le c 0x10FFFF) || false) ≡ true → scalar c ≡ true
     last h = elim (or_cases (nat_le 0x10000 c && nat_le c 0x10FFFF) false h) [
       | inl e ↦ high_char c (let p = ends 0x10000 0x10FFFF c e in omega (arith, p.0)) (let p = ends 0x10000 0x10FFFF c e in omega (arith, p.1))
-      | inr e ↦ false_true e
+      | inr e ↦ no_truth e
     ]
 
     fourth : ((nat_le 0xE000 c && nat_le c 0xFFFD) || ((nat_le 0x10000 c && nat_le c 0x10FFFF) || false)) ≡ true → scalar c ≡ true

@@ -4,13 +4,14 @@ use Rattle.std.specs.Prelude.{◌==◌, decimal}
 use Rattle.std.specs.List.{filter_map, cons_option}
 use Rattle.std.proofs.lemmas.Bool.{or_cases, eqb-true, or_right, or_left}
 use Rattle.std.proofs.lemmas.Fmt.{decimal_injective}
+use Rattle.rng_model.proofs.Members.{same_rest}
 use Rattle.rncv_model.specs.printed.Numbering.{has, place_in}
 use Rattle.rncv_model.specs.printed.Same.{same_tree}
 use Rattle.rncv_model.specs.printed.PrintedText.{Item, element, pattern, same_item, element_in, pattern_in, item_name}
 use Rattle.rnc_print.proofs.FailedTests.{false_true}
 use Rattle.rnc_print.proofs.SameTests.{item_exact, tree_exact, tree_itself, number_itself}
 use Rattle.rng_model.specs.names.Lists.{Among}
-use Rattle.rnc_print_laws.proofs.NumberedNames.{place_le, kept_le, one_place, tail_is}
+use Rattle.rnc_print_laws.proofs.NumberedNames.{place_le, kept_le, one_place}
 use Rattle.rnc_print_laws.proofs.ListedLines.{among_has}
 
 heads_apart : (v w : List ℕ) → ◌≡◌ {A = List ℕ} (0x65 ∷ v) (0x70 ∷ w) → ⊥
@@ -45,9 +46,9 @@ module _ {A : Type 0} (g : Item → Option A) (same : A → A → Bool) (itself 
 names_differ : (items : List Item) → length items < 2 ^ 64 → (i j : Item) → has same_item items i ≡ true → has same_item items j ≡ true
     → item_name items i ≡ item_name items j → i ≡ j
 names_differ items few (element k) (element l) h i e =
-    ap element (one_kept element_in (λ k l. k == l) number_itself eqb-true items few (element k) (element l) k l refl refl h i (tail_is 0x65 _ _ e))
+    ap element (one_kept element_in (λ k l. k == l) number_itself eqb-true items few (element k) (element l) k l refl refl h i (same_rest e))
 names_differ items few (pattern s) (pattern u) h i e =
-    ap pattern (one_kept pattern_in same_tree tree_itself tree_exact items few (pattern s) (pattern u) s u refl refl h i (tail_is 0x70 _ _ e))
+    ap pattern (one_kept pattern_in same_tree tree_itself tree_exact items few (pattern s) (pattern u) s u refl refl h i (same_rest e))
 names_differ items few (element k) (pattern u) h i e = absurd (heads_apart _ _ e)
 names_differ items few (pattern s) (element l) h i e = absurd (heads_apart _ _ (sym e))
 

@@ -16,7 +16,7 @@ use Rattle.rnc_print_laws.specs.plain.PrintedMarks.{marks_of}
 use Rattle.rnc_print_laws.specs.plain.LinesSyntax as lines
 use Rattle.rnc_print_laws.specs.plain.LinesTree.{lines_tree}
 use Rattle.std.proofs.lemmas.Bool.{false≢true}
-use Rattle.rnc_print.proofs.SameTests.{bytes_exact, bytes_itself}
+use Rattle.rng_model.proofs.Texts.{bytes_same, bytes_itself}
 use Rattle.rnc_print.proofs.Numberings.{AreNew, has_contained, contained_has, has_left, has_right, has_last, and_has_right, and_fresh, fresh_new}
 use Rattle.rnc_print.proofs.Numberings.{all_contained, all_append, all_each}
 use Rattle.rnc_print_laws.proofs.NumberedNames.{item_no_keyword, prefix_apart}
@@ -132,7 +132,7 @@ shallow_item g (pattern s) h = shallow s h
 -- ---- the namespaces
 
 -- what is new after others is not among them
-new_behind : (w us : List (List ℕ)) → AreNew bytes_eq bytes_exact bytes_itself w us → AllByRecursion (λ v. has bytes_eq w v ≡ false) us
+new_behind : (w us : List (List ℕ)) → AreNew bytes_eq bytes_same bytes_itself w us → AllByRecursion (λ v. has bytes_eq w v ≡ false) us
 new_behind w [] n = tt
 new_behind w (u ∷ us) n = (
   n.0,
@@ -141,13 +141,13 @@ new_behind w (u ∷ us) n = (
 )
   where
     not_left : (v : List ℕ) → has bytes_eq (w ++ u ∷ []) v ≡ false → (b : Bool) → has bytes_eq w v ≡ b → has bytes_eq w v ≡ false
-    not_left v h true e = absurd (false≢true (sym h ∙ has_left bytes_eq bytes_exact bytes_itself w (u ∷ []) v e))
+    not_left v h true e = absurd (false≢true (sym h ∙ has_left bytes_eq bytes_same bytes_itself w (u ∷ []) v e))
     not_left v h false e = e
 
 other_than : (w : List (List ℕ)) (u v : List ℕ) → has bytes_eq (w ++ u ∷ []) v ≡ false → u ≢ v
-other_than w u v h e = false≢true (sym h ∙ subst (λ (x : List ℕ). has bytes_eq (w ++ u ∷ []) x ≡ true) e (has_last bytes_eq bytes_exact bytes_itself w u))
+other_than w u v h e = false≢true (sym h ∙ subst (λ (x : List ℕ). has bytes_eq (w ++ u ∷ []) x ≡ true) e (has_last bytes_eq bytes_same bytes_itself w u))
 
-apart_from : (ns : List (List ℕ)) → length ns < 2 ^ 64 → (w us : List (List ℕ)) → AreNew bytes_eq bytes_exact bytes_itself w us
+apart_from : (ns : List (List ℕ)) → length ns < 2 ^ 64 → (w us : List (List ℕ)) → AreNew bytes_eq bytes_same bytes_itself w us
     → AllByRecursion (λ v. has bytes_eq ns v ≡ true) us → HaveDistinctPrefixes ns us
 apart_from ns lt w [] n h = tt
 apart_from ns lt w (u ∷ us) n h =
@@ -159,21 +159,21 @@ apart_from ns lt w (u ∷ us) n h =
     both (v ∷ us) i j = (prefix_apart ns lt u v h.0 j.0 (other_than w u v i.0), both us i.1 j.1)
 
 all_itself : (ns : List (List ℕ)) → AllByRecursion (λ v. has bytes_eq ns v ≡ true) ns
-all_itself ns = all_each (λ v. has bytes_eq ns v ≡ true) ns (λ v c. has_contained bytes_eq bytes_exact bytes_itself ns v c)
+all_itself ns = all_each (λ v. has bytes_eq ns v ≡ true) ns (λ v c. has_contained bytes_eq bytes_same bytes_itself ns v c)
 
 namespaces_apart : (us : List (List ℕ)) → length (first_times bytes_eq us) < 2 ^ 64 → HaveDistinctPrefixes (first_times bytes_eq us) (first_times bytes_eq us)
 namespaces_apart us lt =
     apart_from (first_times bytes_eq us) lt [] (first_times bytes_eq us)
-    (subst (AreNew bytes_eq bytes_exact bytes_itself []) (sym (and_fresh bytes_eq bytes_exact bytes_itself [] us))
-    (fresh_new bytes_eq bytes_exact bytes_itself [] us)) (all_itself (first_times bytes_eq us))
+    (subst (AreNew bytes_eq bytes_same bytes_itself []) (sym (and_fresh bytes_eq bytes_same bytes_itself [] us))
+    (fresh_new bytes_eq bytes_same bytes_itself [] us)) (all_itself (first_times bytes_eq us))
 
 each_namespace : (Q : List ℕ → Type 0) (f : Item → List (List ℕ)) (items : List Item) → ((u : List ℕ) → has bytes_eq (flat_map f items) u ≡ true → Q u)
     → AllByRecursion (λ i. AllByRecursion Q (f i)) items
 each_namespace Q f [] h = tt
 each_namespace Q f (i ∷ items) h = (
   all_each Q (f i)
-      (λ u c. h u (has_left bytes_eq bytes_exact bytes_itself (f i) (flat_map f items) u (has_contained bytes_eq bytes_exact bytes_itself (f i) u c))),
-  each_namespace Q f items (λ u e. h u (has_right bytes_eq bytes_exact bytes_itself (f i) (flat_map f items) u e)),
+      (λ u c. h u (has_left bytes_eq bytes_same bytes_itself (f i) (flat_map f items) u (has_contained bytes_eq bytes_same bytes_itself (f i) u c))),
+  each_namespace Q f items (λ u e. h u (has_right bytes_eq bytes_same bytes_itself (f i) (flat_map f items) u e)),
 )
 
 -- what holds for all namespaces holds for those of each item
@@ -183,7 +183,7 @@ namespaces_serve g items P k =
     let ns = namespaces g items in
     each_namespace P (namespaces_of g) items
     (λ u e. all_contained P ns k u
-    (contained_has bytes_eq bytes_exact bytes_itself ns u (and_has_right bytes_eq bytes_exact bytes_itself [] (flat_map (namespaces_of g) items) u e)))
+    (contained_has bytes_eq bytes_same bytes_itself ns u (and_has_right bytes_eq bytes_same bytes_itself [] (flat_map (namespaces_of g) items) u e)))
 
 -- ---- the tokens of the printed text
 

@@ -3,6 +3,7 @@ use Rattle.std.proofs.Common.{◌≡◌, ◌≢◌, ◌∙◌, ◌⊎◌, inl, i
 use Rattle.std.specs.List.{AllByRecursion}
 use Rattle.std.specs.Str.{bytes_eq}
 use Rattle.std.proofs.lemmas.Bool.{false≢true}
+use Rattle.rng_model.proofs.Texts.{bytes_itself}
 use Rattle.rng_model.specs.names.Lists.{Among, here, there}
 use Rattle.rng_model.specs.names.Names as names
 use Rattle.rng_model.specs.simple.Tree.{Simple, s_not_allowed, s_empty, s_text, s_leaf, s_attribute, s_list, s_data, s_data_except, s_value, s_one_or_more, s_joined}
@@ -16,7 +17,6 @@ use Rattle.rnc_model.specs.declarations.DeclarationRules.{xsd_as_another, xmlns_
 use Rattle.rnc_model.specs.declarations.DeclarationRules.{prefixes_of_name, prefixes_of_class, prefixes_of_classes, prefixes_of_type, prefixes_of_pattern}
 use Rattle.rnc_model.specs.declarations.DeclarationRules.{prefixes_of_components, prefixes_of_body}
 use Rattle.rnc_print_laws.specs.plain.LinesSyntax as lines
-use Rattle.rnc_print.proofs.SameTests.{bytes_itself}
 use Rattle.rnc_print.proofs.Numberings.{all_append}
 use Rattle.rnc_print_laws.proofs.ResolvedPrefixes.{HasOtherPrefix, HaveDistinctPrefixes}
 

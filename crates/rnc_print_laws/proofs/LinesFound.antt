@@ -2,6 +2,7 @@
 use Rattle.std.proofs.Common.{◌≡◌, ◌∙◌, refl, sym, ap, subst, ℕ, ◌+◌, ◌<◌, ◌^◌, Bool, true, false, List, [], ◌∷◌, ◌++◌, length, map, Option, Some, None, arith}
 use Rattle.std.specs.Str.{bytes_eq}
 use Rattle.std.proofs.lemmas.Bool.{false_from_ne_true, or_left}
+use Rattle.rng_model.proofs.Texts.{bytes_same, bytes_itself}
 use Rattle.rng_model.specs.names.Lists.{Among, here, there}
 use Rattle.rng_model.specs.simple.Tree.{Tree, Connector}
 use Rattle.rng_model.specs.simple.Grammar.{Grammar}
@@ -10,7 +11,7 @@ use Rattle.rng_model.specs.schema.Schema.{Schema, Component, Definition, main_st
 use Rattle.rncv_model.specs.printed.Numbering.{has, place_in}
 use Rattle.rncv_model.specs.printed.PrintedText.{Item, same_item, item_name, IsItemsOf}
 use Rattle.rnc_print.proofs.FailedTests.{false_true}
-use Rattle.rnc_print.proofs.SameTests.{item_exact, item_itself, bytes_exact, bytes_itself}
+use Rattle.rnc_print.proofs.SameTests.{item_exact, item_itself}
 use Rattle.rnc_print.proofs.Numberings.{AreNew, has_left, has_right}
 use Rattle.rnc_print_laws.specs.plain.LinesSchema.{reference_pattern, item_pattern, item_line, lines_components, IsSchemaOfLines}
 use Rattle.rnc_print_laws.proofs.ListedLines.{each_once}
@@ -60,7 +61,7 @@ module _ (g : Grammar) (items : List Item) where
   none_named y n [] h = refl
   none_named y n (j ∷ js) h =
       without_name (Some y) n (item_line g items j) (rows js)
-      (false_from_ne_true (bytes_eq y (item_name items j)) (λ e. h j here (sym (bytes_exact y (item_name items j) e))))
+      (false_from_ne_true (bytes_eq y (item_name items j)) (λ e. h j here (sym (bytes_same y (item_name items j) e))))
       ∙ none_named y (n + 1) js (λ i a. h i (there a))
 
   no_start : (n : ℕ) (js : List Item) → trees_named None n (rows js) ≡ []
@@ -96,7 +97,7 @@ module _ (g : Grammar) (items : List Item) where
         by_test rest_named false e =
             let name = false_from_ne_true (bytes_eq (item_name items i) (item_name items j))
             (λ f. false_true (sym e ∙
-            subst (λ (k : Item). same_item i k ≡ true) (name_of (bytes_exact (item_name items i) (item_name items j) f)) (item_itself i))) in
+            subst (λ (k : Item). same_item i k ≡ true) (name_of (bytes_same (item_name items i) (item_name items j) f)) (item_itself i))) in
             let place : (n + 1) + place_in same_item js i ≡ n + place_in same_item (j ∷ js) i = rw e (omega arith) in
             without_name (Some (item_name items i)) n (item_line g items j) (rows js) name
             ∙ rest_named (in_rest i j js e a)

@@ -1,6 +1,7 @@
 -- What loading returns if the file of the lines is handed in as the main one.
 use Rattle.std.proofs.Common.{◌≡◌, refl, subst, inl, inr, ℕ, ◌≤◌, List, [], ◌∷◌, length, arith, Result, Ok, Err}
 use Rattle.std.specs.Prelude.{MatchResult}
+use Rattle.rng_load.proofs.FilesVerdict.{same_files, file_or_all}
 use Rattle.rng_model.specs.names.Lists.{here, HasTwo, first_and, both_later}
 use Rattle.rng_model.specs.schema.Schema.{Schema}
 use Rattle.rng_model.specs.simple.Grammar.{Grammar}
@@ -8,7 +9,7 @@ use Rattle.rng_model.specs.declared.fault.SchemaFault.{SchemaFault}
 use Rattle.rng_model.specs.declared.fault.SchemaFault.TheVariants as faults
 use Rattle.rnc_model.specs.loading.LoadedSchema.{AreSchema}
 use Rattle.rng_load.specs.views.Loaded.{IsLoaded}
-use Rattle.rnc_model.specs.loading.Loading.{TakenFiles, file_breaks, together_break, are_taken}
+use Rattle.rnc_model.specs.loading.Loading.{TakenFiles, together_break, are_taken}
 use Rattle.rng_load.specs.views.PlacedGrammars.{schema_of}
 use Rattle.rnc_model.specs.loading.SchemaFile.{Name, NamedFile, HasTree, BreaksLimit, size_limit}
 use Rattle.rng_load.specs.declared.schema.Schema as loaded
@@ -18,12 +19,6 @@ use Rattle.rnc_print_laws.specs.plain.LinesSchema.{IsSchemaOfLines}
 use Rattle.rnc_print_laws.specs.plain.LinesTree.{lines_tree}
 use Rattle.rnc_print_laws.proofs.LinesKept.{reprinted_text}
 use Rattle.rnc_print_laws.proofs.LinesTaken.{lines_taken, lines_are_schema}
-
-pub same_files : {r s : TakenFiles} → are_taken r ≡ are_taken s → r ≡ s
-same_files e = cc
-
-file_or_all : {f : Name} {k : ℕ} {r : TakenFiles} → file_breaks f k ≡ are_taken r → ⊥
-file_or_all e = cc
 
 together_or_all : {k : ℕ} {r : TakenFiles} → together_break k ≡ are_taken r → ⊥
 together_or_all e = cc

@@ -1,5 +1,6 @@
 -- What is written in the lines of a printed grammar.
 use Rattle.std.proofs.Common.{◌≡◌, ◌∙◌, refl, sym, ap, subst, ℕ, ◌<◌, ◌^◌, List, [], ◌∷◌, ◌++◌, length, map, Option, Some, None}
+use Rattle.rng_model.proofs.Members.{among_mapped}
 use Rattle.rng_model.specs.names.Lists.{Among, here, there, HasTwo, first_and, both_later}
 use Rattle.rng_model.specs.names.Names.{NameClass}
 use Rattle.rng_model.specs.datatypes.Datatypes.{IsAllowed}
@@ -25,10 +26,6 @@ among_map : {A B : Type 0} (f : A → B) (xs : List A) (y : B) → Among y (map 
 among_map f [] y a = elim a [ ]
 among_map f (x ∷ xs) y here = (x, here, refl)
 among_map f (x ∷ xs) y (there a) = let r = among_map f xs y a in (r.0, there r.1, r.2)
-
-map_among : {A B : Type 0} (f : A → B) {x : A} {xs : List A} → Among x xs → Among (f x) (map f xs)
-map_among f here = here
-map_among f (there a) = there (map_among f a)
 
 some_same : {A : Type 0} {x y : A} → ◌≡◌ (Some x) (Some y) → x ≡ y
 some_same e = cc
@@ -240,7 +237,7 @@ module _ (g : Grammar) (items : List Item) (good : IsGoodGrammar g) (numbered : 
     named_line x cs e i a = record {
       components = lines_components g items;
       there = ap r.components (lines.only x cs e) ∙ lines.components;
-      among = there (map_among (item_line g items) a);
+      among = there (among_mapped (item_line g items) a);
     }
 
     pub no_ref : ¬ (BreaksRef r)

@@ -1,8 +1,8 @@
 -- What the lines of a grammar mention has a line, and each line occurs once.
 use Rattle.std.proofs.Common.{◌≡◌, sym, subst, inl, inr, zero, suc, true, List, [], ◌∷◌, ◌++◌, flat_map, arith}
 use Rattle.std.specs.Prelude.{Contains}
-use Rattle.std.specs.List.{AllByRecursion}
 use Rattle.std.proofs.lemmas.Bool.{or_cases, or_right, or_left}
+use Rattle.rng_model.proofs.Members.{all_among}
 use Rattle.rng_model.specs.names.Lists.{Among, here, there}
 use Rattle.rng_model.specs.simple.Grammar.{Grammar}
 use Rattle.rncv_model.specs.printed.Numbering.{has, IsReached, at_start, in_line}
@@ -40,10 +40,6 @@ contains_among (y ∷ xs) x (suc k, lt, e) = there (contains_among xs x (k, omeg
 flat_among : {A B : Type 0} (f : A → List B) {x : A} {xs : List A} {y : B} → Among x xs → Among y (f x) → Among y (flat_map f xs)
 flat_among f (here {xs}) j = among_left (flat_map f xs) j
 flat_among f (there {y = z} i) j = among_right (f z) (flat_among f i j)
-
-pub all_among : {A : Type 0} (P : A → Type 0) {x : A} {xs : List A} → AllByRecursion P xs → Among x xs → P x
-all_among P h here = h.0
-all_among P h (there i) = all_among P h.1 i
 
 -- ---- the items of a grammar
 

@@ -4,12 +4,13 @@ use Rattle.std.specs.List.{list_all}
 use Rattle.std.specs.Option.{option_and_then}
 use Rattle.std.specs.Str.{IsAscii, bytes_eq}
 use Rattle.std.proofs.lemmas.Bool.{true≢false}
-use Rattle.std.proofs.lemmas.Slice.Eq.{bytes_eq-Decides}
 use Rattle.std.proofs.lemmas.Str.{IsUtf8-from_ascii, chars_from_encodes, encodes-IsAscii}
+use Rattle.rng_model.proofs.ValueLaws.{known_if_allowed}
+use Rattle.rng_model.proofs.Texts.{bytes_same}
 use Rattle.rng_model.specs.names.Characters.{is_xml_char, is_ncname}
 use Rattle.rng_model.specs.simple.Tree.{Datatype}
 use Rattle.rng_model.specs.datatypes.Parameters.{named}
-use Rattle.rng_model.specs.datatypes.Datatypes.{Meaning, Maker, plain_types, xsd_types, xsd_uri, type_named, meaning_of, known_allows, IsKnownDatatype, IsAllowed}
+use Rattle.rng_model.specs.datatypes.Datatypes.{Maker, plain_types, xsd_types, xsd_uri, type_named, meaning_of, IsKnownDatatype, IsAllowed}
 use Rattle.rnc_print_laws.specs.plain.Printable.{IsText, IsName, CanBeNamed}
 
 pub ascii_text : (w : List ℕ) → IsAscii w → list_all is_xml_char w ≡ true → IsText w
@@ -32,17 +33,14 @@ row : {A P : Type 0} (b : Bool) (x : A) (o : Option A) → (b ≡ true → P) �
 row true x o this more e = this refl
 row false x o this more e = more e
 
-same_text : (v w : List ℕ) → bytes_eq v w ≡ true → v ≡ w
-same_text v w = (bytes_eq-Decides v w).0
-
 -- a name that is written out
 written_name : (name w : List ℕ) → IsAscii w → is_ncname w ≡ true → bytes_eq name w ≡ true → IsName name
-written_name name w a h e = subst IsName (sym (same_text name w e)) (ascii_name w a h)
+written_name name w a h e = subst IsName (sym (bytes_same name w e)) (ascii_name w a h)
 
 plain_name : (name : List ℕ) → IsTrue (is_some (named name plain_types)) → (name ≡ codes "string") ⊎ (name ≡ codes "token")
 plain_name name =
-    row (bytes_eq name (codes "string")) _ _ (λ e. inl (same_text name (codes "string") e))
-    (row (bytes_eq name (codes "token")) _ _ (λ e. inr (same_text name (codes "token") e)) no_truth)
+    row (bytes_eq name (codes "string")) _ _ (λ e. inl (bytes_same name (codes "string") e))
+    (row (bytes_eq name (codes "token")) _ _ (λ e. inr (bytes_same name (codes "token") e)) no_truth)
 
 xsd_name : (name : List ℕ) → IsTrue (is_some (named name xsd_types)) → IsName name
 xsd_name name =
@@ -59,8 +57,8 @@ known_named uri name = by_uri (bytes_eq uri []) (bytes_eq uri xsd_uri) refl refl
   where
     by_uri : (a b : Bool) → bytes_eq uri [] ≡ a → bytes_eq uri xsd_uri ≡ b
         → IsTrue (is_some (option_and_then (named name) (cond a (Some plain_types) (cond b (Some xsd_types) None)))) → CanBeNamed uri name
-    by_uri true b is e known = inl (same_text uri [] is, plain_name name known)
-    by_uri false true isnt is known = inr (same_text uri xsd_uri is, xsd_name name known)
+    by_uri true b is e known = inl (bytes_same uri [] is, plain_name name known)
+    by_uri false true isnt is known = inr (bytes_same uri xsd_uri is, xsd_name name known)
     by_uri false false isnt neither known = no_truth known
 
 -- a datatype that is known has a type
@@ -73,8 +71,4 @@ datatype_named d known = known_named d.library d.name (has_type (type_named d.li
 
 -- and so does one that allows a text
 pub allowed_named : (d : Datatype) (s : List ℕ) → IsAllowed d s → CanBeNamed d.library d.name
-allowed_named d s allowed = datatype_named d (is_known (meaning_of d) allowed)
-  where
-    is_known : (o : Option Meaning) → IsTrue (known_allows o s) → IsTrue (is_some o)
-    is_known None e = e
-    is_known (Some meaning) e = refl
+allowed_named d s allowed = datatype_named d (known_if_allowed (meaning_of d) s allowed)

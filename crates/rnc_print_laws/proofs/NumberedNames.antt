@@ -14,7 +14,8 @@ use Rattle.rncv_model.specs.printed.Numbering.{has, place_in}
 use Rattle.rncv_model.specs.printed.Same.{same_tree}
 use Rattle.rncv_model.specs.printed.PrintedText.{Item, element, pattern, element_in, pattern_in, item_name, prefix_of}
 use Rattle.std.proofs.lemmas.Bool.{false≢true}
-use Rattle.rnc_print.proofs.SameTests.{bytes_exact, bytes_differ}
+use Rattle.rng_model.proofs.Members.{same_rest}
+use Rattle.rng_model.proofs.Texts.{bytes_same, bytes_differ}
 
 abbrev is_digit : ℕ → Bool
 is_digit d = nat_le 0x30 d && nat_le d 0x39
@@ -141,15 +142,12 @@ item_ncname items lt (pattern s) =
 pub prefix_ncname : (ns : List (List ℕ)) → length ns < 2 ^ 64 → (u : List ℕ) → is_ncname (prefix_of ns u) ≡ true
 prefix_ncname ns lt u = letter_number_name 0x6E _ refl (let a = place_le bytes_eq ns u in omega (arith, a, lt))
 
-pub tail_is : (c : ℕ) (v w : List ℕ) → c ∷ v ≡ c ∷ w → v ≡ w
-tail_is c v w e = cc
-
 pub prefix_apart : (ns : List (List ℕ)) → length ns < 2 ^ 64 → (u v : List ℕ) → has bytes_eq ns u ≡ true → has bytes_eq ns v ≡ true → u ≢ v
     → bytes_eq (prefix_of ns u) (prefix_of ns v) ≡ false
 prefix_apart ns lt u v h i n =
     bytes_differ (prefix_of ns u) (prefix_of ns v)
-    (λ e. n (one_place bytes_eq bytes_exact ns u v h i
-    (decimal_injective _ _ (let a = place_le bytes_eq ns u in omega (arith, a, lt)) (let a = place_le bytes_eq ns v in omega (arith, a, lt)) (tail_is 0x6E _ _ e))))
+    (λ e. n (one_place bytes_eq bytes_same ns u v h i
+    (decimal_injective _ _ (let a = place_le bytes_eq ns u in omega (arith, a, lt)) (let a = place_le bytes_eq ns v in omega (arith, a, lt)) (same_rest e))))
 
 -- ---- they are ASCII
 

@@ -6,6 +6,7 @@ use Rattle.std.specs.Str.{bytes_eq}
 use Rattle.std.proofs.lemmas.List.Elements.{All-contains}
 use Rattle.std.proofs.lemmas.Slice.Eq.{bytes_eq-Decides}
 use Rattle.std.proofs.lemmas.Option.{none-some}
+use Rattle.rng_model.proofs.Texts.{bytes_same}
 use Rattle.rng_model.specs.names.Lists.{Among, here, there}
 use Rattle.rng_model.specs.names.Names.{NameClass}
 use Rattle.rng_model.specs.simple.Tree.{Datatype, Tree, Trees, Simple}
@@ -36,17 +37,14 @@ known : (library name : List ℕ) → IsName name → ¬ (¬ (CanBeNamed library
 known library name n kept = by_tests (bytes_eq library xsd_uri) (bytes_eq library []) (bytes_eq name (codes "string")) (bytes_eq name (codes "token")) refl
     refl refl refl
   where
-    is : (v w : List ℕ) → bytes_eq v w ≡ true → v ≡ w
-    is v w e = (bytes_eq-Decides v w).0 e
-
     is_not : (v w : List ℕ) → bytes_eq v w ≡ false → v ≡ w → ⊥
     is_not v w e f = let g = (bytes_eq-Decides v w).1 f in cc
 
     by_tests : (x e s t : Bool) → bytes_eq library xsd_uri ≡ x → bytes_eq library [] ≡ e → bytes_eq name (codes "string") ≡ s
         → bytes_eq name (codes "token") ≡ t → CanBeNamed library name
-    by_tests true e s t a b c d = inr (is _ _ a, n)
-    by_tests false true true t a b c d = inl (is _ _ b, inl (is _ _ c))
-    by_tests false true false true a b c d = inl (is _ _ b, inr (is _ _ d))
+    by_tests true e s t a b c d = inr (bytes_same _ _ a, n)
+    by_tests false true true t a b c d = inl (bytes_same _ _ b, inl (bytes_same _ _ c))
+    by_tests false true false true a b c d = inl (bytes_same _ _ b, inr (bytes_same _ _ d))
     by_tests false true false false a b c d = absurd (kept (λ k. elim k [
       | inl p ↦ elim p.1 [ inl f ↦ is_not _ _ c f | inr f ↦ is_not _ _ d f ]
       | inr p ↦ is_not _ _ a p.0

@@ -1,5 +1,6 @@
 -- The file of the lines, read as a schema, is the schema of the lines.
 use Rattle.std.proofs.Common.{◌≡◌, ◌∙◌, refl, sym, ap, subst, ℕ, ◌+◌, List, [], ◌∷◌, map, Option, Some, None}
+use Rattle.rng_model.proofs.Options.{none_is_some}
 use Rattle.rng_model.specs.names.Lists.{Among, here, there}
 use Rattle.rng_model.specs.simple.Tree.{Connector, choice, group, interleave}
 use Rattle.rng_model.specs.simple.Tree.{Simple, s_not_allowed, s_empty, s_text, s_leaf, s_attribute, s_list, s_data, s_data_except, s_value, s_one_or_more, s_joined}
@@ -18,9 +19,6 @@ use Rattle.rnc_print_laws.specs.plain.LinesSchema.{IsSchemaOfLines}
 use Rattle.rnc_print_laws.specs.plain.LinesTree as lines
 use Rattle.rnc_print_laws.specs.plain.LinesTree.{lines_tree}
 use Rattle.rnc_print_laws.proofs.ReadClasses.{class_read}
-
-none_is_some : {A B : Type 0} {x : A} → ◌≡◌ {A = Option A} None (Some x) → B
-none_is_some e = cc
 
 module _ (files : List ℕ → Option FileTree) where
   abbrev IsRead : TreePath → tree.Pattern → Pattern → Type 0

@@ -3,6 +3,7 @@ use Rattle.std.proofs.Common.{◌≡◌, ◌∙◌, ◌⊎◌, inl, inr, ℕ, fa
 use Rattle.std.specs.Prelude.{cond}
 use Rattle.std.specs.List.{AllByRecursion}
 use Rattle.std.specs.Str.{bytes_eq}
+use Rattle.rng_model.proofs.Texts.{bytes_itself}
 use Rattle.rng_model.specs.names.Names as names
 use Rattle.rng_model.specs.simple.Tree.{Simple, s_not_allowed, s_empty, s_text, s_leaf, s_attribute, s_list, s_data, s_data_except, s_value, s_one_or_more, s_joined}
 use Rattle.rng_model.specs.simple.Grammar.{Grammar}
@@ -16,7 +17,7 @@ use Rattle.rncv_model.specs.printed.PrintedText.{Item, element, pattern, element
 use Rattle.rnc_print_laws.specs.plain.Printable.{CanBeNamed}
 use Rattle.rnc_print_laws.specs.plain.LinesSyntax as lines
 use Rattle.rnc_print_laws.specs.plain.LinesTree as trees
-use Rattle.rnc_print.proofs.SameTests.{bytes_itself, bytes_other_way}
+use Rattle.rnc_print.proofs.SameTests.{bytes_other_way}
 use Rattle.rnc_print_laws.proofs.LineSentences.{KnowsType, KnowsTypes, KnowsItem}
 
 -- what a scope has for the prefix of a namespace

@@ -6,6 +6,7 @@ use Rattle.std.specs.Prelude.{take}
 use Rattle.std.specs.List.{AllByRecursion, count_by}
 use Rattle.std.proofs.lemmas.List.Sums.{sum_by-cons}
 use Rattle.std.proofs.lemmas.Option.{same_Some, none-some}
+use Rattle.rng_model.proofs.Truths.{no_truth}
 use Rattle.rng_model.specs.simple.Tree.{Connector}
 use Rattle.rng_model.specs.declared.method.Method.{Method}
 use Rattle.rnc_model.specs.declared.token.Keyword.{Keyword}
@@ -18,7 +19,6 @@ use Rattle.rnc_model.specs.tokens.Lexeme.{Lexeme, Spelling, keyword, identifier,
 use Rattle.rnc_model.specs.grammar.Sentence.{is_opening, is_closing, NestsWithin}
 use Rattle.rnc_model.specs.grammar.Syntax.{DatatypeName, string_type, token_type, prefixed_type}
 use Rattle.rnc_print_laws.specs.plain.Printable.{IsText, IsName}
-use Rattle.rnc_print_laws.proofs.FileCharacters.{false_true}
 
 -- the words of a token are NCNames, and its text is made of Chars
 abbrev pub IsWellSpelled : Lexeme → Type 0
@@ -163,10 +163,10 @@ past_sign CloseParenthesis i f = absurd i
 past_sign _ i f = record { keeps = λ e h. f.keeps e h.1 }
 
 pub past_other : {ts : List Lexeme} {r : ℕ} {P : Type 0} (x : Lexeme) → is_bracket x ≡ false → Keeps ts r P → Keeps (x ∷ ts) r P
-past_other (sign OpenBrace) i f = false_true (sym i)
-past_other (sign CloseBrace) i f = false_true (sym i)
-past_other (sign OpenParenthesis) i f = false_true (sym i)
-past_other (sign CloseParenthesis) i f = false_true (sym i)
+past_other (sign OpenBrace) i f = no_truth (sym i)
+past_other (sign CloseBrace) i f = no_truth (sym i)
+past_other (sign OpenParenthesis) i f = no_truth (sym i)
+past_other (sign CloseParenthesis) i f = no_truth (sym i)
 past_other _ i f = record { keeps = λ e h. f.keeps e h.1 }
 
 -- ---- tokens that nest within a limit have that much room

@@ -1,5 +1,6 @@
 -- What is printed for a schema, handed in again, is a schema with the same simple form.
 use Rattle.std.proofs.Common.{◌≡◌, subst, ℕ, List}
+use Rattle.rng_load.proofs.FilesVerdict.{same_files}
 use Rattle.rnc_model.specs.loading.LoadedSchema.{AreSchema}
 use Rattle.rnc_model.specs.loading.Loading.{TakenFiles, are_taken, FilesHaveVerdict}
 use Rattle.rnc_model.specs.loading.SchemaFile.{Name, NamedFile}
@@ -13,7 +14,6 @@ use Rattle.rng_simple.proofs.NumberedSchema.{only_simple_grammar}
 use Rattle.rnc_print_laws.specs.plain.HandedIn.{IsHandedInAgain, lines_alone, AreFilesOf, HaveSameForm, AreOfSameForm}
 use Rattle.rnc_print_laws.specs.plain.LinesSchema.{IsReprinted, schema_of_lines}
 use Rattle.rnc_print_laws.proofs.LinesKept.{is_reprinted, reprinted_form, reprinted_kept}
-use Rattle.rnc_print_laws.proofs.LinesLoaded.{same_files}
 use Rattle.rnc_print_laws.proofs.LinesTaken.{lines_taken, lines_are_schema, schema_is_lines}
 
 -- ---- schemas with one simple grammar in common have all

@@ -1,6 +1,7 @@
 -- A property of each name class, datatype and value that is written in a schema holds for those in its simple form, if
 -- changes of the nesting of name classes keep it.
 use Rattle.std.proofs.Common.{◌≡◌, refl, subst, ℕ, ◌+◌, Bool, true, false, if◌then◌else◌, List, [], ◌∷◌, Option, Some, None}
+use Rattle.rng_model.proofs.Options.{none_is_some}
 use Rattle.rng_model.specs.names.Lists.{Among, here, there}
 use Rattle.rng_model.specs.names.Names.{NameClass}
 use Rattle.rng_model.specs.simple.ClassSteps.{ClassStep}
@@ -28,9 +29,6 @@ first p = p.0
 
 second : {A B : Type 0} → A × B → B
 second p = p.1
-
-none_is_not_some : {A B : Type 0} {x : A} → ◌≡◌ {A = Option A} None (Some x) → B
-none_is_not_some e = cc
 
 -- ---- the conditions on the name classes of attributes, on datatypes, and on values
 
@@ -86,7 +84,7 @@ module _ (IsClass : NameClass → Type 0) (IsData : Datatype → Type 0) (IsValu
     from_fine k a (b ∷ ts) h hs = from_fine k (joined k a b no_trees) ts (h, (first hs, tt)) (second hs)
 
     nested_fine : (k : Connector) (ts : List (Tree L)) (a : Tree L) → nested k ts ≡ Some a → AreAllFine ts → IsFine a
-    nested_fine k [] a e hs = none_is_not_some e
+    nested_fine k [] a e hs = none_is_some e
     nested_fine k (t ∷ ts) a e hs = subst IsFine (some_is refl e) (from_fine k t ts (first hs) (second hs))
 
     -- ---- a step keeps the conditions
@@ -199,7 +197,7 @@ module _ (IsClass : NameClass → Type 0) (IsData : Datatype → Type 0) (IsValu
     body_fine d a e = at_components (s.components d.place) refl e
       where
         at_components : (o : Option (List Component)) → s.components d.place ≡ o → body_among d.name o ≡ Some a → IsFine (IsPointThere d.place) a
-        at_components None f e = none_is_not_some e
+        at_components None f e = none_is_some e
         at_components (Some cs) f e = nested_fine (IsPointThere d.place) (combining_connector d.name cs) (trees_named d.name 0 cs) a e
             (trees_fine d.place d.name 0 cs (λ c m. record { components = cs; there = f; among = m }))
 

@@ -5,6 +5,7 @@ use Rattle.std.specs.Char.{encode_utf8}
 use Rattle.std.proofs.lemmas.Bool.{or_cases, or_right}
 use Rattle.std.proofs.lemmas.List.{map-append}
 use Rattle.std.proofs.lemmas.Str.{encodes-append, encode_ascii}
+use Rattle.rnc_text.proofs.MarksCut.{numbers_ordinary}
 use Rattle.rng_model.specs.names.Characters.{is_ncname}
 use Rattle.rnc_model.specs.declared.character.Character.TheVariants.{Ordinary}
 use Rattle.rnc_model.specs.declared.token.Sign.{Sign}
@@ -149,10 +150,6 @@ marks_are_decoded law {ms} {ks} r =
     subst (λ (x : List ℕ). IsDecoded x (characters_of_marks ks)) (text_bytes r) (law escaped escaped_back ks (are_marks r))
 
 -- ---- their tokens
-
-numbers_ordinary : (w : List ℕ) → numbers_of (ordinary w) ≡ w
-numbers_ordinary [] = refl
-numbers_ordinary (c ∷ w) = ap (λ (x : List ℕ). c ∷ x) (numbers_ordinary w)
 
 bytes_ordinary : (n w : List ℕ) → encode_utf8_all n ≡ w → bytes_of (ordinary n) ≡ w
 bytes_ordinary n w e = ap encode_utf8_all (numbers_ordinary n) ∙ e

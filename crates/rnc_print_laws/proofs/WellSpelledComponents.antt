@@ -4,7 +4,7 @@ use Rattle.std.specs.Prelude.{filter}
 use Rattle.std.specs.List.{AllByRecursion}
 use Rattle.std.specs.Str.{bytes_eq}
 use Rattle.std.proofs.lemmas.Option.{same_Some, none-some}
-use Rattle.rng_model.specs.names.Lists.{Among, here, there}
+use Rattle.rng_model.proofs.Members.{all_among}
 use Rattle.rng_model.specs.schema.Patterns.{Place, Pattern, members, patterns_of}
 use Rattle.rng_model.specs.schema.Schema.{Schema}
 use Rattle.rng_model.specs.schema.SchemaClauses.{BreaksNoClause, in_schema, in_datatype}
@@ -39,10 +39,6 @@ all_kept {A} P p (x ∷ xs) h = by_test (p x) (filter p xs) (all_kept P p xs h.1
     by_test : (b : Bool) (ys : List A) → AllByRecursion P ys → AllByRecursion P (if b then x ∷ ys else ys)
     by_test true ys i = (h.0, i)
     by_test false ys i = i
-
-all_among : {A : Type 0} (P : A → Type 0) {x : A} {xs : List A} → AllByRecursion P xs → Among x xs → P x
-all_among P h here = h.0
-all_among P h (there m) = all_among P h.1 m
 
 all_same : {A : Type 0} (P : A → Type 0) {xs ys : List A} → xs ≡ ys → AllByRecursion P ys → AllByRecursion P xs
 all_same P e h = subst (AllByRecursion P) (sym e) h

@@ -1,10 +1,9 @@
 -- The tokens of a file are well spelled.
 use Rattle.std.proofs.Common.{◌≡◌, ◌∙◌, sym, subst, ap, ℕ, ◌+◌, List, [], ◌∷◌, ◌++◌, Option, Some, None, arith}
-use Rattle.std.specs.Prelude.{encode_utf8_all}
 use Rattle.std.specs.List.{AllByRecursion}
-use Rattle.std.proofs.lemmas.List.{map-append}
-use Rattle.std.proofs.lemmas.Str.{encodes-append, encode_ascii}
-use Rattle.rnc_model.specs.characters.Characters.{number_of, numbers_of, bytes_of}
+use Rattle.std.proofs.lemmas.Str.{encode_ascii}
+use Rattle.rnc_text.proofs.Cursors.{bytes_append}
+use Rattle.rnc_model.specs.characters.Characters.{numbers_of, bytes_of}
 use Rattle.rnc_model.specs.tokens.Cut.{Token, tokens_at, HasTokens}
 use Rattle.rnc_model.specs.characters.Decoding.{IsDecoded}
 use Rattle.rnc_model.specs.tokens.Tokens.{Piece, gap, token, characters_in, keyword_or_identifier, keyword_of, word_kind, IsNcname, three, IsPiece}
@@ -21,12 +20,9 @@ use Rattle.rnc_print_laws.proofs.RoomForBrackets.{IsWellSpelled}
 
 -- ---- names with a colon
 
-bytes_both : (xs ys : List Character) → bytes_of (xs ++ ys) ≡ bytes_of xs ++ bytes_of ys
-bytes_both xs ys = ap encode_utf8_all (map-append number_of xs ys) ∙ encodes-append (numbers_of xs) (numbers_of ys)
-
 with_colon : (prefix rest : List Character) → bytes_of (prefix ++ Ordinary 0x3A ∷ rest) ≡ bytes_of prefix ++ 58 ∷ bytes_of rest
 with_colon prefix rest =
-    bytes_both prefix (Ordinary 0x3A ∷ rest) ∙ ap (λ (w : List ℕ). bytes_of prefix ++ (w ++ bytes_of rest)) (encode_ascii 58 (omega arith))
+    bytes_append prefix (Ordinary 0x3A ∷ rest) ∙ ap (λ (w : List ℕ). bytes_of prefix ++ (w ++ bytes_of rest)) (encode_ascii 58 (omega arith))
 
 prefix_is : (prefix rest : List Character) → IsNcname prefix → prefix_in (bytes_of (prefix ++ Ordinary 0x3A ∷ rest)) ≡ bytes_of prefix
 prefix_is prefix rest h = ap prefix_in (with_colon prefix rest) ∙ (before_colon (bytes_of prefix) (bytes_of rest) (ncname_no_colon (numbers_of prefix) h)).0

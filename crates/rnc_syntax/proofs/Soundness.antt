@@ -1,6 +1,7 @@
 -- Whatever is read is in the grammar: steps of reading, and lists of items.
 use Rattle.std.proofs.Common.{◌≡◌, ℕ, zero, suc, true, List, [], ◌∷◌, ◌++◌, length, Option, Some, None, Result, Ok, Err, refl, sym, ap}
 use Rattle.std.proofs.Common.{subst, ◌∙◌, append_assoc, inl, inr}
+use Rattle.rng_model.proofs.Truths.{chosen}
 use Rattle.rnc_model.specs.declared.token.Keyword.{Keyword}
 use Rattle.rnc_model.specs.declared.token.Keyword.TheVariants as keywords
 use Rattle.rnc_model.specs.declared.token.Sign.{Sign}
@@ -12,7 +13,6 @@ use Rattle.rnc_model.specs.grammar.Grammar.{word_of}
 use Rattle.rnc_syntax.specs.plain.Combinators.{Outcome, ◌>>=◌, same_sign, same_keyword, follow, follow_keyword, sign_read, after, after_keyword, word_at}
 use Rattle.rnc_syntax.specs.plain.Combinators.{identifier_at, segment_at, either_way, many_with, many}
 use Rattle.rnc_syntax.specs.plain.Productions.{in_braces_at}
-pub use Rattle.rnc_text.proofs.TestFacts.{chosen}
 
 -- the value of a step that did not fail
 pub bind_ok : {A B : Type 0} (r : Result A Stop) (f : A → Result B Stop) (y : B) → (r >>= f) ≡ Ok y → (x : A) × (r ≡ Ok x) × (f x ≡ Ok y)

@@ -2,6 +2,7 @@
 use Rattle.std.proofs.Common.{◌≡◌, ℕ, true, false, List, [], ◌∷◌, ◌++◌, Option, Some, None, Ok, refl, ap, subst, ◌∙◌, inl, inr}
 use Rattle.std.proofs.lemmas.List.{append-nil}
 use Rattle.std.proofs.lemmas.Option.{same_Some}
+use Rattle.rng_model.proofs.Truths.{chosen}
 use Rattle.rnc_model.specs.declared.token.Keyword.TheVariants as keywords
 use Rattle.rnc_model.specs.declared.token.Sign.TheVariants.{Equal, OpenBracket}
 use Rattle.rnc_model.specs.tokens.Lexeme.{Lexeme, Spelling, keyword, sign}
@@ -15,7 +16,7 @@ use Rattle.rnc_syntax.specs.plain.Productions.{uri_at, prefix_at, default_at}
 use Rattle.rnc_syntax.specs.plain.Productions.{declaration_at, begins_declaration, declaration_front, is_grammar_body, pattern_body_with, bare_body_with}
 use Rattle.rnc_syntax.specs.plain.Productions.{annotated_body_with, body_with, if_ended, declarations_at}
 use Rattle.rnc_syntax.specs.plain.Productions.{file_with}
-use Rattle.rnc_syntax.proofs.Soundness.{bind_ok, chosen, ok_is, same_namespace, after_keyword_is, TakesFront, Sound, Each, no_items, and_item}
+use Rattle.rnc_syntax.proofs.Soundness.{bind_ok, ok_is, same_namespace, after_keyword_is, TakesFront, Sound, Each, no_items, and_item}
 use Rattle.rnc_syntax.proofs.Soundness.{many_sound, Behind, behind, mapped_sound, both_reads, IsSetting, setting_sound}
 use Rattle.rnc_syntax.proofs.SoundnessAnnotations.{SoundBehind, opened_sound}
 use Rattle.rnc_syntax.proofs.SoundnessLiterals.{literal_sound, parameter_sound}

@@ -2,6 +2,7 @@
 use Rattle.std.proofs.Common.{◌≡◌, ℕ, zero, suc, List, [], ◌∷◌, ◌++◌, Option, Some, None, Ok, refl, sym, ap, subst, ◌∙◌, append_assoc, inl, inr, if◌then◌else◌}
 use Rattle.std.proofs.lemmas.List.{append-nil}
 use Rattle.std.proofs.lemmas.Option.{same_Some}
+use Rattle.rng_model.proofs.Truths.{chosen}
 use Rattle.rng_model.specs.simple.Tree.{Connector, choice, group, interleave}
 use Rattle.rnc_model.specs.declared.token.Keyword.TheVariants as keywords
 use Rattle.rnc_model.specs.declared.token.Sign.{Sign}
@@ -24,7 +25,7 @@ use Rattle.rnc_syntax.specs.plain.Productions.{bare_pattern_with, pattern_with, 
 use Rattle.rnc_syntax.specs.plain.Productions.{overrides_with, begins_component, component_front, assigned_at, assigned, bare_component_with, component_with}
 use Rattle.rnc_syntax.specs.plain.Productions.{components_with, inside_at}
 use Rattle.rnc_syntax.proofs.ReadItems.{bind_bind}
-use Rattle.rnc_syntax.proofs.Soundness.{bind_ok, chosen, front_some, ok_is, follow_is, identifier_is, TakesFront, Sound, Closed, Preceded}
+use Rattle.rnc_syntax.proofs.Soundness.{bind_ok, front_some, ok_is, follow_is, identifier_is, TakesFront, Sound, Closed, Preceded}
 use Rattle.rnc_syntax.proofs.Soundness.{closes_sound, in_braces_sound, Each, no_items, and_item, many_sound, some_is_read, preceded_sound, nothing_left, Behind}
 use Rattle.rnc_syntax.proofs.Soundness.{behind, mapped_sound, both_sound, open_sound, Bracketed, bracketed}
 use Rattle.rnc_syntax.proofs.SoundnessAnnotations.{SoundBehind, annotated_sound, bare_sound, taken_behind}

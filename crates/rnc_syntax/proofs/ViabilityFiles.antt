@@ -2,6 +2,7 @@
 use Rattle.std.proofs.Common.{◌≡◌, ℕ, ◌-◌, true, false, List, [], ◌∷◌, ◌++◌, length, take, Option, Some, None, Ok, Err, refl, sym, ap, ◌∙◌, append_assoc}
 use Rattle.std.proofs.Common.{inl, inr, arith}
 use Rattle.std.proofs.lemmas.List.{append-nil, length-append}
+use Rattle.rng_model.proofs.Truths.{chosen}
 use Rattle.rnc_model.specs.declared.token.Keyword.TheVariants as keywords
 use Rattle.rnc_model.specs.declared.token.Sign.TheVariants.{Equal, OpenBracket}
 use Rattle.rnc_syntax.specs.declared.fault.Stop.TheVariants.{Unexpected}
@@ -15,7 +16,7 @@ use Rattle.rnc_syntax.specs.plain.Combinators.{Outcome, ◌>>=◌, follow, follo
 use Rattle.rnc_syntax.specs.plain.Productions.{annotation_end, literal_at, parameter_at, Inside, bare_pattern_with, bare_component_with, components_with, inside_at}
 use Rattle.rnc_syntax.specs.plain.Productions.{uri_at, prefix_at, default_at, declaration_at, declaration_front, is_grammar_body, pattern_body_with}
 use Rattle.rnc_syntax.specs.plain.Productions.{bare_body_with, annotated_body_with, body_with, if_ended, declarations_at, file_with}
-use Rattle.rnc_syntax.proofs.Soundness.{chosen, same_namespace, after_keyword_is, TakesFront, Each, many_sound, Behind, IsSetting}
+use Rattle.rnc_syntax.proofs.Soundness.{same_namespace, after_keyword_is, TakesFront, Each, many_sound, Behind, IsSetting}
 use Rattle.rnc_syntax.proofs.SoundnessPatterns.{InsideSound, bare_component_behind, inside_sound}
 use Rattle.rnc_syntax.proofs.SoundnessFiles.{IsDefault, declaration_front_is, declaration_item, declarations_are, body_sound}
 use Rattle.rnc_syntax.proofs.Viability.{bind_err, Begins, Viable, IsViable, Completes, Behinds, exactly, nothing_taken, moved, behind_token, behind_tokens}

@@ -1,5 +1,6 @@
 -- The tokens read before reading stops can be completed: primaries and particles.
 use Rattle.std.proofs.Common.{◌≡◌, ℕ, List, [], ◌∷◌, ◌++◌, Some, Ok, Err, refl, ap, inl, inr}
+use Rattle.rng_model.proofs.Truths.{chosen}
 use Rattle.rnc_model.specs.declared.token.Keyword.TheVariants as keywords
 use Rattle.rnc_model.specs.declared.token.Sign.TheVariants.{OpenBrace, CloseBrace, OpenParenthesis, CloseParenthesis}
 use Rattle.rnc_syntax.specs.declared.fault.Stop.TheVariants.{Unexpected}
@@ -13,7 +14,7 @@ use Rattle.rnc_syntax.specs.plain.Combinators.{Outcome, ◌>>=◌, identifier_at
 use Rattle.rnc_syntax.specs.plain.Productions.{in_braces_at, literal_at, parameters_at, mention_at, class_with, Inside, braced_with, contents_with}
 use Rattle.rnc_syntax.specs.plain.Productions.{named_with, begins_segment, typed_at, other_at, atom_at, parens_with, opened_with, bare_primary_with, primary_with}
 use Rattle.rnc_syntax.specs.plain.Productions.{repeated, particle_with}
-use Rattle.rnc_syntax.proofs.Soundness.{chosen, Closed, Preceded, Behind, Bracketed, bracketed}
+use Rattle.rnc_syntax.proofs.Soundness.{Closed, Preceded, Behind, Bracketed, bracketed}
 use Rattle.rnc_syntax.proofs.SoundnessLiterals.{IsMention}
 use Rattle.rnc_syntax.proofs.SoundnessClasses.{class_sound}
 use Rattle.rnc_syntax.proofs.SoundnessPatterns.{InsideSound, primary_is}

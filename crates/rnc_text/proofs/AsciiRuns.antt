@@ -67,7 +67,7 @@ numbers_ordinary : (bs : List ℕ) → numbers_of (map Ordinary bs) ≡ bs
 numbers_ordinary [] = refl
 numbers_ordinary (b ∷ bs) = ap (λ (x : List ℕ). b ∷ x) (numbers_ordinary bs)
 
-marked_none : (whole b : ℕ) (cs : List ℕ) → marked whole [] (b ∷ cs) ≡ unmarked b ∷ marked whole [] cs
+pub marked_none : (whole b : ℕ) (cs : List ℕ) → marked whole [] (b ∷ cs) ≡ unmarked b ∷ marked whole [] cs
 unfolding marked
 marked_none whole b cs = refl
 

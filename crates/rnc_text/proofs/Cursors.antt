@@ -7,6 +7,8 @@ use Rattle.std.proofs.lemmas.List.{length-append, append-nil, map-append}
 use Rattle.std.proofs.Math.Seq.{take-append_seam}
 use Rattle.std.proofs.lemmas.Str.{encodes-append, encodes-chars, length-le-encodes, IsCharBoundary-at_seam}
 use Rattle.std.proofs.lemmas.Option.{none-some, same_Some, some_pair_parts}
+use Rattle.rnc_text.proofs.AsciiRuns.{marked_none}
+use Rattle.rng_model.proofs.Truths.{chosen}
 use Rattle.rnc_model.specs.declared.character.Character.{Character}
 use Rattle.rnc_model.specs.declared.character.Character.TheVariants.{Ordinary}
 use Rattle.rnc_text.specs.declared.cursor.Cursor.{Cursor}
@@ -14,7 +16,6 @@ use Rattle.rnc_model.specs.characters.Characters.{number_of, numbers_of, bytes_o
 use Rattle.rnc_text.specs.views.Held.{unmarked, marked, next_marks}
 use Rattle.rnc_text.specs.plain.DecodingSteps.{first_and_rest}
 use Rattle.rnc_text.specs.plain.Cursors.{remaining, IsPast}
-use Rattle.rnc_text.proofs.TestFacts.{chosen}
 
 pub bytes_append : (xs ys : List Character) → bytes_of (xs ++ ys) ≡ bytes_of xs ++ bytes_of ys
 bytes_append xs ys = ap encode_utf8_all (map-append number_of xs ys) ∙ encodes-append (numbers_of xs) (numbers_of ys)
@@ -60,10 +61,6 @@ plain_at : (whole left m c : ℕ) (ms cs : List ℕ) → length (encode_utf8_all
 unfolding marked
 plain_at whole left m c ms cs e h = rw (e, h) refl
 
-no_marks : (whole c : ℕ) (cs : List ℕ) → marked whole [] (c ∷ cs) ≡ unmarked c ∷ marked whole [] cs
-unfolding marked
-no_marks whole c cs = refl
-
 marked_step : (whole left c : ℕ) (ms ns cs : List ℕ) → length (encode_utf8_all (c ∷ cs)) ≡ left → next_marks (whole - left) ms ≡ Some ns
     → marked whole ms (c ∷ cs) ≡ Ordinary c ∷ marked whole ns cs
 marked_step whole left c [] ns cs len e = absurd (none-some _ e)
@@ -75,7 +72,7 @@ marked_step whole left c (m ∷ ms) ns cs len e =
 
 plain_step : (whole left c : ℕ) (ms cs : List ℕ) → length (encode_utf8_all (c ∷ cs)) ≡ left → next_marks (whole - left) ms ≡ None
     → marked whole ms (c ∷ cs) ≡ unmarked c ∷ marked whole ms cs
-plain_step whole left c [] cs len e = no_marks whole c cs
+plain_step whole left c [] cs len e = marked_none whole c cs
 plain_step whole left c (m ∷ ms) cs len e =
     elim (chosen (eqb m (whole - left)) _ _ _ e) [
       | inl h ↦ absurd (none-some _ (sym h.1))

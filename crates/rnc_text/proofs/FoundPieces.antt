@@ -2,6 +2,7 @@
 use Rattle.std.proofs.Common.{◌≡◌, ℕ, true, eqb, inl, inr, List, [], ◌∷◌, ◌++◌, Option, Some, None, refl, sym, ap, subst, ◌∙◌, append_assoc}
 use Rattle.std.proofs.lemmas.Bool.{eqb-true}
 use Rattle.std.proofs.lemmas.Option.{none-some, some_pair_parts}
+use Rattle.rng_model.proofs.Truths.{chosen}
 use Rattle.rnc_model.specs.declared.character.Character.{Character}
 use Rattle.rnc_model.specs.declared.character.Character.TheVariants.{LineEnd, Ordinary}
 use Rattle.rnc_text.specs.declared.scanning.Class.TheVariants as classes
@@ -15,7 +16,6 @@ use Rattle.rnc_text.specs.plain.CutSteps.{name_at, quoted_at, segment_with, segm
 use Rattle.rnc_text.specs.plain.CutSteps.{piece_by, piece_of}
 use Rattle.rnc_text.proofs.CharacterClasses.{AllIn, cut_whole, front_all, front_name}
 use Rattle.rnc_text.proofs.QuoteRuns.{behind_parts, two_parts, until_found}
-use Rattle.rnc_text.proofs.TestFacts.{chosen}
 
 -- ---- what is found is a piece
 

@@ -9,12 +9,12 @@ mod PlainRuns
 mod FilePlaces
 mod CharacterClasses
 mod QuoteRuns
-mod Cursors
+pub mod Cursors
 mod ScanResults
 mod FoundPieces
 mod LongestPiece
 mod OneCut
-mod MarksCut
+pub mod MarksCut
 mod MarksDecoded
-mod MarkScalars
+pub mod MarkScalars
 mod AsciiRuns

@@ -5,9 +5,10 @@ use Rattle.std.specs.Prelude.{not, ◌||◌}
 use Rattle.std.specs.List.{list_all}
 use Rattle.std.specs.Str.{bytes_eq}
 use Rattle.std.proofs.lemmas.Bool.{eqb-true, eqb-false, ne_eqb, and_parts, or_parts, or_cases, cases_Bool, not-true, false≢true}
-use Rattle.std.proofs.lemmas.Slice.Eq.{bytes_eq-Decides}
 use Rattle.std.proofs.lemmas.List.{length-append, append-nil}
 use Rattle.std.proofs.lemmas.Option.{none-some, same_Some, some_pair_parts}
+use Rattle.rng_model.proofs.Truths.{chosen, number_itself}
+use Rattle.rng_model.proofs.Texts.{bytes_same}
 use Rattle.rnc_model.specs.declared.character.Character.{Character}
 use Rattle.rnc_model.specs.declared.character.Character.TheVariants.{LineEnd, Ordinary}
 use Rattle.rnc_text.specs.declared.scanning.Class.TheVariants as classes
@@ -24,7 +25,6 @@ use Rattle.rnc_text.proofs.CharacterClasses.{AllIn, front_out, after_out, front_
 use Rattle.rnc_text.proofs.QuoteRuns.{behind_is, two_parts, until_is}
 use Rattle.rnc_text.proofs.ScanResults.{IsOther, piece_line, piece_name, piece_blank, piece_hash, piece_backslash, piece_quote, piece_sign, name_colon, quoted_name}
 use Rattle.rnc_text.proofs.ScanResults.{segment_some, triple_some, name_found}
-use Rattle.rnc_text.proofs.TestFacts.{chosen, eqb_same}
 
 -- the piece is shorter than what was found, or it is what was found
 abbrev pub Covered : Piece → Found → Type 0
@@ -72,7 +72,7 @@ colon_covers name more rest None found e = word_more name more rest found e
 colon_covers name more rest (Some local) found e = star_covers name more rest local (behind 0x2A local) found e
 
 -- characters that begin with an NCName are a name
-named : (name rest : List Character) → IsNcname name → piece_of (name ++ rest) ≡ name_at (name ++ rest)
+pub named : (name rest : List Character) → IsNcname name → piece_of (name ++ rest) ≡ name_at (name ++ rest)
 named name rest h = let n = name_of name h in piece_name n.first (name ++ rest) (n.more ++ rest) (ap (λ (x : List Character). x ++ rest) n.is) n.starts
 
 word_covers : (name rest : List Character) → IsNcname name → Covered (token (word_kind name) name name) (piece_of (name ++ rest))
@@ -84,7 +84,7 @@ word_covers name rest h =
     (front_append classes.Ncname name rest (name_all name h)))
 
 -- a name that a colon follows
-prefixed : (name local : List Character) → IsNcname name
+pub prefixed : (name local : List Character) → IsNcname name
     → piece_of (name ++ Ordinary 0x3A ∷ local) ≡ star_at name (Ordinary 0x3A ∷ local) local (behind 0x2A local)
 prefixed name local h =
     let tail = Ordinary 0x3A ∷ local in
@@ -104,7 +104,7 @@ cname_more name local (c ∷ more) rest found e = let all = name ++ Ordinary 0x3
     shorter (token kinds.CName all all) (token kinds.CName longer longer) rest found e
     (omega (arith, length-append name (Ordinary 0x3A ∷ local), length-append name (Ordinary 0x3A ∷ (local ++ c ∷ more)), length-append local (c ∷ more)))
 
-no_star : (name rest : List Character) → IsNcname name → behind 0x2A (name ++ rest) ≡ None
+pub no_star : (name rest : List Character) → IsNcname name → behind 0x2A (name ++ rest) ≡ None
 no_star name rest h =
     let n = name_of name h in
     let e : eqb n.first 0x2A ≡ false = ne_eqb _ _ (λ e. false≢true (subst (λ (c : ℕ). starts_ncname c ≡ true) e n.starts)) in
@@ -174,14 +174,14 @@ comment_covers cs rest h =
 
 -- ---- segments
 
-quote_cases : (c : ℕ) → is_quote c ≡ true → (c ≡ 0x22) ⊎ (c ≡ 0x27)
+pub quote_cases : (c : ℕ) → is_quote c ≡ true → (c ≡ 0x22) ⊎ (c ≡ 0x27)
 quote_cases c h = elim (or_cases (eqb c 0x22) (eqb c 0x27) h) [ inl e ↦ inl (eqb-true c 0x22 e) | inr e ↦ inr (eqb-true c 0x27 e) ]
 
 segment_found : (c : ℕ) (content rest : List Character) → AllIn (classes.Segment c) content
     → segment_at c (content ++ Ordinary c ∷ rest) ≡ Some (token kinds.Segment content (Ordinary c ∷ (content ++ Ordinary c ∷ [])), rest)
 segment_found c content rest h =
     let tail = Ordinary c ∷ rest in
-    let no : is_in (classes.Segment c) (Ordinary c) ≡ false = rw (eqb_same c) refl in
+    let no : is_in (classes.Segment c) (Ordinary c) ≡ false = rw (number_itself c) refl in
     let a : after (classes.Segment c) (content ++ tail) ≡ tail = after_append (classes.Segment c) content tail h
     ∙ after_out (classes.Segment c) (Ordinary c) rest no in
     let f : front (classes.Segment c) (content ++ tail) ≡ content = front_append (classes.Segment c) content tail h
@@ -198,7 +198,7 @@ no_content c (Ordinary d ∷ content) rest inside h e =
     let same : Ordinary d ≡ Ordinary c = cc in
     let d-is : d ≡ c = cc in
     let p = and_parts (is_in (classes.Segment c) (Ordinary d)) (list_all (is_in (classes.Segment c)) content) h in
-    absurd (false≢true (sym (rw (eqb_same c) refl) ∙ subst (λ (d : ℕ). not (eqb d c) ≡ true) d-is p.0))
+    absurd (false≢true (sym (rw (number_itself c) refl) ∙ subst (λ (d : ℕ). not (eqb d c) ≡ true) d-is p.0))
 
 -- a triple segment found after a quote begins with two more quotes and is long
 record IsLong (c : ℕ) (cs : List Character) (x : Piece × List Character) : Type 0 where
@@ -283,16 +283,13 @@ is_sign_like (n ∷ []) = other_number n
 is_sign_like (n ∷ m ∷ []) = other_number n
 is_sign_like (n ∷ m ∷ k ∷ ns) = false
 
-same_bytes : (xs ys : List ℕ) → bytes_eq xs ys ≡ true → xs ≡ ys
-same_bytes xs ys e = (bytes_eq-Decides xs ys).0 e
-
 in_table : (ns : List ℕ) (rows : List (List ℕ × Sign)) (s : Sign) → list_all (λ r. is_sign_like r.0) rows ≡ true → look_up ns rows ≡ Some s
     → is_sign_like ns ≡ true
 in_table ns [] s all e = absurd (none-some _ e)
 in_table ns (row ∷ rows) s all e =
     let p = and_parts (is_sign_like row.0) (list_all (λ r. is_sign_like r.0) rows) all in
     elim (chosen (bytes_eq ns row.0) _ _ _ e) [
-      | inl h ↦ subst (λ (x : List ℕ). is_sign_like x ≡ true) (sym (same_bytes ns row.0 h.0)) p.0
+      | inl h ↦ subst (λ (x : List ℕ). is_sign_like x ≡ true) (sym (bytes_same ns row.0 h.0)) p.0
       | inr h ↦ in_table ns rows s p.1 h.1
     ]
 

@@ -18,7 +18,7 @@ high_char : (c : ℕ) → 57344 ≤ c → c < 1114112 → IsScalar c
 high_char c h i = rw (le-ltb c 55296 (omega (arith, h)), le-leb 57344 c h, lt-ltb c 1114112 i) refl
 
 -- the two ends of a range
-ends : (a b c : ℕ) → (nat_le a c && nat_le c b) ≡ true → (a ≤ c) × (c ≤ b)
+pub ends : (a b c : ℕ) → (nat_le a c && nat_le c b) ≡ true → (a ≤ c) × (c ≤ b)
 ends a b c h = let p = and_parts (nat_le a c) (nat_le c b) h in (leb-true a c p.0, leb-true c b p.1)
 
 xml_scalar : (c : ℕ) → is_xml_char c ≡ true → IsScalar c

@@ -2,7 +2,7 @@
 use Rattle.std.proofs.Common.{◌≡◌, ◌∙◌, ◌⊎◌, inl, inr, ℕ, true, false, List, [], ◌∷◌, ◌++◌, refl, sym, ap, subst, Some, None, append_assoc}
 use Rattle.std.specs.Prelude.{◌||◌, not, ◌==◌}
 use Rattle.std.specs.List.{list_all}
-use Rattle.std.proofs.lemmas.Bool.{and_parts, ne_eqb, eqb-true, or_cases, not-true}
+use Rattle.std.proofs.lemmas.Bool.{and_parts, or_cases, not-true}
 use Rattle.std.proofs.lemmas.List.{append-nil}
 use Rattle.rng_model.specs.names.Characters.{is_ncname, is_xml_char}
 use Rattle.rnc_model.specs.declared.character.Character.{Character}
@@ -14,14 +14,15 @@ use Rattle.rnc_model.specs.declared.token.TokenKind.TheVariants as kinds
 use Rattle.rnc_model.specs.characters.Characters.{numbers_of}
 use Rattle.rnc_model.specs.tokens.Tokens.{token, word_kind, sign_of, is_quote, IsNcname}
 use Rattle.rnc_model.specs.tokens.Cut.{here, next_is}
-use Rattle.rnc_text.specs.plain.CutSteps.{is_in, front, after, first_of, behind, name_at, star_at, triple_at, segment_at, long_sign, piece_of, starts_ncname}
+use Rattle.rnc_text.specs.plain.CutSteps.{is_in, front, after, first_of, behind, triple_at, segment_at, long_sign, piece_of}
 use Rattle.rnc_text.specs.plain.Marks.{Mark, space, line_end, word, cname, ns_name, segment, sign, sign_text, ordinary, characters_of_mark, characters_of_marks}
 use Rattle.rnc_text.specs.plain.Marks.{piece_of_mark, is_within, IsMark, is_open, begins_apart, MarksAreCut}
 use Rattle.std.proofs.lemmas.Bool.{false≢true}
-use Rattle.rnc_text.proofs.CharacterClasses.{AllIn, front_out, after_out, front_append, after_append, name_of, name_all, name_begins}
+use Rattle.rnc_text.proofs.LongestPiece.{named, prefixed, no_star, quote_cases}
+use Rattle.rng_model.proofs.Truths.{number_itself}
+use Rattle.rnc_text.proofs.CharacterClasses.{AllIn, front_out, after_out, front_append, after_append, name_all, name_begins}
 use Rattle.rnc_text.proofs.QuoteRuns.{behind_is}
-use Rattle.rnc_text.proofs.TestFacts.{eqb_same}
-use Rattle.rnc_text.proofs.ScanResults.{piece_line, piece_name, piece_blank, piece_quote, name_word, name_colon, local_found, segment_some, triple_no_second}
+use Rattle.rnc_text.proofs.ScanResults.{piece_line, piece_blank, piece_quote, name_word, local_found, segment_some, triple_no_second}
 use Rattle.rnc_text.proofs.ScanResults.{triple_no_third, or_right}
 use Rattle.rnc_text.proofs.OneCut.{found_next}
 
@@ -67,15 +68,9 @@ front_word w rest h e = front_append classes.Ncname w rest (name_all w h) ∙ ap
 after_word : (w rest : List Character) → IsNcname w → after classes.Ncname rest ≡ rest → after classes.Ncname (w ++ rest) ≡ rest
 after_word w rest h e = after_append classes.Ncname w rest (name_all w h) ∙ e
 
--- a name begins, so the piece is a name
-piece_of_name : (w rest : List Character) → IsNcname w → piece_of (w ++ rest) ≡ name_at (w ++ rest)
-piece_of_name w rest h =
-    let n = name_of w h in
-    piece_name n.first (w ++ rest) (n.more ++ rest) (ap (λ (x : List Character). x ++ rest) n.is) n.starts
-
 word_piece : (w rest : List Character) → IsNcname w → Apart rest → piece_of (w ++ rest) ≡ Some (token (word_kind w) w w, rest)
 word_piece w rest h a =
-    piece_of_name w rest h
+    named w rest h
     ∙ name_word (w ++ rest) rest (sym (after_word w rest h a.after_is)) a.no_colon
     ∙ ap (λ (x : List Character). Some (token (word_kind x) x x, rest)) (front_word w rest h a.front_is)
 
@@ -86,33 +81,17 @@ colon_front rest = front_out classes.Ncname (Ordinary 0x3A) rest refl
 colon_after : (rest : List Character) → after classes.Ncname (Ordinary 0x3A ∷ rest) ≡ Ordinary 0x3A ∷ rest
 colon_after rest = after_out classes.Ncname (Ordinary 0x3A) rest refl
 
-prefix_piece : (p local : List Character) → IsNcname p → piece_of (p ++ Ordinary 0x3A ∷ local) ≡ star_at p (Ordinary 0x3A ∷ local) local (behind 0x2A local)
-prefix_piece p local h =
-    piece_of_name p (Ordinary 0x3A ∷ local) h
-    ∙ name_colon (p ++ Ordinary 0x3A ∷ local) (Ordinary 0x3A ∷ local) local (sym (after_word p (Ordinary 0x3A ∷ local) h (colon_after local)))
-    (behind_is 0x3A local)
-    ∙ ap (λ (x : List Character). star_at x (Ordinary 0x3A ∷ local) local (behind 0x2A local)) (front_word p (Ordinary 0x3A ∷ local) h (colon_front local))
-
--- no NCName begins with a star
-no_star : (l rest : List Character) → IsNcname l → behind 0x2A (l ++ rest) ≡ None
-no_star l rest h =
-    let n = name_of l h in
-    subst (λ (x : List Character). behind 0x2A (x ++ rest) ≡ None) (sym n.is) (no_star_at n.first (n.more ++ rest) n.starts)
-  where
-    no_star_at : (c : ℕ) (rest : List Character) → starts_ncname c ≡ true → behind 0x2A (Ordinary c ∷ rest) ≡ None
-    no_star_at c rest h = rw (ne_eqb c 0x2A (λ e. false≢true (subst (λ (x : ℕ). starts_ncname x ≡ true) e h))) refl
-
 cname_piece : (p l rest : List Character) → IsNcname p → IsNcname l → Apart rest
     → piece_of (p ++ Ordinary 0x3A ∷ (l ++ rest)) ≡ Some (token kinds.CName (p ++ Ordinary 0x3A ∷ l) (p ++ Ordinary 0x3A ∷ l), rest)
 cname_piece p l rest h i a =
-    prefix_piece p (l ++ rest) h
+    prefixed p (l ++ rest) h
     ∙ local_found p (Ordinary 0x3A ∷ (l ++ rest)) (l ++ rest) rest (no_star l rest i) (name_begins l rest i) (sym (after_word l rest i a.after_is))
     ∙ ap (λ (x : List Character). Some (token kinds.CName (p ++ Ordinary 0x3A ∷ x) (p ++ Ordinary 0x3A ∷ x), rest)) (front_word l rest i a.front_is)
 
 ns_piece : (p rest : List Character) → IsNcname p
     → piece_of (p ++ Ordinary 0x3A ∷ Ordinary 0x2A ∷ rest)
     ≡ Some (token kinds.NsName (p ++ Ordinary 0x3A ∷ Ordinary 0x2A ∷ []) (p ++ Ordinary 0x3A ∷ Ordinary 0x2A ∷ []), rest)
-ns_piece p rest h = prefix_piece p (Ordinary 0x2A ∷ rest) h
+ns_piece p rest h = prefixed p (Ordinary 0x2A ∷ rest) h
 
 -- ---- segments
 
@@ -125,11 +104,7 @@ within_class q (c ∷ w) h =
 
 -- a quote ends the text between two quotes
 quote_out : (q : ℕ) → is_in (classes.Segment q) (Ordinary q) ≡ false
-quote_out q = rw (eqb_same q) refl
-
--- the quote of a segment is one of two
-one_quote : (q : ℕ) → is_quote q ≡ true → (q ≡ 0x22) ⊎ (q ≡ 0x27)
-one_quote q h = elim (or_cases (q == 0x22) (q == 0x27) h) [ inl e ↦ inl (eqb-true q 0x22 e) | inr e ↦ inr (eqb-true q 0x27 e) ]
+quote_out q = rw (number_itself q) refl
 
 -- no two quotes follow the first quote of a segment
 no_triple : (q : ℕ) (w : List ℕ) (rest : List Character) → list_all (is_within q) w ≡ true → behind q rest ≡ None
@@ -151,7 +126,7 @@ segment_piece q w rest i h e =
     front_append (classes.Segment q) (ordinary w) (Ordinary q ∷ rest) all
     ∙ ap (λ (x : List Character). ordinary w ++ x) (front_out (classes.Segment q) (Ordinary q) rest (quote_out q)) ∙ append-nil (ordinary w) in
     let behind_it = after_append (classes.Segment q) (ordinary w) (Ordinary q ∷ rest) all ∙ after_out (classes.Segment q) (Ordinary q) rest (quote_out q) in
-    piece_quote q _ (ordinary w ++ Ordinary q ∷ rest) refl (one_quote q i)
+    piece_quote q _ (ordinary w ++ Ordinary q ∷ rest) refl (quote_cases q i)
     ∙ or_right _ (segment_at q (ordinary w ++ Ordinary q ∷ rest)) (no_triple q w rest h e)
     ∙ segment_some q (ordinary w ++ Ordinary q ∷ rest) (Ordinary q ∷ rest) rest (sym behind_it) (behind_is q rest)
     ∙ ap (λ (x : List Character). Some (token kinds.Segment x (Ordinary q ∷ (x ++ Ordinary q ∷ [])), rest)) at_front
@@ -193,7 +168,7 @@ piece_is (ns_name p) rest h a = ap piece_of (append_assoc (ordinary p) (Ordinary
 piece_is (segment q w) rest h (inl e) = absurd (false≢true e)
 piece_is (segment q w) rest h (inr a) =
     ap (λ (x : List Character). piece_of (Ordinary q ∷ x)) (append_assoc (ordinary w) (Ordinary q ∷ []) rest)
-    ∙ segment_piece q w rest h.0 h.1 (no_quote q rest (one_quote q h.0) a)
+    ∙ segment_piece q w rest h.0 h.1 (no_quote q rest (quote_cases q h.0) a)
   where
     no_quote : (q : ℕ) (rest : List Character) → (q ≡ 0x22) ⊎ (q ≡ 0x27) → Apart rest → behind q rest ≡ None
     no_quote q rest (inl e) a = subst (λ (x : ℕ). behind x rest ≡ None) (sym e) a.no_mark

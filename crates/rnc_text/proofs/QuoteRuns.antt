@@ -3,14 +3,14 @@ use Rattle.std.proofs.Common.{◌≡◌, ℕ, ◌≤◌, eqb, inl, inr, List, []
 use Rattle.std.proofs.lemmas.Bool.{eqb-true}
 use Rattle.std.proofs.lemmas.List.{length-append}
 use Rattle.std.proofs.lemmas.Option.{none-some, same_Some, some_pair_parts}
+use Rattle.rng_model.proofs.Truths.{chosen, number_itself}
 use Rattle.rnc_model.specs.tokens.Tokens.{three, IsUpToThree}
 use Rattle.rnc_text.specs.plain.CutSteps.{behind, behind_two, behind_three, then_behind, here_or, with_first, until_three}
 use Rattle.rnc_model.specs.declared.character.Character.{Character}
 use Rattle.rnc_model.specs.declared.character.Character.TheVariants.{LineEnd, Ordinary}
-use Rattle.rnc_text.proofs.TestFacts.{chosen, eqb_same}
 
 pub behind_is : (n : ℕ) (cs : List Character) → behind n (Ordinary n ∷ cs) ≡ Some cs
-behind_is n cs = rw (eqb_same n) refl
+behind_is n cs = rw (number_itself n) refl
 
 pub behind_parts : (n : ℕ) (cs rest : List Character) → behind n cs ≡ Some rest → cs ≡ Ordinary n ∷ rest
 behind_parts n [] rest e = absurd (none-some _ e)
@@ -33,10 +33,10 @@ pub three_parts : (n : ℕ) (cs rest : List Character) → behind_three n cs ≡
 three_parts n cs rest e = let p = then_parts n (behind_two n cs) rest e in two_parts n cs p.0 p.1 ∙ ap (λ (x : List Character). Ordinary n ∷ Ordinary n ∷ x) p.2
 
 pub two_is : (n : ℕ) (rest : List Character) → behind_two n (Ordinary n ∷ Ordinary n ∷ rest) ≡ Some rest
-two_is n rest = rw (eqb_same n, eqb_same n) refl
+two_is n rest = rw (number_itself n, number_itself n) refl
 
 pub three_is : (n : ℕ) (rest : List Character) → behind_three n (three n rest) ≡ Some rest
-three_is n rest = rw (eqb_same n, eqb_same n, eqb_same n) refl
+three_is n rest = rw (number_itself n, number_itself n, number_itself n) refl
 
 -- ---- the first three quotes
 
@@ -107,7 +107,7 @@ until_found n (c ∷ cs) content rest e = here (behind_three n (c ∷ cs)) refl 
         })
 
 pub until_is : (n : ℕ) (content rest : List Character) → IsUpToThree n content → until_three n (content ++ three n rest) ≡ Some (content, rest)
-until_is n [] rest first = until_at n (Ordinary n) (Ordinary n ∷ Ordinary n ∷ rest) ∙ rw (eqb_same n, eqb_same n, eqb_same n) refl
+until_is n [] rest first = until_at n (Ordinary n) (Ordinary n ∷ Ordinary n ∷ rest) ∙ rw (number_itself n, number_itself n, number_itself n) refl
 until_is n (c ∷ content) rest first =
     until_at n c (content ++ three n rest) ∙ go (behind_three n (c ∷ (content ++ three n rest))) refl (until_is n content rest (first_tail n c content first))
   where

@@ -1,8 +1,9 @@
 -- The verdict on a document is unique, except for the line of an invalid document. It depends only on which documents
 -- are valid.
-use Rattle.std.proofs.Common.{◌≡◌, ◌↔◌, ◌≤◌, ℕ, List, ◌∷◌, Result, Ok, Err, All, length}
+use Rattle.std.proofs.Common.{◌≡◌, ◌↔◌, ◌≤◌, ℕ, List, ◌∷◌, All, length}
 use Rattle.std.proofs.Common.{sym, ap, subst, refl, ap₂, ◌∙◌, arith, inl, inr}
 use Rattle.std.proofs.lemmas.List.Elements.{All-append, All-cons, All-weaker}
+use Rattle.rng_model.proofs.Options.{ok_is_err}
 use Rattle.rng_model.specs.matching.Document.{Item}
 use Rattle.rng_model.specs.documents.Lines.{lines}
 use Rattle.rng_model.specs.names.Names.{Name}
@@ -26,15 +27,12 @@ use Rattle.rncv_model.specs.declared.verdict.Verdict.TheVariants.{Valid, Malform
 
 -- ---- one verdict
 
-ok_err : {A B : Type 0} {x : A} {y : B} → ◌≡◌ {A = Result A B} (Ok x) (Err y) → ⊥
-ok_err e = cc
-
 -- the bytes of a document break no clause
 nothing_broken : (bytes : List ℕ) (d : Placed) (f : Fault) → IsPyxDocument bytes d → Breaks (lines bytes) f → ⊥
 unfolding document_read
 nothing_broken bytes d f is b =
     let m = at_most b in
-    ok_err (sym (ap (λ (t : Turn State). t.0) (complete bytes d is).is) ∙ m.is)
+    ok_is_err (sym (ap (λ (t : Turn State). t.0) (complete bytes d is).is) ∙ m.is)
 
 -- two faults that are each not after the other are equal
 same_fault : (j m k n : ℕ) → IsBefore (record { clause = j; line = m }) (record { clause = k; line = n }) →

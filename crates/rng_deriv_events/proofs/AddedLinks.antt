@@ -2,14 +2,13 @@
 use Rattle.std.proofs.Common.{◌≡◌, ◌⊎◌, inl, inr, ℕ, ◌<◌, ◌+◌, List, [], ◌∷◌, ◌++◌, length, map, take, refl, sym, ap, ◌∙◌, subst, All, Some}
 use Rattle.std.proofs.Common.{slice_get, slice_index_or, append_assoc}
 use Rattle.std.specs.List.{AllZip}
-use Rattle.std.proofs.lemmas.List.{take_more}
+use Rattle.std.proofs.lemmas.List.{take_more, append-nil}
 use Rattle.std.proofs.lemmas.List.Elements.{All-weaker, All-append, All-cons, All-nil, All-head, All-tail, Contains-push, Contains-append_left}
+use Rattle.rng_model.proofs.Places.{in_front}
 use Rattle.rng_deriv_table.specs.declared.pattern.PatternNumber.{PatternNumber}
-use Rattle.rng_deriv_laws.proofs.LevelSteps.{in_front}
 use Rattle.rng_deriv_events.specs.views.Levels.{IsBodyOf, IsLinkOf, AddsLinks}
 use Rattle.rng_deriv_events.specs.declared.derivatives.StartWay.{StartWay}
 use Rattle.rng_deriv_events.specs.declared.level_table.link.Link.{Link}
-use Rattle.rng_deriv_events.proofs.Numbers.{append_nothing}
 
 -- ---- pairs of lists
 
@@ -47,8 +46,8 @@ pub no_links : (outer : ℕ) (bodies : List PatternNumber) (links : List Link) �
 no_links outer bodies links = record {
   bodies = [];
   links = [];
-  bodies_are = sym (append_nothing bodies);
-  links_are = sym (append_nothing links);
+  bodies_are = sym (append-nil bodies);
+  links_are = sym (append-nil links);
   linked = tt;
   of_ways = All-nil (IsBodyOf []);
 }
@@ -72,7 +71,7 @@ module _ (outer : ℕ) (ws : List StartWay) (w : StartWay) (old base new : List 
     among b h = (h.0, Contains-append_left ws (w ∷ []) h.0 h.1, h.2)
 
   pub links_more : ((new ≡ base) ⊎ (new ≡ base ++ w.body ∷ [])) → AddsLinks outer (ws ++ w ∷ []) old new before after
-  links_more (inl e) = with_bodies [] (e ∙ sym (append_nothing base)) (All-nil (IsBodyOf (ws ++ w ∷ [])))
+  links_more (inl e) = with_bodies [] (e ∙ sym (append-nil base)) (All-nil (IsBodyOf (ws ++ w ∷ [])))
   links_more (inr e) = with_bodies (w.body ∷ []) e
       (All-cons (IsBodyOf (ws ++ w ∷ [])) w.body [] (w, Contains-push ws w, refl) (All-nil (IsBodyOf (ws ++ w ∷ []))))
 

@@ -8,6 +8,8 @@ use Rattle.std.proofs.lemmas.Option.{same_Some, slice_get-map, slice_get-get_or,
 use Rattle.std.proofs.lemmas.List.{length-set, length-replicate, drop_more, take_more, get_or-set_same}
 use Rattle.std.proofs.lemmas.List.Elements.{All-weaker, All-cons, All-head, All-nil, All-drop, All-map, All-contains, All-set, All-replicate}
 use Rattle.std.proofs.lemmas.List.Elements.{Contains-append_left, Contains-append_right, Contains-push, Contains-push_cases}
+use Rattle.rng_model.proofs.Members.{one_only}
+use Rattle.rng_model.proofs.Places.{contains_at}
 use Rattle.rng_model.specs.simple.Tree.{Simple}
 use Rattle.rng_model.specs.matching.Document.{Item}
 use Rattle.rng_model.specs.datatypes.Texts.{is_blank}
@@ -16,7 +18,7 @@ use Rattle.rng_deriv_laws.specs.plain.Taking.{Takes}
 use Rattle.rng_deriv_laws.specs.plain.Derivatives.{is_not_allowed, is_nullable}
 use Rattle.rng_deriv_laws.specs.plain.LevelStates as level
 use Rattle.rng_deriv_laws.specs.plain.LevelStates.{AreEnded, EndsNow, EndsWith, IsAfterText}
-use Rattle.rng_deriv_laws.proofs.LevelStates.{beside_first, contained, nullable_may_end, may_end_with}
+use Rattle.rng_deriv_laws.proofs.LevelStates.{beside_first, nullable_may_end, may_end_with}
 use Rattle.rng_deriv_laws.proofs.States.{none_taken}
 use Rattle.rng_deriv_laws.proofs.LevelSteps.{none_ended, ended_no_more, ended_more}
 use Rattle.rng_deriv_table.specs.declared.pattern.PatternNumber.{PatternNumber}
@@ -45,7 +47,7 @@ pub beside_none : (g : Reading) (trees : List (Simple ℕ)) (p q : PatternNumber
 beside_none g trees p q inside none = record {
   longer = longer_same trees;
   inside = inside;
-  is = λ ns. (λ t. (q, contained (p ∷ q ∷ []) 1 q refl, t), by ns);
+  is = λ ns. (λ t. (q, contains_at (p ∷ q ∷ []) 1 q refl, t), by ns);
 } where
   by : (ns : List Item) → ((m : PatternNumber) × Contains (p ∷ q ∷ []) m × Takes g (tree_of trees m) [] ns) → Takes g (tree_of trees q) [] ns
   by ns (m, in_both, t) = elim (one_of_two p q m in_both) [
@@ -95,8 +97,8 @@ module _ (g : Reading) (good : List Bool) (old new : List (Simple ℕ)) (l : Lin
     ]
 
     back : Takes g (tree_of old place) [] ns ⊎ Takes g (tree_of old l.rest) [] ns → Takes g (tree_of new joined) [] ns
-    back (inl t) = (a.is ns).1 (place, contained (place ∷ l.rest ∷ []) 0 place refl, t)
-    back (inr t) = (a.is ns).1 (l.rest, contained (place ∷ l.rest ∷ []) 1 l.rest refl, t)
+    back (inl t) = (a.is ns).1 (place, contains_at (place ∷ l.rest ∷ []) 0 place refl, t)
+    back (inr t) = (a.is ns).1 (l.rest, contains_at (place ∷ l.rest ∷ []) 1 l.rest refl, t)
 
   pub leaves_rest : LeavesBy g good old new l before (slice_set before l.outer joined)
   leaves_rest = record {
@@ -118,7 +120,7 @@ no_ends g good around old new none outside a e = record {
       All-contains TakesNothing (map (tree_of new) outside) r
       (subst (λ os. All TakesNothing (map (tree_of new) os)) (sym e)
       (All-map TakesNothing (tree_of new) (replicate around none) (All-replicate (λ p. TakesNothing (tree_of new p)) around none nothing)))
-      (contained (map (tree_of new) outside) i r f) ns t);
+      (contains_at (map (tree_of new) outside) i r f) ns t);
 } where
   TakesNothing : Simple ℕ → Type 0
   TakesNothing p = (ns : List Item) → Takes g p [] ns → ⊥
@@ -127,10 +129,6 @@ no_ends g good around old new none outside a e = record {
   nothing ns t = let m = (a.is ns).0 t in let lt = m.1.1 in omega (arith, lt)
 
 -- the only way out, from a good alternative into the only one around
-
-only_one : {A : Type 0} (x m : A) → Contains (x ∷ []) m → x ≡ m
-only_one x m (zero, lt, e) = e
-only_one x m (suc k, lt, e) = absurd (omega (arith, lt))
 
 at_only : {A : Type 0} (x r : A) (i : ℕ) → slice_get (x ∷ []) i ≡ Some r → (i ≡ 0) × (x ≡ r)
 at_only x r zero e = (refl, same_Some _ _ e)
@@ -147,14 +145,14 @@ module _ (g : Reading) (good : List Bool) (trees : List (Simple ℕ)) (l : Link)
   only_to : (k : level.Link) (ns : List Item) → Contains (link_of trees l ∷ []) k → slice_get good k.inner ≡ Some true → Takes g k.rest [] ns
       → (r : Simple ℕ) × (slice_get (left ∷ []) k.outer ≡ Some r) × Takes g r [] ns
   only_to k ns c is d =
-      let e = only_one (link_of trees l) k c in
+      let e = one_only (link_of trees l) k c in
       (left, ap (λ k. slice_get (left ∷ []) k.outer) (sym e) ∙ ap (slice_get (left ∷ [])) first, subst (λ k. Takes g k.rest [] ns) (sym e) d)
 
   only_back : (i : ℕ) (r : Simple ℕ) (ns : List Item) → slice_get (left ∷ []) i ≡ Some r → Takes g r [] ns
       → (k : level.Link) × Contains (link_of trees l ∷ []) k × (k.outer ≡ i) × (slice_get good k.inner ≡ Some true) × Takes g k.rest [] ns
   only_back i r ns at d =
       let h = at_only left r i at in
-      (link_of trees l, contained (link_of trees l ∷ []) 0 (link_of trees l) refl, first ∙ sym h.0, is_good, subst (λ r. Takes g r [] ns) (sym h.1) d)
+      (link_of trees l, contains_at (link_of trees l ∷ []) 0 (link_of trees l) refl, first ∙ sym h.0, is_good, subst (λ r. Takes g r [] ns) (sym h.1) d)
 
   only_ends : AddsEnded g good 1 trees trees (l ∷ []) (l.rest ∷ [])
   only_ends = record {
@@ -183,7 +181,7 @@ ended_turned g good links l outside e = record {
       (either_link k c)) is d;
   back = λ i r ns f d. let k = e.back i r ns f d in (
     k.0,
-    ⊎_elim (λ h. Contains-append_right (l ∷ []) links k.0 h) (λ h. subst (Contains (l ∷ links)) h (contained (l ∷ links) 0 l refl))
+    ⊎_elim (λ h. Contains-append_right (l ∷ []) links k.0 h) (λ h. subst (Contains (l ∷ links)) h (contains_at (l ∷ links) 0 l refl))
         (Contains-push_cases links l k.0 k.1),
     k.2,
     k.3,

@@ -6,13 +6,13 @@ use Rattle.std.specs.List.{AllZip, list_all, list_any}
 use Rattle.std.proofs.lemmas.Option.{none-some, same_Some, slice_get_within}
 use Rattle.std.proofs.lemmas.List.{append-nil, length-append}
 use Rattle.std.proofs.lemmas.List.Elements.{All-head, All-nil, All-push, All-tail, All-weaker}
+use Rattle.rng_model.proofs.Places.{at_end, in_front, front_stays, all_at as all_there}
 use Rattle.rng_names.specs.plain.Keys.{Keys, key_of}
 use Rattle.rng_model.specs.names.Names.{Name}
 use Rattle.rng_model.specs.simple.Tree.{Simple}
 use Rattle.rng_model.specs.matching.Reading.{Reading}
 use Rattle.rng_deriv_laws.specs.plain.Derivatives.{has_data, is_not_allowed, is_nullable}
 use Rattle.rng_deriv_laws.specs.plain.LevelStates.{AreEnded, AreOpened, IsAfterTag, IsAfterText}
-use Rattle.rng_deriv_laws.proofs.LevelSteps.{at_end, in_front}
 use Rattle.rng_deriv_table.specs.declared.pattern.PatternNumber.{PatternNumber}
 use Rattle.rng_deriv_events.specs.plain.Bits.{bits_of}
 use Rattle.rng_deriv_events.specs.views.LevelTable.{IsEndAt, IsKnownAt, closed_in, ends_in, levels_in, numbers_in, numbers_or_none, sample_in, sample_of, sampled_in, steps_in}
@@ -44,24 +44,14 @@ grows_as xs ys e = ([], e ∙ sym (append-nil xs))
 pub below_grows : {A : Type 0} (xs ys : List A) (n : ℕ) → Grows xs ys → n < length xs → n < length ys
 below_grows xs ys n g lt = let e = ap length g.1 in let long = length-append xs g.0 in omega (arith, lt, e, long)
 
-get_front : {A : Type 0} (xs ys : List A) (i : ℕ) → i < length xs → slice_get (xs ++ ys) i ≡ slice_get xs i
-get_front [] ys i lt = absurd (omega (arith, lt))
-get_front (x ∷ xs) ys zero lt = refl
-get_front (x ∷ xs) ys (suc i) lt = get_front xs ys i (omega (arith, lt))
-
 pub get_grows : {A : Type 0} (xs ys : List A) (i : ℕ) → Grows xs ys → i < length xs → slice_get ys i ≡ slice_get xs i
-get_grows xs ys i g lt = ap (λ l. slice_get l i) g.1 ∙ get_front xs g.0 i lt
+get_grows xs ys i g lt = ap (λ l. slice_get l i) g.1 ∙ front_stays xs g.0 i lt
 
 -- the item at a place, and what holds of it
 pub all_at : {A : Type 0} (P : A → Type 0) (xs : List A) (i : ℕ) → All P xs → i < length xs → (x : A) × (slice_get xs i ≡ Some x) × P x
 all_at P [] i all lt = absurd (omega (arith, lt))
 all_at P (x ∷ xs) zero all lt = (x, refl, All-head P x xs all)
 all_at P (x ∷ xs) (suc i) all lt = all_at P xs i (All-tail P x xs all) (omega (arith, lt))
-
-pub all_there : {A : Type 0} (P : A → Type 0) (xs : List A) (i : ℕ) (x : A) → All P xs → slice_get xs i ≡ Some x → P x
-all_there P [] i x all e = absurd (none-some x e)
-all_there P (y ∷ xs) zero x all e = subst P (same_Some y x e) (All-head P y xs all)
-all_there P (y ∷ xs) (suc i) x all e = all_there P xs i x (All-tail P y xs all) e
 
 pub numbers_grow : (old new : List Level) (n : ℕ) → Grows old new → n < length old → numbers_in new n ≡ numbers_in old n
 numbers_grow old new n g lt = ap numbers_or_none (get_grows old new n g lt)

@@ -3,7 +3,7 @@ use Rattle.std.proofs.Common.{◌≡◌, ℕ, ◌<◌, ◌+◌, List, [], ◌∷
 use Rattle.std.proofs.Common.{◌-◌, append_assoc, Option, None, Result, Ok, Err, IfOk, OnOk}
 use Rattle.std.specs.Option.{MatchOption, option_to_list}
 use Rattle.std.proofs.lemmas.Option.{MatchOption-at_none}
-use Rattle.std.proofs.lemmas.List.{length-append, length-set, get_or_append_left, take_at, take_more}
+use Rattle.std.proofs.lemmas.List.{length-append, length-set, get_or_append_left, take_at, take_more, append-nil}
 use Rattle.std.proofs.lemmas.List.Elements.{All-weaker, All-take, All-push, AllZip-push, All-head, All-tail, All-nil, All-cons}
 use Rattle.std.specs.List.{AllZip, refill}
 use Rattle.rng_model.specs.simple.Tree.{Simple, s_not_allowed}
@@ -26,16 +26,12 @@ set_lent xs lent i y same =
     take_at (slice_set lent i y) (drop (length (slice_set lent i y)) xs) (length xs) (length-set lent i y ∙ ap length same)
     ∙ ap (λ zs. slice_set zs i y) same
 
-pub append_nothing : {A : Type 0} (xs : List A) → xs ++ [] ≡ xs
-append_nothing [] = refl
-append_nothing (x ∷ xs) = ap (λ l. x ∷ l) (append_nothing xs)
-
 pub all_before : {A : Type 0} (P : A → Type 0) (xs : List A) (x : A) → All P (xs ++ x ∷ []) → All P xs
 all_before P [] x all = All-nil P
 all_before P (y ∷ xs) x all = All-cons P y xs (All-head P y (xs ++ x ∷ []) all) (all_before P xs x (All-tail P y (xs ++ x ∷ []) all))
 
 pub longer_same : (ts : List (Simple ℕ)) → Longer ts ts
-longer_same ts = ([], sym (append_nothing ts))
+longer_same ts = ([], sym (append-nil ts))
 
 pub longer_through : (a b c : List (Simple ℕ)) → Longer a b → Longer b c → Longer a c
 longer_through a b c l m = (l.0 ++ m.0, m.1 ∙ ap (λ x. x ++ m.0) l.1 ∙ append_assoc a l.0 m.0)
@@ -103,4 +99,4 @@ pub none_left : {A : Type 0} (r : Option A) (xs ys : List A) (n k : ℕ) (Q : A 
 none_left r xs ys n k Q is items rest cases =
     let nothing = MatchOption-at_none ((n ≡ 0) × (k ≡ 0)) Q is cases in
     let none : ys ≡ [] = rest ∙ ap (λ n. take (n - 1) xs) nothing.0 in
-    (items ∙ ap (λ r. ys ++ option_to_list r) is ∙ append_nothing ys ∙ none, none)
+    (items ∙ ap (λ r. ys ++ option_to_list r) is ∙ append-nil ys ∙ none, none)

@@ -5,6 +5,7 @@ use Rattle.std.specs.List.{AllZip}
 use Rattle.std.proofs.lemmas.List.{append-nil}
 use Rattle.std.proofs.lemmas.Option.{slice_get_within}
 use Rattle.std.proofs.lemmas.List.Elements.{All-append, All-cons, All-contains, All-head, All-map, All-nil, All-push, All-tail, All-weaker, Contains-push}
+use Rattle.rng_model.proofs.Places.{all_at as all_there}
 use Rattle.rng_names.specs.plain.Keys.{Keys, key_of}
 use Rattle.rng_model.specs.names.Names.{Name}
 use Rattle.rng_model.specs.simple.Tree.{Simple}
@@ -30,7 +31,7 @@ use Rattle.rng_deriv_events.specs.declared.held.Held.{Held}
 use Rattle.rng_deriv_events.specs.declared.position.Position.{Position}
 use Rattle.rng_deriv_events.specs.declared.state.State.{State}
 use Rattle.rng_deriv_events.specs.declared.state.WaysOut.{WaysOut}
-use Rattle.rng_deriv_events.proofs.KeptLevels.{adds_through, all_at, all_there, below_grows, get_grows, numbers_grow, numbers_inside}
+use Rattle.rng_deriv_events.proofs.KeptLevels.{adds_through, all_at, below_grows, get_grows, numbers_grow, numbers_inside}
 use Rattle.rng_deriv_events.proofs.LevelRenewal.{state_renewed}
 use Rattle.rng_deriv_events.proofs.Numbers.{all_before, longer_same, longer_through, map_push}
 use Rattle.rng_deriv_events.proofs.Positions.{ends_if, state_stays}

@@ -2,6 +2,7 @@
 use Rattle.std.proofs.Common.{◌≡◌, ◌∙◌, ◌⊎◌, inl, inr, ℕ, ◌<◌, List, [], ◌∷◌, map, refl, sym, ap, subst, Bool, true, false, ◌||◌, Some, slice_get, codes, All, length}
 use Rattle.std.proofs.Common.{Result, Ok, Err, IfOk, if◌then◌else◌}
 use Rattle.std.specs.List.{AllZip, list_any}
+use Rattle.rng_model.proofs.Places.{all_at as all_there}
 use Rattle.rng_names.specs.plain.Keys.{Keys}
 use Rattle.rng_model.specs.simple.Tree.{Simple}
 use Rattle.rng_model.specs.datatypes.Texts.{is_blank}
@@ -16,7 +17,7 @@ use Rattle.rng_deriv_events.specs.declared.level_table.level.LevelNumber.{LevelN
 use Rattle.rng_deriv_events.specs.declared.level_table.table.LevelTable.{LevelTable}
 use Rattle.rng_deriv_events.specs.views.KeptLevels.{AddsAfter, AreKept, IsLevelKept, IsLikeSample}
 use Rattle.rng_deriv_events.specs.views.Numbers.{tree_of}
-use Rattle.rng_deriv_events.proofs.KeptLevels.{all_there, numbers_inside}
+use Rattle.rng_deriv_events.proofs.KeptLevels.{numbers_inside}
 use Rattle.rng_deriv_events.proofs.Numbers.{trees_stay}
 
 -- where no alternative contains a data, a value or a list

@@ -1,5 +1,6 @@
 -- What is left after the attributes of a tag, one by one, and after the tag is closed.
 use Rattle.std.proofs.Common.{◌≡◌, ℕ, List, [], ◌∷◌, refl, subst, Bool, true, cond, inl, inr}
+use Rattle.std.proofs.lemmas.Bool.{and_from, and_parts}
 use Rattle.rng_model.specs.simple.Tree.{Simple, choice, group, interleave, s_not_allowed, s_empty, s_text, s_leaf, s_attribute, s_list, s_data, s_data_except}
 use Rattle.rng_model.specs.simple.Tree.{s_value, s_one_or_more, s_joined}
 use Rattle.rng_model.specs.matching.Document.{Attribute, Item, a_text, Interleaves}
@@ -13,7 +14,7 @@ use Rattle.rng_deriv_laws.specs.plain.Taking as t
 use Rattle.rng_deriv_laws.specs.plain.Restricted.{IsRestricted}
 use Rattle.rng_deriv_laws.specs.plain.Derivatives.{Way, attribute_ways, rests_of, has_text, takes_attribute, after_attribute, after_attributes, closed}
 use Rattle.rng_deriv_laws.specs.plain.Ways.{TakesAttribute, EachWay, IsAttributeLeaf}
-use Rattle.rng_deriv_laws.proofs.ListFacts.{both, in_both, nothing_apart}
+use Rattle.rng_deriv_laws.proofs.ListFacts.{nothing_apart}
 use Rattle.rng_deriv_laws.proofs.Nullable.{under_in, under_out}
 use Rattle.rng_deriv_laws.proofs.SamePatterns.{choice_of-same, group_of-same, interleave_of-same, repeat_of-same}
 use Rattle.rng_deriv_laws.proofs.AttributeWays.{attribute_ways-are}
@@ -28,7 +29,7 @@ module _ (g : Reading) where
   leaf_attribute_in a s_empty o d = absurd o.0
   leaf_attribute_in a s_text o d = absurd o.0
   leaf_attribute_in a (s_leaf k) o d = absurd o.0
-  leaf_attribute_in a (s_attribute c p) o (t.attribute_is i w) = both _ _ i (alone_in g p o.1.texts a.content w)
+  leaf_attribute_in a (s_attribute c p) o (t.attribute_is i w) = and_from _ _ i (alone_in g p o.1.texts a.content w)
   leaf_attribute_in a (s_list p) o d = absurd o.0
   leaf_attribute_in a (s_data d) o e = absurd o.0
   leaf_attribute_in a (s_data_except d p) o e = absurd o.0
@@ -42,7 +43,7 @@ module _ (g : Reading) where
   leaf_attribute_out a s_text o e = absurd o.0
   leaf_attribute_out a (s_leaf k) o e = absurd o.0
   leaf_attribute_out a (s_attribute c p) o e =
-      let r = in_both (holds c a.name) (has_text g p a.content) e in t.attribute_is r.0 (alone_out g p o.1.texts a.content r.1)
+      let r = and_parts (holds c a.name) (has_text g p a.content) e in t.attribute_is r.0 (alone_out g p o.1.texts a.content r.1)
   leaf_attribute_out a (s_list p) o e = absurd o.0
   leaf_attribute_out a (s_data d) o e = absurd o.0
   leaf_attribute_out a (s_data_except d p) o e = absurd o.0

@@ -85,7 +85,7 @@ unfolding IsPlain
 both_plain a b (inl e) = sides_plain a b empty_content (inl refl) (sides a b empty_content e)
 both_plain a b (inr e) = sides_plain a b complex_content (inr refl) (sides a b complex_content e)
 
-both_typed : (a b : Option ContentType) (u : ContentType) → type_of_choice a b ≡ Some u →
+pub both_typed : (a b : Option ContentType) (u : ContentType) → type_of_choice a b ≡ Some u →
     ((s : ContentType) × (a ≡ Some s)) × ((s : ContentType) × (b ≡ Some s))
 both_typed None b u e = absurd (cc)
 both_typed (Some s) None u e = absurd (cc)

@@ -1,5 +1,6 @@
 -- Event by event, the matcher reaches the state after the whole document. A state that is `never` stays so.
 use Rattle.std.proofs.Common.{◌≡◌, ℕ, List, [], ◌∷◌, ◌++◌, refl, sym, ap, ◌∙◌, subst, Bool, true, false, cond, append_assoc}
+use Rattle.std.proofs.lemmas.List.{append-nil}
 use Rattle.rng_model.specs.names.Names.{Name}
 use Rattle.rng_model.specs.simple.Tree.{Simple}
 use Rattle.rng_model.specs.matching.Document.{Attribute, a_text, an_element, Items, no_items, item_and, list_of}
@@ -32,12 +33,8 @@ kinds_in (placed_and (element_at n q attrs kids m) xs) =
     ∙ ap (λ l. (events_of_items (items_of kids) ++ an_end ∷ []) ++ l) (kinds_in xs)
     ∙ append_assoc (events_of_items (items_of kids)) (an_end ∷ []) (events_of_items (items_of xs)))
 
-pub append_nothing : {A : Type 0} (xs : List A) → xs ++ [] ≡ xs
-append_nothing [] = refl
-append_nothing (x ∷ xs) = ap (λ l. x ∷ l) (append_nothing xs)
-
 pub kinds_of_document : (d : Placed) → kinds (events_of d) ≡ events_of_items (item_and (item_of d) no_items)
-kinds_of_document d = ap kinds (sym (append_nothing (events_of d))) ∙ kinds_in (placed_and d none_placed)
+kinds_of_document d = ap kinds (sym (append-nil (events_of d))) ∙ kinds_in (placed_and d none_placed)
 
 -- ---- the fold reaches the state after the root
 

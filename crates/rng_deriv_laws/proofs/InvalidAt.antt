@@ -1,6 +1,7 @@
 -- Where a document becomes invalid: at the latest at a start whose name is in the class of no element, and at the
 -- latest at its last event.
 use Rattle.std.proofs.Common.{◌≡◌, ℕ, zero, suc, List, [], ◌∷◌, ◌++◌, refl, ap, ◌∙◌, Bool, true, false, cond}
+use Rattle.std.proofs.lemmas.Bool.{and_from, or_left}
 use Rattle.rng_model.specs.names.Names.{Name}
 use Rattle.rng_model.specs.simple.Tree.{Simple, choice, group, interleave, s_not_allowed, s_empty, s_text, s_leaf, s_attribute, s_list, s_data, s_data_except}
 use Rattle.rng_model.specs.simple.Tree.{s_value, s_one_or_more, s_joined}
@@ -17,7 +18,6 @@ use Rattle.rng_deriv_laws.specs.plain.Ways.{EachWay}
 use Rattle.rng_deriv_laws.specs.plain.States.{State, never, finished, after, either, is_never, is_ended, accepts, after_of, either_of, enter, start_tag, string}
 use Rattle.rng_deriv_laws.specs.plain.States.{end_tag, end_text, after_items, after_item}
 use Rattle.rng_deriv_laws.specs.plain.Events.{Matcher, settled, step}
-use Rattle.rng_deriv_laws.proofs.ListFacts.{both, either_left}
 use Rattle.rng_deriv_laws.proofs.Starts.{bodies_keep}
 
 -- ---- a name in the class of no element
@@ -162,8 +162,8 @@ module _ (g : Reading) where
   rooted_accepts : (r : State) → IsRooted r 0 → is_never r ≡ false → accepts r ≡ true
   rooted_accepts never h e = absurd (cc)
   rooted_accepts finished h e = absurd h
-  rooted_accepts (after p r) h e = both _ _ (ap is_nullable h.0) (ap is_ended h.1)
-  rooted_accepts (either r s) h e = either_left _ _ (rooted_accepts r h.0 h.2)
+  rooted_accepts (after p r) h e = and_from _ _ (ap is_nullable h.0) (ap is_ended h.1)
+  rooted_accepts (either r s) h e = or_left _ _ (rooted_accepts r h.0 h.2)
 
   -- after the root the state accepts, or it is `never`
   pub root_accepts : (p : Simple ℕ) → MayStart p → (q : Name) (xs : List Attribute) (kids : Items) →

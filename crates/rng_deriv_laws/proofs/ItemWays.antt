@@ -2,6 +2,7 @@
 -- of a pattern. Strings and elements have the same laws, since no blank string is beside an element.
 use Rattle.std.proofs.Common.{◌≡◌, ℕ, List, [], ◌∷◌, ◌++◌, refl, sym, ap, ◌∙◌, subst, Bool, true, false, cond, inl, inr, ◌⊎◌}
 use Rattle.std.proofs.lemmas.List.{append-nil}
+use Rattle.rng_model.proofs.Truths.{not_both}
 use Rattle.rng_model.specs.names.Names.{Name}
 use Rattle.rng_model.specs.simple.Tree.{Simple, choice, group, interleave, s_not_allowed, s_empty, s_text, s_leaf, s_attribute, s_list, s_data, s_data_except}
 use Rattle.rng_model.specs.simple.Tree.{s_value, s_one_or_more, s_joined}
@@ -206,19 +207,16 @@ module _ (g : Reading) where
   no_ways : (Kind : Item → Type 0) (p : Simple ℕ) → ((n : Item) (ns : List Item) → Takes g p [] (n ∷ ns) → ⊥) → AreItemWays g Kind p []
   no_ways Kind p none = record { to = λ n ns kind bare d. absurd (none n ns d); back = λ n ns h. absurd h }
 
-not_both : (s : List ℕ) → is_blank s ≡ true → is_blank s ≡ false → ⊥
-not_both s d e = let f : true ≡ false = sym d ∙ e in cc
-
 -- in bare items an element is not padded
 no_padding : (q : Name) (xs : List Attribute) (kids : Items) (n : Item) (ns : List Item) → IsBare (n ∷ ns) → Padded is_blank (an_element q xs kids) (n ∷ ns)
     → ns ≡ []
 no_padding q xs kids n ns bare document.alone = refl
 no_padding q xs kids n ns (strings_alone (text_and all)) (document.before b) = elim all [ ]
-no_padding q xs kids n ns (no_blanks (cons p all)) (document.before {s = s} b) = absurd (not_both s b p)
+no_padding q xs kids n ns (no_blanks (cons p all)) (document.before {s = s} b) = absurd (not_both b p)
 no_padding q xs kids n ns (strings_alone all) (document.after b) = elim all [ ]
-no_padding q xs kids n ns (no_blanks (cons p (cons r all))) (document.after {s = s} b) = absurd (not_both s b r)
+no_padding q xs kids n ns (no_blanks (cons p (cons r all))) (document.after {s = s} b) = absurd (not_both b r)
 no_padding q xs kids n ns (strings_alone (text_and all)) (document.both_sides b c) = elim all [ ]
-no_padding q xs kids n ns (no_blanks (cons p all)) (document.both_sides {s = s} b c) = absurd (not_both s b p)
+no_padding q xs kids n ns (no_blanks (cons p all)) (document.both_sides {s = s} b c) = absurd (not_both b p)
 
 module _ (g : Reading) where
   text_to : (n : Item) (ns : List Item) → Takes g s_text [] (n ∷ ns) → TakesItem g (item_ways s_text) n ns

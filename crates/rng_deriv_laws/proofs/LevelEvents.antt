@@ -14,13 +14,14 @@ use Rattle.rng_deriv_laws.specs.plain.LevelStates.{Link, LevelState, HoldsInLeve
 use Rattle.rng_deriv_laws.specs.plain.LevelEvents.{LevelMatcher, SettlesLevels, StepsTo, StandsFor, as_blank, as_text, at_start, at_string, at_end, at_end_of_text}
 use Rattle.rng_deriv_laws.specs.plain.LevelEvents.{at_stray_end, LevelsAnswer, NoLevelsAreInvalid, NoEndIsInvalid, UnknownNameLeavesNone}
 use Rattle.rng_deriv_laws.proofs.Meanings.{run_on, runs_answer, empty_stays_invalid}
-use Rattle.rng_deriv_laws.proofs.Events.{kinds_append, append_nothing}
+use Rattle.rng_deriv_laws.proofs.Events.{kinds_append}
 use Rattle.rng_deriv_laws.proofs.LevelStates.{start_is_after, string_is_after, end_is_after, end_of_text_is_after}
 use Rattle.rng_deriv_laws.proofs.LevelStates.{first_is_start, ended_by_nullable, none_allowed}
 use Rattle.rng_deriv_laws.proofs.LevelStates.{unknown_leaves_none}
 use Rattle.rng_deriv_laws.proofs.Laws.{not_named}
 use Rattle.rng_deriv_laws.proofs.OpenElements.{count_between, ends_open, document_closes, nothing_behind_document}
 use Rattle.std.proofs.lemmas.Option.{same_Some}
+use Rattle.std.proofs.lemmas.List.{append-nil}
 
 module _ (g : Reading) where
   settles : (s : List ℕ) (m k : LevelState) → SettlesLevels g s m k → Settles (level_meaning g) s m k
@@ -128,7 +129,7 @@ pub no_end_is_invalid : NoEndIsInvalid
 no_end_is_invalid g tests m bytes d is s none more bytes' d' is' parts v =
     let all : kinds (events_of d') ≡ kinds (events_of d) ++ kinds more = ap kinds parts ∙ kinds_append (events_of d) more in
     let nothing = nothing_behind_document bytes bytes' d d' is is' (kinds more) all in
-    let same : kinds (events_of d') ≡ kinds (events_of d) = all ∙ ap (λ l. kinds (events_of d) ++ l) nothing ∙ append_nothing (kinds (events_of d)) in
+    let same : kinds (events_of d') ≡ kinds (events_of d) = all ∙ ap (λ l. kinds (events_of d) ++ l) nothing ∙ append-nil (kinds (events_of d)) in
     let h = (levels_answer g tests m bytes' d' is' (subst (StandsFor (reading g tests) m) (sym same) s)).1 v in
     none h.0 h.1 h.2
 

@@ -2,8 +2,10 @@
 use Rattle.std.proofs.Common.{◌≡◌, ◌↔◌, inl, inr, ℕ, zero, suc, List, [], ◌∷◌, refl, sym, ap, ◌∙◌, subst}
 use Rattle.std.proofs.Common.{true, false, ◌||◌, ◌&&◌, Some, slice_get, Contains, All}
 use Rattle.std.specs.List.{AllZip}
-use Rattle.std.proofs.lemmas.Option.{same_Some, slice_get_within, slice_get-get_or, get_or_from_slice_get}
+use Rattle.std.proofs.lemmas.Option.{same_Some, slice_get-get_or}
 use Rattle.std.proofs.lemmas.List.Elements.{All-contains}
+use Rattle.std.proofs.lemmas.Bool.{and_from, or_left, or_right, and_parts, or_cases}
+use Rattle.rng_model.proofs.Places.{contains_at}
 use Rattle.rng_model.specs.names.Names.{Name}
 use Rattle.rng_model.specs.simple.Tree.{Simple}
 use Rattle.rng_model.specs.matching.Document.{Attribute, Item, a_text, an_element, Items, list_of, no_texts, text_and}
@@ -20,7 +22,6 @@ use Rattle.rng_deriv_laws.specs.plain.States as states
 use Rattle.rng_deriv_laws.specs.plain.Meanings.{IsEmpty, IsStart, IsAfterStart, IsAfterString, IsAfterEnd, IsAfterEndOfText}
 use Rattle.rng_deriv_laws.specs.plain.LevelStates.{LevelState, HoldsAround, SomeHolds, HoldsInLevels, level_meaning, IsAfterText, IsAfterTag}
 use Rattle.rng_deriv_laws.specs.plain.LevelStates.{IsBodyNamed, StartsLevel, TakesString, EndsLevel, EndsNow, EndsWith}
-use Rattle.rng_deriv_laws.proofs.ListFacts.{both, in_both, either_left, either_right, in_either}
 use Rattle.rng_deriv_laws.proofs.Nullable.{null_in, null_out}
 use Rattle.rng_deriv_laws.proofs.States.{none_taken, none_contained}
 use Rattle.rng_deriv_laws.proofs.Levels.{contains_in, contains_out, lone_in, lone_out}
@@ -43,9 +44,6 @@ beside_second R (x ∷ xs) [] i y' h e = absurd (cc)
 beside_second R (x ∷ xs) (y ∷ ys) zero y' h e = (x, refl, subst (λ z. R x z) (same_Some _ _ e) h.0)
 beside_second R (x ∷ xs) (y ∷ ys) (suc i) y' h e = beside_second R xs ys i y' h.1 e
 
-pub contained : {A : Type 0} (xs : List A) (i : ℕ) (x : A) → slice_get xs i ≡ Some x → Contains xs x
-contained xs i x e = (i, slice_get_within xs i x e, get_or_from_slice_get xs i x x e)
-
 pub found_at : {A : Type 0} (xs : List A) (x : A) (c : Contains xs x) → slice_get xs c.0 ≡ Some x
 found_at xs x c = slice_get-get_or xs c.0 x c.1 ∙ ap Some c.2
 
@@ -67,7 +65,7 @@ module _ (g : Reading) where
     begins_in kids ns ls u all (i, p, found, d, h) =
         let o = s.opened.to i p xs kids ns found all d in
         let b = beside_first (IsAfterTag g xs) s.bodies n.now o.0.inner o.1 s.entered o.4 in
-        let body = All-contains (IsBodyNamed g q) s.bodies o.1 s.opened.each (contained s.bodies o.0.inner o.1 o.4) in
+        let body = All-contains (IsBodyNamed g q) s.bodies o.1 s.opened.each (contains_at s.bodies o.0.inner o.1 o.4) in
         let c = contains_in g o.1 b.0 body.typed xs (λ ns. (b.2 u ns).1) (list_of kids) (has_element (list_of kids)) refl o.5 in
         let around = subst (λ i. HoldsAround g m.levels i ls) (sym o.3) h in
         (o.0.inner, b.0, b.1, c, subst (λ levels. HoldsAround g levels o.0.inner (ns ∷ ls)) (sym s.levels) (o.0, o.2, refl, o.6, around))
@@ -162,12 +160,12 @@ module _ (g : Reading) where
   -- if no element is open, nothing need remain exactly if some alternative is nullable
   pub ended_by_nullable : (now : List (Simple ℕ)) →
       HoldsInLevels g (record { now = now; levels = [] }) ([] ∷ []) ↔ ((p : Simple ℕ) × Contains now p × (is_nullable p ≡ true))
-  ended_by_nullable now = (λ h. (h.1, contained now h.0 h.1 h.2, null_in g h.1 h.3), nullable_ends) where
+  ended_by_nullable now = (λ h. (h.1, contains_at now h.0 h.1 h.2, null_in g h.1 h.3), nullable_ends) where
     nullable_ends : (p : Simple ℕ) × Contains now p × (is_nullable p ≡ true) → HoldsInLevels g (record { now = now; levels = [] }) ([] ∷ [])
     nullable_ends (p, c, e) = (c.0, p, found_at now p c, null_out g p e, tt)
 
   no_alternative : (m : LevelState) (j : ℕ) (p : Simple ℕ) → All (λ p. is_not_allowed p ≡ true) m.now → slice_get m.now j ≡ Some p → is_not_allowed p ≡ true
-  no_alternative m j p all e = All-contains (λ p. is_not_allowed p ≡ true) m.now p all (contained m.now j p e)
+  no_alternative m j p all e = All-contains (λ p. is_not_allowed p ≡ true) m.now p all (contains_at m.now j p e)
 
   -- all alternatives are notAllowed
   pub none_allowed : (m : LevelState) → All (λ p. is_not_allowed p ≡ true) m.now → IsEmpty (level_meaning g m)
@@ -189,7 +187,7 @@ module _ (g : Reading) where
         nothing_beside : (bodies now : List (Simple ℕ)) → ((b : Simple ℕ) → Contains bodies b → ⊥) → AllZip (IsAfterTag g xs) bodies now → now ≡ []
         nothing_beside [] [] f h = refl
         nothing_beside [] (p ∷ ps) f h = absurd h
-        nothing_beside (b ∷ bs) now f h = absurd (f b (contained (b ∷ bs) 0 b refl))
+        nothing_beside (b ∷ bs) now f h = absurd (f b (contains_at (b ∷ bs) 0 b refl))
 
   -- ---- which alternatives may end
 
@@ -203,11 +201,11 @@ module _ (g : Reading) where
     bare = strings_alone (text_and no_texts)
 
     may_end : is_nullable r || (is_nullable p && is_blank s) ≡ true → EndsWith g s p
-    may_end e = elim (in_either (is_nullable r) (is_nullable p && is_blank s) e) [
+    may_end e = elim (or_cases (is_nullable r) (is_nullable p && is_blank s) e) [
       | inl f ↦ t.as_is ((a [] bare).0 (null_out g r f))
-      | inr f ↦ let k = in_both (is_nullable p) (is_blank s) f in t.blank_text (null_out g p k.0) k.1
+      | inr f ↦ let k = and_parts (is_nullable p) (is_blank s) f in t.blank_text (null_out g p k.0) k.1
     ]
 
     ending : EndsWith g s p → is_nullable r || (is_nullable p && is_blank s) ≡ true
-    ending (t.as_is d) = either_left _ _ (null_in g r ((a [] bare).1 d))
-    ending (t.blank_text d b) = either_right _ _ (both _ _ (null_in g p d) b)
+    ending (t.as_is d) = or_left _ _ (null_in g r ((a [] bare).1 d))
+    ending (t.blank_text d b) = or_right _ _ (and_from _ _ (null_in g p d) b)

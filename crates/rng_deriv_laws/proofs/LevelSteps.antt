@@ -7,6 +7,7 @@ use Rattle.std.proofs.lemmas.Option.{same_Some}
 use Rattle.std.proofs.lemmas.List.Elements.{All-contains, All-append, Contains-push, Contains-push_cases}
 use Rattle.std.proofs.lemmas.List.Elements.{Contains-append_left, Contains-append_right, Contains-append_cases}
 use Rattle.std.proofs.lemmas.Bool.{cases_eq}
+use Rattle.rng_model.proofs.Places.{before_or_at_end, at_end, in_front, contains_at}
 use Rattle.rng_model.specs.names.Names.{Name}
 use Rattle.rng_model.specs.simple.Tree.{Simple}
 use Rattle.rng_model.specs.matching.Document.{Attribute, Item, an_element, Items, list_of}
@@ -19,29 +20,14 @@ use Rattle.rng_deriv_laws.specs.plain.Derivatives.{Way, bodies_of}
 use Rattle.rng_deriv_laws.specs.plain.Ways.{Opens, EachWay, AreItemWays, IsItemLeaf}
 use Rattle.rng_deriv_laws.specs.plain.LevelStates.{Link, IsBodyNamed, AreStarts, OpensAt, AreOpened, AreEnded}
 use Rattle.rng_deriv_laws.proofs.Starts.{bodies_in, bodies_out, bodies_keep}
-use Rattle.rng_deriv_laws.proofs.LevelStates.{beside_second, contained, found_at}
+use Rattle.rng_deriv_laws.proofs.LevelStates.{beside_second, found_at}
 
 -- ---- look-ups in a list that grows
-
-pub in_front : {A : Type 0} (xs ys : List A) (i : ℕ) (x : A) → slice_get xs i ≡ Some x → slice_get (xs ++ ys) i ≡ Some x
-in_front [] ys i x e = absurd (cc)
-in_front (x ∷ xs) ys zero y e = e
-in_front (x ∷ xs) ys (suc i) y e = in_front xs ys i y e
 
 pub in_front_out : {A : Type 0} (xs ys : List A) (i : ℕ) (x : A) → i < length xs → slice_get (xs ++ ys) i ≡ Some x → slice_get xs i ≡ Some x
 in_front_out [] ys i x l e = absurd (omega (arith, l))
 in_front_out (x ∷ xs) ys zero y l e = e
 in_front_out (x ∷ xs) ys (suc i) y l e = in_front_out xs ys i y (omega (arith, l)) e
-
-pub at_end : {A : Type 0} (xs : List A) (x : A) → slice_get (xs ++ x ∷ []) (length xs) ≡ Some x
-at_end [] x = refl
-at_end (y ∷ xs) x = at_end xs x
-
-pub at_end_out : {A : Type 0} (xs : List A) (y x : A) (i : ℕ) → slice_get (xs ++ y ∷ []) i ≡ Some x → (slice_get xs i ≡ Some x) ⊎ ((i ≡ length xs) × (x ≡ y))
-at_end_out [] y x zero e = inr (refl, sym (same_Some _ _ e))
-at_end_out [] y x (suc i) e = absurd (cc)
-at_end_out (z ∷ xs) y x zero e = inl e
-at_end_out (z ∷ xs) y x (suc i) e = elim (at_end_out xs y x i e) [ inl f ↦ inl f | inr f ↦ inr (ap suc f.0, f.1) ]
 
 -- the way out is that of this way, for the alternative at this place
 abbrev pub IsLinked : List (Simple ℕ) → ℕ → Way → Link → Type 0
@@ -62,7 +48,7 @@ module _ (g : Reading) where
       linked_to [] links z h = absurd h
       linked_to (w ∷ ws) [] z h = absurd z
       linked_to (w ∷ ws) (l ∷ links) z (inl h) =
-          (l, w.leaf, contained (l ∷ links) 0 l refl, z.0.0, z.0.1, h.0, subst (λ r. Takes g r [] ns) (sym z.0.2) h.1)
+          (l, w.leaf, contains_at (l ∷ links) 0 l refl, z.0.0, z.0.1, h.0, subst (λ r. Takes g r [] ns) (sym z.0.2) h.1)
       linked_to (w ∷ ws) (l ∷ links) z (inr h) =
           let o = linked_to ws links z.1 h in
           (o.0, o.1, Contains-append_right (l ∷ []) links o.0 o.2, o.3, o.4, o.5, o.6)
@@ -100,7 +86,7 @@ module _ (g : Reading) where
       (within : All (λ l. l.inner < length bodies) links) (s : AreStarts g q p ws) (z : AllZip (IsLinked (bodies ++ new) (length outside)) ws more) where
     more_to : (i : ℕ) (r : Simple ℕ) (xs : List Attribute) (kids : Items) (ns : List Item) → slice_get (outside ++ p ∷ []) i ≡ Some r → Every IsNotBlank ns
         → Takes g r [] (an_element q xs kids ∷ ns) → OpensAt g (bodies ++ new) (links ++ more) i xs (list_of kids) ns
-    more_to i r xs kids ns e all d = elim (at_end_out outside p r i e) [
+    more_to i r xs kids ns e all d = elim (before_or_at_end outside p r i e) [
       | inl f ↦ let k = o.to i r xs kids ns f all d in
           (k.0, k.1, Contains-append_left links more k.0 k.2, k.3, in_front bodies new k.0.inner k.1 k.4, k.5, k.6)
       | inr f ↦ let h = s.to xs kids ns all (subst (λ r. Takes g r [] (an_element q xs kids ∷ ns)) f.1 d) in

@@ -1,6 +1,7 @@
 -- Each event over levels: a state allows what remains before the event exactly if the state after it allows what
 -- remains after.
 use Rattle.std.proofs.Common.{◌≡◌, ℕ, List, [], ◌∷◌, refl, sym, subst, Bool, true, false, inl, inr}
+use Rattle.std.proofs.lemmas.Bool.{and_from, or_left, or_right, and_parts, or_cases}
 use Rattle.rng_model.specs.names.Names.{Name}
 use Rattle.rng_model.specs.simple.Tree.{Simple}
 use Rattle.rng_model.specs.matching.Document.{Attribute, Item, a_text, an_element, Items, list_of}
@@ -16,7 +17,6 @@ use Rattle.rng_deriv_laws.specs.plain.Derivatives.{Way, is_nullable, closed, aft
 use Rattle.rng_deriv_laws.specs.plain.Ways.{Opens, EachWay, IsItemLeaf}
 use Rattle.rng_deriv_laws.specs.plain.States.{State, never, finished, after, either, after_of, end_tag, is_ended, accepts, enter, start_tag, string, end_text}
 use Rattle.rng_deriv_laws.specs.plain.States.{Holds, Contains, Begins, HasRestrictedBodies, IsRestrictedState}
-use Rattle.rng_deriv_laws.proofs.ListFacts.{both, in_both, either_left, either_right, in_either}
 use Rattle.rng_deriv_laws.proofs.Nullable.{null_in, null_out}
 use Rattle.rng_deriv_laws.proofs.KeptRestrictions.{IsRestricted-hereditary, closed-restricted, item_ways-keep, rests_of-keeps}
 use Rattle.rng_deriv_laws.proofs.Texts.{text_in, text_out, alone_in, alone_out}
@@ -262,24 +262,24 @@ module _ (g : Reading) where
   ended_in never h = absurd h
   ended_in finished h = refl
   ended_in (after p r) h = absurd h
-  ended_in (either r s) (inl h) = either_left _ _ (ended_in r h)
-  ended_in (either r s) (inr h) = either_right _ _ (ended_in s h)
+  ended_in (either r s) (inl h) = or_left _ _ (ended_in r h)
+  ended_in (either r s) (inr h) = or_right _ _ (ended_in s h)
 
   ended_out : (r : State) → is_ended r ≡ true → Holds g r []
   ended_out never e = absurd (cc)
   ended_out finished e = tt
   ended_out (after p r) e = absurd (cc)
-  ended_out (either r s) e = elim (in_either (is_ended r) (is_ended s) e) [ inl a ↦ inl (ended_out r a) | inr b ↦ inr (ended_out s b) ]
+  ended_out (either r s) e = elim (or_cases (is_ended r) (is_ended s) e) [ inl a ↦ inl (ended_out r a) | inr b ↦ inr (ended_out s b) ]
 
   pub accepts_in : (r : State) → Holds g r ([] ∷ []) → accepts r ≡ true
   accepts_in never h = absurd h
   accepts_in finished h = absurd h
-  accepts_in (after p r) h = both _ _ (null_in g p h.0) (ended_in r h.1)
-  accepts_in (either r s) (inl h) = either_left _ _ (accepts_in r h)
-  accepts_in (either r s) (inr h) = either_right _ _ (accepts_in s h)
+  accepts_in (after p r) h = and_from _ _ (null_in g p h.0) (ended_in r h.1)
+  accepts_in (either r s) (inl h) = or_left _ _ (accepts_in r h)
+  accepts_in (either r s) (inr h) = or_right _ _ (accepts_in s h)
 
   pub accepts_out : (r : State) → accepts r ≡ true → Holds g r ([] ∷ [])
   accepts_out never e = absurd (cc)
   accepts_out finished e = absurd (cc)
-  accepts_out (after p r) e = let a = in_both (is_nullable p) (is_ended r) e in (null_out g p a.0, ended_out r a.1)
-  accepts_out (either r s) e = elim (in_either (accepts r) (accepts s) e) [ inl a ↦ inl (accepts_out r a) | inr b ↦ inr (accepts_out s b) ]
+  accepts_out (after p r) e = let a = and_parts (is_nullable p) (is_ended r) e in (null_out g p a.0, ended_out r a.1)
+  accepts_out (either r s) e = elim (or_cases (accepts r) (accepts s) e) [ inl a ↦ inl (accepts_out r a) | inr b ↦ inr (accepts_out s b) ]

@@ -1,5 +1,5 @@
 -- Small facts about tests, lists and parts of lists.
-use Rattle.std.proofs.Common.{◌≡◌, List, [], ◌∷◌, ◌++◌, refl, Bool, true, false, ◌&&◌, ◌||◌, ◌⊎◌, inl, inr, sym}
+use Rattle.std.proofs.Common.{◌≡◌, List, [], ◌∷◌, ◌++◌, refl, sym}
 use Rattle.rng_model.specs.names.Names.{Name}
 use Rattle.rng_model.specs.matching.Document.{Attribute, Item, a_text, an_element, Interleaves, AllTexts, no_texts, text_and, SharesName}
 use Rattle.rng_model.specs.matching.Document as document
@@ -7,24 +7,6 @@ use Rattle.rng_model.specs.matching.WellFormed.{HasNoName, Distinct, nothing_nam
 use Rattle.rng_deriv_laws.specs.plain.Blanks.{Every, nil, cons, IsNotBlank, IsBare, strings_alone, no_blanks}
 
 -- ---- tests
-
-pub both : (a b : Bool) → a ≡ true → b ≡ true → a && b ≡ true
-both a b d e = rw (d, e) refl
-
-pub in_both : (a b : Bool) → a && b ≡ true → (a ≡ true) × (b ≡ true)
-in_both true b e = (refl, e)
-in_both false b e = absurd (cc)
-
-pub either_left : (a b : Bool) → a ≡ true → a || b ≡ true
-either_left a b d = rw d refl
-
-pub either_right : (a b : Bool) → b ≡ true → a || b ≡ true
-either_right true b d = refl
-either_right false b d = d
-
-pub in_either : (a b : Bool) → a || b ≡ true → (a ≡ true) ⊎ (b ≡ true)
-in_either true b e = inl refl
-in_either false b e = inr e
 
 -- ---- lists in parts
 

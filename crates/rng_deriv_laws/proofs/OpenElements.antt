@@ -1,10 +1,11 @@
 -- How many elements are open after the first events of a document.
 use Rattle.std.proofs.Common.{◌≡◌, ◌≢◌, ℕ, zero, suc, List, [], ◌∷◌, ◌++◌, refl, sym, ap, ◌∙◌, append_assoc, Option, Some, None}
+use Rattle.std.proofs.lemmas.List.{append-nil}
 use Rattle.rng_model.specs.names.Names.{Name}
 use Rattle.rng_model.specs.matching.Document.{Attribute, a_text, an_element, Items, no_items, item_and}
 use Rattle.rng_model.specs.documents.PyxTrees.{EventKind, a_start, a_string, an_end, Placed, text_at, element_at, item_of, items_of, events_of, IsPyxDocument}
 use Rattle.rng_deriv_laws.specs.plain.Events.{kinds, events_of_items, open_after}
-use Rattle.rng_deriv_laws.proofs.Events.{kinds_of_document, append_nothing}
+use Rattle.rng_deriv_laws.proofs.Events.{kinds_of_document}
 use Rattle.rng_deriv_laws.proofs.PyxDocuments.{document_formed}
 
 -- this many elements are open between two parts of the events
@@ -50,7 +51,7 @@ items_close (item_and (an_element q xs kids) ns) n es =
     ∙ items_close ns n es
 
 alone_close : (ns : Items) → open_after 0 (events_of_items ns) ≡ Some 0
-alone_close ns = ap (open_after 0) (sym (append_nothing (events_of_items ns))) ∙ items_close ns 0 []
+alone_close ns = ap (open_after 0) (sym (append-nil (events_of_items ns))) ∙ items_close ns 0 []
 
 -- after the events of a document no element is open
 pub document_closes : (bytes : List ℕ) (d : Placed) → IsPyxDocument bytes d → open_after 0 (kinds (events_of d)) ≡ Some 0

@@ -3,6 +3,7 @@
 -- 6.2.7). This needs no restriction on the pattern.
 use Rattle.std.proofs.Common.{◌≡◌, ℕ, List, [], ◌∷◌, ◌++◌, refl, sym, ap, ◌∙◌, subst, Bool, true, false, cond, append_assoc}
 use Rattle.std.proofs.lemmas.List.{append-nil}
+use Rattle.rng_model.proofs.Truths.{not_both}
 use Rattle.rng_model.specs.names.Names.{Name}
 use Rattle.rng_model.specs.simple.Tree.{Simple}
 use Rattle.rng_model.specs.matching.Document.{Attribute, Item, a_text, an_element, Items, Interleaves, AllTexts, no_texts, text_and, Padded}
@@ -151,16 +152,13 @@ spread_texts nothing all = no_texts
 spread_texts (string s) (text_and all) = text_and (spread_texts s all)
 spread_texts (element p s e) all = elim all [ ]
 
-never_both : (s : List ℕ) → is_blank s ≡ true → is_blank s ≡ false → ⊥
-never_both s d e = let f : true ≡ false = sym d ∙ e in cc
-
 -- an element alone among items without blank strings, spread, is padded
 repadded : (q : Name) (xs : List Attribute) (kids : Items) (ms ns : List Item) → Padded is_blank (an_element q xs kids) ms → Every IsNotBlank ms
     → Spread ms ns → Padded is_blank (an_element q xs kids) ns
 repadded q xs kids ms ns document.alone all (element {os = us} p nothing e) = subst (λ l. Padded is_blank (an_element q xs kids) l) (sym (append-nil us) ∙ e) p
-repadded q xs kids ms ns (document.before {s = u} p) (cons c all) s = absurd (never_both u p c)
-repadded q xs kids ms ns (document.after {s = u} p) (cons t (cons c all)) s = absurd (never_both u p c)
-repadded q xs kids ms ns (document.both_sides {s = u} p r) (cons c all) s = absurd (never_both u p c)
+repadded q xs kids ms ns (document.before {s = u} p) (cons c all) s = absurd (not_both p c)
+repadded q xs kids ms ns (document.after {s = u} p) (cons t (cons c all)) s = absurd (not_both p c)
+repadded q xs kids ms ns (document.both_sides {s = u} p r) (cons c all) s = absurd (not_both p c)
 
 module _ (g : Reading) where
   put : {p : Simple ℕ} {xs : List Attribute} {ms : List Item} (ns : List Item) → Takes g p xs ms → Every IsNotBlank ms → Spread ms ns → Takes g p xs ns

@@ -1,6 +1,7 @@
 -- What grammars that break no restriction satisfy (RELAX NG Specification, section 7).
-use Rattle.std.proofs.Common.{◌≡◌, ◌⊎◌, inl, inr, ℕ, zero, suc, List, [], ◌∷◌, refl, sym, ap, ◌∙◌, subst, Option, Some, None, slice_get}
-use Rattle.rng_model.specs.names.Lists.{Among, here, there}
+use Rattle.std.proofs.Common.{◌≡◌, ◌⊎◌, inl, inr, ℕ, [], ◌∷◌, refl, sym, ap, ◌∙◌, subst, Option, Some, None, slice_get}
+use Rattle.std.proofs.lemmas.Option.{same_Some}
+use Rattle.rng_model.proofs.Places.{at_among}
 use Rattle.rng_model.specs.names.Names.{NameClass}
 use Rattle.rng_model.specs.simple.Tree.{Simple, Datatype, Connector, choice, group, interleave, s_not_allowed, s_empty, s_text, s_leaf, s_attribute, s_list, s_data}
 use Rattle.rng_model.specs.simple.Tree.{s_data_except, s_value, s_one_or_more, s_joined}
@@ -194,7 +195,7 @@ groupable_type complex_content simple_content h = elim h [ ]
 groupable_type simple_content complex_content h = elim h [ ]
 groupable_type simple_content simple_content h = elim h [ ]
 
-greater_itself : (u : ContentType) → greater u u ≡ u
+pub greater_itself : (u : ContentType) → greater u u ≡ u
 greater_itself empty_content = refl
 greater_itself complex_content = refl
 greater_itself simple_content = refl
@@ -258,20 +259,17 @@ attribute_content c p None u f e = absurd (cc)
 attribute_content c p (Some s) u f e =
     let same : empty_content ≡ u = cc in subst (λ x. HasContent (s_attribute c p) x) same (types.of_attribute (f s refl))
 
-some_is : (t u : ContentType) → Some t ≡ Some u → t ≡ u
-some_is t u e = cc
-
 -- .. and the other way round
 pub content_type_out : (p : Simple ℕ) (u : ContentType) → content_type p ≡ Some u → HasContent p u
 content_type_out s_not_allowed u e = absurd (cc)
-content_type_out s_empty u e = subst (λ x. HasContent {L = ℕ} s_empty x) (some_is empty_content u e) types.of_empty
-content_type_out s_text u e = subst (λ x. HasContent {L = ℕ} s_text x) (some_is complex_content u e) types.of_text
-content_type_out (s_leaf k) u e = subst (λ x. HasContent (s_leaf k) x) (some_is complex_content u e) types.of_ref
+content_type_out s_empty u e = subst (λ x. HasContent {L = ℕ} s_empty x) (same_Some empty_content u e) types.of_empty
+content_type_out s_text u e = subst (λ x. HasContent {L = ℕ} s_text x) (same_Some complex_content u e) types.of_text
+content_type_out (s_leaf k) u e = subst (λ x. HasContent (s_leaf k) x) (same_Some complex_content u e) types.of_ref
 content_type_out (s_attribute c p) u e = attribute_content c p (content_type p) u (content_type_out p) e
-content_type_out (s_list p) u e = subst (λ x. HasContent (s_list p) x) (some_is simple_content u e) types.of_list
-content_type_out (s_data d) u e = subst (λ x. HasContent {L = ℕ} (s_data d) x) (some_is simple_content u e) types.of_data
-content_type_out (s_data_except d p) u e = subst (λ x. HasContent (s_data_except d p) x) (some_is simple_content u e) types.of_data_except
-content_type_out (s_value d v) u e = subst (λ x. HasContent {L = ℕ} (s_value d v) x) (some_is simple_content u e) types.of_value
+content_type_out (s_list p) u e = subst (λ x. HasContent (s_list p) x) (same_Some simple_content u e) types.of_list
+content_type_out (s_data d) u e = subst (λ x. HasContent {L = ℕ} (s_data d) x) (same_Some simple_content u e) types.of_data
+content_type_out (s_data_except d p) u e = subst (λ x. HasContent (s_data_except d p) x) (same_Some simple_content u e) types.of_data_except
+content_type_out (s_value d v) u e = subst (λ x. HasContent {L = ℕ} (s_value d v) x) (same_Some simple_content u e) types.of_value
 content_type_out (s_one_or_more p) u e = repeated_content p (content_type p) u (content_type_out p) e
 content_type_out (s_joined choice p q) u e = choice_content p q (content_type p) (content_type q) u (content_type_out p) (content_type_out q) e
 content_type_out (s_joined group p q) u e =
@@ -304,11 +302,6 @@ typed_without_break p keeps = typed_by p keeps (content_type p) refl
 
 -- ---- a grammar
 
-among_found : {A : Type 0} (xs : List A) (k : ℕ) (x : A) → slice_get xs k ≡ Some x → Among x xs
-among_found [] k x e = absurd (cc)
-among_found (y ∷ xs) zero x e = let same : y ≡ x = cc in subst (λ z. Among z (y ∷ xs)) same here
-among_found (y ∷ xs) (suc k) x e = there (among_found xs k x e)
-
 module _ (g : Grammar) (keeps : (clause : ℕ) → BreaksRestriction g clause → ⊥) where
   part_restricted : (p : Simple ℕ) → IsPart g p → IsRestricted p
   part_restricted p is = record {
@@ -325,7 +318,7 @@ module _ (g : Grammar) (keeps : (clause : ℕ) → BreaksRestriction g clause �
   body_restricted : (k : ℕ) (o : Option (NameClass × Simple ℕ)) → slice_get g.elements k ≡ o → IsRestrictedBody (body_in o)
   body_restricted k None e = record { restricted = record { repeats = tt; texts = tt }; typed = inr refl }
   body_restricted k (Some (c, p)) e =
-      let is = among_found g.elements k (c, p) e in record {
+      let is = at_among g.elements k (c, p) e in record {
         restricted = part_restricted p (r.a_body is);
         typed = typed_without_break p (λ b. keeps 23 (r.in_content is b));
       }

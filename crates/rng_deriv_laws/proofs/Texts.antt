@@ -1,6 +1,7 @@
 -- Strings, for patterns that obey sections 7.1.3 and 7.1.4: what is left after one, the pieces of a list, and a string
 -- alone (RELAX NG Specification, sections 6.2.7, 6.2.8 and 6.2.10).
 use Rattle.std.proofs.Common.{◌≡◌, ℕ, List, [], ◌∷◌, map, refl, subst, Bool, true, ◌&&◌, cond, inl, inr}
+use Rattle.std.proofs.lemmas.Bool.{and_from, or_left, or_right, and_parts, or_cases}
 use Rattle.rng_model.specs.simple.Tree.{Simple, choice, group, interleave, s_not_allowed, s_empty, s_text, s_leaf, s_attribute, s_list, s_data, s_data_except}
 use Rattle.rng_model.specs.simple.Tree.{s_value, s_one_or_more, s_joined}
 use Rattle.rng_model.specs.matching.Document.{Item, a_text, AllTexts, no_texts, text_and}
@@ -13,7 +14,6 @@ use Rattle.rng_deriv_laws.specs.plain.Blanks.{IsBare, strings_alone}
 use Rattle.rng_deriv_laws.specs.plain.Derivatives.{is_nullable, Way, item_ways, rests_of, in_turn, takes_text, after_string, no_list, after_piece, list_has, after_text}
 use Rattle.rng_deriv_laws.specs.plain.Derivatives.{has_text}
 use Rattle.rng_deriv_laws.specs.plain.Ways.{TakesItem, EachWay, IsItemLeaf}
-use Rattle.rng_deriv_laws.proofs.ListFacts.{both, in_both, either_left, either_right, in_either}
 use Rattle.rng_deriv_laws.proofs.Nullable.{null_in, null_out, under_in, under_out}
 use Rattle.rng_deriv_laws.proofs.SamePatterns.{choice_of-same}
 use Rattle.rng_deriv_laws.proofs.Excepts.{excepted_in, excepted_out}
@@ -158,11 +158,11 @@ module _ (g : Reading) where
 
   pub alone_in : (p : Simple ℕ) → HasTexts MayBeListed p → (s : List ℕ) → WeaklyTakes g p [] (a_text s ∷ []) → has_text g p s ≡ true
   alone_in p o s (t.as_is d) =
-      either_left _ _ (null_in g (after_text g p s) (text_in p o s [] (strings_alone (text_and no_texts)) d))
-  alone_in p o s (t.blank_text d b) = either_right _ _ (both _ _ (null_in g p d) b)
+      or_left _ _ (null_in g (after_text g p s) (text_in p o s [] (strings_alone (text_and no_texts)) d))
+  alone_in p o s (t.blank_text d b) = or_right _ _ (and_from _ _ (null_in g p d) b)
 
   pub alone_out : (p : Simple ℕ) → HasTexts MayBeListed p → (s : List ℕ) → has_text g p s ≡ true → WeaklyTakes g p [] (a_text s ∷ [])
-  alone_out p o s e = elim (in_either (is_nullable (after_text g p s)) (is_nullable p && is_blank s) e) [
+  alone_out p o s e = elim (or_cases (is_nullable (after_text g p s)) (is_nullable p && is_blank s) e) [
     | inl a ↦ t.as_is (text_out p o s [] (null_out g (after_text g p s) a))
-    | inr b ↦ let c = in_both (is_nullable p) (is_blank s) b in t.blank_text (null_out g p c.0) c.1
+    | inr b ↦ let c = and_parts (is_nullable p) (is_blank s) b in t.blank_text (null_out g p c.0) c.1
   ]

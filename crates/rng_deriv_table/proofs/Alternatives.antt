@@ -1,6 +1,7 @@
 -- Properties that a pattern and its alternatives share.
-use Rattle.std.proofs.Common.{◌≡◌, ℕ, List, [], ◌∷◌, All, Contains, map, refl, sym, subst, ap₂, Option, Some, None, inl, inr, ⊎_elim, true≢false, arith}
+use Rattle.std.proofs.Common.{◌≡◌, ℕ, List, [], ◌∷◌, All, Contains, map, refl, sym, subst, ap₂, Some, inl, inr, ⊎_elim, true≢false, arith}
 use Rattle.std.proofs.lemmas.List.Elements.{All-map, All-tail}
+use Rattle.rng_deriv_laws.proofs.DropBlanks.{both_typed}
 use Rattle.rng_model.specs.simple.Tree.{Simple, choice, group, interleave, s_not_allowed, s_empty, s_text, s_leaf, s_attribute, s_list, s_data, s_data_except}
 use Rattle.rng_model.specs.simple.Tree.{s_value, s_one_or_more, s_joined}
 use Rattle.rng_model.specs.restrictions.ContentTypes.{ContentType, greater}
@@ -116,16 +117,10 @@ IsRestricted-of_choices = record {
 abbrev HasType : Simple ℕ → Type 0
 HasType p = (t : ContentType) × (content_type p ≡ Some t)
 
-both_types : (a b : Option ContentType) (t : ContentType) → type_of_choice a b ≡ Some t
-    → ((u : ContentType) × (a ≡ Some u)) × ((u : ContentType) × (b ≡ Some u))
-both_types None b t e = absurd (cc)
-both_types (Some u) None t e = absurd (cc)
-both_types (Some u) (Some v) t e = ((u, refl), (v, refl))
-
 HasType-of_choices : IsOfChoices HasType
 HasType-of_choices = record {
   of_both = λ p q h k. (greater h.0 k.0, ap₂ type_of_choice h.1 k.1);
-  sides = λ p q h. both_types (content_type p) (content_type q) h.0 h.1;
+  sides = λ p q h. both_typed (content_type p) (content_type q) h.0 h.1;
 }
 
 module _ (tree : ℕ → Simple ℕ) (ms : List PatternNumber) (p : Simple ℕ) (reduced : IsReducedChoice p)

@@ -1,15 +1,9 @@
 -- Content types: which of two is greater, and which are groupable.
 use Rattle.std.proofs.Common.{◌≡◌, Option, Some, None, refl, sym, ap, ◌∙◌}
+use Rattle.std.proofs.lemmas.Option.{same_Some}
+use Rattle.rng_deriv_laws.proofs.Restricted.{greater_itself}
 use Rattle.rng_model.specs.restrictions.ContentTypes.{ContentType, empty_content, complex_content, simple_content, greater}
 use Rattle.rng_deriv_laws.specs.plain.Restricted.{type_of_both, type_of_choice}
-
-pub some_is : (t u : ContentType) → Some t ≡ Some u → t ≡ u
-some_is t u e = cc
-
-pub greater_itself : (u : ContentType) → greater u u ≡ u
-greater_itself empty_content = refl
-greater_itself complex_content = refl
-greater_itself simple_content = refl
 
 pub greater_simple : (u : ContentType) → greater u simple_content ≡ simple_content
 greater_simple empty_content = refl
@@ -75,7 +69,7 @@ less_together simple_content simple_content c simple_content simple_content e f 
 
 -- the type of two groupable types is the greater one
 pub together_greater : (a b c : ContentType) → type_of_both (Some a) (Some b) ≡ Some c → greater a b ≡ c
-together_greater a b c e = some_is _ c (sym (less_together a b c a b e (greater_itself a) (greater_itself b)) ∙ e)
+together_greater a b c e = same_Some _ c (sym (less_together a b c a b e (greater_itself a) (greater_itself b)) ∙ e)
 
 pub both_have : (a b : Option ContentType) (c : ContentType) → type_of_both a b ≡ Some c
     → (u : ContentType) × (v : ContentType) × (a ≡ Some u) × (b ≡ Some v) × (type_of_both (Some u) (Some v) ≡ Some c)
@@ -87,7 +81,7 @@ pub both_members : (a b : Option ContentType) (c : ContentType) → type_of_choi
     → (u : ContentType) × (v : ContentType) × (a ≡ Some u) × (b ≡ Some v) × (greater u v ≡ c)
 both_members None b c e = absurd (cc)
 both_members (Some u) None c e = absurd (cc)
-both_members (Some u) (Some v) c e = (u, v, refl, refl, some_is _ c e)
+both_members (Some u) (Some v) c e = (u, v, refl, refl, same_Some _ c e)
 
 -- the order of two groupable types makes no difference
 pub both_swapped : (a b : Option ContentType) → type_of_both a b ≡ type_of_both b a

@@ -3,11 +3,11 @@ use Rattle.std.proofs.Common.{◌≡◌, ◌∙◌, ℕ, ◌+◌, ◌<◌, ◌�
 use Rattle.std.proofs.lemmas.Bool.{cases_eq, cases_lt}
 use Rattle.std.proofs.lemmas.List.{get_or-set_other, get_or-set_same, length-set}
 use Rattle.std.proofs.lemmas.Option.{get_or_from_slice_get, slice_get-get_or, slice_get_within}
+use Rattle.rng_model.proofs.Places.{in_front}
 use Rattle.rng_model.specs.simple.Table.{Table}
 use Rattle.rng_model.specs.declared.name.NameClass.{NameClass}
 use Rattle.rng_model.specs.declared.simple.PatternId.{PatternId}
 use Rattle.rng_model.specs.declared.simple.Simple.{Simple}
-use Rattle.rng_deriv_laws.proofs.LevelSteps.{in_front}
 use Rattle.rng_deriv_table.specs.declared.uses.Use.{Use}
 use Rattle.rng_deriv_table.specs.declared.uses.Use.TheVariants as uses
 use Rattle.rng_deriv_table.specs.plain.AskedFor.{HasPart, IsAskedFor, IsOwn, as_body, as_part, as_start}

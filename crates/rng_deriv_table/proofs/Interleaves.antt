@@ -1,5 +1,7 @@
 -- Interleaves of the same members, nested in another way, take the same and obey the same restrictions.
 use Rattle.std.proofs.Common.{◌≡◌, ◌⊎◌, ℕ, ◌+◌, ◌<◌, List, Some, length, slice_get, refl, sym, subst, ap, ◌∙◌, ⊎_elim, inl, arith}
+use Rattle.std.proofs.lemmas.Option.{same_Some}
+use Rattle.rng_deriv_laws.proofs.Restricted.{greater_itself}
 use Rattle.rng_model.specs.simple.Tree.{Simple, interleave, s_joined}
 use Rattle.rng_model.specs.restrictions.ContentTypes.{ContentType, greater}
 use Rattle.rng_model.specs.simple.Table.{Table}
@@ -14,7 +16,7 @@ use Rattle.rng_deriv_table.specs.views.Node as node
 use Rattle.rng_deriv_table.specs.views.PatternTable.{Adds, IsPatternTable, Longer}
 use Rattle.rng_deriv_table.specs.views.Trees.{tree_of}
 use Rattle.rng_deriv_table.specs.declared.pattern.PatternNumber.{PatternNumber}
-use Rattle.rng_deriv_table.proofs.ContentTypes.{both_have, both_regrouped, both_swapped, both_within, greater_itself, less_together, some_is, together_greater}
+use Rattle.rng_deriv_table.proofs.ContentTypes.{both_have, both_regrouped, both_swapped, both_within, less_together, together_greater}
 use Rattle.rng_deriv_table.proofs.ContentTypes.{within_first, within_second}
 use Rattle.rng_deriv_table.proofs.KeptRestrictions.{content_wider, joined_content, joined_has}
 use Rattle.rng_deriv_table.proofs.Trees.{tree_of-over_parts, tree_stays}
@@ -73,7 +75,7 @@ is_of_nested a b q inner whole within is = record {
         (both_within most v (greater u v) (within_first most u v less) (within_second v u v (greater_itself v))) in
         content_wider whole (greater most v) c (λ x h. subst (λ z. greater x z ≡ z) up (within_first x (greater most v) c h))
         (is.content parts.0 parts.1 (greater most v) parts.4
-        (inl (sides.0, sides.2, subst (λ z. greater sides.0 z ≡ z) (some_is sides.0 parts.0 parts.2) (greater_itself sides.0)))
+        (inl (sides.0, sides.2, subst (λ z. greater sides.0 z ≡ z) (same_Some sides.0 parts.0 parts.2) (greater_itself sides.0)))
         (within.content sides.1 v parts.1 parts.3 (inl (sides.1, sides.3, greater_itself sides.1)) i))
 
 -- ---- what they take

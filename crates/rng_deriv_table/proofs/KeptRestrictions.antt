@@ -5,6 +5,8 @@ use Rattle.std.proofs.Common.{List, [], ◌∷◌, ◌++◌, length, get_or, ari
 use Rattle.std.proofs.lemmas.Bool.{cases_lt}
 use Rattle.std.proofs.lemmas.List.{get_or_append_left}
 use Rattle.std.proofs.Math.Seq.{get_or-append_seam}
+use Rattle.std.proofs.lemmas.Option.{same_Some}
+use Rattle.rng_deriv_laws.proofs.Restricted.{greater_itself}
 use Rattle.rng_model.specs.simple.Tree.{Simple, Connector, choice, group, interleave, s_not_allowed, s_empty}
 use Rattle.rng_model.specs.simple.Tree.{s_one_or_more, s_joined}
 use Rattle.rng_model.specs.restrictions.ContentTypes.{ContentType, empty_content, greater}
@@ -31,7 +33,7 @@ use Rattle.rng_deriv_table.proofs.Taking.{part_below, position_among}
 use Rattle.rng_deriv_table.proofs.Trees.{tree_stays}
 use Rattle.rng_deriv_table.specs.plain.Reduced.{HasAlternative}
 use Rattle.rng_deriv_table.proofs.Alternatives.{IsOfChoices, alternative_has, has_of_alternatives}
-use Rattle.rng_deriv_table.proofs.ContentTypes.{both_have, both_members, both_within, greater_itself, less_together, some_is, together_greater, within_first}
+use Rattle.rng_deriv_table.proofs.ContentTypes.{both_have, both_members, both_within, less_together, together_greater, within_first}
 use Rattle.rng_deriv_table.proofs.ContentTypes.{within_second}
 
 either_one : (Q : Simple ℕ → Type 0) (b : Bool) (p q : Simple ℕ) → Q p → Q q → Q (cond b p q)
@@ -138,7 +140,7 @@ repeat_kept p made h = record {
   unlisted = λ o. repeat_has HasNoLists made tt tt (h.unlisted o);
   content = λ c e.
       let b = both_have (content_type p) (content_type p) c e in
-      let one : b.1 ≡ b.0 = some_is b.1 b.0 (sym b.3 ∙ b.2) in
+      let one : b.1 ≡ b.0 = same_Some b.1 b.0 (sym b.3 ∙ b.2) in
       repeat_content made b.0 c (subst (λ v. type_of_both (Some b.0) (Some v) ≡ Some c) one b.4) (h.content b.0 b.2);
   not_allowed = λ e. absurd (cc);
 }

@@ -4,6 +4,7 @@ use Rattle.std.proofs.Common.{◌^◌, max, [], ◌∷◌, ◌++◌, map, Option
 use Rattle.std.specs.List.{list_all, list_any}
 use Rattle.std.proofs.lemmas.List.{get_or-map, length-map, take_all, take_more}
 use Rattle.std.proofs.lemmas.List.Folds.{list_all_more, list_any_more}
+use Rattle.std.proofs.Math.Bool.{and-true}
 use Rattle.rng_model.specs.simple.Tree as tree
 use Rattle.rng_model.specs.simple.Table.{Table}
 use Rattle.rng_model.specs.declared.simple.Simple.{Simple}
@@ -39,14 +40,10 @@ choice_data f [] = refl
 choice_data f (m ∷ []) = or_none (has_data (f m.0))
 choice_data f (m ∷ n ∷ ms) = ap (λ b. has_data (f m.0) || b) (choice_data f (n ∷ ms))
 
-and_all : (b : Bool) → (b && true) ≡ b
-and_all true = refl
-and_all false = refl
-
 pub choice_subsequences : (f : ℕ → tree.Simple ℕ) (ms : List PatternNumber)
     → list_all (λ m. has_subsequences (f m.0)) ms ≡ has_subsequences (choice_over f (map (λ m. m.0) ms))
 choice_subsequences f [] = refl
-choice_subsequences f (m ∷ []) = and_all (has_subsequences (f m.0))
+choice_subsequences f (m ∷ []) = and-true (has_subsequences (f m.0))
 choice_subsequences f (m ∷ n ∷ ms) = ap (λ b. has_subsequences (f m.0) && b) (choice_subsequences f (n ∷ ms))
 
 -- one more member

@@ -3,6 +3,7 @@ use Rattle.std.proofs.Common.{◌≡◌, ◌⊎◌, ℕ, zero, suc, ◌+◌, ◌
 use Rattle.std.proofs.Common.{⊎_elim, inl, inr, arith, Contains}
 use Rattle.std.proofs.lemmas.List.Elements.{Contains-get_or, Contains-append_left, Contains-append_right, Contains-append_cases}
 use Rattle.std.proofs.lemmas.List.Elements.{Contains-push_cases}
+use Rattle.rng_model.proofs.Members.{not_in_none}
 use Rattle.rng_model.specs.simple.Tree.{Simple, choice, s_joined}
 use Rattle.rng_model.specs.matching.Document.{Attribute, Item}
 use Rattle.rng_model.specs.simple.Table.{Table, tree_at}
@@ -18,14 +19,11 @@ use Rattle.rng_deriv_table.specs.plain.AskedFor.{AreOpened, HasNumber, begun, mo
 abbrev pub Within : List PatternId → List PatternId → PatternId → Type 0
 Within todo members k = Contains todo k ⊎ Contains members k
 
-none_there : (k : PatternId) → Contains [] k → ⊥
-none_there k h = let inside = h.1 in absurd (omega (arith, inside))
-
 here : (ks ls : List PatternId) (k : PatternId) → Contains (ks ++ k ∷ ls) k
 here ks ls k = Contains-append_right ks (k ∷ ls) k (Contains-get_or (k ∷ ls) 0 k (omega arith))
 
 only_position : (k l : PatternId) → Contains (k ∷ []) l → k ≡ l
-only_position k l h = ⊎_elim (λ c. absurd (none_there l c)) (λ e. e) (Contains-push_cases [] k l h)
+only_position k l h = ⊎_elim (λ c. absurd (not_in_none c)) (λ e. e) (Contains-push_cases [] k l h)
 
 after : (ks : List PatternId) (k l : PatternId) → Contains (ks ++ k ∷ l ∷ []) l
 after ks k l = Contains-append_right ks (k ∷ l ∷ []) l (Contains-get_or (k ∷ l ∷ []) 1 l (omega arith))
@@ -60,7 +58,7 @@ module _ (table : Table) (us : List Use) (first second : PatternId) where
     pub each_has : {todo members : List PatternId} → Opened todo members → (k : PatternId) → Within todo members k → Q (tree k)
     each_has (begun is none) k w = ⊎_elim
         (λ c. each_of_two (λ l. Q (tree l)) first second (sides _ _ h).0 (sides _ _ h).1 k (subst (λ ks. Contains ks k) is c))
-        (λ c. absurd (none_there k (subst (λ ks. Contains ks k) none c)))
+        (λ c. absurd (not_in_none (subst (λ ks. Contains ks k) none c)))
         w
     each_has (opened {todo} {members} {next} front l a b o cut is below more) k w =
         let at_front : (x : PatternId) → Contains front x → Q (tree x) = λ x c. each_has o x (inl (subst (λ ks. Contains ks x) (sym cut) (Contains-append_left front (l ∷ []) x c))) in
@@ -79,7 +77,7 @@ module _ (table : Table) (us : List Use) (first second : PatternId) where
 
   -- the members have numbers
   pub each_numbered : {todo members : List PatternId} → Opened todo members → (k : PatternId) → Contains members k → HasNumber table us k.0
-  each_numbered (begun is none) k c = absurd (none_there k (subst (λ ks. Contains ks k) none c))
+  each_numbered (begun is none) k c = absurd (not_in_none (subst (λ ks. Contains ks k) none c))
   each_numbered (opened front l a b o cut is below more) k c = each_numbered o k c
   each_numbered (moved {todo} {members} {front} {more} l o cut numbered longer) k c =
       each_of_one_more (λ x. HasNumber table us x.0) members l (λ x i. each_numbered o x i) numbered k (subst (λ ks. Contains ks k) longer c)
@@ -89,7 +87,7 @@ module _ (table : Table) (us : List Use) (first second : PatternId) where
       → (k : PatternId) → Within todo members k → k.0 < n
   each_below n f g (begun is none) k w = ⊎_elim
       (λ c. each_of_two (λ l. l.0 < n) first second f g k (subst (λ ks. Contains ks k) is c))
-      (λ c. absurd (none_there k (subst (λ ks. Contains ks k) none c)))
+      (λ c. absurd (not_in_none (subst (λ ks. Contains ks k) none c)))
       w
   each_below n f g (opened {todo} {members} {next} front l a b o cut is below more) k w =
       let at_front : (x : PatternId) → Contains front x → x.0 < n = λ x c. each_below n f g o x (inl (subst (λ ks. Contains ks x) (sym cut) (Contains-append_left front (l ∷ []) x c))) in
@@ -145,7 +143,7 @@ module _ (table : Table) (us : List Use) (first second : PatternId) where
     member_takes (begun is none) k w = ⊎_elim
         (λ c. each_of_two (λ l. Takes g (tree l) xs ns → Takes g whole xs ns) first second (λ d. t.first d) (λ d. t.second d) k
         (subst (λ ks. Contains ks k) is c))
-        (λ c. absurd (none_there k (subst (λ ks. Contains ks k) none c)))
+        (λ c. absurd (not_in_none (subst (λ ks. Contains ks k) none c)))
         w
     member_takes (opened {todo} {members} {next} front l a b o cut is below more) k w =
         let at_front : (x : PatternId) → Contains front x → Takes g (tree x) xs ns → Takes g whole xs ns = λ x c. member_takes o x (inl (subst (λ ks. Contains ks x) (sym cut) (Contains-append_left front (l ∷ []) x c))) in

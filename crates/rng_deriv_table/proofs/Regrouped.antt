@@ -4,6 +4,7 @@ use Rattle.std.proofs.lemmas.List.{append-nil}
 use Rattle.std.specs.HashMap.{HashMap, IsEmpty, get}
 use Rattle.std.specs.Map.{lookup}
 use Rattle.std.proofs.lemmas.Option.{none-some, same_Some}
+use Rattle.rng_deriv_laws.proofs.Restricted.{greater_itself}
 use Rattle.rng_model.specs.matching.Document.{Attribute, Item, Interleaves, done}
 use Rattle.rng_model.specs.matching.Reading.{Reading}
 use Rattle.rng_model.specs.restrictions.ContentTypes.{ContentType, empty_content, complex_content, simple_content}
@@ -24,7 +25,6 @@ use Rattle.rng_deriv_table.specs.views.PatternTable.{IsPatternTable, Longer}
 use Rattle.rng_deriv_table.specs.views.Trees.{tree_of}
 use Rattle.rng_deriv_table.specs.declared.pattern.PatternNumber.{PatternNumber}
 use Rattle.rng_deriv_table.specs.contracts.pattern.PatternNumberPartialEq.TheImpl as number
-use Rattle.rng_deriv_table.proofs.ContentTypes.{greater_itself}
 use Rattle.rng_deriv_table.proofs.KeptRestrictions.{group_kept, kept_same, kept_through}
 use Rattle.rng_deriv_table.proofs.MemberSkips.{same_number}
 use Rattle.rng_deriv_table.proofs.Trees.{Longer-length, tree_of-over_parts, tree_stays}

@@ -1,5 +1,6 @@
 -- A pattern that takes a sequence of items takes its subsequences.
 use Rattle.std.proofs.Common.{◌≡◌, ◌⊎◌, ℕ, List, [], ◌∷◌, ◌++◌, ◌&&◌, refl, sym, ◌∙◌, subst, true, ⊎_elim, inl, inr}
+use Rattle.std.proofs.lemmas.Bool.{and_parts}
 use Rattle.rng_model.specs.simple.Tree.{Simple, choice, group, interleave, s_not_allowed, s_empty, s_text, s_leaf, s_attribute, s_list, s_data, s_data_except}
 use Rattle.rng_model.specs.simple.Tree.{s_value, s_one_or_more, s_joined}
 use Rattle.rng_model.specs.matching.Document.{Attribute, Item, Items, a_text, an_element, Interleaves, AllTexts, SharesName, text_and}
@@ -12,7 +13,7 @@ use Rattle.rng_deriv_laws.specs.plain.Taking.{Takes}
 use Rattle.rng_deriv_laws.specs.plain.Taking as t
 use Rattle.rng_deriv_laws.specs.plain.Blanks.{IsBare, cons, strings_alone, no_blanks}
 use Rattle.rng_deriv_laws.specs.plain.Derivatives.{is_nullable}
-use Rattle.rng_deriv_laws.proofs.ListFacts.{bare_cut, bare_left, bare_right, in_both}
+use Rattle.rng_deriv_laws.proofs.ListFacts.{bare_cut, bare_left, bare_right}
 use Rattle.rng_deriv_laws.proofs.Nullable.{null_out}
 use Rattle.rng_deriv_table.specs.plain.Facts.{LosesFirst, has_subsequences}
 
@@ -99,20 +100,20 @@ module _ (g : Reading) where
   loses (s_value d v) s xs n ns bare (t.value_is e) = inr (refl, refl)
   loses (s_one_or_more p) s xs n ns bare d = copies_lose p (loses p s) n ns bare xs (n ∷ ns) d refl
   loses (s_joined choice p q) s xs n ns bare (t.first d) =
-      let all = in_both (has_subsequences p) (has_subsequences q) s in
+      let all = and_parts (has_subsequences p) (has_subsequences q) s in
       ⊎_elim (λ h. inl (t.first h)) (λ h. inr h) (loses p all.0 xs n ns bare d)
   loses (s_joined choice p q) s xs n ns bare (t.second d) =
-      let all = in_both (has_subsequences p) (has_subsequences q) s in
+      let all = and_parts (has_subsequences p) (has_subsequences q) s in
       ⊎_elim (λ h. inl (t.second h)) (λ h. inr h) (loses q all.1 xs n ns bare d)
   loses (s_joined group p q) s xs n ns bare d =
-      let all = in_both (is_nullable p && has_subsequences p) (is_nullable q && has_subsequences q) s in
-      let one = in_both (is_nullable p) (has_subsequences p) all.0 in
-      let other = in_both (is_nullable q) (has_subsequences q) all.1 in
+      let all = and_parts (is_nullable p && has_subsequences p) (is_nullable q && has_subsequences q) s in
+      let one = and_parts (is_nullable p) (has_subsequences p) all.0 in
+      let other = and_parts (is_nullable q) (has_subsequences q) all.1 in
       inl (group_loses p q (by_nullable p one.0 (loses p one.1)) (by_nullable q other.0 (loses q other.1)) xs n ns bare d)
   loses (s_joined interleave p q) s xs n ns bare d =
-      let all = in_both (is_nullable p && has_subsequences p) (is_nullable q && has_subsequences q) s in
-      let one = in_both (is_nullable p) (has_subsequences p) all.0 in
-      let other = in_both (is_nullable q) (has_subsequences q) all.1 in
+      let all = and_parts (is_nullable p && has_subsequences p) (is_nullable q && has_subsequences q) s in
+      let one = and_parts (is_nullable p) (has_subsequences p) all.0 in
+      let other = and_parts (is_nullable q) (has_subsequences q) all.1 in
       inl (interleave_loses p q (by_nullable p one.0 (loses p one.1)) (by_nullable q other.0 (loses q other.1)) xs n ns bare d)
 
   pub loses_first : (p : Simple ℕ) → is_nullable p ≡ true → has_subsequences p ≡ true → LosesFirst g p

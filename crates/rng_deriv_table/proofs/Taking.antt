@@ -1,11 +1,11 @@
 -- A pattern that is put into the table takes what the grammar's pattern takes.
-use Rattle.std.proofs.Common.{◌≡◌, ℕ, zero, suc, ◌<◌, ◌≤◌, List, [], ◌∷◌, ◌++◌, length, map, get_or, slice_get, slice_index_or, Some, None, refl, sym, ap, ◌∙◌}
+use Rattle.std.proofs.Common.{◌≡◌, ℕ, zero, suc, ◌<◌, ◌≤◌, List, [], ◌∷◌, ◌++◌, length, map, get_or, slice_get, slice_index_or, Some, refl, sym, ap, ◌∙◌}
 use Rattle.std.proofs.Common.{◌↔◌, inl, inr, subst, ⊎_elim, arith, All, Contains, length-append}
 use Rattle.std.proofs.lemmas.Bool.{cases_lt}
 use Rattle.std.proofs.lemmas.List.{get_or_append_left, get_or-map, length-map}
 use Rattle.std.proofs.lemmas.List.Elements.{All-map, Contains-get_or, Contains-append_cases, Contains-append_left, Contains-append_right}
-use Rattle.std.proofs.lemmas.Option.{slice_get-get_or}
 use Rattle.std.proofs.Math.Seq.{get_or-append_seam}
+use Rattle.rng_model.proofs.Members.{not_in_none}
 use Rattle.rng_model.specs.simple.Tree as tree
 use Rattle.rng_model.specs.simple.Tree.{choice, s_joined}
 use Rattle.rng_model.specs.simple.Table.{Table, tree_at, tree_over}
@@ -83,10 +83,6 @@ part_below (simple.Choice a b) n k below h = absurd h
 
 -- ---- a choice of members
 
--- the number at one of the positions
-none_left : (k : PatternId) → Contains [] k → ⊥
-none_left k h = let inside = h.1 in absurd (omega (arith, inside))
-
 -- what is among the results of a function is the result for one of the arguments
 map_among : {A B : Type 0} (f : A → B) (xs : List A) (y : B) → Contains (map f xs) y → (x : A) × Contains xs x × (f x ≡ y)
 map_among f [] y h = let inside = h.1 in absurd (omega (arith, inside))
@@ -129,7 +125,7 @@ module _ (t : Table) (us : List Use) (old new : List Node) (numbers : List Patte
         member_takes t us first second g xs ns is.opened at.0 (inr at.1) ((member_same g at.0 at.1).to xs ns own);
     back = λ xs ns d.
         let some = some_member t us first second g xs ns is.opened d in
-        let there : Contains is.positions some.0 = ⊎_elim (λ h. absurd (none_left some.0 h)) (λ h. h) some.1 in
+        let there : Contains is.positions some.0 = ⊎_elim (λ h. absurd (not_in_none h)) (λ h. h) some.1 in
         (is.takes g xs ns).1 (
           slice_index_or numbers some.0.0 (record { 0 = 0 }),
           number_among numbers is.positions some.0 there,
@@ -202,12 +198,3 @@ each_inside bound (n ∷ ns) f (suc k) d h = each_inside bound ns (λ i l. f (su
 pub taken_where : (Has Fewer : ℕ → Type 0) (t : Table) (ns : List Node) (numbers : List PatternNumber) → ((k : ℕ) → Fewer k → Has k)
     → AreTakenAt Has t ns numbers → AreTakenAt Fewer t ns numbers
 taken_where Has Fewer t ns numbers fewer taken = record { inside = taken.inside; same = λ i h few g. taken.same i h (fewer i few) g }
-
--- a position where nothing is found is past the end
-pub past_end : {X : Type 0} (xs : List X) (i : ℕ) → slice_get xs i ≡ None → length xs ≤ i
-past_end [] i e = omega arith
-past_end (x ∷ xs) i e =
-    ⊎_elim (λ h. let found = slice_get-get_or (x ∷ xs) i x h in absurd (some_is_none (sym found ∙ e))) (λ h. h) (cases_lt i (length (x ∷ xs)))
-  where
-    some_is_none : {A : Type 0} {a : A} → Some a ≡ None → ⊥
-    some_is_none e = cc

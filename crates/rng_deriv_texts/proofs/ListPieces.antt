@@ -1,6 +1,7 @@
 -- Strings that are matched as a whole: the pieces of a list, one after the other, and the value of an attribute.
 use Rattle.std.proofs.Common.{◌≡◌, ◌∙◌, ℕ, ◌<◌, ◌↔◌, inl, inr, List, [], ◌∷◌, length, map, slice_index_or, refl, sym, subst}
 use Rattle.std.proofs.Common.{Bool, true, false, ◌&&◌, ◌||◌, Bor}
+use Rattle.std.proofs.lemmas.Bool.{and_from, or_left, or_right, and_parts, or_cases}
 use Rattle.rng_model.specs.simple.Tree.{Simple}
 use Rattle.rng_model.specs.matching.Document.{a_text, no_texts, text_and}
 use Rattle.rng_model.specs.simple.Table.{Table, tree_at}
@@ -12,7 +13,6 @@ use Rattle.rng_deriv_laws.specs.plain.Taking as t
 use Rattle.rng_deriv_laws.specs.plain.Restricted.{IsRestricted, MayBeListed}
 use Rattle.rng_deriv_laws.specs.plain.Blanks.{strings_alone}
 use Rattle.rng_deriv_laws.proofs.Texts.{all_texts, no_lists}
-use Rattle.rng_deriv_laws.proofs.ListFacts.{both, either_left, either_right, in_both, in_either}
 use Rattle.rng_deriv_table.specs.plain.AskedFor.{IsAskedFor}
 use Rattle.rng_deriv_table.specs.views.Node.{Node}
 use Rattle.rng_deriv_table.specs.views.Taking.{tree_by}
@@ -74,13 +74,13 @@ module _ (g : Reading) (p q : Simple ℕ) (s : List ℕ) (same : Same g q p)
     (ends empty blank : Bool) (ends_is : (ends ≡ true) ↔ Takes g q [] (a_text s ∷ [])) (empty_is : (empty ≡ true) ↔ Takes g q [] []) (blank_is : blank ≡ is_blank s)
   where
     weakly_in : WeaklyTakes g p [] (a_text s ∷ []) → ends || (empty && blank) ≡ true
-    weakly_in (t.as_is d) = either_left ends (empty && blank) (ends_is.1 (same.back [] _ d))
-    weakly_in (t.blank_text d e) = either_right ends (empty && blank) (both empty blank (empty_is.1 (same.back [] [] d)) (blank_is ∙ e))
+    weakly_in (t.as_is d) = or_left ends (empty && blank) (ends_is.1 (same.back [] _ d))
+    weakly_in (t.blank_text d e) = or_right ends (empty && blank) (and_from empty blank (empty_is.1 (same.back [] [] d)) (blank_is ∙ e))
 
     weakly_out : ends || (empty && blank) ≡ true → WeaklyTakes g p [] (a_text s ∷ [])
-    weakly_out e = elim (in_either ends (empty && blank) e) [
+    weakly_out e = elim (or_cases ends (empty && blank) e) [
       | inl h ↦ t.as_is (same.to [] _ (ends_is.0 h))
-      | inr h ↦ let b = in_both empty blank h in t.blank_text (same.to [] [] (empty_is.0 b.0)) (sym blank_is ∙ b.1)
+      | inr h ↦ let b = and_parts empty blank h in t.blank_text (same.to [] [] (empty_is.0 b.0)) (sym blank_is ∙ b.1)
     ]
 
     pub weakly_told : (b : Bool) → b ≡ ends || (empty && blank) → (b ≡ true) ↔ WeaklyTakes g p [] (a_text s ∷ [])

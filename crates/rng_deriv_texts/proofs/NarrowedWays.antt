@@ -8,6 +8,7 @@ use Rattle.std.specs.Str.{bytes_eq}
 use Rattle.std.proofs.lemmas.List.Elements.{All-contains, Contains-push, Contains-push_cases, Contains-append_cases, Contains-append_left, Contains-append_right, Contains-get_or}
 use Rattle.std.proofs.lemmas.Slice.Eq.{bytes_eq-Decides}
 use Rattle.std.proofs.lemmas.Option.{same_Some, none-some}
+use Rattle.rng_model.proofs.Members.{not_in_none}
 use Rattle.smallvec.specs.SmallVec.{SmallVec}
 use Rattle.rng_model.specs.datatypes.Blanks.{collapse}
 use Rattle.rng_model.specs.datatypes.Datatypes.{Meaning, plain_string, plain_token, xsd_string, xsd_token, xsd_ncname, xsd_nmtoken}
@@ -77,9 +78,6 @@ value_takes_only t ns leaf d v type inside is named compares = record {
 
 -- ---- what is kept for a text
 
-has_none : (w : LeafWay) → Contains [] w → ⊥
-has_none w (i, h, e) = omega (arith, h)
-
 -- the ways for a text are taken out, and put back with one more
 module _ {Y Z : Type 0} (before middle after : HashMap (String Y) (SmallVec LeafWay) Z) (key : List ℕ) (put : String Y) (way : LeafWay)
     (none base all : SmallVec LeafWay) (is_key : key ≡ string_bytes put) (is_none : none.items ≡ [])
@@ -100,7 +98,7 @@ module _ {Y Z : Type 0} (before middle after : HashMap (String Y) (SmallVec Leaf
 
     was_kept : (q : String Y) (w : LeafWay) (o : Option (SmallVec LeafWay)) → get_by_text before (string_bytes q) ≡ o → base ≡ unwrap_or o none
         → Contains base.items w → IsKeptFor before q w
-    was_kept q w None at is c = absurd (has_none w (subst (λ ws. Contains ws w) (ap (λ (v : SmallVec LeafWay). v.items) is ∙ is_none) c))
+    was_kept q w None at is c = absurd (not_in_none (subst (λ ws. Contains ws w) (ap (λ (v : SmallVec LeafWay). v.items) is ∙ is_none) c))
     was_kept q w (Some vs) at is c = (vs, at, subst (λ (v : SmallVec LeafWay). Contains v.items w) is c)
 
     pub kept_within : (q : String Y) (w : LeafWay) → IsKeptFor after q w → IsKeptOrIs before q way w
@@ -138,7 +136,7 @@ pub no_index : (t : Table) (ns : List Node) (index : ValueIndex) → index.other
 no_index t ns index others texts = record {
   others = λ w c. subst (λ ws. Contains ws w) others c;
   kept = λ text w h. absurd (none-some _ (sym (ap (λ es. lookup (λ k. bytes_eq (string_bytes text) (string_bytes k)) es) texts) ∙ h.1));
-  all = λ w c. absurd (has_none w c);
+  all = λ w c. absurd (not_in_none c);
 }
 
 module _ (t : Table) (ns : List Node) (ws : List LeafWay) (way : LeafWay) (before after : ValueIndex) (was : IsIndex t ns ws before) where
@@ -190,7 +188,7 @@ narrowed t ns ws index s key own found few is_key is_own at is h = record {
       Contains-append_right index.others.items (found_ways found) w (subst (λ o. Contains (found_ways o) w) (sym met) k.1.2)) (h.all w c));
 } where
   of_found : (o : Option (SmallVec LeafWay)) (w : LeafWay) → get_by_text index.by_text (string_bytes own) ≡ o → Contains (found_ways o) w → Contains ws w
-  of_found None w e c = absurd (has_none w c)
+  of_found None w e c = absurd (not_in_none c)
   of_found (Some vs) w e c = h.kept own w (vs, e, c)
 
 -- all ways
@@ -209,7 +207,7 @@ module _ (f : ℕ → Simple ℕ) where
   numbered_way (v ∷ ws) w (there a) = let h = numbered_way ws w a in (h.0, Contains-append_right (v ∷ []) ws h.0 h.1, h.2)
 
   way_there : (ws : List LeafWay) (v : LeafWay) → Contains ws v → Among (way_by f v) (ways_by f ws)
-  way_there [] v c = absurd (has_none v c)
+  way_there [] v c = absurd (not_in_none c)
   way_there (w ∷ ws) v c = ⊎_elim (λ a. subst (λ u. Among (way_by f u) (ways_by f (w ∷ ws))) (only a) here) (λ b. there (way_there ws v b))
       (Contains-append_cases (w ∷ []) ws v c) where
         only : Contains (w ∷ []) v → w ≡ v
@@ -218,7 +216,7 @@ module _ (f : ℕ → Simple ℕ) where
 
   module _ (P Q : Simple ℕ → Type 0) where
     each_at : (ws : List LeafWay) → EachWay P Q (ways_by f ws) → (v : LeafWay) → Contains ws v → P (f v.leaf.0) × Q (f v.rest.0)
-    each_at [] each v c = absurd (has_none v c)
+    each_at [] each v c = absurd (not_in_none c)
     each_at (w ∷ ws) each v c = ⊎_elim (λ a. let T : LeafWay → Type 0 = λ u. P (f u.leaf.0) × Q (f u.rest.0) in subst T (only a) each.0)
         (λ b. each_at ws each.1 v b) (Contains-append_cases (w ∷ []) ws v c) where
           only : Contains (w ∷ []) v → w ≡ v

@@ -3,12 +3,13 @@ use Rattle.std.proofs.Common.{Bor, ◌≡◌, ◌∙◌, ◌||◌, inl, inr, ℕ
 use Rattle.std.proofs.Common.{Bool, true, false, Option, Some, None, Contains}
 use Rattle.std.specs.Prelude.{IfSome}
 use Rattle.std.proofs.lemmas.List.Elements.{Contains-append_cases, Contains-append_left, Contains-append_right, Contains-get_or}
+use Rattle.std.proofs.lemmas.Bool.{or_left, or_right, or_cases}
+use Rattle.rng_model.proofs.Members.{not_in_none}
 use Rattle.rng_model.specs.simple.Tree.{Simple, s_not_allowed}
 use Rattle.rng_model.specs.matching.Document.{Attribute, Item, a_text, no_texts, text_and}
 use Rattle.rng_model.specs.matching.GrammarReading.{reading_of}
 use Rattle.rng_model.specs.simple.Table.{Table}
 use Rattle.rng_deriv_laws.specs.plain.Blanks.{strings_alone}
-use Rattle.rng_deriv_laws.proofs.ListFacts.{either_left, either_right, in_either}
 use Rattle.rng_deriv_laws.specs.plain.Restricted.{IsRestricted}
 use Rattle.rng_deriv_laws.specs.plain.Taking.{Takes}
 use Rattle.rng_deriv_table.specs.plain.Reduced.{HasAlternative}
@@ -37,9 +38,6 @@ if_some None P Q f h = tt
 
 has_one : (m : PatternNumber) → Contains (m ∷ []) m
 has_one m = Contains-get_or (m ∷ []) 0 m (omega arith)
-
-has_none : (m : PatternNumber) → Contains [] m → ⊥
-has_none m (i, h, e) = omega (arith, h)
 
 has_first : (m n : PatternNumber) → Contains (m ∷ n ∷ []) m
 has_first m n = Contains-append_left (m ∷ []) (n ∷ []) m (has_one m)
@@ -130,7 +128,7 @@ module _ (t : Table) (ns : List Node) (first : First) (number : PatternNumber) w
     law = λ o. those_same (reading_of t) first (tree_of t ns number.0) _ _ (λ xs ks.
         let f = some.takes (all.kept o) xs ks in (
           λ h. absurd (takes_nothing (subst (λ p. Takes (reading_of t) p xs ks) is h)),
-          λ h. let d = f.1 h in absurd (has_none d.0 d.1),
+          λ h. let d = f.1 h in absurd (not_in_none d.1),
         )) (all.law o);
     kept = λ o. subst (Obeys (place_of first)) (sym is) (Obeys-hereditary (place_of first)).of_not_allowed;
   }
@@ -156,13 +154,13 @@ module _ (t : Table) (ns : List Node) (s : Bor (List ℕ)) (number : PatternNumb
       let Own : PatternNumber → Type 0 = λ m. Takes (reading_of t) (tree_of t ns m.0) [] [] in
       let law = all.law o [] (strings_alone (text_and no_texts)) in
       let f = some.takes (all.kept o) [] [] in (
-        λ e. law.0 (f.0 (elim (in_either a b (sym is ∙ e)) [
+        λ e. law.0 (f.0 (elim (or_cases a b (sym is ∙ e)) [
           | inl h ↦ (rest, has_first rest other, first.0 h)
           | inr h ↦ (other, has_second rest other, second.0 h)
         ])),
         λ d. let m = f.1 (law.1 d) in is ∙ elim (Contains-append_cases (rest ∷ []) (other ∷ []) m.0 m.1) [
-          | inl h ↦ either_left a b (first.1 (subst Own (sym (only_one rest m.0 h)) m.2))
-          | inr h ↦ either_right a b (second.1 (subst Own (sym (only_one other m.0 h)) m.2))
+          | inl h ↦ or_left a b (first.1 (subst Own (sym (only_one rest m.0 h)) m.2))
+          | inr h ↦ or_right a b (second.1 (subst Own (sym (only_one other m.0 h)) m.2))
         ],
       )
 
@@ -171,4 +169,4 @@ module _ (t : Table) (ns : List Node) (s : Bor (List ℕ)) (number : PatternNumb
   nothing_told (ws, all, some) o =
       let law = all.law o [] (strings_alone (text_and no_texts)) in
       let f = some.takes (all.kept o) [] [] in
-      (λ e. absurd (cc), λ d. let m = f.1 (law.1 d) in absurd (has_none m.0 m.1))
+      (λ e. absurd (cc), λ d. let m = f.1 (law.1 d) in absurd (not_in_none m.1))

@@ -1,7 +1,8 @@
 -- Ways that can be left out because of others, way by way.
-use Rattle.std.proofs.Common.{inl, inr, ⊎_elim, List, [], ◌∷◌, ◌++◌, refl, sym, ap, subst, arith}
+use Rattle.std.proofs.Common.{inl, inr, ⊎_elim, List, [], ◌∷◌, ◌++◌, refl, sym, ap, subst}
 use Rattle.std.specs.List.{Contains}
 use Rattle.std.proofs.lemmas.List.Elements.{Contains-append_left, Contains-push, Contains-push_cases}
+use Rattle.rng_model.proofs.Members.{not_in_none}
 use Rattle.rng_model.specs.simple.Table.{Table}
 use Rattle.rng_model.specs.matching.Reading.{Reading}
 use Rattle.rng_deriv_laws.specs.plain.Taking.{Takes}
@@ -11,9 +12,6 @@ use Rattle.rng_deriv_table.specs.declared.pattern.PatternNumber.{PatternNumber}
 use Rattle.rng_deriv_ways.specs.plain.FewerWays.{AreRepeated, AreUncovered, HasOptionalRest, IsCovered, IsOptional}
 use Rattle.rng_deriv_ways.specs.declared.way.LeafWay.{LeafWay}
 use Rattle.rng_deriv_ways.proofs.JoinedWays.{way_to}
-
-none_there : {A : Type 0} (x : A) → Contains [] x → ⊥
-none_there x c = let k = c.1 in omega (arith, k)
 
 module _ (ns : List Node) where
   -- ---- one more way
@@ -28,7 +26,7 @@ module _ (ns : List Node) where
   -- ---- copies
 
   pub none_repeated : (more : PatternNumber) → AreRepeated ns [] more []
-  none_repeated more = record { within = λ w c. absurd (none_there w c); each = λ w c. absurd (none_there w c) }
+  none_repeated more = record { within = λ w c. absurd (not_in_none c); each = λ w c. absurd (not_in_none c) }
 
   pub one_repeated : (copies : List LeafWay) (copy : LeafWay) (more : PatternNumber) (all : List LeafWay) → IsOptional ns copy.rest
       → AreRepeated ns copies more all → AreRepeated ns (copies ++ copy ∷ []) more (all ++ way_to copy.leaf more ∷ [])

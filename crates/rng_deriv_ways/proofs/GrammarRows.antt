@@ -1,9 +1,8 @@
 -- The reading of a grammar, in terms of its rows.
-use Rattle.std.proofs.Common.{◌≡◌, ℕ, ap, ◌∙◌, Bool, false, slice_get, Some, None}
+use Rattle.std.proofs.Common.{◌≡◌, ℕ, ap, ◌∙◌, false, slice_get, Some, None}
 use Rattle.std.specs.Option.{option_map}
-use Rattle.std.specs.Bool.{Decides, one_answer}
 use Rattle.std.proofs.lemmas.Option.{slice_get-map}
-use Rattle.rng_model.specs.names.Names.{Name, In}
+use Rattle.rng_model.specs.names.Names.{Name}
 use Rattle.rng_model.specs.names.Names as names
 use Rattle.rng_model.specs.simple.Tree.{Simple}
 use Rattle.rng_model.specs.simple.Table.{Table, tree_at}
@@ -11,13 +10,8 @@ use Rattle.rng_model.specs.names.NameViews.{class_of}
 use Rattle.rng_model.specs.declared.name.NameClass.{NameClass}
 use Rattle.rng_model.specs.declared.simple.PatternId.{PatternId}
 use Rattle.rng_names.specs.plain.Holding.{holds}
-use Rattle.rng_names.proofs.Holding.{holds-Decides}
 use Rattle.rng_deriv_laws.specs.plain.Reading.{body_in, body_of, has_name, named_in}
 use Rattle.rng_model.specs.matching.GrammarReading.{reading_of}
-
--- a test that decides membership is the one of the class
-pub decides_holds : (b : Bool) (c : names.NameClass) (q : Name) → Decides b (In c q) → b ≡ holds c q
-decides_holds b c q d = one_answer b (holds c q) d (holds-Decides c q)
 
 module _ (t : Table) (k : ℕ) where
   seen : NameClass × PatternId → names.NameClass × Simple ℕ

@@ -2,10 +2,10 @@
 use Rattle.std.proofs.Common.{◌≡◌, ◌∙◌, ◌+◌, ◌<◌, ℕ, List, Option, Some, None, ⊎_elim, slice_get, refl, sym, ap, subst, arith}
 use Rattle.std.proofs.lemmas.Bool.{cases_lt}
 use Rattle.std.proofs.lemmas.Option.{slice_get_within, same_Some}
+use Rattle.rng_model.proofs.Places.{ends_before}
 use Rattle.rng_model.specs.simple.Table.{Table}
 use Rattle.rng_model.specs.datatypes.Datatypes.{known_allows, known_equates}
 use Rattle.rng_model.specs.declared.simple.Simple.{Simple}
-use Rattle.rng_deriv_table.proofs.Taking.{past_end}
 use Rattle.rng_deriv_ways.specs.views.Datatypes.{AreDatatypesOf, position_count, meaning_at, meaning_named_by}
 use Rattle.rng_deriv_ways.specs.declared.datatypes.Datatypes.{Datatypes}
 
@@ -20,7 +20,7 @@ module _ (t : Table) (datatypes : Datatypes) where
   pub all_kept : (n : ℕ) → slice_get t.patterns n ≡ None → AreKeptBelow n → AreDatatypesOf t datatypes
   all_kept n end below = λ k row at.
       let inside = slice_get_within t.patterns k row at in
-      let past = past_end t.patterns n end in
+      let past = ends_before t.patterns n end in
       below.kept k row (omega (arith, inside, past)) at
 
   module _ (all : AreDatatypesOf t datatypes) (k : ℕ) (row : Simple) (at : slice_get t.patterns k ≡ Some row) (s : List ℕ) where

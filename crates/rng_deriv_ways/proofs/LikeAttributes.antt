@@ -6,6 +6,7 @@ use Rattle.std.proofs.Common.{Option, Some, None, refl, sym, ap, ap₂, subst, s
 use Rattle.std.specs.Borrow.{Bor}
 use Rattle.std.proofs.lemmas.Bool.{cases_lt}
 use Rattle.std.proofs.lemmas.List.Elements.{All-append, All-cons, All-nil}
+use Rattle.rng_model.proofs.Truths.{same_truth}
 use Rattle.rng_names.specs.plain.Keys.{Keys, KeysServe, key_of, name_at}
 use Rattle.rng_names.specs.plain.Keys as keyed
 use Rattle.rng_model.specs.matching.Document.{Attribute, Item, Interleaves, SharesName}
@@ -252,12 +253,6 @@ module _ (q r : Name) where
       by (neither a b f) = ap (holds c) f
 
 -- ---- names with the same key
-
-same_truth : (a b : Bool) → (a ≡ true → b ≡ true) → (b ≡ true → a ≡ true) → a ≡ b
-same_truth true true f g = refl
-same_truth true false f g = sym (f refl)
-same_truth false true f g = g refl
-same_truth false false f g = refl
 
 module _ (tb : Table) (keys : Keys) (serve : KeysServe tb keys) (q r : Name) (alike : key_of keys q ≡ key_of keys r) where
   class_alike : (c : NameClass) → keyed.IsClassOf tb c → holds c q ≡ holds c r

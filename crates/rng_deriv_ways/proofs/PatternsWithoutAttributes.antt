@@ -1,6 +1,7 @@
 -- Patterns without attributes, and what is left after all attributes of a tag are taken.
-use Rattle.std.proofs.Common.{◌≡◌, ℕ, ◌<◌, ◌↔◌, ⊎_elim, List, [], ◌∷◌, ◌++◌, length, map, get_or, zero, suc, refl, sym, subst, arith, Bool, true, false, ◌||◌}
+use Rattle.std.proofs.Common.{◌≡◌, ℕ, ◌<◌, ◌↔◌, ⊎_elim, List, [], ◌∷◌, ◌++◌, length, map, get_or, zero, suc, sym, subst, arith, false}
 use Rattle.std.proofs.lemmas.List.Elements.{Contains-get_or, Contains-append_left, Contains-append_right, Contains-append_cases}
+use Rattle.rng_deriv_laws.proofs.AnyTexts.{not_first, not_second}
 use Rattle.rng_model.specs.matching.Document.{Attribute, Item}
 use Rattle.rng_model.specs.simple.Tree.{Simple, choice, group, interleave, s_not_allowed, s_empty, s_text, s_leaf, s_attribute, s_list, s_data, s_data_except}
 use Rattle.rng_model.specs.simple.Tree.{s_value, s_one_or_more, s_joined}
@@ -23,14 +24,6 @@ use Rattle.rng_deriv_ways.specs.plain.Closing.{IsBareOfAttributes}
 
 -- ---- a pattern without attributes requires none
 
-or_left : (a b : Bool) → a || b ≡ false → a ≡ false
-or_left true b e = absurd (cc)
-or_left false b e = refl
-
-or_right : (a b : Bool) → a || b ≡ false → b ≡ false
-or_right true b e = absurd (cc)
-or_right false b e = e
-
 module _ (g : Reading) where
   pub closed_same : (p : Simple ℕ) → has_attribute p ≡ false → Same g p (closed p)
   closed_same s_not_allowed e = same g s_not_allowed
@@ -45,16 +38,16 @@ module _ (g : Reading) where
   closed_same (s_one_or_more p) e =
       same_through g (same_repeat g (closed_same p e)) (same_back g (repeat_of-same g (closed p)))
   closed_same (s_joined choice p q) e =
-      same_through g (same_choice g (closed_same p (or_left (has_attribute p) (has_attribute q) e))
-      (closed_same q (or_right (has_attribute p) (has_attribute q) e)))
+      same_through g (same_choice g (closed_same p (not_first (has_attribute p) (has_attribute q) e))
+      (closed_same q (not_second (has_attribute p) (has_attribute q) e)))
       (same_back g (choice_of-same g (closed p) (closed q)))
   closed_same (s_joined group p q) e =
-      same_through g (same_group g (closed_same p (or_left (has_attribute p) (has_attribute q) e))
-      (closed_same q (or_right (has_attribute p) (has_attribute q) e)))
+      same_through g (same_group g (closed_same p (not_first (has_attribute p) (has_attribute q) e))
+      (closed_same q (not_second (has_attribute p) (has_attribute q) e)))
       (same_back g (group_of-same g (closed p) (closed q)))
   closed_same (s_joined interleave p q) e =
-      same_through g (same_interleave g (closed_same p (or_left (has_attribute p) (has_attribute q) e))
-      (closed_same q (or_right (has_attribute p) (has_attribute q) e)))
+      same_through g (same_interleave g (closed_same p (not_first (has_attribute p) (has_attribute q) e))
+      (closed_same q (not_second (has_attribute p) (has_attribute q) e)))
       (same_back g (interleave_of-same g (closed p) (closed q)))
 
   -- ---- parts
@@ -155,9 +148,9 @@ none_there (s_data_except d p) e o = excepted_none p o
 none_there (s_value d v) e o = tt
 none_there (s_one_or_more p) e o = none_there p e o
 none_there (s_joined k p q) e o = (
-  none_there p (or_left (has_attribute p) (has_attribute q) e) o.0,
+  none_there p (not_first (has_attribute p) (has_attribute q) e) o.0,
   none_there q
-      (or_right (has_attribute p) (has_attribute q) e) o.1,
+      (not_second (has_attribute p) (has_attribute q) e) o.1,
 )
 
 pub bare_there : (p : Simple ℕ) → has_attribute p ≡ false → HasTexts MayBeListed p → IsBareOfAttributes p

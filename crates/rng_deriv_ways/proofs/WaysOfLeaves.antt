@@ -1,5 +1,6 @@
 -- Leaves: those that may take something of a kind, and their ways.
-use Rattle.std.proofs.Common.{◌≡◌, ℕ, List, [], ◌∷◌, refl, sym, ◌∙◌, subst, Bool, true, false}
+use Rattle.std.proofs.Common.{◌≡◌, ℕ, List, [], ◌∷◌, refl, subst, true, false}
+use Rattle.rng_model.proofs.Truths.{not_both}
 use Rattle.rng_model.specs.names.Names.{Name}
 use Rattle.rng_model.specs.simple.Tree.{Simple, s_not_allowed, s_empty, s_text, s_leaf, s_attribute, s_list, s_data, s_data_except}
 use Rattle.rng_model.specs.simple.Tree.{s_value, s_one_or_more, s_joined}
@@ -112,23 +113,20 @@ module _ (g : Reading) where
       → AreAttributeWays g Kind p []
   no_attributes Kind p none = record { to = λ a xs ns kind d. absurd (none a xs ns kind d); back = λ a xs ns u h. absurd h }
 
-  both_ways : {b : Bool} → b ≡ true → b ≡ false → ⊥
-  both_ways d e = let f : true ≡ false = sym d ∙ e in cc
-
   other_name : (q : Name) (k : ℕ) → has_name g k q ≡ false → (n : Item) (ns : List Item) → IsElementNamed q n → IsBare (n ∷ ns)
       → Takes g (s_leaf k) [] (n ∷ ns) → ⊥
-  other_name q k e n ns kind bare (t.element_is i w document.alone) = both_ways (subst (λ r. has_name g k r ≡ true) kind i) e
+  other_name q k e n ns kind bare (t.element_is i w document.alone) = not_both (subst (λ r. has_name g k r ≡ true) kind i) e
   other_name q k e n ns kind bare (t.element_is i w (document.before b)) = absurd kind
-  other_name q k e n ns kind bare (t.element_is i w (document.after b)) = both_ways (subst (λ r. has_name g k r ≡ true) kind i) e
+  other_name q k e n ns kind bare (t.element_is i w (document.after b)) = not_both (subst (λ r. has_name g k r ≡ true) kind i) e
   other_name q k e n ns kind bare (t.element_is i w (document.both_sides b c)) = absurd kind
 
   no_text_leaf : (k : ℕ) (n : Item) (ns : List Item) → IsText n → IsBare (n ∷ ns) → Takes g (s_leaf k) [] (n ∷ ns) → ⊥
   no_text_leaf k n ns kind bare (t.element_is i w document.alone) = absurd kind
   no_text_leaf k n ns kind (strings_alone (text_and all)) (t.element_is i w (document.before b)) = elim all [ ]
-  no_text_leaf k n ns kind (no_blanks (cons p all)) (t.element_is i w (document.before {s = s} b)) = both_ways b p
+  no_text_leaf k n ns kind (no_blanks (cons p all)) (t.element_is i w (document.before {s = s} b)) = not_both b p
   no_text_leaf k n ns kind bare (t.element_is i w (document.after b)) = absurd kind
   no_text_leaf k n ns kind (strings_alone (text_and all)) (t.element_is i w (document.both_sides b c)) = elim all [ ]
-  no_text_leaf k n ns kind (no_blanks (cons p all)) (t.element_is i w (document.both_sides {s = s} b c)) = both_ways b p
+  no_text_leaf k n ns kind (no_blanks (cons p all)) (t.element_is i w (document.both_sides {s = s} b c)) = not_both b p
 
   no_element_text : (q : Name) (n : Item) (ns : List Item) → IsElementNamed q n → Takes g s_text [] (n ∷ ns) → ⊥
   no_element_text q n ns kind (t.text_is (text_and all)) = absurd kind
@@ -147,7 +145,7 @@ module _ (g : Reading) where
 
   other_attribute : (q : Name) (c : _) (p : Simple ℕ) → holds c q ≡ false → (a : Attribute) (xs : List Attribute) (ns : List Item) → IsNamed q a
       → Takes g (s_attribute c p) (a ∷ xs) ns → ⊥
-  other_attribute q c p e a xs ns kind (t.attribute_is i w) = both_ways (subst (λ r. holds c r ≡ true) kind i) e
+  other_attribute q c p e a xs ns kind (t.attribute_is i w) = not_both (subst (λ r. holds c r ≡ true) kind i) e
 
   pub no_law : (kind : Kind) (p : Simple ℕ) → IsAlone p → takes_kind g kind p ≡ false → AreWays g kind p []
   no_law (kinds.Element q) s_not_allowed h e = no_items _ s_not_allowed (λ n ns kind bare d. elim d [ ])

@@ -1,7 +1,7 @@
 -- Includes that break clause 10, and those that do not.
 use Rattle.std.proofs.Common.{◌≡◌, refl, sym, subst, ap, ◌∙◌, ℕ, ◌+◌, ◌<◌, ◌≤◌, List, [], ◌∷◌, ◌++◌, length, map, take, drop, get_or, Bool, true, false}
 use Rattle.std.proofs.Common.{Option, Some, None, option_map, String, string_bytes, ◌↔◌}
-use Rattle.std.proofs.Common.{inl, inr, arith, Bor}
+use Rattle.std.proofs.Common.{inl, inr, Bor}
 use Rattle.std.specs.Bool.{IsTrue, IsFalse}
 use Rattle.std.specs.Option.{option_copied}
 use Rattle.std.specs.Global.{Global}
@@ -10,6 +10,7 @@ use Rattle.std.specs.Prelude.{not}
 use Rattle.std.specs.Str.{bytes_eq}
 use Rattle.std.proofs.lemmas.List.{map_more, take-append-drop, map-append, take_all}
 use Rattle.std.proofs.lemmas.Option.{same_Some, none-some}
+use Rattle.rng_model.proofs.Members.{among_mapped}
 use Rattle.rng_model.specs.names.Lists.{Among, here}
 use Rattle.rnc_grammar.specs.declared.file_tree.FileTree as declared
 use Rattle.rnc_model.specs.declarations.FileTree as tree
@@ -19,7 +20,7 @@ use Rattle.rnc_model.specs.loading.Loading.{TakenFiles, tree_in, BreaksInclude, 
 use Rattle.rnc_model.specs.loading.GrammarNames.{HasName}
 use Rattle.rnc_model.specs.loading.SchemaFile.{Name}
 use Rattle.rng_load.proofs.MentionedNames.{tree_found}
-use Rattle.rng_load.proofs.NameLists.{in_none, in_left, in_right, in_more, in_map, from_map}
+use Rattle.rng_load.proofs.NameLists.{in_none, in_left, in_right, in_more, from_map}
 use Rattle.rng_load.proofs.ReadInOrder.{entries_of}
 
 no_truth : IsTrue false → ⊥
@@ -68,10 +69,6 @@ pub found_at : (es : List (String Global × declared.FileTree)) (f h : Name) (o 
     → tree_in (map (λ e. (string_bytes e.0, file_of e.1)) es) h ≡ option_map file_of o
 found_at es f h o e same = ap (tree_in (map (λ e. (string_bytes e.0, file_of e.1)) es)) (sym same) ∙ tree_found es f ∙ ap (option_map file_of) (sym e)
 
-pub none_long : {A : Type 0} (xs : List A) → length xs ≡ 0 → xs ≡ []
-none_long [] e = refl
-none_long (x ∷ xs) e = absurd (omega (arith, e))
-
 -- ---- one of many
 
 module _ {A : Type 0} (P : A → Type 0) where
@@ -118,7 +115,7 @@ module _ (es : List (String Global × declared.FileTree)) where
     of_a_tree o = let f = from_map second_of (entries_of es) (subst (Among o.0) (sym trees_are) o.1) in (f.0, f.1, subst P f.2 o.2)
 
     pub of_a_file : (file : Name × FileTree) × Among file (entries_of es) × P file.1 → OneOf P (map file_of (values_of es))
-    of_a_file f = (f.0.1, subst (Among f.0.1) trees_are (in_map second_of f.1), f.2)
+    of_a_file f = (f.0.1, subst (Among f.0.1) trees_are (among_mapped second_of f.1), f.2)
 
 -- the tree that a map returns for the name of a file
 pub tree_of_name : (es : List (String Global × declared.FileTree)) (f : Name) (o : Option (Bor declared.FileTree)) → option_copied o ≡ lookup

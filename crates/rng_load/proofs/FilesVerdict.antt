@@ -6,10 +6,10 @@ use Rattle.rnc_model.specs.loading.Loading.{together_break, are_taken, FilesHave
 use Rattle.rng_load.specs.views.LoadingFaults.{IsTheReading}
 use Rattle.rnc_model.specs.loading.SchemaFile.{Name, NamedFile}
 
-same_files : {r s : TakenFiles} → are_taken r ≡ are_taken s → r ≡ s
+pub same_files : {r s : TakenFiles} → are_taken r ≡ are_taken s → r ≡ s
 same_files e = cc
 
-file_or_all : {f : Name} {k : ℕ} {r : TakenFiles} → file_breaks f k ≡ are_taken r → ⊥
+pub file_or_all : {f : Name} {k : ℕ} {r : TakenFiles} → file_breaks f k ≡ are_taken r → ⊥
 file_or_all e = cc
 
 all_or_file : {f : Name} {k : ℕ} {r : TakenFiles} → are_taken r ≡ file_breaks f k → ⊥

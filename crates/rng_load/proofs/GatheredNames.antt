@@ -15,6 +15,7 @@ use Rattle.rnc_grammar.specs.views.View.{file_of}
 use Rattle.rnc_model.specs.loading.Mentions.{MentionedFile, mention_of, mentions_of_component, mentions_of_components}
 use Rattle.std.proofs.lemmas.List.{map-append, take_all, take-append-le, length-map}
 use Rattle.std.proofs.lemmas.Option.{same_Some}
+use Rattle.rng_model.proofs.Places.{ends_before}
 use Rattle.rng_load.specs.plain.ComponentNames.{Names, gather, gather_component, gather_if, HasIt, no_names}
 use Rattle.rnc_model.specs.loading.Loading.{TakenFiles, with_name, tree_in, hrefs_of}
 use Rattle.rnc_model.specs.loading.FileGrammars.{grammar_if, grammar_in}
@@ -25,7 +26,6 @@ use Rattle.rng_load.proofs.NameLists.{any_in, in_any, from_map, false_true, in_c
 use Rattle.rng_load.proofs.TakenFiles.{kept_name, added_name, name_origin, name_grows, name_differs}
 use Rattle.rng_load.proofs.NameSets.{any_seen}
 use Rattle.rng_load.proofs.PlainReading.{grammar_mentions}
-use Rattle.rng_load.proofs.ReadInOrder.{none_at}
 
 abbrev href : MentionedFile → Name
 href m = (mention_of m).href
@@ -334,7 +334,7 @@ module _ (read : TakenFiles) where
       (y : Option Name) → HasIt all y ↔ HasName (tree_in read) y cs
   all_found cs looked all g none y = (g.names y, λ h. all_gathered closed h g.covered) where
     closed : IsClosed all
-    closed f gcs a i = g.closed f gcs (subst (Among f) (sym (take_all looked all.included (none_at all.included looked none))) a) i
+    closed f gcs a i = g.closed f gcs (subst (Among f) (sym (take_all looked all.included (ends_before all.included looked none))) a) i
 
 -- the grammar of a file of the code
 pub grammar_found : (es : List (String Global × declared.FileTree)) (f : Name) (o : Option declared.FileTree) → o ≡ lookup (λ k. bytes_eq f (string_bytes k)) es

@@ -14,7 +14,7 @@ mod CountMarks
 mod PathVerdicts
 mod GatheredNames
 mod BrokenIncludes
-mod FilesVerdict
+pub mod FilesVerdict
 mod PlacesApart
 pub mod OneSchema
 mod OneGrammar

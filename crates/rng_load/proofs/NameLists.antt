@@ -101,10 +101,6 @@ module _ {A : Type 0} where
       ]) in
       omega (arith, w.1, i)
 
-pub in_map : {A B : Type 0} (f : A → B) {x : A} {xs : List A} → Among x xs → Among (f x) (map f xs)
-in_map f here = here
-in_map f (there p) = there (in_map f p)
-
 pub from_map : {A B : Type 0} (f : A → B) {y : B} (xs : List A) → Among y (map f xs) → (x : A) × Among x xs × (y ≡ f x)
 from_map f [] p = absurd (in_none p)
 from_map f (x ∷ xs) p = elim (in_cons p) [ inl e ↦ (x, here, e) | inr q ↦ let r = from_map f xs q in (r.0, there r.1, r.2) ]

@@ -2,11 +2,12 @@
 use Rattle.std.proofs.Common.{◌≡◌, refl, sym, subst, ap, ◌∙◌, ℕ, zero, suc, ◌+◌, ◌<◌, ◌≤◌, arith, inl, inr, Some, None}
 use Rattle.std.proofs.Common.{List, [], ◌∷◌, length, map, slice_get}
 use Rattle.std.proofs.lemmas.Option.{same_Some}
+use Rattle.rng_model.proofs.Members.{among_mapped}
 use Rattle.rng_model.specs.names.Lists.{Among, there, HasTwice}
 use Rattle.rnc_model.specs.loading.MentionPaths.{Path, IsPath, path_ends, path_goes_on, HasMorePathsThan, BreaksMentions, path_limit}
 use Rattle.rnc_model.specs.loading.SchemaFile.{Name}
 use Rattle.rng_load.specs.plain.Counting.{paths, paths_along, Breaks}
-use Rattle.rng_load.proofs.NameLists.{none_twice, in_cons, in_none, in_left, in_right, in_either, in_first, in_map, from_map, no_more}
+use Rattle.rng_load.proofs.NameLists.{none_twice, in_cons, in_none, in_left, in_right, in_either, in_first, from_map, no_more}
 use Rattle.rng_load.proofs.DistinctLists.{differ_cons, differ_append, differ_map}
 
 cons_nil : {i : ℕ} {p : Path} → ◌≡◌ {A = Path} [] (i ∷ p) → ⊥
@@ -23,7 +24,7 @@ module _ (from : Name → List Path) where
   in_along at (x ∷ gs) zero g {p} e h =
       let same : x ≡ g = same_Some _ _ e in
       let first : at ≡ at + 0 = omega arith in
-      let here_too = in_map (λ q. at ∷ q) (subst (λ y. Among p (from y)) (sym same) h) in
+      let here_too = among_mapped (λ q. at ∷ q) (subst (λ y. Among p (from y)) (sym same) h) in
       in_left (subst (λ i. Among (i ∷ p) (map (λ q. at ∷ q) (from x))) first here_too) (paths_along from (at + 1) gs)
   in_along at (x ∷ gs) (suc i) g {p} e h =
       let next : at + 1 + i ≡ at + suc i = omega arith in

@@ -7,11 +7,12 @@ use Rattle.std.proofs.lemmas.Map.Views.{Contains-keys_from_lookup, IsSome-lookup
 use Rattle.std.proofs.lemmas.Slice.Eq.{bytes_eq-Decides}
 use Rattle.rng_model.specs.schema.Patterns.{Place}
 use Rattle.rng_model.specs.schema.Schema.{Component}
-use Rattle.rng_model.specs.names.Lists.{Among, here, there, HasTwice, at_first, later}
+use Rattle.rng_model.specs.names.Lists.{there, HasTwice, at_first, later}
 use Rattle.rng_model.specs.views.SchemaView.{place_of, place_eq}
 use Rattle.rng_model.proofs.SamePlaces.{same_place}
 use Rattle.rng_load.proofs.NameLists.{from_map, none_twice}
-use Rattle.std.specs.List.{AllByRecursion, IsDistinct}
+use Rattle.std.specs.List.{IsDistinct}
+use Rattle.rng_model.proofs.Members.{all_among}
 use Rattle.rng_model.specs.declared.place.Place as declared
 use Rattle.rng_load.specs.views.PlacedGrammars.{PlacedGrammar, PlacedGrammars, grammar_at, grammar_of, schema_with}
 use Rattle.rng_load.specs.plain.SchemaPlaces.{AreItsPlaces}
@@ -32,17 +33,12 @@ places_listed main gs once = record {
   once = once;
 }
 
--- keys of a map have different places
-all_at : {A : Type 0} (P : A → Type 0) {x : A} {xs : List A} → AllByRecursion P xs → Among x xs → P x
-all_at P h here = h.0
-all_at P h (there i) = all_at P h.1 i
-
 pub places_once : (ps : List declared.Place) → IsDistinct place_eq ps → ¬ (HasTwice (map place_of ps))
 unfolding IsDistinct
 places_once [] d t = none_twice t
 places_once (p ∷ ps) d (at_first a) =
     let q = from_map place_of ps a in
-    true≢false (sym ((same_place p q.0).1 q.2) ∙ all_at _ d.0 q.1)
+    true≢false (sym ((same_place p q.0).1 q.2) ∙ all_among _ d.0 q.1)
 places_once (p ∷ ps) d (later t) = places_once ps d.1 t
 
 -- the keys as they are viewed

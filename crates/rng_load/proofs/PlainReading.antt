@@ -3,6 +3,7 @@
 use Rattle.std.proofs.Common.{◌≡◌, refl, sym, subst, ap, ◌∙◌, ℕ, zero, suc, ◌+◌, ◌-◌, ◌<◌, arith, Bool, true, false, cond, not, List, [], ◌∷◌, ◌++◌, filter}
 use Rattle.std.proofs.Common.{inl, inr, Option, Some, None}
 use Rattle.std.specs.Str.{bytes_eq}
+use Rattle.rng_model.proofs.Members.{among_mapped}
 use Rattle.rng_model.specs.names.Lists.{Among, here, there}
 use Rattle.rng_model.specs.schema.Patterns.{Place, Pattern}
 use Rattle.rnc_model.specs.declarations.FileTree as tree
@@ -22,7 +23,7 @@ use Rattle.rng_load.specs.plain.PlainReading.{PatternReader, Gatherer, external_
 use Rattle.rng_load.specs.plain.PlainReading.{read_below, read_at, read_all_at, gather_below, gather_at, IsFollowed, AreFollowed, IsReadable, AreReadable, Serves}
 use Rattle.rng_load.proofs.CountedPaths.{long_breaks}
 use Rattle.rng_load.proofs.PathLists.{breaks_here}
-use Rattle.rng_load.proofs.NameLists.{in_none, in_cons, in_first, in_either, in_left, in_right, in_map}
+use Rattle.rng_load.proofs.NameLists.{in_none, in_cons, in_first, in_either, in_left, in_right}
 
 -- ---- the components of a file that is a grammar
 
@@ -343,7 +344,7 @@ module _ (read : TakenFiles) where
   module _ (closed : AreClosed) (kept : ¬ (BreaksIncludes read)) where
     in_mentions : (f : Name) (t : FileTree) (m : MentionedFile) → tree_in read f ≡ Some t → Among m (mentions_of t)
         → Among (mention_of m).href (hrefs_in read f)
-    in_mentions f t m e i = subst (λ o. Among (mention_of m).href (hrefs_if o)) (sym e) (in_map (λ m. (mention_of m).href) i)
+    in_mentions f t m e i = subst (λ o. Among (mention_of m).href (hrefs_if o)) (sym e) (among_mapped (λ m. (mention_of m).href) i)
 
     serves : (f : Name) (t s : FileTree) (m : MentionedFile) → tree_in read f ≡ Some t → Among m (mentions_of t) → tree_in read (mention_of m).href ≡ Some s
         → Serves (tree_in read) s m

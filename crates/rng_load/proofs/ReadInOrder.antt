@@ -5,6 +5,7 @@ use Rattle.std.specs.Global.{Global}
 use Rattle.std.specs.String.{string_eq}
 use Rattle.indexmap.specs.IndexMap.{insert_entry}
 use Rattle.std.proofs.lemmas.List.{length-append, length-map, map-append}
+use Rattle.rng_model.proofs.Places.{ends_before}
 use Rattle.rng_model.specs.names.Lists.{Among}
 use Rattle.rnc_grammar.specs.declared.file_tree.FileTree as declared
 use Rattle.rnc_grammar.specs.views.View.{file_of}
@@ -32,13 +33,8 @@ name_at [] i e = absurd cc
 name_at (m ∷ ks) zero {k} e = let same : k ≡ m = cc in ap (λ x. Some (string_bytes x)) (sym same)
 name_at (m ∷ ks) (suc i) e = name_at ks i e
 
-pub none_at : {A : Type 0} (xs : List A) (i : ℕ) → slice_get xs i ≡ None → length xs ≤ i
-none_at [] i e = omega arith
-none_at (x ∷ xs) zero e = absurd cc
-none_at (x ∷ xs) (suc i) e = let l = none_at xs i e in omega (arith, l)
-
 pub no_name_left : (ks : List (String Global)) (i : ℕ) → None ≡ slice_get ks i → length (map string_bytes ks) ≤ i
-no_name_left ks i e = let l = none_at ks i (sym e) in omega (arith, l, length-map ks string_bytes)
+no_name_left ks i e = let l = ends_before ks i (sym e) in omega (arith, l, length-map ks string_bytes)
 
 module _ (files : List NamedFile) (main : Name) (es : Entries) (names : List Name) (firm : IsFirm files main (entries_of es) names)
     (name : String Global) (next : slice_get names (length es) ≡ Some (string_bytes name)) where

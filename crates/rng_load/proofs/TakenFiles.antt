@@ -5,6 +5,7 @@ use Rattle.std.proofs.Common.{append-nil, append_assoc, Some, Option, slice_get}
 use Rattle.std.specs.List.{list_any, fold}
 use Rattle.std.specs.Str.{bytes_eq}
 use Rattle.std.proofs.lemmas.List.{length-append, length-map, map-append}
+use Rattle.rng_model.proofs.Members.{among_mapped}
 use Rattle.rng_model.specs.names.Lists.{Among, here, there, HasTwice}
 use Rattle.rnc_model.specs.declarations.FileTree.{FileTree}
 use Rattle.rnc_model.specs.loading.Loading.{TakenFiles, with_name, hrefs_of, IsTaken, none_yet, one_more, AreTaken, IsFirstBroken, FilesVerdict, file_breaks}
@@ -13,7 +14,7 @@ use Rattle.rnc_model.specs.loading.SchemaFile.{Name, NamedFile, HasTree, BreaksO
 use Rattle.rnc_model.specs.loading.FileVerdicts.{breaks, has_tree, FileHasOnlyVerdict}
 use Rattle.rng_load.specs.views.LoadingFaults.{IsReading, IsTheReading}
 use Rattle.rng_load.proofs.NameLists.{false_true, in_none, in_cons, in_left, in_right, in_either, none_twice, twice_or, differ_more, differ_front}
-use Rattle.rng_load.proofs.NameLists.{differ_parts, no_more, in_map, from_map, any_in, in_any}
+use Rattle.rng_load.proofs.NameLists.{differ_parts, no_more, from_map, any_in, in_any}
 
 -- ---- names to which others are added
 
@@ -75,10 +76,6 @@ none_beyond [] i e l = cc
 none_beyond (y ∷ xs) zero e l = omega (arith, l)
 none_beyond (y ∷ xs) (suc i) e l = none_beyond xs i e (omega (arith, l))
 
-at_end : {A : Type 0} (xs : List A) (x : A) → slice_get (xs ++ x ∷ []) (length xs) ≡ Some x
-at_end [] x = refl
-at_end (y ∷ xs) x = at_end xs x
-
 less_or_same : (m n : ℕ) → m ≤ n → (m < n) ⊎ (m ≡ n)
 less_or_same zero zero l = inr refl
 less_or_same zero (suc n) l = inl (omega arith)
@@ -134,7 +131,7 @@ module _ (files : List NamedFile) (main : Name) where
   all_handed_in (one_more {read} {all} {names} {more} {f} {t} taken next tree a m) e b =
       elim (in_either_last read (subst (Among e) a b)) [
         | inl c ↦ all_handed_in taken e c
-        | inr s ↦ subst (λ g. Among g (map (λ x. x.name) files)) (ap first_of (sym s)) (in_map (λ x. x.name) tree.handed_in.there)
+        | inr s ↦ subst (λ g. Among g (map (λ x. x.name) files)) (ap first_of (sym s)) (among_mapped (λ x. x.name) tree.handed_in.there)
       ] where
         in_either_last : {e d : Name × FileTree} (es : TakenFiles) → Among e (es ++ d ∷ []) → Among e es ⊎ (e ≡ d)
         in_either_last [] a = elim (in_cons a) [ inl s ↦ inr s | inr n ↦ absurd (in_none n) ]

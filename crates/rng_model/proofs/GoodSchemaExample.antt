@@ -4,6 +4,7 @@ use Rattle.std.proofs.Common.{◌≡◌, refl, sym, subst, ap, ◌∙◌, ◌⊎
 use Rattle.std.proofs.Common.{Contains, zero, Bool, true, false, true≢false}
 use Rattle.std.proofs.lemmas.List.Elements.{All-nil, All-cons, All-contains, Contains-push}
 use Rattle.std.proofs.lemmas.Option.{same_Some}
+use Rattle.rng_model.proofs.Places.{among_at}
 use Rattle.rng_model.specs.names.Lists.{Among, here, there, HasTwo, first_and, both_later}
 use Rattle.rng_model.specs.names.Names.{Name, NameClass, name_is}
 use Rattle.rng_model.specs.simple.Tree as tree
@@ -317,10 +318,6 @@ nothing_of f (s_value d v) e = cc
 nothing_of f (s_one_or_more p) e = cc
 nothing_of f (s_joined k p q) e = cc
 
-its_number : {A : Type 0} {x : A} {xs : List A} → Among x xs → (k : ℕ) × (slice_get xs k ≡ Some x)
-its_number here = (0, refl)
-its_number (there i) = let k = its_number i in (suc k.0, k.1)
-
 module _ {g : Grammar} (is : IsSimpleGrammarOf good g) where
   bare_start : IsBare g.start
   bare_start = leaf_of is.2.element g.start (sym is.2.start ∙ simple_start_is (one_start is.1.is_tree) is.1.start)
@@ -330,7 +327,7 @@ module _ {g : Grammar} (is : IsSimpleGrammarOf good g) where
 
   bare_body : {c : NameClass} {body : Simple ℕ} → Among (c, body) g.elements → body ≡ s_not_allowed
   bare_body {c} {body} i =
-      let k = its_number i in
+      let k = among_at i in
       let e : Element = record { name = is.2.element k.0; class = c; body = renamed is.2.element (as_tree body) } in
       nothing_of is.2.element body (bare_element e (All-contains (IsElementOf good) is.0.elements e is.1.elements (is.2.bodies k.0 c body k.1).0))
 

@@ -1,22 +1,17 @@
 -- Distinct places have distinct numbers, so places serve as the keys of a map.
-use Rattle.std.proofs.Common.{◌≡◌, ◌↔◌, ℕ, Bool, true, false, cond, List, [], ◌∷◌, reverse, map, Option, Some, option_map, refl, sym, ap, ap₂, ◌∙◌, true≢false}
+use Rattle.std.proofs.Common.{◌≡◌, ◌↔◌, ℕ, Bool, true, false, cond, List, [], ◌∷◌, reverse, map, Option, Some, option_map, refl, sym, ap, ap₂, ◌∙◌}
 use Rattle.std.specs.Map.{lookup}
 use Rattle.std.specs.Str.{bytes_eq}
 use Rattle.std.specs.Cmp.Lexicographic.{bytes_decides}
 use Rattle.std.proofs.lemmas.List.{reverse-reverse}
+use Rattle.rng_model.proofs.Truths.{same_truth}
 use Rattle.rng_model.specs.declared.place.Place.{Place}
 use Rattle.rng_model.specs.views.PlaceViews.{numbers_of}
 use Rattle.rng_model.specs.views.SchemaView.{place_of, place_eq, by_place}
 
--- two tests that imply each other have the same result
-same_answer : (a b : Bool) → (a ≡ true → b ≡ true) → (b ≡ true → a ≡ true) → a ≡ b
-same_answer true b f g = sym (f refl)
-same_answer false true f g = absurd (true≢false (sym (g refl)))
-same_answer false false f g = refl
-
 -- numbers from the outermost are equal exactly if those from the innermost are
 same_reversed : (a b : List ℕ) → bytes_eq a b ≡ bytes_eq (reverse a) (reverse b)
-same_reversed a b = same_answer _ _ (λ e. (bytes_decides (reverse a) (reverse b)).1 (ap reverse ((bytes_decides a b).0 e)))
+same_reversed a b = same_truth _ _ (λ e. (bytes_decides (reverse a) (reverse b)).1 (ap reverse ((bytes_decides a b).0 e)))
     (λ e. (bytes_decides a b).1 (sym (reverse-reverse a) ∙ ap reverse ((bytes_decides (reverse a) (reverse b)).0 e) ∙ reverse-reverse b))
 
 -- `==` compares the numbers

@@ -1,10 +1,15 @@
 -- The laws of values: texts that are equal are allowed, and equality on allowed texts is an equivalence.
-use Rattle.std.proofs.Common.{◌≡◌, ℕ, List, Bool, true, false, Option, Some, None, is_some, refl, sym, ap, ◌∙◌, rules}
+use Rattle.std.proofs.Common.{◌≡◌, ℕ, List, Bool, true, false, Option, Some, None, is_some, IsTrue, refl, sym, ap, ◌∙◌, rules}
 use Rattle.std.specs.Bool.{beq}
 use Rattle.std.proofs.lemmas.Slice.Eq.{bytes_eq-Decides}
 use Rattle.std.proofs.lemmas.Bool.Decides.{Decides-int_eq}
 use Rattle.rng_model.specs.datatypes.Values.{Value, text, truth, number, same_value, are_equal}
-use Rattle.rng_model.specs.datatypes.Datatypes.{Meaning, is_allowed_by, are_equal_by}
+use Rattle.rng_model.specs.datatypes.Datatypes.{Meaning, is_allowed_by, are_equal_by, known_allows}
+
+-- what allows a text is known
+pub known_if_allowed : (o : Option Meaning) (v : List ℕ) → IsTrue (known_allows o v) → IsTrue (is_some o)
+known_if_allowed None v allowed = allowed
+known_if_allowed (Some meaning) v allowed = refl
 
 same_truth : (a b : Bool) → beq a b ≡ true → a ≡ b
 same_truth true true e = refl

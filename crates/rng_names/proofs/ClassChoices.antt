@@ -3,13 +3,10 @@ use Rattle.std.proofs.Common.{◌≡◌, ℕ, ◌<◌, ◌≤◌, max, List, [],
 use Rattle.std.specs.List.{list_any}
 use Rattle.std.proofs.lemmas.List.{take_all}
 use Rattle.std.proofs.lemmas.List.Folds.{list_any_at, list_any_more}
+use Rattle.rng_model.proofs.Truths.{or_false_is}
 use Rattle.rng_model.specs.names.Names.{Name, NameClass, classes_of, some_of}
 use Rattle.rng_names.specs.plain.Holding.{holds, some_hold}
 use Rattle.rng_names.specs.plain.Written.{is_met, is_some_met, longest, longest_of}
-
-or-false : (b : Bool) → b ≡ (b || false)
-or-false true = refl
-or-false false = refl
 
 -- ---- a test over a list
 
@@ -35,7 +32,7 @@ module _ {A : Type 0} where
 
   pub holds-members : (f : A → NameClass) (xs : List A) (q : Name) → holds (some_of (map f xs)) q ≡ list_any (λ x. holds (f x) q) xs
   holds-members f [] q = refl
-  holds-members f (x ∷ []) q = or-false (holds (f x) q)
+  holds-members f (x ∷ []) q = or_false_is (holds (f x) q)
   holds-members f (x ∷ (y ∷ xs)) q = ap (λ b. holds (f x) q || (holds (f y) q || b)) (some_hold-members f xs q)
 
   -- ---- a test passes for what is written in a choice if it does for a member
@@ -48,7 +45,7 @@ module _ {A : Type 0} where
   pub met-members : (f : A → NameClass) (xs : List A) (test : Name → Bool) (fresh : List ℕ)
       → is_met test fresh (some_of (map f xs)) ≡ list_any (λ x. is_met test fresh (f x)) xs
   met-members f [] test fresh = refl
-  met-members f (x ∷ []) test fresh = or-false (is_met test fresh (f x))
+  met-members f (x ∷ []) test fresh = or_false_is (is_met test fresh (f x))
   met-members f (x ∷ (y ∷ xs)) test fresh = ap (λ b. is_met test fresh (f x) || (is_met test fresh (f y) || b)) (some_met-members f xs test fresh)
 
   -- ---- the longest text of a choice is the longest of its members

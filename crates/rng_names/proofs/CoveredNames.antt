@@ -1,11 +1,12 @@
 -- The namespaces of the names of a class.
 use Rattle.std.proofs.Common.{◌≡◌, refl, sym, ap, ap₂, ◌∙◌, ℕ, ◌+◌, ◌<◌, ◌≤◌, List, [], ◌∷◌, length, take, get_or, map, Bool, true, false, ◌||◌, cond}
-use Rattle.std.proofs.Common.{bytes_eq, Bor, rules}
+use Rattle.std.proofs.Common.{bytes_eq, Bor}
 use Rattle.std.specs.List.{list_any}
 use Rattle.std.proofs.lemmas.List.{take_all}
 use Rattle.std.proofs.lemmas.List.Folds.{list_any_more}
 use Rattle.std.proofs.lemmas.Slice.Eq.{bytes_eq-Decides}
 use Rattle.std.proofs.lemmas.Bool.{or_parts}
+use Rattle.rng_model.proofs.Truths.{not_both}
 use Rattle.rng_model.specs.names.Names.{Name, NameClass, some_of}
 use Rattle.rng_model.specs.plain.ClassesApart.{AreApart}
 use Rattle.rng_names.specs.plain.Holding.{holds}
@@ -58,16 +59,10 @@ listed_apart keys (k ∷ others) u none e =
       by true f =
           let here : is_listed keys k.now ≡ false = (or_parts (is_listed keys k.now) _ none).0 in
           let same : u ≡ k.now = (bytes_eq-Decides u k.now).0 f in
-          absurd (clash (is_listed keys k.now) (ap (is_listed keys) (sym same) ∙ e) here) where
-            clash : (x : Bool) → x ≡ true → x ≡ false → ⊥
-            clash true e f = search rules
-            clash false e f = search rules
+          absurd (not_both (ap (is_listed keys) (sym same) ∙ e) here)
 
 -- classes without a common namespace have no common name
 pub apart_by_namespaces : (all others : Namespaces) (c d : NameClass) → Covers all c → Covers others d
     → ((u : List ℕ) → has_ns all u ≡ true → has_ns others u ≡ false) → AreApart c d
 apart_by_namespaces all others c d first second apart q in_c in_d =
-    clash (has_ns others q.ns) (second q ((holds-Decides d q).1 in_d)) (apart q.ns (first q ((holds-Decides c q).1 in_c))) where
-      clash : (x : Bool) → x ≡ true → x ≡ false → ⊥
-      clash true e f = search rules
-      clash false e f = search rules
+    not_both (second q ((holds-Decides d q).1 in_d)) (apart q.ns (first q ((holds-Decides c q).1 in_c)))

@@ -3,6 +3,7 @@ use Rattle.std.proofs.Common.{◌≡◌, refl, sym, subst, ap, ap₂, ◌∙◌,
 use Rattle.std.proofs.Common.{Some, Bool, true, false, not, ◌&&◌, ◌||◌, arith, rules}
 use Rattle.std.proofs.lemmas.Option.{none-some}
 use Rattle.std.proofs.lemmas.Bool.{or_right}
+use Rattle.rng_model.proofs.Places.{in_front}
 use Rattle.rng_model.specs.names.Names.{Name, NameClass}
 use Rattle.rng_model.specs.names.NameViews.{class_of}
 use Rattle.rng_names.specs.plain.Holding.{holds}
@@ -10,7 +11,7 @@ use Rattle.rng_names.specs.views.Alternatives.{AddsExcept, AreTables, Grows, Has
 use Rattle.rng_names.specs.declared.alternatives.Alternatives.{Alternatives}
 use Rattle.rng_names.specs.declared.alternatives.Excepted.{Excepted}
 use Rattle.rng_names.proofs.HeldByAlternatives.{stands}
-use Rattle.rng_names.proofs.KeyLookups.{at_end, last_at, stays_in_front}
+use Rattle.rng_names.proofs.KeyLookups.{at_end, last_at}
 
 -- ---- tables stay where they are
 
@@ -40,7 +41,7 @@ module _ (xs : List Alternatives) (inner : Alternatives) where
   more = xs ++ inner ∷ []
 
   kept_in_front : (k : ℕ) (t : Alternatives) → slice_get xs k ≡ Some t → slice_get more k ≡ Some t
-  kept_in_front k t = stays_in_front xs (inner ∷ []) k t
+  kept_in_front k t = in_front xs (inner ∷ []) k t
 
   longer_by_one : length more ≡ length xs + 1
   longer_by_one = length-append xs (inner ∷ [])

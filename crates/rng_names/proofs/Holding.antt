@@ -1,7 +1,8 @@
 -- The test of membership agrees with the definition.
-use Rattle.std.proofs.Common.{◌≡◌, ℕ, bytes_eq, List, true, refl, sym, rules, Decides}
+use Rattle.std.proofs.Common.{◌≡◌, ℕ, bytes_eq, List, true, refl, sym, rules, Decides, Bool}
 use Rattle.std.proofs.lemmas.Bool.Decides.{Decides-and, Decides-or, Decides-not, Decides-like}
 use Rattle.std.proofs.lemmas.Slice.Eq.{bytes_eq-Decides}
+use Rattle.std.specs.Bool.{one_answer}
 use Rattle.rng_model.specs.names.Names.{Name, NameClass, NameClasses, In, InSome, any_name, any_except, ns_name, ns_except, name_is, one_of, no_classes, class_and}
 use Rattle.rng_names.specs.plain.Holding.{holds, some_hold, same_name}
 
@@ -31,3 +32,7 @@ mutual
   some_hold-Decides : (cs : NameClasses) (q : Name) → Decides (some_hold cs q) (InSome cs q)
   some_hold-Decides no_classes q = (λ e. search rules, λ none. elim none [ ])
   some_hold-Decides (class_and c cs) q = Decides-or _ _ (holds-Decides c q) (some_hold-Decides cs q)
+
+-- a test that decides membership is the one of the class
+pub decides_holds : (b : Bool) (c : NameClass) (q : Name) → Decides b (In c q) → b ≡ holds c q
+decides_holds b c q d = one_answer b (holds c q) d (holds-Decides c q)

@@ -9,6 +9,7 @@ use Rattle.std.proofs.lemmas.Slice.Eq.{bytes_eq-Decides}
 use Rattle.std.proofs.Math.Bool.{and_comm}
 use Rattle.std.proofs.lemmas.List.{length-map, map-append}
 use Rattle.std.proofs.lemmas.Option.{none-some, same_Some, slice_get-map}
+use Rattle.rng_model.proofs.Places.{in_front}
 use Rattle.indexmap.specs.IndexSet.{insert_key}
 use Rattle.rng_model.specs.names.Names as names
 use Rattle.rng_model.specs.names.NameViews.{name_of}
@@ -56,15 +57,10 @@ module _ {A : Type 0} where
 
 -- ---- one more name
 
-pub stays_in_front : {A : Type 0} (xs ys : List A) (k : ℕ) (x : A) → slice_get xs k ≡ Some x → slice_get (xs ++ ys) k ≡ Some x
-stays_in_front [] ys k x e = absurd (cc)
-stays_in_front (z ∷ xs) ys zero x e = e
-stays_in_front (z ∷ xs) ys (suc k) x e = stays_in_front xs ys k x e
-
 stays_by : (ks : List Name) (n : Name) (b : Bool) (k : ℕ) (q : names.Name) → slice_get (map name_of ks) k ≡ Some q
     → slice_get (map name_of (cond b ks (ks ++ n ∷ []))) k ≡ Some q
 stays_by ks n true k q e = e
-stays_by ks n false k q e = ap (λ xs. slice_get xs k) (map-append name_of ks (n ∷ [])) ∙ stays_in_front (map name_of ks) (name_of n ∷ []) k q e
+stays_by ks n false k q e = ap (λ xs. slice_get xs k) (map-append name_of ks (n ∷ [])) ∙ in_front (map name_of ks) (name_of n ∷ []) k q e
 
 pub stays : (ks : List Name) (n : Name) (k : ℕ) (q : names.Name) → slice_get (map name_of ks) k ≡ Some q
     → slice_get (map name_of (insert_key same.ghosts.eq ks n)) k ≡ Some q

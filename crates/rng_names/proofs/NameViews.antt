@@ -1,18 +1,13 @@
 -- Views of names and name classes of the code.
-use Rattle.std.proofs.Common.{◌≡◌, map, ap, ◌∙◌, rules, List, Vec, Box, Global}
+use Rattle.std.proofs.Common.{◌≡◌, ap, ◌∙◌, rules, Box, Global}
 use Rattle.std.proofs.lemmas.Str.{IsUtf8-string_bytes}
-use Rattle.rng_model.specs.names.Names.{some_of, name_is, any_except, ns_except, IsPairOfTexts}
+use Rattle.rng_model.specs.names.Names.{name_is, any_except, ns_except, IsPairOfTexts}
 use Rattle.rng_model.specs.names.NameViews.{class_of, name_of}
-use Rattle.rng_model.specs.declared.name.NameClass.{NameClass, Choice, Name, AnyExcept, NsExcept, the_lemmas}
+use Rattle.rng_model.specs.declared.name.NameClass.{NameClass, Name, AnyExcept, NsExcept, the_lemmas}
 use Rattle.rng_model.specs.names.NamespaceViews.{namespace_bytes}
 use Rattle.rng_model.specs.declared.namespace.Namespace.{Namespace}
 use Rattle.rng_model.specs.declared.name.Name as declared
 use Rattle.rng_model.proofs.NamespaceTexts.{IsUtf8-namespace_bytes}
-
--- the view of a choice is the choice of the views of its members
-pub choice_is : (class : NameClass) (members : Vec NameClass Global) (xs : List NameClass) → class ≡ Choice members → xs ≡ members.items
-    → class_of class ≡ some_of (map class_of xs)
-choice_is class members xs e items = ap class_of e ∙ search (rules, the_lemmas, items)
 
 -- the view of a plain name is a name
 pub name_class_is : (class : NameClass) (n : declared.Name) → class ≡ Name n → class_of class ≡ name_is (name_of n)

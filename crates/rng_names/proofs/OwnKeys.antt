@@ -13,6 +13,7 @@ use Rattle.std.proofs.lemmas.Bool.Decides.{Decides-like, same_from_decides}
 use Rattle.std.proofs.lemmas.List.Sums.{position_or_len_is}
 use Rattle.std.proofs.lemmas.Map.Keys.{IsDistinct-head, IsDistinct-tail}
 use Rattle.std.proofs.lemmas.Option.{get_or_from_slice_get, none-some, same_Some, slice_get-get_or, slice_get-map, slice_get_within}
+use Rattle.rng_model.proofs.Places.{in_front}
 use Rattle.rng_model.specs.names.Names as names
 use Rattle.rng_model.specs.names.NameViews.{name_of}
 use Rattle.rng_model.specs.declared.name.Name.{Name}
@@ -20,7 +21,7 @@ use Rattle.rng_model.specs.contracts.name.NamePartialEq.TheImpl as same
 use Rattle.rng_names.specs.plain.Holding.{same_name}
 use Rattle.rng_names.proofs.Holding.{same_name-Decides}
 use Rattle.rng_names.specs.plain.Keys.{place_of}
-use Rattle.rng_names.proofs.KeyLookups.{is_there, same_names, stays, stays_in_front}
+use Rattle.rng_names.proofs.KeyLookups.{is_there, same_names, stays}
 use Rattle.rng_names.specs.plain.Regions.{Puts}
 
 -- ---- no two of the names are the same
@@ -88,7 +89,7 @@ module _ (ks ms : List Name) (n : Name) (place : ℕ) (keys : ms ≡ insert_key 
       found : place < length ks → same.ghosts.eq n (get_or ks place n) ≡ true
       found less =
           let at = slice_get-get_or ks place n less in
-          ap (same.ghosts.eq n) (same_Some _ _ (sym (ap (λ xs. slice_get xs place) e ∙ stays_in_front ks (n ∷ []) place (get_or ks place n) at) ∙ stored.1))
+          ap (same.ghosts.eq n) (same_Some _ _ (sym (ap (λ xs. slice_get xs place) e ∙ in_front ks (n ∷ []) place (get_or ks place n) at) ∙ stored.1))
           ∙ stored.2
 
   pub put_there : Puts (map name_of ks) (map name_of ms) (name_of n) place

@@ -1,10 +1,11 @@
 -- Names sorted by regions, class by class.
-use Rattle.std.proofs.Common.{◌≡◌, refl, sym, ap, ap₂, ◌∙◌, subst, ℕ, zero, suc, ◌<◌, ◌≤◌, ◌+◌, Bool, true, false, not, ◌&&◌, ◌||◌, ◌⊎◌, inl, inr, ⊎_elim}
+use Rattle.std.proofs.Common.{◌≡◌, refl, sym, ap, ap₂, ◌∙◌, subst, ℕ, zero, suc, ◌<◌, ◌≤◌, ◌+◌, Bool, true, not, ◌&&◌, ◌||◌, ◌⊎◌, inl, inr, ⊎_elim}
 use Rattle.std.proofs.Common.{List, [], ◌∷◌, Option, Some, None, option_map, map, length, length-append, get_or, slice_get, slice_set, bytes_eq, arith}
 use Rattle.std.specs.List.{list_any}
 use Rattle.std.proofs.lemmas.Bool.{cases_eq, cases_lt, false_from_ne_true}
 use Rattle.std.proofs.lemmas.List.{length-set}
 use Rattle.std.proofs.lemmas.Option.{none-some, same_Some, slice_get-get_or, slice_get-map, slice_get_within}
+use Rattle.std.proofs.Math.Bool.{or-true}
 use Rattle.rng_model.specs.names.Names.{Name, NameClass, any_except, ns_except, name_is, some_of}
 use Rattle.rng_names.specs.plain.Holding.{holds, pair}
 use Rattle.rng_names.specs.plain.Written.{writes_name}
@@ -303,10 +304,6 @@ all_sorted old new classes n past parts = record {
 same_tests : {A : Type 0} (t t' : A → Bool) (xs : List A) → ((k : ℕ) (x : A) → slice_get xs k ≡ Some x → t x ≡ t' x) → list_any t xs ≡ list_any t' xs
 same_tests t t' [] same = refl
 same_tests t t' (x ∷ xs) same = ap₂ (λ a b. a || b) (same 0 x refl) (same_tests t t' xs (λ k. same (suc k)))
-
-or-true : (b : Bool) → (b || true) ≡ true
-or-true true = refl
-or-true false = refl
 
 one_holds : {A : Type 0} (f : A → NameClass) (xs : List A) (q : Name) (k : ℕ) (c : NameClass) → slice_get (map (λ x. Some (f x)) xs) k ≡ Some (Some c)
     → holds c q ≡ true → list_any (λ x. holds (f x) q) xs ≡ true

@@ -4,11 +4,12 @@ use Rattle.std.proofs.Common.{List, [], ◌∷◌, Some, length, length-append, 
 use Rattle.std.specs.Map.{lookup, update}
 use Rattle.std.proofs.lemmas.Option.{same_Some, slice_get_within}
 use Rattle.std.proofs.lemmas.Slice.Eq.{bytes_eq-Decides}
+use Rattle.rng_model.proofs.Places.{in_front}
 use Rattle.rng_model.specs.names.Names.{Name}
 use Rattle.rng_names.specs.plain.Holding.{pair}
 use Rattle.rng_names.specs.plain.SharedKeys.{AddsPlace, AreLed, AreMade, AreShared, IsKeyIn, IsLed, SameRegion, Sharing, following, leading}
 use Rattle.rng_names.specs.declared.shared_keys.SharedKeys.{SharedKeys}
-use Rattle.rng_names.proofs.KeyLookups.{at_end, last_at, stays_in_front}
+use Rattle.rng_names.proofs.KeyLookups.{at_end, last_at}
 
 found_region : (rs : List ℕ) (k r : ℕ) → slice_index_or rs k 0 ≡ r → 0 < r → slice_get rs k ≡ Some r
 found_region [] k r e counts = absurd (omega (arith, e, counts))
@@ -40,7 +41,7 @@ module _ (names : List Name) (s : Sharing) (made : AreMade names s) where
     own_led k key e = (length s.keys, subst (λ j. slice_get led.leaders j ≡ Some (length s.keys)) e.1 (last_at s.leaders (length s.keys)), inl (sym e.0))
 
     old_led : (k key : ℕ) → IsLed names s.regions s.leaders k key → IsLed names s.regions led.leaders k key
-    old_led k key is = (is.0, stays_in_front s.leaders (length s.keys ∷ []) key is.0 is.1, is.2)
+    old_led k key is = (is.0, in_front s.leaders (length s.keys ∷ []) key is.0 is.1, is.2)
 
     pub made_leading : AreMade names led
     made_leading = record {
@@ -48,7 +49,7 @@ module _ (names : List Name) (s : Sharing) (made : AreMade names s) where
           (omega (arith, less, more), found.1, found.2);
       led = λ k key e. ⊎_elim (λ f. old_led k key (made.led k key f)) (own_led k key) (at_end s.keys (length s.leaders) k key e);
       own = λ key p e. ⊎_elim
-          (λ f. stays_in_front s.keys (length s.leaders ∷ []) p key (made.own key p f))
+          (λ f. in_front s.keys (length s.leaders ∷ []) p key (made.own key p f))
           (λ f. subst (λ j. slice_get led.keys j ≡ Some key) f.1 (last_at s.keys (length s.leaders) ∙ ap Some (sym f.0)))
           (at_end s.leaders (length s.keys) key p e);
     }
@@ -77,7 +78,7 @@ module _ (names : List Name) (s : Sharing) (made : AreMade names s) where
           (omega (arith, less, more), found.1, found.2);
       led = λ k j e. ⊎_elim (made.led k j) (λ f. subst (λ x. IsLed names s.regions s.leaders x j) (sym f.0)
           (subst (IsLed names s.regions s.leaders (length s.keys)) f.1 followed)) (at_end s.keys key k j e);
-      own = λ j p e. stays_in_front s.keys (key ∷ []) p j (made.own j p e);
+      own = λ j p e. in_front s.keys (key ∷ []) p j (made.own j p e);
     }
       where
         near : SameRegion names s.regions is.place (length s.keys)

@@ -1,6 +1,5 @@
 -- What a pattern and a state are after the first attribute or way of a list, and after the others.
-use Rattle.std.proofs.Common.{◌≡◌, ◌∙◌, ℕ, ◌-◌, ◌≤◌, Bool, true, ◌&&◌, List, [], ◌∷◌, length, map, take, drop, get_or, sym, ap, arith}
-use Rattle.std.proofs.lemmas.List.{take_all}
+use Rattle.std.proofs.Common.{◌≡◌, ◌∙◌, ℕ, Bool, true, ◌&&◌, List, ◌∷◌, map, sym, ap}
 use Rattle.rng_model.specs.declared.document.Attr.{Attr}
 use Rattle.rng_model.specs.documents.DocumentViews.{attribute_of}
 use Rattle.rng_model.specs.matching.Document.{Attribute}
@@ -9,11 +8,6 @@ use Rattle.rng_model.specs.names.Names.{NameClass}
 use Rattle.rng_model.specs.simple.Tree.{Simple, s_attribute}
 use Rattle.rng_names.specs.plain.Holding.{holds}
 use Rattle.rng_deriv_laws.specs.plain.Derivatives.{after_attribute, after_attributes, has_text, takes_attribute}
-
--- `[first, others @ ..]` is the whole list
-pub first_and_others : {A : Type 0} (xs : List A) (x : A) → 1 ≤ length xs → x ≡ get_or xs 0 x → x ∷ take (length xs - 1) (drop 1 xs) ≡ xs
-first_and_others [] x h e = absurd (omega arith)
-first_and_others (y ∷ ys) x h e = let p : take (length (y ∷ ys) - 1) ys ≡ ys = take_all (length (y ∷ ys) - 1) ys (omega arith) in cc
 
 module _ (g : Reading) where
   -- the first attribute, and then the others

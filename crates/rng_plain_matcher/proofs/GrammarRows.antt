@@ -1,12 +1,12 @@
 -- Names and bodies of elements, in terms of the rows of a grammar, and the bodies that a start opens.
 use Rattle.std.proofs.Common.{◌≡◌, ◌∙◌, ℕ, List, ◌∷◌, Bool, true, false, Option, Some, None, cond, if◌then◌else◌, refl, sym, ap, slice_get, length, arith, ⊎_elim}
-use Rattle.std.specs.Bool.{Decides, one_answer}
 use Rattle.std.specs.Option.{option_map}
 use Rattle.std.proofs.lemmas.Bool.{cases_lt}
 use Rattle.std.proofs.lemmas.List.{get_or_past}
 use Rattle.std.proofs.lemmas.Option.{slice_get-map, slice_get-get_or}
+use Rattle.rng_model.proofs.Options.{some_is_none}
 use Rattle.rng_model.specs.names.Names as names
-use Rattle.rng_model.specs.names.Names.{Name, In}
+use Rattle.rng_model.specs.names.Names.{Name}
 use Rattle.rng_model.specs.names.NameViews.{class_of}
 use Rattle.rng_model.specs.simple.Tree.{Simple, s_not_allowed, s_empty, s_text, s_leaf, s_attribute, s_list, s_data, s_data_except, s_value, s_one_or_more, s_joined}
 use Rattle.rng_model.specs.simple.Table.{Table, tree_at, tree_over, trees}
@@ -17,17 +17,9 @@ use Rattle.rng_model.specs.matching.Reading.{Reading}
 use Rattle.rng_model.specs.matching.GrammarReading.{reading_of}
 use Rattle.rng_model.proofs.NumberedTrees as numbered
 use Rattle.rng_names.specs.plain.Holding.{holds}
-use Rattle.rng_names.proofs.Holding.{holds-Decides}
 use Rattle.rng_deriv_laws.specs.plain.Reading.{body_in, body_of, has_name, named_in}
 use Rattle.rng_deriv_laws.specs.plain.Derivatives.{Way, bodies_of}
 use Rattle.rng_plain_matcher.specs.plain.Bodies.{body_named}
-
--- a test that decides membership is the one of the class
-pub decides_holds : (b : Bool) (c : names.NameClass) (q : Name) → Decides b (In c q) → b ≡ holds c q
-decides_holds b c q d = one_answer b (holds c q) d (holds-Decides c q)
-
-some_is_none : {A : Type 0} {a : A} → Some a ≡ None → ⊥
-some_is_none e = cc
 
 -- past the end of the patterns there is the tree notAllowed
 pub tree_past : (ps : List rows.Simple) (id : PatternId) → slice_get ps id.0 ≡ None → s_not_allowed ≡ tree_at ps id

@@ -1,6 +1,7 @@
 -- Rows that meet are found in the groups by name, or have a class that is not a name.
-use Rattle.std.proofs.Common.{◌≡◌, refl, ap, sym, ◌∙◌, subst, ℕ, ◌<◌, List, [], length, slice_index_or, Some, None, Option, Contains, inl, inr, arith}
+use Rattle.std.proofs.Common.{◌≡◌, refl, ap, sym, ◌∙◌, subst, ℕ, ◌<◌, List, [], length, slice_index_or, Some, Contains, inl, inr, arith}
 use Rattle.std.proofs.lemmas.Option.{slice_get_cases, slice_get_within}
+use Rattle.rng_model.proofs.Options.{one_value, none_is_some}
 use Rattle.rng_model.specs.names.Names as names
 use Rattle.rng_model.specs.names.Names.{Overlap, IsPairOfTexts}
 use Rattle.rng_model.specs.simple.Table.{Table}
@@ -16,7 +17,6 @@ use Rattle.rng_rules.specs.plain.NamesMeetReach.{AreBelow}
 use Rattle.rng_rules.specs.views.NamesMeetRows.{IsLabelled, class_in}
 use Rattle.rng_rules.specs.views.NamesMeetSearch.{Meeting}
 use Rattle.rng_rules.specs.views.NamesMeetSides.{MeetBetween}
-use Rattle.rng_rules.proofs.NamesMeetQueues.{some_same}
 use Rattle.rng_rules.proofs.NamesMeetSearch.{between_one, between_more, turned}
 
 overlap_of_same : (n m : Name) → name_of n ≡ name_of m → Overlap (class_of (class.Name n)) (class_of (class.Name m))
@@ -37,7 +37,7 @@ module _ (of : NamesOf) (t : Table) (above : List (List ℕ)) (ls : List (ℕ ×
       let b = between_one m in
       let f = are.sound k b.0 b.1 in
       let s = are.sound k b.2 b.3 in
-      let same : f.0 ≡ s.0 = some_same f.1 s.1 in record {
+      let same : f.0 ≡ s.0 = one_value f.1 s.1 in record {
         first = (b.0, class.Name f.2.0);
         second = (b.2, class.Name s.2.0);
         first_there = f.2.1;
@@ -79,13 +79,10 @@ module _ (of : NamesOf) (t : Table) (above : List (List ℕ)) (ls : List (ℕ ×
   unfolding other_way
   none_meet none plain m = let p = plain_meet m (plain m) (plain (other_way m)) in none p.0 p.1 p.2
 
-no_class : {A : Type 0} {c : NameClass} → ◌≡◌ {A = Option NameClass} None (Some c) → A
-no_class e = absurd (let z = e in cc)
-
 pub labelled_inside : (of : NamesOf) (t : Table) (row : ℕ) (c : NameClass) → IsLabelled of t row c → row < length t.patterns
 labelled_inside of t row c e = elim (slice_get_cases t.patterns row).1 [
   | inl f ↦ slice_get_within t.patterns row f.0 f.2
-  | inr f ↦ no_class (sym (ap (class_in of t.elements) f.1) ∙ e)
+  | inr f ↦ none_is_some (sym (ap (class_in of t.elements) f.1) ∙ e)
 ]
 
 pub groups_inside : (of : NamesOf) (t : Table) (ls : List (ℕ × NameClass)) (qs : List names.Name) (groups : List (List ℕ)) → AreGroups ls qs groups

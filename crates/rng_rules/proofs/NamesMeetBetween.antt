@@ -1,8 +1,10 @@
 -- The test of the sides of a row says whether both sides are reached.
-use Rattle.std.proofs.Common.{◌≡◌, ◌⊎◌, ◌↔◌, inl, inr, refl, ap, ap₂, sym, ◌∙◌, subst, ℕ, ◌<◌, ◌&&◌, ◌||◌, Bool, true, false, true≢false}
+use Rattle.std.proofs.Common.{◌≡◌, ◌⊎◌, ◌↔◌, inl, inr, refl, ap, sym, ◌∙◌, subst, ℕ, ◌<◌, ◌&&◌, ◌||◌, Bool, true, false, true≢false}
 use Rattle.std.proofs.Common.{List, [], ◌∷◌, length, slice_get, slice_index_or, Some, None, Option, Contains, arith, ◌==◌, if◌then◌else◌}
-use Rattle.std.proofs.lemmas.Bool.{eqb-true, eq-eqb}
+use Rattle.std.proofs.lemmas.Bool.{eqb-true, eq-eqb, and_from, or_left, or_right, and_parts, or_cases}
 use Rattle.std.proofs.lemmas.Option.{slice_get_within, get_or_from_slice_get, slice_get-get_or}
+use Rattle.rng_model.proofs.Options.{none_is_some}
+use Rattle.rng_model.proofs.Members.{not_in_none, one_only}
 use Rattle.rng_model.specs.simple.Table.{Table}
 use Rattle.rng_model.specs.simple.TableRules.{AreChildrenBelow}
 use Rattle.rng_model.specs.declared.simple.Simple.{Simple}
@@ -12,7 +14,6 @@ use Rattle.rng_rules.specs.declared.names_meet.NamesOf.TheVariants as names_of
 use Rattle.rng_rules.specs.plain.NamesMeetReach.{AreBelow, onward}
 use Rattle.rng_rules.specs.views.NamesMeetRows.{IsAbove, passed, sides_at}
 use Rattle.rng_rules.specs.views.NamesMeetSides.{Climbs, IsJoin, MeetBetween, AreRowsOf, sides_in, are_marked}
-use Rattle.rng_rules.proofs.NamesMeetQueues.{one_only, not_there}
 use Rattle.rng_rules.proofs.NamesMeetTables.{first_of_two, second_of_two, one_of_two}
 
 -- ---- a row passes to its sides
@@ -31,36 +32,33 @@ same_sides e = (sym (ap left_of e), sym (ap right_of e))
 both_passed : {a b l r : ℕ} → ◌≡◌ {A = Option (ℕ × ℕ)} (Some (a, b)) (Some (l, r)) → Contains (a ∷ (b ∷ [])) l × Contains (a ∷ (b ∷ [])) r
 both_passed e = let s = same_sides e in (first_of_two s.0, second_of_two s.1)
 
-no_sides : {A : Type 0} {l r : ℕ} → ◌≡◌ {A = Option (ℕ × ℕ)} None (Some (l, r)) → A
-no_sides e = absurd (let z = e in cc)
-
 pub sides_passed : (of : NamesOf) (p : Simple) {l r : ℕ} → sides_at of p ≡ Some (l, r) → Contains (passed p) l × Contains (passed p) r
 sides_passed names_of.Attributes (simple.Group a b) e = both_passed e
-sides_passed names_of.Elements (simple.Group a b) e = no_sides e
+sides_passed names_of.Elements (simple.Group a b) e = none_is_some e
 sides_passed names_of.Attributes (simple.Interleave a b) e = both_passed e
 sides_passed names_of.Elements (simple.Interleave a b) e = both_passed e
-sides_passed names_of.Attributes (simple.Choice a b) e = no_sides e
-sides_passed names_of.Elements (simple.Choice a b) e = no_sides e
-sides_passed names_of.Attributes (simple.Attribute c a) e = no_sides e
-sides_passed names_of.Elements (simple.Attribute c a) e = no_sides e
-sides_passed names_of.Attributes (simple.List a) e = no_sides e
-sides_passed names_of.Elements (simple.List a) e = no_sides e
-sides_passed names_of.Attributes (simple.DataExcept d a) e = no_sides e
-sides_passed names_of.Elements (simple.DataExcept d a) e = no_sides e
-sides_passed names_of.Attributes (simple.OneOrMore a) e = no_sides e
-sides_passed names_of.Elements (simple.OneOrMore a) e = no_sides e
-sides_passed names_of.Attributes simple.NotAllowed e = no_sides e
-sides_passed names_of.Elements simple.NotAllowed e = no_sides e
-sides_passed names_of.Attributes simple.Empty e = no_sides e
-sides_passed names_of.Elements simple.Empty e = no_sides e
-sides_passed names_of.Attributes simple.Text e = no_sides e
-sides_passed names_of.Elements simple.Text e = no_sides e
-sides_passed names_of.Attributes (simple.Element k) e = no_sides e
-sides_passed names_of.Elements (simple.Element k) e = no_sides e
-sides_passed names_of.Attributes (simple.Data d) e = no_sides e
-sides_passed names_of.Elements (simple.Data d) e = no_sides e
-sides_passed names_of.Attributes (simple.Value value) e = no_sides e
-sides_passed names_of.Elements (simple.Value value) e = no_sides e
+sides_passed names_of.Attributes (simple.Choice a b) e = none_is_some e
+sides_passed names_of.Elements (simple.Choice a b) e = none_is_some e
+sides_passed names_of.Attributes (simple.Attribute c a) e = none_is_some e
+sides_passed names_of.Elements (simple.Attribute c a) e = none_is_some e
+sides_passed names_of.Attributes (simple.List a) e = none_is_some e
+sides_passed names_of.Elements (simple.List a) e = none_is_some e
+sides_passed names_of.Attributes (simple.DataExcept d a) e = none_is_some e
+sides_passed names_of.Elements (simple.DataExcept d a) e = none_is_some e
+sides_passed names_of.Attributes (simple.OneOrMore a) e = none_is_some e
+sides_passed names_of.Elements (simple.OneOrMore a) e = none_is_some e
+sides_passed names_of.Attributes simple.NotAllowed e = none_is_some e
+sides_passed names_of.Elements simple.NotAllowed e = none_is_some e
+sides_passed names_of.Attributes simple.Empty e = none_is_some e
+sides_passed names_of.Elements simple.Empty e = none_is_some e
+sides_passed names_of.Attributes simple.Text e = none_is_some e
+sides_passed names_of.Elements simple.Text e = none_is_some e
+sides_passed names_of.Attributes (simple.Element k) e = none_is_some e
+sides_passed names_of.Elements (simple.Element k) e = none_is_some e
+sides_passed names_of.Attributes (simple.Data d) e = none_is_some e
+sides_passed names_of.Elements (simple.Data d) e = none_is_some e
+sides_passed names_of.Attributes (simple.Value value) e = none_is_some e
+sides_passed names_of.Elements (simple.Value value) e = none_is_some e
 
 -- a row passes only to rows below it
 pub passed_below : (p : Simple) (n : ℕ) {c : ℕ} → AreChildrenBelow n p → Contains (passed p) c → c < n
@@ -68,39 +66,21 @@ passed_below (simple.OneOrMore a) n {c} h i = subst (λ k. k < n) (one_only a.0 
 passed_below (simple.Group a b) n {c} h i = elim (one_of_two i) [ inl e ↦ omega (arith, e, h.0) | inr e ↦ omega (arith, e, h.1) ]
 passed_below (simple.Interleave a b) n {c} h i = elim (one_of_two i) [ inl e ↦ omega (arith, e, h.0) | inr e ↦ omega (arith, e, h.1) ]
 passed_below (simple.Choice a b) n {c} h i = elim (one_of_two i) [ inl e ↦ omega (arith, e, h.0) | inr e ↦ omega (arith, e, h.1) ]
-passed_below (simple.Attribute d a) n {c} h i = absurd (not_there c i)
-passed_below (simple.List a) n {c} h i = absurd (not_there c i)
-passed_below (simple.DataExcept d a) n {c} h i = absurd (not_there c i)
-passed_below simple.NotAllowed n {c} h i = absurd (not_there c i)
-passed_below simple.Empty n {c} h i = absurd (not_there c i)
-passed_below simple.Text n {c} h i = absurd (not_there c i)
-passed_below (simple.Element e) n {c} h i = absurd (not_there c i)
-passed_below (simple.Data d) n {c} h i = absurd (not_there c i)
-passed_below (simple.Value value) n {c} h i = absurd (not_there c i)
+passed_below (simple.Attribute d a) n {c} h i = absurd (not_in_none i)
+passed_below (simple.List a) n {c} h i = absurd (not_in_none i)
+passed_below (simple.DataExcept d a) n {c} h i = absurd (not_in_none i)
+passed_below simple.NotAllowed n {c} h i = absurd (not_in_none i)
+passed_below simple.Empty n {c} h i = absurd (not_in_none i)
+passed_below simple.Text n {c} h i = absurd (not_in_none i)
+passed_below (simple.Element e) n {c} h i = absurd (not_in_none i)
+passed_below (simple.Data d) n {c} h i = absurd (not_in_none i)
+passed_below (simple.Value value) n {c} h i = absurd (not_in_none i)
 
 -- everything above a row is in the table
 pub above_in_table : (ps : List Simple) (above : List (List ℕ)) → IsAbove ps above → AreBelow (length above) above
 above_in_table ps above is c p h = let i = (is.exact c p).0 h in omega (arith, slice_get_within ps p i.0 i.1, is.long)
 
 -- ---- tests
-
-both_true : (a b : Bool) → a && b ≡ true → (a ≡ true) × (b ≡ true)
-both_true true b e = (refl, e)
-both_true false b e = absurd (true≢false (sym e))
-
-one_true : (a b : Bool) → a || b ≡ true → (a ≡ true) ⊎ (b ≡ true)
-one_true true b e = inl refl
-one_true false b e = inr e
-
-and_true : {a b : Bool} → a ≡ true → b ≡ true → a && b ≡ true
-and_true e f = ap₂ ◌&&◌ e f
-
-or_first : {a : Bool} (b : Bool) → a ≡ true → a || b ≡ true
-or_first {a} b e = ap (λ x. x || b) e
-
-or_second : (a : Bool) {b : Bool} → b ≡ true → a || b ≡ true
-or_second true e = refl
-or_second false e = e
 
 marked_at : (m : List ℕ) (k round : ℕ) → k < length m → (slice_index_or m k 0 == round) ≡ true → slice_get m k ≡ Some round
 marked_at m k round h e = slice_get-get_or m k 0 h ∙ ap Some (eqb-true (slice_index_or m k 0) round e)
@@ -114,8 +94,8 @@ module _ (of : NamesOf) (t : Table) (above : List (List ℕ)) (standing : List �
 
   is_join : (row l r : ℕ) (b : Bool) (o : Option Simple) → row < length standing → (slice_index_or standing row 0 == 1) ≡ b → slice_get t.patterns row ≡ o
       → (if b then sides_in of o else None) ≡ Some (l, r) → IsJoin of t row l r
-  is_join row l r false o h e f g = no_sides g
-  is_join row l r true None h e f g = no_sides g
+  is_join row l r false o h e f g = none_is_some g
+  is_join row l r true None h e f g = none_is_some g
   is_join row l r true (Some p) h e f g = record { pattern = p; stands = (rows.is_standing row).1 (marked_at standing row 1 h e); is = f; sides = g }
 
   pub join_sides : {row l r : ℕ} → IsJoin of t row l r → sides_of row ≡ Some (l, r)
@@ -141,12 +121,12 @@ module _ (of : NamesOf) (t : Table) (above : List (List ℕ)) (standing : List �
     on_sides : (l r : ℕ) → l < length standing → r < length standing
         → ((first_marked l && second_marked r) || (first_marked r && second_marked l)) ≡ true
         → (Climbs above first l × Climbs above second r) ⊎ (Climbs above first r × Climbs above second l)
-    on_sides l r hl hr e = elim (one_true (first_marked l && second_marked r) (first_marked r && second_marked l) e) [
+    on_sides l r hl hr e = elim (or_cases (first_marked l && second_marked r) (first_marked r && second_marked l) e) [
       | inl f ↦
-          let b = both_true (first_marked l) (second_marked r) f in
+          let b = and_parts (first_marked l) (second_marked r) f in
           inl ((one l).1 (marked_at m1 l round (omega arith) b.0), (two r).1 (marked_at m2 r round (omega arith) b.1))
       | inr f ↦
-          let b = both_true (first_marked r) (second_marked l) f in
+          let b = and_parts (first_marked r) (second_marked l) f in
           inr ((one r).1 (marked_at m1 r round (omega arith) b.0), (two l).1 (marked_at m2 l round (omega arith) b.1))
     ]
 
@@ -174,14 +154,14 @@ module _ (of : NamesOf) (t : Table) (above : List (List ℕ)) (standing : List �
       | inl c ↦ (
         m.row,
         climbs_left m.join c.0,
-        ap (are_marked m1 m2 round) (join_sides m.join) ∙ or_first (first_marked m.right && second_marked m.left) (and_true (at_marked m1 m.left round ((one m.left).0 c.0))
+        ap (are_marked m1 m2 round) (join_sides m.join) ∙ or_left _ (first_marked m.right && second_marked m.left) (and_from _ _ (at_marked m1 m.left round ((one m.left).0 c.0))
             (at_marked m2 m.right round ((two m.right).0 c.1))),
       )
       | inr c ↦ (
         m.row,
         climbs_right m.join c.0,
         ap (are_marked m1 m2 round) (join_sides m.join)
-            ∙ or_second (first_marked m.left && second_marked m.right) (and_true (at_marked m1 m.right round ((one m.right).0 c.0))
+            ∙ or_right (first_marked m.left && second_marked m.right) _ (and_from _ _ (at_marked m1 m.right round ((one m.right).0 c.0))
             (at_marked m2 m.left round ((two m.left).0 c.1))),
       )
     ]

@@ -3,6 +3,7 @@ use Rattle.std.proofs.Common.{◌≡◌, inl, inr, refl, ap, sym, ◌∙◌, sub
 use Rattle.std.proofs.Common.{arith}
 use Rattle.std.proofs.lemmas.List.{length-map}
 use Rattle.std.proofs.lemmas.Option.{slice_get_cases, slice_get_within, slice_get-map}
+use Rattle.rng_model.proofs.Options.{one_value, none_is_some}
 use Rattle.rng_model.specs.names.Names as names
 use Rattle.rng_model.specs.names.Names.{Overlap}
 use Rattle.rng_model.specs.restrictions.ContentTypes.{IsNoChoice, grouped, interleaved}
@@ -24,7 +25,6 @@ use Rattle.rng_rules.specs.views.NamesMeetLabels.{AreLabels}
 use Rattle.rng_rules.specs.views.NamesMeetSearch.{Breaks, Meeting}
 use Rattle.rng_rules.specs.views.NamesMeetSides.{IsJoin}
 use Rattle.rng_rules.proofs.NamesMeetBetween.{sides_passed, passed_below}
-use Rattle.rng_rules.proofs.NamesMeetQueues.{some_same}
 use Rattle.rng_rules.proofs.RowPaths.{STree, over, standing_row, in_part, part_row, climbed_occurs, occurring_row}
 
 -- the connectors between whose sides names must not meet
@@ -121,12 +121,6 @@ breaks_breach names_of.Elements g p b = record {
 same_overlap : (c d : names.NameClass) → Overlap c d → Overlap d c
 same_overlap c d o = (o.0, o.1, o.3, o.2)
 
-no_class : {A : Type 0} {c : NameClass} → ◌≡◌ {A = Option NameClass} None (Some c) → A
-no_class e = absurd (let z = e in cc)
-
-no_sides : {A : Type 0} {l r : ℕ} → ◌≡◌ {A = Option (ℕ × ℕ)} None (Some (l, r)) → A
-no_sides e = absurd (let z = e in cc)
-
 abbrev left_of : Option (ℕ × ℕ) → ℕ
 left_of None = 0
 left_of (Some s) = s.0
@@ -156,12 +150,12 @@ module _ (t : Table) (valid : IsTable t) where
   element_listed : (k : ℕ) (c : NameClass) → option_map (λ x. x.0) (slice_get t.elements k) ≡ Some c → ClassIn g k (class_of c)
   element_listed k c e = elim (slice_get_cases t.elements k).1 [
     | inl f ↦
-        let same : f.0.0 ≡ c = some_same (ap (option_map (λ x. x.0)) f.2) e in (
+        let same : f.0.0 ≡ c = one_value (ap (option_map (λ x. x.0)) f.2) e in (
           tree_at t.patterns f.0.1,
           slice_get-map (λ x. (class_of x.0, tree_at t.patterns x.1)) t.elements k
               ∙ ap (option_map (λ x. (class_of x.0, tree_at t.patterns x.1))) f.2 ∙ ap (λ d. Some (class_of d, tree_at t.patterns f.0.1)) same,
         )
-    | inr f ↦ no_class (sym (ap (option_map (λ x. x.0)) f.1) ∙ e)
+    | inr f ↦ none_is_some (sym (ap (option_map (λ x. x.0)) f.1) ∙ e)
   ]
 
   listed_element : (k : ℕ) (c : names.NameClass) → ClassIn g k c → (d : NameClass) × (option_map (λ x. x.0) (slice_get t.elements k) ≡ Some d) × (class_of d ≡ c)
@@ -169,38 +163,38 @@ module _ (t : Table) (valid : IsTable t) where
     | inl f ↦
         let all : slice_get g.elements k ≡ Some (class_of f.0.0, tree_at t.patterns f.0.1) =
         slice_get-map (λ x. (class_of x.0, tree_at t.patterns x.1)) t.elements k ∙ ap (option_map (λ x. (class_of x.0, tree_at t.patterns x.1))) f.2 in
-        (f.0.0, ap (option_map (λ x. x.0)) f.2, ap (λ (x : names.NameClass × STree). x.0) (some_same all h.1))
+        (f.0.0, ap (option_map (λ x. x.0)) f.2, ap (λ (x : names.NameClass × STree). x.0) (one_value all h.1))
     | inr f ↦ absurd (let l = length-map {B = names.NameClass × STree} t.elements (λ x. (class_of x.0, tree_at t.patterns x.1)) in
         let i = slice_get_within g.elements k (c, h.0) h.1 in omega (arith, i, f.0, l))
   ]
 
   has_class : (of : NamesOf) (r : Simple) {c : NameClass} → class_at of t.elements r ≡ Some c → HasClass of g (made r) (class_of c)
-  has_class names_of.Attributes simple.NotAllowed e = no_class e
-  has_class names_of.Attributes simple.Empty e = no_class e
-  has_class names_of.Attributes simple.Text e = no_class e
-  has_class names_of.Attributes (simple.Element k) e = no_class e
-  has_class names_of.Attributes (simple.Attribute d a) {c} e = (tree_at t.patterns a, ap (λ x. tree.s_attribute (class_of x) (tree_at t.patterns a)) (some_same refl e))
-  has_class names_of.Attributes (simple.List a) e = no_class e
-  has_class names_of.Attributes (simple.Data d) e = no_class e
-  has_class names_of.Attributes (simple.DataExcept d a) e = no_class e
-  has_class names_of.Attributes (simple.Value value) e = no_class e
-  has_class names_of.Attributes (simple.OneOrMore a) e = no_class e
-  has_class names_of.Attributes (simple.Group a b) e = no_class e
-  has_class names_of.Attributes (simple.Interleave a b) e = no_class e
-  has_class names_of.Attributes (simple.Choice a b) e = no_class e
-  has_class names_of.Elements simple.NotAllowed e = no_class e
-  has_class names_of.Elements simple.Empty e = no_class e
-  has_class names_of.Elements simple.Text e = no_class e
+  has_class names_of.Attributes simple.NotAllowed e = none_is_some e
+  has_class names_of.Attributes simple.Empty e = none_is_some e
+  has_class names_of.Attributes simple.Text e = none_is_some e
+  has_class names_of.Attributes (simple.Element k) e = none_is_some e
+  has_class names_of.Attributes (simple.Attribute d a) {c} e = (tree_at t.patterns a, ap (λ x. tree.s_attribute (class_of x) (tree_at t.patterns a)) (one_value refl e))
+  has_class names_of.Attributes (simple.List a) e = none_is_some e
+  has_class names_of.Attributes (simple.Data d) e = none_is_some e
+  has_class names_of.Attributes (simple.DataExcept d a) e = none_is_some e
+  has_class names_of.Attributes (simple.Value value) e = none_is_some e
+  has_class names_of.Attributes (simple.OneOrMore a) e = none_is_some e
+  has_class names_of.Attributes (simple.Group a b) e = none_is_some e
+  has_class names_of.Attributes (simple.Interleave a b) e = none_is_some e
+  has_class names_of.Attributes (simple.Choice a b) e = none_is_some e
+  has_class names_of.Elements simple.NotAllowed e = none_is_some e
+  has_class names_of.Elements simple.Empty e = none_is_some e
+  has_class names_of.Elements simple.Text e = none_is_some e
   has_class names_of.Elements (simple.Element k) {c} e = (k.0, refl, element_listed k.0 c e)
-  has_class names_of.Elements (simple.Attribute d a) e = no_class e
-  has_class names_of.Elements (simple.List a) e = no_class e
-  has_class names_of.Elements (simple.Data d) e = no_class e
-  has_class names_of.Elements (simple.DataExcept d a) e = no_class e
-  has_class names_of.Elements (simple.Value value) e = no_class e
-  has_class names_of.Elements (simple.OneOrMore a) e = no_class e
-  has_class names_of.Elements (simple.Group a b) e = no_class e
-  has_class names_of.Elements (simple.Interleave a b) e = no_class e
-  has_class names_of.Elements (simple.Choice a b) e = no_class e
+  has_class names_of.Elements (simple.Attribute d a) e = none_is_some e
+  has_class names_of.Elements (simple.List a) e = none_is_some e
+  has_class names_of.Elements (simple.Data d) e = none_is_some e
+  has_class names_of.Elements (simple.DataExcept d a) e = none_is_some e
+  has_class names_of.Elements (simple.Value value) e = none_is_some e
+  has_class names_of.Elements (simple.OneOrMore a) e = none_is_some e
+  has_class names_of.Elements (simple.Group a b) e = none_is_some e
+  has_class names_of.Elements (simple.Interleave a b) e = none_is_some e
+  has_class names_of.Elements (simple.Choice a b) e = none_is_some e
 
   class_has : (of : NamesOf) (r : Simple) {c : names.NameClass} → HasClass of g (made r) c → (d : NameClass) × (class_at of t.elements r ≡ Some d) × (class_of d ≡ c)
   class_has names_of.Attributes simple.NotAllowed h = absurd (let e = h.1 in cc)
@@ -231,32 +225,32 @@ module _ (t : Table) (valid : IsTable t) where
   class_has names_of.Elements (simple.Choice a b) h = absurd (let e = h.1 in cc)
 
   sides_joined : (of : NamesOf) (r : Simple) {l m : ℕ} → sides_at of r ≡ Some (l, m) → (k : tree.Connector) × IsBetween of k × (made r ≡ tree.s_joined k (at l) (at m))
-  sides_joined names_of.Attributes simple.NotAllowed e = no_sides e
-  sides_joined names_of.Attributes simple.Empty e = no_sides e
-  sides_joined names_of.Attributes simple.Text e = no_sides e
-  sides_joined names_of.Attributes (simple.Element k) e = no_sides e
-  sides_joined names_of.Attributes (simple.Attribute d a) e = no_sides e
-  sides_joined names_of.Attributes (simple.List a) e = no_sides e
-  sides_joined names_of.Attributes (simple.Data d) e = no_sides e
-  sides_joined names_of.Attributes (simple.DataExcept d a) e = no_sides e
-  sides_joined names_of.Attributes (simple.Value value) e = no_sides e
-  sides_joined names_of.Attributes (simple.OneOrMore a) e = no_sides e
+  sides_joined names_of.Attributes simple.NotAllowed e = none_is_some e
+  sides_joined names_of.Attributes simple.Empty e = none_is_some e
+  sides_joined names_of.Attributes simple.Text e = none_is_some e
+  sides_joined names_of.Attributes (simple.Element k) e = none_is_some e
+  sides_joined names_of.Attributes (simple.Attribute d a) e = none_is_some e
+  sides_joined names_of.Attributes (simple.List a) e = none_is_some e
+  sides_joined names_of.Attributes (simple.Data d) e = none_is_some e
+  sides_joined names_of.Attributes (simple.DataExcept d a) e = none_is_some e
+  sides_joined names_of.Attributes (simple.Value value) e = none_is_some e
+  sides_joined names_of.Attributes (simple.OneOrMore a) e = none_is_some e
   sides_joined names_of.Attributes (simple.Group a b) {l} {m} e = (tree.group, grouped, (let f : a.0 ≡ l = ap left_of e in let h : b.0 ≡ m = ap right_of e in ap (λ n. tree.s_joined tree.group (at n) (at b.0)) f ∙ ap (λ n. tree.s_joined tree.group (at l) (at n)) h))
   sides_joined names_of.Attributes (simple.Interleave a b) {l} {m} e = (tree.interleave, interleaved, (let f : a.0 ≡ l = ap left_of e in let h : b.0 ≡ m = ap right_of e in ap (λ n. tree.s_joined tree.interleave (at n) (at b.0)) f ∙ ap (λ n. tree.s_joined tree.interleave (at l) (at n)) h))
-  sides_joined names_of.Attributes (simple.Choice a b) e = no_sides e
-  sides_joined names_of.Elements simple.NotAllowed e = no_sides e
-  sides_joined names_of.Elements simple.Empty e = no_sides e
-  sides_joined names_of.Elements simple.Text e = no_sides e
-  sides_joined names_of.Elements (simple.Element k) e = no_sides e
-  sides_joined names_of.Elements (simple.Attribute d a) e = no_sides e
-  sides_joined names_of.Elements (simple.List a) e = no_sides e
-  sides_joined names_of.Elements (simple.Data d) e = no_sides e
-  sides_joined names_of.Elements (simple.DataExcept d a) e = no_sides e
-  sides_joined names_of.Elements (simple.Value value) e = no_sides e
-  sides_joined names_of.Elements (simple.OneOrMore a) e = no_sides e
-  sides_joined names_of.Elements (simple.Group a b) e = no_sides e
+  sides_joined names_of.Attributes (simple.Choice a b) e = none_is_some e
+  sides_joined names_of.Elements simple.NotAllowed e = none_is_some e
+  sides_joined names_of.Elements simple.Empty e = none_is_some e
+  sides_joined names_of.Elements simple.Text e = none_is_some e
+  sides_joined names_of.Elements (simple.Element k) e = none_is_some e
+  sides_joined names_of.Elements (simple.Attribute d a) e = none_is_some e
+  sides_joined names_of.Elements (simple.List a) e = none_is_some e
+  sides_joined names_of.Elements (simple.Data d) e = none_is_some e
+  sides_joined names_of.Elements (simple.DataExcept d a) e = none_is_some e
+  sides_joined names_of.Elements (simple.Value value) e = none_is_some e
+  sides_joined names_of.Elements (simple.OneOrMore a) e = none_is_some e
+  sides_joined names_of.Elements (simple.Group a b) e = none_is_some e
   sides_joined names_of.Elements (simple.Interleave a b) {l} {m} e = (tree.interleave, refl, (let f : a.0 ≡ l = ap left_of e in let h : b.0 ≡ m = ap right_of e in ap (λ n. tree.s_joined tree.interleave (at n) (at b.0)) f ∙ ap (λ n. tree.s_joined tree.interleave (at l) (at n)) h))
-  sides_joined names_of.Elements (simple.Choice a b) e = no_sides e
+  sides_joined names_of.Elements (simple.Choice a b) e = none_is_some e
 
   joined_sides : (of : NamesOf) (r : Simple) {k : tree.Connector} {p q : STree} → IsBetween of k → made r ≡ tree.s_joined k p q
       → (l : ℕ) × (m : ℕ) × (sides_at of r ≡ Some (l, m)) × (at l ≡ p) × (at m ≡ q)
@@ -290,7 +284,7 @@ module _ (t : Table) (valid : IsTable t) where
   labelled : (of : NamesOf) (row : ℕ) (c : NameClass) → IsLabelled of t row c → HasClass of g (at row) (class_of c)
   labelled of row c e = elim (slice_get_cases t.patterns row).1 [
     | inl f ↦ subst (λ q. HasClass of g q (class_of c)) (sym (over t valid row f.0 f.2)) (has_class of f.0 (sym (ap (class_in of t.elements) f.2) ∙ e))
-    | inr f ↦ no_class (sym (ap (class_in of t.elements) f.1) ∙ e)
+    | inr f ↦ none_is_some (sym (ap (class_in of t.elements) f.1) ∙ e)
   ]
 
   module _ (of : NamesOf) (above : List (List ℕ)) (is : IsAbove t.patterns above) (ls : List (ℕ × NameClass))

@@ -1,13 +1,16 @@
 -- Rows with name classes, one after the other, and groups of those whose class is the same name.
-use Rattle.std.proofs.Common.{◌≡◌, ◌⊎◌, ◌↔◌, inl, inr, refl, ap, ap₂, sym, ◌∙◌, subst, ℕ, zero, suc, ◌+◌, ◌<◌, ◌≤◌, ◌&&◌, ◌||◌, Bool, true, false, true≢false}
-use Rattle.std.proofs.Common.{List, [], ◌∷◌, ◌++◌, length, map, take, slice_get, slice_index_or, Some, None, Option, option_map, Contains, get_or, length-append, if◌then◌else◌, ◌==◌, arith}
+use Rattle.std.proofs.Common.{◌≡◌, ◌⊎◌, ◌↔◌, inl, inr, refl, ap, ap₂, sym, ◌∙◌, subst, ℕ, zero, suc, ◌+◌, ◌<◌, ◌≤◌, ◌&&◌, Bool, true, false, true≢false}
+use Rattle.std.proofs.Common.{List, [], ◌∷◌, ◌++◌, length, map, take, slice_get, slice_index_or, Some, None, Option, option_map, Contains, length-append, if◌then◌else◌, ◌==◌, arith}
 use Rattle.std.specs.List.{list_any}
 use Rattle.std.specs.Str.{bytes_eq}
-use Rattle.std.proofs.lemmas.Bool.{cases_eq, cases_lt}
-use Rattle.std.proofs.lemmas.List.{take_more, take_all, length-map, map-append, get_or-map, get_or_append_left, get_or_push}
+use Rattle.std.proofs.lemmas.Bool.{cases_eq, cases_lt, or_parts}
+use Rattle.std.proofs.lemmas.List.{take_all, length-map, map-append}
 use Rattle.std.proofs.lemmas.List.Elements.{Contains-push, Contains-push_cases, Contains-append_left, Contains-append_right, Contains-append_cases}
-use Rattle.std.proofs.lemmas.Option.{slice_get_cases, slice_get_within, get_or_from_slice_get, slice_get-get_or, slice_get-map}
+use Rattle.std.proofs.lemmas.Option.{slice_get_cases, slice_get_within, slice_get-map}
 use Rattle.std.proofs.lemmas.Slice.Eq.{bytes_eq-Decides}
+use Rattle.rng_model.proofs.Options.{one_value, none_is_some}
+use Rattle.rng_model.proofs.Members.{not_in_none, one_only}
+use Rattle.rng_model.proofs.Places.{before_or_at_end, in_front}
 use Rattle.indexmap.specs.IndexSet.{insert_key}
 use Rattle.rng_model.specs.names.Names as names
 use Rattle.rng_model.specs.names.Names.{Overlap}
@@ -23,7 +26,6 @@ use Rattle.rng_rules.specs.views.NamesMeetLabels.{AreLabels, judged_class, label
 use Rattle.rng_rules.specs.views.NamesMeetRows.{class_in}
 use Rattle.rng_rules.specs.views.NamesMeetSides.{IsUnder}
 use Rattle.rng_rules.proofs.NamesMeetBetween.{at_marked}
-use Rattle.rng_rules.proofs.NamesMeetQueues.{one_only, not_there, some_same}
 
 abbrev Label : Type 0
 Label = ℕ × NameClass
@@ -37,7 +39,7 @@ same_class : {a b : ℕ} {c d : NameClass} → ◌≡◌ {A = Label} (a, c) (b, 
 same_class e = ap (λ (l : Label). l.1) e
 
 in_label_list : (i row : ℕ) (o : Option NameClass) (c : NameClass) → Contains (label_list i o) (row, c) → (row ≡ i) × (o ≡ Some c)
-in_label_list i row None c h = absurd (not_there (row, c) h)
+in_label_list i row None c h = absurd (not_in_none h)
 in_label_list i row (Some d) c h =
     let e : ◌≡◌ {A = Label} (i, d) (row, c) = one_only (i, d) (row, c) h in
     (sym (same_row e), ap Some (same_class e))
@@ -63,12 +65,9 @@ labels_more class i ls new more so_far row c = (
   ]),
 )
 
-no_label : {A : Type 0} {c : NameClass} → ◌≡◌ {A = Option NameClass} None (Some c) → A
-no_label e = absurd (let z = e in cc)
-
 judged_is : (b : Bool) (o : Option NameClass) {c : NameClass} → (if b then o else None) ≡ Some c → o ≡ Some c
 judged_is true o e = e
-judged_is false o e = no_label e
+judged_is false o e = none_is_some e
 
 pub labels_all : (of : NamesOf) (t : Table) (above : List (List ℕ)) (under : List ℕ) (i : ℕ) (ls : List Label) → length t.patterns ≤ i
     → ((k : ℕ) → IsUnder of t above k → slice_get under k ≡ Some 1)
@@ -78,17 +77,13 @@ labels_all of t above under i ls past marked so_far = record {
   complete = λ row c h u. (so_far row c).1 (
     elim (slice_get_cases t.patterns row).1 [
       | inl f ↦ let l = slice_get_within t.patterns row f.0 f.2 in omega arith
-      | inr f ↦ no_label (sym (ap (class_in of t.elements) f.1) ∙ h)
+      | inr f ↦ none_is_some (sym (ap (class_in of t.elements) f.1) ∙ h)
     ],
     ap (λ b. if b then class_in of t.elements (slice_get t.patterns row) else None) (at_marked under row 1 (marked row u)) ∙ h,
   );
 }
 
 -- ---- one more of a list
-
-pub taken : {A B : Type 0} (f : A → B) (xs : List A) (n : ℕ) (x : A) → n < length xs → x ≡ get_or xs n x → take (n + 1) (map f xs) ≡ take n (map f xs) ++ f x ∷ []
-taken f xs n x h e =
-    take_more (map f xs) n (f x) (omega (arith, h, length-map xs f)) ∙ ap (λ y. take n (map f xs) ++ y ∷ []) (get_or-map f xs n x (f x) h ∙ ap f (sym e))
 
 pub overlapping_more : (class : names.NameClass) (ls new : List Label) (i : ℕ) (d : NameClass) (old rows : List ℕ) → new ≡ ls ++ (i, d) ∷ []
     → ((row : ℕ) → Contains rows row ↔ (Contains old row ⊎ ((row ≡ i) × Overlap class (class_of d))))
@@ -128,30 +123,12 @@ equal : (x y : PlainName) → plain_name_of x ≡ plain_name_of y → same.ghost
 equal x y e = ap₂ ◌&&◌ ((bytes_eq-Decides x.ns.now y.ns.now).1 (ap (λ (q : names.Name). q.ns) e))
     ((bytes_eq-Decides x.local.now y.local.now).1 (ap (λ (q : names.Name). q.local) e))
 
-nor : (a b : Bool) → a || b ≡ false → (a ≡ false) × (b ≡ false)
-nor true b e = absurd (true≢false e)
-nor false b e = (refl, e)
-
 none_same : (n : PlainName) (ks : List PlainName) → list_any (same.ghosts.eq n) ks ≡ false → (i : ℕ) → slice_get (map plain_name_of ks) i ≡ Some (plain_name_of n) → ⊥
 none_same n [] e i at = let h = slice_get_within [] i (plain_name_of n) at in omega arith
 none_same n (k ∷ ks) e zero at =
-    let no = nor (same.ghosts.eq n k) (list_any (same.ghosts.eq n) ks) e in
-    true≢false (sym (equal n k (some_same at refl)) ∙ no.0)
-none_same n (k ∷ ks) e (suc i) at = none_same n ks (nor (same.ghosts.eq n k) (list_any (same.ghosts.eq n) ks) e).1 i at
-
-pub at_end : {A : Type 0} (xs : List A) (y z : A) (i : ℕ) → slice_get (xs ++ y ∷ []) i ≡ Some z → (slice_get xs i ≡ Some z) ⊎ ((i ≡ length xs) × (z ≡ y))
-at_end xs y z i e = elim (cases_lt i (length xs)) [
-  | inl h ↦ inl (slice_get-get_or xs i z h ∙ ap Some (sym (get_or_append_left xs (y ∷ []) z i h) ∙ get_or_from_slice_get (xs ++ y ∷ []) i z z e))
-  | inr h ↦
-      let last : i ≡ length xs = omega (arith, slice_get_within (xs ++ y ∷ []) i z e, length-append xs (y ∷ [])) in
-      inr (last, sym (get_or_from_slice_get (xs ++ y ∷ []) i z z e) ∙ get_or_push xs y z i (sym last))
-]
-
-in_front : {A : Type 0} (xs : List A) (y z : A) (i : ℕ) → slice_get xs i ≡ Some z → slice_get (xs ++ y ∷ []) i ≡ Some z
-in_front xs y z i e =
-    let h = slice_get_within xs i z e in
-    slice_get-get_or (xs ++ y ∷ []) i z (omega (arith, length-append xs (y ∷ [])))
-    ∙ ap Some (get_or_append_left xs (y ∷ []) z i h ∙ get_or_from_slice_get xs i z z e)
+    let no = or_parts (same.ghosts.eq n k) (list_any (same.ghosts.eq n) ks) e in
+    true≢false (sym (equal n k (one_value at refl)) ∙ no.0)
+none_same n (k ∷ ks) e (suc i) at = none_same n ks (or_parts (same.ghosts.eq n k) (list_any (same.ghosts.eq n) ks) e).1 i at
 
 -- a name is among the keys and has this number
 pub record IsNumbered (n : PlainName) (ks new : List PlainName) (i : ℕ) : Type 0 where
@@ -180,19 +157,19 @@ numbered n k ks new i is stored eq = either_way (list_any (same.ghosts.eq n) ks)
         let qs = map plain_name_of ks in
         let q = plain_name_of n in
         let more : map plain_name_of new ≡ qs ++ q ∷ [] = ap (map plain_name_of) e ∙ map-append plain_name_of ks (n ∷ []) in record {
-          apart = λ a. subst AreNamesApart (sym more) (λ x y z f g. elim (at_end qs q z x f) [
-            | inl h ↦ elim (at_end qs q z y g) [
+          apart = λ a. subst AreNamesApart (sym more) (λ x y z f g. elim (before_or_at_end qs q z x f) [
+            | inl h ↦ elim (before_or_at_end qs q z y g) [
               | inl l ↦ a x y z h l
               | inr l ↦ absurd (none_same n ks any x (h ∙ ap Some l.1))
             ]
-            | inr h ↦ elim (at_end qs q z y g) [
+            | inr h ↦ elim (before_or_at_end qs q z y g) [
               | inl l ↦ absurd (none_same n ks any y (l ∙ ap Some h.1))
               | inr l ↦ h.0 ∙ sym l.0
             ]
           ]);
           there = found;
-          kept = λ k z h. subst (λ xs. slice_get xs k ≡ Some z) (sym more) (in_front qs q z k h);
-          old = λ h. absurd (elim (at_end qs q q i (subst (λ xs. slice_get xs i ≡ Some q) more found)) [
+          kept = λ k z h. subst (λ xs. slice_get xs k ≡ Some z) (sym more) (in_front qs (q ∷ []) k z h);
+          old = λ h. absurd (elim (before_or_at_end qs q q i (subst (λ xs. slice_get xs i ≡ Some q) more found)) [
             | inl l ↦ none_same n ks any i l
             | inr l ↦ let m = length-map ks plain_name_of in let o = l.0 in omega arith
           ]);
@@ -209,18 +186,18 @@ no_groups qs groups e f = record {
   long = ap length f ∙ sym (ap length e);
   apart = λ i j q g h. absurd (let l = slice_get_within [] i q (subst (λ xs. slice_get xs i ≡ Some q) e g) in omega arith);
   sound = λ k row h. absurd (nothing_at k row (subst (λ xs. Contains (slice_index_or xs k []) row) f h));
-  complete = λ row q h. absurd (not_there (row, class.Name h.0) h.1);
+  complete = λ row q h. absurd (not_in_none h.1);
 }
   where
     nothing_at : (k row : ℕ) → Contains (slice_index_or {A = List ℕ} [] k []) row → ⊥
-    nothing_at k row h = not_there row h
+    nothing_at k row h = not_in_none h
 
 abbrev named : NameClass → Option names.Name
 named (class.Name n) = Some (name_of n)
 named c = None
 
 same_named : (n m : Name) → class.Name n ≡ class.Name m → name_of n ≡ name_of m
-same_named n m e = sym (some_same (ap named e) refl)
+same_named n m e = sym (one_value (ap named e) refl)
 
 module _ (ls : List Label) (qs new_qs : List names.Name) (groups new : List (List ℕ)) (row n : ℕ) (name : Name) (is : AreGroups ls qs groups)
     (apart : AreNamesApart new_qs) (there : slice_get new_qs n ≡ Some (name_of name))

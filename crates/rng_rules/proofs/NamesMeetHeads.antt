@@ -4,6 +4,7 @@ use Rattle.std.proofs.Common.{List, [], ◌∷◌, length, slice_index_or, Conta
 use Rattle.std.proofs.lemmas.Bool.{cases_eq, eq-eqb}
 use Rattle.std.proofs.lemmas.List.{get_or-set_same, get_or-set_other, length-set}
 use Rattle.std.proofs.lemmas.Option.{slice_get_within}
+use Rattle.rng_model.proofs.Members.{one_only}
 use Rattle.rng_model.specs.simple.Table.{Table}
 use Rattle.rng_model.specs.simple.TableRules.{Falls}
 use Rattle.rng_rules.specs.declared.names_meet.NamesOf.{NamesOf}
@@ -13,7 +14,6 @@ use Rattle.rng_rules.specs.plain.NamesMeetReach.{at_start, onward, lists}
 use Rattle.rng_rules.specs.views.NamesMeetRows.{IsAbove}
 use Rattle.rng_rules.specs.views.NamesMeetSides.{AreRows, Climbs, IsJoin, MeetBetween, row_sides}
 use Rattle.rng_rules.proofs.NamesMeetBetween.{join_sides, passed_below, sides_passed}
-use Rattle.rng_rules.proofs.NamesMeetQueues.{one_only}
 
 module _ (of : NamesOf) (t : Table) (above : List (List ℕ)) (is_above : IsAbove t.patterns above) (falls : Falls t.patterns) where
   -- what is above a row comes after it

@@ -2,6 +2,7 @@
 use Rattle.std.proofs.Common.{◌≡◌, inl, inr, refl, ap, sym, ◌∙◌, subst, ℕ, ◌+◌, ◌<◌, List, [], ◌∷◌, ◌++◌, length, Some, None, Option, All, Contains, arith}
 use Rattle.std.proofs.lemmas.Bool.{cases_eq}
 use Rattle.std.proofs.lemmas.List.Elements.{All-append, All-same, Contains-append_left, Contains-append_right}
+use Rattle.rng_model.proofs.Members.{not_in_none, one_only, all_from_members}
 use Rattle.rng_model.specs.simple.Table.{Table}
 use Rattle.rng_model.specs.simple.TableRules.{IsTable}
 use Rattle.rng_model.specs.declared.simple.Simple.{Simple}
@@ -11,7 +12,6 @@ use Rattle.rng_rules.specs.plain.NamesMeetReach.{IsReachedBy, at_start, onward, 
 use Rattle.rng_rules.specs.views.NamesMeetRows.{IsAbove, children, children_at, passed}
 use Rattle.rng_rules.specs.views.NamesMeetSides.{AreRows, Climbs, IsJoin, join_list, row_sides}
 use Rattle.rng_rules.proofs.NamesMeetBetween.{join_sides}
-use Rattle.rng_rules.proofs.NamesMeetQueues.{All-from_contains, one_only, not_there}
 use Rattle.rng_rules.proofs.RowPaths.{children_of}
 
 -- a pattern passes only to its children
@@ -20,15 +20,15 @@ passed_child (simple.OneOrMore a) h = h
 passed_child (simple.Group a b) h = h
 passed_child (simple.Interleave a b) h = h
 passed_child (simple.Choice a b) h = h
-passed_child (simple.Attribute d a) {c} h = absurd (not_there c h)
-passed_child (simple.List a) {c} h = absurd (not_there c h)
-passed_child (simple.DataExcept d a) {c} h = absurd (not_there c h)
-passed_child simple.NotAllowed {c} h = absurd (not_there c h)
-passed_child simple.Empty {c} h = absurd (not_there c h)
-passed_child simple.Text {c} h = absurd (not_there c h)
-passed_child (simple.Element e) {c} h = absurd (not_there c h)
-passed_child (simple.Data d) {c} h = absurd (not_there c h)
-passed_child (simple.Value value) {c} h = absurd (not_there c h)
+passed_child (simple.Attribute d a) {c} h = absurd (not_in_none h)
+passed_child (simple.List a) {c} h = absurd (not_in_none h)
+passed_child (simple.DataExcept d a) {c} h = absurd (not_in_none h)
+passed_child simple.NotAllowed {c} h = absurd (not_in_none h)
+passed_child simple.Empty {c} h = absurd (not_in_none h)
+passed_child simple.Text {c} h = absurd (not_in_none h)
+passed_child (simple.Element e) {c} h = absurd (not_in_none h)
+passed_child (simple.Data d) {c} h = absurd (not_in_none h)
+passed_child (simple.Value value) {c} h = absurd (not_in_none h)
 
 module _ (t : Table) (valid : IsTable t) (above : List (List ℕ)) (is : IsAbove t.patterns above) (start : List ℕ) where
   -- a row that climbs to a row that is reached is reached too
@@ -45,7 +45,7 @@ pub record AreJoinsOfFirst (rows : declared.Rows) (n : ℕ) (joins : List ℕ) :
   pub all : (row left right : ℕ) → row < n → IsJoin rows.of rows.grammar.now row left right → Contains joins row
 
 join_below : (n i : ℕ) (o : Option (ℕ × ℕ)) → i < n → (k : ℕ) → Contains (join_list i o) k → k < n
-join_below n i None h k c = absurd (not_there k c)
+join_below n i None h k c = absurd (not_in_none c)
 join_below n i (Some s) h k c = subst (λ j. j < n) (one_only i k c) h
 
 join_there : (i : ℕ) (o : Option (ℕ × ℕ)) {s : ℕ × ℕ} → o ≡ Some s → Contains (join_list i o) i
@@ -57,7 +57,7 @@ joins_more rows are i old new inside more so_far =
     let n = length rows.standing.items in
     let one = join_list i (row_sides rows i) in record {
       below = All-same (λ k. k < n) new (old ++ one) more
-          (All-append (λ k. k < n) old one so_far.below (All-from_contains (λ k. k < n) one (join_below n i (row_sides rows i) inside)));
+          (All-append (λ k. k < n) old one so_far.below (all_from_members (λ k. k < n) one (join_below n i (row_sides rows i) inside)));
       all = λ row left right h j. subst (λ xs. Contains xs row) (sym more) (elim (cases_eq row i) [
         | inl e ↦ Contains-append_right old one row
             (subst (Contains one) (sym e) (join_there i (row_sides rows i) (ap (row_sides rows) (sym e)

@@ -1,53 +1,25 @@
 -- A finished queue contains exactly what is reached, and its numbers have the mark of the round.
 use Rattle.std.proofs.Common.{◌≡◌, ◌≢◌, ◌⊎◌, ◌↔◌, inl, inr, refl, ap, sym, ◌∙◌, subst, ℕ, zero, suc, ◌+◌, ◌<◌, ◌≤◌, List, [], ◌∷◌, ◌++◌, length, set, take}
-use Rattle.std.proofs.Common.{slice_get, Some, All, Contains, get_or, Option, append_assoc, append-nil, length-append, arith}
+use Rattle.std.proofs.Common.{slice_get, Some, All, Contains, get_or, append_assoc, append-nil, length-append, arith}
 use Rattle.std.proofs.lemmas.Bool.{cases_eq, cases_lt}
-use Rattle.std.proofs.lemmas.List.{take_more, take_all, get_or_append_left, get_or-set_same, get_or-set_other, length-set}
+use Rattle.std.proofs.lemmas.List.{take_more, take_all, get_or-set_same, get_or-set_other, length-set}
 use Rattle.std.proofs.lemmas.List.Elements.{All-append, All-contains, All-same, Contains-append_left, Contains-append_right, Contains-append_cases}
-use Rattle.std.proofs.lemmas.List.Elements.{Contains-push, Contains-push_cases, Contains-get_or}
-use Rattle.std.proofs.lemmas.Option.{slice_get_cases, slice_get_within, get_or_from_slice_get, slice_get-get_or}
+use Rattle.std.proofs.lemmas.List.Elements.{Contains-push, Contains-push_cases}
+use Rattle.std.proofs.lemmas.Option.{slice_get_within, get_or_from_slice_get, slice_get-get_or}
+use Rattle.rng_model.proofs.Options.{one_value}
+use Rattle.rng_model.proofs.Members.{not_in_none, one_only, all_from_members}
+use Rattle.rng_model.proofs.Places.{front_at, some_at, all_at}
 use Rattle.rng_rules.specs.plain.NamesMeetReach.{IsReachedBy, at_start, onward, IsQueue, Without, none, marked, unmarked, IsMarked, Adds}
 
 -- ---- lists
 
-pub some_same : {A : Type 0} {o : Option A} {x y : A} → o ≡ Some x → o ≡ Some y → x ≡ y
-some_same e f = cc
-
-pub read_at : {A : Type 0} (xs : List A) (i : ℕ) (x y : A) → i < length xs → x ≡ get_or xs i x → x ≡ y → slice_get xs i ≡ Some y
-read_at xs i x y h e f = slice_get-get_or xs i x h ∙ ap Some (sym e ∙ f)
-
-pub some_at : {A : Type 0} (xs : List A) (x : A) → Contains xs x → (k : ℕ) × (k < length xs) × (slice_get xs k ≡ Some x)
-some_at xs x c = elim (slice_get_cases xs c.0).1 [
-  | inl f ↦ (c.0, c.1, f.2 ∙ ap Some (sym (get_or_from_slice_get xs c.0 f.0 x f.2) ∙ c.2))
-  | inr f ↦ absurd (let h = c.1 in omega arith)
-]
-
-pub contains_at : {A : Type 0} (xs : List A) (i : ℕ) (x : A) → slice_get xs i ≡ Some x → Contains xs x
-contains_at xs i x e = (i, slice_get_within xs i x e, get_or_from_slice_get xs i x x e)
-
-pub one_only : {A : Type 0} (x y : A) → Contains (x ∷ []) y → x ≡ y
-one_only x y c = elim (Contains-push_cases [] x y c) [ inl n ↦ absurd (let h = n.1 in omega arith) | inr e ↦ e ]
-
-pub not_there : {A : Type 0} (y : A) → Contains [] y → ⊥
-not_there y c = let h = c.1 in omega arith
-
-pub All-from_contains : {A : Type 0} (P : A → Type 0) (xs : List A) → ((x : A) → Contains xs x → P x) → All P xs
-All-from_contains P xs f = λ k d h. f (get_or xs k d) (Contains-get_or xs k d h)
-
-pub all_at : {A : Type 0} (P : A → Type 0) (xs : List A) (k : ℕ) (x : A) → All P xs → slice_get xs k ≡ Some x → P x
-all_at P xs k x all e = All-contains P xs x all (contains_at xs k x e)
-
 -- one more element for which P holds
 pub all_more : {A : Type 0} (P : A → Type 0) (xs : List A) (n : ℕ) (x : A) → n < length xs → x ≡ get_or xs n x → P x → All P (take n xs) → All P (take (n + 1) xs)
 all_more P xs n x h e p all = All-same P (take (n + 1) xs) (take n xs ++ x ∷ []) (take_more xs n x h ∙ ap (λ y. take n xs ++ y ∷ []) (sym e))
-    (All-append P (take n xs) (x ∷ []) all (All-from_contains P (x ∷ []) (λ y c. subst P (one_only x y c) p)))
+    (All-append P (take n xs) (x ∷ []) all (all_from_members P (x ∷ []) (λ y c. subst P (one_only x y c) p)))
 
 pub all_of : {A : Type 0} (P : A → Type 0) (xs : List A) (n : ℕ) → length xs ≤ n → All P (take n xs) → (x : A) → Contains xs x → P x
 all_of P xs n h all x c = All-contains P xs x (All-same P xs (take n xs) (sym (take_all n xs h)) all) c
-
--- the elements of the front of a longer list
-front_at : {A : Type 0} (xs more : List A) (k : ℕ) (z : A) → slice_get (xs ++ more) k ≡ Some z → k < length xs → slice_get xs k ≡ Some z
-front_at xs more k z e h = slice_get-get_or xs k z h ∙ ap Some (sym (get_or_append_left xs more z k h) ∙ get_or_from_slice_get (xs ++ more) k z z e)
 
 -- ---- a queue
 
@@ -62,7 +34,7 @@ module _ {A : Type 0} (next : A → List A) (start : List A) where
   begins : (xs : List A) → ((x : A) → Contains xs x → Contains start x) → ((x : A) → Contains start x → Contains xs x) → IsQueue next start xs 0
   begins xs f g = record {
     within = omega arith;
-    reached = All-from_contains (IsReachedBy next start) xs (λ x c. at_start (f x c));
+    reached = all_from_members (IsReachedBy next start) xs (λ x c. at_start (f x c));
     begun = g;
     done = λ k x y h e c. absurd (omega arith);
   }
@@ -74,7 +46,7 @@ module _ {A : Type 0} (next : A → List A) (start : List A) where
   done_more xs more n x q e g k z y i c h (inr l) =
       let same : k ≡ n = omega arith in
       let at : slice_get xs n ≡ Some z = front_at xs more n z (ap (slice_get (xs ++ more)) (sym same) ∙ i) (slice_get_within xs n x e) in
-      g y (subst (λ w. Contains (next w) y) (some_same at e) c)
+      g y (subst (λ w. Contains (next w) y) (one_value at e) c)
 
   -- the head is done after everything next to it is in the queue
   goes_on : (xs more : List A) (n : ℕ) (x : A) → IsQueue next start xs n → slice_get xs n ≡ Some x → ((y : A) → Contains more y → Contains (next x) y)
@@ -82,7 +54,7 @@ module _ {A : Type 0} (next : A → List A) (start : List A) where
   goes_on xs more n x q e f g = record {
     within = omega (arith, length-append xs more, slice_get_within xs n x e);
     reached = All-append (IsReachedBy next start) xs more q.reached
-        (All-from_contains (IsReachedBy next start) more (λ y c. onward
+        (all_from_members (IsReachedBy next start) more (λ y c. onward
         (All-contains (IsReachedBy next start) xs x q.reached (n, slice_get_within xs n x e, get_or_from_slice_get xs n x x e)) (f y c)));
     begun = λ y c. Contains-append_left xs more y (q.begun y c);
     done = λ k z y h i c. done_more xs more n x q e g k z y i c h (cases_lt k n);
@@ -131,7 +103,7 @@ record OneLess (mark : ℕ) (ms : List ℕ) (n : ℕ) : Type 0 where
 
 one_less : (mark m k : ℕ) (ms : List ℕ) (n : ℕ) → Without mark ms n → slice_get ms k ≡ Some m → m ≢ mark → OneLess mark (set ms k mark) n
 one_less mark m k [] n w e new = absurd (let h = slice_get_within [] k m e in omega arith)
-one_less mark m zero (p ∷ ms) n (marked same w) e new = absurd (new (some_same e refl ∙ same))
+one_less mark m zero (p ∷ ms) n (marked same w) e new = absurd (new (one_value e refl ∙ same))
 one_less mark m zero (p ∷ ms) n (unmarked {n = r} other w) e new = record { rest = r; is = refl; left = marked refl w }
 one_less mark m (suc k) (p ∷ ms) n (marked same w) e new = let h = one_less mark m k ms n w e new in record { rest = h.rest; is = h.is; left = marked same h.left }
 one_less mark m (suc k) (p ∷ ms) n (unmarked {n = r} other w) e new =
@@ -145,7 +117,7 @@ without_all mark (m ∷ ms) f =
 pub nothing_marked : (round : ℕ) (marks : List ℕ) → All (λ m. m < round) marks → IsMarked round marks []
 nothing_marked round marks small = record {
   marked = λ k e. absurd (let h = all_at (λ m. m < round) marks k round small e in omega arith);
-  seen = λ k c. absurd (not_there k c);
+  seen = λ k c. absurd (not_in_none c);
   greatest = λ k d h. let l = small k d h in omega arith;
   room = length marks;
   left = without_all round marks (λ k m e. all_at (λ m. m < round) marks k m small e);
@@ -154,7 +126,7 @@ nothing_marked round marks small = record {
 
 module _ (round : ℕ) (marks : List ℕ) (queue : List ℕ) (k m : ℕ) (is : IsMarked round marks queue) (at : slice_get marks k ≡ Some m) (new : m ≢ round) where
   not_in : Contains queue k → ⊥
-  not_in c = new (some_same at (is.seen k c))
+  not_in c = new (one_value at (is.seen k c))
 
   at_mark : (j : ℕ) → slice_get (set marks k round) j ≡ Some round → Contains (queue ++ k ∷ []) j
   at_mark j e =
@@ -197,7 +169,7 @@ module _ (round : ℕ) (marks : List ℕ) (queue : List ℕ) (k m : ℕ) (is : I
       let less = one_less round m k marks is.room is.left at new in record {
         marked = at_mark;
         seen = mark_at;
-        greatest = All-from_contains (λ m. m ≤ round) (set marks k round) (λ z c. let i = some_at (set marks k round) z c in not_greater i.0 z i.2);
+        greatest = all_from_members (λ m. m ≤ round) (set marks k round) (λ z c. let i = some_at (set marks k round) z c in not_greater i.0 z i.2);
         room = less.rest;
         left = less.left;
         count = omega (arith, less.is, is.count, length-append queue (k ∷ []), length-set marks k round);
@@ -215,7 +187,7 @@ queue_goes next start seen new i k q e a =
 
 pub below_more : (n : ℕ) (seen numbers new : List ℕ) → All (λ k. k < n) seen → All (λ k. k < n) numbers → Adds seen numbers new → All (λ k. k < n) new
 below_more n seen numbers new f g a = All-same (λ k. k < n) new (seen ++ a.more) a.is
-    (All-append (λ k. k < n) seen a.more f (All-from_contains (λ k. k < n) a.more (λ k c. All-contains (λ k. k < n) numbers k g (a.from k c))))
+    (All-append (λ k. k < n) seen a.more f (all_from_members (λ k. k < n) a.more (λ k c. All-contains (λ k. k < n) numbers k g (a.from k c))))
 
 pub queue_is_done : (next : ℕ → List ℕ) (start seen : List ℕ) (i : ℕ) → IsQueue next start seen i → length seen ≤ i → (k : ℕ)
     → IsReachedBy next start k ↔ Contains seen k

@@ -6,6 +6,7 @@ use Rattle.std.proofs.lemmas.Bool.{cases_eq, cases_lt}
 use Rattle.std.proofs.lemmas.List.{get_or-map, get_or-set_other, length-set}
 use Rattle.std.proofs.lemmas.Option.{get_or_from_slice_get, slice_get-get_or, slice_get_within}
 use Rattle.std.proofs.lemmas.List.Elements.{Contains-push_cases}
+use Rattle.rng_model.proofs.Members.{one_only, all_from_members}
 use Rattle.rng_model.specs.names.Names.{Overlap}
 use Rattle.rng_model.specs.simple.Table.{Table}
 use Rattle.rng_model.specs.names.NameViews.{class_of}
@@ -15,7 +16,6 @@ use Rattle.rng_rules.specs.declared.names_meet.NamesOf.{NamesOf}
 use Rattle.rng_rules.specs.plain.NamesMeetReach.{AreBelow, at_start, onward, lists}
 use Rattle.rng_rules.specs.views.NamesMeetSearch.{Meeting}
 use Rattle.rng_rules.specs.views.NamesMeetSides.{Climbs, MeetBetween}
-use Rattle.rng_rules.proofs.NamesMeetQueues.{All-from_contains, one_only}
 
 pub if_ok : {A E : Type 0} {P Q : A → Type 0} (r : Result A E) → ((x : A) → P x → Q x) → IfOk r P → IfOk r Q
 if_ok (Ok x) f p = f x p
@@ -27,7 +27,7 @@ pub group_at : {Z : Type 0} (groups : List (Vec ℕ Z)) (i : ℕ) (g : Vec ℕ Z
 group_at groups i g h e = sym (get_or-map vec_items groups i g [] h ∙ ap vec_items (sym e))
 
 pub group_below : (n : ℕ) (all : List (List ℕ)) (i : ℕ) (xs : List ℕ) → AreBelow n all → xs ≡ slice_index_or all i [] → All (λ k. k < n) xs
-group_below n all i xs below e = All-from_contains (λ k. k < n) xs (λ k c. below i k (subst (λ ys. Contains ys k) e c))
+group_below n all i xs below e = all_from_members (λ k. k < n) xs (λ k c. below i k (subst (λ ys. Contains ys k) e c))
 
 pub none_more : {P : ℕ → Type 0} (i : ℕ) → ((k : ℕ) → k < i → ¬ (P k)) → ¬ (P i) → (k : ℕ) → k < i + 1 → ¬ (P k)
 none_more {P} i so_far one k h = elim (cases_lt k i) [ inl l ↦ so_far k l | inr l ↦ subst (λ j. ¬ (P j)) (let e : i ≡ k = omega (arith, l, h) in e) one ]

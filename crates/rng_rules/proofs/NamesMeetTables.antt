@@ -5,6 +5,8 @@ use Rattle.std.proofs.lemmas.Bool.{cases_eq, cases_lt}
 use Rattle.std.proofs.lemmas.List.{length-map, get_or-map, get_or-set_same, get_or-set_other, get_or_append_left, get_or_push, get_or_past}
 use Rattle.std.proofs.lemmas.List.Elements.{All-append, All-map, Contains-push, Contains-push_cases, Contains-append_left, Contains-append_cases}
 use Rattle.std.proofs.lemmas.Option.{slice_get_cases, slice_get_within, get_or_from_slice_get}
+use Rattle.rng_model.proofs.Options.{one_value}
+use Rattle.rng_model.proofs.Members.{not_in_none, one_only, all_from_members}
 use Rattle.rng_model.specs.declared.simple.Simple.{Simple}
 use Rattle.rng_model.specs.declared.simple.Simple.TheVariants as simple
 use Rattle.rng_model.specs.declared.simple.PatternId.{PatternId}
@@ -14,7 +16,6 @@ use Rattle.rng_model.specs.simple.TableRules.{AreChildrenBelow, Falls, IsTable}
 use Rattle.rng_model.proofs.MadeLists.{past_end}
 use Rattle.rng_rules.specs.plain.NamesMeetReach.{AreBelow}
 use Rattle.rng_rules.specs.views.NamesMeetRows.{IsAbove, Passes, children, part_rows, passed}
-use Rattle.rng_rules.proofs.NamesMeetQueues.{All-from_contains, one_only, not_there, some_same}
 
 pub on_ok : {A E : Type 0} {P Q : Type 0} (r : Result A E) → (P → Q) → OnOk r P → OnOk r Q
 on_ok (Ok x) f p = f p
@@ -93,7 +94,7 @@ above_none ps all e = record {
   within = omega arith;
   long = ap length e;
   exact = λ c p. (
-    λ h. absurd (not_there p (subst (λ xs. Contains xs p) (ap (λ xs. slice_index_or xs c []) e ∙ get_or_past [] c [] (omega arith)) h)),
+    λ h. absurd (not_in_none (subst (λ xs. Contains xs p) (ap (λ xs. slice_index_or xs c []) e ∙ get_or_past [] c [] (omega arith)) h)),
     λ h. absurd (let l = h.0 in omega arith),
   );
 }
@@ -119,7 +120,7 @@ module _ (ps : List Simple) (n : ℕ) (r : Simple) (at : Some r ≡ slice_get ps
   passes_here c p e h = (r, ap (slice_get ps) e ∙ sym at, h)
 
   here_passes : (c p : ℕ) → p ≡ n → Passes ps c p → Contains (passed r) c
-  here_passes c p e h = subst (λ q. Contains (passed q) c) (some_same h.1 (ap (slice_get ps) e ∙ sym at)) h.2
+  here_passes c p e h = subst (λ q. Contains (passed q) c) (one_value h.1 (ap (slice_get ps) e ∙ sym at)) h.2
 
   pub above_more : IsAboveOfFirst ps (n + 1) longer
   above_more = record {
@@ -158,12 +159,12 @@ children_below (simple.OneOrMore a) n i h c = subst (λ k. k < n) (one_only a.0 
 children_below (simple.Group a b) n i h c = elim (one_of_two c) [ inl e ↦ omega (arith, e, h.0) | inr e ↦ omega (arith, e, h.1) ]
 children_below (simple.Interleave a b) n i h c = elim (one_of_two c) [ inl e ↦ omega (arith, e, h.0) | inr e ↦ omega (arith, e, h.1) ]
 children_below (simple.Choice a b) n i h c = elim (one_of_two c) [ inl e ↦ omega (arith, e, h.0) | inr e ↦ omega (arith, e, h.1) ]
-children_below simple.NotAllowed n i h c = absurd (not_there i c)
-children_below simple.Empty n i h c = absurd (not_there i c)
-children_below simple.Text n i h c = absurd (not_there i c)
-children_below (simple.Element e) n i h c = absurd (not_there i c)
-children_below (simple.Data d) n i h c = absurd (not_there i c)
-children_below (simple.Value value) n i h c = absurd (not_there i c)
+children_below simple.NotAllowed n i h c = absurd (not_in_none c)
+children_below simple.Empty n i h c = absurd (not_in_none c)
+children_below simple.Text n i h c = absurd (not_in_none c)
+children_below (simple.Element e) n i h c = absurd (not_in_none c)
+children_below (simple.Data d) n i h c = absurd (not_in_none c)
+children_below (simple.Value value) n i h c = absurd (not_in_none c)
 
 pub children_in_table : (ps : List Simple) → Falls ps → AreBelow (length ps) (map children ps)
 children_in_table ps falls j i c = elim (slice_get_cases ps j).1 [
@@ -171,12 +172,12 @@ children_in_table ps falls j i c = elim (slice_get_cases ps j).1 [
       let h = slice_get_within ps j f.0 f.2 in
       let own : get_or (map children ps) j [] ≡ children f.0 = get_or-map children ps j f.0 [] h ∙ ap children (get_or_from_slice_get ps j f.0 f.0 f.2) in
       let l = children_below f.0 j i (falls j f.0 f.2) (subst (λ xs. Contains xs i) own c) in omega arith
-  | inr f ↦ absurd (not_there i (subst (λ xs. Contains xs i) (get_or_past (map children ps) j [] (omega (arith, f.1, length-map ps children))) c))
+  | inr f ↦ absurd (not_in_none (subst (λ xs. Contains xs i) (get_or_past (map children ps) j [] (omega (arith, f.1, length-map ps children))) c))
 ]
 
 pub parts_in_table : (t : Table) → IsTable t → All (λ k. k < length t.patterns) (part_rows t)
 parts_in_table t is = All-append (λ k. k < length t.patterns) (map (λ e. e.1.0) t.elements) (t.start.0 ∷ []) (bodies t.elements is.bodies)
-    (All-from_contains (λ k. k < length t.patterns) (t.start.0 ∷ []) (λ k c. subst (λ n. n < length t.patterns) (one_only t.start.0 k c) is.start))
+    (all_from_members (λ k. k < length t.patterns) (t.start.0 ∷ []) (λ k c. subst (λ n. n < length t.patterns) (one_only t.start.0 k c) is.start))
   where
     bodies : (es : List (NameClass × PatternId)) → All (λ e. e.1.0 < length t.patterns) es → All (λ k. k < length t.patterns) (map (λ e. e.1.0) es)
     bodies es all = All-map (λ k. k < length t.patterns) (λ e. e.1.0) es all

@@ -4,7 +4,10 @@ use Rattle.std.proofs.Common.{slice_get, Some, option_map, Contains, arith}
 use Rattle.std.proofs.lemmas.List.{get_or-map, length-map}
 use Rattle.std.proofs.lemmas.List.Elements.{All-contains, Contains-append_left, Contains-push, Contains-push_cases}
 use Rattle.std.proofs.lemmas.Option.{slice_get_cases, slice_get_within, get_or_from_slice_get, slice_get-map}
-use Rattle.rng_model.specs.names.Lists.{Among, here, there}
+use Rattle.rng_model.proofs.Options.{one_value}
+use Rattle.rng_model.proofs.Members.{not_in_none, one_only}
+use Rattle.rng_model.proofs.Places.{contains_at, some_at, among_at, at_among}
+use Rattle.rng_model.specs.names.Lists.{there}
 use Rattle.rng_model.specs.names.Names as names
 use Rattle.rng_model.specs.simple.Tree as tree
 use Rattle.rng_model.specs.names.NameViews.{class_of}
@@ -21,20 +24,10 @@ use Rattle.rng_model.proofs.Table.{tree_at-over_children}
 use Rattle.rng_rules.specs.plain.NamesMeetReach.{IsReachedBy, at_start, onward}
 use Rattle.rng_rules.specs.views.NamesMeetRows.{IsAbove, children, children_at, part_rows, passed}
 use Rattle.rng_rules.specs.views.NamesMeetSides.{Climbs}
-use Rattle.rng_rules.proofs.NamesMeetQueues.{one_only, not_there, some_same, some_at, contains_at}
 use Rattle.rng_rules.proofs.NamesMeetTables.{one_of_two, children_below}
 
 abbrev pub STree : Type 0
 STree = tree.Simple ℕ
-
-pub found_among : {A : Type 0} (xs : List A) (i : ℕ) (x : A) → slice_get xs i ≡ Some x → Among x xs
-found_among [] i x e = absurd (let h = slice_get_within [] i x e in omega arith)
-found_among (y ∷ ys) zero x e = subst (λ z. Among x (z ∷ ys)) (some_same e refl) here
-found_among (y ∷ ys) (suc i) x e = there (found_among ys i x e)
-
-pub among_found : {A : Type 0} {x : A} {xs : List A} → Among x xs → (i : ℕ) × (slice_get xs i ≡ Some x)
-among_found here = (0, refl)
-among_found (there i) = let k = among_found i in (suc k.0, k.1)
 
 -- q occurs in the parts of the pattern
 abbrev OccursBelow : STree → STree → Type 0
@@ -101,15 +94,15 @@ module _ (t : Table) (valid : IsTable t) where
   -- ---- a row that is reached is inside a part
 
   child_stands : {y : ℕ} (r : Simple) → Contains (children r) y → StandsIn (at y) (tree_over (tree_at ps) r)
-  child_stands {y} simple.NotAllowed c = absurd (not_there y c)
-  child_stands {y} simple.Empty c = absurd (not_there y c)
-  child_stands {y} simple.Text c = absurd (not_there y c)
-  child_stands {y} (simple.Element e) c = absurd (not_there y c)
+  child_stands {y} simple.NotAllowed c = absurd (not_in_none c)
+  child_stands {y} simple.Empty c = absurd (not_in_none c)
+  child_stands {y} simple.Text c = absurd (not_in_none c)
+  child_stands {y} (simple.Element e) c = absurd (not_in_none c)
   child_stands {y} (simple.Attribute d a) c = in_attribute (subst (λ k. StandsIn (at k) (tree_at ps a)) (one_only a.0 _ c) itself)
   child_stands {y} (simple.List a) c = in_list (subst (λ k. StandsIn (at k) (tree_at ps a)) (one_only a.0 _ c) itself)
-  child_stands {y} (simple.Data d) c = absurd (not_there y c)
+  child_stands {y} (simple.Data d) c = absurd (not_in_none c)
   child_stands {y} (simple.DataExcept d a) c = in_except (subst (λ k. StandsIn (at k) (tree_at ps a)) (one_only a.0 _ c) itself)
-  child_stands {y} (simple.Value value) c = absurd (not_there y c)
+  child_stands {y} (simple.Value value) c = absurd (not_in_none c)
   child_stands {y} (simple.OneOrMore a) c = in_one_or_more (subst (λ k. StandsIn (at k) (tree_at ps a)) (one_only a.0 _ c) itself)
   child_stands {y} (simple.Group a b) c = elim (one_of_two c) [ inl e ↦ in_left (subst (λ k. StandsIn (at k) (tree_at ps a)) (sym e) itself) | inr e ↦ in_right (subst (λ k. StandsIn (at k) (tree_at ps b)) (sym e) itself) ]
   child_stands {y} (simple.Interleave a b) c = elim (one_of_two c) [ inl e ↦ in_left (subst (λ k. StandsIn (at k) (tree_at ps a)) (sym e) itself) | inr e ↦ in_right (subst (λ k. StandsIn (at k) (tree_at ps b)) (sym e) itself) ]
@@ -126,13 +119,13 @@ module _ (t : Table) (valid : IsTable t) where
       let i = some_at (map (λ e. e.1.0) t.elements) k c in
       elim (slice_get_cases t.elements i.0).1 [
         | inl f ↦
-            let same : f.0.1.0 ≡ k = some_same (slice_get-map (λ e. e.1.0) t.elements i.0 ∙ ap (option_map (λ e. e.1.0)) f.2) i.2 in
+            let same : f.0.1.0 ≡ k = one_value (slice_get-map (λ e. e.1.0) t.elements i.0 ∙ ap (option_map (λ e. e.1.0)) f.2) i.2 in
             let listed : slice_get (grammar_of t).elements i.0 ≡ Some (class_of f.0.0, tree_at ps f.0.1) =
             slice_get-map (λ e. (class_of e.0, tree_at ps e.1)) t.elements i.0 ∙ ap (option_map (λ e. (class_of e.0, tree_at ps e.1))) f.2 in
             subst InPart same (record {
               inside = All-contains (λ e. e.1.0 < length ps) t.elements f.0 valid.bodies (contains_at t.elements i.0 f.0 f.2);
               part = tree_at ps f.0.1;
-              is = a_body (found_among (grammar_of t).elements i.0 (class_of f.0.0, tree_at ps f.0.1) listed);
+              is = a_body (at_among (grammar_of t).elements i.0 (class_of f.0.0, tree_at ps f.0.1) listed);
               stands = itself;
             })
         | inr f ↦ absurd (let l = length-map t.elements (λ e. e.1.0) in omega (arith, i.1, f.0, l))
@@ -158,7 +151,7 @@ module _ (t : Table) (valid : IsTable t) where
   pub part_row : {p : STree} → IsPart (grammar_of t) p → (k : ℕ) × Contains (part_rows t) k × (at k ≡ p)
   part_row the_start = (t.start.0, Contains-push (map (λ e. e.1.0) t.elements) t.start.0, refl)
   part_row (a_body {c} {body} a) =
-      let i = among_found a in
+      let i = among_at a in
       let f : (names.NameClass × STree) → STree = λ x. x.1 in
       elim (slice_get_cases t.elements i.0).1 [
         | inl g ↦
@@ -167,7 +160,7 @@ module _ (t : Table) (valid : IsTable t) where
               g.0.1.0,
               Contains-append_left (map (λ e. e.1.0) t.elements) (t.start.0 ∷ []) g.0.1.0
                   (contains_at (map (λ e. e.1.0) t.elements) i.0 g.0.1.0 (slice_get-map (λ e. e.1.0) t.elements i.0 ∙ ap (option_map (λ e. e.1.0)) g.2)),
-              ap f (some_same listed i.1),
+              ap f (one_value listed i.1),
             )
         | inr g ↦ absurd (let l = length-map {B = names.NameClass × STree} t.elements (λ e. (class_of e.0, tree_at ps e.1)) in
             let h = slice_get_within (grammar_of t).elements i.0 (c, body) i.1 in omega (arith, h, g.0, l))
@@ -177,15 +170,15 @@ module _ (t : Table) (valid : IsTable t) where
 
   module _ (above : List (List ℕ)) (is : IsAbove ps above) where
     occurs_over : {q : STree} {x : ℕ} (r : Simple) → Contains (passed r) x → OccursIn q (at x) → OccursIn q (tree_over (tree_at ps) r)
-    occurs_over {q} {x} simple.NotAllowed c o = absurd (not_there x c)
-    occurs_over {q} {x} simple.Empty c o = absurd (not_there x c)
-    occurs_over {q} {x} simple.Text c o = absurd (not_there x c)
-    occurs_over {q} {x} (simple.Element e) c o = absurd (not_there x c)
-    occurs_over {q} {x} (simple.Attribute d a) c o = absurd (not_there x c)
-    occurs_over {q} {x} (simple.List a) c o = absurd (not_there x c)
-    occurs_over {q} {x} (simple.Data d) c o = absurd (not_there x c)
-    occurs_over {q} {x} (simple.DataExcept d a) c o = absurd (not_there x c)
-    occurs_over {q} {x} (simple.Value value) c o = absurd (not_there x c)
+    occurs_over {q} {x} simple.NotAllowed c o = absurd (not_in_none c)
+    occurs_over {q} {x} simple.Empty c o = absurd (not_in_none c)
+    occurs_over {q} {x} simple.Text c o = absurd (not_in_none c)
+    occurs_over {q} {x} (simple.Element e) c o = absurd (not_in_none c)
+    occurs_over {q} {x} (simple.Attribute d a) c o = absurd (not_in_none c)
+    occurs_over {q} {x} (simple.List a) c o = absurd (not_in_none c)
+    occurs_over {q} {x} (simple.Data d) c o = absurd (not_in_none c)
+    occurs_over {q} {x} (simple.DataExcept d a) c o = absurd (not_in_none c)
+    occurs_over {q} {x} (simple.Value value) c o = absurd (not_in_none c)
     occurs_over {q} {x} (simple.OneOrMore a) c o = occurs_repeated (subst (λ k. OccursIn q (at k)) (sym (one_only a.0 x c)) o)
     occurs_over {q} {x} (simple.Group a b) c o = elim (one_of_two c) [ inl e ↦ occurs_left (subst (λ k. OccursIn q (at k)) e o) | inr e ↦ occurs_right (subst (λ k. OccursIn q (at k)) e o) ]
     occurs_over {q} {x} (simple.Interleave a b) c o = elim (one_of_two c) [ inl e ↦ occurs_left (subst (λ k. OccursIn q (at k)) e o) | inr e ↦ occurs_right (subst (λ k. OccursIn q (at k)) e o) ]

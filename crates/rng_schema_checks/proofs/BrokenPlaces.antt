@@ -3,6 +3,7 @@ use Rattle.std.proofs.Common.{◌≡◌, ◌↔◌, inl, inr, refl, sym, ap, ◌
 use Rattle.std.specs.List.{list_any}
 use Rattle.std.proofs.lemmas.Bool.{not_from_false, or_cases, or_left, or_right}
 use Rattle.std.proofs.lemmas.List.Folds.{Any-from_list_any, list_any_at}
+use Rattle.rng_model.proofs.Truths.{no_truth}
 use Rattle.rng_model.specs.simple.Tree.{Datatype}
 use Rattle.rng_model.specs.schema.Patterns.{Place, Pattern, element, attribute, data_of, data_except, value, ref, parent_ref, without_parameters}
 use Rattle.rng_model.specs.schema.Schema.{Schema, Component, IsWrittenAt}
@@ -18,7 +19,7 @@ use Rattle.rng_schema_checks.specs.plain.GrammarTests.{components_at, components
 use Rattle.rng_schema_checks.specs.plain.PatternTests.{PatternTest, class_test, datatype_test, is_refused, is_unknown, passes, ref_test}
 use Rattle.rng_schema_checks.specs.declared.checking.ComponentClause.{ComponentClause}
 use Rattle.rng_schema_checks.specs.declared.checking.ComponentClause.TheVariants as clauses
-use Rattle.rng_schema_checks.proofs.ListTests.{any_found, any_met, false_is_no_truth, same_name-found, same_name-met}
+use Rattle.rng_schema_checks.proofs.ListTests.{any_found, any_met, same_name-found, same_name-met}
 use Rattle.rng_schema_checks.proofs.CombinedNames.{both_found, both_met, plain_met, two_plain_found}
 use Rattle.rng_schema_checks.proofs.NameClassTests.{declaration_passes, except_found, except_met, is_declaration, part_found, part_met}
 use Rattle.rng_schema_checks.proofs.WrittenInGrammars.{at_grammar, pattern_found, pattern_met, not_defined, lacks_it, lacked_around, lacks_around}
@@ -56,18 +57,18 @@ module _ (s : Schema) (x : Place) where
     | inl a ↦ of_attribute w (except_found c a)
     | inr b ↦ let part = part_found declaration_test c b in of_declaration w part.1 (is_declaration part.0 part.2)
   ]
-  class_breaks q w e = false_is_no_truth e
+  class_breaks q w e = no_truth e
 
   datatype_breaks : (q : Pattern) → IsWrittenAt s x q → passes datatype_test q ≡ true → BreaksDatatype s
   datatype_breaks (data_of d) w e = of_data w (unknown_is d e)
   datatype_breaks (data_except d p) w e = of_data_except w (unknown_is d e)
   datatype_breaks (value library name v) w e = of_value w (refused_is library name v e)
-  datatype_breaks q w e = false_is_no_truth e
+  datatype_breaks q w e = no_truth e
 
   ref_breaks : (q : Pattern) → IsWrittenAt s x q → passes (ref_test (defines s x) (defines_if s (s.outer x))) q ≡ true → BreaksRef s
   ref_breaks (ref y) w e = of_ref w (not_defined s x y e)
   ref_breaks (parent_ref y) w e = of_parent_ref w (lacked_around s y (s.outer x) e)
-  ref_breaks q w e = false_is_no_truth e
+  ref_breaks q w e = no_truth e
 
   combination_breaks : (cs : List Component) → s.components x ≡ Some cs → tests.breaks_combination cs ≡ true → BreaksCombination s
   combination_breaks cs is e = elim (or_cases (tests.two_plain [] cs) (tests.both_methods cs) e) [

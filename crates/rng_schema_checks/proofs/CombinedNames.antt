@@ -5,28 +5,29 @@ use Rattle.std.proofs.Math.Bool.{or-false}
 use Rattle.std.proofs.lemmas.Bool.{and_parts, or_cases, or_left, or_right}
 use Rattle.std.proofs.lemmas.List.Folds.{list_any-append}
 use Rattle.std.specs.Cmp.Derive.{both_true}
+use Rattle.rng_model.proofs.Truths.{no_truth}
 use Rattle.rng_model.specs.names.Lists.{Among, here, there, HasTwo, first_and, both_later}
 use Rattle.rng_model.specs.schema.Schema.{Component, same_name, is_interleaved}
 use Rattle.rng_model.specs.declared.method.Method.{Method}
 use Rattle.rng_model.specs.declared.method.Method.TheVariants as methods
 use Rattle.rng_schema_checks.specs.plain.GrammarTests.{Name, has, is_plain, is_choice, is_interleaved_as, two_plain, both_methods}
-use Rattle.rng_schema_checks.proofs.ListTests.{any_found, any_met, false_is_no_truth, same_name-found, same_name-met}
+use Rattle.rng_schema_checks.proofs.ListTests.{any_found, any_met, same_name-found, same_name-met}
 
 -- ---- methods
 
 plain_is : (m : Method) → is_plain m ≡ true → m ≡ methods.Plain
 plain_is methods.Plain e = refl
-plain_is methods.Choice e = false_is_no_truth e
-plain_is methods.Interleave e = false_is_no_truth e
+plain_is methods.Choice e = no_truth e
+plain_is methods.Interleave e = no_truth e
 
 choice_is : (m : Method) → is_choice m ≡ true → m ≡ methods.Choice
-choice_is methods.Plain e = false_is_no_truth e
+choice_is methods.Plain e = no_truth e
 choice_is methods.Choice e = refl
-choice_is methods.Interleave e = false_is_no_truth e
+choice_is methods.Interleave e = no_truth e
 
 interleaved_is : (m : Method) → is_interleaved m ≡ true → m ≡ methods.Interleave
-interleaved_is methods.Plain e = false_is_no_truth e
-interleaved_is methods.Choice e = false_is_no_truth e
+interleaved_is methods.Plain e = no_truth e
+interleaved_is methods.Choice e = no_truth e
 interleaved_is methods.Interleave e = refl
 
 -- ---- two with `=`
@@ -70,7 +71,7 @@ module _ (names : List Name) (c : Component) (cs : List Component) where
   plain_step false is more same e = later_plain names (same e)
 
 pub plain_found : (names : List Name) (cs : List Component) → two_plain names cs ≡ true → IsPlainAs names cs ⊎ HasTwo AreBothPlain cs
-plain_found names [] e = false_is_no_truth e
+plain_found names [] e = no_truth e
 plain_found names (c ∷ cs) e = plain_step names c cs (is_plain c.method) refl (plain_found (names ++ c.name ∷ []) cs) (plain_found names cs) e
 
 -- the first component, with `=` and without
@@ -99,7 +100,7 @@ plain_met names (first_and {x} {y} {xs} a p) =
 plain_met names (both_later {x} {xs} h) = step_met names x xs (plain_met (names ++ x.name ∷ []) h) (plain_met names h)
 
 no_names_before : {cs : List Component} → IsPlainAs [] cs → ⊥
-no_names_before p = false_is_no_truth p.3
+no_names_before p = no_truth p.3
 
 pub two_plain_found : (cs : List Component) → two_plain [] cs ≡ true → HasTwo AreBothPlain cs
 two_plain_found cs e = elim (plain_found [] cs e) [ inl p ↦ absurd (no_names_before p) | inr h ↦ h ]

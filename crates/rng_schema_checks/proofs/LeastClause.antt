@@ -1,9 +1,9 @@
 -- The least clause that is broken, found by checking one after the other.
 use Rattle.std.proofs.Common.{◌≡◌, inl, inr, sym, subst, ◌∙◌, ◌↔◌, Bool, false, IsTrue, ℕ, ◌+◌, ◌≤◌, arith}
 use Rattle.std.proofs.Math.Nat.{eq-or-lt_of_le}
+use Rattle.rng_model.proofs.Truths.{no_truth}
 use Rattle.rng_model.specs.schema.Schema.{Schema}
 use Rattle.rng_model.specs.schema.SchemaClauses.{BreaksSchemaClause, in_name_class, in_datatype, in_combination, without_start, in_ref, in_expansion, in_depth}
-use Rattle.rng_schema_checks.proofs.ListTests.{false_is_no_truth}
 
 module _ (s : Schema) where
   -- each broken clause has at least this number
@@ -27,4 +27,4 @@ module _ (s : Schema) where
 
   -- a clause that is reported as kept is not broken
   pub unbroken : (n : ℕ) {b : Bool} → b ≡ false → IsTrue b ↔ BreaksSchemaClause s n → ¬ (BreaksSchemaClause s n)
-  unbroken n kept tells broken = false_is_no_truth (sym kept ∙ tells.1 broken)
+  unbroken n kept tells broken = no_truth (sym kept ∙ tells.1 broken)

@@ -3,6 +3,8 @@ use Rattle.std.proofs.Common.{◌≡◌, ◌⊎◌, inl, inr, codes, ℕ, List, 
 use Rattle.std.specs.Str.{bytes_eq}
 use Rattle.std.proofs.lemmas.Bool.{and_parts, or_cases, or_left, or_right}
 use Rattle.std.proofs.lemmas.Slice.Eq.{bytes_eq-Decides}
+use Rattle.rng_model.proofs.Truths.{no_truth}
+use Rattle.rng_model.proofs.Texts.{bytes_same}
 use Rattle.rng_model.specs.names.Names.{NameClass, NameClasses, any_name, any_except, ns_name, ns_except, name_is, one_of, no_classes, class_and}
 use Rattle.rng_model.specs.schema.SchemaClauses.{IsPartOf, IsPartOfOne, itself, in_any_except, in_ns_except, in_first, in_second, in_another, in_this, in_later}
 use Rattle.rng_model.specs.schema.SchemaClauses.{IsAny, any_is, any_but_is, IsNamespace, namespace_is, namespace_but_is, barred_uri}
@@ -10,7 +12,6 @@ use Rattle.rng_model.specs.schema.SchemaClauses.{BreaksClassExcept, any_in_any, 
 use Rattle.rng_model.specs.schema.SchemaClauses.{IsOfDeclarations, xmlns_is, name_of_it, all_names_of_it, names_of_it_but}
 use Rattle.rng_schema_checks.specs.plain.ClassTests.{ClassTest, passes, has_part, some_has_part, breaks_except, some_breaks_except}
 use Rattle.rng_schema_checks.specs.plain.ClassTests.{any_test, wildcard_test, declaration_test, is_barred}
-use Rattle.rng_schema_checks.proofs.ListTests.{false_is_no_truth}
 
 -- ---- the parts of a class
 
@@ -44,7 +45,7 @@ module _ (t : ClassTest) where
     ]
 
     part_of_one_found : (cs : NameClasses) → some_has_part t cs ≡ true → HasPartOfOne t cs
-    part_of_one_found no_classes e = false_is_no_truth e
+    part_of_one_found no_classes e = no_truth e
     part_of_one_found (class_and c cs) e = elim (or_cases (has_part t c) (some_has_part t cs) e) [
       | inl first ↦ let found = part_found c first in (found.0, in_this found.1, found.2)
       | inr later ↦ let found = part_of_one_found cs later in (found.0, in_later found.1, found.2)
@@ -56,7 +57,7 @@ module _ (t : ClassTest) where
   alone (ns_name u) e = e
   alone (ns_except u c) e = or_left (t.namespace u) (has_part t c) e
   alone (name_is n) e = e
-  alone (one_of b c cs) e = false_is_no_truth e
+  alone (one_of b c cs) e = no_truth e
 
   mutual
     pub part_met : {d c : NameClass} → IsPartOf d c → passes t d ≡ true → has_part t c ≡ true
@@ -78,10 +79,10 @@ module _ (t : ClassTest) where
 is_any : (d : NameClass) → passes any_test d ≡ true → IsAny d
 is_any any_name e = any_is
 is_any (any_except c) e = any_but_is
-is_any (ns_name u) e = false_is_no_truth e
-is_any (ns_except u c) e = false_is_no_truth e
-is_any (name_is n) e = false_is_no_truth e
-is_any (one_of b c cs) e = false_is_no_truth e
+is_any (ns_name u) e = no_truth e
+is_any (ns_except u c) e = no_truth e
+is_any (name_is n) e = no_truth e
+is_any (one_of b c cs) e = no_truth e
 
 any_passes : {d : NameClass} → IsAny d → (passes any_test d ≡ true) × (passes wildcard_test d ≡ true)
 any_passes any_is = (refl, refl)
@@ -96,26 +97,23 @@ is_wildcard any_name e = inl any_is
 is_wildcard (any_except c) e = inl any_but_is
 is_wildcard (ns_name u) e = inr namespace_is
 is_wildcard (ns_except u c) e = inr namespace_but_is
-is_wildcard (name_is n) e = false_is_no_truth e
-is_wildcard (one_of b c cs) e = false_is_no_truth e
-
-same : (u v : List ℕ) → bytes_eq u v ≡ true → u ≡ v
-same u v = (bytes_eq-Decides u v).0
+is_wildcard (name_is n) e = no_truth e
+is_wildcard (one_of b c cs) e = no_truth e
 
 as_same : (u v : List ℕ) → u ≡ v → bytes_eq u v ≡ true
 as_same u v = (bytes_eq-Decides u v).1
 
 pub is_declaration : (d : NameClass) → passes declaration_test d ≡ true → IsOfDeclarations d
-is_declaration any_name e = false_is_no_truth e
-is_declaration (any_except c) e = false_is_no_truth e
-is_declaration (ns_name u) e = all_names_of_it (same u barred_uri e)
-is_declaration (ns_except u c) e = names_of_it_but (same u barred_uri e)
+is_declaration any_name e = no_truth e
+is_declaration (any_except c) e = no_truth e
+is_declaration (ns_name u) e = all_names_of_it (bytes_same u barred_uri e)
+is_declaration (ns_except u c) e = names_of_it_but (bytes_same u barred_uri e)
 is_declaration (name_is n) e = elim (or_cases (is_barred n.ns) (bytes_eq n.ns [] && bytes_eq n.local (codes "xmlns")) e) [
-  | inl barred ↦ name_of_it (same n.ns barred_uri barred)
+  | inl barred ↦ name_of_it (bytes_same n.ns barred_uri barred)
   | inr xmlns ↦ let parts = and_parts (bytes_eq n.ns []) (bytes_eq n.local (codes "xmlns")) xmlns in
-      xmlns_is (same n.ns [] parts.0) (same n.local (codes "xmlns") parts.1)
+      xmlns_is (bytes_same n.ns [] parts.0) (bytes_same n.local (codes "xmlns") parts.1)
 ]
-is_declaration (one_of b c cs) e = false_is_no_truth e
+is_declaration (one_of b c cs) e = no_truth e
 
 pub declaration_passes : {d : NameClass} → IsOfDeclarations d → passes declaration_test d ≡ true
 declaration_passes (xmlns_is {n} none xmlns) =
@@ -148,17 +146,17 @@ SomeBreaksExcept cs = (c : NameClass) × ((d : NameClass) → IsPartOf d c → I
 
 mutual
   pub except_found : (c : NameClass) → breaks_except c ≡ true → BreaksClassExcept c
-  except_found any_name e = false_is_no_truth e
+  except_found any_name e = no_truth e
   except_found (any_except c) e = elim (or_cases (has_part any_test c) (breaks_except c) e) [
     | inl a ↦ breaks_any c a
     | inr b ↦ breaks_around (λ d. in_any_except) (except_found c b)
   ]
-  except_found (ns_name u) e = false_is_no_truth e
+  except_found (ns_name u) e = no_truth e
   except_found (ns_except u c) e = elim (or_cases (has_part wildcard_test c) (breaks_except c) e) [
     | inl a ↦ breaks_namespace u c a
     | inr b ↦ breaks_around (λ d. in_ns_except) (except_found c b)
   ]
-  except_found (name_is n) e = false_is_no_truth e
+  except_found (name_is n) e = no_truth e
   except_found (one_of b c cs) e = elim (or_cases (breaks_except b) (breaks_except c || some_breaks_except cs) e) [
     | inl first ↦ breaks_around (λ d. in_first) (except_found b first)
     | inr more ↦ elim (or_cases (breaks_except c) (some_breaks_except cs) more) [
@@ -168,7 +166,7 @@ mutual
   ]
 
   some_except_found : (cs : NameClasses) → some_breaks_except cs ≡ true → SomeBreaksExcept cs
-  some_except_found no_classes e = false_is_no_truth e
+  some_except_found no_classes e = no_truth e
   some_except_found (class_and c cs) e = elim (or_cases (breaks_except c) (some_breaks_except cs) e) [
     | inl first ↦ (c, λ d. in_this, except_found c first)
     | inr later ↦ let found = some_except_found cs later in (found.0, λ d i. in_later (found.1 d i), found.2)

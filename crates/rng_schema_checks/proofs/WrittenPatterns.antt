@@ -1,12 +1,12 @@
 -- The test of a pattern passes if it passes for a pattern that is written in it.
 use Rattle.std.proofs.Common.{◌≡◌, inl, inr, Bool, true, ◌||◌}
 use Rattle.std.proofs.lemmas.Bool.{or_cases, or_left, or_right}
+use Rattle.rng_model.proofs.Truths.{no_truth}
 use Rattle.rng_model.specs.schema.Patterns.{Pattern, Patterns, not_allowed, empty, text, element, attribute, list, data_of, data_except, value, mixed}
 use Rattle.rng_model.specs.schema.Patterns.{optional, zero_or_more, one_or_more, joined, ref, parent_ref, grammar, external, no_patterns, pattern_and}
 use Rattle.rng_model.specs.schema.Patterns.{IsWrittenIn, IsWrittenAmong, itself, in_element, in_attribute, in_list, in_except, in_mixed, in_optional}
 use Rattle.rng_model.specs.schema.Patterns.{in_zero_or_more, in_one_or_more, in_first, in_second, in_another, in_external, in_this, in_later}
 use Rattle.rng_schema_checks.specs.plain.PatternTests.{PatternTest, passes, has_written, some_has_written}
-use Rattle.rng_schema_checks.proofs.ListTests.{false_is_no_truth}
 
 module _ (t : PatternTest) where
   -- a pattern that passes is written in this one
@@ -28,9 +28,9 @@ module _ (t : PatternTest) where
 
   mutual
     pub written_found : (p : Pattern) → has_written t p ≡ true → HasWritten p
-    written_found not_allowed e = false_is_no_truth e
-    written_found empty e = false_is_no_truth e
-    written_found text e = false_is_no_truth e
+    written_found not_allowed e = no_truth e
+    written_found empty e = no_truth e
+    written_found text e = no_truth e
     written_found (element c p) e = either (t.element c) (λ q. in_element) (λ a. a) (written_found p) e
     written_found (attribute c p) e = either (t.attribute c) (λ q. in_attribute) (λ a. a) (written_found p) e
     written_found (list p) e = around (λ q. in_list) (written_found p e)
@@ -50,11 +50,11 @@ module _ (t : PatternTest) where
     ]
     written_found (ref y) e = (ref y, itself, e)
     written_found (parent_ref y) e = (parent_ref y, itself, e)
-    written_found (grammar z) e = false_is_no_truth e
+    written_found (grammar z) e = no_truth e
     written_found (external p) e = around (λ q. in_external) (written_found p e)
 
     some_written_found : (ps : Patterns) → some_has_written t ps ≡ true → HasWrittenAmong ps
-    some_written_found no_patterns e = false_is_no_truth e
+    some_written_found no_patterns e = no_truth e
     some_written_found (pattern_and p ps) e = elim (or_cases (has_written t p) (some_has_written t ps) e) [
       | inl first ↦ let found = written_found p first in (found.0, in_this found.1, found.2)
       | inr later ↦ let found = some_written_found ps later in (found.0, in_later found.1, found.2)
@@ -66,19 +66,19 @@ module _ (t : PatternTest) where
   alone text e = e
   alone (element c p) e = or_left (t.element c) (has_written t p) e
   alone (attribute c p) e = or_left (t.attribute c) (has_written t p) e
-  alone (list p) e = false_is_no_truth e
+  alone (list p) e = no_truth e
   alone (data_of d) e = e
   alone (data_except d p) e = or_left (t.datatype d) (has_written t p) e
   alone (value library name v) e = e
-  alone (mixed p) e = false_is_no_truth e
-  alone (optional p) e = false_is_no_truth e
-  alone (zero_or_more p) e = false_is_no_truth e
-  alone (one_or_more p) e = false_is_no_truth e
-  alone (joined k p q ps) e = false_is_no_truth e
+  alone (mixed p) e = no_truth e
+  alone (optional p) e = no_truth e
+  alone (zero_or_more p) e = no_truth e
+  alone (one_or_more p) e = no_truth e
+  alone (joined k p q ps) e = no_truth e
   alone (ref y) e = e
   alone (parent_ref y) e = e
   alone (grammar z) e = e
-  alone (external p) e = false_is_no_truth e
+  alone (external p) e = no_truth e
 
   mutual
     pub written_met : {q p : Pattern} → IsWrittenIn q p → passes t q ≡ true → has_written t p ≡ true

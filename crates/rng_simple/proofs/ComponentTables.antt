@@ -5,7 +5,7 @@ use Rattle.std.proofs.Common.{List, [], ◌∷◌, ◌++◌, map, filter, length
 use Rattle.std.proofs.Common.{Option, Some, None, Contains, drop, get_or, nat_lt, Vec, Bor, Global}
 use Rattle.std.specs.List.{list_any, position, position_or_len}
 use Rattle.std.specs.Str.{bytes_eq}
-use Rattle.std.proofs.lemmas.Bool.{ltb-false}
+use Rattle.std.proofs.lemmas.Bool.{ltb-false, or_parts}
 use Rattle.std.proofs.lemmas.List.{append-nil, drop_all, drop_more, length-map}
 use Rattle.std.proofs.lemmas.List.{get_or-map, get_or-set_same, get_or-set_other, length-set}
 use Rattle.std.proofs.lemmas.List.Elements.{filter-append, Contains-append_right}
@@ -34,15 +34,11 @@ all_seen cs = map seen cs.items
 
 -- ---- the number of a definition when another one is looked up
 
-both_false : (a b : Bool) → a || b ≡ false → (a ≡ false) × (b ≡ false)
-both_false true b e = absurd (true≢false e)
-both_false false b e = (refl, e)
-
 -- a definition that is not there is numbered by the length
 number_of_absent : (d : Definition) (ds : List Definition) → list_any (same_definition d) ds ≡ false → number_of ds d ≡ length ds
 number_of_absent d [] n = refl
 number_of_absent d (f ∷ fs) n =
-    let both = both_false (same_definition d f) (list_any (same_definition d) fs) n in
+    let both = or_parts (same_definition d f) (list_any (same_definition d) fs) n in
     let first = ap (λ b. if b then 0 else number_of fs d + 1) both.0 in
     let rest = number_of_absent d fs both.1 in
     omega (arith, first, rest)
@@ -51,7 +47,7 @@ none_with_another : (d e : Definition) (ds : List Definition) → same_definitio
     → list_any (same_definition d) (ds ++ e ∷ []) ≡ false
 none_with_another d e [] h n = ap (λ b. b || false) h
 none_with_another d e (f ∷ fs) h n =
-    let both = both_false (same_definition d f) (list_any (same_definition d) fs) n in
+    let both = or_parts (same_definition d f) (list_any (same_definition d) fs) n in
     ap₂ ◌||◌ both.0 (none_with_another d e fs h both.1)
 
 -- a definition that is there keeps its number
@@ -74,7 +70,7 @@ below_number d ds h = elim (asked d ds) [
 new_number : (e : Definition) (ds : List Definition) → list_any (same_definition e) ds ≡ false → number_of (ds ++ e ∷ []) e ≡ length ds
 new_number e [] h = ap (λ b. if b then 0 else 1) (definition_same e)
 new_number e (f ∷ fs) h =
-    let both = both_false (same_definition e f) (list_any (same_definition e) fs) h in
+    let both = or_parts (same_definition e f) (list_any (same_definition e) fs) h in
     let first = ap (λ b. if b then 0 else number_of (fs ++ e ∷ []) e + 1) both.0 in
     let rest = new_number e fs both.1 in
     omega (arith, first, rest)

@@ -6,6 +6,7 @@ use Rattle.std.proofs.lemmas.List.{get_or_append_left, get_or-append_right, get_
 use Rattle.std.proofs.lemmas.List.{get_or-map}
 use Rattle.std.proofs.lemmas.List.Elements.{All-nil, All-push, Contains-append_left, Contains-push}
 use Rattle.std.proofs.lemmas.Option.{slice_get_within, slice_get-get_or, get_or_from_slice_get}
+use Rattle.rng_model.proofs.Places.{before_or_at_end, at_place_of_end, in_front}
 use Rattle.rng_simple.specs.declared.graph.order.Mark.{Mark}
 use Rattle.rng_simple.specs.declared.graph.order.Mark.TheVariants as mark
 use Rattle.rng_simple.specs.declared.graph.order.Task.{Task}
@@ -13,7 +14,6 @@ use Rattle.rng_simple.specs.declared.graph.order.Task.TheVariants as task
 use Rattle.rng_simple.specs.plain.Graph.{no_numbers, and_number, LeadsBy, by_one, by_more}
 use Rattle.rng_simple.specs.plain.Search.{Lists, AreMentionsBelow, number_of, IsDue, IsSearch, IsStart, weight}
 use Rattle.rng_model.proofs.Unfolding.{some_is}
-use Rattle.rng_simple.proofs.ListParts.{at_end, in_front, last_of}
 
 then_one : {A : Type 0} (M : A → A → Type 0) {x y : A} (z : A) → LeadsBy M x y → M y z → LeadsBy M x z
 then_one M z (by_one m) n = by_more m (by_one n)
@@ -37,13 +37,13 @@ set_at_place xs j x y i e =
 
 -- without the last task, whose number is j
 due_less : (rest : List Task) (t : Task) (from i : ℕ) → IsDue (rest ++ t ∷ []) from i → IsDue rest from i ⊎ (number_of t ≡ i)
-due_less rest t from i d = elim (at_end rest t d.task d.place d.there) [
+due_less rest t from i d = elim (before_or_at_end rest t d.task d.place d.there) [
   | inl h ↦ inl (record { place = d.place; task = d.task; after = d.after; there = h; is = d.is })
   | inr h ↦ inr (ap number_of (sym h.1) ∙ d.is)
 ]
 
 due_more : (rest more : List Task) (from i : ℕ) → IsDue rest from i → IsDue (rest ++ more) from i
-due_more rest more from i d = record { place = d.place; task = d.task; after = d.after; there = in_front rest more d.task d.place d.there; is = d.is }
+due_more rest more from i d = record { place = d.place; task = d.task; after = d.after; there = in_front rest more d.place d.task d.there; is = d.is }
 
 module _ (all : List (List ℕ)) (marks : List Mark) (rest : List Task) (order : List ℕ) where
   -- ---- entering a number that is done: nothing changes
@@ -59,13 +59,13 @@ module _ (all : List (List ℕ)) (marks : List Mark) (rest : List Task) (order :
         long = s.long;
         in_order = s.in_order;
         ordered_below = s.ordered_below;
-        tasks_below = λ p t f. s.tasks_below p t (in_front rest (task.Enter j ∷ []) t p f);
+        tasks_below = λ p t f. s.tasks_below p t (in_front rest (task.Enter j ∷ []) p t f);
         done = s.done;
         opened =
-            λ i f. let o = s.opened i f in elim (at_end rest (task.Enter j) (task.Leave i) o.0 o.1) [ inl h ↦ (o.0, h) | inr h ↦ absurd (let z = h.1 in cc) ];
+            λ i f. let o = s.opened i f in elim (before_or_at_end rest (task.Enter j) (task.Leave i) o.0 o.1) [ inl h ↦ (o.0, h) | inr h ↦ absurd (let z = h.1 in cc) ];
         every = λ i h. gone 0 i (s.every i h);
-        before = λ p k i f m. gone (p + 1) i (s.before p k i (in_front rest (task.Enter j ∷ []) (task.Leave k) p f) m);
-        leads = λ p q k t h f g. s.leads p q k t h (in_front rest (task.Enter j ∷ []) (task.Leave k) p f) (in_front rest (task.Enter j ∷ []) t q g);
+        before = λ p k i f m. gone (p + 1) i (s.before p k i (in_front rest (task.Enter j ∷ []) p (task.Leave k) f) m);
+        leads = λ p q k t h f g. s.leads p q k t h (in_front rest (task.Enter j ∷ []) p (task.Leave k) f) (in_front rest (task.Enter j ∷ []) q t g);
       }
 
   -- ---- entering a number that is open: a loop
@@ -73,8 +73,8 @@ module _ (all : List (List ℕ)) (marks : List Mark) (rest : List Task) (order :
   pub enter_open : (j : ℕ) → IsSearch all marks (rest ++ task.Enter j ∷ []) order → slice_get marks j ≡ Some mark.Open → LeadsBy (Lists all) j j
   enter_open j s e =
       let o = s.opened j e in
-      elim (at_end rest (task.Enter j) (task.Leave j) o.0 o.1) [
-        | inl h ↦ s.leads o.0 (length rest) j (task.Enter j) (slice_get_within rest o.0 (task.Leave j) h) o.1 (last_of rest (task.Enter j) (length rest) refl)
+      elim (before_or_at_end rest (task.Enter j) (task.Leave j) o.0 o.1) [
+        | inl h ↦ s.leads o.0 (length rest) j (task.Enter j) (slice_get_within rest o.0 (task.Leave j) h) o.1 (at_place_of_end rest (task.Enter j) (length rest) refl)
         | inr h ↦ absurd (let z = h.1 in cc)
       ]
 
@@ -88,7 +88,7 @@ module _ (all : List (List ℕ)) (marks : List Mark) (rest : List Task) (order :
         | inr d ↦ elim (due_less rest (task.Leave j) from i d) [ inl f ↦ inr f | inr q ↦ inl (subst (Contains (order ++ j ∷ [])) q (Contains-push order j)) ]
       ] in
       let mentioned : (i : ℕ) → Lists all j i → Contains order i =
-      λ i m. elim (s.before (length rest) j i (last_of rest (task.Leave j) (length rest) refl) m) [
+      λ i m. elim (s.before (length rest) j i (at_place_of_end rest (task.Leave j) (length rest) refl) m) [
         | inl c ↦ c
         | inr d ↦ absurd (omega (arith, d.after, slice_get_within (rest ++ task.Leave j ∷ []) d.place d.task d.there, length-append rest (task.Leave j ∷ [])))
       ] in record {
@@ -96,8 +96,8 @@ module _ (all : List (List ℕ)) (marks : List Mark) (rest : List Task) (order :
         in_order = and_number j s.in_order mentioned refl;
         ordered_below =
             All-push (λ i. i < length all) order j s.ordered_below
-            (s.tasks_below (length rest) (task.Leave j) (last_of rest (task.Leave j) (length rest) refl));
-        tasks_below = λ p t f. s.tasks_below p t (in_front rest (task.Leave j ∷ []) t p f);
+            (s.tasks_below (length rest) (task.Leave j) (at_place_of_end rest (task.Leave j) (length rest) refl));
+        tasks_below = λ p t f. s.tasks_below p t (in_front rest (task.Leave j ∷ []) p t f);
         done = λ i f. elim (set_at_place marks j mark.Done mark.Done i f) [
           | inl h ↦ subst (Contains (order ++ j ∷ [])) (sym h.0) (Contains-push order j)
           | inr h ↦ Contains-append_left order (j ∷ []) i (s.done i h.1)
@@ -106,14 +106,14 @@ module _ (all : List (List ℕ)) (marks : List Mark) (rest : List Task) (order :
           | inl h ↦ absurd (let z = h.1 in cc)
           | inr h ↦
               let o = s.opened i h.1 in
-              elim (at_end rest (task.Leave j) (task.Leave i) o.0 o.1) [
+              elim (before_or_at_end rest (task.Leave j) (task.Leave i) o.0 o.1) [
                 | inl k ↦ (o.0, k)
                 | inr k ↦ absurd (h.0 (ap number_of k.1))
               ]
         ];
         every = λ i h. gone 0 i (s.every i h);
-        before = λ p k i f m. gone (p + 1) i (s.before p k i (in_front rest (task.Leave j ∷ []) (task.Leave k) p f) m);
-        leads = λ p q k t h f g. s.leads p q k t h (in_front rest (task.Leave j ∷ []) (task.Leave k) p f) (in_front rest (task.Leave j ∷ []) t q g);
+        before = λ p k i f m. gone (p + 1) i (s.before p k i (in_front rest (task.Leave j ∷ []) p (task.Leave k) f) m);
+        leads = λ p q k t h f g. s.leads p q k t h (in_front rest (task.Leave j ∷ []) p (task.Leave k) f) (in_front rest (task.Leave j ∷ []) q t g);
       }
 
 -- ---- entering a new number: its task to leave comes after everything that it mentions
@@ -167,7 +167,7 @@ module _ (all : List (List ℕ)) (marks : List Mark) (rest : List Task) (order :
 
   stands : (p : ℕ) (t : Task) → slice_get tasks p ≡ Some t → Stands p t
   stands p t e = elim (in_either (rest ++ task.Leave j ∷ []) (map task.Enter mentions) t p e) [
-    | inl h ↦ elim (at_end rest (task.Leave j) t p h) [ inl k ↦ in_rest k | inr k ↦ is_left k.0 k.1 ]
+    | inl h ↦ elim (before_or_at_end rest (task.Leave j) t p h) [ inl k ↦ in_rest k | inr k ↦ is_left k.0 k.1 ]
     | inr h ↦
         let k = p - length (rest ++ task.Leave j ∷ []) in
         let i = entered_before mentions t k h.1 in
@@ -176,16 +176,16 @@ module _ (all : List (List ℕ)) (marks : List Mark) (rest : List Task) (order :
   ]
 
   kept : (p : ℕ) (t : Task) → slice_get rest p ≡ Some t → slice_get tasks p ≡ Some t
-  kept p t e = in_front (rest ++ task.Leave j ∷ []) (map task.Enter mentions) t p (in_front rest (task.Leave j ∷ []) t p e)
+  kept p t e = in_front (rest ++ task.Leave j ∷ []) (map task.Enter mentions) p t (in_front rest (task.Leave j ∷ []) p t e)
 
   left : slice_get tasks (length rest) ≡ Some (task.Leave j)
-  left = in_front (rest ++ task.Leave j ∷ []) (map task.Enter mentions) (task.Leave j) (length rest) (last_of rest (task.Leave j) (length rest) refl)
+  left = in_front (rest ++ task.Leave j ∷ []) (map task.Enter mentions) (length rest) (task.Leave j) (at_place_of_end rest (task.Leave j) (length rest) refl)
 
   was : slice_get (rest ++ task.Enter j ∷ []) (length rest) ≡ Some (task.Enter j)
-  was = last_of rest (task.Enter j) (length rest) refl
+  was = at_place_of_end rest (task.Enter j) (length rest) refl
 
   before_it : (p : ℕ) (t : Task) → slice_get rest p ≡ Some t → slice_get (rest ++ task.Enter j ∷ []) p ≡ Some t
-  before_it p t e = in_front rest (task.Enter j ∷ []) t p e
+  before_it p t e = in_front rest (task.Enter j ∷ []) p t e
 
   -- what had a task still has one
   still_due : (from i : ℕ) → from ≤ length rest → Contains order i ⊎ IsDue (rest ++ task.Enter j ∷ []) from i → Contains order i ⊎ IsDue tasks from i
@@ -241,7 +241,7 @@ module _ (all : List (List ℕ)) (marks : List Mark) (rest : List Task) (order :
     | inl h ↦ (length rest, left ∙ ap (λ n. Some (task.Leave n)) (sym h.0))
     | inr h ↦
         let o = s.opened i h.1 in
-        elim (at_end rest (task.Enter j) (task.Leave i) o.0 o.1) [
+        elim (before_or_at_end rest (task.Enter j) (task.Leave i) o.0 o.1) [
           | inl k ↦ (o.0, kept o.0 (task.Leave i) k)
           | inr k ↦ absurd (enter_is_no_leave (sym k.1))
         ]

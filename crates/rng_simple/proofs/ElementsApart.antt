@@ -1,12 +1,14 @@
 -- The elements of definitions are distinct: no two have the same position and place.
-use Rattle.std.proofs.Common.{◌≡◌, ◌⊎◌, inl, inr, refl, sym, ap, subst, ◌∙◌, arith, ℕ, zero, suc, ◌+◌, ◌≤◌, Bool, true, false, true≢false, if◌then◌else◌}
+use Rattle.std.proofs.Common.{◌≡◌, inl, inr, refl, sym, ap, subst, ◌∙◌, arith, ℕ, zero, suc, ◌+◌, ◌≤◌, Bool, true, false, true≢false, if◌then◌else◌}
 use Rattle.std.proofs.Common.{List, [], ◌∷◌, ◌++◌, append_assoc, length, length-append, slice_get, fold, Option, Some, None, Contains}
 use Rattle.std.specs.Str.{bytes_eq}
 use Rattle.std.proofs.lemmas.Bool.{and_parts}
 use Rattle.std.proofs.lemmas.List.{append-nil}
-use Rattle.std.proofs.lemmas.List.Elements.{Contains-append_cases, Contains-append_right, Contains-push_cases}
+use Rattle.std.proofs.lemmas.List.Elements.{Contains-append_cases, Contains-append_right}
 use Rattle.std.proofs.lemmas.Option.{slice_get_within}
 use Rattle.std.proofs.lemmas.Slice.Eq.{bytes_eq-Decides}
+use Rattle.rng_model.proofs.Members.{not_in_none, first_or_later}
+use Rattle.rng_model.proofs.Places.{contains_at}
 use Rattle.rng_model.specs.names.Names.{NameClass}
 use Rattle.rng_model.specs.schema.Patterns.{Place, Position, Pattern, Patterns, no_patterns, pattern_and}
 use Rattle.rng_model.specs.schema.Patterns as pattern
@@ -16,8 +18,7 @@ use Rattle.rng_model.proofs.Unfolding.{some_is}
 use Rattle.rng_simple.specs.views.ComponentTable.{components_at}
 use Rattle.rng_simple.specs.plain.Graph.{ArePairwiseApart, same_definition, same_leaf}
 use Rattle.rng_simple.specs.plain.ResolvedElements.{with_elements, with_all_elements, with_named_elements, with_elements_of, elements_of}
-use Rattle.rng_simple.proofs.Graphs.{contains_found, found_contained}
-use Rattle.rng_simple.proofs.ResolvedPatterns.{none_there}
+use Rattle.rng_simple.proofs.Graphs.{found_contained}
 
 -- ---- positions
 
@@ -42,15 +43,6 @@ data AllApart : List Leaf → Type 0 where
   none_apart : AllApart []
   more_apart : {l : Leaf} {ls : List Leaf} → ((m : Leaf) → Contains ls m → AreTwo l m) → AllApart ls → AllApart (l ∷ ls)
 
-in_cons : {A : Type 0} (x : A) (xs : List A) (y : A) → Contains (x ∷ xs) y → (x ≡ y) ⊎ Contains xs y
-in_cons x xs y c = elim (Contains-append_cases (x ∷ []) xs y c) [
-  | inl h ↦ elim (Contains-push_cases [] x y h) [
-    | inl n ↦ absurd (none_there n)
-    | inr e ↦ inl e
-  ]
-  | inr h ↦ inr h
-]
-
 in_first : {A : Type 0} (x : A) (xs : List A) → Contains (x ∷ xs) x
 in_first x xs = (0, omega arith, refl)
 
@@ -69,9 +61,9 @@ leaves_apart : (ls : List Leaf) → AllApart ls → ArePairwiseApart same_leaf l
 leaves_apart [] none_apart i j x y e f q = absurd (let h = slice_get_within [] i x e in omega arith)
 leaves_apart (l ∷ ls) (more_apart a more) zero zero x y e f q = refl
 leaves_apart (l ∷ ls) (more_apart a more) zero (suc j) x y e f q =
-    absurd (not_one x y q (subst (λ k. AreTwo k y) (some_is refl e) (a y (contains_found ls j y f))))
+    absurd (not_one x y q (subst (λ k. AreTwo k y) (some_is refl e) (a y (contains_at ls j y f))))
 leaves_apart (l ∷ ls) (more_apart a more) (suc i) zero x y e f q =
-    let two : AreTwo y x = subst (λ k. AreTwo k x) (some_is refl f) (a x (contains_found ls i x e)) in
+    let two : AreTwo y x = subst (λ k. AreTwo k x) (some_is refl f) (a x (contains_at ls i x e)) in
     absurd (not_one x y q (λ p n. two (sym p) (sym n)))
 leaves_apart (l ∷ ls) (more_apart a more) (suc i) (suc j) x y e f q = ap suc (leaves_apart ls more i j x y e f q)
 
@@ -85,14 +77,14 @@ record Brought (P : Leaf → Type 0) (before after : List Leaf) : Type 0 where
   apart : AllApart more
 
 none_brought : {P : Leaf → Type 0} {ls : List Leaf} → Brought P ls ls
-none_brought {ls = ls} = record { more = []; is = sym (append-nil ls); each = λ m c. absurd (none_there c); apart = none_apart }
+none_brought {ls = ls} = record { more = []; is = sym (append-nil ls); each = λ m c. absurd (not_in_none c); apart = none_apart }
 
 one_brought : {P : Leaf → Type 0} (l : Leaf) {ls : List Leaf} → P l → Brought P ls (ls ++ l ∷ [])
 one_brought {P} l p = record {
   more = l ∷ [];
   is = refl;
-  each = λ m c. elim (in_cons l [] m c) [ inl e ↦ subst P e p | inr n ↦ absurd (none_there n) ];
-  apart = more_apart (λ m c. absurd (none_there c)) none_apart;
+  each = λ m c. elim (first_or_later l [] m c) [ inl e ↦ subst P e p | inr n ↦ absurd (not_in_none n) ];
+  apart = more_apart (λ m c. absurd (not_in_none c)) none_apart;
 }
 
 brought_so : {P Q : Leaf → Type 0} {ls ms : List Leaf} → ((m : Leaf) → P m → Q m) → Brought P ls ms → Brought Q ls ms

@@ -2,11 +2,11 @@
 use Rattle.std.proofs.Common.{◌≡◌, inl, inr, sym, subst, ℕ, List, [], ◌∷◌, ◌++◌, arith}
 use Rattle.std.proofs.Common.{length-append}
 use Rattle.std.proofs.lemmas.Option.{slice_get_within}
+use Rattle.rng_model.proofs.Places.{before_or_at_end}
 use Rattle.rng_model.specs.names.Names as names
 use Rattle.rng_model.specs.declared.name.NameClass.{NameClass}
 use Rattle.rng_model.specs.declared.simple.PatternId.{PatternId}
 use Rattle.rng_simple.specs.views.GrammarElements.{IsElementCopy, AreElementCopies}
-use Rattle.rng_simple.proofs.RowIndex.{at_end}
 
 module _ (classes : List names.NameClass) (contents places : List ℕ) where
   pub no_elements : AreElementCopies classes contents places [] []
@@ -18,12 +18,12 @@ module _ (classes : List names.NameClass) (contents places : List ℕ) where
   elements_next ks js es ds k e are is more longer = subst (λ xs. AreElementCopies classes contents places xs ds) (sym more)
       (subst (λ xs. AreElementCopies classes contents places (ks ++ k ∷ []) xs) (sym longer) (record {
         count = omega (arith, are.count, length-append ks (k ∷ []), length-append es (e ∷ []));
-        each = λ n j d f h. elim (at_end ks k j n f) [
-          | inl a ↦ elim (at_end es e d n h) [
+        each = λ n j d f h. elim (before_or_at_end ks k j n f) [
+          | inl a ↦ elim (before_or_at_end es e d n h) [
             | inl b ↦ are.each n j d a b
             | inr b ↦ absurd (let i = slice_get_within ks n j a in omega (arith, b.0, i, are.count))
           ]
-          | inr a ↦ elim (at_end es e d n h) [
+          | inr a ↦ elim (before_or_at_end es e d n h) [
             | inl b ↦ absurd (let i = slice_get_within es n d b in omega (arith, a.0, i, are.count))
             | inr b ↦ subst (λ x. IsElementCopy classes contents places x d) (sym a.1) (subst (IsElementCopy classes contents places k) (sym b.1) is)
           ]

@@ -3,6 +3,8 @@ use Rattle.std.proofs.Common.{◌≡◌, refl, ap, sym, ◌∙◌, subst, ℕ, �
 use Rattle.std.proofs.lemmas.List.{length-map, get_or-map}
 use Rattle.std.proofs.lemmas.List.Elements.{All-map}
 use Rattle.std.proofs.lemmas.Option.{slice_get_within, get_or_from_slice_get, slice_get-get_or}
+use Rattle.rng_model.proofs.Members.{all_from_members}
+use Rattle.rng_model.proofs.Places.{contains_at}
 use Rattle.rng_model.specs.names.Names.{NameClass}
 use Rattle.rng_model.specs.simple.Tree.{Tree, Simple, s_leaf, as_tree, empty}
 use Rattle.rng_simple.specs.plain.InTwos.{nested}
@@ -28,9 +30,8 @@ use Rattle.rng_simple.proofs.Renamed.{renamed_corresponds, origin}
 use Rattle.rng_simple.proofs.RenamedTwice.{renamed_twice, renamed_itself}
 use Rattle.rng_simple.proofs.SimpleTables.{simples_right, simple_right}
 use Rattle.rng_simple.proofs.SimpleForms.{has_simple_form}
-use Rattle.rng_simple.proofs.Queues.{All-from_contains}
 use Rattle.rng_simple.proofs.NumberedSchema.{is_simple_grammar, only_simple_grammar}
-use Rattle.rng_simple.proofs.Graphs.{contains_found, found_contained, resolved_content, known}
+use Rattle.rng_simple.proofs.Graphs.{found_contained, resolved_content, known}
 use Rattle.rng_simple.proofs.GraphTables.{number_is, leaf_number_is, leaf_same, table_of, filled_of}
 use Rattle.rng_simple.proofs.SimpleTables.{leaf_name, simple_resolved}
 use Rattle.rng_simple.specs.views.ExpansionOrder.{IsGraphOfSchema, IsWholeOrder}
@@ -143,7 +144,7 @@ module _ (s : Schema) (ds : List Definition) (ls : List Leaf) (g : Graph) (is : 
     in_seen i l = slice_get-get_or seen i 0 l
 
     seen_is : (i : ℕ) → i < length seen → IsAt (slice_index_or seen i 0)
-    seen_is i l = number_reached ((by.reached (slice_index_or seen i 0)).1 (contains_found seen i (slice_index_or seen i 0) (in_seen i l)))
+    seen_is i l = number_reached ((by.reached (slice_index_or seen i 0)).1 (contains_at seen i (slice_index_or seen i 0) (in_seen i l)))
 
     listed_at : (i : ℕ) → i < length seen → element_at listed i ≡ element_at ls (slice_index_or seen i 0)
     listed_at i l = get_or-map (element_at ls) seen i 0 no_element l
@@ -170,7 +171,7 @@ module _ (s : Schema) (ds : List Definition) (ls : List Leaf) (g : Graph) (is : 
         by.distinct i j (slice_index_or seen j 0) (in_seen i a ∙ ap Some k) (in_seen j b)
 
     all_reached : All (IsReachedBySimpleForms s) listed
-    all_reached = All-map (IsReachedBySimpleForms s) (element_at ls) seen (All-from_contains (λ k. IsReachedBySimpleForms s (element_at ls k)) seen (λ k c.
+    all_reached = All-map (IsReachedBySimpleForms s) (element_at ls) seen (all_from_members (λ k. IsReachedBySimpleForms s (element_at ls k)) seen (λ k c.
         let x = number_reached ((by.reached k).1 c) in
         subst (IsReachedBySimpleForms s) (sym (get_or_from_slice_get ls k x.leaf no_element x.there)) x.reached))
 

@@ -6,7 +6,9 @@ use Rattle.std.proofs.lemmas.List.{take_all, take_more, take-append-le, length-m
 use Rattle.std.proofs.lemmas.List.Elements.{Contains-push_cases}
 use Rattle.std.proofs.lemmas.List.Sums.{fold_push}
 use Rattle.std.proofs.lemmas.Option.{slice_get_within, get_or_from_slice_get, none-some}
-use Rattle.rng_model.specs.names.Lists.{Among, here, there, HasTwice, at_first, later}
+use Rattle.rng_model.proofs.Members.{not_in_none, one_or_none}
+use Rattle.rng_model.proofs.Places.{before_or_at_end, front_stays, contains_at, among_at, in_front}
+use Rattle.rng_model.specs.names.Lists.{here, HasTwice, at_first, later}
 use Rattle.rng_model.specs.simple.Tree.{Tree}
 use Rattle.rng_model.specs.schema.Patterns.{Point, pattern_tree}
 use Rattle.rng_model.specs.schema.Schema.{Schema, Component, Definition, main_start, body, body_among, combining_connector, nested, same_name, trees_named}
@@ -21,11 +23,10 @@ use Rattle.rng_simple.specs.plain.ResolvedBody.{resolved_body}
 use Rattle.rng_simple.specs.plain.Resolving.{Numbering}
 use Rattle.rng_load.proofs.NameLists.{in_at, no_more}
 use Rattle.rng_simple.proofs.GraphTables.{definition_same}
-use Rattle.rng_simple.proofs.Graphs.{contains_found, found}
-use Rattle.rng_simple.proofs.ListParts.{at_end, in_front, map_at}
-use Rattle.rng_simple.proofs.GrowingGraphs.{front}
-use Rattle.rng_simple.proofs.ResolvedPatterns.{IsNumbering, asked, is_there, is_new, none_there, stays}
-use Rattle.rng_simple.proofs.ResolvedBodies.{body_resolves, cons_is_not_nil}
+use Rattle.rng_simple.proofs.Graphs.{found}
+use Rattle.rng_simple.proofs.ListParts.{map_at}
+use Rattle.rng_simple.proofs.ResolvedPatterns.{IsNumbering, asked, is_there, is_new, stays}
+use Rattle.rng_simple.proofs.ResolvedBodies.{body_resolves}
 use Rattle.rng_simple.proofs.ComponentTables.{out_of_range}
 
 -- the elements of the first n definitions
@@ -54,14 +55,14 @@ module _ (s : Schema) (ready : IsReady s) where
       count = ap length es;
       each = λ k m e f g. absurd (let h = slice_get_within [] k m f in omega arith);
       met_definitions = λ d c. met_start (ap to_definition (only_one d (subst (λ ds. Contains ds d) ds c)));
-      met_elements = λ m c. absurd (none_there c);
+      met_elements = λ m c. absurd (not_in_none c);
       apart = subst (ArePairwiseApart same_definition) (sym ds) one_apart;
     };
     each = λ j d r e f. absurd (let h = slice_get_within [] j r f in omega arith);
   }
     where
       only_one : (d : Definition) → Contains (main_start s ∷ []) d → d ≡ main_start s
-      only_one d c = elim (Contains-push_cases [] (main_start s) d c) [ inl z ↦ absurd (none_there z) | inr z ↦ sym z ]
+      only_one d c = elim (Contains-push_cases [] (main_start s) d c) [ inl z ↦ absurd (not_in_none z) | inr z ↦ sym z ]
 
       one_apart : ArePairwiseApart same_definition (main_start s ∷ [])
       one_apart i j x y e f q = let a = slice_get_within (main_start s ∷ []) i x e in let b = slice_get_within (main_start s ∷ []) j y f in omega arith
@@ -70,7 +71,7 @@ module _ (s : Schema) (ready : IsReady s) where
       → IsGraphSoFar s (resolved_body s d v).1 (bodies ++ (resolved_body s d v).0 ∷ [])
   goes_on v bodies d is e =
       let r = resolved_body s d v in
-      let met = is.numbering.met_definitions d (contains_found v.definitions (length bodies) d e) in
+      let met = is.numbering.met_definitions d (contains_at v.definitions (length bodies) d e) in
       let a = ready.bodies d met in
       let ls = elements_so_far s (length bodies) v in
       let after = body_resolves s ready.found d a.0 ls v is.numbering met a.1 in
@@ -82,11 +83,11 @@ module _ (s : Schema) (ready : IsReady s) where
       ∙ fold_push (with_elements_of s) [] (take (length bodies) v.definitions) d) in
       let here = slice_get_within v.definitions (length bodies) d e in
       let before : (j : ℕ) (c : Definition) → j < length v.definitions → slice_get r.1.definitions j ≡ Some c → slice_get v.definitions j ≡ Some c =
-      λ j c h f. sym (front v.definitions more.more j h) ∙ ap (λ ds. slice_get ds j) (sym more.definitions) ∙ f in record {
-        first = ap (λ ds. slice_get ds 0) more.definitions ∙ in_front v.definitions more.more (main_start s) 0 is.first;
+      λ j c h f. sym (front_stays v.definitions more.more j h) ∙ ap (λ ds. slice_get ds j) (sym more.definitions) ∙ f in record {
+        first = ap (λ ds. slice_get ds 0) more.definitions ∙ in_front v.definitions more.more 0 (main_start s) is.first;
         some = omega (arith, longer, here, ap length more.definitions, length-append v.definitions more.more);
         numbering = subst (λ ls. IsNumbering s ls r.1) elements after.numbering;
-        each = λ j c q f g. elim (at_end bodies r.0 q j g) [
+        each = λ j c q f g. elim (before_or_at_end bodies r.0 q j g) [
           | inl h ↦
               let inside = slice_get_within bodies j q h in
               let b = is.each j c q (before j c (omega (arith, inside, is.some)) f) h in
@@ -143,13 +144,9 @@ same_classes s ls v is = same_lists (map (λ m. m.class) ls) (map (λ e. e.0) v.
 
 -- ---- distinct definitions with components are at most as many as the table has
 
-stands_at : {A : Type 0} {x : A} {xs : List A} → Among x xs → (k : ℕ) × (slice_get xs k ≡ Some x)
-stands_at here = (0, refl)
-stands_at (there i) = let k = stands_at i in (suc k.0, k.1)
-
 none_twice : (ds : List Definition) → ArePairwiseApart same_definition ds → ¬ (HasTwice ds)
 none_twice [] apart t = elim t [ ]
-none_twice (d ∷ ds) apart (at_first a) = let k = stands_at a in let e = apart 0 (suc k.0) d d refl k.1 (definition_same d) in omega (arith, e)
+none_twice (d ∷ ds) apart (at_first a) = let k = among_at a in let e = apart 0 (suc k.0) d d refl k.1 (definition_same d) in omega (arith, e)
 none_twice (d ∷ ds) apart (later t) =
     none_twice ds (λ i j x y e f q. let h = apart (suc i) (suc j) x y e f q in omega (arith, h)) t
 
@@ -160,7 +157,7 @@ none_named y n (c ∷ cs) e = by_name (same_name y c.name) e (none_named y (n + 
     by_name : (b : Bool) → cond b (c ∷ filter (λ c. same_name y c.name) cs) (filter (λ c. same_name y c.name) cs) ≡ []
         → (filter (λ c. same_name y c.name) cs ≡ [] → trees_named y (n + 1) cs ≡ [])
         → (if b then pattern_tree (n ∷ []) c.pattern ∷ trees_named y (n + 1) cs else trees_named y (n + 1) cs) ≡ []
-    by_name true e rest = absurd (cons_is_not_nil e)
+    by_name true e rest = absurd (one_or_none e)
     by_name false e rest = rest e
 
 has_components : (s : Schema) (d : Definition) (a : Tree Point) → body s d ≡ Some a → schema_components s d ≡ [] → ⊥
@@ -176,8 +173,8 @@ pub fewer : (s : Schema) → IsReady s → (t : Table) → IsTable t → ((d : D
     → IsGraphSoFar s v bodies → length v.definitions ≤ length t.definitions
 fewer s ready t table same v bodies is =
     no_more v.definitions t.definitions (none_twice v.definitions is.numbering.apart) (λ d i.
-    let k = stands_at i in
-    let a = ready.bodies d (is.numbering.met_definitions d (contains_found v.definitions k.0 d k.1)) in
+    let k = among_at i in
+    let a = ready.bodies d (is.numbering.met_definitions d (contains_at v.definitions k.0 d k.1)) in
     elim (asked d t.definitions) [
       | is_there h e ↦ in_at t.definitions (number_of t.definitions d) e
       | is_new h e n ↦ absurd (has_components s d a.0 a.1 (sym (same d) ∙ out_of_range t.components (number_of t.definitions d) (omega (arith, e, table))))

@@ -1,11 +1,13 @@
 -- Orders, loops and tables of numbers are orders, loops and tables of definitions.
-use Rattle.std.proofs.Common.{◌≡◌, inl, inr, refl, ap, sym, ◌∙◌, subst, ℕ, zero, suc, ◌+◌, ◌<◌, List, [], ◌∷◌, length, map, slice_get, get_or, Option, Some}
-use Rattle.std.proofs.Common.{None, Bool, true, false, bytes_eq, if◌then◌else◌, Contains, All, arith}
-use Rattle.std.proofs.lemmas.List.{length-map, map-append, get_or-map}
+use Rattle.std.proofs.Common.{◌≡◌, inl, inr, refl, ap, sym, ◌∙◌, subst, ℕ, zero, suc, ◌+◌, ◌<◌, List, [], ◌∷◌, length, map, slice_get, Option, Some}
+use Rattle.std.proofs.Common.{None, Bool, true, false, if◌then◌else◌, Contains, All, arith}
+use Rattle.std.proofs.lemmas.List.{map-append}
 use Rattle.std.proofs.lemmas.List.Elements.{All-contains, Contains-append_left, Contains-append_right, Contains-append_cases, Contains-push}
-use Rattle.std.proofs.lemmas.List.Elements.{Contains-push_cases, Contains-get_or}
+use Rattle.std.proofs.lemmas.List.Elements.{Contains-push_cases}
 use Rattle.std.proofs.lemmas.Option.{slice_get_within, get_or_from_slice_get}
-use Rattle.std.proofs.lemmas.Slice.Eq.{bytes_eq-Decides}
+use Rattle.rng_model.proofs.Texts.{bytes_itself}
+use Rattle.rng_model.proofs.Members.{not_in_none, contains_mapped, all_from_members}
+use Rattle.rng_model.proofs.Places.{contains_at}
 use Rattle.rng_model.specs.simple.Tree.{Tree}
 use Rattle.rng_model.specs.schema.Patterns.{Place, Point}
 use Rattle.rng_model.specs.schema.Schema.{Schema, Definition, body, same_name}
@@ -17,17 +19,10 @@ use Rattle.rng_simple.specs.plain.Graph.{Spot, at_element, at_definition, Graph,
 use Rattle.rng_simple.specs.plain.Graph.{same_leaf, ArePairwiseApart, IsGraphOf, Mentions, IsOrderBy, no_numbers, and_number, LeadsBy, by_one, by_more, of_spot, spot_depth}
 use Rattle.rng_simple.specs.plain.Graph.{IsFilledBy, first_with, no_definition, definition_at, number_of, leaf_number}
 use Rattle.rng_model.proofs.Unfolding.{some_is}
-use Rattle.rng_simple.proofs.LoopsOrOrder.{no_more}
 use Rattle.rng_simple.proofs.RenamedLeaves.{depth_same}
-use Rattle.rng_simple.proofs.Graphs.{found, contains_found, spot_of, point_of, resolved_body, has_body}
+use Rattle.rng_simple.proofs.Graphs.{found, spot_of, point_of, resolved_body, has_body}
 
 -- ---- numbers
-
-All-from_contains : {A : Type 0} (P : A → Type 0) (xs : List A) → ((x : A) → Contains xs x → P x) → All P xs
-All-from_contains P xs f = λ k d h. f (get_or xs k d) (Contains-get_or xs k d h)
-
-pub Contains-map : {A B : Type 0} (g : A → B) (xs : List A) (x : A) → Contains xs x → Contains (map g xs) (g x)
-Contains-map g xs x c = (c.0, omega (arith, c.1, length-map xs g), get_or-map g xs c.0 x (g x) c.1 ∙ ap g c.2)
 
 pub record IsMapped {A B : Type 0} (g : A → B) (xs : List A) (y : B) : Type 0 where
   pub from : A
@@ -38,10 +33,10 @@ mapped_later : {A B : Type 0} (g : A → B) (x : A) (xs : List A) (y : B) → Is
 mapped_later g x xs y m = record { from = m.from; there = Contains-append_right (x ∷ []) xs m.from m.there; is = m.is }
 
 pub Contains-from_map : {A B : Type 0} (g : A → B) (xs : List A) (y : B) → Contains (map g xs) y → IsMapped g xs y
-Contains-from_map g [] y c = absurd (no_more c)
+Contains-from_map g [] y c = absurd (not_in_none c)
 Contains-from_map g (x ∷ xs) y c = elim (Contains-append_cases (g x ∷ []) (map g xs) y c) [
   | inl h ↦ elim (Contains-push_cases [] (g x) y h) [
-    | inl n ↦ absurd (no_more n)
+    | inl n ↦ absurd (not_in_none n)
     | inr e ↦ record { from = x; there = (0, omega arith, refl); is = e }
   ]
   | inr h ↦ mapped_later g x xs y (Contains-from_map g xs y h)
@@ -65,18 +60,15 @@ first_is test (y ∷ ys) (suc j) x e t u =
     (first_is test ys j x e t (λ i z f q. let h : suc i ≡ suc j = u (suc i) z f q in omega arith))
     (test y) refl (λ q. let h : 0 ≡ suc j = u 0 y refl q in omega arith)
 
-bytes_same : (xs : List ℕ) → bytes_eq xs xs ≡ true
-bytes_same xs = (bytes_eq-Decides xs xs).1 refl
-
 pub name_same : (y : Option (List ℕ)) → same_name y y ≡ true
 name_same None = refl
-name_same (Some y) = bytes_same y
+name_same (Some y) = bytes_itself y
 
 pub definition_same : (d : Definition) → same_definition d d ≡ true
-definition_same d = rw (bytes_same d.place) (name_same d.name)
+definition_same d = rw (bytes_itself d.place) (name_same d.name)
 
 pub leaf_same : (l : Leaf) → same_leaf l l ≡ true
-leaf_same l = rw (bytes_same l.place) (bytes_same l.position)
+leaf_same l = rw (bytes_itself l.place) (bytes_itself l.position)
 
 -- the number of the definition at an index
 pub number_is : (ds : List Definition) → ArePairwiseApart same_definition ds → (j : ℕ) (d : Definition) → slice_get ds j ≡ Some d → number_of ds d ≡ j
@@ -103,13 +95,13 @@ module _ (s : Schema) (ds : List Definition) (ls : List Leaf) (g : Graph) (is : 
       let d = definition_at ds j in
       let inside : j < length ds = All-contains (λ i. i < length ds) ys j h (subst (λ zs. Contains zs j) (sym e) (Contains-push xs j)) in
       let r = resolved_body s ds ls g is d j (at_number j inside) in
-      let b = has_body s ds ls g is d (contains_found ds j d (at_number j inside)) in
+      let b = has_body s ds ls g is d (contains_at ds j d (at_number j inside)) in
       let a = r.2 b.0 b.1 in
-      and_then d (order_of o (All-from_contains (λ i. i < length ds) xs
+      and_then d (order_of o (all_from_members (λ i. i < length ds) xs
       (λ i c. All-contains (λ i. i < length ds) ys i h (subst (λ zs. Contains zs i) (sym e) (Contains-append_left xs (j ∷ []) i c))))) b.1
       (λ l i. let p = spot_of s ds ls g is l a i in
       aim_settled (Contains (map (definition_at ds) xs)) (aim s d.place l) p.name (a.below p.name p.inside) p.is
-      (λ n q. Contains-map (definition_at ds) xs n (f n (record { tree = r.0; is = r.1; there = subst (λ z. LeafIn z r.0) q p.inside }))))
+      (λ n q. contains_mapped (definition_at ds) xs n (f n (record { tree = r.0; is = r.1; there = subst (λ z. LeafIn z r.0) q p.inside }))))
       (ap (map (definition_at ds)) e ∙ map-append (definition_at ds) xs (j ∷ []))
 
   mention_of : {j i : ℕ} → Mentions g j i → (d e : Definition) → slice_get ds j ≡ Some d → slice_get ds i ≡ Some e

@@ -1,7 +1,8 @@
 -- From a graph of numbers back to its schema: everything that is met has a number. An order of numbers is an order of
 -- definitions, a loop of numbers is a loop of definitions, and tables that are filled by numbers are right.
 use Rattle.std.proofs.Common.{◌≡◌, inl, inr, refl, ap, sym, ◌∙◌, subst, ℕ, ◌<◌, List, length, slice_get, Some, Contains, arith}
-use Rattle.std.proofs.lemmas.Option.{slice_get_within, slice_get_cases, get_or_from_slice_get, slice_get-get_or}
+use Rattle.std.proofs.lemmas.Option.{slice_get_within, slice_get_cases, slice_get-get_or}
+use Rattle.rng_model.proofs.Places.{contains_at}
 use Rattle.rng_model.specs.simple.Tree.{Tree, not_allowed, empty, text, leaf, attribute, list, data_of, data_except, value, mixed, optional, zero_or_more}
 use Rattle.rng_model.specs.simple.Tree.{one_or_more, joined, Trees, no_trees, tree_and}
 use Rattle.rng_model.specs.schema.Patterns.{Place, Point}
@@ -75,9 +76,6 @@ found xs i h = elim (slice_get_cases xs i).1 [
   | inr c ↦ absurd (omega arith)
 ]
 
-pub contains_found : {A : Type 0} (xs : List A) (i : ℕ) (x : A) → slice_get xs i ≡ Some x → Contains xs x
-contains_found xs i x e = (i, slice_get_within xs i x e, get_or_from_slice_get xs i x x e)
-
 pub found_contained : {A : Type 0} (xs : List A) (x : A) → Contains xs x → (i : ℕ) × (slice_get xs i ≡ Some x)
 found_contained xs x c = (c.0, slice_get-get_or xs c.0 x c.1 ∙ ap Some c.2)
 
@@ -90,8 +88,8 @@ module _ (s : Schema) (ds : List Definition) (ls : List Leaf) (g : Graph) (is : 
   IsKnown to_nothing = ⊥
 
   spot_known : (p : Spot) → IsSpotBelow (length ds) (length ls) p → IsKnown (aim_at ds ls p)
-  spot_known (at_element k) h = let f = found ls k h in subst (λ o. IsKnown (element_aim o)) (sym f.1) (contains_found ls k f.0 f.1)
-  spot_known (at_definition j) h = let f = found ds j h in subst (λ o. IsKnown (definition_aim o)) (sym f.1) (contains_found ds j f.0 f.1)
+  spot_known (at_element k) h = let f = found ls k h in subst (λ o. IsKnown (element_aim o)) (sym f.1) (contains_at ls k f.0 f.1)
+  spot_known (at_definition j) h = let f = found ds j h in subst (λ o. IsKnown (definition_aim o)) (sym f.1) (contains_at ds j f.0 f.1)
 
   -- the spot of a point
   pub spot_of : {x : Place} {a : Tree Point} {r : Tree Spot} (l : Point) → IsResolved s ds ls x a r → LeafIn l a
@@ -124,7 +122,7 @@ module _ (s : Schema) (ds : List Definition) (ls : List Leaf) (g : Graph) (is : 
   body_known d a l c b i = let n = found_contained ds d c in point_known l ((resolved_body d n.0 n.1).2 a b) i
 
   pub known : {w : Aim} → Met s w → IsKnown w
-  known (met_start e) = subst IsKnown (sym e) (contains_found ds 0 (main_start s) is.start)
+  known (met_start e) = subst IsKnown (sym e) (contains_at ds 0 (main_start s) is.start)
   known (met_in_definition {d} {a} {l} m b i e) = subst IsKnown (sym e) (body_known d a l (known m) b i)
   known (met_in_element {m = n} {l = l} m i e) =
       let k = found_contained ls n (known m) in

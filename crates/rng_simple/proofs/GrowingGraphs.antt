@@ -1,9 +1,9 @@
 -- Building a graph, one body after another, and the result when everything that is numbered has a body.
 use Rattle.std.proofs.Common.{◌≡◌, inl, inr, refl, ap, ap₂, sym, ◌∙◌, subst, ℕ, ◌<◌, ◌≤◌, List, [], ◌∷◌, ◌++◌, length, slice_get, Some, length-append}
 use Rattle.std.proofs.Common.{arith}
-use Rattle.std.proofs.lemmas.List.{get_or_append_left}
 use Rattle.std.proofs.lemmas.List.Elements.{Contains-append_cases}
-use Rattle.std.proofs.lemmas.Option.{slice_get_within, slice_get-get_or, get_or_from_slice_get}
+use Rattle.std.proofs.lemmas.Option.{slice_get_within}
+use Rattle.rng_model.proofs.Places.{before_or_at_end, front_stays, contains_at}
 use Rattle.rng_model.specs.simple.Tree.{Tree, not_allowed, empty, text, leaf, attribute, list, data_of, data_except, value, mixed, optional, zero_or_more}
 use Rattle.rng_model.specs.simple.Tree.{one_or_more, joined, Trees, no_trees, tree_and}
 use Rattle.rng_model.specs.schema.Patterns.{Place, Point}
@@ -14,9 +14,7 @@ use Rattle.rng_model.specs.schema.Unfolding.{Leaf, content_of}
 use Rattle.rng_simple.specs.plain.Met.{met_in_definition, met_in_element}
 use Rattle.rng_simple.specs.plain.Graph.{Spot, at_element, at_definition, Graph, element_aim, definition_aim, aim_at, IsSpotBelow, IsResolved, IsGraphOf, IsPartOf}
 use Rattle.rng_simple.specs.plain.Graph.{Brings}
-use Rattle.rng_simple.proofs.Graphs.{found, contains_found}
 use Rattle.rng_model.proofs.Unfolding.{some_is}
-use Rattle.rng_simple.proofs.ListParts.{at_end}
 
 module _ {K L : Type 0} (f g : K → L) where
   mutual
@@ -46,16 +44,10 @@ module _ {K L : Type 0} (f g : K → L) where
 
 -- ---- more numbers
 
-pub front : {A : Type 0} (xs more : List A) (i : ℕ) → i < length xs → slice_get (xs ++ more) i ≡ slice_get xs i
-front xs more i h =
-    let x = found xs i h in
-    slice_get-get_or (xs ++ more) i x.0 (omega (arith, length-append xs more))
-    ∙ ap Some (get_or_append_left xs more x.0 i h ∙ get_or_from_slice_get xs i x.0 x.0 x.1) ∙ sym x.1
-
 aim_stays : (ds more_ds : List Definition) (ls more_ls : List Leaf) (p : Spot) → IsSpotBelow (length ds) (length ls) p
     → aim_at ds ls p ≡ aim_at (ds ++ more_ds) (ls ++ more_ls) p
-aim_stays ds more_ds ls more_ls (at_element k) h = ap element_aim (sym (front ls more_ls k h))
-aim_stays ds more_ds ls more_ls (at_definition j) h = ap definition_aim (sym (front ds more_ds j h))
+aim_stays ds more_ds ls more_ls (at_element k) h = ap element_aim (sym (front_stays ls more_ls k h))
+aim_stays ds more_ds ls more_ls (at_definition j) h = ap definition_aim (sym (front_stays ds more_ds j h))
 
 below_more : (ds more_ds : List Definition) (ls more_ls : List Leaf) (p : Spot) → IsSpotBelow (length ds) (length ls) p
     → IsSpotBelow (length (ds ++ more_ds)) (length (ls ++ more_ls)) p
@@ -83,28 +75,28 @@ module _ (s : Schema) (ds : List Definition) (ls : List Leaf) (g : Graph) (is : 
       → (a : Tree Point) × (body s d ≡ Some a) × IsResolved s all_ds all_ls d.place a r
   old_body j d r e f =
       let inside : j < length ds = omega (arith, slice_get_within g.bodies j r f, is.some_bodies) in
-      let b = is.bodies j d r (sym (front ds more_ds j inside) ∙ e) f in
+      let b = is.bodies j d r (sym (front_stays ds more_ds j inside) ∙ e) f in
       (b.0, b.1, resolved_more s ds more_ds ls more_ls b.2)
 
   old_content : (k : ℕ) (m : Leaf) (r : Tree Spot) → slice_get all_ls k ≡ Some m → slice_get g.contents k ≡ Some r
       → IsResolved s all_ds all_ls m.place (content_of m) r
   old_content k m r e f =
       let inside : k < length ls = omega (arith, slice_get_within g.contents k r f, is.some_contents) in
-      resolved_more s ds more_ds ls more_ls (is.contents k m r (sym (front ls more_ls k inside) ∙ e) f)
+      resolved_more s ds more_ds ls more_ls (is.contents k m r (sym (front_stays ls more_ls k inside) ∙ e) f)
 
   -- the body of the next definition
   pub next_body : (d : Definition) (a : Tree Point) (r : Tree Spot) → slice_get ds (length g.bodies) ≡ Some d → body s d ≡ Some a
       → Brings s d.place a ds ls more_ds more_ls → IsResolved s all_ds all_ls d.place a r →
       IsPartOf s all_ds all_ls (record { bodies = g.bodies ++ r ∷ []; contents = g.contents })
   next_body d a r here b brings e =
-      let met = is.met_definitions d (contains_found ds (length g.bodies) d here) in record {
-        start = front ds more_ds 0 (slice_get_within ds 0 (main_start s) is.start) ∙ is.start;
+      let met = is.met_definitions d (contains_at ds (length g.bodies) d here) in record {
+        start = front_stays ds more_ds 0 (slice_get_within ds 0 (main_start s) is.start) ∙ is.start;
         some_bodies = omega (arith, slice_get_within ds (length g.bodies) d here, length-append ds more_ds, length-append g.bodies (r ∷ []));
         some_contents = omega (arith, is.some_contents, length-append ls more_ls);
-        bodies = λ j c q f h. elim (at_end g.bodies r q j h) [
+        bodies = λ j c q f h. elim (before_or_at_end g.bodies r q j h) [
           | inl k ↦ old_body j c q f k
           | inr k ↦
-              let same : d ≡ c = some_is (front ds more_ds (length g.bodies) (slice_get_within ds (length g.bodies) d here) ∙ here)
+              let same : d ≡ c = some_is (front_stays ds more_ds (length g.bodies) (slice_get_within ds (length g.bodies) d here) ∙ here)
               (ap (slice_get all_ds) (sym k.0) ∙ f) in
               subst (λ v. (a : Tree Point) × (body s v ≡ Some a) × IsResolved s all_ds all_ls v.place a q) same
               (a, b, subst (IsResolved s all_ds all_ls d.place a) (sym k.1) e)
@@ -127,15 +119,15 @@ module _ (s : Schema) (ds : List Definition) (ls : List Leaf) (g : Graph) (is : 
       → IsResolved s all_ds all_ls n.place (content_of n) r →
       IsPartOf s all_ds all_ls (record { bodies = g.bodies; contents = g.contents ++ r ∷ [] })
   next_content n r here brings e =
-      let met = is.met_elements n (contains_found ls (length g.contents) n here) in record {
-        start = front ds more_ds 0 (slice_get_within ds 0 (main_start s) is.start) ∙ is.start;
+      let met = is.met_elements n (contains_at ls (length g.contents) n here) in record {
+        start = front_stays ds more_ds 0 (slice_get_within ds 0 (main_start s) is.start) ∙ is.start;
         some_bodies = omega (arith, is.some_bodies, length-append ds more_ds);
         some_contents = omega (arith, slice_get_within ls (length g.contents) n here, length-append ls more_ls, length-append g.contents (r ∷ []));
         bodies = old_body;
-        contents = λ j m q f h. elim (at_end g.contents r q j h) [
+        contents = λ j m q f h. elim (before_or_at_end g.contents r q j h) [
           | inl k ↦ old_content j m q f k
           | inr k ↦
-              let same : n ≡ m = some_is (front ls more_ls (length g.contents) (slice_get_within ls (length g.contents) n here) ∙ here)
+              let same : n ≡ m = some_is (front_stays ls more_ls (length g.contents) (slice_get_within ls (length g.contents) n here) ∙ here)
               (ap (slice_get all_ls) (sym k.0) ∙ f) in
               subst (λ v. IsResolved s all_ds all_ls v.place (content_of v) q) same (subst (IsResolved s all_ds all_ls n.place (content_of n)) (sym k.1) e)
         ];

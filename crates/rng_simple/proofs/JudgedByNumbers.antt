@@ -2,6 +2,8 @@
 use Rattle.std.proofs.Common.{◌≡◌, ◌↔◌, sym, subst, ℕ, ◌<◌, List, length, map, slice_get, Some, Contains, All, arith}
 use Rattle.std.proofs.lemmas.Option.{slice_get_within, get_or_from_slice_get}
 use Rattle.std.proofs.lemmas.List.{length-map}
+use Rattle.rng_model.proofs.Members.{contains_mapped}
+use Rattle.rng_model.proofs.Places.{contains_at}
 use Rattle.rng_model.specs.names.Names.{NameClass}
 use Rattle.rng_model.specs.schema.Schema.{Schema, Definition, main_start}
 use Rattle.rng_model.specs.schema.Unfolding.{Leaf, Aim, to_element, to_definition, to_nothing}
@@ -14,8 +16,8 @@ use Rattle.rng_simple.specs.plain.Graph.{start_is_deep, body_is_deep, class_is_d
 use Rattle.rng_simple.proofs.LoopsOrOrder.{Covers, keeps}
 use Rattle.rng_simple.proofs.SortedDefinitions.{loop_breaks}
 use Rattle.rng_simple.proofs.TooDeep.{breaks_depth}
-use Rattle.rng_simple.proofs.Graphs.{found, contains_found, found_contained, resolved_content, known, covers, has_body, closed}
-use Rattle.rng_simple.proofs.GraphTables.{Contains-map, number_is, order_of, leads_of, table_of, depth_resolved, filled_of}
+use Rattle.rng_simple.proofs.Graphs.{found, found_contained, resolved_content, known, covers, has_body, closed}
+use Rattle.rng_simple.proofs.GraphTables.{number_is, order_of, leads_of, table_of, depth_resolved, filled_of}
 use Rattle.rng_model.specs.schema.Depth.{class_depth, depth_limit}
 use Rattle.rng_simple.specs.plain.InTwos.{nested}
 use Rattle.rng_model.proofs.Unfolding.{some_is}
@@ -28,7 +30,7 @@ module _ (s : Schema) (ds : List Definition) (ls : List Leaf) (g : Graph) (is : 
   pub loop_breaks_expansion : (j : ℕ) → j < length ds → LeadsBy (Mentions g) j j → BreaksExpansion s
   loop_breaks_expansion j h w =
       let d = found ds j h in
-      loop_breaks s ds (has_body s ds ls g is) (closed s ds ls g is) (covers s ds ls g is) d.0 (is.met_definitions d.0 (contains_found ds j d.0 d.1))
+      loop_breaks s ds (has_body s ds ls g is) (closed s ds ls g is) (covers s ds ls g is) d.0 (is.met_definitions d.0 (contains_at ds j d.0 d.1))
       (leads_of s ds ls g is w d.0 d.0 d.1 d.1)
 
   module _ {js : List ℕ} (o : IsOrderBy (Mentions g) js) (h : All (λ j. j < length ds) js) (all : (j : ℕ) → j < length ds → Contains js j) where
@@ -39,7 +41,7 @@ module _ (s : Schema) (ds : List Definition) (ls : List Leaf) (g : Graph) (is : 
     in_order d c =
         let n = found_contained ds d c in
         subst (Contains definitions) (get_or_from_slice_get ds n.0 d no_definition n.1)
-        (Contains-map (definition_at ds) js n.0 (all n.0 (slice_get_within ds n.0 d n.1)))
+        (contains_mapped (definition_at ds) js n.0 (all n.0 (slice_get_within ds n.0 d n.1)))
 
     settled_in_order : (w : Aim) → IsSettled (Contains ds) w → IsSettled (Contains definitions) w
     settled_in_order (to_element m) k = tt
@@ -78,13 +80,13 @@ module _ (s : Schema) (ds : List Definition) (ls : List Leaf) (g : Graph) (is : 
       by_deep (start_is_deep l) = deep_start (subst (λ n. depth_limit < values n) (sym (number_is ds is.definitions_apart 0 (main_start s) is.start)) l)
       by_deep (body_is_deep k r e l) =
           let m = found ls k (omega (arith, slice_get_within g.contents k r e, is.all_contents)) in
-          deep_body m.0 (is.met_elements m.0 (contains_found ls k m.0 m.1))
+          deep_body m.0 (is.met_elements m.0 (contains_at ls k m.0 m.1))
           (subst (λ n. depth_limit < n) (sym (depth_resolved s ds ls g is values (is.contents k m.0 r m.1 e))) l)
       by_deep (class_is_deep k c e l) =
           let at : slice_get (map (λ m. m.class) ls) k ≡ Some c = subst (λ cs. slice_get cs k ≡ Some c) (sym named) e in
           let m = found ls k (omega (arith, slice_get_within (map (λ m. m.class) ls) k c at, length-map ls (λ m. m.class))) in
           let same : m.0.class ≡ c = some_is (map_at (λ n. n.class) ls k m.0 m.1) at in
-          deep_name m.0 (is.met_elements m.0 (contains_found ls k m.0 m.1)) (subst (λ d. depth_limit < class_depth (nested d)) (sym same) l)
+          deep_name m.0 (is.met_elements m.0 (contains_at ls k m.0 m.1)) (subst (λ d. depth_limit < class_depth (nested d)) (sym same) l)
 
       pub deep_breaks_depth : BreaksDepth s ↔ IsDeepBy classes g values
       deep_breaks_depth =

@@ -1,14 +1,15 @@
 -- If a schema breaks the clause about datatypes nowhere, each datatype of its simple form is known.
-use Rattle.std.proofs.Common.{◌≡◌, refl, subst, ℕ, ◌+◌, Bool, true, false, if◌then◌else◌, List, [], ◌∷◌, Option, Some, None, is_some, IsTrue, get_or, slice_get}
+use Rattle.std.proofs.Common.{◌≡◌, refl, subst, ℕ, ◌+◌, Bool, true, false, if◌then◌else◌, List, [], ◌∷◌, Option, Some, None, get_or, slice_get}
 use Rattle.std.proofs.lemmas.List.Elements.{All-contains, All-from_get_or}
 use Rattle.std.proofs.lemmas.Option.{slice_get-get_or, none-some}
+use Rattle.rng_model.proofs.ValueLaws.{known_if_allowed}
 use Rattle.rng_model.specs.names.Lists.{Among, here, there}
 use Rattle.rng_model.specs.names.Names.{NameClass, any_name}
 use Rattle.rng_model.specs.simple.Tree.{Connector, Tree, not_allowed, empty, text, leaf, attribute, list, data_of, data_except, value, mixed, optional}
 use Rattle.rng_model.specs.simple.Tree.{zero_or_more, one_or_more, joined, Trees, no_trees, tree_and, as_tree}
 use Rattle.rng_model.specs.simple.Tree.{Simple, s_not_allowed, s_empty, s_text, s_leaf, s_attribute, s_list, s_data, s_data_except, s_value}
 use Rattle.rng_model.specs.simple.Tree.{s_one_or_more, s_joined}
-use Rattle.rng_model.specs.datatypes.Datatypes.{IsKnownDatatype, Meaning, known_allows, meaning_of}
+use Rattle.rng_model.specs.datatypes.Datatypes.{IsKnownDatatype, meaning_of}
 use Rattle.rng_model.specs.simple.Grammar.{Grammar}
 use Rattle.rng_model.specs.simple.Leaves.{renamed, LeafIn, LeafAmong}
 use Rattle.rng_model.specs.schema.Patterns as written
@@ -35,11 +36,6 @@ first p = p.0
 
 second : {A B : Type 0} → A × B → B
 second p = p.1
-
--- what allows a text is known
-known_if_allowed : (o : Option Meaning) (v : List ℕ) → IsTrue (known_allows o v) → IsTrue (is_some o)
-known_if_allowed None v allowed = allowed
-known_if_allowed (Some meaning) v allowed = refl
 
 -- ---- trees whose datatypes are known
 

@@ -1,7 +1,8 @@
 -- S16 by an order of the definitions: those of the order have one tree each, and those of a stuck rest have none. What
 -- is met from the start is what the clause is about.
-use Rattle.std.proofs.Common.{◌≡◌, refl, sym, subst, Some, ◌⊎◌, inl, inr, List, [], Contains, arith}
+use Rattle.std.proofs.Common.{◌≡◌, refl, sym, subst, Some, ◌⊎◌, inl, inr, List, Contains}
 use Rattle.std.proofs.lemmas.List.Elements.{Contains-push_cases}
+use Rattle.rng_model.proofs.Members.{not_in_none}
 use Rattle.rng_model.specs.simple.Tree.{Tree, leaf}
 use Rattle.rng_model.specs.schema.Patterns.{Place, Point}
 use Rattle.rng_model.specs.schema.Schema.{Schema, Definition, main_start, body}
@@ -21,9 +22,6 @@ use Rattle.rng_model.specs.schema.SchemaClauses as clauses
 sure : {A : Type 0} → A ⊎ ⊥ → A
 sure (inl a) = a
 sure (inr b) = absurd b
-
-pub no_more : {A : Type 0} {x : A} → Contains [] x → ⊥
-no_more c = let l = c.1 in omega arith
 
 module _ (s : Schema) where
   -- ---- an order has trees
@@ -45,7 +43,7 @@ module _ (s : Schema) where
   newest ds trees t (inr q) = subst (λ f. (t : Tree Leaf) × IsTreeOf s f t) q t
 
   pub order_trees : {ds : List Definition} → IsOrder s ds → (d : Definition) → Contains ds d → (t : Tree Leaf) × IsTreeOf s d t
-  order_trees none_yet d c = absurd (no_more c)
+  order_trees none_yet d c = absurd (not_in_none c)
   order_trees (and_then {ds} {es} {a} e o b k p) d c =
       let w = settled_body (Contains ds) (order_trees o) e.place a k in
       newest ds (order_trees o) (w.0, (a, b, w.1)) (Contains-push_cases ds e d (subst (λ xs. Contains xs d) p c))

@@ -4,6 +4,7 @@ use Rattle.std.proofs.Common.{Contains, arith}
 use Rattle.std.proofs.lemmas.List.{length-map}
 use Rattle.std.proofs.lemmas.List.Elements.{All-map}
 use Rattle.std.proofs.lemmas.Option.{slice_get_within, slice_get-get_or, get_or_from_slice_get}
+use Rattle.rng_model.proofs.Places.{contains_at}
 use Rattle.rng_model.specs.names.Names as names
 use Rattle.rng_model.specs.simple.Tree.{as_tree}
 use Rattle.rng_simple.specs.plain.SimpleBodies.{IsPlainBody, LacksNotAllowed}
@@ -18,7 +19,6 @@ use Rattle.rng_model.specs.declared.name.NameClass.{NameClass}
 use Rattle.rng_model.specs.declared.simple.PatternId.{PatternId}
 use Rattle.rng_model.specs.declared.simple.Simple as declared
 use Rattle.rng_simple.specs.plain.Graph.{Graph}
-use Rattle.rng_simple.proofs.Graphs.{contains_found}
 use Rattle.rng_simple.specs.declared.rows.Row.{Row}
 use Rattle.rng_simple.specs.declared.rows.Row.TheVariants as row
 use Rattle.rng_simple.specs.plain.Copying.{tree_numbered, place_of, listed_at, AllChildren, IsCopied, AreCopied}
@@ -115,7 +115,7 @@ module _ (l : Labels) (rs : List Row) (rows : AreRows l rs) (contents : List ℕ
     element_body n e is =
         let k = listed_at listed n in
         subst (λ x. IsCopied ps listed x (tree_at l rs (content_of contents (listed_at listed n)))) (sym (element_copy n e is).body)
-        (body_copied (listed_at listed n) (contains_found listed n (listed_at listed n) (listed_there n e is)))
+        (body_copied (listed_at listed n) (contains_at listed n (listed_at listed n) (listed_there n e is)))
 
     all_elements : (P : NameClass × PatternId → Type 0) → ((n : ℕ) (e : NameClass × PatternId) → slice_get es n ≡ Some e → P e) → All P es
     all_elements P f n d h = f n (slice_index_or es n d) (slice_get-get_or es n d h)

@@ -1,14 +1,7 @@
 -- Lists whose members are mapped.
-use Rattle.std.proofs.Common.{◌≡◌, refl, ap, sym, ◌∙◌, arith, ℕ, ◌+◌, ◌<◌, List, [], ◌∷◌, ◌++◌, length, map, take, get_or, slice_get, Option, Some, None}
+use Rattle.std.proofs.Common.{◌≡◌, refl, sym, ◌∙◌, ℕ, List, map, slice_get, Option, Some, None}
 use Rattle.std.proofs.Common.{option_map}
-use Rattle.std.proofs.lemmas.List.{length-map, get_or-map, take_more}
 use Rattle.std.proofs.lemmas.Option.{slice_get-map}
-
--- the first members and one more
-pub taken : {A B : Type 0} (f : A → B) (xs : List A) (i : ℕ) (x : A) → i < length xs → x ≡ get_or xs i x
-    → take (i + 1) (map f xs) ≡ take i (map f xs) ++ f x ∷ []
-taken f xs i x h at =
-    take_more (map f xs) i (f x) (omega (arith, length-map xs f)) ∙ ap (λ y. take i (map f xs) ++ y ∷ []) (get_or-map f xs i x (f x) h ∙ ap f (sym at))
 
 found_some : {A B : Type 0} (f : A → B) (xs : List A) (k : ℕ) (y : B) (o : Option A) → slice_get xs k ≡ o → option_map f o ≡ Some y
     → (x : A) × (slice_get xs k ≡ Some x) × (f x ≡ y)

@@ -4,6 +4,7 @@ use Rattle.std.proofs.Common.{slice_index_or, Some, Contains, append_assoc, appe
 use Rattle.std.proofs.lemmas.List.{length-map, length-drop, get_or-map, take-append-drop}
 use Rattle.std.proofs.lemmas.List.Elements.{Contains-append_left, Contains-append_right, Contains-append_cases, Contains-push_cases}
 use Rattle.std.proofs.lemmas.Option.{slice_get-get_or, slice_get_within, get_or_from_slice_get}
+use Rattle.rng_model.proofs.Members.{not_in_none}
 use Rattle.rng_model.specs.schema.Schema.{nested_from}
 use Rattle.rng_model.specs.simple.Tree.{Tree, not_allowed, empty, text, leaf, attribute, list, data_of, data_except, value, mixed, optional, zero_or_more, one_or_more}
 use Rattle.rng_model.specs.simple.Tree.{joined, Trees, no_trees, tree_and, Connector, choice, group, interleave}
@@ -16,7 +17,6 @@ use Rattle.rng_simple.specs.declared.graph.parts.GraphRow.TheVariants as row
 use Rattle.rng_simple.specs.plain.Mentioned.{definition_of_row, definition_there, mentioned, mentioned_among, all_mentioned}
 use Rattle.rng_simple.proofs.Forests.{next_row}
 use Rattle.rng_simple.specs.plain.Search.{Lists}
-use Rattle.rng_simple.proofs.LoopsOrOrder.{no_more}
 
 -- ---- what is mentioned is listed
 
@@ -51,23 +51,23 @@ mutual
 -- ---- what is listed is mentioned
 
 at_spot : (p : Spot) (i : ℕ) → Contains (definition_there p) i → LeafIn (at_definition i) (leaf p)
-at_spot (at_element k) i c = absurd (no_more c)
+at_spot (at_element k) i c = absurd (not_in_none c)
 at_spot (at_definition j) i c = elim (Contains-push_cases [] j i c) [
-  | inl n ↦ absurd (no_more n)
+  | inl n ↦ absurd (not_in_none n)
   | inr e ↦ subst (λ n. LeafIn (at_definition n) (leaf (at_definition j))) e at.here
 ]
 
 mutual
   there : (a : Tree Spot) (i : ℕ) → Contains (mentioned a) i → LeafIn (at_definition i) a
-  there not_allowed i c = absurd (no_more c)
-  there empty i c = absurd (no_more c)
-  there text i c = absurd (no_more c)
+  there not_allowed i c = absurd (not_in_none c)
+  there empty i c = absurd (not_in_none c)
+  there text i c = absurd (not_in_none c)
   there (leaf p) i c = at_spot p i c
   there (attribute d a) i c = at.of_attribute (there a i c)
   there (list a) i c = at.of_list (there a i c)
-  there (data_of d) i c = absurd (no_more c)
+  there (data_of d) i c = absurd (not_in_none c)
   there (data_except d a) i c = at.of_except (there a i c)
-  there (value d v) i c = absurd (no_more c)
+  there (value d v) i c = absurd (not_in_none c)
   there (mixed a) i c = at.of_mixed (there a i c)
   there (optional a) i c = at.of_optional (there a i c)
   there (zero_or_more a) i c = at.of_zero_or_more (there a i c)
@@ -81,7 +81,7 @@ mutual
   ]
 
   there_among : (ts : Trees Spot) (i : ℕ) → Contains (mentioned_among ts) i → LeafAmong (at_definition i) ts
-  there_among no_trees i c = absurd (no_more c)
+  there_among no_trees i c = absurd (not_in_none c)
   there_among (tree_and a ts) i c = elim (Contains-append_cases (mentioned a) (mentioned_among ts) i c) [
     | inl h ↦ at.in_this (there a i h)
     | inr h ↦ at.in_later (there_among ts i h)
@@ -94,7 +94,7 @@ list_at rs j r e = get_or-map mentioned rs j r [] (slice_get_within rs j r e) �
 
 -- a number outside the list mentions nothing
 within : (xs : List (List ℕ)) (j i : ℕ) → Lists xs j i → j < length xs
-within [] j i c = absurd (no_more c)
+within [] j i c = absurd (not_in_none c)
 within (x ∷ xs) zero i c = omega arith
 within (x ∷ xs) (suc j) i c = let h = within xs j i c in omega arith
 

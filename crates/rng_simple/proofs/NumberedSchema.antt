@@ -3,6 +3,7 @@ use Rattle.std.proofs.Common.{◌≡◌, refl, ap, sym, ◌∙◌, subst, ℕ, �
 use Rattle.std.proofs.lemmas.List.{get_or_default}
 use Rattle.std.proofs.lemmas.List.Elements.{All-map, All-weaker, All-contains, Contains-get_or}
 use Rattle.std.proofs.lemmas.Option.{slice_get_within}
+use Rattle.rng_model.proofs.Members.{contains_mapped}
 use Rattle.rng_model.specs.names.Names.{NameClass}
 use Rattle.rng_model.specs.simple.Tree.{Tree, Simple, as_tree}
 use Rattle.rng_model.specs.simple.ClassSteps.{IsSimpleClassOf}
@@ -21,7 +22,6 @@ use Rattle.rng_model.specs.simple.Grammar.{Grammar}
 use Rattle.rng_simple.specs.plain.Numbering.{no_element, element_at, AreBodies, IsNumbering}
 use Rattle.rng_model.proofs.Unfolding.{some_is, one_tree}
 use Rattle.rng_simple.proofs.Graphs.{found}
-use Rattle.rng_simple.proofs.GraphTables.{Contains-map}
 use Rattle.rng_simple.proofs.SimpleClass.{has_simple_class, is_only_simple_class}
 use Rattle.rng_simple.proofs.SimpleForms.{has_simple_form, is_only_simple_form}
 use Rattle.rng_simple.proofs.Renamed.{as_tree_renamed, origin}
@@ -93,7 +93,7 @@ module _ (s : Schema) (keeps : KeepsExpansion s) (ls : List Leaf) (start : Simpl
           is_tree = (body_tree l r).1;
           body = body_form l r;
         }) ls n.reached);
-    reached = λ l r. (element_form simples l, Contains-map (element_form simples) ls l (all_listed r), refl);
+    reached = λ l r. (element_form simples l, contains_mapped (element_form simples) ls l (all_listed r), refl);
   }
 
   number_of : All (λ l. (k : ℕ) × (k < length g.elements) × (element_at ls k ≡ l)) ls
@@ -108,7 +108,7 @@ module _ (s : Schema) (keeps : KeepsExpansion s) (ls : List Leaf) (start : Simpl
       let inside : k < length ls = omega (arith, slice_get_within g.elements k (c, u) there, n.count) in
       let tree : as_tree (simples l) ≡ renamed (element_at ls) (as_tree u) = ap as_tree (sym listed.body) ∙ as_tree_renamed (element_at ls) u in
       let e = same_element l l (nested l.class) c (as_tree (simples l)) (renamed (element_at ls) (as_tree u)) refl (sym listed.class) tree in (
-        subst (Contains form.elements) e (Contains-map (element_form simples) ls l (Contains-get_or ls k no_element inside)),
+        subst (Contains form.elements) e (contains_mapped (element_form simples) ls l (Contains-get_or ls k no_element inside)),
         λ j i. omega (arith, n.count, listed.below j i),
       )
 

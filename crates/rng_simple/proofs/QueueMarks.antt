@@ -1,21 +1,20 @@
 -- Marks on the numbers of a queue, when one more is set.
 use Rattle.std.proofs.Common.{◌≡◌, ◌↔◌, inl, inr, refl, ap, sym, ◌∙◌, subst, ℕ, zero, suc, ◌+◌, ◌<◌, ◌≤◌, Bool, true, false, List, [], ◌∷◌, ◌++◌}
-use Rattle.std.proofs.Common.{length, set, slice_get, Option, Some, All, Contains, append_assoc, append-nil, length-append, arith}
+use Rattle.std.proofs.Common.{length, set, slice_get, Some, All, Contains, append_assoc, append-nil, length-append, arith}
 use Rattle.std.proofs.lemmas.Bool.{cases_eq}
 use Rattle.std.proofs.lemmas.List.{get_or-set_same, get_or-set_other, length-set}
 use Rattle.std.proofs.lemmas.List.Elements.{All-append, All-contains, All-same, Contains-append_left, Contains-append_right, Contains-append_cases}
 use Rattle.std.proofs.lemmas.List.Elements.{Contains-push, Contains-push_cases}
 use Rattle.std.proofs.lemmas.Option.{slice_get_within, slice_get-get_or, get_or_from_slice_get}
+use Rattle.rng_model.proofs.Options.{one_value}
+use Rattle.rng_model.proofs.Members.{all_from_members}
+use Rattle.rng_model.proofs.Places.{before_or_at_end}
 use Rattle.rng_simple.specs.plain.Worklist.{trues, AreDistinctNumbers, IsMarked, Adds, IsQueue, IsReachedBy}
-use Rattle.rng_simple.proofs.RowIndex.{at_end}
 use Rattle.rng_simple.proofs.RowReach.{one_only}
-use Rattle.rng_simple.proofs.Queues.{begins, goes_on, collected, All-from_contains}
+use Rattle.rng_simple.proofs.Queues.{begins, goes_on, collected}
 
 true_is_not_false : true ≡ false → ⊥
 true_is_not_false e = cc
-
-both : {A : Type 0} {o : Option A} {x y : A} → o ≡ Some x → o ≡ Some y → x ≡ y
-both e f = cc
 
 pub trues_within : (marks : List Bool) → trues marks ≤ length marks
 trues_within [] = omega arith
@@ -72,7 +71,7 @@ contains_at xs i k e = (i, slice_get_within xs i k e, get_or_from_slice_get xs i
 
 module _ (marks : List Bool) (queue : List ℕ) (k : ℕ) (is : IsMarked marks queue) (new : slice_get marks k ≡ Some false) where
   not_there : Contains queue k → ⊥
-  not_there c = true_is_not_false (both (is.seen k c) new)
+  not_there c = true_is_not_false (one_value (is.seen k c) new)
 
   at_mark : (j : ℕ) → slice_get (set marks k true) j ≡ Some true → Contains (queue ++ k ∷ []) j
   at_mark j e =
@@ -98,12 +97,12 @@ module _ (marks : List Bool) (queue : List ℕ) (k : ℕ) (is : IsMarked marks q
   ]
 
   once : AreDistinctNumbers (queue ++ k ∷ [])
-  once i j n e f = elim (at_end queue k n i e) [
-    | inl h ↦ elim (at_end queue k n j f) [
+  once i j n e f = elim (before_or_at_end queue k n i e) [
+    | inl h ↦ elim (before_or_at_end queue k n j f) [
       | inl g ↦ is.distinct i j n h g
       | inr g ↦ absurd (not_there (subst (Contains queue) g.1 (contains_at queue i n h)))
     ]
-    | inr h ↦ elim (at_end queue k n j f) [
+    | inr h ↦ elim (before_or_at_end queue k n j f) [
       | inl g ↦ absurd (not_there (subst (Contains queue) h.1 (contains_at queue j n g)))
       | inr g ↦ h.0 ∙ sym g.0
     ]
@@ -127,7 +126,7 @@ trues_same (false ∷ marks) = trues_same marks
 
 pub none_more : (marks : List Bool) → IsMarked marks [] → IsMarked (marks ++ false ∷ []) []
 none_more marks is = record {
-  marked = λ k e. elim (at_end marks false true k e) [ inl h ↦ is.marked k h | inr h ↦ absurd (true_is_not_false h.1) ];
+  marked = λ k e. elim (before_or_at_end marks false true k e) [ inl h ↦ is.marked k h | inr h ↦ absurd (true_is_not_false h.1) ];
   seen = λ k c. absurd (let h = c.1 in omega arith);
   count = trues_same marks ∙ is.count;
   distinct = is.distinct;
@@ -153,7 +152,7 @@ queue_goes next start seen new i k q e a =
 
 pub below_more : (n : ℕ) (seen numbers new : List ℕ) → All (λ k. k < n) seen → All (λ k. k < n) numbers → Adds seen numbers new → All (λ k. k < n) new
 below_more n seen numbers new f g a = All-same (λ k. k < n) new (seen ++ a.more) a.is
-    (All-append (λ k. k < n) seen a.more f (All-from_contains (λ k. k < n) a.more (λ k c. All-contains (λ k. k < n) numbers k g (a.from k c))))
+    (All-append (λ k. k < n) seen a.more f (all_from_members (λ k. k < n) a.more (λ k c. All-contains (λ k. k < n) numbers k g (a.from k c))))
 
 pub queue_is_done : (next : ℕ → List ℕ) (start seen : List ℕ) (i : ℕ) → IsQueue next start seen i → length seen ≤ i → (k : ℕ)
     → IsReachedBy next start k ↔ Contains seen k

@@ -1,27 +1,13 @@
 -- A queue that is done contains exactly what is reached.
-use Rattle.std.proofs.Common.{◌≡◌, ◌⊎◌, ◌↔◌, inl, inr, ap, sym, ◌∙◌, subst, ℕ, ◌+◌, ◌<◌, ◌≤◌, List, ◌++◌, length, slice_get, Some, All, Contains}
-use Rattle.std.proofs.Common.{length-append, get_or, Option, arith}
-use Rattle.std.proofs.lemmas.List.Elements.{All-contains, All-append, Contains-append_left, Contains-get_or}
-use Rattle.std.proofs.lemmas.List.{get_or_append_left}
+use Rattle.std.proofs.Common.{◌≡◌, ◌⊎◌, ◌↔◌, inl, inr, ap, sym, ◌∙◌, subst, ℕ, ◌+◌, ◌<◌, ◌≤◌, List, ◌++◌, length, slice_get, Some, Contains}
+use Rattle.std.proofs.Common.{length-append, arith}
+use Rattle.std.proofs.lemmas.List.Elements.{All-contains, All-append, Contains-append_left}
 use Rattle.std.proofs.lemmas.Bool.{cases_lt}
-use Rattle.std.proofs.lemmas.Option.{slice_get_cases, slice_get_within, get_or_from_slice_get, slice_get-get_or}
+use Rattle.std.proofs.lemmas.Option.{slice_get_within, get_or_from_slice_get}
+use Rattle.rng_model.proofs.Options.{one_value}
+use Rattle.rng_model.proofs.Members.{all_from_members}
+use Rattle.rng_model.proofs.Places.{front_at, some_at}
 use Rattle.rng_simple.specs.plain.Worklist.{IsReachedBy, at_start, onward, IsQueue}
-
-some_at : {A : Type 0} (xs : List A) (x : A) → Contains xs x → (k : ℕ) × (k < length xs) × (slice_get xs k ≡ Some x)
-some_at xs x c = elim (slice_get_cases xs c.0).1 [
-  | inl f ↦ (c.0, c.1, f.2 ∙ ap Some (sym (get_or_from_slice_get xs c.0 f.0 x f.2) ∙ c.2))
-  | inr f ↦ absurd (let h = c.1 in omega arith)
-]
-
-pub All-from_contains : {A : Type 0} (P : A → Type 0) (xs : List A) → ((x : A) → Contains xs x → P x) → All P xs
-All-from_contains P xs f = λ k d h. f (get_or xs k d) (Contains-get_or xs k d h)
-
-some_same : {A : Type 0} {o : Option A} {x y : A} → o ≡ Some x → o ≡ Some y → x ≡ y
-some_same e f = cc
-
--- the members of the front of a longer list
-front_at : {A : Type 0} (xs more : List A) (k : ℕ) (z : A) → slice_get (xs ++ more) k ≡ Some z → k < length xs → slice_get xs k ≡ Some z
-front_at xs more k z e h = slice_get-get_or xs k z h ∙ ap Some (sym (get_or_append_left xs more z k h) ∙ get_or_from_slice_get (xs ++ more) k z z e)
 
 module _ {A : Type 0} (next : A → List A) (start : List A) where
   pub all_collected : (xs : List A) → IsQueue next start xs (length xs) → {x : A} → IsReachedBy next start x → Contains xs x
@@ -34,7 +20,7 @@ module _ {A : Type 0} (next : A → List A) (start : List A) where
   pub begins : (xs : List A) → ((x : A) → Contains xs x → Contains start x) → ((x : A) → Contains start x → Contains xs x) → IsQueue next start xs 0
   begins xs f g = record {
     within = omega arith;
-    reached = All-from_contains (IsReachedBy next start) xs (λ x c. at_start (f x c));
+    reached = all_from_members (IsReachedBy next start) xs (λ x c. at_start (f x c));
     begun = g;
     done = λ k x y h e c. absurd (omega arith);
   }
@@ -46,7 +32,7 @@ module _ {A : Type 0} (next : A → List A) (start : List A) where
   done_more xs more n x q e g k z y i c h (inr l) =
       let same : k ≡ n = omega arith in
       let at : slice_get xs n ≡ Some z = front_at xs more n z (ap (slice_get (xs ++ more)) (sym same) ∙ i) (slice_get_within xs n x e) in
-      g y (subst (λ w. Contains (next w) y) (some_same at e) c)
+      g y (subst (λ w. Contains (next w) y) (one_value at e) c)
 
   -- the head is done once everything next to it is in the queue
   pub goes_on : (xs more : List A) (n : ℕ) (x : A) → IsQueue next start xs n → slice_get xs n ≡ Some x → ((y : A) → Contains more y → Contains (next x) y)
@@ -54,7 +40,7 @@ module _ {A : Type 0} (next : A → List A) (start : List A) where
   goes_on xs more n x q e f g = record {
     within = omega (arith, length-append xs more, slice_get_within xs n x e);
     reached = All-append (IsReachedBy next start) xs more q.reached
-        (All-from_contains (IsReachedBy next start) more (λ y c. onward
+        (all_from_members (IsReachedBy next start) more (λ y c. onward
         (All-contains (IsReachedBy next start) xs x q.reached (n, slice_get_within xs n x e, get_or_from_slice_get xs n x x e)) (f y c)));
     begun = λ y c. Contains-append_left xs more y (q.begun y c);
     done = λ k z y h i c. done_more xs more n x q e g k z y i c h (cases_lt k n);

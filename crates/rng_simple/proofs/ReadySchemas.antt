@@ -3,6 +3,7 @@ use Rattle.std.proofs.Common.{◌≡◌, ◌⊎◌, inl, inr, refl, sym, ap, ◌
 use Rattle.std.proofs.Common.{if◌then◌else◌, List, [], ◌∷◌, Option, Some, None, Contains}
 use Rattle.std.proofs.lemmas.List.Elements.{Contains-append_cases, Contains-append_right, Contains-push_cases}
 use Rattle.std.proofs.lemmas.Option.{none-some}
+use Rattle.rng_model.proofs.Members.{not_in_none}
 use Rattle.rng_model.specs.names.Lists.{Among, here, there}
 use Rattle.rng_model.specs.simple.Tree.{Tree, Connector}
 use Rattle.rng_model.specs.schema.Patterns.{Place, Position, Pattern, not_allowed, empty, text, element, attribute, list, data_of, data_except, value}
@@ -22,7 +23,7 @@ use Rattle.rng_load.proofs.NameLists.{in_none, in_cons}
 use Rattle.rng_simple.specs.plain.Met.{Met, met_start, met_in_definition, met_in_element}
 use Rattle.rng_simple.specs.plain.ReadySchema.{IsReady}
 use Rattle.rng_simple.proofs.GraphTables.{name_same}
-use Rattle.rng_simple.proofs.ResolvedPatterns.{name_is, none_there}
+use Rattle.rng_simple.proofs.ResolvedPatterns.{name_is}
 use Rattle.rng_simple.proofs.ResolvedBodies.{from_nested}
 
 -- ---- what is written in what
@@ -160,14 +161,14 @@ of_later l c cs p = (p.0, there p.1, p.2)
 
 point_of_trees : (l : Point) (y : Option (List ℕ)) (n : ℕ) (cs : List Component) (t : Tree Point) → Contains (trees_named y n cs) t → LeafIn l t
     → IsPointOf l cs
-point_of_trees l y n [] t m i = absurd (none_there m)
+point_of_trees l y n [] t m i = absurd (not_in_none m)
 point_of_trees l y n (c ∷ cs) t m i = by_name (same_name y c.name) (λ h. point_of_trees l y (n + 1) cs t h i) m
   where
     by_name : (b : Bool) → (Contains (trees_named y (n + 1) cs) t → IsPointOf l cs)
         → Contains (if b then pattern_tree (n ∷ []) c.pattern ∷ trees_named y (n + 1) cs else trees_named y (n + 1) cs) t → IsPointOf l (c ∷ cs)
     by_name true rest m = elim (Contains-append_cases (pattern_tree (n ∷ []) c.pattern ∷ []) (trees_named y (n + 1) cs) t m) [
       | inl h ↦ elim (Contains-push_cases [] (pattern_tree (n ∷ []) c.pattern) t h) [
-        | inl z ↦ absurd (none_there z)
+        | inl z ↦ absurd (not_in_none z)
         | inr z ↦ (c, here, point_written (n ∷ []) c.pattern (subst (LeafIn l) (sym z) i))
       ]
       | inr h ↦ of_later l c cs (rest h)

@@ -4,6 +4,7 @@ use Rattle.std.proofs.Common.{List, [], ◌∷◌, map, filter, length, Option, 
 use Rattle.std.specs.List.{list_any}
 use Rattle.std.proofs.lemmas.List.Elements.{Contains-append_cases, Contains-push_cases}
 use Rattle.std.proofs.lemmas.Option.{none-some}
+use Rattle.rng_model.proofs.Members.{not_in_none, one_or_none}
 use Rattle.rng_model.specs.simple.Tree.{Tree, Connector, choice, interleave, joined, no_trees}
 use Rattle.rng_model.specs.schema.Patterns.{Place, Point, pattern_tree}
 use Rattle.rng_model.specs.schema.Schema.{Schema, Component, Definition, body, body_among, same_name, is_interleaved, trees_named, combining_connector, nested, nested_from}
@@ -17,13 +18,10 @@ use Rattle.rng_simple.specs.views.GraphView.{combined}
 use Rattle.rng_simple.specs.plain.Met.{Met, met_in_definition}
 use Rattle.rng_simple.specs.plain.ResolvedElements.{with_elements, with_named_elements, with_elements_of}
 use Rattle.rng_simple.specs.plain.Resolving.{Numbering, resolve_each}
-use Rattle.rng_simple.proofs.ResolvedPatterns.{IsNumbering, IsMore, IsAfter, more_and, no_more, none_there, stays, resolves}
+use Rattle.rng_simple.proofs.ResolvedPatterns.{IsNumbering, IsMore, IsAfter, more_and, no_more, stays, resolves}
 
 later_in : {A : Type 0} {x y : A} (xs : List A) → Contains xs y → Contains (x ∷ xs) y
 later_in xs c = (suc c.0, omega (arith, c.1), c.2)
-
-pub cons_is_not_nil : {A : Type 0} {x : A} {xs : List A} → x ∷ xs ≡ [] → ⊥
-cons_is_not_nil e = cc
 
 -- equal lists are nested alike
 abbrev nested_or : {L : Type 0} → Connector → Tree L → List (Tree L) → Tree L
@@ -46,10 +44,10 @@ module _ {K : Type 0} (k : Connector) where
   in_first a (b ∷ ts) i = in_first (joined k a b no_trees) ts (at.of_first i)
 
   in_later : {l : K} (a b : Tree K) (ts : List (Tree K)) → Contains ts b → LeafIn l b → LeafIn l (nested_from k a ts)
-  in_later a b [] c i = absurd (none_there c)
+  in_later a b [] c i = absurd (not_in_none c)
   in_later a b (d ∷ ts) c i = elim (Contains-append_cases (d ∷ []) ts b c) [
     | inl h ↦ elim (Contains-push_cases [] d b h) [
-      | inl z ↦ absurd (none_there z)
+      | inl z ↦ absurd (not_in_none z)
       | inr z ↦ in_first (joined k a d no_trees) ts (at.of_second (subst (LeafIn _) (sym z) i))
     ]
     | inr h ↦ in_later (joined k a d no_trees) b ts h i
@@ -91,7 +89,7 @@ module _ (s : Schema) (found : Met s to_nothing → ⊥) (x : Place) (y : Option
         same = ap₂ ◌∷◌ first.same g.same;
         below = λ q t c i. elim (Contains-append_cases (r.0 ∷ []) u.0 t c) [
           | inl h ↦ elim (Contains-push_cases [] r.0 t h) [
-            | inl z ↦ absurd (none_there z)
+            | inl z ↦ absurd (not_in_none z)
             | inr z ↦ first.below q (subst (LeafIn q) (sym z) i)
           ]
           | inr h ↦ g.below q t h i
@@ -115,7 +113,7 @@ module _ (s : Schema) (found : Met s to_nothing → ⊥) (x : Place) (y : Option
 
   pub each_resolves : (cs : List Component) (n : ℕ) → EachResolves cs n
   unfolding resolve_each with_named_elements
-  each_resolves [] n ls v is met = record { more = no_more; numbering = is; same = refl; below = λ q t c i. absurd (none_there c) }
+  each_resolves [] n ls v is met = record { more = no_more; numbering = is; same = refl; below = λ q t c i. absurd (not_in_none c) }
   each_resolves (c ∷ cs) n ls v is met = either_way c cs n ls v is (each_resolves cs (n + 1)) (same_name y c.name) met
 
   -- ---- a whole body
@@ -137,7 +135,7 @@ module _ (s : Schema) (found : Met s to_nothing → ⊥) (x : Place) (y : Option
   combined_after : (k : Connector) (ts : List (Tree Point)) (a : Tree Point) (rs : List (Tree Spot)) (ls ks : List Leaf) (v w : Numbering)
       → nested k ts ≡ Some a → AreEachAfter s x ls v ts ks (rs, w) → IsAfter s x ls v a ks (combined k rs, w)
   combined_after k [] a rs ls ks v w e after = absurd (none-some _ e)
-  combined_after k (t ∷ ts) a [] ls ks v w e after = absurd (cons_is_not_nil after.same)
+  combined_after k (t ∷ ts) a [] ls ks v w e after = absurd (one_or_none after.same)
   combined_after k (t ∷ ts) a (q ∷ qs) ls ks v w e after =
       subst (λ b. IsAfter s x ls v b ks (nested_from k q qs, w)) (some_is refl e) (nested_after k t ts q qs ls ks v w after)
 
@@ -157,10 +155,10 @@ same_connector y (c ∷ cs) = connector_step c (filter (λ c. same_name y c.name
 
 -- a leaf of one of the trees is a leaf of the body
 in_body : (k : Connector) (ts : List (Tree Point)) (a t : Tree Point) (l : Point) → nested k ts ≡ Some a → Contains ts t → LeafIn l t → LeafIn l a
-in_body k [] a t l e c i = absurd (none_there c)
+in_body k [] a t l e c i = absurd (not_in_none c)
 in_body k (b ∷ ts) a t l e c i = subst (LeafIn l) (some_is refl e) (elim (Contains-append_cases (b ∷ []) ts t c) [
   | inl h ↦ elim (Contains-push_cases [] b t h) [
-    | inl z ↦ absurd (none_there z)
+    | inl z ↦ absurd (not_in_none z)
     | inr z ↦ in_first k b ts (subst (LeafIn l) (sym z) i)
   ]
   | inr h ↦ in_later k b t ts h i

@@ -1,5 +1,5 @@
 -- A resolved pattern is the pattern with numbers at its points, and what is numbered is met.
-use Rattle.std.proofs.Common.{◌≡◌, inl, inr, refl, ap, ap₂, sym, ◌∙◌, subst, arith, ℕ, suc, ◌+◌, Bool, true, false, true≢false, ◌&&◌, ◌||◌, List, [], ◌∷◌}
+use Rattle.std.proofs.Common.{◌≡◌, inl, inr, refl, ap, ap₂, sym, ◌∙◌, subst, arith, ℕ, suc, ◌+◌, Bool, true, false, true≢false, ◌||◌, List, [], ◌∷◌}
 use Rattle.std.proofs.Common.{◌++◌, append_assoc, length, length-append, slice_get, Option, Some, None, if◌then◌else◌, Contains}
 use Rattle.std.specs.List.{list_any}
 use Rattle.std.specs.Str.{bytes_eq}
@@ -7,6 +7,9 @@ use Rattle.std.proofs.lemmas.List.{append-nil}
 use Rattle.std.proofs.lemmas.List.Elements.{Contains-append_cases, Contains-push_cases}
 use Rattle.std.proofs.lemmas.Option.{slice_get_within}
 use Rattle.std.proofs.lemmas.Slice.Eq.{bytes_eq-Decides}
+use Rattle.std.proofs.lemmas.Bool.{and_parts}
+use Rattle.rng_model.proofs.Members.{not_in_none}
+use Rattle.rng_model.proofs.Places.{before_or_at_end, at_end, contains_at}
 use Rattle.rng_model.specs.names.Names.{NameClass}
 use Rattle.rng_model.specs.simple.Tree.{Tree, Trees, no_trees, tree_and, leaf, Connector}
 use Rattle.rng_model.specs.simple.Tree as tree
@@ -21,17 +24,10 @@ use Rattle.rng_simple.specs.plain.Graph.{Spot, IsSpotBelow, IsResolved, ArePairw
 use Rattle.rng_simple.specs.plain.Met.{Met, met_in_element}
 use Rattle.rng_simple.specs.plain.ResolvedElements.{with_elements, with_all_elements}
 use Rattle.rng_simple.specs.plain.Resolving.{Numbering, Resolved, resolve, resolve_all, looked_up, looked_up_outside, with_definition, with_element}
-use Rattle.rng_simple.proofs.Graphs.{contains_found}
 use Rattle.rng_simple.proofs.GraphTables.{definition_same}
 use Rattle.rng_simple.proofs.GrowingGraphs.{resolved_more}
-use Rattle.rng_simple.proofs.ListParts.{at_end}
 
 -- ---- definitions by number
-
-both_true : (a b : Bool) → a && b ≡ true → (a ≡ true) × (b ≡ true)
-both_true true true e = (refl, refl)
-both_true true false e = absurd (true≢false (sym e))
-both_true false b e = absurd (true≢false (sym e))
 
 pub name_is : (a b : Option (List ℕ)) → same_name a b ≡ true → a ≡ b
 name_is None None e = refl
@@ -41,22 +37,18 @@ name_is (Some a) (Some b) e = ap Some ((bytes_eq-Decides a b).0 e)
 
 pub definition_is : (d e : Definition) → same_definition d e ≡ true → d ≡ e
 definition_is d e h =
-    let both = both_true (bytes_eq d.place e.place) (same_name d.name e.name) h in
+    let both = and_parts (bytes_eq d.place e.place) (same_name d.name e.name) h in
     ap₂ (λ x y. record { place = x; name = y }) ((bytes_eq-Decides d.place e.place).0 both.0) (name_is d.name e.name both.1)
-
-pub last_is : {A : Type 0} (xs : List A) (y : A) → slice_get (xs ++ y ∷ []) (length xs) ≡ Some y
-last_is [] y = refl
-last_is (x ∷ xs) y = last_is xs y
 
 one_more_apart : (ds : List Definition) (d : Definition) → ArePairwiseApart same_definition ds → ((e : Definition) → Contains ds e → same_definition d e ≡ true → ⊥)
     → ArePairwiseApart same_definition (ds ++ d ∷ [])
-one_more_apart ds d apart n i j x y e f q = elim (at_end ds d x i e) [
-  | inl a ↦ elim (at_end ds d y j f) [
+one_more_apart ds d apart n i j x y e f q = elim (before_or_at_end ds d x i e) [
+  | inl a ↦ elim (before_or_at_end ds d y j f) [
     | inl b ↦ apart i j x y a b q
-    | inr b ↦ absurd (n x (contains_found ds i x a) (subst (λ z. same_definition z x ≡ true) (definition_is x y q ∙ b.1) (definition_same x)))
+    | inr b ↦ absurd (n x (contains_at ds i x a) (subst (λ z. same_definition z x ≡ true) (definition_is x y q ∙ b.1) (definition_same x)))
   ]
-  | inr a ↦ elim (at_end ds d y j f) [
-    | inl b ↦ absurd (n y (contains_found ds j y b) (subst (λ z. same_definition z y ≡ true) a.1 q))
+  | inr a ↦ elim (before_or_at_end ds d y j f) [
+    | inl b ↦ absurd (n y (contains_at ds j y b) (subst (λ z. same_definition z y ≡ true) a.1 q))
     | inr b ↦ a.0 ∙ sym b.0
   ]
 ]
@@ -66,9 +58,6 @@ pub data IsAsked (d : Definition) (ds : List Definition) : Type 0 where
   is_there : list_any (same_definition d) ds ≡ true → slice_get ds (number_of ds d) ≡ Some d → IsAsked d ds
   is_new : list_any (same_definition d) ds ≡ false → number_of ds d ≡ length ds → ((e : Definition) → Contains ds e → same_definition d e ≡ true → ⊥)
       → IsAsked d ds
-
-pub none_there : {A : Type 0} {y : A} → Contains [] y → ⊥
-none_there c = let h = c.1 in omega arith
 
 asked_first : (d e : Definition) (es : List Definition) → same_definition d e ≡ true → IsAsked d (e ∷ es)
 asked_first d e es h = is_there (ap (λ b. b || list_any (same_definition d) es) h)
@@ -82,14 +71,14 @@ asked_later d e es h (is_new a b n) =
     let next : number_of (e ∷ es) d ≡ number_of es d + 1 = ap (λ b. if b then 0 else number_of es d + 1) h in
     is_new (ap (λ b. b || list_any (same_definition d) es) h ∙ a) (omega (arith, next, b)) (λ f c q. elim (Contains-append_cases (e ∷ []) es f c) [
       | inl k ↦ elim (Contains-push_cases [] e f k) [
-        | inl z ↦ none_there z
+        | inl z ↦ not_in_none z
         | inr z ↦ true≢false (sym q ∙ ap (same_definition d) (sym z) ∙ h)
       ]
       | inr k ↦ n f k q
     ])
 
 pub asked : (d : Definition) (ds : List Definition) → IsAsked d ds
-asked d [] = is_new refl refl (λ e c q. none_there c)
+asked d [] = is_new refl refl (λ e c q. not_in_none c)
 asked d (e ∷ es) = either_way (same_definition d e) refl (asked d es)
   where
     either_way : (b : Bool) → same_definition d e ≡ b → IsAsked d es → IsAsked d (e ∷ es)
@@ -111,15 +100,15 @@ asked_for d ds = elim (asked d ds) [
         more = [];
         is = same ∙ sym (append-nil ds);
         there = ap (λ es. slice_get es (number_of ds d)) same ∙ e;
-        only = λ f c. absurd (none_there c);
+        only = λ f c. absurd (not_in_none c);
         apart = λ a. subst (ArePairwiseApart same_definition) (sym same) a;
       }
   | is_new h e n ↦
       let same : with_definition ds d ≡ ds ++ d ∷ [] = ap (λ b. if b then ds else ds ++ d ∷ []) h in record {
         more = d ∷ [];
         is = same;
-        there = ap₂ slice_get same e ∙ last_is ds d;
-        only = λ f c. elim (Contains-push_cases [] d f c) [ inl z ↦ absurd (none_there z) | inr z ↦ sym z ];
+        there = ap₂ slice_get same e ∙ at_end ds d;
+        only = λ f c. elim (Contains-push_cases [] d f c) [ inl z ↦ absurd (not_in_none z) | inr z ↦ sym z ];
         apart = λ a. subst (ArePairwiseApart same_definition) (sym same) (one_more_apart ds d a n);
       }
 ]
@@ -311,12 +300,12 @@ module _ (s : Schema) (x : Place) where
         more = more_and e.more more;
         numbering = record {
           count = omega (arith, number.count, length-append ks (m ∷ []), length-append r.1.elements ((c, r.0) ∷ []));
-          each = λ k m' e' f g. elim (at_end ks m m' k f) [
-            | inl a ↦ elim (at_end r.1.elements (c, r.0) e' k g) [
+          each = λ k m' e' f g. elim (before_or_at_end ks m m' k f) [
+            | inl a ↦ elim (before_or_at_end r.1.elements (c, r.0) e' k g) [
               | inl b ↦ let old = number.each k m' e' a b in (old.0, stays more old.1)
               | inr b ↦ absurd (omega (arith, slice_get_within ks k m' a, b.0, number.count))
             ]
-            | inr a ↦ elim (at_end r.1.elements (c, r.0) e' k g) [
+            | inr a ↦ elim (before_or_at_end r.1.elements (c, r.0) e' k g) [
               | inl b ↦ absurd (omega (arith, slice_get_within r.1.elements k e' b, a.0, number.count))
               | inr b ↦
                   let here : (c ≡ m.class) × IsResolved s r.1.definitions (ks ++ m ∷ []) x (content_of m) r.0 = (refl, stays more e.resolved) in
@@ -331,7 +320,7 @@ module _ (s : Schema) (x : Place) where
           apart = number.apart;
         };
         resolved = record {
-          same = ap leaf (ap element_aim (sym (ap (slice_get (ks ++ m ∷ [])) number.count ∙ last_is ks m)));
+          same = ap leaf (ap element_aim (sym (ap (slice_get (ks ++ m ∷ [])) number.count ∙ at_end ks m)));
           below = only_leaf (IsSpotBelow (length r.1.definitions) (length (ks ++ m ∷ []))) (omega (arith, number.count, length-append ks (m ∷ [])));
         };
       }

@@ -20,6 +20,8 @@ use Rattle.rng_model.proofs.Unfolding.{some_is}
 use Rattle.rng_simple.specs.plain.Copying.{tree_numbered, place_of, listed_at, AllChildren, own_elements, numbered_row, IsRowCopy, IsCopied, IsRowTree, AreCopied}
 use Rattle.rng_simple.specs.plain.Renamed.{simple_renamed}
 use Rattle.std.specs.HashMap.{HashMap}
+use Rattle.rng_model.proofs.Members.{not_in_none}
+use Rattle.rng_model.proofs.Places.{before_or_at_end, none_at}
 use Rattle.rng_simple.specs.views.RowIndex.{IsIndex}
 use Rattle.rng_simple.specs.plain.RowReach.{nexts}
 use Rattle.rng_simple.specs.views.Rows.{Labels, row_tree, class_at, datatype_at, tree_at, AreChildrenBelow, Falls, AreDistinctRows}
@@ -28,7 +30,6 @@ use Rattle.rng_simple.specs.declared.rows.Row.{Row}
 use Rattle.rng_simple.specs.declared.rows.Row.TheVariants as row
 use Rattle.rng_model.proofs.Table.{falls_after_push}
 use Rattle.rng_simple.proofs.Renamed.{renamed_corresponds}
-use Rattle.rng_simple.proofs.RowIndex.{at_end}
 use Rattle.rng_simple.proofs.RowReach.{one_only}
 use Rattle.rng_simple.proofs.RowTrees.{tree_at-over_children}
 
@@ -120,37 +121,31 @@ module _ (l : Labels) (m n : ℕ) (of : ℕ → tree.Simple ℕ) where
 
 -- ---- the element of a row
 
-none_in : {A : Type 0} {x : A} → Contains [] x → ⊥
-none_in c = let h = c.1 in omega arith
-
-none_found : {A : Type 0} (i : ℕ) (x : A) → slice_get [] i ≡ Some x → ⊥
-none_found i x e = let h = slice_get_within [] i x e in omega arith
-
 own_is : (r : Row) (k : ℕ) → Contains (own_elements r) k → r ≡ row.Element k
 own_is (row.Element j) k c = ap row.Element (one_only j k c)
-own_is row.NotAllowed k c = absurd (none_in c)
-own_is row.Empty k c = absurd (none_in c)
-own_is row.Text k c = absurd (none_in c)
-own_is (row.Attribute d a) k c = absurd (none_in c)
-own_is (row.List a) k c = absurd (none_in c)
-own_is (row.Data d) k c = absurd (none_in c)
-own_is (row.DataExcept d a) k c = absurd (none_in c)
-own_is (row.Value v) k c = absurd (none_in c)
-own_is (row.OneOrMore a) k c = absurd (none_in c)
-own_is (row.Choice a b) k c = absurd (none_in c)
-own_is (row.Group a b) k c = absurd (none_in c)
-own_is (row.Interleave a b) k c = absurd (none_in c)
+own_is row.NotAllowed k c = absurd (not_in_none c)
+own_is row.Empty k c = absurd (not_in_none c)
+own_is row.Text k c = absurd (not_in_none c)
+own_is (row.Attribute d a) k c = absurd (not_in_none c)
+own_is (row.List a) k c = absurd (not_in_none c)
+own_is (row.Data d) k c = absurd (not_in_none c)
+own_is (row.DataExcept d a) k c = absurd (not_in_none c)
+own_is (row.Value v) k c = absurd (not_in_none c)
+own_is (row.OneOrMore a) k c = absurd (not_in_none c)
+own_is (row.Choice a b) k c = absurd (not_in_none c)
+own_is (row.Group a b) k c = absurd (not_in_none c)
+own_is (row.Interleave a b) k c = absurd (not_in_none c)
 
 own_has : (r : Row) (k : ℕ) → r ≡ row.Element k → Contains (own_elements r) k
 own_has r k e = subst (λ q. Contains (own_elements q) k) (sym e) (0, omega arith, refl)
 
 distinct_push : (xs : List ℕ) (k : ℕ) → AreDistinctNumbers xs → (Contains xs k → ⊥) → AreDistinctNumbers (xs ++ k ∷ [])
-distinct_push xs k d n i j m e f = elim (at_end xs k m i e) [
-  | inl a ↦ elim (at_end xs k m j f) [
+distinct_push xs k d n i j m e f = elim (before_or_at_end xs k m i e) [
+  | inl a ↦ elim (before_or_at_end xs k m j f) [
     | inl b ↦ d i j m a b
     | inr b ↦ absurd (n (i, slice_get_within xs i m a, get_or_from_slice_get xs i m k a ∙ b.1))
   ]
-  | inr a ↦ elim (at_end xs k m j f) [
+  | inr a ↦ elim (before_or_at_end xs k m j f) [
     | inl b ↦ absurd (n (j, slice_get_within xs j m b, get_or_from_slice_get xs j m k b ∙ a.1))
     | inr b ↦ a.0 ∙ sym b.0
   ]
@@ -257,12 +252,12 @@ own_listed xs r k e = slice_get-get_or (xs ++ own_elements r) (length xs) 0 (own
 pub none_copied : (l : Labels) (rs : List Row) (reached : List Bool) → AreCopied l rs reached 0 [] [] []
 none_copied l rs reached = record {
   long = refl;
-  falls = λ i p e. absurd (none_found i p e);
+  falls = λ i p e. absurd (none_at i p e);
   leaves = λ k d i. absurd (omega arith);
   paired = λ k d i. absurd (omega arith);
   copied = λ j h e. absurd (omega arith);
-  distinct = λ i j k e f. absurd (none_found i k e);
-  from = λ k c. absurd (none_in c);
+  distinct = λ i j k e f. absurd (none_at i k e);
+  from = λ k c. absurd (not_in_none c);
   all = λ j k h e f. absurd (omega arith);
   short = omega arith;
   used = λ m h. absurd (omega arith);

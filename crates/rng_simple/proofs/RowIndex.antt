@@ -1,10 +1,10 @@
 -- An index of rows, when one more is added.
-use Rattle.std.proofs.Common.{◌≡◌, ◌↔◌, ◌⊎◌, inl, inr, refl, ap, sym, ◌∙◌, ℕ, Bool, true, false, cond, List, [], ◌∷◌, ◌++◌, length, length-append}
-use Rattle.std.proofs.Common.{slice_get, Option, Some, None, rules, arith}
-use Rattle.std.proofs.lemmas.Bool.{cases_lt}
-use Rattle.std.proofs.lemmas.List.{get_or_append_left, get_or_push}
-use Rattle.std.proofs.lemmas.Option.{slice_get_within, slice_get-get_or, get_or_from_slice_get, same_Some}
+use Rattle.std.proofs.Common.{◌≡◌, ◌↔◌, inl, inr, refl, ap, sym, ◌∙◌, ℕ, Bool, true, false, cond, List, [], ◌∷◌, ◌++◌, length}
+use Rattle.std.proofs.Common.{slice_get, Option, Some, None, rules}
+use Rattle.std.proofs.lemmas.Option.{same_Some}
 use Rattle.std.specs.HashMap.{HashMap}
+use Rattle.rng_model.proofs.Truths.{not_both}
+use Rattle.rng_model.proofs.Places.{before_or_at_end, at_place_of_end, in_front}
 use Rattle.rng_simple.specs.declared.rows.Row.{Row}
 use Rattle.rng_simple.specs.contracts.rows.RowPartialEq.TheImpl as same
 use Rattle.rng_simple.specs.views.RowIndex.{IsIndex, number_of_row}
@@ -20,26 +20,6 @@ row_itself x = search rules
 not_none : {A : Type 0} {x : A} {o : Option A} → o ≡ None → o ≡ Some x → ⊥
 not_none e f = cc
 
-not_both : {b : Bool} → b ≡ true → b ≡ false → ⊥
-not_both e f = cc
-
-pub at_end : {A : Type 0} (xs : List A) (y z : A) (i : ℕ) → slice_get (xs ++ y ∷ []) i ≡ Some z → (slice_get xs i ≡ Some z) ⊎ ((i ≡ length xs) × (z ≡ y))
-at_end xs y z i e = elim (cases_lt i (length xs)) [
-  | inl h ↦ inl (slice_get-get_or xs i z h ∙ ap Some (sym (get_or_append_left xs (y ∷ []) z i h) ∙ get_or_from_slice_get (xs ++ y ∷ []) i z z e))
-  | inr h ↦
-      let last : i ≡ length xs = omega (arith, slice_get_within (xs ++ y ∷ []) i z e, length-append xs (y ∷ [])) in
-      inr (last, sym (get_or_from_slice_get (xs ++ y ∷ []) i z z e) ∙ get_or_push xs y z i (sym last))
-]
-
-pub in_front : {A : Type 0} (xs : List A) (y z : A) (i : ℕ) → slice_get xs i ≡ Some z → slice_get (xs ++ y ∷ []) i ≡ Some z
-in_front xs y z i e =
-    let h = slice_get_within xs i z e in
-    slice_get-get_or (xs ++ y ∷ []) i z (omega (arith, length-append xs (y ∷ [])))
-    ∙ ap Some (get_or_append_left xs (y ∷ []) z i h ∙ get_or_from_slice_get xs i z z e)
-
-pub last_of : {A : Type 0} (xs : List A) (y : A) (i : ℕ) → i ≡ length xs → slice_get (xs ++ y ∷ []) i ≡ Some y
-last_of xs y i e = slice_get-get_or (xs ++ y ∷ []) i y (omega (arith, length-append xs (y ∷ []))) ∙ ap Some (get_or_push xs y y i (sym e))
-
 -- ---- the index
 
 module _ {S : Type 0} (xs : List Row) (m n : HashMap Row ℕ S) (r : Row) (is : IsIndex xs m) (new : number_of_row m r ≡ None) (i : ℕ) (last : i ≡ length xs)
@@ -48,15 +28,15 @@ module _ {S : Type 0} (xs : List Row) (m n : HashMap Row ℕ S) (r : Row) (is : 
         → number_of_row n q ≡ Some j ↔ slice_get (xs ++ r ∷ []) j ≡ Some q
     by_test q j true e u =
         let x : r ≡ q = row_exact r q e in (
-          λ f. let k : i ≡ j = same_Some _ _ (sym u ∙ f) in last_of xs r j (sym k ∙ last) ∙ ap Some x,
-          λ f. elim (at_end xs r q j f) [
+          λ f. let k : i ≡ j = same_Some _ _ (sym u ∙ f) in at_place_of_end xs r j (sym k ∙ last) ∙ ap Some x,
+          λ f. elim (before_or_at_end xs r q j f) [
             | inl h ↦ absurd (not_none new (ap (number_of_row m) x ∙ (is q j).1 h))
             | inr h ↦ u ∙ ap Some (last ∙ sym h.0)
           ],
         )
     by_test q j false e u = (
-      λ f. in_front xs r q j ((is q j).0 (sym u ∙ f)),
-      λ f. elim (at_end xs r q j f) [
+      λ f. in_front xs (r ∷ []) j q ((is q j).0 (sym u ∙ f)),
+      λ f. elim (before_or_at_end xs r q j f) [
         | inl h ↦ u ∙ (is q j).1 h
         | inr h ↦ absurd (not_both (ap (same.ghosts.eq r) h.1 ∙ row_itself r) e)
       ],

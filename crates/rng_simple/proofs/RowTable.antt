@@ -4,6 +4,7 @@ use Rattle.std.proofs.Common.{length-append}
 use Rattle.std.proofs.lemmas.Bool.{cases_lt, cases_eq}
 use Rattle.std.proofs.lemmas.List.{get_or_past, append-nil}
 use Rattle.std.proofs.lemmas.Option.{slice_get_within, slice_get-get_or}
+use Rattle.rng_model.proofs.Places.{before_or_at_end, none_at, in_front}
 use Rattle.rng_model.specs.names.Names.{NameClass}
 use Rattle.rng_model.specs.simple.Tree.{Datatype, Simple, s_not_allowed}
 use Rattle.rng_simple.specs.plain.SimpleBodies.{IsPlainBody}
@@ -14,7 +15,6 @@ use Rattle.rng_simple.specs.declared.row_table.RowTable.{RowTable}
 use Rattle.rng_simple.specs.views.RowIndex.{IsIndex, with_row}
 use Rattle.rng_simple.specs.views.Rows.{Labels, row_tree, trees, tree_at, AreChildrenBelow, IsLabelled, AreRows, AreMoreLabels}
 use Rattle.rng_simple.specs.views.RowTable.{labels_of, row_count, tree_of, IsRowTable, IsRelabelled, AreCoded}
-use Rattle.rng_simple.proofs.RowIndex.{at_end, in_front}
 use Rattle.rng_simple.proofs.RowTrees.{reads_below, tree_at-over_children, tree_of_pushed, tree_stays_after_push, length-trees, stay_labelled, trees_stay}
 
 -- ---- one more row
@@ -26,7 +26,7 @@ module _ (l : Labels) (rs : List Row) (r : Row) (rows : AreRows l rs) (below : A
 
   at_most : (P : ℕ → Row → Type 0) → ((i : ℕ) (q : Row) → slice_get rs i ≡ Some q → P i q) → P (length rs) r → (i : ℕ) (q : Row)
       → slice_get more i ≡ Some q → P i q
-  at_most P f p i q e = elim (at_end rs r q i e) [
+  at_most P f p i q e = elim (before_or_at_end rs r q i e) [
     | inl h ↦ f i q h
     | inr h ↦ subst (λ n. P n q) (sym h.0) (subst (P (length rs)) (sym h.1) p)
   ]
@@ -45,7 +45,7 @@ module _ (l : Labels) (rs : List Row) (r : Row) (rows : AreRows l rs) (below : A
 
   rows_more : AreRows l more
   rows_more = record {
-    first = in_front rs r row.Empty 0 rows.first;
+    first = in_front rs (r ∷ []) 0 row.Empty rows.first;
     falls = at_most (λ i q. AreChildrenBelow i q) rows.falls below;
     labelled = at_most (λ i q. IsLabelled l q) rows.labelled labelled;
     simple = simple_after;
@@ -80,19 +80,16 @@ module _ (l : Labels) (rs : List Row) (r : Row) (rows : AreRows l rs) (below : A
 
 -- ---- the first row
 
-past_start : {A : Type 0} (i : ℕ) (x : A) → slice_get [] i ≡ Some x → ⊥
-past_start i x e = let h = slice_get_within [] i x e in omega arith
-
 first_alone : (l : Labels) → AreRows l (row.Empty ∷ [])
 unfolding trees
 first_alone l = record {
   first = refl;
-  falls = λ i q e. elim (at_end [] row.Empty q i e) [
-    | inl h ↦ absurd (past_start i q h)
+  falls = λ i q e. elim (before_or_at_end [] row.Empty q i e) [
+    | inl h ↦ absurd (none_at i q h)
     | inr h ↦ subst (AreChildrenBelow i) (sym h.1) tt
   ];
-  labelled = λ i q e. elim (at_end [] row.Empty q i e) [
-    | inl h ↦ absurd (past_start i q h)
+  labelled = λ i q e. elim (before_or_at_end [] row.Empty q i e) [
+    | inl h ↦ absurd (none_at i q h)
     | inr h ↦ subst (IsLabelled l) (sym h.1) tt
   ];
   simple = λ i. elim (cases_eq i 0) [
@@ -103,7 +100,7 @@ first_alone l = record {
 
 pub first_row : (l : Labels) (o : Option ℕ) (rs qs : List Row) (i : ℕ) → rs ≡ [] → qs ≡ with_row rs row.Empty o → slice_get qs i ≡ Some row.Empty → AreRows l qs
 first_row l None rs qs i n e f = subst (AreRows l) (sym (e ∙ ap (λ xs. xs ++ row.Empty ∷ []) n)) (first_alone l)
-first_row l (Some j) rs qs i n e f = absurd (past_start i row.Empty (ap (λ xs. slice_get xs i) (sym (e ∙ n)) ∙ f))
+first_row l (Some j) rs qs i n e f = absurd (none_at i row.Empty (ap (λ xs. slice_get xs i) (sym (e ∙ n)) ∙ f))
 
 -- ---- one more label
 

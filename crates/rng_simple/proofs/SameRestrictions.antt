@@ -1,8 +1,7 @@
 -- The simple grammars of a schema break the same restrictions, since they differ only in the numbers of their elements.
-use Rattle.std.proofs.Common.{◌≡◌, refl, ap, sym, ◌∙◌, subst, ℕ, zero, suc, ◌<◌, List, [], ◌∷◌, length, slice_get, Some, Contains, arith}
+use Rattle.std.proofs.Common.{◌≡◌, refl, ap, sym, ◌∙◌, subst, ℕ, ◌<◌, length, slice_get, Some, Contains}
 use Rattle.std.proofs.lemmas.List.Elements.{All-contains}
-use Rattle.std.proofs.lemmas.Option.{slice_get_within}
-use Rattle.rng_model.specs.names.Lists.{Among}
+use Rattle.rng_model.proofs.Places.{among_at, at_among}
 use Rattle.rng_model.specs.names.Lists as lists
 use Rattle.rng_model.specs.names.Names.{NameClass}
 use Rattle.rng_model.specs.simple.Inside.{StandsIn, itself, below, of_attribute, of_list, of_except, of_one_or_more, of_left, of_right}
@@ -20,23 +19,13 @@ use Rattle.rng_model.specs.simple.Grammar.{Grammar}
 use Rattle.rng_model.specs.simple.Tree.{Simple, s_leaf, as_tree}
 use Rattle.rng_model.specs.schema.Unfolding.{Leaf, IsBodyOf}
 use Rattle.rng_model.proofs.SimpleTrees.{same_simple}
-use Rattle.rng_model.proofs.Unfolding.{one_tree, some_is}
+use Rattle.rng_model.proofs.Unfolding.{one_tree}
 use Rattle.rng_simple.proofs.Graphs.{found}
 use Rattle.rng_simple.specs.plain.Renamed.{simple_renamed}
 use Rattle.rng_simple.proofs.NumberedSchema.{same_element, same_class, same_form, only_simple_grammar}
 use Rattle.rng_simple.proofs.Renamed.{as_tree_renamed}
 use Rattle.rng_simple.proofs.RenamedRestrictions.{prohibited_forth, start_forth, content_forth, attribute_names_forth, wildcard_forth, element_names_forth, text_forth}
 use Rattle.rng_simple.proofs.RenamedRestrictions.{prohibited_from, start_from, content_from, attribute_names_from, wildcard_from, element_names_from, text_from}
-
--- the members of a list are those that are found at its indices
-among_at : {A : Type 0} {x : A} {xs : List A} → Among x xs → (k : ℕ) × (slice_get xs k ≡ Some x)
-among_at lists.here = (0, refl)
-among_at (lists.there a) = let k = among_at a in (suc k.0, k.1)
-
-at_among : {A : Type 0} (xs : List A) (k : ℕ) (x : A) → slice_get xs k ≡ Some x → Among x xs
-at_among [] k x e = let h = slice_get_within [] k x e in absurd (omega arith)
-at_among (y ∷ xs) zero x e = subst (λ z. Among z (y ∷ xs)) (some_is (sym e) refl) lists.here
-at_among (y ∷ xs) (suc k) x e = lists.there (at_among xs k x e)
 
 -- a leaf inside a pattern is a leaf of its tree
 leaf_in : {k : ℕ} {p : Simple ℕ} → StandsIn (s_leaf k) p → LeafIn k (as_tree p)

@@ -1,8 +1,7 @@
 -- Building the graph of a schema.
-use Rattle.std.proofs.Common.{◌≡◌, refl, sym, ap, ap₂, ◌∙◌, subst, List, [], ◌∷◌, map, length, take, Option, Some, None, ℕ, ◌<◌, ◌≤◌, ◌++◌, inl, inr}
+use Rattle.std.proofs.Common.{◌≡◌, refl, sym, ap, ap₂, ◌∙◌, subst, List, [], ◌∷◌, map, length, take, Option, Some, ◌<◌, ◌≤◌, ◌++◌}
 use Rattle.std.proofs.Common.{slice_get, arith, Bor}
-use Rattle.std.proofs.lemmas.Bool.{cases_lt}
-use Rattle.std.proofs.lemmas.Option.{slice_get_within, none-some}
+use Rattle.std.proofs.lemmas.Option.{slice_get_within}
 use Rattle.rng_model.specs.schema.Patterns.{Place}
 use Rattle.rng_model.specs.schema.Schema.{Schema, Definition}
 use Rattle.rng_model.specs.views.SchemaView.{schema_component_of}
@@ -27,7 +26,6 @@ use Rattle.rng_model.specs.names.NameViews.{class_of}
 use Rattle.std.proofs.lemmas.List.{length-map, map_push, take_all}
 use Rattle.rng_simple.proofs.ElementsApart.{elements_apart}
 use Rattle.rng_simple.proofs.GraphSteps.{IsGraphSoFar, fewer, goes_on, same_classes, whole}
-use Rattle.rng_simple.proofs.Graphs.{found}
 use Rattle.rng_simple.proofs.ListParts.{map_at}
 
 -- the patterns of components as they are viewed
@@ -97,10 +95,3 @@ pub room : (s : Schema) → IsReady s → (t : Table) → IsTable t → ((d : De
 room s ready t table same n bodies d is e =
     let few = fewer s ready t table same (numbering_of n) (map graph_body_of bodies) is in
     omega (arith, slice_get_within n.definitions.keys (length bodies) d e, length-map n.definitions.keys definition_of, few)
-
--- no member is at the index: the list ends before it
-pub ends_before : {A : Type 0} (xs : List A) (i : ℕ) → slice_get xs i ≡ None → length xs ≤ i
-ends_before xs i e = elim (cases_lt i (length xs)) [
-  | inl h ↦ let f = found xs i h in absurd (none-some _ (sym e ∙ f.1))
-  | inr h ↦ omega (arith, h)
-]

@@ -2,20 +2,20 @@
 use Rattle.std.proofs.Common.{◌≡◌, refl, ap, sym, ◌∙◌, subst, ℕ, ◌+◌, ◌<◌, List, [], ◌∷◌, ◌++◌, length, map, set, slice_get, slice_index_or, Option}
 use Rattle.std.proofs.Common.{Some, None, length-append, arith}
 use Rattle.std.proofs.lemmas.List.{length-map}
+use Rattle.rng_model.proofs.Places.{at_place_of_end}
 use Rattle.rng_simple.specs.declared.graph.order.Mark.{Mark}
 use Rattle.rng_simple.specs.declared.graph.order.Mark.TheVariants as mark
 use Rattle.rng_simple.specs.declared.graph.order.Task.{Task}
 use Rattle.rng_simple.specs.declared.graph.order.Task.TheVariants as task
 use Rattle.rng_simple.specs.plain.Search.{AreMentionsBelow, number_of, IsSearch, IsStep, goes_on, found_loop, weight}
 use Rattle.rng_simple.proofs.DepthFirstSearch.{enter_done, enter_open, enter_new, leave, weight_open, weight_done}
-use Rattle.rng_simple.proofs.ListParts.{last_of}
 
 module _ (all : List (List ℕ)) (marks : List Mark) (rest : List Task) (order : List ℕ) (t : Task) (s : IsSearch all marks (rest ++ t ∷ []) order) where
   pub number_below : number_of t < length all
-  number_below = s.tasks_below (length rest) t (last_of rest t (length rest) refl)
+  number_below = s.tasks_below (length rest) t (at_place_of_end rest t (length rest) refl)
 
   pub number_marked : number_of t < length marks
-  number_marked = omega (arith, s.tasks_below (length rest) t (last_of rest t (length rest) refl), s.long)
+  number_marked = omega (arith, s.tasks_below (length rest) t (at_place_of_end rest t (length rest) refl), s.long)
 
 module _ (all : List (List ℕ)) (marks : List Mark) (rest : List Task) (order : List ℕ) (t : Task) (j : ℕ)
     (s : IsSearch all marks (rest ++ t ∷ []) order) where
@@ -64,7 +64,3 @@ pub step_nears : {all : List (List ℕ)} {before : ℕ} {marks : List Mark} {tas
     → IsStep all before marks tasks order r → r ≡ None → weight marks all + length tasks < before
 step_nears (goes_on s h) e = h
 step_nears (found_loop h w) e = absurd (let z = e in cc)
-
-pub none_there : {A : Type 0} (xs : List A) → length xs ≡ 0 → xs ≡ []
-none_there [] h = refl
-none_there (x ∷ xs) h = absurd (omega arith)

@@ -2,7 +2,8 @@
 -- soon as one definition that is met leads to itself, however it was found.
 use Rattle.std.proofs.Common.{zero, suc, ◌≡◌, ◌⊎◌, inl, inr, refl, ap, sym, subst, ℕ, ◌+◌, ◌≤◌, List, [], ◌∷◌, ◌++◌, length, Some, Contains, length-append}
 use Rattle.std.proofs.Common.{arith}
-use Rattle.std.proofs.lemmas.List.Elements.{Contains-append_left, Contains-append_right, Contains-append_cases, Contains-push, Contains-push_cases}
+use Rattle.std.proofs.lemmas.List.Elements.{Contains-append_left, Contains-append_right, Contains-append_cases, Contains-push}
+use Rattle.rng_model.proofs.Members.{not_in_none, one_only}
 use Rattle.rng_model.specs.simple.Tree.{Tree, not_allowed, empty, text, leaf, attribute, list, data_of, data_except, value, mixed, optional, zero_or_more}
 use Rattle.rng_model.specs.simple.Tree.{one_or_more, joined, Trees, no_trees, tree_and}
 use Rattle.rng_model.specs.schema.Patterns.{Place, Point}
@@ -15,7 +16,7 @@ use Rattle.rng_simple.specs.plain.Met.{Met, IsSettled, IsOrder, none_yet, and_th
 use Rattle.rng_model.proofs.Unfolding.{MentionsSome, some_is, none_of_stuck}
 use Rattle.rng_simple.proofs.OrderAndRest.{IsSplit}
 use Rattle.rng_simple.proofs.PatternPoints.{mapped, bound}
-use Rattle.rng_simple.proofs.LoopsOrOrder.{no_more, Covers, order_trees, breaks, leading_is_stuck}
+use Rattle.rng_simple.proofs.LoopsOrOrder.{Covers, order_trees, breaks, leading_is_stuck}
 
 -- either all leaves have one property, or one leaf has the other
 module _ {L : Type 0} (P : L → Type 0) (Q : Type 0) where
@@ -56,19 +57,13 @@ pub record Taken {A : Type 0} (xs : List A) (P : A → Type 0) : Type 0 where
   pub parts : xs ≡ front ++ taken ∷ back
   pub holds : P taken
 
-one_only : {A : Type 0} (x y : A) → Contains (x ∷ []) y → x ≡ y
-one_only x y c = elim (Contains-push_cases [] x y c) [
-  | inl n ↦ absurd (no_more n)
-  | inr e ↦ e
-]
-
 module _ {A : Type 0} where
   taken_later : {P : A → Type 0} (x : A) (xs : List A) → Taken xs P → Taken (x ∷ xs) P
   taken_later x xs t = record { front = x ∷ t.front; taken = t.taken; back = t.back; parts = ap (λ ys. x ∷ ys) t.parts; holds = t.holds }
 
   -- some member has one property, or all have the other
   take_or : (P Q : A → Type 0) (xs : List A) → ((x : A) → Contains xs x → P x ⊎ Q x) → Taken xs P ⊎ ((x : A) → Contains xs x → Q x)
-  take_or P Q [] f = inr (λ x c. absurd (no_more c))
+  take_or P Q [] f = inr (λ x c. absurd (not_in_none c))
   take_or P Q (x ∷ xs) f = elim (f x (0, omega arith, refl)) [
     | inl p ↦ inl (record { front = []; taken = x; back = xs; parts = refl; holds = p })
     | inr q ↦ elim (take_or P Q xs (λ y c. f y (Contains-append_right (x ∷ []) xs y c))) [

@@ -2,17 +2,17 @@
 use Rattle.std.proofs.Common.{◌≡◌, inl, inr, refl, ap, sym, ◌∙◌, subst, ℕ, List, [], ◌∷◌, ◌++◌, slice_get, Some, Contains}
 use Rattle.std.proofs.lemmas.Bool.{cases_eq}
 use Rattle.std.proofs.lemmas.List.Elements.{Contains-append_left, Contains-push_cases}
+use Rattle.rng_model.proofs.Members.{not_in_none}
 use Rattle.rng_model.specs.simple.Tree.{Tree}
 use Rattle.rng_model.specs.simple.Leaves.{LeafIn}
 use Rattle.rng_simple.specs.plain.Graph.{Spot, at_element, at_definition, Graph, Mentions, IsOrderBy, no_numbers, and_number, of_spot, spot_depth}
 use Rattle.rng_simple.specs.plain.Graph.{IsFilledBy}
 use Rattle.rng_model.proofs.Unfolding.{some_is}
-use Rattle.rng_simple.proofs.LoopsOrOrder.{no_more}
 use Rattle.rng_simple.proofs.RenamedLeaves.{depth_same}
 
 -- what a member of an order mentions is in the order
 pub order_closed : {A : Type 0} (M : A → A → Type 0) {xs : List A} → IsOrderBy M xs → (x y : A) → Contains xs x → M x y → Contains xs y
-order_closed M no_numbers x y c m = absurd (no_more c)
+order_closed M no_numbers x y c m = absurd (not_in_none c)
 order_closed M (and_number {xs = xs} {ys = ys} z o f e) x y c m =
     subst (λ zs. Contains zs y) (sym e) (Contains-append_left xs (z ∷ []) y (elim (Contains-push_cases xs z x (subst (λ zs. Contains zs x) e c)) [
       | inl h ↦ order_closed M o x y h m

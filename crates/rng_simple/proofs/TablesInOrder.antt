@@ -1,6 +1,7 @@
 -- A table that is filled in an order in which each definition comes after those that it mentions is right everywhere.
 use Rattle.std.proofs.Common.{◌≡◌, ap, ◌∙◌, sym, subst, ◌⊎◌, inl, inr, List, Contains}
 use Rattle.std.proofs.lemmas.List.Elements.{Contains-push, Contains-push_cases, Contains-append_left}
+use Rattle.rng_model.proofs.Members.{not_in_none}
 use Rattle.rng_model.specs.simple.Tree.{Tree, leaf}
 use Rattle.rng_model.specs.schema.Patterns.{Place, Point}
 use Rattle.rng_model.specs.schema.Schema.{Schema, Definition}
@@ -10,7 +11,6 @@ use Rattle.rng_model.specs.schema.Unfolding as u
 use Rattle.rng_simple.specs.plain.Met.{IsSettled, IsOrder, none_yet, and_then}
 use Rattle.rng_simple.specs.plain.DepthWith.{of_aim, IsFilled, IsRight}
 use Rattle.rng_model.proofs.Unfolding.{some_is}
-use Rattle.rng_simple.proofs.LoopsOrOrder.{no_more}
 
 module _ (A : Type 0) (s : Schema) (of_tree : Tree Leaf → A) (one : Leaf → A) (other : A) (is_one : (m : Leaf) → one m ≡ of_tree (leaf m))
     (table : Definition → A) where
@@ -33,7 +33,7 @@ module _ (A : Type 0) (s : Schema) (of_tree : Tree Leaf → A) (one : Leaf → A
     newest_right ds d e right h (inr q) = subst (IsRight s of_tree table) q h
 
     pub filled_right : {ds : List Definition} → IsOrder s ds → IsFilled s of_body table ds → (d : Definition) → Contains ds d → IsRight s of_tree table d
-    filled_right none_yet f d c = absurd (no_more c)
+    filled_right none_yet f d c = absurd (not_in_none c)
     filled_right (and_then {ds} {es} {a} e o b k p) f d c =
         let right = filled_right o (λ g i. f g (subst (λ xs. Contains xs g) (sym p) (Contains-append_left ds _ g i))) in
         let ends : Contains es e = subst (λ xs. Contains xs e) (sym p) (Contains-push ds e) in

@@ -5,6 +5,7 @@ use Rattle.std.specs.List.{list_all, join_with_byte, prefix_len}
 use Rattle.std.specs.Str.Parse.{without_leading_sign, signed_digits_value}
 use Rattle.std.proofs.lemmas.List.Folds.{list_all-append}
 use Rattle.std.proofs.lemmas.Bool.{and_left, and_right, and_parts, not-true, true≢false}
+use Rattle.std.proofs.Math.Bool.{and-true}
 use Rattle.rng_model.specs.datatypes.Texts.{is_blank_byte, is_blank}
 use Rattle.rng_model.specs.datatypes.Blanks.{pieces, collapse, has_bytes}
 use Rattle.rng_model.specs.plain.BlankRuns.{is_run_byte, is_run, ends_run, HasRuns, no_run, then_run}
@@ -123,10 +124,6 @@ some_counted : (ds : List ℕ) → has_bytes ds ≡ nat_lt 0 (length ds)
 some_counted [] = refl
 some_counted (d ∷ ds) = search (rules, arith)
 
-and_true : (x : Bool) → (x && true) ≡ x
-and_true true = refl
-and_true false = refl
-
 -- digits and then blanks are what a numeral collapses from
 pub decimal-run : (most : ℕ) (s : List ℕ) (n : ℕ) → n ≡ prefix_len is_ascii_digit s
     → ((nat_lt 0 n && nat_le n most) && is_blank (drop n s)) ≡ is_decimal most (from_run s)
@@ -136,7 +133,7 @@ decimal-run most s n e = by_rest (is_blank (drop n s)) refl
     by_rest true h =
         let here : is_blank (drop (prefix_len is_ascii_digit s) s) ≡ true = subst (λ k. is_blank (drop k s) ≡ true) e h in
         let counted : length (from_run s) ≡ n = digits_counted s here ∙ sym e in
-        rw (h, some_counted (from_run s), digits_alone s, here, counted) (and_true (nat_lt 0 n && nat_le n most))
+        rw (h, some_counted (from_run s), digits_alone s, here, counted) (and-true (nat_lt 0 n && nat_le n most))
     by_rest false h =
         let here : is_blank (drop (prefix_len is_ascii_digit s) s) ≡ false = subst (λ k. is_blank (drop k s) ≡ false) e h in
         rw h (and_right (nat_lt 0 n && nat_le n most) false refl ∙ sym (and_right (has_bytes (from_run s)) _ (and_left _ _ (digits_alone s ∙ here))))

@@ -6,6 +6,7 @@ use Rattle.std.specs.Str.{encode_utf8_all}
 use Rattle.std.proofs.lemmas.Str.{encodes-chars}
 use Rattle.std.proofs.lemmas.Bool.{and_left, and_right, true≢false}
 use Rattle.std.proofs.lemmas.Slice.Eq.{bytes_eq-Decides}
+use Rattle.rng_model.proofs.Texts.{no_bytes}
 use Rattle.rng_model.specs.datatypes.Blanks.{pieces, collapse}
 use Rattle.rng_model.specs.names.Characters.{is_name_char, is_colon, is_ncname}
 use Rattle.rng_model.specs.datatypes.Facets.{Lengths, fits}
@@ -87,10 +88,6 @@ pub never_equal : (a b : Option Value) → is_some a ≡ false → are_equal a b
 never_equal None b e = refl
 never_equal (Some a) b e = search rules
 
-no_length : (t : List ℕ) → (length t == 0) ≡ true → t ≡ []
-no_length [] e = refl
-no_length (b ∷ t) e = search rules
-
 nmtoken_by : (t cs : List ℕ) → IsUtf8 t → (length t == 0) ≡ false → cs ≡ chars t → is_nmtoken cs ≡ list_all is_name_char cs
 nmtoken_by t [] utf8 e is = absurd (true≢false (ap (λ u. length u == 0) (ap encode_utf8_all is ∙ encodes-chars t utf8) ∙ e))
 nmtoken_by t (c ∷ cs) utf8 e is = refl
@@ -101,4 +98,4 @@ nmtoken-some t utf8 e = nmtoken_by t (chars t) utf8 e refl
 
 pub nmtoken-none : (t : List ℕ) → (length t == 0) ≡ true → is_nmtoken (chars t) ≡ false
 unfolding chars
-nmtoken-none t e = rw (no_length t e) refl
+nmtoken-none t e = rw (no_bytes t e) refl

@@ -41,10 +41,6 @@ passes_by : (p : ℕ → Bool) (b : ℕ) (s : List ℕ) (c : Bool) → p b ≡ c
 passes_by p b s true c h = rw (c, one-add) (rw (c, h) refl)
 passes_by p b s false c h = rw c refl
 
-pub front_passes : (p : ℕ → Bool) (s : List ℕ) → list_all p (take (prefix_len p s) s) ≡ true
-front_passes p [] = refl
-front_passes p (b ∷ s) = passes_by p b s (p b) refl (front_passes p s)
-
 -- ---- which bytes
 
 pub no_blank : (b : ℕ) → is_blank_byte b ≡ true → is_word_byte b ≡ false

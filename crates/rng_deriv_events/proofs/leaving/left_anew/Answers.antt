@@ -1,10 +1,11 @@
 use Rattle.std.proofs.Common.{◌≡◌, ◌∙◌, All, subst, sym}
 use Rattle.std.proofs.lemmas.Option.{same_Some}
+use Rattle.rng_model.proofs.Places.{all_at as all_there}
 use Rattle.rng_deriv_events.specs.views.LevelTable.{levels_in, steps_in}
 use Rattle.rng_deriv_events.specs.declared.level_table.step.Step.{Step}
 use Rattle.rng_deriv_events.specs.views.KeptLevels.{AddsEndedLevel, IsStepKept}
 use Rattle.rng_deriv_events.specs.views.Levels.{AddsEnded, IsRestWithin}
-use Rattle.rng_deriv_events.proofs.KeptLevels.{all_there, kept_on}
+use Rattle.rng_deriv_events.proofs.KeptLevels.{kept_on}
 use Rattle.rng_deriv_events.proofs.leaving.left_anew.Goals as goal
 
 pub ended-requires : goal.ended-requires

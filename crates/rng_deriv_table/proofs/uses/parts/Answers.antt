@@ -1,8 +1,8 @@
 use Rattle.std.proofs.Common.{◌≡◌, ◌+◌, ◌∙◌, ap, arith, length, slice_get, Some, subst, sym}
 use Rattle.std.proofs.lemmas.List.{length_push}
 use Rattle.std.proofs.lemmas.Option.{slice_get_within}
+use Rattle.rng_model.proofs.Places.{ends_before}
 use Rattle.rng_deriv_table.proofs.GrammarUses.{ArePartsOwn, parts_all, parts_more}
-use Rattle.rng_deriv_table.proofs.Taking.{past_end}
 use Rattle.rng_deriv_table.proofs.uses.parts.Goals as goal
 
 pub rows-preserved : goal.rows-preserved
@@ -31,11 +31,11 @@ pub returns-clause-long : goal.returns-clause-long
 returns-clause-long c =
     let at : c.len.result ≡ length c.rows.uses.items = omega (arith, c.len.ensures, c.rows.uses.ok.0) in
     let within = c.rows.invariant.within in
-    let past = past_end c.args.grammar.now.patterns c.len.result (sym c.in_default.ensures.value) in
+    let past = ends_before c.args.grammar.now.patterns c.len.result (sym c.in_default.ensures.value) in
     omega (arith, at, within, past)
 
 pub returns-clause-parts : goal.returns-clause-parts
 returns-clause-parts c =
     let at : c.len.result ≡ length c.rows.uses.items = omega (arith, c.len.ensures, c.rows.uses.ok.0) in
-    let past = past_end c.args.grammar.now.patterns c.len.result (sym c.in_default.ensures.value) in
+    let past = ends_before c.args.grammar.now.patterns c.len.result (sym c.in_default.ensures.value) in
     parts_all c.args.grammar.now c.rows.uses.items (length c.rows.uses.items) (omega (arith, at, past)) c.rows.invariant.parts

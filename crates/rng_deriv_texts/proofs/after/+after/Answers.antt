@@ -3,6 +3,7 @@ use Rattle.std.proofs.Common.{get_or, length, length-append, refl, sym, ap, subs
 use Rattle.std.specs.Prelude.{IfSome}
 use Rattle.std.proofs.lemmas.Option.{slice_get-get_or, slice_get_within}
 use Rattle.std.proofs.Math.Seq.{take-suc}
+use Rattle.rng_names.proofs.Holding.{decides_holds}
 use Rattle.rng_model.specs.simple.Table.{Table, tree_at}
 use Rattle.rng_model.specs.datatypes.Blanks.{pieces}
 use Rattle.rng_model.specs.datatypes.Texts.{is_blank}
@@ -32,7 +33,6 @@ use Rattle.rng_deriv_ways.proofs.ClosedTags.{both_ok}
 use Rattle.rng_deriv_ways.proofs.KnownWays.{all_longer}
 use Rattle.rng_deriv_ways.proofs.PatternNodes.{is_over, parts_there}
 use Rattle.rng_deriv_texts.proofs.ListPieces.{either_blank, either_none, either_true, list_told, one_piece_more, value_told}
-use Rattle.rng_deriv_ways.proofs.GrammarRows.{decides_holds}
 use Rattle.rng_deriv_ways.proofs.StartBodies.{ready_longer}
 use Rattle.rng_deriv_texts.proofs.LeafKinds.{no_attribute_found, tells_of_attribute, tells_of_list, tells_of_no_attribute}
 use Rattle.rng_deriv_texts.proofs.LeafKinds.{tells_of_no_leaf, tells_of_no_string, tells_of_other_name, tells_of_text}

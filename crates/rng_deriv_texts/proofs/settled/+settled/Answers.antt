@@ -1,6 +1,7 @@
 use Rattle.std.proofs.Common.{◌≡◌, ◌∙◌, ◌↔◌, ◌+◌, ◌<◌, ◌++◌, ◌∷◌, [], suc, List, Some, true, get_or, refl, sym, ap, subst, arith, rules, take}
 use Rattle.std.proofs.lemmas.Option.{slice_get_within}
 use Rattle.std.proofs.Math.Seq.{take-suc}
+use Rattle.rng_names.proofs.Holding.{decides_holds}
 use Rattle.rng_model.specs.datatypes.Texts.{is_blank}
 use Rattle.rng_model.specs.matching.GrammarReading.{reading_of}
 use Rattle.rng_model.specs.names.NameViews.{class_of, name_of}
@@ -13,7 +14,6 @@ use Rattle.rng_deriv_table.specs.plain.AskedFor.{as_part}
 use Rattle.rng_deriv_table.specs.views.Trees.{attribute_found, tree_of}
 use Rattle.rng_deriv_ways.specs.declared.way.LeafWay.{LeafWay}
 use Rattle.rng_deriv_ways.specs.declared.way.Place.TheVariants as places
-use Rattle.rng_deriv_ways.proofs.GrammarRows.{decides_holds}
 use Rattle.rng_deriv_ways.proofs.PatternNodes.{is_over}
 use Rattle.rng_deriv_texts.specs.plain.After.{TellsTaken}
 use Rattle.rng_deriv_texts.specs.plain.Settling.{AreLeft}

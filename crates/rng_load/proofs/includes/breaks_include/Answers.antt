@@ -1,8 +1,9 @@
 use Rattle.std.proofs.Common.{rules, ◌≡◌, ap, sym, map, Some, None, length}
+use Rattle.std.proofs.lemmas.List.{nil_from_length}
 use Rattle.rnc_model.specs.declarations.FileTree.{components_of}
 use Rattle.rnc_grammar.specs.views.View.{component_of, file_of, mention_of}
 use Rattle.rng_load.specs.views.FilesView.{taken_files_of}
-use Rattle.rng_load.proofs.BrokenIncludes.{found_at, none_long, unread, is_no_grammar, nothing_in_braces, judged}
+use Rattle.rng_load.proofs.BrokenIncludes.{found_at, unread, is_no_grammar, nothing_in_braces, judged}
 use Rattle.rng_load.proofs.includes.breaks_include.Goals as goal
 
 pub returns-in_default : goal.returns-in_default
@@ -24,7 +25,7 @@ returns-then-is_empty c =
     nothing_in_braces (taken_files_of c.args.trees.now) (mention_of c.args.mention.now) (components_of (map component_of c.args.overriding.now))
     (file_of c.in-Some.tree.now) is
     (components_of (map component_of c.in-Some-grammar.included.now)) (sym c.in-Some-grammar.ensures)
-    (ap (λ cs. components_of (map component_of cs)) (none_long c.args.overriding.now empty))
+    (ap (λ cs. components_of (map component_of cs)) (nil_from_length c.args.overriding.now empty))
 
 pub returns : goal.returns
 returns c =

@@ -1,9 +1,9 @@
 use Rattle.std.proofs.Common.{◌≡◌, map, sym, ◌∙◌, ap, arith}
+use Rattle.rng_model.proofs.ChoiceViews.{choice_is}
 use Rattle.rng_model.specs.names.Names.{some_of}
 use Rattle.rng_model.specs.names.NameViews.{class_of}
 use Rattle.rng_names.specs.plain.Written.{both_hold, is_met}
 use Rattle.rng_names.proofs.ClassChoices.{met-members, any_here, none_before}
-use Rattle.rng_names.proofs.NameViews.{choice_is}
 use Rattle.rng_names.proofs.common_name.+is_met.Goals as goal
 
 pub returns-then-is_met-clause-test : goal.returns-then-is_met-clause-test

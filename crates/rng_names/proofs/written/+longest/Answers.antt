@@ -1,10 +1,10 @@
 use Rattle.std.proofs.Common.{◌≡◌, map, ap, sym, ◌∙◌, arith}
 use Rattle.std.proofs.lemmas.List.{take_all}
+use Rattle.rng_model.proofs.ChoiceViews.{choice_is}
 use Rattle.rng_model.specs.names.Names.{some_of}
 use Rattle.rng_model.specs.names.NameViews.{class_of}
 use Rattle.rng_names.specs.plain.Written.{longest}
 use Rattle.rng_names.proofs.ClassChoices.{longest-members, longest_among}
-use Rattle.rng_names.proofs.NameViews.{choice_is}
 use Rattle.rng_names.proofs.written.+longest.Goals as goal
 
 pub returns-after-members : goal.returns-after-members

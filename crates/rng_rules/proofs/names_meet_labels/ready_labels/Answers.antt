@@ -1,7 +1,7 @@
 use Rattle.std.proofs.Common.{[], ◌∷◌, ◌++◌, ap, ap₂, sym, ◌∙◌, map, arith}
 use Rattle.std.proofs.lemmas.List.{length-map, map-append, take_all}
+use Rattle.rng_model.proofs.Places.{one_more_mapped}
 use Rattle.rng_rules.specs.views.NamesMeetLabels.{label_of, ready_label_of}
-use Rattle.rng_rules.proofs.NamesMeetGroups.{taken}
 use Rattle.rng_rules.proofs.names_meet_labels.ready_labels.Goals as goal
 
 pub loop-label-preserved : goal.loop-label-preserved
@@ -12,7 +12,7 @@ loop-label-preserved c =
     let label = c.label-item.result in
     ap (map ready_label_of) c.in_ok-push.ensures.items ∙ map-append ready_label_of old _
     ∙ ap₂ (λ xs y. xs ++ (label.row, y) ∷ []) c.loop-label.invariant c.in_ok-class.ensures.class
-    ∙ sym (taken label_of ls i label c.loop-label-test.true c.label-item.is)
+    ∙ sym (one_more_mapped label_of ls i label c.loop-label-test.true c.label-item.is)
 
 pub returns : goal.returns
 returns c =

@@ -1,6 +1,8 @@
 use Rattle.std.proofs.Common.{rules, ◌≡◌, sym, subst, ◌∙◌, ℕ, ◌<◌, [], length, slice_get, slice_index_or, All, Some, refl, arith}
+use Rattle.rng_model.proofs.Members.{all_from_members}
+use Rattle.rng_model.proofs.Places.{read_at}
 use Rattle.rng_rules.specs.plain.NamesMeetReach.{Adds, IsMarked, lists}
-use Rattle.rng_rules.proofs.NamesMeetQueues.{nothing_marked, queue_begins, queue_goes, below_more, queue_is_done, read_at, All-from_contains}
+use Rattle.rng_rules.proofs.NamesMeetQueues.{nothing_marked, queue_begins, queue_goes, below_more, queue_is_done}
 use Rattle.rng_rules.proofs.names_meet_reach.reach.Goals as goal
 
 nothing_below : (n : ℕ) → All (λ k. k < n) []
@@ -25,7 +27,7 @@ pub add-requires-in-queue-clause-below : goal.add-requires-in-queue-clause-below
 add-requires-in-queue-clause-below c =
     subst (λ n. All (λ k. k < n) c.next_to.result.now) (sym c.queue.invariant.long)
     (subst (λ xs. All (λ k. k < length c.args.next.now) xs) (sym c.next_to.ensures)
-    (All-from_contains (λ k. k < length c.args.next.now) (slice_index_or (lists c.args.next.now) c.index-row.result.now [])
+    (all_from_members (λ k. k < length c.args.next.now) (slice_index_or (lists c.args.next.now) c.index-row.result.now [])
     (λ k h. c.requires.next c.index-row.result.now k h)))
 
 pub queue-smaller : goal.queue-smaller
@@ -43,7 +45,7 @@ queue-preserved c =
       long = c.in_ok-add-2.ensures.long ∙ c.queue.invariant.long;
       below = below_more (length c.args.next.now) c.queue.rows.items (slice_index_or (lists c.args.next.now) c.index-row.result.now [])
           c.add-in-queue.new.rows.items c.queue.invariant.below
-          (All-from_contains (λ k. k < length c.args.next.now) (slice_index_or (lists c.args.next.now) c.index-row.result.now [])
+          (all_from_members (λ k. k < length c.args.next.now) (slice_index_or (lists c.args.next.now) c.index-row.result.now [])
           (λ k h. c.requires.next c.index-row.result.now k h))
           adds;
       queue = queue_goes _ c.args.start.now c.queue.rows.items c.add-in-queue.new.rows.items c.queue.done c.index-row.result.now c.queue.invariant.queue here adds;

@@ -1,8 +1,9 @@
 use Rattle.std.proofs.Common.{◌≡◌, ◌↔◌, ◌<◌, [], ap, sym, ◌∙◌, subst, ℕ, length, map, slice_get, slice_index_or, Some, All, vec_items, arith}
 use Rattle.std.proofs.lemmas.List.{length-map}
+use Rattle.rng_model.proofs.Members.{all_from_members}
+use Rattle.rng_model.proofs.Places.{some_at}
 use Rattle.rng_rules.specs.plain.NamesMeetReach.{AreBelow, IsReachedBy, lists}
 use Rattle.rng_rules.specs.views.NamesMeetRows.{children}
-use Rattle.rng_rules.proofs.NamesMeetQueues.{All-from_contains, some_at}
 use Rattle.rng_rules.proofs.NamesMeetTables.{children_in_table}
 use Rattle.rng_rules.proofs.names_meet_rows.within.Goals as goal
 
@@ -22,7 +23,7 @@ reach-requires-clause-start c =
 
 pub reach-requires-clause-round : goal.reach-requires-clause-round
 reach-requires-clause-round c =
-    All-from_contains (λ m. m < 1) c.in_ok-marks.marks.items
+    all_from_members (λ m. m < 1) c.in_ok-marks.marks.items
     (λ m h. let i = some_at c.in_ok-marks.marks.items m h in omega (arith, c.in_ok-marks.ensures.none i.0 m i.2))
 
 pub returns-clause-exact : goal.returns-clause-exact

@@ -1,8 +1,8 @@
 use Rattle.std.proofs.Common.{rules, ◌≡◌, ◌∷◌, [], sym, subst, ℕ, ◌<◌, length, map, Contains, All}
+use Rattle.rng_model.proofs.Members.{one_only, all_from_members}
 use Rattle.rng_model.specs.declared.name.NameClass.{NameClass}
 use Rattle.rng_names.specs.views.PlainNames.{IsPlain}
 use Rattle.rng_rules.specs.views.NamesMeetLabels.{ready_label_of}
-use Rattle.rng_rules.proofs.NamesMeetQueues.{All-from_contains, one_only}
 use Rattle.rng_rules.proofs.NamesMeetSearch.{if_ok, meeting_of, no_meeting}
 use Rattle.rng_rules.proofs.names_meet_search.one_meets.Goals as goal
 
@@ -14,13 +14,13 @@ pub meet-requires-clause-first : goal.meet-requires-clause-first
 meet-requires-clause-first c =
     let one : c.as_slice.result.now ≡ c.args.label.now.row ∷ [] = search rules in
     let n = length c.args.rows.now.standing.items in
-    subst (All (λ k. k < n)) (sym one) (All-from_contains (λ k. k < n) (c.args.label.now.row ∷ [])
+    subst (All (λ k. k < n)) (sym one) (all_from_members (λ k. k < n) (c.args.label.now.row ∷ [])
     (λ k h. subst (λ j. j < n) (one_only c.args.label.now.row k h) (c.requires.below c.args.label.now.row c.args.label.now.class c.requires.there)))
 
 pub meet-requires-clause-second : goal.meet-requires-clause-second
 meet-requires-clause-second c =
     let n = length c.args.rows.now.standing.items in
-    subst (All (λ k. k < n)) (sym c.as_slice-2.ensures.value) (All-from_contains (λ k. k < n) c.in_ok-others.others.items
+    subst (All (λ k. k < n)) (sym c.as_slice-2.ensures.value) (all_from_members (λ k. k < n) c.in_ok-others.others.items
     (λ k h. let o = (c.in_ok-others.ensures k).0 h in c.requires.below k o.0 o.1))
 
 pub returns-clause-only : goal.returns-clause-only

@@ -1,7 +1,7 @@
 use Rattle.std.proofs.Common.{◌≡◌, ◌==◌, length, map, sym, ◌∙◌, ap, arith}
+use Rattle.rng_model.proofs.ChoiceViews.{choice_is}
 use Rattle.rng_model.specs.names.Names.{some_of}
 use Rattle.rng_model.specs.names.NameViews.{class_of}
-use Rattle.rng_names.proofs.NameViews.{choice_is}
 use Rattle.rng_rules.specs.plain.Facts.{has_wildcard}
 use Rattle.rng_rules.proofs.WildcardsInChoices.{wildcard_here, wildcard_nowhere}
 use Rattle.rng_rules.proofs.wildcard.+has_wildcard.Goals as goal

@@ -1,6 +1,6 @@
 use Rattle.std.proofs.Common.{◌≡◌, ◌<◌, [], ◌∷◌, ◌++◌, length, slice_get, Some, true, false, rules, refl, subst, ap, ◌∙◌, arith}
 use Rattle.std.proofs.lemmas.Option.{slice_get-get_or}
-use Rattle.rng_simple.proofs.ListParts.{read_at}
+use Rattle.rng_model.proofs.Places.{read_at}
 use Rattle.rng_model.proofs.Unfolding.{some_is}
 use Rattle.rng_simple.specs.plain.Copying.{AreCopied, own_elements, IsRowCopy}
 use Rattle.rng_simple.specs.views.RowTable.{finished_labels}

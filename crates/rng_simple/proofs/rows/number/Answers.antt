@@ -1,6 +1,7 @@
 use Rattle.std.proofs.Common.{rules, ◌≡◌, sym, subst, slice_get, length, Some, None, [], ◌∷◌, ◌++◌}
+use Rattle.rng_model.proofs.Places.{at_place_of_end}
 use Rattle.rng_simple.specs.views.RowIndex.{IsIndex, number_of_row}
-use Rattle.rng_simple.proofs.RowIndex.{index_more, last_of}
+use Rattle.rng_simple.proofs.RowIndex.{index_more}
 use Rattle.rng_simple.proofs.rows.number.Goals as goal
 
 pub returns-clause-index : goal.returns-clause-index
@@ -15,4 +16,4 @@ pub returns-clause-there : goal.returns-clause-there
 returns-clause-there c =
     let more : c.push.new.self.items ≡ c.args.rows.now.items ++ c.args.row ∷ [] = search rules in
     let last : c.len-i.result ≡ length c.args.rows.now.items = search rules in
-    subst (λ xs. slice_get xs c.len-i.result ≡ Some c.args.row) (sym more) (last_of c.args.rows.now.items c.args.row c.len-i.result last)
+    subst (λ xs. slice_get xs c.len-i.result ≡ Some c.args.row) (sym more) (at_place_of_end c.args.rows.now.items c.args.row c.len-i.result last)

@@ -1,9 +1,9 @@
 use Rattle.std.proofs.Common.{◌≡◌, ◌<◌, ◌∙◌, ap, subst, length, get_or, arith, refl}
 use Rattle.std.proofs.lemmas.List.{length-map, length-set, take_all}
+use Rattle.rng_model.proofs.Places.{read_at}
 use Rattle.rng_simple.specs.plain.Graph.{IsFilledBy}
 use Rattle.rng_simple.specs.views.GraphView.{graph_body_of, graph_of}
 use Rattle.rng_simple.proofs.ListParts.{map_at}
-use Rattle.rng_simple.proofs.ListParts.{read_at}
 use Rattle.rng_simple.specs.plain.GrammarBy.{spot_simple}
 use Rattle.rng_simple.specs.views.RowTable.{tree_of}
 use Rattle.rng_simple.specs.plain.SimpleParts.{values_in}

@@ -1,10 +1,10 @@
 use Rattle.std.proofs.Common.{rules, ◌≡◌, sym, subst, ◌∙◌, ℕ, ◌<◌, [], length, slice_get, slice_index_or, All, Some, vec_items, refl, arith}
 use Rattle.std.proofs.lemmas.List.{length-map}
+use Rattle.rng_model.proofs.Members.{all_from_members}
+use Rattle.rng_model.proofs.Places.{read_at}
 use Rattle.rng_simple.specs.plain.Search.{lists}
 use Rattle.rng_simple.specs.plain.Worklist.{Adds}
 use Rattle.rng_simple.proofs.QueueMarks.{queue_begins, queue_goes, below_more, queue_is_done, queue_is_short}
-use Rattle.rng_simple.proofs.Queues.{All-from_contains}
-use Rattle.rng_simple.proofs.ListParts.{read_at}
 use Rattle.rng_simple.proofs.worklist.collect.Goals as goal
 
 nothing_below : (n : ℕ) → All (λ k. k < n) []
@@ -24,7 +24,7 @@ pub add-requires-in-queue-clause-below : goal.add-requires-in-queue-clause-below
 add-requires-in-queue-clause-below c =
     subst (λ n. All (λ k. k < n) c.next_to.result.now) (sym c.queue.invariant.long)
     (subst (λ xs. All (λ k. k < length c.args.next.now) xs) (sym c.next_to.ensures)
-    (All-from_contains (λ k. k < length c.args.next.now) (slice_index_or (lists c.args.next.now) c.index-k.result.now [])
+    (all_from_members (λ k. k < length c.args.next.now) (slice_index_or (lists c.args.next.now) c.index-k.result.now [])
     (λ k h. omega (arith, c.requires.next c.index-k.result.now k h, length-map c.args.next.now vec_items))))
 
 pub queue-smaller : goal.queue-smaller
@@ -42,7 +42,7 @@ queue-preserved c =
       long = c.in_ok-add-2.ensures.long ∙ c.queue.invariant.long;
       below = below_more (length c.args.next.now) c.queue.seen.items (slice_index_or (lists c.args.next.now) c.index-k.result.now [])
           c.add-in-queue.new.seen.items c.queue.invariant.below
-          (All-from_contains (λ k. k < length c.args.next.now) (slice_index_or (lists c.args.next.now) c.index-k.result.now [])
+          (all_from_members (λ k. k < length c.args.next.now) (slice_index_or (lists c.args.next.now) c.index-k.result.now [])
           (λ k h. omega (arith, c.requires.next c.index-k.result.now k h, length-map c.args.next.now vec_items)))
           adds;
       queue = queue_goes _ c.args.start.now c.queue.seen.items c.add-in-queue.new.seen.items c.queue.i c.index-k.result.now c.queue.invariant.queue here adds;

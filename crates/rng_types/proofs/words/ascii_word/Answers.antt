@@ -1,11 +1,12 @@
 use Rattle.std.proofs.Common.{◌≡◌, ◌≤◌, ◌==◌, true, false, length, take, drop, ap, sym, ◌∙◌, subst, rules}
 use Rattle.std.specs.List.{list_all, prefix_len}
 use Rattle.std.proofs.lemmas.List.Sums.{prefix_len-le-length}
+use Rattle.rng_model.proofs.TestedRuns.{run_passes}
 use Rattle.rng_model.specs.datatypes.Texts.{is_blank}
 use Rattle.rng_types.specs.plain.Runs.{past_blanks, from_run}
 use Rattle.rng_types.specs.plain.Words.{is_word_byte}
 use Rattle.rng_types.proofs.CollapsedBytes.{collapse-past}
-use Rattle.rng_types.proofs.WordsOfTexts.{run_front, front_passes, no_blank}
+use Rattle.rng_types.proofs.WordsOfTexts.{run_front, no_blank}
 use Rattle.rng_types.proofs.words.ascii_word.Goals as goal
 
 pub split_at-requires : goal.split_at-requires
@@ -22,6 +23,6 @@ returns c =
     let some : (length c.split_at.result.0.now == 0) ≡ false = search rules in
     record {
       is = collapse-past c.args.text.now ∙ ap from_run (sym past) ∙ run_front is_word_byte no_blank bytes (ap is_blank (sym back) ∙ blank) ∙ sym front;
-      bytes = ap (list_all is_word_byte) front ∙ front_passes is_word_byte bytes;
+      bytes = ap (list_all is_word_byte) front ∙ run_passes is_word_byte bytes;
       some = some;
     }

@@ -1,6 +1,7 @@
 use Rattle.std.proofs.Common.{◌≡◌, ◌+◌, ◌∙◌, ◌<◌, All, ap, arith, inr, length, slice_get, List, Some, subst, sym}
 use Rattle.std.proofs.lemmas.List.{length_push}
 use Rattle.std.proofs.lemmas.Option.{slice_get_within}
+use Rattle.rng_model.proofs.Places.{ends_before}
 use Rattle.rng_model.specs.simple.Table.{Table, tree_at, tree_over}
 use Rattle.rng_model.specs.simple.TableRules.{AreChildrenBelow}
 use Rattle.rng_deriv_table.specs.declared.pattern.PatternNumber.{PatternNumber}
@@ -10,7 +11,7 @@ use Rattle.rng_deriv_table.specs.views.Taking.{AreTakenAt}
 use Rattle.rng_deriv_table.proofs.KeptRestrictions.{one_kept, restricted_alike}
 use Rattle.rng_deriv_table.proofs.Regrouped.{options_longer}
 use Rattle.rng_deriv_table.proofs.Trees.{Longer-trans}
-use Rattle.rng_deriv_table.proofs.Taking.{each_inside, one_taken, past_end, taken_where}
+use Rattle.rng_deriv_table.proofs.Taking.{each_inside, one_taken, taken_where}
 use Rattle.rng_deriv_table.proofs.pattern_table.PatternTable.of.Goals as goal
 
 pub take_row-requires-clause-inside : goal.take_row-requires-clause-inside
@@ -69,7 +70,7 @@ returns-clause-long c =
     let numbers = c.rows.numbers.items in
     let at : c.len.result ≡ length numbers = omega (arith, c.len.ensures, c.rows.numbers.ok.0) in
     let within = c.rows.invariant.within in
-    let past = past_end c.args.grammar.now.patterns c.len.result (sym c.in_default.ensures.value) in
+    let past = ends_before c.args.grammar.now.patterns c.len.result (sym c.in_default.ensures.value) in
     omega (arith, at, within, past)
 
 pub returns-clause-taken : goal.returns-clause-taken

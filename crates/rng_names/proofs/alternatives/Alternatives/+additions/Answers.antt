@@ -3,12 +3,12 @@ use Rattle.std.specs.List.{list_any}
 use Rattle.std.proofs.lemmas.List.{take_all}
 use Rattle.std.proofs.lemmas.List.Folds.{list_any_more}
 use Rattle.std.proofs.lemmas.Result.{on_ok_weaker}
+use Rattle.rng_model.proofs.ChoiceViews.{choice_is}
 use Rattle.rng_model.specs.names.Names.{some_of}
 use Rattle.rng_model.specs.names.NameViews.{class_of}
 use Rattle.rng_names.specs.views.Alternatives.{Adds, has_alternative}
 use Rattle.rng_names.proofs.ExceptTables.{grows_more, grows_past_except, linked_past_except, linked_same}
 use Rattle.rng_names.proofs.HeldByAlternatives.{adds_choice, adds_more}
-use Rattle.rng_names.proofs.NameViews.{choice_is}
 use Rattle.rng_names.proofs.alternatives.Alternatives.+additions.Goals as goal
 
 pub add-members-preserved : goal.add-members-preserved

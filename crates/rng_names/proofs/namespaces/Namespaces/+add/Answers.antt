@@ -1,8 +1,8 @@
 use Rattle.std.proofs.Common.{◌≡◌, map, arith}
+use Rattle.rng_model.proofs.ChoiceViews.{choice_is}
 use Rattle.rng_model.specs.names.Names.{some_of}
 use Rattle.rng_model.specs.names.NameViews.{class_of}
 use Rattle.rng_names.proofs.CoveredNames.{covers_all, covers_more}
-use Rattle.rng_names.proofs.NameViews.{choice_is}
 use Rattle.rng_names.proofs.namespaces.Namespaces.+add.Goals as goal
 
 pub members-preserved : goal.members-preserved

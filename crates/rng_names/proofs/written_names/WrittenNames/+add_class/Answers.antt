@@ -1,10 +1,11 @@
 use Rattle.std.proofs.Common.{◌≡◌, ◌∙◌, ap, refl, sym, subst, map, Some, arith, rules}
 use Rattle.std.proofs.lemmas.List.{length-map}
 use Rattle.std.proofs.lemmas.Result.{on_ok_weaker}
+use Rattle.rng_model.proofs.ChoiceViews.{choice_is}
 use Rattle.rng_model.specs.names.NamespaceViews.{namespace_bytes}
 use Rattle.rng_model.specs.names.Names.{any_except, ns_except, some_of}
 use Rattle.rng_model.specs.names.NameViews.{class_of}
-use Rattle.rng_names.proofs.NameViews.{any_except_is, choice_is, ns_except_is}
+use Rattle.rng_names.proofs.NameViews.{any_except_is, ns_except_is}
 use Rattle.rng_names.specs.plain.Regions.{AddsPart, HasBegun, sorted_in}
 use Rattle.rng_names.specs.declared.written_names.WrittenNames.{WrittenNames}
 use Rattle.rng_names.proofs.Regions.{any_except_added, begins_grows, choice_added, ns_except_added, one_part}

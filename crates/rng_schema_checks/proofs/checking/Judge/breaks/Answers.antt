@@ -2,11 +2,11 @@ use Rattle.std.proofs.Common.{◌≡◌, ◌≤◌, ◌∙◌, ap, arith, length
 use Rattle.std.specs.List.{list_any}
 use Rattle.std.proofs.lemmas.List.{at_drop_all}
 use Rattle.std.proofs.lemmas.List.Folds.{list_any_at}
+use Rattle.rng_model.proofs.Truths.{no_truth}
 use Rattle.rng_model.specs.views.SchemaView.{place_of}
 use Rattle.rng_load.specs.views.PlacedGrammars.{schema_of}
 use Rattle.rng_schema_checks.specs.plain.ClauseTests.{is_broken_at}
 use Rattle.rng_schema_checks.proofs.AllPlaces.{any_mapped}
-use Rattle.rng_schema_checks.proofs.ListTests.{false_is_no_truth}
 use Rattle.rng_schema_checks.proofs.BrokenPlaces.{judged}
 use Rattle.rng_schema_checks.proofs.checking.Judge.breaks.Goals as goal
 
@@ -29,4 +29,4 @@ returns c =
     let none : list_any (λ p. test (place_of p)) places ≡ false =
     c.loop-place.invariant ∙ at_drop_all (list_any (λ p. test (place_of p))) places c.loop-place.place-index over in
     let whole = any_mapped test place_of places ∙ none in
-    (λ t. false_is_no_truth t, λ b. sym whole ∙ (judged s (map place_of places) c.places-place-items.ensures c.args.clause).1 b)
+    (λ t. no_truth t, λ b. sym whole ∙ (judged s (map place_of places) c.places-place-items.ensures c.args.clause).1 b)

@@ -1,12 +1,13 @@
 use Rattle.std.proofs.Common.{◌≡◌, ◌∙◌, ap, sym, subst, arith, rules, [], ◌∷◌, ◌+◌, length, length-append, map, slice_get, Some, None}
 use Rattle.std.proofs.lemmas.List.{length-map}
+use Rattle.rng_model.proofs.Places.{ends_before}
 use Rattle.rng_load.specs.views.PlacedGrammars.{schema_of}
 use Rattle.rng_simple.specs.views.ComponentTable.{table_of}
 use Rattle.rng_simple.specs.views.Definitions.{definition_of, numbering_of}
 use Rattle.rng_simple.specs.views.GraphView.{graph_body_of}
 use Rattle.rng_simple.proofs.GraphSteps.{IsGraphSoFar, started}
 use Rattle.rng_simple.proofs.ReadySchemas.{ready}
-use Rattle.rng_simple.proofs.SchemaGraphs.{built, ends_before, room, step}
+use Rattle.rng_simple.proofs.SchemaGraphs.{built, room, step}
 use Rattle.rng_simple.proofs.graph.building.schema_graph.Goals as goal
 
 pub definitions-init : goal.definitions-init

@@ -1,4 +1,5 @@
 use Rattle.std.proofs.Common.{◌≡◌, ◌∷◌, ap, ◌∙◌, map, drop, take, length, ◌-◌}
+use Rattle.rng_model.proofs.Places.{first_and_rest}
 use Rattle.rng_model.specs.names.Names.{classes_of, some_of}
 use Rattle.rng_model.specs.schema.Depth.{class_depth}
 use Rattle.rng_model.specs.names.NameViews.{class_of}
@@ -6,7 +7,6 @@ use Rattle.rng_simple.specs.plain.InTwos.{nested}
 use Rattle.rng_simple.specs.plain.DepthWith.{cut_off}
 use Rattle.rng_simple.specs.plain.MemberDepths.{nested_class_depth}
 use Rattle.rng_simple.proofs.MemberDepths.{choice_depth}
-use Rattle.rng_simple.proofs.ListParts.{first_and_rest}
 use Rattle.rng_simple.proofs.graph.depth.+classes.Goals as goal
 
 pub choice_depth-loop-member-init : goal.choice_depth-loop-member-init

@@ -1,11 +1,12 @@
 use Rattle.std.proofs.Common.{◌≡◌, ◌<◌, ◌∙◌, ap, subst, length, get_or, arith, refl}
 use Rattle.std.proofs.lemmas.List.{length-map, length-set, take_all}
+use Rattle.rng_model.proofs.Places.{read_at}
 use Rattle.rng_simple.specs.plain.Graph.{IsFilledBy, spot_depth}
 use Rattle.rng_simple.specs.views.GraphView.{graph_body_of, graph_of}
 use Rattle.rng_simple.specs.plain.MemberDepths.{depth_in}
 use Rattle.rng_simple.proofs.DepthTable.{filled_next}
 use Rattle.rng_simple.proofs.graph.depth_table.depths.Goals as goal
-use Rattle.rng_simple.proofs.ListParts.{read_at, map_at}
+use Rattle.rng_simple.proofs.ListParts.{map_at}
 
 pub loop-j-preserved : goal.loop-j-preserved
 loop-j-preserved c =

@@ -1,10 +1,10 @@
 use Rattle.std.proofs.Common.{rules, ◌≡◌, sym, subst, ◌<◌, [], ◌∷◌, ◌++◌, length, vec_items, arith}
 use Rattle.std.proofs.lemmas.List.{length-map}
+use Rattle.rng_model.proofs.Places.{read_at}
 use Rattle.rng_simple.specs.declared.graph.order.Mark.TheVariants as mark
 use Rattle.rng_simple.specs.plain.Search.{number_of, lists}
 use Rattle.rng_simple.proofs.SearchSteps.{number_below, number_marked, step_new, step_open, step_done, step_leave}
 use Rattle.rng_simple.proofs.graph.order.step.Goals as goal
-use Rattle.rng_simple.proofs.ListParts.{read_at}
 
 pub index-requires : goal.index-requires
 index-requires c =
