@@ -5,8 +5,9 @@
     dev/check/restated/run.py --shrink   takes from known.txt what is no longer there
 
 The lemmas of the kit are those that `std.proofs.lemmas` exports: every crate can cite them. Two statements are the same if they differ only in the names of
-their variables, and in which of these are implicit. The lemmas that restated one when this check came are in known.txt, a line for each, by name: it may
-only become shorter. A line there without a lemma is a fault too. Short statements are not compared, and without `rt` nothing is.
+their variables, in which of these are implicit, and in brackets around `x && y` or `x || y` before `≡`. The lemmas that may restate one are in known.txt, a
+line for each, by name: it may only become shorter. A line there without a lemma is a fault too. Short statements are not compared, and without `rt` nothing
+is.
 """
 import collections
 import pathlib
@@ -18,6 +19,7 @@ import sys
 HERE = pathlib.Path(__file__).resolve().parent
 DECLARED = re.compile(r"^(\s*)(pub )?([^\s:(){}]+)((?: \{[^}]*\}| \([^)]*\))*) : (.*)$")
 EXPORTED = re.compile(r"^pub use Rattle\.([\w.\-◌]+)\.\{([^}]*)\}", re.M)
+BRACKETS = re.compile(r"\(([\w'\-]+ (?:&&|\|\|) [\w'\-]+)\) ≡")  # around an operand of `≡` that needs none
 LEAST = 25  # characters of a statement that is compared
 
 
@@ -39,6 +41,7 @@ def statements(text):
 def normal(statement):
     """A statement with numbered variables, each in brackets of its own."""
     text = re.sub(r"\s+", " ", statement.replace("{", "(").replace("}", ")"))
+    text = BRACKETS.sub(r"\1 ≡", text)
     names = list(dict.fromkeys(name for names in re.findall(r"\(([^():]+?) ?:", text) for name in names.split()))
     text = re.sub(r"\(([^():]+?) ?: ?([^()]*)\)", lambda at: " ".join(f"({name} : {at[2]})" for name in at[1].split()), text)
     for number, name in enumerate(names):

@@ -42,6 +42,9 @@ class Restated(unittest.TestCase):
         self.assertEqual(normal(SAME), normal("{B : Type 0} → {p : B} {q : B} → Some p ≡ Some q → p ≡ q"))
         self.assertNotEqual(normal(SAME), normal("{B : Type 0} {p q : B} → Some p ≡ Some q → q ≡ p"))
 
+    def test_brackets_do_not_count(self):
+        self.assertEqual(normal("(x y : Bool) → (x && y) ≡ true → x ≡ true"), normal("(a b : Bool) → a && b ≡ true → a ≡ true"))
+
     def test_what_the_kit_exports(self):
         self.assertEqual(sorted(kit_lemmas(self.top / "kit").values()),
                          [f"std.proofs.lemmas.{name}" for name in ("Bool.{or_left}", "Option.{same_Some}", "Option.{shown}")])
