@@ -40,8 +40,6 @@ use Rattle.pyx.proofs.DocumentLeast.{at_most, all_append, all_cons, all_nil, to_
 use Rattle.pyx.proofs.ClosingLines.{IsWhole, lines_without, good_whole, Finishes, finishes_content, finishes_within, begins_less, read_none}
 use Rattle.pyx.proofs.ClosingLines as closing
 
--- ---- results
-
 -- ---- fronts
 
 between_bound : {before behind : List Line} {l : Line} {k : ℕ} → BreaksBetween before l behind k → k ≤ 12

@@ -1,12 +1,12 @@
--- Small facts about tests, lists and parts of lists.
-use Rattle.std.proofs.Common.{◌≡◌, List, [], ◌∷◌, ◌++◌, refl, sym}
+-- Small facts about lists, parts of lists and lists of ways.
+use Rattle.std.proofs.Common.{◌≡◌, List, [], ◌∷◌, ◌++◌, refl, sym, ℕ, ap}
+use Rattle.rng_deriv_laws.specs.plain.Derivatives.{Way, behind}
+use Rattle.rng_model.specs.simple.Tree.{Simple}
 use Rattle.rng_model.specs.names.Names.{Name}
 use Rattle.rng_model.specs.matching.Document.{Attribute, Item, a_text, an_element, Interleaves, AllTexts, no_texts, text_and, SharesName}
 use Rattle.rng_model.specs.matching.Document as document
 use Rattle.rng_model.specs.matching.WellFormed.{HasNoName, Distinct, nothing_named, another_name, none, one_more}
 use Rattle.rng_deriv_laws.specs.plain.Blanks.{Every, nil, cons, IsNotBlank, IsBare, strings_alone, no_blanks}
-
--- ---- tests
 
 -- ---- lists in parts
 
@@ -106,3 +106,9 @@ apart_nothing (document.later_left s) = apart_nothing s
 
 pub nothing_apart : {xs : List Attribute} → SharesName [] xs → ⊥
 nothing_apart (document.later_right s) = nothing_apart s
+
+-- ---- lists of ways
+
+pub behind-append : (f : Simple ℕ → Simple ℕ) (ws vs : List Way) → behind f (ws ++ vs) ≡ behind f ws ++ behind f vs
+behind-append f [] vs = refl
+behind-append f (w ∷ ws) vs = ap (λ us. record { leaf = w.leaf; rest = f w.rest } ∷ us) (behind-append f ws vs)

@@ -31,6 +31,14 @@ regrouped (left i) (left {x = x} j) = let r = regrouped i j in record { both = r
 regrouped (right i) (left {x = x} j) = let r = regrouped i j in record { both = x ∷ r.both; inner = left r.inner; outer = right r.outer }
 regrouped i (right {y = y} j) = let r = regrouped i j in record { both = y ∷ r.both; inner = right r.inner; outer = right r.outer }
 
+pub none_is : (p : Simple ℕ) → is_not_allowed p ≡ true → p ≡ s_not_allowed
+none_is s_not_allowed e = refl
+none_is _ e = absurd (cc)
+
+pub empty_is : (p : Simple ℕ) → is_empty p ≡ true → p ≡ s_empty
+empty_is s_empty e = refl
+empty_is _ e = absurd (cc)
+
 module _ (g : Reading) where
   -- ---- an equivalence
 
@@ -215,14 +223,6 @@ module _ (g : Reading) where
   beside_empty p = record { to = λ xs ns d. t.interleaved d t.empty_is (left_alone xs) (left_alone ns); back = between_empty_right p }
 
   -- ---- patterns as they are built
-
-  none_is : (p : Simple ℕ) → is_not_allowed p ≡ true → p ≡ s_not_allowed
-  none_is s_not_allowed e = refl
-  none_is _ e = absurd (cc)
-
-  empty_is : (p : Simple ℕ) → is_empty p ≡ true → p ≡ s_empty
-  empty_is s_empty e = refl
-  empty_is _ e = absurd (cc)
 
   by_test : (b : Bool) (p q r : Simple ℕ) → (b ≡ true → Same g p r) → (b ≡ false → Same g q r) → Same g (cond b p q) r
   by_test true p q r f h = f refl

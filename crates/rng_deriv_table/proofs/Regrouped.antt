@@ -9,13 +9,13 @@ use Rattle.rng_model.specs.matching.Document.{Attribute, Item, Interleaves, done
 use Rattle.rng_model.specs.matching.Reading.{Reading}
 use Rattle.rng_model.specs.restrictions.ContentTypes.{ContentType, empty_content, complex_content, simple_content}
 use Rattle.rng_model.specs.simple.Table.{Table}
-use Rattle.rng_model.specs.simple.Tree.{Simple, choice, group, s_empty, s_joined}
+use Rattle.rng_model.specs.simple.Tree.{Simple, choice, group, s_joined}
 use Rattle.rng_model.proofs.OneSidedInterleavings.{left_alone, right_alone}
 use Rattle.rng_deriv_laws.specs.plain.Derivatives.{is_empty, joined_of}
 use Rattle.rng_deriv_laws.specs.plain.Restricted.{content_type, type_of_both, type_of_choice}
 use Rattle.rng_deriv_laws.specs.plain.Taking.{Takes, Same}
 use Rattle.rng_deriv_laws.specs.plain.Taking as t
-use Rattle.rng_deriv_laws.proofs.SamePatterns.{empty_then, group_associative, same, same_back, same_group, same_through, then_empty}
+use Rattle.rng_deriv_laws.proofs.SamePatterns.{empty_then, group_associative, same, same_back, same_group, same_through, then_empty, empty_is}
 use Rattle.rng_deriv_table.specs.plain.Copies.{AreCopies, one, both}
 use Rattle.rng_deriv_table.specs.plain.Kept.{IsRegrouped, KeepsRestrictions}
 use Rattle.rng_deriv_table.specs.views.Node.{Node}
@@ -296,10 +296,6 @@ options_longer old new kept longer all p o h =
 
 -- ---- a choice of two patterns
 
-none_else : (p : Simple ℕ) → is_empty p ≡ true → p ≡ s_empty
-none_else s_empty e = refl
-none_else _ e = absurd (cc)
-
 -- the members of a choice of two are before it, and if the first one is empty, the choice is the option of the second one
 pub option_there : (ns : List Node) (i : ℕ) (ms : List PatternNumber) (d e : PatternNumber) → IsPatternTable ns
     → slice_get ns i ≡ Some (node.choice (map (λ (m : PatternNumber). m.0) ms)) → 2 ≤ length ms → length ms < 3
@@ -312,6 +308,6 @@ option_there ns i (x ∷ y ∷ []) d e table found two below =
       falls.1 0 0 (omega arith),
       falls.1 1 0 (omega arith),
       λ t none. tree_of-over_parts t ns i (node.choice (x.0 ∷ y.0 ∷ [])) falls found
-          ∙ ap (λ p. s_joined choice p (tree_of t ns y.0)) (none_else (tree_of t ns x.0) none),
+          ∙ ap (λ p. s_joined choice p (tree_of t ns y.0)) (empty_is (tree_of t ns x.0) none),
     )
 option_there ns i (x ∷ y ∷ z ∷ ms) d e table found two below = absurd (omega (arith, below))

@@ -1,13 +1,15 @@
 -- Ways added to others.
 use Rattle.std.proofs.Common.{◌≡◌, ℕ, ◌+◌, ◌<◌, ◌↔◌, ⊎_elim, All, List, [], ◌∷◌, ◌++◌, length, length-append, take, drop, get_or, slice_get, Some, zero, suc}
-use Rattle.std.proofs.Common.{true, refl, sym, ap, ap₂, ◌∙◌, subst, arith}
+use Rattle.std.proofs.Common.{true, sym, ap, ap₂, ◌∙◌, subst, arith}
 use Rattle.std.specs.List.{Contains}
 use Rattle.std.proofs.lemmas.List.{get_or_append_left, map-append, take-append-drop}
 use Rattle.std.proofs.lemmas.List.Elements.{All-append, All-tail, Contains-append_cases}
 use Rattle.std.proofs.lemmas.Option.{slice_get_within, get_or_from_slice_get}
 use Rattle.std.proofs.Math.Seq.{drop-cons, take-suc}
-use Rattle.rng_model.specs.simple.Tree.{Simple, choice, s_not_allowed, s_empty, s_text, s_leaf, s_attribute, s_list, s_data, s_data_except, s_value}
-use Rattle.rng_model.specs.simple.Tree.{s_one_or_more, s_joined}
+use Rattle.rng_deriv_laws.proofs.ListFacts.{behind-append}
+use Rattle.rng_deriv_laws.proofs.SamePatterns.{none_is}
+use Rattle.rng_model.specs.simple.Tree.{Simple, choice}
+use Rattle.rng_model.specs.simple.Tree.{s_joined}
 use Rattle.rng_model.specs.simple.Table.{Table}
 use Rattle.rng_model.specs.matching.Reading.{Reading}
 use Rattle.rng_deriv_laws.specs.plain.Taking.{Same}
@@ -29,20 +31,7 @@ use Rattle.rng_deriv_ways.specs.declared.way.Kind.{Kind}
 use Rattle.rng_deriv_ways.specs.declared.way.Place.{Place}
 use Rattle.rng_deriv_ways.proofs.KeptRestrictions.{Obeys-hereditary, choice_has, each_both, each_first, each_second}
 use Rattle.rng_deriv_ways.proofs.WayLists.{inside_longer, joined_offers, nowhere_offers, offers_first, ways_stay}
-use Rattle.rng_deriv_ways.proofs.NumberedWays.{behind-append, stands_as}
-
-pub none_is : (p : Simple ℕ) → is_not_allowed p ≡ true → p ≡ s_not_allowed
-none_is s_not_allowed e = refl
-none_is s_empty e = absurd (cc)
-none_is s_text e = absurd (cc)
-none_is (s_leaf k) e = absurd (cc)
-none_is (s_attribute c p) e = absurd (cc)
-none_is (s_list p) e = absurd (cc)
-none_is (s_data d) e = absurd (cc)
-none_is (s_data_except d p) e = absurd (cc)
-none_is (s_value d v) e = absurd (cc)
-none_is (s_one_or_more p) e = absurd (cc)
-none_is (s_joined k p q) e = absurd (cc)
+use Rattle.rng_deriv_ways.proofs.NumberedWays.{stands_as}
 
 -- an element is removed from its place
 pub taken_out : {A : Type 0} (xs new : List A) (i : ℕ) (x : A) → slice_get xs i ≡ Some x → new ≡ take i xs ++ drop (suc i) xs → IsTakenOut xs new x

@@ -1,8 +1,7 @@
 -- Numbered ways that represent others, in longer tables, and with one more way.
-use Rattle.std.proofs.Common.{◌≡◌, ◌∙◌, ℕ, ◌↔◌, List, [], ◌∷◌, ◌++◌, refl, sym, ap, subst}
+use Rattle.std.proofs.Common.{◌≡◌, ◌∙◌, ◌↔◌, List, [], ◌∷◌, ◌++◌, refl, sym, ap, subst}
 use Rattle.std.proofs.lemmas.List.{map-append}
 use Rattle.std.proofs.lemmas.List.Elements.{All-append}
-use Rattle.rng_model.specs.simple.Tree.{Simple}
 use Rattle.rng_model.specs.simple.Table.{Table}
 use Rattle.rng_deriv_laws.specs.plain.Derivatives.{Way, behind}
 use Rattle.rng_deriv_table.specs.views.Node.{Node}
@@ -78,10 +77,6 @@ stands_on base new all more ws h k = record {
 }
 
 -- ---- in a hole
-
-pub behind-append : (f : Simple ℕ → Simple ℕ) (ws vs : List Way) → behind f (ws ++ vs) ≡ behind f ws ++ behind f vs
-behind-append f [] vs = refl
-behind-append f (w ∷ ws) vs = ap (λ us. record { leaf = w.leaf; rest = f w.rest } ∷ us) (behind-append f ws vs)
 
 pub behind-whole : (ws : List Way) → behind (λ r. r) ws ≡ ws
 behind-whole [] = refl

@@ -1,6 +1,7 @@
 -- Lists of ways, one way at a time.
 use Rattle.std.proofs.Common.{◌≡◌, ◌∙◌, List, [], ◌∷◌, ◌++◌, ℕ, Bool, cond, map, refl, sym, ap, rules}
 use Rattle.std.proofs.lemmas.List.{map-append}
+use Rattle.rng_deriv_laws.proofs.ListFacts.{behind-append}
 use Rattle.rng_model.specs.simple.Tree.{Simple, s_not_allowed}
 use Rattle.rng_deriv_laws.specs.plain.Derivatives.{Way, behind, choice_of, rests_of}
 use Rattle.rng_plain_matcher.specs.declared.ways.Way as declared
@@ -8,10 +9,6 @@ use Rattle.rng_plain_matcher.specs.declared.tree.Tree.{the_lemmas}
 use Rattle.rng_plain_matcher.specs.declared.tree.Tree.TheVariants as trees
 use Rattle.rng_plain_matcher.specs.views.Trees.{tree_of}
 use Rattle.rng_plain_matcher.specs.views.Ways.{way_of}
-
-behind_both : (f : Simple ℕ → Simple ℕ) (xs ys : List Way) → behind f (xs ++ ys) ≡ behind f xs ++ behind f ys
-behind_both f [] ys = refl
-behind_both f (w ∷ xs) ys = ap (λ l. record { leaf = w.leaf; rest = f w.rest } ∷ l) (behind_both f xs ys)
 
 -- one more way of a list is made
 pub one_more : (f : Simple ℕ → Simple ℕ) (made new seen : List declared.Way) (way added : declared.Way) → map way_of made ≡ behind f (map way_of seen)
@@ -22,7 +19,7 @@ one_more f made new seen way added so_far is made_of =
     ∙ map-append way_of made (added ∷ [])
     ∙ ap (λ l. l ++ way_of added ∷ []) so_far
     ∙ ap (λ w. behind f (map way_of seen) ++ w ∷ []) made_of
-    ∙ sym (behind_both f (map way_of seen) (way_of way ∷ []))
+    ∙ sym (behind-append f (map way_of seen) (way_of way ∷ []))
     ∙ ap (behind f) (sym (map-append way_of seen (way ∷ [])))
 
 -- a choice of what is left after the ways, and of this pattern
