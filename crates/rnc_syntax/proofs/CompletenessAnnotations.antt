@@ -8,7 +8,7 @@ use Rattle.rnc_model.specs.grammar.Grammar.{IsAnnotationContent, MayBeAnnotation
 use Rattle.rnc_syntax.specs.plain.Combinators.{Outcome, ◌>>=◌, follow}
 use Rattle.rnc_syntax.specs.plain.Productions.{annotation_end, annotation_at, annotated}
 use Rattle.rnc_syntax.proofs.AnnotationSteps.{by_front}
-use Rattle.rnc_syntax.proofs.SoundnessAnnotations.{no_bracket_is}
+use Rattle.rnc_syntax.proofs.Soundness.Annotations.{no_bracket_is}
 
 -- content does not change the number of open annotations
 content_passed : {ts : List Lexeme} → IsAnnotationContent ts → (n : ℕ) (rest : List Lexeme) → annotation_end n (ts ++ rest) ≡ annotation_end n rest

@@ -9,12 +9,12 @@ use Rattle.rnc_syntax.specs.plain.Combinators.{Outcome, ◌>>=◌}
 use Rattle.rnc_syntax.specs.plain.Productions.{Inside, inside_at, body_with, if_ended, declarations_at, file_with}
 use Rattle.rnc_syntax.proofs.ReadItems.{bind_bind}
 use Rattle.rnc_syntax.proofs.Locality.{SameHead, LocalAt, reads, stuck as stuck_there, deep, IsLocal, bind_local}
-use Rattle.rnc_syntax.proofs.LocalityLiterals.{made_local}
-use Rattle.rnc_syntax.proofs.LocalityPrimaries.{Locals}
-use Rattle.rnc_syntax.proofs.LocalityComponents.{inside_local, self_local}
-use Rattle.rnc_syntax.proofs.LocalityFiles.{declarations_local, body_local}
+use Rattle.rnc_syntax.proofs.Locality.Literals.{made_local}
+use Rattle.rnc_syntax.proofs.Locality.Primaries.{Locals}
+use Rattle.rnc_syntax.proofs.Locality.Components.{inside_local, self_local}
+use Rattle.rnc_syntax.proofs.Locality.Files.{declarations_local, body_local}
 use Rattle.rnc_syntax.proofs.FaultNumber.{IsStuckBehind, stuck_at}
-use Rattle.rnc_syntax.proofs.ViabilityFiles.{file_of, viable}
+use Rattle.rnc_syntax.proofs.Viability.Files.{file_of, viable}
 
 -- a file, with any tokens after it
 abbrev body_read : Inside → List Declaration → List Lexeme → Outcome File

@@ -1,4 +1,13 @@
 -- The result of a reader depends only on the tokens it read and on the next one: the steps of which readers consist.
+pub mod Fronts
+pub mod Items
+pub mod Annotations
+pub mod Literals
+pub mod Classes
+pub mod Primaries
+pub mod Patterns
+pub mod Components
+pub mod Files
 use Rattle.std.proofs.Common.{◌≡◌, Bool, true, false, List, [], ◌∷◌, ◌++◌, length, Option, None, Ok, Err, refl, sym, ap, subst, ◌∙◌, append_assoc}
 use Rattle.rnc_model.specs.declared.token.Sign.{Sign}
 use Rattle.rnc_syntax.specs.declared.fault.Stop.TheVariants.{Unexpected, TooDeep}

@@ -34,13 +34,13 @@ use Rattle.rnc_model.specs.grammar.Sentence.{is_opening, is_closing, openings, c
 use Rattle.rnc_syntax.proofs.Balance.{Balanced, Plain, plain, plain_type, join_even, declarations_even, second_within, behind_within, basic_even, class_even}
 use Rattle.rnc_syntax.proofs.Balance.{annotation_even, particle_even, primary_even, component_even, may_parameters_even, literal_even, may_inherit_even}
 use Rattle.rnc_syntax.proofs.AnnotationSteps.{onwards}
-use Rattle.rnc_syntax.proofs.SoundnessAnnotations.{end_sound, whole_annotation, IsSkipped, annotation_sound}
+use Rattle.rnc_syntax.proofs.Soundness.Annotations.{end_sound, whole_annotation, IsSkipped, annotation_sound}
 use Rattle.rnc_syntax.proofs.Soundness.{TakesFront, many_sound, follow_is, after_is}
-use Rattle.rnc_syntax.proofs.SoundnessLiterals.{parameters_sound, IsMention, mention_sound}
-use Rattle.rnc_syntax.proofs.SoundnessClasses.{bare_basic_behind, basic_sound, except_tokens, except_is, class_sound}
-use Rattle.rnc_syntax.proofs.SoundnessPatterns.{IsMethod, method_sound, data_front_is, component_front_is, assignment_with, assignment_is, inside_sound}
-use Rattle.rnc_syntax.proofs.SoundnessPatterns.{bare_primary_behind, particle_sound, bare_component_behind, component_item}
-use Rattle.rnc_syntax.proofs.SoundnessFiles.{declaration_item, declarations_are}
+use Rattle.rnc_syntax.proofs.Soundness.Literals.{parameters_sound, IsMention, mention_sound}
+use Rattle.rnc_syntax.proofs.Soundness.Classes.{bare_basic_behind, basic_sound, except_tokens, except_is, class_sound}
+use Rattle.rnc_syntax.proofs.Soundness.Patterns.{IsMethod, method_sound, data_front_is, component_front_is, assignment_with, assignment_is, inside_sound}
+use Rattle.rnc_syntax.proofs.Soundness.Patterns.{bare_primary_behind, particle_sound, bare_component_behind, component_item}
+use Rattle.rnc_syntax.proofs.Soundness.Files.{declaration_item, declarations_are}
 
 abbrev pub NotDeep : {A : Type 0} → Result A Stop → Type 0
 NotDeep {A} r = r ≡ Err TooDeep → ⊥

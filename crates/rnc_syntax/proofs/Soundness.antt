@@ -1,4 +1,9 @@
 -- Whatever is read is in the grammar: steps of reading, and lists of items.
+pub mod Annotations
+pub mod Literals
+pub mod Classes
+pub mod Patterns
+pub mod Files
 use Rattle.std.proofs.Common.{◌≡◌, ℕ, zero, suc, true, List, [], ◌∷◌, ◌++◌, length, Option, Some, None, Result, Ok, Err, refl, sym, ap}
 use Rattle.std.proofs.Common.{subst, ◌∙◌, append_assoc, inl, inr}
 use Rattle.rng_model.proofs.Truths.{chosen}

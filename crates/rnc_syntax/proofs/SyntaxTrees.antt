@@ -14,7 +14,7 @@ use Rattle.rnc_model.specs.grammar.Sentence.{nesting_limit, NestsWithin, IsStuck
 use Rattle.rnc_model.specs.grammar.SyntaxTrees.{BreaksGrammar, IsSyntaxTree}
 use Rattle.rnc_syntax.specs.views.SentenceFaults.{IsFaultOf}
 use Rattle.rnc_syntax.specs.plain.Productions.{file_with, inside_at}
-use Rattle.rnc_syntax.proofs.SoundnessFiles.{file_sound}
+use Rattle.rnc_syntax.proofs.Soundness.Files.{file_sound}
 use Rattle.rnc_syntax.proofs.CompletenessFiles.{file_complete}
 use Rattle.rnc_syntax.proofs.NestingDepth.{file_not_deep}
 

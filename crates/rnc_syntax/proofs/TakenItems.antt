@@ -12,13 +12,13 @@ use Rattle.rnc_syntax.specs.plain.Productions.{inside_at, parameter_front, parti
 use Rattle.rnc_syntax.specs.plain.Reading.{lexemes_in}
 use Rattle.rnc_syntax.proofs.Lexemes.{length_of_lexemes}
 use Rattle.rnc_syntax.proofs.Locality.{segment_local}
-use Rattle.rnc_syntax.proofs.LocalityFronts.{follow_front}
-use Rattle.rnc_syntax.proofs.LocalityItems.{takes}
-use Rattle.rnc_syntax.proofs.LocalityLiterals.{parameter_part}
-use Rattle.rnc_syntax.proofs.LocalityClasses.{basic_local}
-use Rattle.rnc_syntax.proofs.LocalityPatterns.{particle_local}
-use Rattle.rnc_syntax.proofs.LocalityComponents.{component_part, self_local}
-use Rattle.rnc_syntax.proofs.LocalityFiles.{declaration_part}
+use Rattle.rnc_syntax.proofs.Locality.Fronts.{follow_front}
+use Rattle.rnc_syntax.proofs.Locality.Items.{takes}
+use Rattle.rnc_syntax.proofs.Locality.Literals.{parameter_part}
+use Rattle.rnc_syntax.proofs.Locality.Classes.{basic_local}
+use Rattle.rnc_syntax.proofs.Locality.Patterns.{particle_local}
+use Rattle.rnc_syntax.proofs.Locality.Components.{component_part, self_local}
+use Rattle.rnc_syntax.proofs.Locality.Files.{declaration_part}
 
 -- there are fewer tokens where there are fewer lexemes
 pub fewer : (total : ℕ) (us ts : List Token) → length (lexemes_in total us) < length (lexemes_in total ts) → length us < length ts

@@ -1,4 +1,11 @@
 -- The tokens read before reading stops can be completed: the steps of which readers consist, and lists of items.
+pub mod Annotations
+pub mod Literals
+pub mod Classes
+pub mod Primaries
+pub mod Patterns
+pub mod Components
+pub mod Files
 use Rattle.std.proofs.Common.{◌≡◌, ℕ, zero, suc, List, [], ◌∷◌, ◌++◌, length, Option, Some, None, Result, Ok, Err, refl, sym, ap, subst, ◌∙◌, append_assoc, ◌⊎◌}
 use Rattle.std.proofs.Common.{inl, inr}
 use Rattle.std.proofs.lemmas.List.{append-nil}

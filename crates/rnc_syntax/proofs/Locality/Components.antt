@@ -13,13 +13,13 @@ use Rattle.rnc_syntax.specs.plain.Combinators.{Outcome, ◌>>=◌, follow}
 use Rattle.rnc_syntax.specs.plain.Productions.{annotation_at, mention_at, Inside, contents_with, class_with, pattern_with, method_at, overrides_with}
 use Rattle.rnc_syntax.specs.plain.Productions.{component_front, assigned_at, assigned, bare_component_with, component_with, components_with, inside_at}
 use Rattle.rnc_syntax.proofs.Locality.{IsLocal, ok_local, deep_local, stuck_end, stuck_front, cons_local, bind_local}
-use Rattle.rnc_syntax.proofs.LocalityFronts.{kept_local, FrontAt, closes, opens, follow_heads}
-use Rattle.rnc_syntax.proofs.LocalityItems.{many_local, many_behind}
-use Rattle.rnc_syntax.proofs.LocalityAnnotations.{opened_local}
-use Rattle.rnc_syntax.proofs.LocalityLiterals.{made_local, mention_local}
-use Rattle.rnc_syntax.proofs.LocalityClasses.{class_local}
-use Rattle.rnc_syntax.proofs.LocalityPrimaries.{Locals, contents_local}
-use Rattle.rnc_syntax.proofs.LocalityPatterns.{pattern_local}
+use Rattle.rnc_syntax.proofs.Locality.Fronts.{kept_local, FrontAt, closes, opens, follow_heads}
+use Rattle.rnc_syntax.proofs.Locality.Items.{many_local, many_behind}
+use Rattle.rnc_syntax.proofs.Locality.Annotations.{opened_local}
+use Rattle.rnc_syntax.proofs.Locality.Literals.{made_local, mention_local}
+use Rattle.rnc_syntax.proofs.Locality.Classes.{class_local}
+use Rattle.rnc_syntax.proofs.Locality.Primaries.{Locals, contents_local}
+use Rattle.rnc_syntax.proofs.Locality.Patterns.{pattern_local}
 
 method_local : IsLocal method_at method_at
 unfolding method_at

@@ -14,16 +14,16 @@ use Rattle.rnc_syntax.specs.plain.Combinators.{Outcome, ◌>>=◌, follow, eithe
 use Rattle.rnc_syntax.specs.plain.Productions.{mention_at, Inside, contents_with, pattern_with, method_at, overrides_with, component_front, assigned_at}
 use Rattle.rnc_syntax.specs.plain.Productions.{assigned, bare_component_with, component_with, components_with, inside_at}
 use Rattle.rnc_syntax.proofs.Soundness.{Each, Behind, Bracketed}
-use Rattle.rnc_syntax.proofs.SoundnessLiterals.{IsMention, mention_sound}
-use Rattle.rnc_syntax.proofs.SoundnessPatterns.{InsideSound, IsMethod, method_sound, assignment_with, assignment_is, include_is, start_is, define_is}
-use Rattle.rnc_syntax.proofs.SoundnessPatterns.{component_is, component_front_is, component_item, components_are, inside_sound}
+use Rattle.rnc_syntax.proofs.Soundness.Literals.{IsMention, mention_sound}
+use Rattle.rnc_syntax.proofs.Soundness.Patterns.{InsideSound, IsMethod, method_sound, assignment_with, assignment_is, include_is, start_is, define_is}
+use Rattle.rnc_syntax.proofs.Soundness.Patterns.{component_is, component_front_is, component_item, components_are, inside_sound}
 use Rattle.rnc_syntax.proofs.Viability.{Begins, Viable, IsViable, Completes, exactly, nothing_taken, behind_token, completed, made_viable, both_viable, left_is}
 use Rattle.rnc_syntax.proofs.Viability.{many_viable}
-use Rattle.rnc_syntax.proofs.ViabilityAnnotations.{ViableBehind, annotated_viable, bare_begins, bare_viable}
-use Rattle.rnc_syntax.proofs.ViabilityLiterals.{mention_viable}
-use Rattle.rnc_syntax.proofs.ViabilityClasses.{class_viable}
-use Rattle.rnc_syntax.proofs.ViabilityPrimaries.{InsideViable, pattern_some, contents_viable}
-use Rattle.rnc_syntax.proofs.ViabilityPatterns.{pattern_viable}
+use Rattle.rnc_syntax.proofs.Viability.Annotations.{ViableBehind, annotated_viable, bare_begins, bare_viable}
+use Rattle.rnc_syntax.proofs.Viability.Literals.{mention_viable}
+use Rattle.rnc_syntax.proofs.Viability.Classes.{class_viable}
+use Rattle.rnc_syntax.proofs.Viability.Primaries.{InsideViable, pattern_some, contents_viable}
+use Rattle.rnc_syntax.proofs.Viability.Patterns.{pattern_viable}
 
 method_viable : IsViable method_at IsMethod
 unfolding method_at

@@ -17,15 +17,15 @@ use Rattle.rnc_syntax.specs.plain.Productions.{annotation_end, literal_at, param
 use Rattle.rnc_syntax.specs.plain.Productions.{uri_at, prefix_at, default_at, declaration_at, declaration_front, is_grammar_body, pattern_body_with}
 use Rattle.rnc_syntax.specs.plain.Productions.{bare_body_with, annotated_body_with, body_with, if_ended, declarations_at, file_with}
 use Rattle.rnc_syntax.proofs.Soundness.{same_namespace, after_keyword_is, TakesFront, Each, many_sound, Behind, IsSetting}
-use Rattle.rnc_syntax.proofs.SoundnessPatterns.{InsideSound, bare_component_behind, inside_sound}
-use Rattle.rnc_syntax.proofs.SoundnessFiles.{IsDefault, declaration_front_is, declaration_item, declarations_are, body_sound}
+use Rattle.rnc_syntax.proofs.Soundness.Patterns.{InsideSound, bare_component_behind, inside_sound}
+use Rattle.rnc_syntax.proofs.Soundness.Files.{IsDefault, declaration_front_is, declaration_item, declarations_are, body_sound}
 use Rattle.rnc_syntax.proofs.Viability.{bind_err, Begins, Viable, IsViable, Completes, Behinds, exactly, nothing_taken, moved, behind_token, behind_tokens}
 use Rattle.rnc_syntax.proofs.Viability.{completed, first_stopped, made_viable, left_is, sign_left, many_viable}
-use Rattle.rnc_syntax.proofs.ViabilityAnnotations.{ViableBehind, BeginsBehind, opened_viable}
-use Rattle.rnc_syntax.proofs.ViabilityLiterals.{literal_some, literal_viable, setting_viable, parameter_viable}
-use Rattle.rnc_syntax.proofs.ViabilityPrimaries.{InsideViable, primary_some, pattern_is}
-use Rattle.rnc_syntax.proofs.ViabilityPatterns.{bare_pattern_stuck}
-use Rattle.rnc_syntax.proofs.ViabilityComponents.{bare_component_stuck, components_viable, inside_viable}
+use Rattle.rnc_syntax.proofs.Viability.Annotations.{ViableBehind, BeginsBehind, opened_viable}
+use Rattle.rnc_syntax.proofs.Viability.Literals.{literal_some, literal_viable, setting_viable, parameter_viable}
+use Rattle.rnc_syntax.proofs.Viability.Primaries.{InsideViable, primary_some, pattern_is}
+use Rattle.rnc_syntax.proofs.Viability.Patterns.{bare_pattern_stuck}
+use Rattle.rnc_syntax.proofs.Viability.Components.{bare_component_stuck, components_viable, inside_viable}
 
 -- ---- declarations
 

@@ -11,14 +11,14 @@ use Rattle.rnc_syntax.specs.plain.Productions.{annotation_end, literal_at, param
 use Rattle.rnc_syntax.specs.plain.Productions.{prefix_at, default_at, declaration_at, declaration_front, begins_method, pattern_body_with, bare_body_with}
 use Rattle.rnc_syntax.specs.plain.Productions.{annotated_body_with, body_with, declarations_at}
 use Rattle.rnc_syntax.proofs.Locality.{IsLocal, ok_local, stuck_end, stuck_front, cons_local, bind_local, after_local, word_local}
-use Rattle.rnc_syntax.proofs.LocalityFronts.{end_local, token_local, test_heads, if_local, FrontAt, closes, opens, either_local, follow_front}
-use Rattle.rnc_syntax.proofs.LocalityFronts.{follow_keyword_front}
-use Rattle.rnc_syntax.proofs.LocalityItems.{many_local}
-use Rattle.rnc_syntax.proofs.LocalityLiterals.{made_local, literal_local, parameter_local}
-use Rattle.rnc_syntax.proofs.LocalityPrimaries.{Locals}
-use Rattle.rnc_syntax.proofs.LocalityAnnotations.{opened_local}
-use Rattle.rnc_syntax.proofs.LocalityPatterns.{bare_pattern_local, pattern_behind}
-use Rattle.rnc_syntax.proofs.LocalityComponents.{bare_component_local, bare_component_named, components_local, components_behind}
+use Rattle.rnc_syntax.proofs.Locality.Fronts.{end_local, token_local, test_heads, if_local, FrontAt, closes, opens, either_local, follow_front}
+use Rattle.rnc_syntax.proofs.Locality.Fronts.{follow_keyword_front}
+use Rattle.rnc_syntax.proofs.Locality.Items.{many_local}
+use Rattle.rnc_syntax.proofs.Locality.Literals.{made_local, literal_local, parameter_local}
+use Rattle.rnc_syntax.proofs.Locality.Primaries.{Locals}
+use Rattle.rnc_syntax.proofs.Locality.Annotations.{opened_local}
+use Rattle.rnc_syntax.proofs.Locality.Patterns.{bare_pattern_local, pattern_behind}
+use Rattle.rnc_syntax.proofs.Locality.Components.{bare_component_local, bare_component_named, components_local, components_behind}
 
 -- ---- declarations
 

@@ -13,7 +13,7 @@ use Rattle.rnc_syntax.specs.plain.Productions.{class_in_parens, bare_basic_with,
 use Rattle.rnc_syntax.specs.plain.Productions.{class_with}
 use Rattle.rnc_syntax.proofs.Soundness.{bind_ok, front_some, ok_is, follow_is, TakesFront, Sound, Preceded, closes_sound, Each, no_items, and_item}
 use Rattle.rnc_syntax.proofs.Soundness.{many_sound, some_is_read, preceded_sound, nothing_left}
-use Rattle.rnc_syntax.proofs.SoundnessAnnotations.{SoundBehind, annotated_sound, bare_sound}
+use Rattle.rnc_syntax.proofs.Soundness.Annotations.{SoundBehind, annotated_sound, bare_sound}
 
 bare_basic_sound : (class : List Lexeme → Outcome NameClass) → Sound class IsClass → Sound (bare_basic_with class) IsBareBasic
 unfolding bare_basic_with class_in_parens

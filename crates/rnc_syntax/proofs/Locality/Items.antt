@@ -5,7 +5,7 @@ use Rattle.rnc_model.specs.tokens.Lexeme.{Lexeme}
 use Rattle.rnc_syntax.specs.plain.Combinators.{Outcome, ◌>>=◌, many_with, many}
 use Rattle.rnc_syntax.proofs.ReadItems.{opened, closed}
 use Rattle.rnc_syntax.proofs.Locality.{LocalAt, reads, IsLocal, ok_local, cons_local, bind_local}
-use Rattle.rnc_syntax.proofs.LocalityFronts.{same_local, shortens, FrontAt, closes, opens, heads_closed}
+use Rattle.rnc_syntax.proofs.Locality.Fronts.{same_local, shortens, FrontAt, closes, opens, heads_closed}
 
 bind_same : {A B : Type 0} (r : Result A Stop) (f g : A → Result B Stop) → ((x : A) → r ≡ Ok x → f x ≡ g x) → (r >>= f) ≡ (r >>= g)
 bind_same (Ok x) f g h = h x refl

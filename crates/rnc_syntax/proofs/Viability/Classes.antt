@@ -11,10 +11,10 @@ use Rattle.rnc_model.specs.grammar.Grammar.{MayBeAnnotation, IsClass, IsBasic, I
 use Rattle.rnc_syntax.specs.plain.Combinators.{Outcome, ◌>>=◌, follow, either_way, many}
 use Rattle.rnc_syntax.specs.plain.Productions.{class_in_parens, bare_basic_with, basic_with, choice_with, except_front, excepted, bare_class_with, class_with}
 use Rattle.rnc_syntax.proofs.Soundness.{Sound, Closed, Preceded, Each, preceded_sound, nothing_left, Behind}
-use Rattle.rnc_syntax.proofs.SoundnessClasses.{more_classes_are, except_tokens, except_is, basic_is, bare_basic_behind, basic_sound}
+use Rattle.rnc_syntax.proofs.Soundness.Classes.{more_classes_are, except_tokens, except_is, basic_is, bare_basic_behind, basic_sound}
 use Rattle.rnc_syntax.proofs.Viability.{Begins, Viable, IsViable, Completes, Behinds, exactly, nothing_taken, first_stopped, moved, behind_token, completed}
 use Rattle.rnc_syntax.proofs.Viability.{made_viable, bind_err, behind_tokens, left_is, closes_viable, preceded_item, many_viable}
-use Rattle.rnc_syntax.proofs.ViabilityAnnotations.{ViableBehind, annotated_viable, bare_begins, bare_viable}
+use Rattle.rnc_syntax.proofs.Viability.Annotations.{ViableBehind, annotated_viable, bare_begins, bare_viable}
 
 basic_some : Begins IsBareBasic []
 basic_some = record { behind = identifier [] ∷ []; value = syntax.name_is (syntax.unprefixed []); is = grammar.word_class {x = identifier []} refl refl }

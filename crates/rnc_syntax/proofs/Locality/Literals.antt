@@ -9,9 +9,9 @@ use Rattle.rnc_syntax.specs.plain.Productions.{annotation_at, literal_at, parame
 use Rattle.rnc_syntax.specs.plain.Productions.{word_after_equal, inherit_at, mention_at}
 use Rattle.rnc_model.specs.grammar.Syntax.{joined_text}
 use Rattle.rnc_syntax.proofs.Locality.{IsLocal, ok_local, bind_local, after_local, word_local, segment_local}
-use Rattle.rnc_syntax.proofs.LocalityFronts.{FrontAt, closes, opens, either_local, follow_front, follow_keyword_front}
-use Rattle.rnc_syntax.proofs.LocalityItems.{many_local}
-use Rattle.rnc_syntax.proofs.LocalityAnnotations.{opened_local}
+use Rattle.rnc_syntax.proofs.Locality.Fronts.{FrontAt, closes, opens, either_local, follow_front, follow_keyword_front}
+use Rattle.rnc_syntax.proofs.Locality.Items.{many_local}
+use Rattle.rnc_syntax.proofs.Locality.Annotations.{opened_local}
 
 -- ---- a reader, and then what is made of its value
 

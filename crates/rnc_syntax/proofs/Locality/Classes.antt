@@ -7,10 +7,10 @@ use Rattle.rnc_model.specs.grammar.Syntax.{NameClass}
 use Rattle.rnc_syntax.specs.plain.Combinators.{Outcome, ◌>>=◌, follow, either_way, many}
 use Rattle.rnc_syntax.specs.plain.Productions.{class_in_parens, bare_basic_with, basic_with, choice_with, excepted, bare_class_with, class_with}
 use Rattle.rnc_syntax.proofs.Locality.{IsLocal, ok_local, stuck_end, stuck_front, cons_local, bind_local}
-use Rattle.rnc_syntax.proofs.LocalityFronts.{token_local, kept_local, FrontAt, closes, opens, either_local, follow_front, follow_heads}
-use Rattle.rnc_syntax.proofs.LocalityItems.{many_local}
-use Rattle.rnc_syntax.proofs.LocalityAnnotations.{annotated_local}
-use Rattle.rnc_syntax.proofs.LocalityLiterals.{made_local, ended_local}
+use Rattle.rnc_syntax.proofs.Locality.Fronts.{token_local, kept_local, FrontAt, closes, opens, either_local, follow_front, follow_heads}
+use Rattle.rnc_syntax.proofs.Locality.Items.{many_local}
+use Rattle.rnc_syntax.proofs.Locality.Annotations.{annotated_local}
+use Rattle.rnc_syntax.proofs.Locality.Literals.{made_local, ended_local}
 
 -- `-` at the front, and a value with the tokens after it
 abbrev minus_after : Option (List ℕ) → List Lexeme → Option (Option (List ℕ) × List Lexeme)

@@ -28,9 +28,9 @@ use Rattle.rnc_syntax.proofs.ReadItems.{bind_bind}
 use Rattle.rnc_syntax.proofs.Soundness.{bind_ok, front_some, ok_is, follow_is, identifier_is, TakesFront, Sound, Closed, Preceded}
 use Rattle.rnc_syntax.proofs.Soundness.{closes_sound, in_braces_sound, Each, no_items, and_item, many_sound, some_is_read, preceded_sound, nothing_left, Behind}
 use Rattle.rnc_syntax.proofs.Soundness.{behind, mapped_sound, both_sound, open_sound, Bracketed, bracketed}
-use Rattle.rnc_syntax.proofs.SoundnessAnnotations.{SoundBehind, annotated_sound, bare_sound, taken_behind}
-use Rattle.rnc_syntax.proofs.SoundnessLiterals.{literal_sound, parameters_sound, IsMention, mention_sound}
-use Rattle.rnc_syntax.proofs.SoundnessClasses.{class_sound}
+use Rattle.rnc_syntax.proofs.Soundness.Annotations.{SoundBehind, annotated_sound, bare_sound, taken_behind}
+use Rattle.rnc_syntax.proofs.Soundness.Literals.{literal_sound, parameters_sound, IsMention, mention_sound}
+use Rattle.rnc_syntax.proofs.Soundness.Classes.{class_sound}
 
 -- what is read inside brackets is in the grammar
 pub record InsideSound (inside : Inside) : Type 0 where

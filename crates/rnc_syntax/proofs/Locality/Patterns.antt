@@ -10,11 +10,11 @@ use Rattle.rnc_syntax.specs.plain.Combinators.{Outcome, ◌>>=◌, follow, eithe
 use Rattle.rnc_syntax.specs.plain.Productions.{parameters_at, Inside, begins_segment, typed_at, other_at, atom_at, bare_primary_with, primary_with, repeated}
 use Rattle.rnc_syntax.specs.plain.Productions.{particle_with, separator_of, joined, rest_with, pattern_from, data_with, bare_pattern_with, pattern_with}
 use Rattle.rnc_syntax.proofs.Locality.{LocalAt, IsLocal, ok_local, stuck_end, cons_local, bind_local}
-use Rattle.rnc_syntax.proofs.LocalityFronts.{same_local, end_local, token_local, test_heads, if_local, either_local, follow_front}
-use Rattle.rnc_syntax.proofs.LocalityItems.{many_local}
-use Rattle.rnc_syntax.proofs.LocalityLiterals.{made_local, parameters_local}
-use Rattle.rnc_syntax.proofs.LocalityAnnotations.{annotated_local}
-use Rattle.rnc_syntax.proofs.LocalityPrimaries.{Locals, same_segment, typed_local, bare_primary_local, primary_local}
+use Rattle.rnc_syntax.proofs.Locality.Fronts.{same_local, end_local, token_local, test_heads, if_local, either_local, follow_front}
+use Rattle.rnc_syntax.proofs.Locality.Items.{many_local}
+use Rattle.rnc_syntax.proofs.Locality.Literals.{made_local, parameters_local}
+use Rattle.rnc_syntax.proofs.Locality.Annotations.{annotated_local}
+use Rattle.rnc_syntax.proofs.Locality.Primaries.{Locals, same_segment, typed_local, bare_primary_local, primary_local}
 
 -- ---- particles
 

@@ -11,8 +11,8 @@ use Rattle.rnc_syntax.specs.plain.Combinators.{Outcome, ◌>>=◌, follow, eithe
 use Rattle.rnc_syntax.specs.plain.Productions.{role_of, annotation_end, annotation_at, annotated}
 use Rattle.rnc_syntax.proofs.AnnotationSteps.{onwards}
 use Rattle.rnc_syntax.proofs.Soundness.{follow_is, Behind}
-use Rattle.rnc_syntax.proofs.SoundnessAnnotations.{Ends, ends_last, ends_inner, IsEnd, opened_at, closed_at, content_at, end_sound, IsSkipped, whole_annotation}
-use Rattle.rnc_syntax.proofs.SoundnessAnnotations.{annotation_sound}
+use Rattle.rnc_syntax.proofs.Soundness.Annotations.{Ends, ends_last, ends_inner, IsEnd, opened_at, closed_at, content_at, end_sound, IsSkipped, whole_annotation}
+use Rattle.rnc_syntax.proofs.Soundness.Annotations.{annotation_sound}
 use Rattle.rnc_syntax.proofs.Viability.{bind_err, Begins, Viable, IsViable, Completes, Behinds, exactly, nothing_taken, moved, behind_token, behind_tokens}
 use Rattle.rnc_syntax.proofs.Viability.{completed, left_is}
 

@@ -9,7 +9,7 @@ use Rattle.rnc_syntax.specs.plain.Combinators.{Outcome, ◌>>=◌, follow}
 use Rattle.rnc_syntax.specs.plain.Productions.{role_of, annotation_end, annotation_at, annotated}
 use Rattle.rnc_syntax.proofs.AnnotationSteps.{by_front}
 use Rattle.rnc_syntax.proofs.Locality.{LocalAt, IsLocal, ok_local, stuck_end, stuck_front, cons_local, bind_local}
-use Rattle.rnc_syntax.proofs.LocalityFronts.{either_local, follow_front}
+use Rattle.rnc_syntax.proofs.Locality.Fronts.{either_local, follow_front}
 
 module _ (t : Lexeme) (ts : List Lexeme) (others : (n : ℕ) → LocalAt (annotation_end n) (annotation_end n) ts) where
   end_by : (r : Role) (n : ℕ) → role_of t ≡ r → LocalAt (annotation_end n) (annotation_end n) (t ∷ ts)

@@ -13,10 +13,10 @@ use Rattle.rnc_syntax.specs.plain.Productions.{literal_at, parameters_at, in_bra
 use Rattle.rnc_syntax.specs.plain.Productions.{named_with, begins_segment, typed_at, type_front, lone_front, other_at, atom_at, parens_with, opening_front}
 use Rattle.rnc_syntax.specs.plain.Productions.{opened_with, bare_primary_with, primary_with}
 use Rattle.rnc_syntax.proofs.Locality.{IsLocal, ok_local, stuck_end, stuck_front, cons_local, bind_local, after_local, identifier_local}
-use Rattle.rnc_syntax.proofs.LocalityFronts.{token_local, test_heads, if_local, FrontAt, closes, opens, either_local}
-use Rattle.rnc_syntax.proofs.LocalityAnnotations.{annotated_local}
-use Rattle.rnc_syntax.proofs.LocalityLiterals.{made_local, ended_local, in_braces_local, literal_local, parameters_local, mention_local}
-use Rattle.rnc_syntax.proofs.LocalityClasses.{class_local}
+use Rattle.rnc_syntax.proofs.Locality.Fronts.{token_local, test_heads, if_local, FrontAt, closes, opens, either_local}
+use Rattle.rnc_syntax.proofs.Locality.Annotations.{annotated_local}
+use Rattle.rnc_syntax.proofs.Locality.Literals.{made_local, ended_local, in_braces_local, literal_local, parameters_local, mention_local}
+use Rattle.rnc_syntax.proofs.Locality.Classes.{class_local}
 
 -- the inside of brackets is read alike
 pub record Locals (inside deeper : Inside) : Type 0 where

@@ -12,11 +12,11 @@ use Rattle.rnc_syntax.specs.plain.Productions.{inherit_at, mention_at}
 use Rattle.rnc_model.specs.grammar.Syntax.{joined_text}
 use Rattle.rnc_syntax.proofs.Soundness.{same_inherit, keyword_follows, IsWord, word_sound, IsSegment, segment_sound, Closed, Preceded, Each, many_sound}
 use Rattle.rnc_syntax.proofs.Soundness.{preceded_sound, Behind, bracketed, IsSetting}
-use Rattle.rnc_syntax.proofs.SoundnessLiterals.{literal_is, literal_sound, IsParameter, parameter_is, parameters_are, parameter_front_is, parameter_item}
-use Rattle.rnc_syntax.proofs.SoundnessLiterals.{IsMention}
+use Rattle.rnc_syntax.proofs.Soundness.Literals.{literal_is, literal_sound, IsParameter, parameter_is, parameters_are, parameter_front_is, parameter_item}
+use Rattle.rnc_syntax.proofs.Soundness.Literals.{IsMention}
 use Rattle.rnc_syntax.proofs.Viability.{Begins, Viable, IsViable, Completes, Behinds, exactly, nothing_taken, moved, behind_token, completed, made_viable}
 use Rattle.rnc_syntax.proofs.Viability.{then_viable, both_viable, left_is, in_braces_viable, open_viable, preceded_item, many_viable}
-use Rattle.rnc_syntax.proofs.ViabilityAnnotations.{annotated_viable, bare_begins, bare_viable}
+use Rattle.rnc_syntax.proofs.Viability.Annotations.{annotated_viable, bare_begins, bare_viable}
 
 -- ---- single tokens
 

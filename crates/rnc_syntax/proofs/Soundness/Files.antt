@@ -18,9 +18,9 @@ use Rattle.rnc_syntax.specs.plain.Productions.{annotated_body_with, body_with, i
 use Rattle.rnc_syntax.specs.plain.Productions.{file_with}
 use Rattle.rnc_syntax.proofs.Soundness.{bind_ok, ok_is, same_namespace, after_keyword_is, TakesFront, Sound, Each, no_items, and_item}
 use Rattle.rnc_syntax.proofs.Soundness.{many_sound, Behind, behind, mapped_sound, both_reads, IsSetting, setting_sound}
-use Rattle.rnc_syntax.proofs.SoundnessAnnotations.{SoundBehind, opened_sound}
-use Rattle.rnc_syntax.proofs.SoundnessLiterals.{literal_sound, parameter_sound}
-use Rattle.rnc_syntax.proofs.SoundnessPatterns.{InsideSound, bare_pattern_behind, bare_component_behind, components_sound, inside_sound}
+use Rattle.rnc_syntax.proofs.Soundness.Annotations.{SoundBehind, opened_sound}
+use Rattle.rnc_syntax.proofs.Soundness.Literals.{literal_sound, parameter_sound}
+use Rattle.rnc_syntax.proofs.Soundness.Patterns.{InsideSound, bare_pattern_behind, bare_component_behind, components_sound, inside_sound}
 
 literal_uri : (ts : List Lexeme) (x : Uri × List Lexeme) → (literal_at ts >>= λ v. Ok (syntax.literal v.0, v.1)) ≡ Ok x → TakesFront IsUri ts x
 literal_uri ts x e = mapped_sound IsLiteral IsUri syntax.literal literal_at literal_sound (λ ts v p. grammar.literal p) ts x e

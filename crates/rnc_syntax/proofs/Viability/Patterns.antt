@@ -14,14 +14,14 @@ use Rattle.rnc_syntax.specs.plain.Combinators.{Outcome, ◌>>=◌, follow, eithe
 use Rattle.rnc_syntax.specs.plain.Productions.{parameters_at, Inside, bare_primary_with, primary_with, repeated, particle_with, separator_of, joined, rest_with}
 use Rattle.rnc_syntax.specs.plain.Productions.{pattern_from, data_front, data_with, bare_pattern_with, pattern_with}
 use Rattle.rnc_syntax.proofs.Soundness.{follow_is, TakesFront, Preceded, Each, preceded_sound, nothing_left, Behind}
-use Rattle.rnc_syntax.proofs.SoundnessLiterals.{parameters_sound}
-use Rattle.rnc_syntax.proofs.SoundnessPatterns.{InsideSound, data_front_is, separator_is, repeated_reads, more_are, bare_primary_behind, particle_sound}
-use Rattle.rnc_syntax.proofs.SoundnessPatterns.{data_primary}
+use Rattle.rnc_syntax.proofs.Soundness.Literals.{parameters_sound}
+use Rattle.rnc_syntax.proofs.Soundness.Patterns.{InsideSound, data_front_is, separator_is, repeated_reads, more_are, bare_primary_behind, particle_sound}
+use Rattle.rnc_syntax.proofs.Soundness.Patterns.{data_primary}
 use Rattle.rnc_syntax.proofs.Viability.{bind_err, first_stopped, Viable, IsViable, Completes, Behinds, exactly, moved, behind_token, behind_tokens, completed}
 use Rattle.rnc_syntax.proofs.Viability.{preceded_item, many_viable}
-use Rattle.rnc_syntax.proofs.ViabilityAnnotations.{ViableBehind, annotated_viable, bare_begins}
-use Rattle.rnc_syntax.proofs.ViabilityLiterals.{parameters_viable}
-use Rattle.rnc_syntax.proofs.ViabilityPrimaries.{InsideViable, primary_some, pattern_is, bare_primary_stuck, primary_viable, particle_viable}
+use Rattle.rnc_syntax.proofs.Viability.Annotations.{ViableBehind, annotated_viable, bare_begins}
+use Rattle.rnc_syntax.proofs.Viability.Literals.{parameters_viable}
+use Rattle.rnc_syntax.proofs.Viability.Primaries.{InsideViable, primary_some, pattern_is, bare_primary_stuck, primary_viable, particle_viable}
 
 one_primary : Completes IsPrimary IsPattern
 one_primary ts t p = exactly IsPattern ts t (grammar.one_particle (grammar.once p))

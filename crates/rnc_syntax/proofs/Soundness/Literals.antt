@@ -15,7 +15,7 @@ use Rattle.rnc_model.specs.grammar.Syntax.{joined_text}
 use Rattle.rnc_syntax.proofs.Soundness.{bind_ok, ok_is, same_inherit, keyword_follows, after_is, TakesFront, Sound, IsWord, word_sound, IsSegment}
 use Rattle.rnc_syntax.proofs.Soundness.{segment_sound, Closed, Preceded, in_braces_sound, Each, no_items, and_item, many_sound, preceded_sound, both_sound}
 use Rattle.rnc_syntax.proofs.Soundness.{bracketed, IsSetting, setting_sound}
-use Rattle.rnc_syntax.proofs.SoundnessAnnotations.{annotated_sound, bare_sound}
+use Rattle.rnc_syntax.proofs.Soundness.Annotations.{annotated_sound, bare_sound}
 
 segments : (w x : List ℕ) (ts a b r : List Lexeme) → ts ≡ a ++ b → a ≡ sign Tilde ∷ r → r ≡ segment x ∷ []
     → segment w ∷ ts ≡ segment w ∷ sign Tilde ∷ (segment x ∷ b)

@@ -15,14 +15,14 @@ use Rattle.rnc_syntax.specs.plain.Productions.{in_braces_at, literal_at, paramet
 use Rattle.rnc_syntax.specs.plain.Productions.{named_with, begins_segment, typed_at, other_at, atom_at, parens_with, opened_with, bare_primary_with, primary_with}
 use Rattle.rnc_syntax.specs.plain.Productions.{repeated, particle_with}
 use Rattle.rnc_syntax.proofs.Soundness.{Closed, Preceded, Behind, Bracketed, bracketed}
-use Rattle.rnc_syntax.proofs.SoundnessLiterals.{IsMention}
-use Rattle.rnc_syntax.proofs.SoundnessClasses.{class_sound}
-use Rattle.rnc_syntax.proofs.SoundnessPatterns.{InsideSound, primary_is}
+use Rattle.rnc_syntax.proofs.Soundness.Literals.{IsMention}
+use Rattle.rnc_syntax.proofs.Soundness.Classes.{class_sound}
+use Rattle.rnc_syntax.proofs.Soundness.Patterns.{InsideSound, primary_is}
 use Rattle.rnc_syntax.proofs.Viability.{Begins, Viable, IsViable, Completes, exactly, first_stopped, nothing_taken, behind_token, completed, made_viable}
 use Rattle.rnc_syntax.proofs.Viability.{both_viable, left_is, closes_viable, in_braces_viable, open_viable}
-use Rattle.rnc_syntax.proofs.ViabilityAnnotations.{ViableBehind, annotated_viable, bare_begins, bare_viable}
-use Rattle.rnc_syntax.proofs.ViabilityLiterals.{IsIdentifier, identifier_viable, literal_viable, parameters_viable, mention_viable}
-use Rattle.rnc_syntax.proofs.ViabilityClasses.{class_viable}
+use Rattle.rnc_syntax.proofs.Viability.Annotations.{ViableBehind, annotated_viable, bare_begins, bare_viable}
+use Rattle.rnc_syntax.proofs.Viability.Literals.{IsIdentifier, identifier_viable, literal_viable, parameters_viable, mention_viable}
+use Rattle.rnc_syntax.proofs.Viability.Classes.{class_viable}
 
 -- the tokens read inside brackets before reading stops can be completed
 pub record InsideViable (inside : Inside) : Type 0 where
