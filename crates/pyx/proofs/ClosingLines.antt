@@ -13,7 +13,7 @@ use Rattle.rng_model.specs.documents.PyxLines.{line_and}
 use Rattle.rng_model.specs.documents.PyxTrees.{Placed, Event, events_of, IsPyxDocument}
 use Rattle.rng_model.specs.documents.PyxClauses as clauses
 use Rattle.rng_model.specs.documents.PyxClauses.{AreOpenTags, none_open, one_open}
-use Rattle.rng_model.proofs.PyxExamples.{good as good_example, a_is_a_name}
+use Rattle.rng_model.proofs.Examples.Pyx.{good as good_example, a_is_a_name}
 use Rattle.pyx.specs.plain.Cuts.{at_byte}
 use Rattle.pyx.specs.plain.TagReader.{Element, tag_read, element_name, expanded, is_named_twice}
 use Rattle.pyx.specs.plain.Declarations.{namespace_of, found_in, any_forbidden, is_written_twice}

@@ -23,7 +23,7 @@ use Rattle.pyx.specs.plain.DocumentReader.{State, Tag, Open, Turn, fault, silent
 use Rattle.pyx.specs.plain.DocumentReader.{all_read, nothing_read, at_end, at_last, all_ended, document_read}
 use Rattle.rng_model.proofs.LastLines.{tag_is_within}
 use Rattle.pyx.proofs.LineClauses.{BreaksLine, within, too_long, good_line, broken_line}
-use Rattle.pyx.proofs.TagAnswers.{TagTells, tag_tells}
+use Rattle.pyx.proofs.Tags.Answers.{TagTells, tag_tells}
 use Rattle.pyx.proofs.SaidLines.{is_attribute, good, line_said}
 use Rattle.pyx.proofs.StateSteps.{inside, in_tag, open_of, not_zero}
 use Rattle.pyx.proofs.LineCases.{Move, instruction_passes, attribute_outside, text_joins, text_too_long, text_outside, start_begins, start_too_deep, start_again}

@@ -17,10 +17,10 @@ use Rattle.pyx.specs.plain.TagReader.{Element, tag_read}
 use Rattle.pyx.specs.plain.Declarations.{declared_by}
 use Rattle.pyx.specs.plain.DocumentReader.{State, Tag, Open, Turn, after_events, followed, declared_in, with_attribute, nothing_read, at_end, all_ended}
 use Rattle.pyx.specs.plain.DocumentReader.{document_read}
-use Rattle.pyx.proofs.TagNamespaces.{scope_in, AllDeclared}
-use Rattle.pyx.proofs.TagParts.{IsSplit, no_lines, declares, declares_none, split_parted, split_declared, split_declaration, split_other}
-use Rattle.pyx.proofs.TagUnique.{IsScopeOnce, prefixes_of, parted_same}
-use Rattle.pyx.proofs.TagExact.{tag_is, once_declared}
+use Rattle.pyx.proofs.Tags.Namespaces.{scope_in, AllDeclared}
+use Rattle.pyx.proofs.Tags.Parts.{IsSplit, no_lines, declares, declares_none, split_parted, split_declared, split_declaration, split_other}
+use Rattle.pyx.proofs.Tags.Unique.{IsScopeOnce, prefixes_of, parted_same}
+use Rattle.pyx.proofs.Tags.Exact.{tag_is, once_declared}
 use Rattle.pyx.proofs.LineTurns.{sent_before}
 use Rattle.pyx.proofs.SaidLines.{is_attribute, said_line, said_lines, skip, first_of, rest_of, good, cons_said, append_said, none_said, lines_said, sizes}
 use Rattle.pyx.proofs.StateSteps.{inside, in_tag, begun, open_of, text_event, end_event, start_event, attribute_step, instruction_step, text_step, start_step}

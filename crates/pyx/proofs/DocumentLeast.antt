@@ -26,7 +26,7 @@ use Rattle.pyx.specs.plain.DocumentReader.{nothing_read, at_end, at_last, all_en
 use Rattle.pyx.proofs.LineClauses.{BreaksLine, good_line, broken_line, alone_most}
 use Rattle.pyx.proofs.LineClauses as line_clauses
 use Rattle.pyx.proofs.WrittenNames.{written_back, written_bytes}
-use Rattle.pyx.proofs.TagExact.{tag_namespaces, tag_repeats}
+use Rattle.pyx.proofs.Tags.Exact.{tag_namespaces, tag_repeats}
 use Rattle.pyx.proofs.LineTurns.{followed_same, followed_twice}
 use Rattle.pyx.proofs.SaidLines.{is_attribute, line_said}
 use Rattle.pyx.proofs.StateSteps.{inside, in_tag, open_of, not_zero}

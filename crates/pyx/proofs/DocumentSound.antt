@@ -17,10 +17,10 @@ use Rattle.pyx.specs.plain.TagReader.{Element, tag_read}
 use Rattle.pyx.specs.plain.DocumentReader.{State, Tag, Open, Turn, fault, go_on, declared_in, with_attribute, tag_ended, judged, line_read}
 use Rattle.pyx.specs.plain.DocumentReader.{all_read, nothing_read, unfinished, at_end, at_last, all_ended, document_read}
 use Rattle.pyx.proofs.LineClauses.{good_line}
-use Rattle.pyx.proofs.TagNamespaces.{scope_in, AllDeclared}
-use Rattle.pyx.proofs.TagParts as split
-use Rattle.pyx.proofs.TagParts.{IsSplit, split_declared}
-use Rattle.pyx.proofs.TagExact.{is_tag}
+use Rattle.pyx.proofs.Tags.Namespaces.{scope_in, AllDeclared}
+use Rattle.pyx.proofs.Tags.Parts as split
+use Rattle.pyx.proofs.Tags.Parts.{IsSplit, split_declared}
+use Rattle.pyx.proofs.Tags.Exact.{is_tag}
 use Rattle.pyx.proofs.SaidLines.{said_line, good, line_said}
 use Rattle.pyx.proofs.StateSteps.{inside, in_tag, begun, open_of, not_zero}
 use Rattle.pyx.proofs.LineCases.{Move, instruction_passes, attribute_outside, text_joins, text_too_long, text_outside, start_begins, start_too_deep, start_again}

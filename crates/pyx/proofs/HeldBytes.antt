@@ -29,9 +29,9 @@ use Rattle.pyx.specs.plain.Held.{plus, declarations_held}
 use Rattle.pyx.specs.views.Held.{opened_held, held}
 use Rattle.pyx.specs.views.HeldCalls.{held_limit, IsHeld}
 use Rattle.pyx.proofs.ReaderAfterPiece.{at_fault}
-use Rattle.pyx.proofs.TagDeclarations.{declaration_of, prefix_of, AreDeclared, declares_it}
-use Rattle.pyx.proofs.TagParts.{IsSplit, declares, declares_none, split_parted, split_declared}
-use Rattle.pyx.proofs.TagParts as split
+use Rattle.pyx.proofs.Tags.Declarations.{declaration_of, prefix_of, AreDeclared, declares_it}
+use Rattle.pyx.proofs.Tags.Parts.{IsSplit, declares, declares_none, split_parted, split_declared}
+use Rattle.pyx.proofs.Tags.Parts as split
 use Rattle.pyx.proofs.LinesOfPieces.{with_open, grown, long_fails, length-push, read_cons, read_nil, byte_full, byte_within, byte_feed, dichotomy}
 use Rattle.pyx.proofs.LinesOfPieces.{at_nil}
 use Rattle.pyx.proofs.LinesOfPieces.{fails_first}

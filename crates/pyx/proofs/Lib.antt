@@ -25,14 +25,6 @@ pub mod WholeBytes
 pub mod NamesInLines
 pub mod EscapedTexts
 pub mod LineClauses
-pub mod TagDeclarations
-pub mod TagNamespaces
-pub mod TagRepeats
-pub mod TagSlots
-pub mod TagParts
-pub mod TagAnswers
-pub mod TagUnique
-pub mod TagExact
 pub mod SaidLines
 pub mod StateSteps
 mod TextInPlace
@@ -51,3 +43,4 @@ pub mod ReaderOutcome
 pub mod HeldBytes
 pub mod EventLines
 pub mod FedLines
+pub mod Tags

@@ -15,13 +15,13 @@ use Rattle.rng_model.specs.documents.PyxClauses.{AreOpenTags, none_open, SaysTag
 use Rattle.pyx.specs.plain.TagReader.{Element, tag_read}
 use Rattle.pyx.specs.plain.Declarations.{declared_by}
 use Rattle.pyx.specs.plain.DocumentReader.{State, Tag, Open, declared_in, with_attribute, nothing_read}
-use Rattle.pyx.proofs.TagDeclarations.{declaration_of}
-use Rattle.pyx.proofs.TagNamespaces.{scope_in, AllDeclared}
-use Rattle.pyx.proofs.TagParts as split
-use Rattle.pyx.proofs.TagParts.{IsSplit, split_parted, split_declared}
-use Rattle.pyx.proofs.TagUnique.{prefixes_of, IsScopeOnce, parted_same}
-use Rattle.pyx.proofs.TagAnswers.{TagTells, tag_tells}
-use Rattle.pyx.proofs.TagExact.{read_once}
+use Rattle.pyx.proofs.Tags.Declarations.{declaration_of}
+use Rattle.pyx.proofs.Tags.Namespaces.{scope_in, AllDeclared}
+use Rattle.pyx.proofs.Tags.Parts as split
+use Rattle.pyx.proofs.Tags.Parts.{IsSplit, split_parted, split_declared}
+use Rattle.pyx.proofs.Tags.Unique.{prefixes_of, IsScopeOnce, parted_same}
+use Rattle.pyx.proofs.Tags.Answers.{TagTells, tag_tells}
+use Rattle.pyx.proofs.Tags.Exact.{read_once}
 use Rattle.pyx.proofs.StateSteps.{inside, in_tag, begun, open_of}
 use Rattle.pyx.proofs.DocumentComplete.{attribute_longer, split_length}
 use Rattle.pyx.proofs.OpenTags.{marks, Marks, kind_not, other_kind, open_marks, ends_marks, open_same, no_tag, open_other, open_end, open_tag, untagged}

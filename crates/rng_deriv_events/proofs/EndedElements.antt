@@ -18,9 +18,9 @@ use Rattle.rng_deriv_laws.specs.plain.Taking.{Takes}
 use Rattle.rng_deriv_laws.specs.plain.Derivatives.{is_not_allowed, is_nullable}
 use Rattle.rng_deriv_laws.specs.plain.LevelStates as level
 use Rattle.rng_deriv_laws.specs.plain.LevelStates.{AreEnded, EndsNow, EndsWith, IsAfterText}
-use Rattle.rng_deriv_laws.proofs.LevelStates.{beside_first, nullable_may_end, may_end_with}
+use Rattle.rng_deriv_laws.proofs.Levels.States.{beside_first, nullable_may_end, may_end_with}
 use Rattle.rng_deriv_laws.proofs.States.{none_taken}
-use Rattle.rng_deriv_laws.proofs.LevelSteps.{none_ended, ended_no_more, ended_more}
+use Rattle.rng_deriv_laws.proofs.Levels.Steps.{none_ended, ended_no_more, ended_more}
 use Rattle.rng_deriv_table.specs.declared.pattern.PatternNumber.{PatternNumber}
 use Rattle.rng_deriv_events.specs.views.Numbers.{IsInside, tree_of, Adds, IsChoiceOf}
 use Rattle.rng_deriv_events.specs.views.Levels.{link_of, IsOnlyRest, IsRestWithin, AreEndsWith, LeavesBy, AddsEnded}

@@ -16,7 +16,7 @@ use Rattle.rng_deriv_laws.specs.plain.Derivatives.{is_nullable, is_not_allowed}
 use Rattle.rng_deriv_laws.specs.plain.Events.{kinds}
 use Rattle.rng_deriv_laws.specs.plain.LevelEvents.{LevelMatcher, StepsTo, StandsFor}
 use Rattle.rng_deriv_laws.proofs.Events.{kinds_append}
-use Rattle.rng_deriv_laws.proofs.LevelEvents.{stands_on, stands_first, levels_answer, no_levels_are_invalid, no_end_is_invalid, unknown_name_leaves_none}
+use Rattle.rng_deriv_laws.proofs.Levels.Events.{stands_on, stands_first, levels_answer, no_levels_are_invalid, no_end_is_invalid, unknown_name_leaves_none}
 use Rattle.rng_deriv_table.specs.declared.pattern.PatternNumber.{PatternNumber}
 use Rattle.rng_deriv_events.specs.views.Numbers.{tree_of}
 use Rattle.rng_deriv_events.specs.views.Strings.{IsHeld}

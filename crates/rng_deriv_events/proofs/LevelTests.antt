@@ -8,7 +8,7 @@ use Rattle.rng_model.specs.datatypes.Texts.{is_blank}
 use Rattle.rng_model.specs.matching.Reading.{Reading}
 use Rattle.rng_deriv_laws.specs.plain.Derivatives.{is_nullable}
 use Rattle.rng_deriv_laws.specs.plain.LevelStates.{EndsNow, EndsWith, IsAfterText}
-use Rattle.rng_deriv_laws.proofs.LevelStates.{may_end_with, nullable_may_end}
+use Rattle.rng_deriv_laws.proofs.Levels.States.{may_end_with, nullable_may_end}
 use Rattle.rng_deriv_table.specs.declared.pattern.PatternNumber.{PatternNumber}
 use Rattle.rng_deriv_events.specs.plain.Bits.{bits_of, with_bit}
 use Rattle.rng_deriv_events.specs.declared.level_table.link.Link.{Link}

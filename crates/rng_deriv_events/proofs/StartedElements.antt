@@ -10,7 +10,7 @@ use Rattle.rng_model.specs.simple.Tree.{Simple}
 use Rattle.rng_model.specs.matching.Reading.{Reading}
 use Rattle.rng_deriv_laws.specs.plain.Ways.{EachWay}
 use Rattle.rng_deriv_laws.specs.plain.LevelStates.{IsBodyNamed, AreStarts, AreOpened}
-use Rattle.rng_deriv_laws.proofs.LevelSteps.{IsLinked, none_opened, opened_more}
+use Rattle.rng_deriv_laws.proofs.Levels.Steps.{IsLinked, none_opened, opened_more}
 use Rattle.rng_deriv_table.specs.declared.pattern.PatternNumber.{PatternNumber}
 use Rattle.rng_deriv_events.specs.views.Numbers.{Longer, IsInside, tree_of, way_of, AddsStarts}
 use Rattle.rng_deriv_events.specs.views.Levels.{link_of, IsBodyOf, IsLinkOf, IsLinkWithin, AddsLinks, AddsOpened}

@@ -1,5 +1,8 @@
 -- Each event over levels: a state allows what remains before the event exactly if the state after it allows what
 -- remains after.
+pub mod States
+pub mod Events
+pub mod Steps
 use Rattle.std.proofs.Common.{◌≡◌, ℕ, List, [], ◌∷◌, refl, sym, subst, Bool, true, false, inl, inr}
 use Rattle.std.proofs.lemmas.Bool.{and_from, or_left, or_right, and_parts, or_cases}
 use Rattle.rng_model.specs.names.Names.{Name}

@@ -24,8 +24,5 @@ mod Examples
 pub mod SameWays
 pub mod Meanings
 pub mod StateMeanings
-pub mod LevelStates
 pub mod OpenElements
-pub mod LevelEvents
-pub mod LevelSteps
 pub mod RepeatedAttributes

@@ -1,6 +1,6 @@
 use Rattle.rng_deriv_laws.proofs.matching_laws.Goals as goal
 use Rattle.rng_deriv_laws.proofs.Laws.{accepts_valid_documents, never_is_invalid, unknown_name_is_never, invalid_is_never}
-use Rattle.rng_deriv_laws.proofs.LevelEvents.{levels_answer, no_levels_are_invalid, no_end_is_invalid, unknown_name_leaves_none}
+use Rattle.rng_deriv_laws.proofs.Levels.Events.{levels_answer, no_levels_are_invalid, no_end_is_invalid, unknown_name_leaves_none}
 
 pub returns-clause-accepted : goal.returns-clause-accepted
 returns-clause-accepted c = accepts_valid_documents

@@ -2,7 +2,7 @@ use Rattle.std.proofs.Common.{◌-◌, ◌∙◌, length, take, drop, map, ap, s
 use Rattle.rng_model.specs.documents.DocumentViews.{attribute_of}
 use Rattle.pyx.specs.plain.NamespacesSlots.{is_met}
 use Rattle.pyx.specs.plain.TagReader.{is_named_twice}
-use Rattle.pyx.proofs.TagSlots.{all_kept, first_and_rest, unmet}
+use Rattle.pyx.proofs.Tags.Slots.{all_kept, first_and_rest, unmet}
 use Rattle.pyx.proofs.slots.+is_repeated.Goals as goal
 
 pub returns-else-mark-clause-twice : goal.returns-else-mark-clause-twice

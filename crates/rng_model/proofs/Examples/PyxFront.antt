@@ -16,7 +16,7 @@ use Rattle.rng_model.specs.documents.PyxTrees.{IsRun, no_run}
 use Rattle.rng_model.specs.documents.PyxTrees as trees
 use Rattle.rng_model.specs.documents.PyxClauses as clauses
 use Rattle.rng_model.specs.documents.PyxClauses.{BreaksBetween, BreaksHere, BreaksNamespaces, RepeatsName, EndsInText, EndsWithTag, AreOpenTags, Tag, Breaks, IsFront}
-use Rattle.rng_model.proofs.PyxExamples.{whole, good, a_is_a_name, first_of}
+use Rattle.rng_model.proofs.Examples.Pyx.{whole, good, a_is_a_name, first_of}
 
 abbrev the_line : Line
 the_line = whole (codes "(a")

@@ -20,7 +20,7 @@ use Rattle.rng_deriv_laws.specs.plain.Derivatives.{Way, bodies_of}
 use Rattle.rng_deriv_laws.specs.plain.Ways.{Opens, EachWay, AreItemWays, IsItemLeaf}
 use Rattle.rng_deriv_laws.specs.plain.LevelStates.{Link, IsBodyNamed, AreStarts, OpensAt, AreOpened, AreEnded}
 use Rattle.rng_deriv_laws.proofs.Starts.{bodies_in, bodies_out, bodies_keep}
-use Rattle.rng_deriv_laws.proofs.LevelStates.{beside_second, found_at}
+use Rattle.rng_deriv_laws.proofs.Levels.States.{beside_second, found_at}
 
 -- ---- look-ups in a list that grows
 

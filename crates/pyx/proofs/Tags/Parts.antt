@@ -5,8 +5,8 @@ use Rattle.rng_model.specs.names.Lists.{Among, here, there, HasTwice, at_first, 
 use Rattle.rng_model.specs.documents.PyxLines.{WrittenName}
 use Rattle.rng_model.specs.documents.PyxNamespaces.{WrittenAttribute, AreParted, nothing, declaration, other}
 use Rattle.pyx.specs.plain.Declarations.{declared_by}
-use Rattle.pyx.proofs.TagDeclarations.{declaration_of, prefix_of, AreDeclared, declares_it, declares_nothing}
-use Rattle.pyx.proofs.TagRepeats.{names_of}
+use Rattle.pyx.proofs.Tags.Declarations.{declaration_of, prefix_of, AreDeclared, declares_it, declares_nothing}
+use Rattle.pyx.proofs.Tags.Repeats.{names_of}
 
 -- which of all lines declare, and which do not, each in order
 pub data IsSplit : List WrittenAttribute → List WrittenAttribute → List WrittenAttribute → Type 0 where

@@ -13,10 +13,10 @@ use Rattle.pyx.specs.plain.TagReader as read
 use Rattle.pyx.specs.plain.Declarations.{Declared, declared_by, forbidden_by, is_forbidden, any_forbidden, is_written_twice}
 use Rattle.pyx.specs.plain.TagReader.{Element, attribute_name, expanded, and_more}
 use Rattle.pyx.specs.plain.TagReader.{is_named_twice, with_attributes, with_name, tag_read}
-use Rattle.pyx.proofs.TagDeclarations.{declaration_of, prefix_of, AreDeclared, forbidden_is, is_forbidden_by}
-use Rattle.pyx.proofs.TagNamespaces.{scope_in, AllDeclared, UndeclaredPrefix, NameTells, element_tells, AttributeTells, attribute_tells}
-use Rattle.pyx.proofs.TagParts.{IsSplit, split_parted, split_declared, twice_all}
-use Rattle.pyx.proofs.TagRepeats.{twice_written, all_distinct, not_distinct}
+use Rattle.pyx.proofs.Tags.Declarations.{declaration_of, prefix_of, AreDeclared, forbidden_is, is_forbidden_by}
+use Rattle.pyx.proofs.Tags.Namespaces.{scope_in, AllDeclared, UndeclaredPrefix, NameTells, element_tells, AttributeTells, attribute_tells}
+use Rattle.pyx.proofs.Tags.Parts.{IsSplit, split_parted, split_declared, twice_all}
+use Rattle.pyx.proofs.Tags.Repeats.{twice_written, all_distinct, not_distinct}
 
 false_true : false ≡ true → ⊥
 false_true e = cc

@@ -16,7 +16,7 @@ use Rattle.pyx.specs.plain.Declarations.{Declared, declared_by, same_prefix, dec
 use Rattle.pyx.specs.plain.TagReader.{in_namespace, attribute_in}
 use Rattle.pyx.specs.plain.TagReader.{attribute_name}
 use Rattle.pyx.proofs.WrittenNames.{prefix_same, prefix_itself}
-use Rattle.pyx.proofs.TagDeclarations.{declaration_of, prefix_of, AreDeclared}
+use Rattle.pyx.proofs.Tags.Declarations.{declaration_of, prefix_of, AreDeclared}
 
 false_true : false ≡ true → ⊥
 false_true e = cc

@@ -1,4 +1,4 @@
--- The smallest schemas that break each clause from S11 to S17. `GoodSchemaExample` has one that breaks none.
+-- The smallest schemas that break each clause from S11 to S17. `GoodSchema` has one that breaks none.
 use Rattle.std.proofs.Common.{◌≡◌, refl, sym, subst, arith, ℕ, suc, zero, ◌+◌, List, [], ◌∷◌, Some, codes}
 use Rattle.rng_model.specs.names.Lists.{Among, here, there, first_and}
 use Rattle.rng_model.specs.names.Names.{any_except}
@@ -21,7 +21,7 @@ use Rattle.rng_model.specs.declared.method.Method.TheVariants.{Choice, Interleav
 use Rattle.std.proofs.lemmas.Bool.{true≢false}
 use Rattle.std.proofs.lemmas.Option.{same_Some}
 use Rattle.rng_model.proofs.Unfolding.{not_both, one_definition}
-use Rattle.rng_model.proofs.SchemaExamples.{named, an_element_of, start, one_grammar, only_main, in_main, looping, no_tree_of_c}
+use Rattle.rng_model.proofs.Examples.Schemas.{named, an_element_of, start, one_grammar, only_main, in_main, looping, no_tree_of_c}
 
 -- the pattern of the start of a schema with no other component is written there
 start_written : {p q : Pattern} → in_pattern.IsWrittenIn q p → IsWrittenAt (one_grammar (start p ∷ [])) [] q

@@ -35,7 +35,7 @@ use Rattle.rng_model.specs.restrictions.Restrictions as restrictions
 use Rattle.rng_model.specs.declared.method.Method.TheVariants.{Choice}
 use Rattle.rng_model.proofs.SimpleTrees.{same_simple}
 use Rattle.rng_model.proofs.Unfolding.{one_tree}
-use Rattle.rng_model.proofs.SchemaExamples.{named, start, one_grammar, only_main, no_components}
+use Rattle.rng_model.proofs.Examples.Schemas.{named, start, one_grammar, only_main, no_components}
 
 abbrev texts : Pattern
 texts = joined interleave text text no_patterns

@@ -9,7 +9,7 @@ use Rattle.rng_model.specs.declared.document.Attr.{Attr}
 use Rattle.pyx.specs.plain.Slots.{AreMet}
 use Rattle.pyx.specs.plain.NamespacesSlots.{is_met}
 use Rattle.pyx.specs.plain.TagReader.{same_name, is_named_in, is_named_twice}
-use Rattle.pyx.proofs.TagRepeats.{names_same, true_false}
+use Rattle.pyx.proofs.Tags.Repeats.{names_same, true_false}
 
 pub not_met : (name : Name) (slots : List Bool) (all : List Attribute) → is_met slots name.local ≡ false → AreMet slots all → is_named_in name all ≡ false
 unfolding is_named_in

@@ -5,7 +5,7 @@ use Rattle.rng_model.specs.documents.Lines.{Line, lines}
 use Rattle.rng_model.specs.documents.PyxFaults.{HasKind, nothing}
 use Rattle.rng_model.specs.documents.PyxClauses.{none_open}
 use Rattle.rng_model.specs.documents.PyxHeld.{KeptOf, in_tag, of_none}
-use Rattle.rng_model.proofs.PyxExamples.{whole}
+use Rattle.rng_model.proofs.Examples.Pyx.{whole}
 
 -- `(a`, `Ax 1` and the beginning `-y` of a line: both lines of the tag are kept, since a third may follow, and the two
 -- bytes of the line that has begun

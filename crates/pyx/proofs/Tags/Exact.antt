@@ -26,12 +26,12 @@ use Rattle.pyx.specs.plain.TagReader.{is_named_twice}
 use Rattle.pyx.specs.plain.TagReader.{tag_read, same_name}
 use Rattle.pyx.specs.plain.Declarations.{same_written}
 use Rattle.pyx.proofs.WrittenNames.{written_itself}
-use Rattle.pyx.proofs.TagDeclarations.{declaration_of}
-use Rattle.pyx.proofs.TagNamespaces.{scope_in, AllDeclared}
-use Rattle.pyx.proofs.TagParts.{IsSplit, no_lines, declares, declares_none, split_parted}
-use Rattle.pyx.proofs.TagRepeats.{names_of, distinct_all, name_itself}
-use Rattle.pyx.proofs.TagAnswers.{HasNames, IsRead, TagTells, tag_tells}
-use Rattle.pyx.proofs.TagUnique.{prefixes_of, IsScopeOnce, parted_same, element_same, expanded_same}
+use Rattle.pyx.proofs.Tags.Declarations.{declaration_of}
+use Rattle.pyx.proofs.Tags.Namespaces.{scope_in, AllDeclared}
+use Rattle.pyx.proofs.Tags.Parts.{IsSplit, no_lines, declares, declares_none, split_parted}
+use Rattle.pyx.proofs.Tags.Repeats.{names_of, distinct_all, name_itself}
+use Rattle.pyx.proofs.Tags.Answers.{HasNames, IsRead, TagTells, tag_tells}
+use Rattle.pyx.proofs.Tags.Unique.{prefixes_of, IsScopeOnce, parted_same, element_same, expanded_same}
 
 true_false : true ≡ false → ⊥
 true_false e = cc

@@ -11,7 +11,7 @@ use Rattle.rng_model.specs.documents.PyxLines.{WrittenName}
 use Rattle.rng_model.specs.documents.PyxNamespaces.{WrittenAttribute, NamespaceDeclaration, Declares, AreParted, nothing, declaration, other, NamespaceScope, IsDeclared, xml_uri}
 use Rattle.rng_model.specs.documents.PyxNamespaces.{HasNamespace, declared_here, declared_outside, xml_beforehand, no_default, NamesElement, element_name, NamesAttribute}
 use Rattle.rng_model.specs.documents.PyxNamespaces.{without_prefix, with_prefix, AreExpanded, none_left, expanded_and}
-use Rattle.pyx.proofs.TagDeclarations.{is_declared}
+use Rattle.pyx.proofs.Tags.Declarations.{is_declared}
 
 declared_same : {name : WrittenName} {p q : Option (List ℕ)} → Declares name p → Declares name q → p ≡ q
 declared_same {p = p} {q = q} d e = same_Some p q (sym (is_declared d) ∙ is_declared e)

@@ -15,9 +15,9 @@ use Rattle.rng_deriv_laws.specs.plain.LevelEvents.{LevelMatcher, SettlesLevels, 
 use Rattle.rng_deriv_laws.specs.plain.LevelEvents.{at_stray_end, LevelsAnswer, NoLevelsAreInvalid, NoEndIsInvalid, UnknownNameLeavesNone}
 use Rattle.rng_deriv_laws.proofs.Meanings.{run_on, runs_answer, empty_stays_invalid}
 use Rattle.rng_deriv_laws.proofs.Events.{kinds_append}
-use Rattle.rng_deriv_laws.proofs.LevelStates.{start_is_after, string_is_after, end_is_after, end_of_text_is_after}
-use Rattle.rng_deriv_laws.proofs.LevelStates.{first_is_start, ended_by_nullable, none_allowed}
-use Rattle.rng_deriv_laws.proofs.LevelStates.{unknown_leaves_none}
+use Rattle.rng_deriv_laws.proofs.Levels.States.{start_is_after, string_is_after, end_is_after, end_of_text_is_after}
+use Rattle.rng_deriv_laws.proofs.Levels.States.{first_is_start, ended_by_nullable, none_allowed}
+use Rattle.rng_deriv_laws.proofs.Levels.States.{unknown_leaves_none}
 use Rattle.rng_deriv_laws.proofs.Laws.{not_named}
 use Rattle.rng_deriv_laws.proofs.OpenElements.{count_between, ends_open, document_closes, nothing_behind_document}
 use Rattle.std.proofs.lemmas.Option.{same_Some}
