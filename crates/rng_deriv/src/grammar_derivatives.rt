@@ -3,7 +3,6 @@ ghost use Rattle.std.specs.Prelude.{◌≡◌, IfOk};
 ghost use Rattle.rng_model.specs.simple.Table.{grammar_of};
 ghost use Rattle.rng_model.specs.restrictions.Restrictions.{BreaksNone};
 ghost use Rattle.rng_deriv_table.specs.views.Trees.{trees};
-ghost use Rattle.rng_model.specs.matching.GrammarReading.{reading_of};
 ghost use Rattle.rng_model.specs.names.NameViews.{name_of};
 ghost use Rattle.rng_names.specs.plain.Holding.{same_name};
 
@@ -83,8 +82,6 @@ impl<'a> GrammarDerivatives<'a> {
 
 impl Derivatives for GrammarDerivatives<'_> {
     ghost basis = { λ d. d.0 };
-
-    ghost reading = { λ d. reading_of d.0.grammar };
 
     ghost trees = { λ d. trees d.0.grammar d.1 };
 

@@ -22,7 +22,7 @@ use Rattle.rng_deriv_events.specs.declared.level_table.table.LevelTable.{LevelTa
 use Rattle.rng_deriv_events.specs.declared.level_table.link.Link.{Link}
 use Rattle.rng_deriv_events.specs.declared.level_table.step.End.{End}
 use Rattle.rng_deriv_events.specs.declared.level_table.step.Step.{Step}
-use Rattle.rng_deriv_events.specs.views.Basis.{Basis}
+use Rattle.rng_deriv_events.specs.views.Basis.{Basis, HoldsBy, Keeps, reading_by}
 use Rattle.rng_deriv_events.specs.views.KeptLevels.{AddsAfter, AddsEndedLevel, AddsLevels, AreKept, Grows, IsAfterLevel, IsEndKept, IsLevelKept, IsStepKept, nullable_in}
 use Rattle.rng_deriv_events.specs.views.Levels.{AddsEnded, AddsOpened, IsLinkWithin, IsRestWithin, link_of}
 use Rattle.rng_deriv_events.specs.views.Numbers.{AddsEach, IsInside, Longer, tree_of}
@@ -216,17 +216,19 @@ kept_longer g keys old new t longer k =
     refl refl refl
 
 -- the same, for derivatives that have changed
-pub kept_on : (g h : Reading) (b d : Basis) (old new : List (Simple ℕ)) (t : LevelTable) → h ≡ g → d ≡ b → Longer old new → AreKept g b.keys old t
-    → AreKept h d.keys new t
-kept_on g h b d old new t reading basis longer k =
-    subst (λ g. AreKept g d.keys new t) (sym reading)
-    (subst (λ (b : Basis). AreKept g b.keys new t) (sym basis) (kept_longer g b.keys old new t longer k))
+pub kept_on : (b d : Basis) (old new : List (Simple ℕ)) (t : LevelTable) → d ≡ b → Longer old new → HoldsBy AreKept b old t → HoldsBy AreKept d new t
+kept_on b d old new t basis longer k =
+    subst (λ b. HoldsBy AreKept b new t) (sym basis) (kept_longer (reading_by b) b.keys old new t longer k)
 
-pub adds_same : (g : Reading) (keys : Keys) (trees : List (Simple ℕ)) (t : LevelTable) → AreKept g keys trees t → AddsLevels g keys trees t t
+pub adds_same : (g : Reading) (keys : Keys) (trees : List (Simple ℕ)) (t : LevelTable) → AreKept g keys trees t → AddsLevels t g keys trees t
 adds_same g keys trees t k = record { kept = k; levels = grows_same (levels_in t); steps = grows_same (steps_in t) }
 
-pub adds_through : (g h : Reading) (keys others : Keys) (mid new : List (Simple ℕ)) (a b c : LevelTable) → AddsLevels g keys mid a b
-    → AddsLevels h others new b c → AddsLevels h others new a c
+-- nothing has changed
+pub keeps_same : (b : Basis) (trees : List (Simple ℕ)) (t : LevelTable) → HoldsBy AreKept b trees t → Keeps (AddsLevels t) b b trees t
+keeps_same b trees t k = record { basis = refl; right = adds_same (reading_by b) b.keys trees t k }
+
+pub adds_through : (g h : Reading) (keys others : Keys) (mid new : List (Simple ℕ)) (a b c : LevelTable) → AddsLevels a g keys mid b
+    → AddsLevels b h others new c → AddsLevels a h others new c
 adds_through g h keys others mid new a b c first second = record {
   kept = second.kept;
   levels = grows_through (levels_in a) (levels_in b) (levels_in c) first.levels second.levels;
@@ -252,7 +254,7 @@ module _ (g : Reading) (keys : Keys) (trees : List (Simple ℕ)) where
   module _ (t u : LevelTable) (k : AreKept g keys trees t) where
     -- one more level
     pub adds_level : (l : Level) → IsLevelKept trees l → levels_in u ≡ levels_in t ++ l ∷ [] → steps_in u ≡ steps_in t → closed_in u ≡ closed_in t
-        → sampled_in u ≡ sampled_in t → ends_in u ≡ ends_in t → AddsLevels g keys trees t u
+        → sampled_in u ≡ sampled_in t → ends_in u ≡ ends_in t → AddsLevels t g keys trees u
     adds_level l kept levels steps closed sampled ends =
         let grown : Grows (levels_in t) (levels_in u) = (l ∷ [], levels) in
         let same = grows_as (steps_in t) (steps_in u) steps in
@@ -269,7 +271,7 @@ module _ (g : Reading) (keys : Keys) (trees : List (Simple ℕ)) where
 
     -- one more step
     pub adds_step : (s : Step) → IsStepKept g keys trees (levels_in t) s → levels_in u ≡ levels_in t → steps_in u ≡ steps_in t ++ s ∷ []
-        → closed_in u ≡ closed_in t → sampled_in u ≡ sampled_in t → ends_in u ≡ ends_in t → AddsLevels g keys trees t u
+        → closed_in u ≡ closed_in t → sampled_in u ≡ sampled_in t → ends_in u ≡ ends_in t → AddsLevels t g keys trees u
     adds_step s kept levels steps closed sampled ends =
         let grown : Grows (steps_in t) (steps_in u) = (s ∷ [], steps) in
         let same = grows_as (levels_in t) (levels_in u) levels in
@@ -306,7 +308,7 @@ module _ (g : Reading) (keys : Keys) (trees : List (Simple ℕ)) where
       -- one more level behind a tag without attributes
       pub adds_closed : (from : ℕ) (to : LevelNumber) → IsAfterLevel (IsAfterTag g []) trees (levels_in t) from to
           → ((n : ℕ) (m : LevelNumber) → IsKnownAt (closed_in u) n m → IsKnownAt (closed_in t) n m ⊎ ((n ≡ from) × (m ≡ to)))
-          → sampled_in u ≡ sampled_in t → ends_in u ≡ ends_in t → AddsLevels g keys trees t u
+          → sampled_in u ≡ sampled_in t → ends_in u ≡ ends_in t → AddsLevels t g keys trees u
       adds_closed from to a closed sampled ends = record {
         kept = record {
           levels = same_levels;
@@ -327,7 +329,7 @@ module _ (g : Reading) (keys : Keys) (trees : List (Simple ℕ)) where
       pub adds_sampled : (from : ℕ) (to : LevelNumber) → IsAfterLevel (IsAfterText g (sample_in (levels_in t) from)) trees (levels_in t) from to
           → closed_in u ≡ closed_in t
           → ((n : ℕ) (m : LevelNumber) → IsKnownAt (sampled_in u) n m → IsKnownAt (sampled_in t) n m ⊎ ((n ≡ from) × (m ≡ to)))
-          → ends_in u ≡ ends_in t → AddsLevels g keys trees t u
+          → ends_in u ≡ ends_in t → AddsLevels t g keys trees u
       adds_sampled from to a closed sampled ends = record {
         kept = record {
           levels = same_levels;
@@ -347,7 +349,7 @@ module _ (g : Reading) (keys : Keys) (trees : List (Simple ℕ)) where
 
       -- one more end
       pub adds_end : (step : ℕ) (end : End) → IsEndKept g trees (levels_in t) (steps_in t) step end → closed_in u ≡ closed_in t → sampled_in u ≡ sampled_in t
-          → ((n : ℕ) (e : End) → IsEndAt (ends_in u) n e → IsEndAt (ends_in t) n e ⊎ ((n ≡ step) × (e ≡ end))) → AddsLevels g keys trees t u
+          → ((n : ℕ) (e : End) → IsEndAt (ends_in u) n e → IsEndAt (ends_in t) n e ⊎ ((n ≡ step) × (e ≡ end))) → AddsLevels t g keys trees u
       adds_end step end a closed sampled ends = record {
         kept = record {
           levels = same_levels;
@@ -374,25 +376,25 @@ numbers_same_at Is old new now t u m same a = record {
 
 -- ---- a step that was computed
 
-module _ (g h : Reading) (b d : Basis) (old new : List (Simple ℕ)) (t u : LevelTable) (s : Step) (bodies : List PatternNumber) (q : Name) (reading : h ≡ g)
+module _ (b d : Basis) (old new : List (Simple ℕ)) (t u : LevelTable) (s : Step) (bodies : List PatternNumber) (q : Name)
     (basis : d ≡ b) (from : s.from.0 < length (levels_in t)) (grown : Grows (levels_in t) (levels_in u))
     (around : s.around ≡ length (numbers_in (levels_in t) s.from.0)) (named : key_of b.keys q ≡ s.key.0)
-    (opens : (r : Name) → key_of b.keys r ≡ s.key.0 → AddsOpened g r old new (numbers_in (levels_in t) s.from.0) bodies s.links.items)
+    (opens : (r : Name) → key_of b.keys r ≡ s.key.0 → AddsOpened (reading_by b) r old new (numbers_in (levels_in t) s.from.0) bodies s.links.items)
     (child : (s.child.0 < length (levels_in u)) × (numbers_in (levels_in u) s.child.0 ≡ bodies)) where
   same_around : numbers_in (levels_in u) s.from.0 ≡ numbers_in (levels_in t) s.from.0
   same_around = numbers_grow (levels_in t) (levels_in u) s.from.0 grown from
 
   opened_later : (r : Name) → key_of d.keys r ≡ s.key.0
-      → AddsOpened h r new new (numbers_in (levels_in u) s.from.0) (numbers_in (levels_in u) s.child.0) s.links.items
+      → AddsOpened (reading_by d) r new new (numbers_in (levels_in u) s.from.0) (numbers_in (levels_in u) s.child.0) s.links.items
   opened_later r e =
       let o = opens r (subst (λ (b : Basis). key_of b.keys r ≡ s.key.0) basis e) in
-      let here : AddsOpened g r new new (numbers_in (levels_in t) s.from.0) bodies s.links.items =
+      let here : AddsOpened (reading_by b) r new new (numbers_in (levels_in t) s.from.0) bodies s.links.items =
       record { longer = longer_same new; inside = o.inside; within = o.within; opened = o.opened } in
-      subst (λ g. AddsOpened g r new new (numbers_in (levels_in u) s.from.0) (numbers_in (levels_in u) s.child.0) s.links.items) (sym reading)
-      (subst (λ ps. AddsOpened g r new new ps (numbers_in (levels_in u) s.child.0) s.links.items) (sym same_around)
-      (subst (λ ps. AddsOpened g r new new (numbers_in (levels_in t) s.from.0) ps s.links.items) (sym child.1) here))
+      subst (λ b. AddsOpened (reading_by b) r new new (numbers_in (levels_in u) s.from.0) (numbers_in (levels_in u) s.child.0) s.links.items) (sym basis)
+      (subst (λ ps. AddsOpened (reading_by b) r new new ps (numbers_in (levels_in u) s.child.0) s.links.items) (sym same_around)
+      (subst (λ ps. AddsOpened (reading_by b) r new new (numbers_in (levels_in t) s.from.0) ps s.links.items) (sym child.1) here))
 
-  pub step_kept : IsStepKept h d.keys new (levels_in u) s
+  pub step_kept : IsStepKept (reading_by d) d.keys new (levels_in u) s
   step_kept = record {
     from = below_grows (levels_in t) (levels_in u) s.from.0 grown from;
     child = child.0;

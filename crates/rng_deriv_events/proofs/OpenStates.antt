@@ -18,7 +18,7 @@ use Rattle.rng_deriv_events.specs.declared.level_table.level.LevelNumber.{LevelN
 use Rattle.rng_deriv_events.specs.declared.level_table.table.LevelTable.{LevelTable}
 use Rattle.rng_deriv_events.specs.declared.level_table.step.Step.{Step}
 use Rattle.rng_deriv_events.specs.declared.level_table.step.StepNumber.{StepNumber}
-use Rattle.rng_deriv_events.specs.views.Basis.{Basis}
+use Rattle.rng_deriv_events.specs.views.Basis.{Basis, HoldsBy, Keeps, reading_by}
 use Rattle.rng_deriv_events.specs.views.KeptLevels.{AddsAfter, AddsLevels, AddsOutside, AreKept, Grows, IsStepKept}
 use Rattle.rng_deriv_events.specs.views.Levels.{AddsEnded, AddsOpened}
 use Rattle.rng_deriv_events.specs.views.LevelRenewal.{AreWaysRenewed, IsRenewed, IsStateRenewed, rests_in}
@@ -90,7 +90,7 @@ all_below old new grown steps all =
     All-weaker (λ (n : StepNumber). n.0 < length old) (λ (n : StepNumber). n.0 < length new) (λ n lt. below_grows old new n.0 grown lt) steps all
 
 module _ (g h : Reading) (keys others : Keys) (old new : List (Simple ℕ)) (longer : Longer old new) (s n : State) (k : IsStateKept g keys old s)
-    (a : AddsLevels h others new s.table n.table) where
+    (a : AddsLevels s.table h others new n.table) where
   carried_stays : n.carried.items ≡ s.carried.items → All (λ (w : WaysOut). IsLevelInside new (open_level w)) n.carried.items
   carried_stays same =
       subst (All (λ (w : WaysOut). IsLevelInside new (open_level w))) (sym same)
@@ -173,7 +173,7 @@ popped_below g keys trees s steps step k popped =
 -- ---- a start tag
 
 module _ (g : Reading) (keys : Keys) (q : Name) (xs : List Attribute) (old mid new : List (Simple ℕ)) (s n : State) (t : LevelTable) (step : StepNumber)
-    (k : IsStateKept g keys old s) (longer : Longer old mid) (first : AddsLevels g keys mid s.table t)
+    (k : IsStateKept g keys old s) (longer : Longer old mid) (first : AddsLevels s.table g keys mid t)
     (found : IsStepOf (steps_in t) s.now.0 (key_of keys q) step.0) where
   law : IsStepKept g keys mid (levels_in t) found.0
   law = all_there (IsStepKept g keys mid (levels_in t)) (steps_in t) step.0 found.0 first.kept.steps found.1
@@ -190,9 +190,9 @@ module _ (g : Reading) (keys : Keys) (q : Name) (xs : List Attribute) (old mid n
       let here = subst (λ ps. AddsOpened g q mid mid ps (numbers_in (levels_in t) found.0.child.0) found.0.links.items) around_is (law.opened q (sym found.3)) in
       record { longer = longer; inside = here.inside; within = here.within; opened = here.opened }
 
-  module _ (second : AddsLevels g keys new t n.table) (after : AddsAfter (IsAfterTag g xs) mid new (numbers_in (levels_in t) found.0.child.0) n.table n.now)
+  module _ (second : AddsLevels t g keys new n.table) (after : AddsAfter (IsAfterTag g xs) mid new (numbers_in (levels_in t) found.0.child.0) n.table n.now)
       (carried : n.carried.items ≡ s.carried.items) (pushed : n.steps.items ≡ s.steps.items ++ step ∷ []) where
-    all : AddsLevels g keys new s.table n.table
+    all : AddsLevels s.table g keys new n.table
     all = adds_through g g keys keys mid new s.table t n.table first second
 
     longer_all : Longer old new
@@ -215,7 +215,7 @@ module _ (g : Reading) (keys : Keys) (q : Name) (xs : List Attribute) (old mid n
 -- ---- an end tag
 
 module _ (g : Reading) (keys : Keys) (MayEnd : Simple ℕ → Type 0) (old new : List (Simple ℕ)) (s n : State) (step : StepNumber) (k : IsStateKept g keys old s)
-    (a : AddsLevels g keys new s.table n.table) (carried : n.carried.items ≡ s.carried.items) (popped : s.steps.items ≡ n.steps.items ++ step ∷ [])
+    (a : AddsLevels s.table g keys new n.table) (carried : n.carried.items ≡ s.carried.items) (popped : s.steps.items ≡ n.steps.items ++ step ∷ [])
     (outside : (st : Step) → slice_get (steps_in s.table) step.0 ≡ Some st
     → AddsOutside g MayEnd old new (numbers_in (levels_in s.table) s.now.0) st n.table n.now) where
   -- the step that ends
@@ -241,27 +241,24 @@ module _ (g : Reading) (keys : Keys) (MayEnd : Simple ℕ → Type 0) (old new :
         is = ends_if g MayEnd leaves.good (state_of old (open_state s)) (state_of new (open_state n)) leaves.which e.is;
       }
 
--- ---- for derivatives whose reading and basis stay
+-- ---- for derivatives whose basis stays
 
 -- the child of a step that was found
 pub child_there : (g : Reading) (keys : Keys) (trees : List (Simple ℕ)) (t : LevelTable) (n : ℕ) (s : Step) → AreKept g keys trees t
     → slice_get (steps_in t) n ≡ Some s → s.child.0 < length (levels_in t)
 child_there g keys trees t n s k at = (all_there (IsStepKept g keys trees (levels_in t)) (steps_in t) n s k.steps at).child
 
-pub same_basis : (g h : Reading) (b d : Basis) (trees : List (Simple ℕ)) (before after : LevelTable) → h ≡ g → d ≡ b
-    → AddsLevels h d.keys trees before after → AddsLevels g b.keys trees before after
-same_basis g h b d trees before after reading basis a =
-    subst (λ g. AddsLevels g b.keys trees before after) reading (subst (λ (d : Basis). AddsLevels h d.keys trees before after) basis a)
+pub same_basis : (b d : Basis) (trees : List (Simple ℕ)) (before after : LevelTable) → Keeps (AddsLevels before) b d trees after
+    → HoldsBy (AddsLevels before) b trees after
+same_basis b d trees before after k = subst (λ b. HoldsBy (AddsLevels before) b trees after) k.basis k.right
 
-pub kept_basis : (g h : Reading) (b d : Basis) (trees : List (Simple ℕ)) (s : State) → h ≡ g → d ≡ b → IsStateKept g b.keys trees s
-    → IsStateKept h d.keys trees s
-kept_basis g h b d trees s reading basis k =
-    subst (λ g. IsStateKept g d.keys trees s) (sym reading) (subst (λ (b : Basis). IsStateKept g b.keys trees s) (sym basis) k)
+pub keeps_basis : (b d : Basis) (trees : List (Simple ℕ)) (s : State) → d ≡ b → HoldsBy IsStateKept b trees s → Keeps IsStateKept b d trees s
+keeps_basis b d trees s basis k = record { basis = basis; right = subst (λ b. HoldsBy IsStateKept b trees s) (sym basis) k }
 
 -- ---- an end where no step is open
 
-module _ (g h : Reading) (b d : Basis) (good : List Bool) (old new : List (Simple ℕ)) (s n : State) (k : IsStateKept g b.keys old s) (reading : h ≡ g)
-    (basis : d ≡ b) (longer : Longer old new) (a : AddsLevels h d.keys new s.table n.table) (now : n.now.0 < length (levels_in n.table))
+module _ (b d : Basis) (good : List Bool) (old new : List (Simple ℕ)) (s n : State) (k : HoldsBy IsStateKept b old s)
+    (longer : Longer old new) (a : HoldsBy (AddsLevels s.table) d new n.table) (now : n.now.0 < length (levels_in n.table))
     (none : s.steps.items ≡ []) (still : n.steps.items ≡ s.steps.items) where
   no_steps : n.steps.items ≡ []
   no_steps = still ∙ none
@@ -282,7 +279,7 @@ module _ (g h : Reading) (b d : Basis) (good : List Bool) (old new : List (Simpl
 
   -- no element is open
   module _ (empty : s.carried.items ≡ []) (left : n.carried.items ≡ []) where
-    pub kept_stray : IsStateKept h d.keys new n
+    pub kept_stray : HoldsBy IsStateKept d new n
     kept_stray = record {
       kept = a.kept;
       now = now;
@@ -290,17 +287,17 @@ module _ (g h : Reading) (b d : Basis) (good : List Bool) (old new : List (Simpl
       steps = open_none;
     }
 
-    pub state_stray : AddsState (EndsBy g good (state_of old (open_state s))) old new (open_state n)
+    pub state_stray : AddsState (EndsBy (reading_by b) good (state_of old (open_state s))) old new (open_state n)
     state_stray = record {
       longer = longer;
-      inside = state_inside h d.keys new n kept_stray;
+      inside = state_inside (reading_by d) d.keys new n kept_stray;
       is = inl (ap (levels_of old) (levels_then ∙ ap (map open_level) empty));
     }
 
   -- the innermost element ends
   module _ (w : WaysOut) (popped : s.carried.items ≡ n.carried.items ++ w ∷ [])
-      (ended : AddsEnded g good w.around old new w.links.items (numbers_in (levels_in n.table) n.now.0)) where
-    pub kept_closed : IsStateKept h d.keys new n
+      (ended : AddsEnded (reading_by b) good w.around old new w.links.items (numbers_in (levels_in n.table) n.now.0)) where
+    pub kept_closed : HoldsBy IsStateKept d new n
     kept_closed = record {
       kept = a.kept;
       now = now;
@@ -309,9 +306,9 @@ module _ (g h : Reading) (b d : Basis) (good : List Bool) (old new : List (Simpl
       steps = open_none;
     }
 
-    pub state_closed : AddsState (EndsBy g good (state_of old (open_state s))) old new (open_state n)
+    pub state_closed : AddsState (EndsBy (reading_by b) good (state_of old (open_state s))) old new (open_state n)
     state_closed =
-        ends g good old new (open_state s) (open_state n) (open_level w) (state_inside g b.keys old s k)
+        ends (reading_by b) good old new (open_state s) (open_state n) (open_level w) (state_inside (reading_by b) b.keys old s k)
         (levels_then ∙ ap (map open_level) popped ∙ map_push open_level n.carried.items w ∙ ap (λ ls. ls ++ open_level w ∷ []) (sym levels_now)) ended
 
 -- ---- an end, after the string of the element was settled
@@ -331,7 +328,7 @@ ends_held g h old mid new s n string held reading inside a e =
 -- ---- the end of an element whose string is known to satisfy `Holds`
 
 module _ (g : Reading) (keys : Keys) (old new : List (Simple ℕ)) (s n : State) (step : StepNumber) (k : IsStateKept g keys old s)
-    (a : AddsLevels g keys new s.table n.table) (carried : n.carried.items ≡ s.carried.items) (popped : s.steps.items ≡ n.steps.items ++ step ∷ [])
+    (a : AddsLevels s.table g keys new n.table) (carried : n.carried.items ≡ s.carried.items) (popped : s.steps.items ≡ n.steps.items ++ step ∷ [])
     (longer : Longer old new) (there : n.now.0 < length (levels_in n.table)) where
   pub kept_left_for : IsStateKept g keys new n
   kept_left_for = kept_popped g g keys keys old new longer s n k a step carried popped there

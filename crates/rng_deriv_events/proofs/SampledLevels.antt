@@ -1,5 +1,5 @@
 -- What is left after the sample string of a level is left after each string that it is an example for.
-use Rattle.std.proofs.Common.{◌≡◌, ◌∙◌, ◌⊎◌, inl, inr, ℕ, ◌<◌, List, [], ◌∷◌, map, refl, sym, ap, subst, Bool, true, false, ◌||◌, Some, slice_get, codes, All, length}
+use Rattle.std.proofs.Common.{◌≡◌, ◌∙◌, inl, inr, ℕ, ◌<◌, List, [], ◌∷◌, map, refl, sym, ap, subst, Bool, true, false, Some, slice_get, codes, All, length}
 use Rattle.std.proofs.Common.{Result, Ok, Err, IfOk, if◌then◌else◌}
 use Rattle.std.specs.List.{AllZip, list_any}
 use Rattle.rng_model.proofs.Places.{all_at as all_there}

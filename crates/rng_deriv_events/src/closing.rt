@@ -1,6 +1,7 @@
 // The end of an element, by the content of the element.
 ghost use Rattle.std.specs.Prelude.{◌≡◌, ℕ, List, [], OnOk, Some};
 ghost use Rattle.rng_deriv_laws.specs.plain.LevelStates.{EndsNow, EndsWith};
+ghost use Rattle.rng_deriv_events.specs.views.Basis.{HoldsBy, Keeps, reading_by};
 ghost use Rattle.rng_deriv_events.specs.views.LevelTable.{levels_in, numbers_in};
 ghost use Rattle.rng_deriv_events.specs.views.OpenPositions.{IsHeldKept, IsStateKept, held_string, open_state, open_string};
 ghost use Rattle.rng_deriv_events.specs.views.States.{AddsState, EndsBy, EndsIf, state_of};
@@ -24,12 +25,10 @@ fn close_carried<D: Derivatives>(
     state: &mut State,
     good: &[bool],
 ) -> Result<(), OutOfMemory>
-    requires kept { IsStateKept (D.reading derivatives.old) (D.basis derivatives.old).keys (D.trees derivatives.old) state.old }
+    requires kept { HoldsBy IsStateKept (D.basis derivatives.old) (D.trees derivatives.old) state.old }
     requires steps { state.old.steps.items ≡ [] }
-    ensures reading { OnOk result (D.reading derivatives.new ≡ D.reading derivatives.old) }
-    ensures basis { OnOk result (D.basis derivatives.new ≡ D.basis derivatives.old) }
-    ensures kept { OnOk result (IsStateKept (D.reading derivatives.new) (D.basis derivatives.new).keys (D.trees derivatives.new) state.new) }
-    ensures state { OnOk result (AddsState (EndsBy (D.reading derivatives.old) good.now (state_of (D.trees derivatives.old) (open_state state.old)))
+    ensures keeps { OnOk result (Keeps IsStateKept (D.basis derivatives.old) (D.basis derivatives.new) (D.trees derivatives.new) state.new) }
+    ensures state { OnOk result (AddsState (EndsBy (reading_by (D.basis derivatives.old)) good.now (state_of (D.trees derivatives.old) (open_state state.old)))
         (D.trees derivatives.old) (D.trees derivatives.new) (open_state state.new)) }
 {
     let Some(level) = state.carried.pop() else {
@@ -53,12 +52,10 @@ fn after_carried_elements<D: Derivatives>(
     alloc: Global,
     state: &mut State,
 ) -> Result<(), OutOfMemory>
-    requires kept { IsStateKept (D.reading derivatives.old) (D.basis derivatives.old).keys (D.trees derivatives.old) state.old }
+    requires kept { HoldsBy IsStateKept (D.basis derivatives.old) (D.trees derivatives.old) state.old }
     requires steps { state.old.steps.items ≡ [] }
-    ensures reading { OnOk result (D.reading derivatives.new ≡ D.reading derivatives.old) }
-    ensures basis { OnOk result (D.basis derivatives.new ≡ D.basis derivatives.old) }
-    ensures kept { OnOk result (IsStateKept (D.reading derivatives.new) (D.basis derivatives.new).keys (D.trees derivatives.new) state.new) }
-    ensures ended { OnOk result (AddsState (EndsIf (D.reading derivatives.old) (EndsNow (D.reading derivatives.old))
+    ensures keeps { OnOk result (Keeps IsStateKept (D.basis derivatives.old) (D.basis derivatives.new) (D.trees derivatives.new) state.new) }
+    ensures ended { OnOk result (AddsState (EndsIf (reading_by (D.basis derivatives.old)) (EndsNow (reading_by (D.basis derivatives.old)))
         (state_of (D.trees derivatives.old) (open_state state.old))) (D.trees derivatives.old) (D.trees derivatives.new) (open_state state.new)) }
 {
     let good = which_end(derivatives, alloc, state.table.numbers(state.now))?;
@@ -71,11 +68,9 @@ pub fn after_elements<D: Derivatives>(
     alloc: Global,
     state: &mut State,
 ) -> Result<(), OutOfMemory>
-    requires { IsStateKept (D.reading derivatives.old) (D.basis derivatives.old).keys (D.trees derivatives.old) state.old }
-    ensures reading { OnOk result (D.reading derivatives.new ≡ D.reading derivatives.old) }
-    ensures basis { OnOk result (D.basis derivatives.new ≡ D.basis derivatives.old) }
-    ensures kept { OnOk result (IsStateKept (D.reading derivatives.new) (D.basis derivatives.new).keys (D.trees derivatives.new) state.new) }
-    ensures ended { OnOk result (AddsState (EndsIf (D.reading derivatives.old) (EndsNow (D.reading derivatives.old))
+    requires { HoldsBy IsStateKept (D.basis derivatives.old) (D.trees derivatives.old) state.old }
+    ensures keeps { OnOk result (Keeps IsStateKept (D.basis derivatives.old) (D.basis derivatives.new) (D.trees derivatives.new) state.new) }
+    ensures ended { OnOk result (AddsState (EndsIf (reading_by (D.basis derivatives.old)) (EndsNow (reading_by (D.basis derivatives.old)))
         (state_of (D.trees derivatives.old) (open_state state.old))) (D.trees derivatives.old) (D.trees derivatives.new) (open_state state.new)) }
 {
     let Some(step) = state.steps.pop() else {
@@ -92,15 +87,14 @@ fn after_carried_string<D: Derivatives>(
     state: &mut State,
     string: &Held,
 ) -> Result<(), OutOfMemory>
-    requires kept { IsStateKept (D.reading derivatives.old) (D.basis derivatives.old).keys (D.trees derivatives.old) state.old }
+    requires kept { HoldsBy IsStateKept (D.basis derivatives.old) (D.trees derivatives.old) state.old }
     requires steps { state.old.steps.items ≡ [] }
     requires string { IsHeldKept state.old.table state.old.now (Some string.now) }
-    ensures reading { OnOk result (D.reading derivatives.new ≡ D.reading derivatives.old) }
-    ensures basis { OnOk result (D.basis derivatives.new ≡ D.basis derivatives.old) }
-    ensures kept { OnOk result (IsStateKept (D.reading derivatives.new) (D.basis derivatives.new).keys (D.trees derivatives.new) state.new) }
-    ensures ended { OnOk result (AddsState (λ n. (t : List ℕ) → IsHeld (D.reading derivatives.old) (D.trees derivatives.old)
+    ensures keeps { OnOk result (Keeps IsStateKept (D.basis derivatives.old) (D.basis derivatives.new) (D.trees derivatives.new) state.new) }
+    ensures ended { OnOk result (AddsState (λ n. (t : List ℕ) → IsHeld (reading_by (D.basis derivatives.old)) (D.trees derivatives.old)
         (numbers_in (levels_in state.old.table) state.old.now.0) (Some (held_string state.old.table string.now)) t
-        → EndsIf (D.reading derivatives.old) (EndsWith (D.reading derivatives.old) t) (state_of (D.trees derivatives.old) (open_state state.old)) n)
+        → EndsIf (reading_by (D.basis derivatives.old)) (EndsWith (reading_by (D.basis derivatives.old)) t)
+        (state_of (D.trees derivatives.old) (open_state state.old)) n)
         (D.trees derivatives.old) (D.trees derivatives.new) (open_state state.new)) }
 {
     let good = which_end_with(
@@ -120,14 +114,13 @@ fn after_string<D: Derivatives>(
     state: &mut State,
     string: Held,
 ) -> Result<(), OutOfMemory>
-    requires kept { IsStateKept (D.reading derivatives.old) (D.basis derivatives.old).keys (D.trees derivatives.old) state.old }
+    requires kept { HoldsBy IsStateKept (D.basis derivatives.old) (D.trees derivatives.old) state.old }
     requires string { IsHeldKept state.old.table state.old.now (Some string) }
-    ensures reading { OnOk result (D.reading derivatives.new ≡ D.reading derivatives.old) }
-    ensures basis { OnOk result (D.basis derivatives.new ≡ D.basis derivatives.old) }
-    ensures kept { OnOk result (IsStateKept (D.reading derivatives.new) (D.basis derivatives.new).keys (D.trees derivatives.new) state.new) }
-    ensures ended { OnOk result (AddsState (λ n. (t : List ℕ) → IsHeld (D.reading derivatives.old) (D.trees derivatives.old)
+    ensures keeps { OnOk result (Keeps IsStateKept (D.basis derivatives.old) (D.basis derivatives.new) (D.trees derivatives.new) state.new) }
+    ensures ended { OnOk result (AddsState (λ n. (t : List ℕ) → IsHeld (reading_by (D.basis derivatives.old)) (D.trees derivatives.old)
         (numbers_in (levels_in state.old.table) state.old.now.0) (Some (held_string state.old.table string)) t
-        → EndsIf (D.reading derivatives.old) (EndsWith (D.reading derivatives.old) t) (state_of (D.trees derivatives.old) (open_state state.old)) n)
+        → EndsIf (reading_by (D.basis derivatives.old)) (EndsWith (reading_by (D.basis derivatives.old)) t)
+        (state_of (D.trees derivatives.old) (open_state state.old)) n)
         (D.trees derivatives.old) (D.trees derivatives.new) (open_state state.new)) }
 {
     let Some(step) = state.steps.pop() else {
@@ -149,14 +142,13 @@ pub fn after_lone_string<D: Derivatives>(
     state: &mut State,
     string: Option<Held>,
 ) -> Result<(), OutOfMemory>
-    requires state { IsStateKept (D.reading derivatives.old) (D.basis derivatives.old).keys (D.trees derivatives.old) state.old }
+    requires state { HoldsBy IsStateKept (D.basis derivatives.old) (D.trees derivatives.old) state.old }
     requires string { IsHeldKept state.old.table state.old.now string }
-    ensures reading { OnOk result (D.reading derivatives.new ≡ D.reading derivatives.old) }
-    ensures basis { OnOk result (D.basis derivatives.new ≡ D.basis derivatives.old) }
-    ensures kept { OnOk result (IsStateKept (D.reading derivatives.new) (D.basis derivatives.new).keys (D.trees derivatives.new) state.new) }
-    ensures ended { OnOk result (AddsState (λ n. (t : List ℕ) → IsHeld (D.reading derivatives.old) (D.trees derivatives.old)
+    ensures keeps { OnOk result (Keeps IsStateKept (D.basis derivatives.old) (D.basis derivatives.new) (D.trees derivatives.new) state.new) }
+    ensures ended { OnOk result (AddsState (λ n. (t : List ℕ) → IsHeld (reading_by (D.basis derivatives.old)) (D.trees derivatives.old)
         (numbers_in (levels_in state.old.table) state.old.now.0) (open_string state.old.table string) t
-        → EndsIf (D.reading derivatives.old) (EndsWith (D.reading derivatives.old) t) (state_of (D.trees derivatives.old) (open_state state.old)) n)
+        → EndsIf (reading_by (D.basis derivatives.old)) (EndsWith (reading_by (D.basis derivatives.old)) t)
+        (state_of (D.trees derivatives.old) (open_state state.old)) n)
         (D.trees derivatives.old) (D.trees derivatives.new) (open_state state.new)) }
 {
     let held = held_or_empty(derivatives, alloc, &mut state.table, state.now, string)?;

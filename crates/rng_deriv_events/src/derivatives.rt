@@ -9,8 +9,7 @@ ghost use Rattle.rng_model.specs.names.NameViews.{name_of};
 ghost use Rattle.rng_names.specs.plain.Keys.{key_of};
 ghost use Rattle.rng_deriv_laws.specs.plain.Derivatives as tree;
 ghost use Rattle.rng_deriv_laws.specs.plain.LevelStates.{IsAfterTag, IsAfterText};
-ghost use Rattle.rng_model.specs.matching.Reading.{Reading};
-ghost use Rattle.rng_deriv_events.specs.views.Basis.{Basis};
+ghost use Rattle.rng_deriv_events.specs.views.Basis.{Basis, reading_by};
 ghost use Rattle.rng_deriv_events.specs.views.Numbers.{Adds, AddsStarts, AreRenewed, IsChoiceOf, IsInside, Longer, tree_of};
 
 use crate::lists::Ways;
@@ -44,17 +43,14 @@ pub trait Derivatives {
     /// The tables of the grammar, and the keys of names.
     ghost basis: { Self → Basis };
 
-    /// The grammar, with the tests of texts.
-    ghost reading: { Self → Reading };
-
     /// The trees of the patterns, by number.
     ghost trees: { Self → List (Simple ℕ) };
 
     /// Returns the pattern that the root must match. Fails only if an earlier call ran out of memory.
     fn start(&self) -> Result<PatternNumber, OutOfMemory>
         ensures inside { IfOk result (IsInside (trees self.now)) }
-        ensures start { IfOk result (λ n. (ns : List Item) → Takes (reading self.now) (tree_of (trees self.now) n) [] ns
-            ↔ Takes (reading self.now) (reading self.now).grammar.start [] ns) };
+        ensures start { IfOk result (λ n. (ns : List Item) → Takes (reading_by (basis self.now)) (tree_of (trees self.now) n) [] ns
+            ↔ Takes (reading_by (basis self.now)) (reading_by (basis self.now)).grammar.start [] ns) };
 
     /// Returns whether the pattern needs no attribute and no item.
     fn is_nullable(&self, pattern: PatternNumber) -> bool
@@ -79,9 +75,8 @@ pub trait Derivatives {
         members: &[PatternNumber],
     ) -> Result<PatternNumber, OutOfMemory>
         requires { All (IsInside (trees self.old)) members.now }
-        ensures reading { OnOk result (reading self.new ≡ reading self.old) }
         ensures basis { OnOk result (basis self.new ≡ basis self.old) }
-        ensures choice { IfOk result (Adds (IsChoiceOf (reading self.old) (trees self.old) members.now) (trees self.old) (trees self.new)) };
+        ensures choice { IfOk result (Adds (IsChoiceOf (reading_by (basis self.old)) (trees self.old) members.now) (trees self.old) (trees self.new)) };
 
     /// Returns what is left of the pattern after a string. Fails only when out of memory.
     fn after_text(
@@ -91,10 +86,9 @@ pub trait Derivatives {
         text: &str,
     ) -> Result<PatternNumber, OutOfMemory>
         requires { IsInside (trees self.old) pattern }
-        ensures reading { OnOk result (reading self.new ≡ reading self.old) }
         ensures basis { OnOk result (basis self.new ≡ basis self.old) }
         ensures after { IfOk result
-            (Adds (IsAfterText (reading self.old) text.now (tree_of (trees self.old) pattern)) (trees self.old) (trees self.new)) };
+            (Adds (IsAfterText (reading_by (basis self.old)) text.now (tree_of (trees self.old) pattern)) (trees self.old) (trees self.new)) };
 
     /// Returns what is left of the body of an element after the attributes of its tag. Fails only when out of memory.
     fn after_tag(
@@ -104,10 +98,9 @@ pub trait Derivatives {
         attrs: &[Attr],
     ) -> Result<PatternNumber, OutOfMemory>
         requires { IsInside (trees self.old) body }
-        ensures reading { OnOk result (reading self.new ≡ reading self.old) }
         ensures basis { OnOk result (basis self.new ≡ basis self.old) }
         ensures after { IfOk result
-            (Adds (IsAfterTag (reading self.old) (map attribute_of attrs.now) (tree_of (trees self.old) body)) (trees self.old) (trees self.new)) };
+            (Adds (IsAfterTag (reading_by (basis self.old)) (map attribute_of attrs.now) (tree_of (trees self.old) body)) (trees self.old) (trees self.new)) };
 
     /// Returns the key of a name. What is left of a pattern after a start depends on the key alone. Allocates nothing.
     fn key(&self, name: &Name) -> NameKey
@@ -128,11 +121,10 @@ pub trait Derivatives {
     ) -> Result<Ways, OutOfMemory>
         requires inside { IsInside (trees self.old) pattern }
         requires key { key.0 < length (basis self.old).keys.names }
-        ensures reading { OnOk result (reading self.new ≡ reading self.old) }
         ensures basis { OnOk result (basis self.new ≡ basis self.old) }
         ensures longer { OnOk result (Longer (trees self.old) (trees self.new)) }
         ensures starts { IfOk result (λ ways. (q : names.Name) → key_of (basis self.old).keys q ≡ key.0
-            → AddsStarts (reading self.old) q (trees self.old) (trees self.new) (tree_of (trees self.old) pattern) ways.items) };
+            → AddsStarts (reading_by (basis self.old)) q (trees self.old) (trees self.new) (tree_of (trees self.old) pattern) ways.items) };
 
     /// Returns whether there are so many patterns that the ones that nobody holds should be freed. Allocates nothing.
     ///
@@ -148,7 +140,6 @@ pub trait Derivatives {
         held: &[PatternNumber],
     ) -> Result<Vec<PatternNumber>, OutOfMemory>
         requires { All (IsInside (trees self.old)) held.now }
-        ensures reading { OnOk result (reading self.new ≡ reading self.old) }
         ensures basis { OnOk result (basis self.new ≡ basis self.old) }
         ensures kept { IfOk result (λ numbers. AreRenewed (trees self.old) (trees self.new) held.now numbers.items) };
 }

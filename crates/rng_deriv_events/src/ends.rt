@@ -3,6 +3,7 @@ ghost use Rattle.std.specs.Prelude.{◌≡◌, ◌↔◌, ◌<◌, ◌||◌, ◌
 ghost use Rattle.std.specs.List.{AllZip, list_any};
 ghost use Rattle.rng_deriv_laws.specs.plain.LevelStates.{EndsNow};
 ghost use Rattle.rng_deriv_laws.specs.plain.Derivatives.{is_nullable};
+ghost use Rattle.rng_deriv_events.specs.views.Basis.{reading_by};
 ghost use Rattle.rng_deriv_events.specs.views.Levels.{AddsEnded, AreEndsWith, IsOnlyRest, IsRestWithin, LeavesBy};
 ghost use Rattle.rng_deriv_events.specs.views.Numbers.{Adds, IsChoiceOf, IsInside, tree_of};
 
@@ -21,7 +22,7 @@ pub fn which_end<D: Derivatives>(
     now: &[PatternNumber],
 ) -> Result<Tests, OutOfMemory>
     requires { All (IsInside (D.trees derivatives.now)) now.now }
-    ensures { IfOk result (λ good. AllZip (λ p b. (b ≡ true) ↔ EndsNow (D.reading derivatives.now) p)
+    ensures { IfOk result (λ good. AllZip (λ p b. (b ≡ true) ↔ EndsNow (reading_by (D.basis derivatives.now)) p)
         (map (tree_of (D.trees derivatives.now)) now.now) good.items) }
 {
     let mut good = SmallVec::new(alloc);
@@ -70,7 +71,7 @@ pub fn which_end_with<D: Derivatives>(
     requires now { All (IsInside (D.trees derivatives.now)) now.now }
     requires after { All (IsInside (D.trees derivatives.now)) after.now }
     requires count { length now.now ≡ length after.now }
-    ensures { IfOk result (λ good. AreEndsWith (D.reading derivatives.now) (D.trees derivatives.now) now.now after.now blank now.now good.items) }
+    ensures { IfOk result (λ good. AreEndsWith (reading_by (D.basis derivatives.now)) (D.trees derivatives.now) now.now after.now blank now.now good.items) }
 {
     let mut good = SmallVec::new(alloc);
     'alternatives: for (place, pattern) in now.iter().enumerate() {
@@ -95,9 +96,8 @@ fn joined<D: Derivatives>(
 ) -> Result<PatternNumber, OutOfMemory>
     requires first { IsInside (D.trees derivatives.old) first }
     requires second { IsInside (D.trees derivatives.old) second }
-    ensures reading { OnOk result (D.reading derivatives.new ≡ D.reading derivatives.old) }
     ensures basis { OnOk result (D.basis derivatives.new ≡ D.basis derivatives.old) }
-    ensures choice { IfOk result (Adds (IsChoiceOf (D.reading derivatives.old) (D.trees derivatives.old) (first ∷ second ∷ []))
+    ensures choice { IfOk result (Adds (IsChoiceOf (reading_by (D.basis derivatives.old)) (D.trees derivatives.old) (first ∷ second ∷ []))
         (D.trees derivatives.old) (D.trees derivatives.new)) }
 {
     if derivatives.is_not_allowed(first) {
@@ -117,9 +117,8 @@ fn leave<D: Derivatives>(
 ) -> Result<(), OutOfMemory>
     requires outside { All (IsInside (D.trees derivatives.old)) outside.old.items }
     requires link { IsRestWithin (D.trees derivatives.old) (length outside.old.items) link }
-    ensures reading { OnOk result (D.reading derivatives.new ≡ D.reading derivatives.old) }
     ensures basis { OnOk result (D.basis derivatives.new ≡ D.basis derivatives.old) }
-    ensures leaves { OnOk result (LeavesBy (D.reading derivatives.old) good.now (D.trees derivatives.old) (D.trees derivatives.new) link
+    ensures leaves { OnOk result (LeavesBy (reading_by (D.basis derivatives.old)) good.now (D.trees derivatives.old) (D.trees derivatives.new) link
         outside.old.items outside.new.items) }
 {
     if !is_good(good, link.inner) {
@@ -155,9 +154,8 @@ pub fn ended<D: Derivatives>(
     around: usize,
 ) -> Result<Numbers, OutOfMemory>
     requires { All (IsRestWithin (D.trees derivatives.old) around) links.now }
-    ensures reading { OnOk result (D.reading derivatives.new ≡ D.reading derivatives.old) }
     ensures basis { OnOk result (D.basis derivatives.new ≡ D.basis derivatives.old) }
-    ensures ended { IfOk result (λ outside. AddsEnded (D.reading derivatives.old) good.now around (D.trees derivatives.old)
+    ensures ended { IfOk result (λ outside. AddsEnded (reading_by (D.basis derivatives.old)) good.now around (D.trees derivatives.old)
         (D.trees derivatives.new) links.now outside.items) }
 {
     if let Some(rest) = only_rest(good, links, around) {

@@ -3,6 +3,7 @@ ghost use Rattle.std.specs.Prelude.{◌≡◌, ℕ, List, [], ◌∷◌, ◌++�
 ghost use Rattle.rng_names.specs.plain.Keys.{Keys};
 ghost use Rattle.rng_model.specs.simple.Tree.{Simple};
 ghost use Rattle.rng_model.specs.matching.Reading.{Reading};
+ghost use Rattle.rng_deriv_events.specs.views.Basis.{HoldsBy, reading_by};
 ghost use Rattle.rng_deriv_events.specs.views.KeptLevels.{AreKept};
 ghost use Rattle.rng_model.specs.documents.EventView.{event_of};
 ghost use Rattle.rng_model.specs.documents.PyxTrees as trees;
@@ -36,13 +37,14 @@ pub struct EventMatcher<D: Derivatives + Drop> {
 
 impl<D: Derivatives + Drop> Model for EventMatcher<D> {
     ghost use Rattle.rng_deriv_events.specs.declared.progress.Progress.{Progress};
+    ghost use Rattle.rng_deriv_events.specs.views.Basis.{HoldsBy};
     ghost use Rattle.rng_deriv_events.specs.views.Positions.{IsProgressInside};
 
     ghost Value = { D × Progress };
 
     ghost view = { λ m. (m.derivatives, m.progress) };
 
-    ghost invariant = { λ m. IsProgressInside (D.reading m.derivatives) (D.basis m.derivatives).keys (D.trees m.derivatives) m.progress };
+    ghost invariant = { λ m. HoldsBy IsProgressInside (D.basis m.derivatives) (D.trees m.derivatives) m.progress };
 }
 
 /// Returns what is kept of levels, or an empty table if nothing is kept.
@@ -64,7 +66,7 @@ impl<D: Derivatives + Drop> EventMatcher<D> {
     /// is out of memory.
     pub fn new(alloc: Global, derivatives: D) -> Result<Self, OutOfMemory>
         ensures derivatives { IfOk result (λ m. m.0 ≡ derivatives) }
-        ensures known { IfOk result (λ m. IsKnown (D.reading m.0) (D.trees m.0) m.1 []) }
+        ensures known { IfOk result (λ m. IsKnown (reading_by (D.basis m.0)) (D.trees m.0) m.1 []) }
         ensures kept { IfOk result (λ m. ¬ (IsLost m.1)) }
     {
         let nothing = LevelTable::new(alloc, 0);
@@ -74,9 +76,9 @@ impl<D: Derivatives + Drop> EventMatcher<D> {
     /// Creates a matcher that has had no event yet, with what is kept of levels. Fails only when this call, or an
     /// earlier call of the derivatives, is out of memory.
     fn with_table(alloc: Global, derivatives: D, mut table: LevelTable) -> Result<Self, OutOfMemory>
-        requires { AreKept (D.reading derivatives) (D.basis derivatives).keys (D.trees derivatives) table }
+        requires { HoldsBy AreKept (D.basis derivatives) (D.trees derivatives) table }
         ensures derivatives { IfOk result (λ m. m.0 ≡ derivatives) }
-        ensures known { IfOk result (λ m. IsKnown (D.reading m.0) (D.trees m.0) m.1 []) }
+        ensures known { IfOk result (λ m. IsKnown (reading_by (D.basis m.0)) (D.trees m.0) m.1 []) }
         ensures kept { IfOk result (λ m. ¬ (IsLost m.1)) }
     {
         let start = derivatives.start()?;
@@ -104,7 +106,7 @@ impl<D: Derivatives + Drop> EventMatcher<D> {
     /// one, is out of memory.
     pub fn begin_anew(self) -> Result<Self, OutOfMemory>
         ensures derivatives { IfOk result (λ m. m.0 ≡ self.0) }
-        ensures known { IfOk result (λ m. IsKnown (D.reading m.0) (D.trees m.0) m.1 []) }
+        ensures known { IfOk result (λ m. IsKnown (reading_by (D.basis m.0)) (D.trees m.0) m.1 []) }
         ensures kept { IfOk result (λ m. ¬ (IsLost m.1)) }
     {
         let EventMatcher {
@@ -118,7 +120,7 @@ impl<D: Derivatives + Drop> EventMatcher<D> {
 
     /// Creates a matcher with these derivatives and this progress.
     pub fn of_parts(alloc: Global, derivatives: D, progress: Progress) -> Self
-        requires { IsProgressInside (D.reading derivatives) (D.basis derivatives).keys (D.trees derivatives) progress }
+        requires { HoldsBy IsProgressInside (D.basis derivatives) (D.trees derivatives) progress }
         ensures { result ≡ (derivatives, progress) }
     {
         EventMatcher {
@@ -131,7 +133,7 @@ impl<D: Derivatives + Drop> EventMatcher<D> {
     /// Returns the derivatives, and what is known of the document.
     pub fn into_parts(self) -> (D, Progress)
         ensures parts { result ≡ self }
-        ensures inside { IsProgressInside (D.reading result.0) (D.basis result.0).keys (D.trees result.0) result.1 }
+        ensures inside { HoldsBy IsProgressInside (D.basis result.0) (D.trees result.0) result.1 }
     {
         (self.derivatives, self.progress)
     }
@@ -140,7 +142,7 @@ impl<D: Derivatives + Drop> EventMatcher<D> {
     /// memory.
     pub fn outcome(&self) -> Result<Outcome, OutOfMemory>
         ensures outcome { IfOk result (λ o. (bytes : List ℕ) (d : Placed) → IsPyxDocument bytes d
-            → IsKnown (D.reading self.now.0) (D.trees self.now.0) self.now.1 (events_of d) → IsOutcome (D.reading self.now.0) d o) }
+            → IsKnown (reading_by (D.basis self.now.0)) (D.trees self.now.0) self.now.1 (events_of d) → IsOutcome (reading_by (D.basis self.now.0)) d o) }
         ensures failed { (line : ℕ) → IsFailed line self.now.1 → IfOk result (λ o. o ≡ Outcome.Invalid line) }
         ensures lost { OnErr result (IsLost self.now.1) }
         ensures again { IsLost self.now.1 → IsErr result }
@@ -163,9 +165,8 @@ impl<D: Derivatives + Drop> EventMatcher<D> {
     /// Takes the next event. Fails only when out of memory, and always after a call that ran out of memory.
     pub fn take(&mut self, event: Event<'_>) -> Result<(), OutOfMemory>
         ensures basis { OnOk result (D.basis self.new.0 ≡ D.basis self.old.0) }
-        ensures reading { OnOk result (D.reading self.new.0 ≡ D.reading self.old.0) }
-        ensures known { OnOk result ((events : List trees.Event) → IsKnown (D.reading self.old.0) (D.trees self.old.0) self.old.1 events
-            → IsKnown (D.reading self.new.0) (D.trees self.new.0) self.new.1 (events ++ event_of event.entry ∷ [])) }
+        ensures known { OnOk result ((events : List trees.Event) → IsKnown (reading_by (D.basis self.old.0)) (D.trees self.old.0) self.old.1 events
+            → IsKnown (reading_by (D.basis self.new.0)) (D.trees self.new.0) self.new.1 (events ++ event_of event.entry ∷ [])) }
         ensures failed { (line : ℕ) → IsFailed line self.old.1 → OnOk result (IsFailed line self.new.1) }
         ensures kept { OnOk result (¬ (IsLost self.new.1)) }
         ensures lost { OnErr result (IsLost self.new.1) }

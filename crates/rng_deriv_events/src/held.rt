@@ -1,6 +1,7 @@
 // Strings that may still turn out to be only children.
 ghost use Rattle.std.specs.Prelude.{◌≡◌, ◌<◌, ℕ, List, [], Some, IfOk, OnOk, length};
 ghost use Rattle.rng_model.specs.datatypes.Texts.{is_blank};
+ghost use Rattle.rng_deriv_events.specs.views.Basis.{HoldsBy, Keeps, reading_by};
 ghost use Rattle.rng_deriv_events.specs.views.LevelTable.{levels_in, numbers_in};
 ghost use Rattle.rng_deriv_events.specs.views.KeptLevels.{AddsLevels, AreKept};
 ghost use Rattle.rng_deriv_events.specs.views.OpenPositions.{IsHeldKept, held_string, open_string};
@@ -43,13 +44,11 @@ pub fn hold<D: Derivatives>(
     now: LevelNumber,
     text: &str,
 ) -> Result<Held, OutOfMemory>
-    requires kept { AreKept (D.reading derivatives.old) (D.basis derivatives.old).keys (D.trees derivatives.old) table.old }
+    requires kept { HoldsBy AreKept (D.basis derivatives.old) (D.trees derivatives.old) table.old }
     requires now { now.0 < length (levels_in table.old) }
-    ensures reading { OnOk result (D.reading derivatives.new ≡ D.reading derivatives.old) }
-    ensures basis { OnOk result (D.basis derivatives.new ≡ D.basis derivatives.old) }
-    ensures adds { OnOk result (AddsLevels (D.reading derivatives.new) (D.basis derivatives.new).keys (D.trees derivatives.new) table.old table.new) }
+    ensures keeps { OnOk result (Keeps (AddsLevels table.old) (D.basis derivatives.old) (D.basis derivatives.new) (D.trees derivatives.new) table.new) }
     ensures inside { IfOk result (λ h. IsHeldKept table.new now (Some h)) }
-    ensures held { IfOk result (λ h. AddsHeld (λ s. s ≡ text.now) (D.reading derivatives.old) (D.trees derivatives.old)
+    ensures held { IfOk result (λ h. AddsHeld (λ s. s ≡ text.now) (reading_by (D.basis derivatives.old)) (D.trees derivatives.old)
         (D.trees derivatives.new) (numbers_in (levels_in table.old) now.0) (held_string table.new h)) }
 {
     let after = level_after_text(derivatives, alloc, table, now, text)?;
@@ -67,15 +66,13 @@ pub fn held_or_empty<D: Derivatives>(
     now: LevelNumber,
     string: Option<Held>,
 ) -> Result<Held, OutOfMemory>
-    requires kept { AreKept (D.reading derivatives.old) (D.basis derivatives.old).keys (D.trees derivatives.old) table.old }
+    requires kept { HoldsBy AreKept (D.basis derivatives.old) (D.trees derivatives.old) table.old }
     requires now { now.0 < length (levels_in table.old) }
     requires string { IsHeldKept table.old now string }
-    ensures reading { OnOk result (D.reading derivatives.new ≡ D.reading derivatives.old) }
-    ensures basis { OnOk result (D.basis derivatives.new ≡ D.basis derivatives.old) }
-    ensures adds { OnOk result (AddsLevels (D.reading derivatives.new) (D.basis derivatives.new).keys (D.trees derivatives.new) table.old table.new) }
+    ensures keeps { OnOk result (Keeps (AddsLevels table.old) (D.basis derivatives.old) (D.basis derivatives.new) (D.trees derivatives.new) table.new) }
     ensures inside { IfOk result (λ h. IsHeldKept table.new now (Some h)) }
-    ensures held { IfOk result (λ h. AddsHeld (IsHeld (D.reading derivatives.old) (D.trees derivatives.old) (numbers_in (levels_in table.old) now.0)
-        (open_string table.old string)) (D.reading derivatives.old) (D.trees derivatives.old) (D.trees derivatives.new)
+    ensures held { IfOk result (λ h. AddsHeld (IsHeld (reading_by (D.basis derivatives.old)) (D.trees derivatives.old) (numbers_in (levels_in table.old) now.0)
+        (open_string table.old string)) (reading_by (D.basis derivatives.old)) (D.trees derivatives.old) (D.trees derivatives.new)
         (numbers_in (levels_in table.old) now.0) (held_string table.new h)) }
 {
     match string {

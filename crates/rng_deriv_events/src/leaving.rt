@@ -2,6 +2,7 @@
 ghost use Rattle.std.specs.Prelude.{◌≡◌, ◌<◌, ℕ, List, All, Bool, IfOk, IfSome, OnOk, Some, length, slice_get, true};
 ghost use Rattle.rng_model.specs.simple.Tree.{Simple};
 ghost use Rattle.rng_deriv_laws.specs.plain.LevelStates.{EndsNow, EndsWith};
+ghost use Rattle.rng_deriv_events.specs.views.Basis.{HoldsBy, Keeps, reading_by};
 ghost use Rattle.rng_deriv_events.specs.plain.Bits.{bits_of};
 ghost use Rattle.rng_deriv_events.specs.views.LevelTable.{IsEndAt, ends_in, levels_in, numbers_in, steps_in};
 ghost use Rattle.rng_deriv_events.specs.declared.level_table.step.Step.{Step};
@@ -26,13 +27,11 @@ fn left_anew<D: Derivatives>(
     step: StepNumber,
     good: &[bool],
 ) -> Result<LevelNumber, OutOfMemory>
-    requires kept { AreKept (D.reading derivatives.old) (D.basis derivatives.old).keys (D.trees derivatives.old) table.old }
+    requires kept { HoldsBy AreKept (D.basis derivatives.old) (D.trees derivatives.old) table.old }
     requires step { step.0 < length (steps_in table.old) }
-    ensures reading { OnOk result (D.reading derivatives.new ≡ D.reading derivatives.old) }
-    ensures basis { OnOk result (D.basis derivatives.new ≡ D.basis derivatives.old) }
-    ensures adds { OnOk result (AddsLevels (D.reading derivatives.new) (D.basis derivatives.new).keys (D.trees derivatives.new) table.old table.new) }
+    ensures keeps { OnOk result (Keeps (AddsLevels table.old) (D.basis derivatives.old) (D.basis derivatives.new) (D.trees derivatives.new) table.new) }
     ensures ended { IfOk result (λ m. (s : Step) → slice_get (steps_in table.old) step.0 ≡ Some s
-        → AddsEndedLevel (D.reading derivatives.old) good.now (D.trees derivatives.old) (D.trees derivatives.new) s table.new m) }
+        → AddsEndedLevel (reading_by (D.basis derivatives.old)) good.now (D.trees derivatives.old) (D.trees derivatives.new) s table.new m) }
 {
     let step = table.step(step);
     let numbers = ended(derivatives, alloc, good, step.links.as_slice(), step.around)?;
@@ -48,13 +47,11 @@ fn left_by<D: Derivatives>(
     step: StepNumber,
     good: &[bool],
 ) -> Result<LevelNumber, OutOfMemory>
-    requires kept { AreKept (D.reading derivatives.old) (D.basis derivatives.old).keys (D.trees derivatives.old) table.old }
+    requires kept { HoldsBy AreKept (D.basis derivatives.old) (D.trees derivatives.old) table.old }
     requires step { step.0 < length (steps_in table.old) }
-    ensures reading { OnOk result (D.reading derivatives.new ≡ D.reading derivatives.old) }
-    ensures basis { OnOk result (D.basis derivatives.new ≡ D.basis derivatives.old) }
-    ensures adds { OnOk result (AddsLevels (D.reading derivatives.new) (D.basis derivatives.new).keys (D.trees derivatives.new) table.old table.new) }
+    ensures keeps { OnOk result (Keeps (AddsLevels table.old) (D.basis derivatives.old) (D.basis derivatives.new) (D.trees derivatives.new) table.new) }
     ensures ended { IfOk result (λ m. (s : Step) → slice_get (steps_in table.old) step.0 ≡ Some s
-        → AddsEndedLevel (D.reading derivatives.old) good.now (D.trees derivatives.old) (D.trees derivatives.new) s table.new m) }
+        → AddsEndedLevel (reading_by (D.basis derivatives.old)) good.now (D.trees derivatives.old) (D.trees derivatives.new) s table.new m) }
 {
     let Some(bits) = bits_of(good) else {
         return left_anew(derivatives, alloc, table, step, good);
@@ -91,15 +88,13 @@ pub fn left_after_elements<D: Derivatives>(
     step: StepNumber,
     now: LevelNumber,
 ) -> Result<LevelNumber, OutOfMemory>
-    requires kept { AreKept (D.reading derivatives.old) (D.basis derivatives.old).keys (D.trees derivatives.old) table.old }
+    requires kept { HoldsBy AreKept (D.basis derivatives.old) (D.trees derivatives.old) table.old }
     requires step { step.0 < length (steps_in table.old) }
     requires now { now.0 < length (levels_in table.old) }
-    ensures reading { OnOk result (D.reading derivatives.new ≡ D.reading derivatives.old) }
-    ensures basis { OnOk result (D.basis derivatives.new ≡ D.basis derivatives.old) }
-    ensures adds { OnOk result (AddsLevels (D.reading derivatives.new) (D.basis derivatives.new).keys (D.trees derivatives.new) table.old table.new) }
+    ensures keeps { OnOk result (Keeps (AddsLevels table.old) (D.basis derivatives.old) (D.basis derivatives.new) (D.trees derivatives.new) table.new) }
     ensures outside { IfOk result (λ m. (s : Step) → slice_get (steps_in table.old) step.0 ≡ Some s
-        → AddsOutside (D.reading derivatives.old) (EndsNow (D.reading derivatives.old)) (D.trees derivatives.old) (D.trees derivatives.new)
-        (numbers_in (levels_in table.old) now.0) s table.new m) }
+        → AddsOutside (reading_by (D.basis derivatives.old)) (EndsNow (reading_by (D.basis derivatives.old)))
+        (D.trees derivatives.old) (D.trees derivatives.new) (numbers_in (levels_in table.old) now.0) s table.new m) }
 {
     let good = table.level(now).good;
     if let Some(outside) = known_end(table, step, good) {
@@ -165,20 +160,18 @@ pub fn left_after_string<D: Derivatives>(
     step: StepNumber,
     content: &Content,
 ) -> Result<LevelNumber, OutOfMemory>
-    requires kept { AreKept (D.reading derivatives.old) (D.basis derivatives.old).keys (D.trees derivatives.old) table.old }
+    requires kept { HoldsBy AreKept (D.basis derivatives.old) (D.trees derivatives.old) table.old }
     requires step { step.0 < length (steps_in table.old) }
     requires now { content.now.level.0 < length (levels_in table.old) }
     requires string { IsHeldKept table.old content.now.level (Some content.now.string) }
-    ensures reading { OnOk result (D.reading derivatives.new ≡ D.reading derivatives.old) }
-    ensures basis { OnOk result (D.basis derivatives.new ≡ D.basis derivatives.old) }
-    ensures adds { OnOk result (AddsLevels (D.reading derivatives.new) (D.basis derivatives.new).keys (D.trees derivatives.new) table.old table.new) }
+    ensures keeps { OnOk result (Keeps (AddsLevels table.old) (D.basis derivatives.old) (D.basis derivatives.new) (D.trees derivatives.new) table.new) }
     ensures longer { OnOk result (Longer (D.trees derivatives.old) (D.trees derivatives.new)) }
     ensures there { IfOk result (λ m. m.0 < length (levels_in table.new)) }
     ensures outside { IfOk result (λ m. (s : Step) (t : List ℕ) → slice_get (steps_in table.old) step.0 ≡ Some s
-        → IsHeld (D.reading derivatives.old) (D.trees derivatives.old) (numbers_in (levels_in table.old) content.now.level.0)
+        → IsHeld (reading_by (D.basis derivatives.old)) (D.trees derivatives.old) (numbers_in (levels_in table.old) content.now.level.0)
         (Some (held_string table.old content.now.string)) t
-        → AddsOutside (D.reading derivatives.old) (EndsWith (D.reading derivatives.old) t) (D.trees derivatives.old) (D.trees derivatives.new)
-        (numbers_in (levels_in table.old) content.now.level.0) s table.new m) }
+        → AddsOutside (reading_by (D.basis derivatives.old)) (EndsWith (reading_by (D.basis derivatives.old)) t)
+        (D.trees derivatives.old) (D.trees derivatives.new) (numbers_in (levels_in table.old) content.now.level.0) s table.new m) }
 {
     let good = bits_with(table, content);
     if let Some(outside) = known_end(table, step, good) {

@@ -2,6 +2,7 @@
 ghost use Rattle.std.specs.Prelude.{◌≡◌, ◌++◌, ◌<◌, ◌≤◌, [], ℕ, All, List, OnOk, drop, length, map, take};
 ghost use Rattle.std.specs.List.{AllZip};
 ghost use Rattle.rng_model.specs.simple.Tree.{Simple};
+ghost use Rattle.rng_deriv_events.specs.views.Basis.{HoldsBy, Keeps};
 ghost use Rattle.rng_deriv_events.specs.views.LevelTable.{steps_in};
 ghost use Rattle.rng_deriv_events.specs.declared.level_table.step.StepNumber.{StepNumber};
 ghost use Rattle.rng_deriv_events.specs.views.LevelRenewal.{AreWaysRenewed, IsPositionRenewed, IsRenewed, IsStateRenewed, rests_in, rests_of, with_rests};
@@ -91,11 +92,9 @@ fn renew_carried<D: Derivatives>(
     alloc: Global,
     state: &mut State,
 ) -> Result<(), OutOfMemory>
-    requires kept { IsStateKept (D.reading derivatives.old) (D.basis derivatives.old).keys (D.trees derivatives.old) state.old }
+    requires kept { HoldsBy IsStateKept (D.basis derivatives.old) (D.trees derivatives.old) state.old }
     requires steps { state.old.steps.items ≡ [] }
-    ensures reading { OnOk result (D.reading derivatives.new ≡ D.reading derivatives.old) }
-    ensures basis { OnOk result (D.basis derivatives.new ≡ D.basis derivatives.old) }
-    ensures kept { OnOk result (IsStateKept (D.reading derivatives.new) (D.basis derivatives.new).keys (D.trees derivatives.new) state.new) }
+    ensures keeps { OnOk result (Keeps IsStateKept (D.basis derivatives.old) (D.basis derivatives.new) (D.trees derivatives.new) state.new) }
     ensures renewed { OnOk result (IsStateRenewed (D.trees derivatives.old) (D.trees derivatives.new) (open_state state.old) (open_state state.new)) }
 {
     let now = state.table.numbers(state.now);
@@ -118,10 +117,8 @@ fn renew_state<D: Derivatives>(
     alloc: Global,
     state: &mut State,
 ) -> Result<(), OutOfMemory>
-    requires { IsStateKept (D.reading derivatives.old) (D.basis derivatives.old).keys (D.trees derivatives.old) state.old }
-    ensures reading { OnOk result (D.reading derivatives.new ≡ D.reading derivatives.old) }
-    ensures basis { OnOk result (D.basis derivatives.new ≡ D.basis derivatives.old) }
-    ensures kept { OnOk result (IsStateKept (D.reading derivatives.new) (D.basis derivatives.new).keys (D.trees derivatives.new) state.new) }
+    requires { HoldsBy IsStateKept (D.basis derivatives.old) (D.trees derivatives.old) state.old }
+    ensures keeps { OnOk result (Keeps IsStateKept (D.basis derivatives.old) (D.basis derivatives.new) (D.trees derivatives.new) state.new) }
     ensures renewed { OnOk result (IsStateRenewed (D.trees derivatives.old) (D.trees derivatives.new) (open_state state.old) (open_state state.new)) }
 {
     carry(
@@ -144,10 +141,8 @@ pub fn renew<D: Derivatives>(
     alloc: Global,
     position: &mut Position,
 ) -> Result<(), OutOfMemory>
-    requires { IsPositionKept (D.reading derivatives.old) (D.basis derivatives.old).keys (D.trees derivatives.old) position.old }
-    ensures reading { OnOk result (D.reading derivatives.new ≡ D.reading derivatives.old) }
-    ensures basis { OnOk result (D.basis derivatives.new ≡ D.basis derivatives.old) }
-    ensures kept { OnOk result (IsPositionKept (D.reading derivatives.new) (D.basis derivatives.new).keys (D.trees derivatives.new) position.new) }
+    requires { HoldsBy IsPositionKept (D.basis derivatives.old) (D.trees derivatives.old) position.old }
+    ensures keeps { OnOk result (Keeps IsPositionKept (D.basis derivatives.old) (D.basis derivatives.new) (D.trees derivatives.new) position.new) }
     ensures renewed { OnOk result (IsPositionRenewed (D.trees derivatives.old) (D.trees derivatives.new) (open_position position.old)
         (open_position position.new)) }
 {

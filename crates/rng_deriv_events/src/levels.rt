@@ -2,6 +2,7 @@
 ghost use Rattle.std.specs.Prelude.{◌≡◌, All, IfOk, OnOk, map};
 ghost use Rattle.rng_model.specs.documents.DocumentViews.{attribute_of};
 ghost use Rattle.rng_deriv_laws.specs.plain.LevelStates.{IsAfterTag, IsAfterText};
+ghost use Rattle.rng_deriv_events.specs.views.Basis.{reading_by};
 ghost use Rattle.rng_deriv_events.specs.views.Numbers.{AddsEach, IsInside};
 
 use crate::derivatives::Derivatives;
@@ -19,9 +20,8 @@ pub fn entered<D: Derivatives>(
     attrs: &[Attr],
 ) -> Result<Numbers, OutOfMemory>
     requires { All (IsInside (D.trees derivatives.old)) bodies.now }
-    ensures reading { OnOk result (D.reading derivatives.new ≡ D.reading derivatives.old) }
     ensures basis { OnOk result (D.basis derivatives.new ≡ D.basis derivatives.old) }
-    ensures entered { IfOk result (λ all. AddsEach (IsAfterTag (D.reading derivatives.old) (map attribute_of attrs.now))
+    ensures entered { IfOk result (λ all. AddsEach (IsAfterTag (reading_by (D.basis derivatives.old)) (map attribute_of attrs.now))
         (D.trees derivatives.old) (D.trees derivatives.new) bodies.now all.items) }
 {
     let mut entered = SmallVec::new(alloc);
@@ -39,9 +39,8 @@ pub fn after_string<D: Derivatives>(
     text: &str,
 ) -> Result<Numbers, OutOfMemory>
     requires { All (IsInside (D.trees derivatives.old)) patterns.now }
-    ensures reading { OnOk result (D.reading derivatives.new ≡ D.reading derivatives.old) }
     ensures basis { OnOk result (D.basis derivatives.new ≡ D.basis derivatives.old) }
-    ensures after { IfOk result (λ all. AddsEach (IsAfterText (D.reading derivatives.old) text.now)
+    ensures after { IfOk result (λ all. AddsEach (IsAfterText (reading_by (D.basis derivatives.old)) text.now)
         (D.trees derivatives.old) (D.trees derivatives.new) patterns.now all.items) }
 {
     let mut after = SmallVec::new(alloc);

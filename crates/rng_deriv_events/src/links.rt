@@ -2,6 +2,7 @@
 ghost use Rattle.std.specs.Prelude.{◌≡◌, ◌⊎◌, ◌<◌, ◌++◌, ◌∷◌, [], All, IfOk, OnOk, Some, length, slice_get};
 ghost use Rattle.rng_model.specs.names.Names as names;
 ghost use Rattle.rng_names.specs.plain.Keys.{key_of};
+ghost use Rattle.rng_deriv_events.specs.views.Basis.{reading_by};
 ghost use Rattle.rng_deriv_events.specs.views.Levels.{AddsLinks, AddsOpened};
 ghost use Rattle.rng_deriv_events.specs.views.Numbers.{IsInside, Longer};
 
@@ -64,11 +65,10 @@ pub fn started<D: Derivatives>(
 ) -> Result<Opened, OutOfMemory>
     requires now { All (IsInside (D.trees derivatives.old)) now.now }
     requires key { key.0 < length (D.basis derivatives.old).keys.names }
-    ensures reading { OnOk result (D.reading derivatives.new ≡ D.reading derivatives.old) }
     ensures basis { OnOk result (D.basis derivatives.new ≡ D.basis derivatives.old) }
     ensures longer { OnOk result (Longer (D.trees derivatives.old) (D.trees derivatives.new)) }
     ensures opened { IfOk result (λ o. (q : names.Name) → key_of (D.basis derivatives.old).keys q ≡ key.0
-        → AddsOpened (D.reading derivatives.old) q (D.trees derivatives.old) (D.trees derivatives.new) now.now o.bodies.items o.links.items) }
+        → AddsOpened (reading_by (D.basis derivatives.old)) q (D.trees derivatives.old) (D.trees derivatives.new) now.now o.bodies.items o.links.items) }
 {
     let mut bodies = SmallVec::new(alloc);
     let mut links = SmallVec::new(alloc);

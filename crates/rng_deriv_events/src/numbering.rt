@@ -4,6 +4,7 @@ ghost use Rattle.std.specs.List.{list_all, list_any};
 ghost use Rattle.rng_model.specs.documents.DocumentViews.{attribute_of};
 ghost use Rattle.rng_deriv_laws.specs.plain.Derivatives.{has_data, is_not_allowed};
 ghost use Rattle.rng_deriv_laws.specs.plain.LevelStates.{IsAfterTag, IsAfterText};
+ghost use Rattle.rng_deriv_events.specs.views.Basis.{HoldsBy, Keeps, reading_by};
 ghost use Rattle.rng_deriv_events.specs.plain.Bits.{bits_of};
 ghost use Rattle.rng_deriv_events.specs.views.LevelTable.{levels_in, numbers_in, sample_in, sample_of};
 ghost use Rattle.rng_deriv_events.specs.views.KeptLevels.{AddsAfter, AddsLevels, AreKept, IsLevelOf, IsLikeSample, nullable_in};
@@ -81,8 +82,8 @@ pub fn level_of<D: Derivatives>(
     numbers: Numbers,
 ) -> Result<LevelNumber, OutOfMemory>
     requires inside { All (IsInside (D.trees derivatives.now)) numbers.items }
-    requires kept { AreKept (D.reading derivatives.now) (D.basis derivatives.now).keys (D.trees derivatives.now) table.old }
-    ensures adds { OnOk result (AddsLevels (D.reading derivatives.now) (D.basis derivatives.now).keys (D.trees derivatives.now) table.old table.new) }
+    requires kept { HoldsBy AreKept (D.basis derivatives.now) (D.trees derivatives.now) table.old }
+    ensures adds { OnOk result (HoldsBy (AddsLevels table.old) (D.basis derivatives.now) (D.trees derivatives.now) table.new) }
     ensures level { IfOk result (λ n. IsLevelOf table.new n numbers.items) }
 {
     if let Some(level) = table.find(numbers.as_slice()) {
@@ -111,12 +112,10 @@ pub fn level_after_tag<D: Derivatives>(
     level: LevelNumber,
     attrs: &[Attr],
 ) -> Result<LevelNumber, OutOfMemory>
-    requires kept { AreKept (D.reading derivatives.old) (D.basis derivatives.old).keys (D.trees derivatives.old) table.old }
+    requires kept { HoldsBy AreKept (D.basis derivatives.old) (D.trees derivatives.old) table.old }
     requires level { level.0 < length (levels_in table.old) }
-    ensures reading { OnOk result (D.reading derivatives.new ≡ D.reading derivatives.old) }
-    ensures basis { OnOk result (D.basis derivatives.new ≡ D.basis derivatives.old) }
-    ensures adds { OnOk result (AddsLevels (D.reading derivatives.new) (D.basis derivatives.new).keys (D.trees derivatives.new) table.old table.new) }
-    ensures after { IfOk result (AddsAfter (IsAfterTag (D.reading derivatives.old) (map attribute_of attrs.now)) (D.trees derivatives.old)
+    ensures keeps { OnOk result (Keeps (AddsLevels table.old) (D.basis derivatives.old) (D.basis derivatives.new) (D.trees derivatives.new) table.new) }
+    ensures after { IfOk result (AddsAfter (IsAfterTag (reading_by (D.basis derivatives.old)) (map attribute_of attrs.now)) (D.trees derivatives.old)
         (D.trees derivatives.new) (numbers_in (levels_in table.old) level.0) table.new) }
 {
     let numbers = entered(derivatives, alloc, table.numbers(level), attrs)?;
@@ -132,12 +131,10 @@ fn level_after_string<D: Derivatives>(
     level: LevelNumber,
     text: &str,
 ) -> Result<LevelNumber, OutOfMemory>
-    requires kept { AreKept (D.reading derivatives.old) (D.basis derivatives.old).keys (D.trees derivatives.old) table.old }
+    requires kept { HoldsBy AreKept (D.basis derivatives.old) (D.trees derivatives.old) table.old }
     requires level { level.0 < length (levels_in table.old) }
-    ensures reading { OnOk result (D.reading derivatives.new ≡ D.reading derivatives.old) }
-    ensures basis { OnOk result (D.basis derivatives.new ≡ D.basis derivatives.old) }
-    ensures adds { OnOk result (AddsLevels (D.reading derivatives.new) (D.basis derivatives.new).keys (D.trees derivatives.new) table.old table.new) }
-    ensures after { IfOk result (AddsAfter (IsAfterText (D.reading derivatives.old) text.now) (D.trees derivatives.old)
+    ensures keeps { OnOk result (Keeps (AddsLevels table.old) (D.basis derivatives.old) (D.basis derivatives.new) (D.trees derivatives.new) table.new) }
+    ensures after { IfOk result (AddsAfter (IsAfterText (reading_by (D.basis derivatives.old)) text.now) (D.trees derivatives.old)
         (D.trees derivatives.new) (numbers_in (levels_in table.old) level.0) table.new) }
 {
     let numbers = after_string(derivatives, alloc, table.numbers(level), text)?;
@@ -152,12 +149,10 @@ fn level_in_bare_tag<D: Derivatives>(
     table: &mut LevelTable,
     level: LevelNumber,
 ) -> Result<LevelNumber, OutOfMemory>
-    requires kept { AreKept (D.reading derivatives.old) (D.basis derivatives.old).keys (D.trees derivatives.old) table.old }
+    requires kept { HoldsBy AreKept (D.basis derivatives.old) (D.trees derivatives.old) table.old }
     requires level { level.0 < length (levels_in table.old) }
-    ensures reading { OnOk result (D.reading derivatives.new ≡ D.reading derivatives.old) }
-    ensures basis { OnOk result (D.basis derivatives.new ≡ D.basis derivatives.old) }
-    ensures adds { OnOk result (AddsLevels (D.reading derivatives.new) (D.basis derivatives.new).keys (D.trees derivatives.new) table.old table.new) }
-    ensures after { IfOk result (AddsAfter (IsAfterTag (D.reading derivatives.old) []) (D.trees derivatives.old)
+    ensures keeps { OnOk result (Keeps (AddsLevels table.old) (D.basis derivatives.old) (D.basis derivatives.new) (D.trees derivatives.new) table.new) }
+    ensures after { IfOk result (AddsAfter (IsAfterTag (reading_by (D.basis derivatives.old)) []) (D.trees derivatives.old)
         (D.trees derivatives.new) (numbers_in (levels_in table.old) level.0) table.new) }
 {
     if let Some(closed) = table.closed(level) {
@@ -176,12 +171,10 @@ pub fn level_in_tag<D: Derivatives>(
     level: LevelNumber,
     attrs: &[Attr],
 ) -> Result<LevelNumber, OutOfMemory>
-    requires kept { AreKept (D.reading derivatives.old) (D.basis derivatives.old).keys (D.trees derivatives.old) table.old }
+    requires kept { HoldsBy AreKept (D.basis derivatives.old) (D.trees derivatives.old) table.old }
     requires level { level.0 < length (levels_in table.old) }
-    ensures reading { OnOk result (D.reading derivatives.new ≡ D.reading derivatives.old) }
-    ensures basis { OnOk result (D.basis derivatives.new ≡ D.basis derivatives.old) }
-    ensures adds { OnOk result (AddsLevels (D.reading derivatives.new) (D.basis derivatives.new).keys (D.trees derivatives.new) table.old table.new) }
-    ensures after { IfOk result (AddsAfter (IsAfterTag (D.reading derivatives.old) (map attribute_of attrs.now)) (D.trees derivatives.old)
+    ensures keeps { OnOk result (Keeps (AddsLevels table.old) (D.basis derivatives.old) (D.basis derivatives.new) (D.trees derivatives.new) table.new) }
+    ensures after { IfOk result (AddsAfter (IsAfterTag (reading_by (D.basis derivatives.old)) (map attribute_of attrs.now)) (D.trees derivatives.old)
         (D.trees derivatives.new) (numbers_in (levels_in table.old) level.0) table.new) }
 {
     if attrs.is_empty() {
@@ -214,12 +207,10 @@ fn level_after_sample<D: Derivatives>(
     table: &mut LevelTable,
     level: LevelNumber,
 ) -> Result<LevelNumber, OutOfMemory>
-    requires kept { AreKept (D.reading derivatives.old) (D.basis derivatives.old).keys (D.trees derivatives.old) table.old }
+    requires kept { HoldsBy AreKept (D.basis derivatives.old) (D.trees derivatives.old) table.old }
     requires level { level.0 < length (levels_in table.old) }
-    ensures reading { OnOk result (D.reading derivatives.new ≡ D.reading derivatives.old) }
-    ensures basis { OnOk result (D.basis derivatives.new ≡ D.basis derivatives.old) }
-    ensures adds { OnOk result (AddsLevels (D.reading derivatives.new) (D.basis derivatives.new).keys (D.trees derivatives.new) table.old table.new) }
-    ensures after { IfOk result (AddsAfter (IsAfterText (D.reading derivatives.old) (sample_in (levels_in table.old) level.0))
+    ensures keeps { OnOk result (Keeps (AddsLevels table.old) (D.basis derivatives.old) (D.basis derivatives.new) (D.trees derivatives.new) table.new) }
+    ensures after { IfOk result (AddsAfter (IsAfterText (reading_by (D.basis derivatives.old)) (sample_in (levels_in table.old) level.0))
         (D.trees derivatives.old) (D.trees derivatives.new) (numbers_in (levels_in table.old) level.0) table.new) }
 {
     if let Some(after) = table.sampled(level) {
@@ -240,12 +231,10 @@ pub fn level_after_text<D: Derivatives>(
     level: LevelNumber,
     text: &str,
 ) -> Result<LevelNumber, OutOfMemory>
-    requires kept { AreKept (D.reading derivatives.old) (D.basis derivatives.old).keys (D.trees derivatives.old) table.old }
+    requires kept { HoldsBy AreKept (D.basis derivatives.old) (D.trees derivatives.old) table.old }
     requires level { level.0 < length (levels_in table.old) }
-    ensures reading { OnOk result (D.reading derivatives.new ≡ D.reading derivatives.old) }
-    ensures basis { OnOk result (D.basis derivatives.new ≡ D.basis derivatives.old) }
-    ensures adds { OnOk result (AddsLevels (D.reading derivatives.new) (D.basis derivatives.new).keys (D.trees derivatives.new) table.old table.new) }
-    ensures after { IfOk result (AddsAfter (IsAfterText (D.reading derivatives.old) text.now) (D.trees derivatives.old)
+    ensures keeps { OnOk result (Keeps (AddsLevels table.old) (D.basis derivatives.old) (D.basis derivatives.new) (D.trees derivatives.new) table.new) }
+    ensures after { IfOk result (AddsAfter (IsAfterText (reading_by (D.basis derivatives.old)) text.now) (D.trees derivatives.old)
         (D.trees derivatives.new) (numbers_in (levels_in table.old) level.0) table.new) }
 {
     if is_like_sample(table.level(level), text) {

@@ -7,6 +7,7 @@ ghost use Rattle.rng_model.specs.names.NameViews.{name_of};
 ghost use Rattle.rng_names.specs.plain.Keys.{Keys};
 ghost use Rattle.rng_deriv_laws.specs.plain.LevelEvents.{LevelMatcher, SettlesLevels};
 ghost use Rattle.rng_model.specs.matching.Reading.{Reading};
+ghost use Rattle.rng_deriv_events.specs.views.Basis.{HoldsBy, Keeps, reading_by};
 ghost use Rattle.rng_deriv_events.specs.views.Positions.{AddsStep, IsPositionOf};
 ghost use Rattle.rng_deriv_events.specs.views.OpenPositions.{IsPositionKept, IsStateKept, open_position, open_state};
 ghost use Rattle.rng_deriv_events.specs.views.States.{state_of};
@@ -54,11 +55,9 @@ pub fn after_start<D: Derivatives>(
     name: &Name,
     attrs: &[Attr],
 ) -> Result<(), OutOfMemory>
-    requires { IsPositionKept (D.reading derivatives.old) (D.basis derivatives.old).keys (D.trees derivatives.old) position.old }
-    ensures reading { OnOk result (D.reading derivatives.new ≡ D.reading derivatives.old) }
-    ensures basis { OnOk result (D.basis derivatives.new ≡ D.basis derivatives.old) }
-    ensures kept { OnOk result (IsPositionKept (D.reading derivatives.new) (D.basis derivatives.new).keys (D.trees derivatives.new) position.new) }
-    ensures step { OnOk result (AddsStep (D.reading derivatives.old) (trees.a_start (name_of name.now) (map attribute_of attrs.now))
+    requires { HoldsBy IsPositionKept (D.basis derivatives.old) (D.trees derivatives.old) position.old }
+    ensures keeps { OnOk result (Keeps IsPositionKept (D.basis derivatives.old) (D.basis derivatives.new) (D.trees derivatives.new) position.new) }
+    ensures step { OnOk result (AddsStep (reading_by (D.basis derivatives.old)) (trees.a_start (name_of name.now) (map attribute_of attrs.now))
         (D.trees derivatives.old) (D.trees derivatives.new) (open_position position.old) (open_position position.new)) }
 {
     settle(position);
@@ -74,11 +73,9 @@ pub fn after_text<D: Derivatives>(
     position: &mut Position,
     text: &str,
 ) -> Result<(), OutOfMemory>
-    requires { IsPositionKept (D.reading derivatives.old) (D.basis derivatives.old).keys (D.trees derivatives.old) position.old }
-    ensures reading { OnOk result (D.reading derivatives.new ≡ D.reading derivatives.old) }
-    ensures basis { OnOk result (D.basis derivatives.new ≡ D.basis derivatives.old) }
-    ensures kept { OnOk result (IsPositionKept (D.reading derivatives.new) (D.basis derivatives.new).keys (D.trees derivatives.new) position.new) }
-    ensures step { OnOk result (AddsStep (D.reading derivatives.old) (trees.a_string text.now)
+    requires { HoldsBy IsPositionKept (D.basis derivatives.old) (D.trees derivatives.old) position.old }
+    ensures keeps { OnOk result (Keeps IsPositionKept (D.basis derivatives.old) (D.basis derivatives.new) (D.trees derivatives.new) position.new) }
+    ensures step { OnOk result (AddsStep (reading_by (D.basis derivatives.old)) (trees.a_string text.now)
         (D.trees derivatives.old) (D.trees derivatives.new) (open_position position.old) (open_position position.new)) }
 {
     let now = position.state.now;
@@ -93,11 +90,9 @@ pub fn after_end<D: Derivatives>(
     alloc: Global,
     position: &mut Position,
 ) -> Result<(), OutOfMemory>
-    requires { IsPositionKept (D.reading derivatives.old) (D.basis derivatives.old).keys (D.trees derivatives.old) position.old }
-    ensures reading { OnOk result (D.reading derivatives.new ≡ D.reading derivatives.old) }
-    ensures basis { OnOk result (D.basis derivatives.new ≡ D.basis derivatives.old) }
-    ensures kept { OnOk result (IsPositionKept (D.reading derivatives.new) (D.basis derivatives.new).keys (D.trees derivatives.new) position.new) }
-    ensures step { OnOk result (AddsStep (D.reading derivatives.old) trees.an_end
+    requires { HoldsBy IsPositionKept (D.basis derivatives.old) (D.trees derivatives.old) position.old }
+    ensures keeps { OnOk result (Keeps IsPositionKept (D.basis derivatives.old) (D.basis derivatives.new) (D.trees derivatives.new) position.new) }
+    ensures step { OnOk result (AddsStep (reading_by (D.basis derivatives.old)) trees.an_end
         (D.trees derivatives.old) (D.trees derivatives.new) (open_position position.old) (open_position position.new)) }
 {
     if position.has_begun {

@@ -2,6 +2,7 @@
 ghost use Rattle.std.specs.Prelude.{◌≡◌, ℕ, IfOk, IsErr, OnOk};
 ghost use Rattle.rng_model.specs.documents.EventView.{event_of, kind_of};
 ghost use Rattle.rng_model.specs.documents.PyxTrees as trees;
+ghost use Rattle.rng_deriv_events.specs.views.Basis.{HoldsBy, Keeps, reading_by};
 ghost use Rattle.rng_deriv_events.specs.views.OpenPositions.{IsPositionKept, open_position};
 ghost use Rattle.rng_deriv_events.specs.views.Positions.{AddsProgress, AddsStep, HasCome, IsFailed, IsKnown, IsLost, IsProgressInside, progress_at};
 
@@ -29,11 +30,9 @@ fn step<D: Derivatives>(
     position: &mut Position,
     kind: EventKind<'_>,
 ) -> Result<(), OutOfMemory>
-    requires { IsPositionKept (D.reading derivatives.old) (D.basis derivatives.old).keys (D.trees derivatives.old) position.old }
-    ensures reading { OnOk result (D.reading derivatives.new ≡ D.reading derivatives.old) }
-    ensures basis { OnOk result (D.basis derivatives.new ≡ D.basis derivatives.old) }
-    ensures kept { OnOk result (IsPositionKept (D.reading derivatives.new) (D.basis derivatives.new).keys (D.trees derivatives.new) position.new) }
-    ensures step { OnOk result (AddsStep (D.reading derivatives.old) (kind_of kind.entry)
+    requires { HoldsBy IsPositionKept (D.basis derivatives.old) (D.trees derivatives.old) position.old }
+    ensures keeps { OnOk result (Keeps IsPositionKept (D.basis derivatives.old) (D.basis derivatives.new) (D.trees derivatives.new) position.new) }
+    ensures step { OnOk result (AddsStep (reading_by (D.basis derivatives.old)) (kind_of kind.entry)
         (D.trees derivatives.old) (D.trees derivatives.new) (open_position position.old) (open_position position.new)) }
 {
     match kind {
@@ -50,13 +49,11 @@ fn go_on<D: Derivatives>(
     position: &mut Position,
     event: Event<'_>,
 ) -> Result<bool, OutOfMemory>
-    requires { IsPositionKept (D.reading derivatives.old) (D.basis derivatives.old).keys (D.trees derivatives.old) position.old }
-    ensures reading { OnOk result (D.reading derivatives.new ≡ D.reading derivatives.old) }
-    ensures basis { OnOk result (D.basis derivatives.new ≡ D.basis derivatives.old) }
-    ensures kept { IfOk result (λ well. IsProgressInside (D.reading derivatives.new) (D.basis derivatives.new).keys (D.trees derivatives.new)
+    requires { HoldsBy IsPositionKept (D.basis derivatives.old) (D.trees derivatives.old) position.old }
+    ensures keeps { IfOk result (λ well. Keeps IsProgressInside (D.basis derivatives.old) (D.basis derivatives.new) (D.trees derivatives.new)
         (progress_at well position.new event.entry.line)) }
-    ensures progress { IfOk result (λ well. AddsProgress (D.reading derivatives.old) (event_of event.entry)
-        (λ events. (line : ℕ) × HasCome (D.reading derivatives.old) (D.trees derivatives.old) (open_position position.old) line events)
+    ensures progress { IfOk result (λ well. AddsProgress (reading_by (D.basis derivatives.old)) (event_of event.entry)
+        (λ events. (line : ℕ) × HasCome (reading_by (D.basis derivatives.old)) (D.trees derivatives.old) (open_position position.old) line events)
         (D.trees derivatives.new) (progress_at well position.new event.entry.line)) }
 {
     step(derivatives, alloc, position, event.kind)?;
@@ -74,12 +71,10 @@ pub fn take_event<D: Derivatives>(
     progress: &mut Progress,
     event: Event<'_>,
 ) -> Result<(), OutOfMemory>
-    requires { IsProgressInside (D.reading derivatives.old) (D.basis derivatives.old).keys (D.trees derivatives.old) progress.old }
-    ensures reading { OnOk result (D.reading derivatives.new ≡ D.reading derivatives.old) }
-    ensures basis { OnOk result (D.basis derivatives.new ≡ D.basis derivatives.old) }
-    ensures inside { OnOk result (IsProgressInside (D.reading derivatives.new) (D.basis derivatives.new).keys (D.trees derivatives.new) progress.new) }
-    ensures progress { OnOk result (AddsProgress (D.reading derivatives.old) (event_of event.entry)
-        (IsKnown (D.reading derivatives.old) (D.trees derivatives.old) progress.old) (D.trees derivatives.new) progress.new) }
+    requires { HoldsBy IsProgressInside (D.basis derivatives.old) (D.trees derivatives.old) progress.old }
+    ensures keeps { OnOk result (Keeps IsProgressInside (D.basis derivatives.old) (D.basis derivatives.new) (D.trees derivatives.new) progress.new) }
+    ensures progress { OnOk result (AddsProgress (reading_by (D.basis derivatives.old)) (event_of event.entry)
+        (IsKnown (reading_by (D.basis derivatives.old)) (D.trees derivatives.old) progress.old) (D.trees derivatives.new) progress.new) }
     ensures failed { (line : ℕ) → IsFailed line progress.old → OnOk result (IsFailed line progress.new) }
     ensures kept { OnOk result (¬ (IsLost progress.new)) }
     ensures again { IsLost progress.old → IsErr result }

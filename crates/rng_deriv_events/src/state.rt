@@ -3,6 +3,7 @@ ghost use Rattle.std.specs.Prelude.{◌≡◌, OnOk, map};
 ghost use Rattle.rng_model.specs.documents.DocumentViews.{attribute_of};
 ghost use Rattle.rng_model.specs.names.NameViews.{name_of};
 ghost use Rattle.rng_deriv_laws.specs.plain.LevelStates.{StartsLevel};
+ghost use Rattle.rng_deriv_events.specs.views.Basis.{HoldsBy, Keeps, reading_by};
 ghost use Rattle.rng_deriv_events.specs.views.OpenPositions.{IsStateKept, open_state};
 ghost use Rattle.rng_deriv_events.specs.views.States.{AddsState, state_of};
 
@@ -41,11 +42,9 @@ pub fn enter<D: Derivatives>(
     name: &Name,
     attrs: &[Attr],
 ) -> Result<(), OutOfMemory>
-    requires { IsStateKept (D.reading derivatives.old) (D.basis derivatives.old).keys (D.trees derivatives.old) state.old }
-    ensures reading { OnOk result (D.reading derivatives.new ≡ D.reading derivatives.old) }
-    ensures basis { OnOk result (D.basis derivatives.new ≡ D.basis derivatives.old) }
-    ensures kept { OnOk result (IsStateKept (D.reading derivatives.new) (D.basis derivatives.new).keys (D.trees derivatives.new) state.new) }
-    ensures state { OnOk result (AddsState (StartsLevel (D.reading derivatives.old) (name_of name.now) (map attribute_of attrs.now)
+    requires { HoldsBy IsStateKept (D.basis derivatives.old) (D.trees derivatives.old) state.old }
+    ensures keeps { OnOk result (Keeps IsStateKept (D.basis derivatives.old) (D.basis derivatives.new) (D.trees derivatives.new) state.new) }
+    ensures state { OnOk result (AddsState (StartsLevel (reading_by (D.basis derivatives.old)) (name_of name.now) (map attribute_of attrs.now)
         (state_of (D.trees derivatives.old) (open_state state.old))) (D.trees derivatives.old) (D.trees derivatives.new) (open_state state.new)) }
 {
     let step = step_for(derivatives, alloc, &mut state.table, state.now, name)?;

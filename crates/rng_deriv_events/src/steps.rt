@@ -2,6 +2,7 @@
 ghost use Rattle.std.specs.Prelude.{◌≡◌, ◌<◌, IfOk, IfSome, OnOk, length, true};
 ghost use Rattle.rng_model.specs.names.NameViews.{name_of};
 ghost use Rattle.rng_names.specs.plain.Keys.{key_of};
+ghost use Rattle.rng_deriv_events.specs.views.Basis.{HoldsBy, Keeps};
 ghost use Rattle.rng_deriv_events.specs.views.LevelTable.{IsStepOf, levels_in, steps_in};
 ghost use Rattle.rng_deriv_events.specs.views.KeptLevels.{AddsLevels, AreKept};
 ghost use Rattle.rng_deriv_events.specs.views.Numbers.{Longer};
@@ -55,12 +56,10 @@ fn add_step<D: Derivatives>(
     from: LevelNumber,
     name: &Name,
 ) -> Result<StepNumber, OutOfMemory>
-    requires kept { AreKept (D.reading derivatives.old) (D.basis derivatives.old).keys (D.trees derivatives.old) table.old }
+    requires kept { HoldsBy AreKept (D.basis derivatives.old) (D.trees derivatives.old) table.old }
     requires from { from.0 < length (levels_in table.old) }
-    ensures reading { OnOk result (D.reading derivatives.new ≡ D.reading derivatives.old) }
-    ensures basis { OnOk result (D.basis derivatives.new ≡ D.basis derivatives.old) }
+    ensures keeps { OnOk result (Keeps (AddsLevels table.old) (D.basis derivatives.old) (D.basis derivatives.new) (D.trees derivatives.new) table.new) }
     ensures longer { OnOk result (Longer (D.trees derivatives.old) (D.trees derivatives.new)) }
-    ensures adds { OnOk result (AddsLevels (D.reading derivatives.new) (D.basis derivatives.new).keys (D.trees derivatives.new) table.old table.new) }
     ensures step { IfOk result (λ n. IsStepOf (steps_in table.new) from.0 (key_of (D.basis derivatives.old).keys (name_of name.now)) n.0) }
 {
     let key = derivatives.key(name);
@@ -89,12 +88,10 @@ pub fn step_for<D: Derivatives>(
     from: LevelNumber,
     name: &Name,
 ) -> Result<StepNumber, OutOfMemory>
-    requires kept { AreKept (D.reading derivatives.old) (D.basis derivatives.old).keys (D.trees derivatives.old) table.old }
+    requires kept { HoldsBy AreKept (D.basis derivatives.old) (D.trees derivatives.old) table.old }
     requires from { from.0 < length (levels_in table.old) }
-    ensures reading { OnOk result (D.reading derivatives.new ≡ D.reading derivatives.old) }
-    ensures basis { OnOk result (D.basis derivatives.new ≡ D.basis derivatives.old) }
+    ensures keeps { OnOk result (Keeps (AddsLevels table.old) (D.basis derivatives.old) (D.basis derivatives.new) (D.trees derivatives.new) table.new) }
     ensures longer { OnOk result (Longer (D.trees derivatives.old) (D.trees derivatives.new)) }
-    ensures adds { OnOk result (AddsLevels (D.reading derivatives.new) (D.basis derivatives.new).keys (D.trees derivatives.new) table.old table.new) }
     ensures step { IfOk result (λ n. IsStepOf (steps_in table.new) from.0 (key_of (D.basis derivatives.old).keys (name_of name.now)) n.0) }
 {
     if let Some(step) = near_step(derivatives, table, from, name) {

@@ -74,7 +74,7 @@ abbrev pub Grows : {A : Type 0} → List A → List A → Type 0
 Grows {A} old new = (more : List A) × (new ≡ old ++ more)
 
 -- the table has grown, and all that it keeps is right
-pub record AddsLevels (g : Reading) (keys : Keys) (trees : List (Simple ℕ)) (before after : LevelTable) : Type 0 where
+pub record AddsLevels (before : LevelTable) (g : Reading) (keys : Keys) (trees : List (Simple ℕ)) (after : LevelTable) : Type 0 where
   pub kept : AreKept g keys trees after
   pub levels : Grows (levels_in before) (levels_in after)
   pub steps : Grows (steps_in before) (steps_in after)

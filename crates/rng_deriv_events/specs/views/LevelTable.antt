@@ -37,6 +37,17 @@ sample_in levels n = sample_of (slice_get levels n)
 abbrev pub ends_in : LevelTable → List (SmallVec End)
 ends_in t = t.ends.items
 
+-- the same levels and the same steps
+pub record KeepsLists (old new : LevelTable) : Type 0 where
+  pub levels : levels_in new ≡ levels_in old
+  pub steps : steps_in new ≡ steps_in old
+
+-- the same is known of them
+pub record KeepsKnown (old new : LevelTable) : Type 0 where
+  pub closed : closed_in new ≡ closed_in old
+  pub sampled : sampled_in new ≡ sampled_in old
+  pub ends : ends_in new ≡ ends_in old
+
 -- ---- levels
 
 abbrev pub numbers_or_none : Option Level → List PatternNumber

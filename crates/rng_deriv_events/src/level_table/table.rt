@@ -3,7 +3,7 @@ ghost use Rattle.std.specs.Prelude.{◌≡◌, ◌<◌, ◌⊎◌, ◌++◌, ◌
 ghost use Rattle.std.specs.Option.{option_copied};
 ghost use Rattle.rng_deriv_events.specs.declared.level_table.level.LevelNumber.{LevelNumber};
 ghost use Rattle.rng_deriv_events.specs.declared.level_table.step.End.{End};
-ghost use Rattle.rng_deriv_events.specs.views.LevelTable.{IsEndAt, IsKnownAt, IsStepOf, sampled_in, closed_in, ends_in, levels_in, numbers_in, steps_in};
+ghost use Rattle.rng_deriv_events.specs.views.LevelTable.{IsEndAt, IsKnownAt, IsStepOf, KeepsKnown, KeepsLists, sampled_in, closed_in, ends_in, levels_in, numbers_in, steps_in};
 
 use crate::level_table::level::{Level, LevelNumber};
 use crate::level_table::level_index::{LevelIndex, put_known};
@@ -183,9 +183,7 @@ impl LevelTable {
         ensures number { IfOk result (λ n. n.0 ≡ length (levels_in self.old)) }
         ensures levels { OnOk result (levels_in self.new ≡ levels_in self.old ++ level ∷ []) }
         ensures steps { OnOk result (steps_in self.new ≡ steps_in self.old) }
-        ensures closed { OnOk result (closed_in self.new ≡ closed_in self.old) }
-        ensures sampled { OnOk result (sampled_in self.new ≡ sampled_in self.old) }
-        ensures ends { OnOk result (ends_in self.new ≡ ends_in self.old) }
+        ensures known { OnOk result (KeepsKnown self.old self.new) }
     {
         let number = LevelNumber(self.levels.as_slice().len());
         self.index.put(alloc, level.numbers.as_slice(), number)?;
@@ -211,8 +209,7 @@ impl LevelTable {
         level: LevelNumber,
         closed: LevelNumber,
     ) -> Result<(), OutOfMemory>
-        ensures levels { OnOk result (levels_in self.new ≡ levels_in self.old) }
-        ensures steps { OnOk result (steps_in self.new ≡ steps_in self.old) }
+        ensures lists { OnOk result (KeepsLists self.old self.new) }
         ensures closed { OnOk result ((n : ℕ) (m : LevelNumber) → IsKnownAt (closed_in self.new) n m
             → IsKnownAt (closed_in self.old) n m ⊎ ((n ≡ level.0) × (m ≡ closed))) }
         ensures sampled { OnOk result (sampled_in self.new ≡ sampled_in self.old) }
@@ -236,8 +233,7 @@ impl LevelTable {
         level: LevelNumber,
         after: LevelNumber,
     ) -> Result<(), OutOfMemory>
-        ensures levels { OnOk result (levels_in self.new ≡ levels_in self.old) }
-        ensures steps { OnOk result (steps_in self.new ≡ steps_in self.old) }
+        ensures lists { OnOk result (KeepsLists self.old self.new) }
         ensures closed { OnOk result (closed_in self.new ≡ closed_in self.old) }
         ensures sampled { OnOk result ((n : ℕ) (m : LevelNumber) → IsKnownAt (sampled_in self.new) n m
             → IsKnownAt (sampled_in self.old) n m ⊎ ((n ≡ level.0) × (m ≡ after))) }
@@ -293,9 +289,7 @@ impl LevelTable {
         ensures number { IfOk result (λ n. n.0 ≡ length (steps_in self.old)) }
         ensures levels { OnOk result (levels_in self.new ≡ levels_in self.old) }
         ensures steps { OnOk result (steps_in self.new ≡ steps_in self.old ++ step ∷ []) }
-        ensures closed { OnOk result (closed_in self.new ≡ closed_in self.old) }
-        ensures sampled { OnOk result (sampled_in self.new ≡ sampled_in self.old) }
-        ensures ends { OnOk result (ends_in self.new ≡ ends_in self.old) }
+        ensures known { OnOk result (KeepsKnown self.old self.new) }
     {
         let number = StepNumber(self.steps.as_slice().len());
         self.index.put_step(alloc, step.from, step.key, number)?;
@@ -316,8 +310,7 @@ impl LevelTable {
     /// Says which level is outside of the step after an end. Keeps it unless 16 ends of the step are kept. Fails only
     /// when out of memory.
     pub fn keep_end(&mut self, alloc: Global, step: StepNumber, end: End) -> Result<(), OutOfMemory>
-        ensures levels { OnOk result (levels_in self.new ≡ levels_in self.old) }
-        ensures steps { OnOk result (steps_in self.new ≡ steps_in self.old) }
+        ensures lists { OnOk result (KeepsLists self.old self.new) }
         ensures closed { OnOk result (closed_in self.new ≡ closed_in self.old) }
         ensures sampled { OnOk result (sampled_in self.new ≡ sampled_in self.old) }
         ensures ends { OnOk result ((n : ℕ) (e : End) → IsEndAt (ends_in self.new) n e

@@ -1,6 +1,7 @@
 use Rattle.std.proofs.Common.{◌≡◌, ◌↔◌, All, OnOk, map, subst, sym, true}
 use Rattle.std.specs.List.{AllZip}
 use Rattle.rng_deriv_laws.specs.plain.LevelStates.{EndsNow}
+use Rattle.rng_deriv_events.specs.views.Basis.{reading_by}
 use Rattle.rng_deriv_events.specs.views.LevelTable.{levels_in}
 use Rattle.rng_deriv_events.specs.views.Numbers.{IsInside, tree_of}
 use Rattle.rng_deriv_events.specs.views.OpenPositions.{open_state}
@@ -19,7 +20,7 @@ which_end-requires g c =
 pub returns-clause-ended : goal.returns-clause-ended
 returns-clause-ended g c =
     let d = c.args.derivatives.now in
-    let reading = g.D.Derivatives.reading d in
+    let reading = reading_by (g.D.Derivatives.basis d) in
     let old = g.D.Derivatives.trees d in
     let new = g.D.Derivatives.trees c.close_carried.new.derivatives in
     let s = c.args.state.now in

@@ -1,5 +1,6 @@
 use Rattle.std.proofs.Common.{◌∙◌, ℕ, List, All, OnOk, Some, ap, length, subst, sym}
 use Rattle.rng_deriv_laws.specs.plain.LevelStates.{EndsWith}
+use Rattle.rng_deriv_events.specs.views.Basis.{reading_by}
 use Rattle.rng_deriv_events.specs.views.LevelTable.{levels_in, numbers_in}
 use Rattle.rng_deriv_events.specs.views.Levels.{AreEndsWith}
 use Rattle.rng_deriv_events.specs.views.Numbers.{IsInside}
@@ -18,7 +19,8 @@ which_end_with-requires g c =
     let table = s.table in
     let string = c.args.string.now in
     record {
-      now = subst (All (IsInside trees)) (sym c.numbers.ensures) (numbers_inside trees (levels_in table) s.now.0 c.requires.kept.kept.levels c.requires.kept.now);
+      now = subst (All (IsInside trees)) (sym c.numbers.ensures)
+          (numbers_inside trees (levels_in table) s.now.0 c.requires.kept.kept.levels c.requires.kept.now);
       after = subst (All (IsInside trees)) (sym c.numbers-2.ensures)
           (numbers_inside trees (levels_in table) string.after.0 c.requires.kept.kept.levels c.requires.string.0);
       count = ap length c.numbers.ensures ∙ c.requires.string.1 ∙ sym (ap length c.numbers-2.ensures);
@@ -27,7 +29,7 @@ which_end_with-requires g c =
 pub returns-clause-ended : goal.returns-clause-ended
 returns-clause-ended g c =
     let d = c.args.derivatives.now in
-    let reading = g.D.Derivatives.reading d in
+    let reading = reading_by (g.D.Derivatives.basis d) in
     let old = g.D.Derivatives.trees d in
     let new = g.D.Derivatives.trees c.close_carried.new.derivatives in
     let s = c.args.state.now in

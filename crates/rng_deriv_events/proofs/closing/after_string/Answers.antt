@@ -1,5 +1,6 @@
 use Rattle.std.proofs.Common.{◌≡◌, ◌∙◌, ◌+◌, ℕ, List, OnOk, Some, refl, subst, sym, vec_len}
 use Rattle.rng_deriv_laws.specs.plain.LevelStates.{EndsWith}
+use Rattle.rng_deriv_events.specs.views.Basis.{reading_by}
 use Rattle.rng_deriv_events.specs.views.LevelTable.{levels_in, numbers_in}
 use Rattle.rng_deriv_events.specs.views.OpenPositions.{held_string, open_state}
 use Rattle.rng_deriv_events.specs.views.States.{AddsState, EndsIf, OpenState, state_of}
@@ -7,13 +8,13 @@ use Rattle.rng_deriv_events.specs.views.Strings.{IsHeld}
 use Rattle.rng_deriv_events.specs.declared.state.State.{State}
 use Rattle.rng_deriv_events.proofs.KeptLevels.{adds_same}
 use Rattle.rng_deriv_events.proofs.Numbers.{longer_same, none_left}
-use Rattle.rng_deriv_events.proofs.OpenStates.{kept_at, kept_basis, kept_left_for, popped_below, same_basis, state_grows, state_left_for}
+use Rattle.rng_deriv_events.proofs.OpenStates.{kept_at, keeps_basis, kept_left_for, popped_below, same_basis, state_grows, state_left_for}
 use Rattle.rng_deriv_events.proofs.closing.after_string.Goals as goal
 
 pub after_carried_string-requires-clause-kept : goal.after_carried_string-requires-clause-kept
 after_carried_string-requires-clause-kept g c =
     let d = c.args.derivatives.now in
-    let reading = g.D.Derivatives.reading d in
+    let reading = reading_by (g.D.Derivatives.basis d) in
     let keys = (g.D.Derivatives.basis d).keys in
     let trees = g.D.Derivatives.trees d in
     let s = c.args.state.now in
@@ -32,7 +33,7 @@ after_carried_string-requires-clause-steps g c =
 pub returns-in_default-clause-ended : goal.returns-in_default-clause-ended
 returns-in_default-clause-ended g c =
     let d = c.args.derivatives.now in
-    let reading = g.D.Derivatives.reading d in
+    let reading = reading_by (g.D.Derivatives.basis d) in
     let keys = (g.D.Derivatives.basis d).keys in
     let trees = g.D.Derivatives.trees d in
     let s = c.args.state.now in
@@ -49,35 +50,34 @@ returns-in_default-clause-ended g c =
 pub left_after_string-requires-clause-step : goal.left_after_string-requires-clause-step
 left_after_string-requires-clause-step g c =
     let d = c.args.derivatives.now in
-    popped_below (g.D.Derivatives.reading d) (g.D.Derivatives.basis d).keys (g.D.Derivatives.trees d) c.args.state.now c.pop.new.self.items c.in-Some.step
+    popped_below (reading_by (g.D.Derivatives.basis d)) (g.D.Derivatives.basis d).keys (g.D.Derivatives.trees d) c.args.state.now c.pop.new.self.items
+    c.in-Some.step
     c.requires.kept c.in-Some.ensures.items
 
-pub returns-clause-kept : goal.returns-clause-kept
-returns-clause-kept g c =
+pub returns-clause-keeps : goal.returns-clause-keeps
+returns-clause-keeps g c =
     let trees = g.D.Derivatives.trees in
-    let reading = g.D.Derivatives.reading in
     let basis = g.D.Derivatives.basis in
     let a = c.args.derivatives.now in
     let d = c.left_after_string.new.derivatives in
     let s = c.args.state.now in
     let told = c.in_ok-state.ensures in
     let n : State = record { table = c.left_after_string.new.table; now = c.in_ok-state.field-0; carried = s.carried; steps = c.pop.new.self } in
-    kept_basis (reading a) (reading d) (basis a) (basis d) (trees d) n told.reading told.basis
-    (kept_left_for (reading a) (basis a).keys (trees a) (trees d) s n c.in-Some.step c.requires.kept
-    (same_basis (reading a) (reading d) (basis a) (basis d) (trees d) s.table n.table told.reading told.basis told.adds) refl c.in-Some.ensures.items
+    keeps_basis (basis a) (basis d) (trees d) n told.keeps.basis
+    (kept_left_for (reading_by (basis a)) (basis a).keys (trees a) (trees d) s n c.in-Some.step c.requires.kept
+    (same_basis (basis a) (basis d) (trees d) s.table n.table told.keeps) refl c.in-Some.ensures.items
     told.longer told.there)
 
 pub returns-clause-ended : goal.returns-clause-ended
 returns-clause-ended g c =
     let trees = g.D.Derivatives.trees in
-    let reading = g.D.Derivatives.reading in
     let basis = g.D.Derivatives.basis in
     let a = c.args.derivatives.now in
     let d = c.left_after_string.new.derivatives in
     let s = c.args.state.now in
     let told = c.in_ok-state.ensures in
     let n : State = record { table = c.left_after_string.new.table; now = c.in_ok-state.field-0; carried = s.carried; steps = c.pop.new.self } in
-    state_left_for (reading a) (basis a).keys (trees a) (trees d) s n c.in-Some.step c.requires.kept
-    (same_basis (reading a) (reading d) (basis a) (basis d) (trees d) s.table n.table told.reading told.basis told.adds) refl c.in-Some.ensures.items
-    told.longer told.there (EndsWith (reading a)) (IsHeld (reading a) (trees a) (numbers_in (levels_in s.table) s.now.0)
+    state_left_for (reading_by (basis a)) (basis a).keys (trees a) (trees d) s n c.in-Some.step c.requires.kept
+    (same_basis (basis a) (basis d) (trees d) s.table n.table told.keeps) refl c.in-Some.ensures.items
+    told.longer told.there (EndsWith (reading_by (basis a))) (IsHeld (reading_by (basis a)) (trees a) (numbers_in (levels_in s.table) s.now.0)
     (Some (held_string s.table c.args.string))) (λ st t at held. told.outside st t at held)

@@ -1,5 +1,6 @@
 use Rattle.std.proofs.Common.{All, Contains, refl, rules, subst, sym}
 use Rattle.std.proofs.lemmas.List.Elements.{All-contains, All-nil, Contains-push}
+use Rattle.rng_deriv_events.specs.views.Basis.{reading_by}
 use Rattle.rng_deriv_events.specs.views.Levels.{AddsEnded, IsRestWithin}
 use Rattle.rng_deriv_events.specs.views.Numbers.{IsInside}
 use Rattle.rng_deriv_events.specs.views.OpenPositions.{open_level}
@@ -16,28 +17,29 @@ level_of-requires-clause-inside g c =
     subst (All (IsInside (g.D.Derivatives.trees c.args.derivatives.now))) (sym c.new.ensures.items)
     (All-nil (IsInside (g.D.Derivatives.trees c.args.derivatives.now)))
 
-pub returns-in_default-clause-kept : goal.returns-in_default-clause-kept
-returns-in_default-clause-kept g c =
+pub returns-in_default-clause-keeps : goal.returns-in_default-clause-keeps
+returns-in_default-clause-keeps g c =
     let d = c.args.derivatives.now in
     let trees = g.D.Derivatives.trees d in
-    let reading = g.D.Derivatives.reading d in
     let basis = g.D.Derivatives.basis d in
     let s = c.args.state.now in
     let told = c.in_ok-state.ensures in
-    kept_stray reading reading basis basis c.args.good.now trees trees s
-    (record { table = c.level_of.new.table; now = c.in_ok-state.field-0; carried = c.pop.new.self; steps = s.steps }) c.requires.kept refl refl (longer_same trees)
-    told.adds told.level.0 c.requires.steps refl (search rules) (search rules)
+    record {
+      basis = refl;
+      right = kept_stray basis basis c.args.good.now trees trees s
+          (record { table = c.level_of.new.table; now = c.in_ok-state.field-0; carried = c.pop.new.self; steps = s.steps }) c.requires.kept (longer_same trees)
+          told.adds told.level.0 c.requires.steps refl (search rules) (search rules);
+    }
 
 pub returns-in_default-clause-state : goal.returns-in_default-clause-state
 returns-in_default-clause-state g c =
     let d = c.args.derivatives.now in
     let trees = g.D.Derivatives.trees d in
-    let reading = g.D.Derivatives.reading d in
     let basis = g.D.Derivatives.basis d in
     let s = c.args.state.now in
     let told = c.in_ok-state.ensures in
-    state_stray reading reading basis basis c.args.good.now trees trees s
-    (record { table = c.level_of.new.table; now = c.in_ok-state.field-0; carried = c.pop.new.self; steps = s.steps }) c.requires.kept refl refl (longer_same trees)
+    state_stray basis basis c.args.good.now trees trees s
+    (record { table = c.level_of.new.table; now = c.in_ok-state.field-0; carried = c.pop.new.self; steps = s.steps }) c.requires.kept (longer_same trees)
     told.adds told.level.0 c.requires.steps refl (search rules) (search rules)
 
 pub ended-requires : goal.ended-requires
@@ -55,18 +57,16 @@ level_of-requires-2-clause-inside g c = c.in_ok-outside.ensures.ended.inside
 pub level_of-requires-2-clause-kept : goal.level_of-requires-2-clause-kept
 level_of-requires-2-clause-kept g c =
     let trees = g.D.Derivatives.trees in
-    let reading = g.D.Derivatives.reading in
     let basis = g.D.Derivatives.basis in
     let old = c.args.derivatives.now in
     let new = c.ended.new.derivatives in
     let told = c.in_ok-outside.ensures in
-    kept_on (reading old) (reading new) (basis old) (basis new) (trees old) (trees new) c.args.state.now.table told.reading told.basis told.ended.longer
+    kept_on (basis old) (basis new) (trees old) (trees new) c.args.state.now.table told.basis told.ended.longer
     c.requires.kept.kept
 
-pub returns-clause-kept : goal.returns-clause-kept
-returns-clause-kept g c =
+pub returns-clause-keeps : goal.returns-clause-keeps
+returns-clause-keeps g c =
     let trees = g.D.Derivatives.trees in
-    let reading = g.D.Derivatives.reading in
     let basis = g.D.Derivatives.basis in
     let a = c.args.derivatives.now in
     let d = c.ended.new.derivatives in
@@ -75,16 +75,19 @@ returns-clause-kept g c =
     let level = c.in-Some.level in
     let more = c.in_ok-state-2.ensures in
     let n : State = record { table = c.level_of-2.new.table; now = c.in_ok-state-2.field-0; carried = c.pop.new.self; steps = s.steps } in
-    let ended = subst (λ ls. AddsEnded (reading a) c.args.good.now level.around (trees a) (trees d) ls c.in_ok-outside.outside.items) c.as_slice.ensures
+    let ended = subst (λ ls. AddsEnded (reading_by (basis a)) c.args.good.now level.around (trees a) (trees d) ls c.in_ok-outside.outside.items)
+    c.as_slice.ensures
     told.ended in
-    kept_closed (reading a) (reading d) (basis a) (basis d) c.args.good.now (trees a) (trees d) s n c.requires.kept told.reading told.basis told.ended.longer
-    more.adds more.level.0 c.requires.steps refl level c.in-Some.ensures.items
-    (subst (AddsEnded (reading a) c.args.good.now level.around (trees a) (trees d) level.links.items) (sym more.level.1) ended)
+    record {
+      basis = told.basis;
+      right = kept_closed (basis a) (basis d) c.args.good.now (trees a) (trees d) s n c.requires.kept told.ended.longer
+          more.adds more.level.0 c.requires.steps refl level c.in-Some.ensures.items
+          (subst (AddsEnded (reading_by (basis a)) c.args.good.now level.around (trees a) (trees d) level.links.items) (sym more.level.1) ended);
+    }
 
 pub returns-clause-state : goal.returns-clause-state
 returns-clause-state g c =
     let trees = g.D.Derivatives.trees in
-    let reading = g.D.Derivatives.reading in
     let basis = g.D.Derivatives.basis in
     let a = c.args.derivatives.now in
     let d = c.ended.new.derivatives in
@@ -93,8 +96,9 @@ returns-clause-state g c =
     let level = c.in-Some.level in
     let more = c.in_ok-state-2.ensures in
     let n : State = record { table = c.level_of-2.new.table; now = c.in_ok-state-2.field-0; carried = c.pop.new.self; steps = s.steps } in
-    let ended = subst (λ ls. AddsEnded (reading a) c.args.good.now level.around (trees a) (trees d) ls c.in_ok-outside.outside.items) c.as_slice.ensures
+    let ended = subst (λ ls. AddsEnded (reading_by (basis a)) c.args.good.now level.around (trees a) (trees d) ls c.in_ok-outside.outside.items)
+    c.as_slice.ensures
     told.ended in
-    state_closed (reading a) (reading d) (basis a) (basis d) c.args.good.now (trees a) (trees d) s n c.requires.kept told.reading told.basis told.ended.longer
+    state_closed (basis a) (basis d) c.args.good.now (trees a) (trees d) s n c.requires.kept told.ended.longer
     more.adds more.level.0 c.requires.steps refl level c.in-Some.ensures.items
-    (subst (AddsEnded (reading a) c.args.good.now level.around (trees a) (trees d) level.links.items) (sym more.level.1) ended)
+    (subst (AddsEnded (reading_by (basis a)) c.args.good.now level.around (trees a) (trees d) level.links.items) (sym more.level.1) ended)

@@ -1,6 +1,7 @@
 use Rattle.std.proofs.Common.{rules, ◌≡◌, subst, sym, slice_get, slice_index_or, Some}
 use Rattle.std.proofs.lemmas.Option.{slice_get-get_or}
 use Rattle.rng_deriv_table.specs.declared.pattern.PatternNumber.{PatternNumber}
+use Rattle.rng_deriv_events.specs.views.Basis.{reading_by}
 use Rattle.rng_deriv_events.specs.views.Levels.{LeavesBy}
 use Rattle.rng_deriv_events.proofs.EndedElements.{leaves_rest}
 use Rattle.rng_deriv_events.proofs.Numbers.{set_lent}
@@ -9,7 +10,7 @@ use Rattle.rng_deriv_events.proofs.ends.leave.Goals as goal
 pub returns-clause-leaves : goal.returns-clause-leaves
 returns-clause-leaves g c =
     let trees = g.D.Derivatives.trees in
-    let reading = g.D.Derivatives.reading c.args.derivatives.now in
+    let reading = reading_by (g.D.Derivatives.basis c.args.derivatives.now) in
     let old = trees c.args.derivatives.now in
     let new = trees c.joined.new.derivatives in
     let items = c.args.outside.now.items in

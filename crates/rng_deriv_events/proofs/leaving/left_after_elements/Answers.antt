@@ -1,22 +1,23 @@
 use Rattle.std.proofs.Common.{◌≡◌, ◌↔◌, All, map, subst, sym, true}
 use Rattle.std.specs.List.{AllZip}
 use Rattle.rng_deriv_laws.specs.plain.LevelStates.{EndsNow}
+use Rattle.rng_deriv_events.specs.views.Basis.{reading_by}
 use Rattle.rng_deriv_events.specs.views.LevelTable.{levels_in, numbers_in}
 use Rattle.rng_deriv_events.specs.views.KeptLevels.{AddsEndedLevel, nullable_in}
 use Rattle.rng_deriv_events.specs.views.Numbers.{IsInside, tree_of}
-use Rattle.rng_deriv_events.proofs.KeptLevels.{adds_same, found_end, good_is, numbers_inside}
+use Rattle.rng_deriv_events.proofs.KeptLevels.{keeps_same, found_end, good_is, numbers_inside}
 use Rattle.rng_deriv_events.proofs.LevelTests.{which_null}
 use Rattle.rng_deriv_events.proofs.leaving.left_after_elements.Goals as goal
 
-pub returns-in-Some-clause-adds : goal.returns-in-Some-clause-adds
-returns-in-Some-clause-adds g c =
+pub returns-in-Some-clause-keeps : goal.returns-in-Some-clause-keeps
+returns-in-Some-clause-keeps g c =
     let d = c.args.derivatives.now in
-    adds_same (g.D.Derivatives.reading d) (g.D.Derivatives.basis d).keys (g.D.Derivatives.trees d) c.args.table.now c.requires.kept
+    keeps_same (g.D.Derivatives.basis d) (g.D.Derivatives.trees d) c.args.table.now c.requires.kept
 
 pub returns-in-Some-clause-outside : goal.returns-in-Some-clause-outside
 returns-in-Some-clause-outside g c = λ s at.
     let d = c.args.derivatives.now in
-    let reading = g.D.Derivatives.reading d in
+    let reading = reading_by (g.D.Derivatives.basis d) in
     let keys = (g.D.Derivatives.basis d).keys in
     let trees = g.D.Derivatives.trees d in
     let table = c.args.table.now in
@@ -38,7 +39,7 @@ which_end-requires g c =
 
 pub returns-clause-outside : goal.returns-clause-outside
 returns-clause-outside g c = λ s at.
-    let reading = g.D.Derivatives.reading c.args.derivatives.now in
+    let reading = reading_by (g.D.Derivatives.basis c.args.derivatives.now) in
     let old = g.D.Derivatives.trees c.args.derivatives.now in
     let good = c.in_ok-good.good.items in
     record {

@@ -1,25 +1,26 @@
 use Rattle.std.proofs.Common.{◌≡◌, ◌∙◌, ℕ, List, All, ap, length, subst, sym}
 use Rattle.std.specs.Option.{IfSome}
 use Rattle.rng_model.specs.simple.Tree.{Simple}
+use Rattle.rng_deriv_events.specs.views.Basis.{reading_by}
 use Rattle.rng_deriv_events.specs.plain.Bits.{bits_of}
 use Rattle.rng_deriv_events.specs.views.LevelTable.{levels_in, numbers_in, steps_in}
 use Rattle.rng_deriv_events.specs.views.KeptLevels.{AddsEndedLevel, IsLevelKept, IsStepKept, ends_by, nullable_in}
 use Rattle.rng_deriv_events.specs.views.Levels.{AreEndsWith}
 use Rattle.rng_deriv_events.specs.views.Numbers.{IsInside}
-use Rattle.rng_deriv_events.proofs.KeptLevels.{adds_same, all_at, found_end, numbers_inside}
+use Rattle.rng_deriv_events.proofs.KeptLevels.{keeps_same, all_at, found_end, numbers_inside}
 use Rattle.rng_deriv_events.proofs.Numbers.{longer_same}
 use Rattle.rng_deriv_events.proofs.LevelTests.{which_by}
 use Rattle.rng_deriv_events.proofs.leaving.left_after_string.Goals as goal
 
-pub returns-in-Some-clause-adds : goal.returns-in-Some-clause-adds
-returns-in-Some-clause-adds g c =
+pub returns-in-Some-clause-keeps : goal.returns-in-Some-clause-keeps
+returns-in-Some-clause-keeps g c =
     let d = c.args.derivatives.now in
-    adds_same (g.D.Derivatives.reading d) (g.D.Derivatives.basis d).keys (g.D.Derivatives.trees d) c.args.table.now c.requires.kept
+    keeps_same (g.D.Derivatives.basis d) (g.D.Derivatives.trees d) c.args.table.now c.requires.kept
 
 pub returns-in-Some-clause-outside : goal.returns-in-Some-clause-outside
 returns-in-Some-clause-outside g c = λ s t at held.
     let d = c.args.derivatives.now in
-    let reading = g.D.Derivatives.reading d in
+    let reading = reading_by (g.D.Derivatives.basis d) in
     let trees = g.D.Derivatives.trees d in
     let table = c.args.table.now in
     let content = c.args.content.now in
@@ -51,7 +52,7 @@ which_end_with-requires g c =
 
 pub returns-clause-outside : goal.returns-clause-outside
 returns-clause-outside g c = λ s t at held.
-    let reading = g.D.Derivatives.reading c.args.derivatives.now in
+    let reading = reading_by (g.D.Derivatives.basis c.args.derivatives.now) in
     let old = g.D.Derivatives.trees c.args.derivatives.now in
     let content = c.args.content.now in
     let good = c.in_ok-good.good.items in
@@ -78,7 +79,8 @@ pub returns-clause-longer : goal.returns-clause-longer
 returns-clause-longer g c =
     let d = c.args.derivatives.now in
     let table = c.args.table.now in
-    let s = all_at (IsStepKept (g.D.Derivatives.reading d) (g.D.Derivatives.basis d).keys (g.D.Derivatives.trees d) (levels_in table)) (steps_in table)
+    let s = all_at (IsStepKept (reading_by (g.D.Derivatives.basis d)) (g.D.Derivatives.basis d).keys (g.D.Derivatives.trees d) (levels_in table))
+    (steps_in table)
     c.args.step.0 c.requires.kept.steps c.requires.step in
     (c.in_ok-outside.ensures.ended s.0 s.1).ended.longer
 
@@ -86,6 +88,7 @@ pub returns-clause-there : goal.returns-clause-there
 returns-clause-there g c =
     let d = c.args.derivatives.now in
     let table = c.args.table.now in
-    let s = all_at (IsStepKept (g.D.Derivatives.reading d) (g.D.Derivatives.basis d).keys (g.D.Derivatives.trees d) (levels_in table)) (steps_in table)
+    let s = all_at (IsStepKept (reading_by (g.D.Derivatives.basis d)) (g.D.Derivatives.basis d).keys (g.D.Derivatives.trees d) (levels_in table))
+    (steps_in table)
     c.args.step.0 c.requires.kept.steps c.requires.step in
     (c.in_ok-outside.ensures.ended s.0 s.1).there

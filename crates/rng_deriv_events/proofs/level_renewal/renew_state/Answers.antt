@@ -1,4 +1,5 @@
 use Rattle.std.proofs.Common.{◌∙◌, ◌++◌, ◌<◌, All, OnOk, ap, length, map, refl, subst, sym}
+use Rattle.rng_deriv_events.specs.views.Basis.{reading_by}
 use Rattle.rng_deriv_events.specs.views.LevelTable.{steps_in}
 use Rattle.rng_deriv_events.specs.declared.level_table.step.StepNumber.{StepNumber}
 use Rattle.rng_deriv_events.specs.views.LevelRenewal.{IsStateRenewed}
@@ -16,7 +17,7 @@ renew_carried-requires-clause-kept g c =
     let s = c.args.state.now in
     kept_carried s (record { table = s.table; now = s.now; carried = c.carry.new.carried; steps = c.clear.new.self }) refl refl
     (c.in_ok-carry.ensures ∙ ap (λ o. map open_level s.carried.items ++ map (level_at (steps_in s.table)) o) c.as_slice.ensures.value) c.clear.ensures.items
-    (g.D.Derivatives.reading d) (g.D.Derivatives.basis d).keys (g.D.Derivatives.trees d) c.requires
+    (reading_by (g.D.Derivatives.basis d)) (g.D.Derivatives.basis d).keys (g.D.Derivatives.trees d) c.requires
 
 pub returns-clause-renewed : goal.returns-clause-renewed
 returns-clause-renewed g c =

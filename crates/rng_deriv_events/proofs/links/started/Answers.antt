@@ -1,7 +1,7 @@
 use Rattle.std.proofs.Common.{◌∙◌, ◌<◌, ap, length, refl, subst, sym}
 use Rattle.std.proofs.lemmas.List.{take_all}
 use Rattle.rng_names.specs.plain.Keys.{key_of}
-use Rattle.rng_deriv_events.specs.views.Basis.{Basis}
+use Rattle.rng_deriv_events.specs.views.Basis.{Basis, reading_by}
 use Rattle.rng_deriv_events.specs.views.Levels.{AddsLinks, AddsOpened}
 use Rattle.rng_deriv_events.proofs.Numbers.{inside_stays, longer_same, longer_through}
 use Rattle.rng_deriv_events.proofs.StartedElements.{none_opens, opens_at}
@@ -11,10 +11,9 @@ pub alternatives-init : goal.alternatives-init
 alternatives-init g c =
     let trees = g.D.Derivatives.trees c.args.derivatives.now in
     record {
-      same = refl;
       basis = refl;
       longer = longer_same trees;
-      first = λ q e. none_opens (g.D.Derivatives.reading c.args.derivatives.now) q trees c.new-bodies.result.items c.new-links.result.items
+      first = λ q e. none_opens (reading_by (g.D.Derivatives.basis c.args.derivatives.now)) q trees c.new-bodies.result.items c.new-links.result.items
           c.new-bodies.ensures.items c.new-links.ensures.items;
     }
 
@@ -31,16 +30,16 @@ starts-requires-clause-key g c =
 pub alternatives-preserved : goal.alternatives-preserved
 alternatives-preserved g c =
     let trees = g.D.Derivatives.trees in
-    let reading = g.D.Derivatives.reading in
+    let basis = g.D.Derivatives.basis in
     let before = c.alternatives.invariant in
     record {
-      same = c.in_ok-ways.ensures.reading ∙ before.same;
       basis = c.in_ok-ways.ensures.basis ∙ before.basis;
       longer = longer_through (trees c.args.derivatives.now) (trees c.alternatives.derivatives) (trees c.starts.new.self) before.longer
           c.in_ok-ways.ensures.longer;
-      first = λ q e. opens_at (reading c.alternatives.derivatives) (reading c.args.derivatives.now) q (trees c.args.derivatives.now)
+      first = λ q e. opens_at (reading_by (basis c.alternatives.derivatives)) (reading_by (basis c.args.derivatives.now)) q (trees c.args.derivatives.now)
           (trees c.alternatives.derivatives) (trees c.starts.new.self) c.args.now.now c.alternatives.outer _ c.in_ok-ways.ways.items
-          c.alternatives.bodies.items c.add_links.new.bodies.items c.alternatives.links.items c.add_links.new.links.items before.same (before.first q e)
+          c.alternatives.bodies.items c.add_links.new.bodies.items c.alternatives.links.items c.add_links.new.links.items (ap reading_by before.basis)
+          (before.first q e)
           c.requires.now c.alternatives-test.true
           (c.in_ok-ways.ensures.starts q (ap (λ (b : Basis). key_of b.keys q) before.basis ∙ e))
           (subst (λ ways. AddsLinks c.alternatives.outer ways c.alternatives.bodies.items c.add_links.new.bodies.items c.alternatives.links.items
@@ -50,6 +49,7 @@ alternatives-preserved g c =
 pub returns-clause-opened : goal.returns-clause-opened
 returns-clause-opened g c =
     let trees = g.D.Derivatives.trees in
-    λ q e. subst (λ ps. AddsOpened (g.D.Derivatives.reading c.args.derivatives.now) q (trees c.args.derivatives.now) (trees c.alternatives.derivatives) ps
+    λ q e. subst (λ ps. AddsOpened (reading_by (g.D.Derivatives.basis c.args.derivatives.now)) q (trees c.args.derivatives.now)
+    (trees c.alternatives.derivatives) ps
     c.alternatives.bodies.items c.alternatives.links.items) (take_all c.alternatives.outer c.args.now.now c.alternatives-test.false)
     (c.alternatives.invariant.first q e)

@@ -1,5 +1,6 @@
 use Rattle.std.proofs.Common.{All, subst, sym}
 use Rattle.rng_deriv_laws.specs.plain.LevelStates.{IsAfterText}
+use Rattle.rng_deriv_events.specs.views.Basis.{reading_by}
 use Rattle.rng_deriv_events.specs.views.LevelTable.{levels_in, numbers_in}
 use Rattle.rng_deriv_events.specs.views.Numbers.{AddsEach, IsInside}
 use Rattle.rng_deriv_events.proofs.KeptLevels.{kept_on, numbers_inside}
@@ -17,17 +18,16 @@ level_of-requires-clause-inside g c = c.in_ok-numbers.ensures.after.inside
 pub level_of-requires-clause-kept : goal.level_of-requires-clause-kept
 level_of-requires-clause-kept g c =
     let trees = g.D.Derivatives.trees in
-    let reading = g.D.Derivatives.reading in
     let basis = g.D.Derivatives.basis in
     let old = c.args.derivatives.now in
     let new = c.after_string.new.derivatives in
     let told = c.in_ok-numbers.ensures in
-    kept_on (reading old) (reading new) (basis old) (basis new) (trees old) (trees new) c.args.table.now told.reading told.basis told.after.longer
+    kept_on (basis old) (basis new) (trees old) (trees new) c.args.table.now told.basis told.after.longer
     c.requires.kept
 
 pub returns-clause-after : goal.returns-clause-after
 returns-clause-after g c =
-    let reading = g.D.Derivatives.reading c.args.derivatives.now in
+    let reading = reading_by (g.D.Derivatives.basis c.args.derivatives.now) in
     let old = g.D.Derivatives.trees c.args.derivatives.now in
     let new = g.D.Derivatives.trees c.after_string.new.derivatives in
     let level = c.in_ok-after.ensures.level in

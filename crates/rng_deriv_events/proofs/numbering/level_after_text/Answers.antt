@@ -1,4 +1,5 @@
 use Rattle.rng_deriv_laws.specs.plain.LevelStates.{IsAfterText}
+use Rattle.rng_deriv_events.specs.views.Basis.{reading_by}
 use Rattle.rng_deriv_events.specs.views.LevelTable.{levels_in, numbers_in, sample_in}
 use Rattle.rng_deriv_events.specs.views.KeptLevels.{AddsAfter}
 use Rattle.rng_deriv_events.proofs.SampledLevels.{if_ok, sample_serves}
@@ -7,7 +8,7 @@ use Rattle.rng_deriv_events.proofs.numbering.level_after_text.Goals as goal
 pub returns-then-is_like_sample-clause-after : goal.returns-then-is_like_sample-clause-after
 returns-then-is_like_sample-clause-after g c =
     let d = c.args.derivatives.now in
-    let reading = g.D.Derivatives.reading d in
+    let reading = reading_by (g.D.Derivatives.basis d) in
     let old = g.D.Derivatives.trees d in
     let new = g.D.Derivatives.trees c.level_after_sample.new.derivatives in
     let t = c.args.table.now in

@@ -1,6 +1,7 @@
 use Rattle.std.proofs.Common.{refl, true, subst, sym, List, ℕ, ◌∙◌}
 use Rattle.rng_model.specs.documents.PyxTrees.{an_end}
 use Rattle.rng_deriv_laws.specs.plain.LevelStates.{EndsNow, EndsWith}
+use Rattle.rng_deriv_events.specs.views.Basis.{Keeps, reading_by}
 use Rattle.rng_deriv_events.specs.views.LevelTable.{levels_in, numbers_in}
 use Rattle.rng_deriv_events.specs.views.Positions.{AddsStep}
 use Rattle.rng_deriv_events.specs.declared.position.Position.{Position}
@@ -15,28 +16,27 @@ use Rattle.rng_deriv_events.proofs.position.after_end.Goals as goal
 pub after_elements-requires : goal.after_elements-requires
 after_elements-requires g c =
     let d = c.args.derivatives.now in
-    c.settle.ensures.kept (g.D.Derivatives.reading d) (g.D.Derivatives.basis d).keys (g.D.Derivatives.trees d) c.requires
+    c.settle.ensures.kept (reading_by (g.D.Derivatives.basis d)) (g.D.Derivatives.basis d).keys (g.D.Derivatives.trees d) c.requires
 
 pub after_lone_string-requires : goal.after_lone_string-requires
 after_lone_string-requires g c =
     let p = c.args.position.now in
     record { state = c.requires.state; string = subst (IsHeldKept p.state.table p.state.now) (sym c.take-string.ensures.value) c.requires.held }
 
-pub returns-then-position-clause-kept : goal.returns-then-position-clause-kept
-returns-then-position-clause-kept g c =
-    let d = c.after_elements.new.derivatives in
-    let reading = g.D.Derivatives.reading d in
-    let keys = (g.D.Derivatives.basis d).keys in
-    let new = g.D.Derivatives.trees d in
+pub returns-then-position-clause-keeps : goal.returns-then-position-clause-keeps
+returns-then-position-clause-keeps g c =
+    let old = g.D.Derivatives.basis c.args.derivatives.now in
+    let new = g.D.Derivatives.basis c.after_elements.new.derivatives in
+    let trees = g.D.Derivatives.trees c.after_elements.new.derivatives in
     let s = c.settle.new.position in
     let r : Position = record { state = c.after_elements.new.state; has_begun = s.has_begun; held = s.held } in
-    on_ok_weaker c.after_elements.result (IsStateKept reading keys new r.state) (IsPositionKept reading keys new r)
-    (λ k. kept_no_string reading keys new r c.settle.ensures.held k) c.after_elements.ensures.kept
+    on_ok_weaker c.after_elements.result (Keeps IsStateKept old new trees r.state) (Keeps IsPositionKept old new trees r)
+    (λ k. record { basis = k.basis; right = kept_no_string (reading_by new) new.keys trees r c.settle.ensures.held k.right }) c.after_elements.ensures.keeps
 
 pub returns-then-position-clause-step : goal.returns-then-position-clause-step
 returns-then-position-clause-step g c =
     let trees = g.D.Derivatives.trees in
-    let reading = g.D.Derivatives.reading c.args.derivatives.now in
+    let reading = reading_by (g.D.Derivatives.basis c.args.derivatives.now) in
     let old = trees c.args.derivatives.now in
     let new = trees c.after_elements.new.derivatives in
     let p = c.args.position.now in
@@ -47,17 +47,20 @@ returns-then-position-clause-step g c =
     (λ e. end_step reading old new (open_position p) (open_state s.state) (open_position r) (λ m of. c.settle.ensures.settles reading old m of) e
     c.if-position.true (c.settle.ensures.begun ∙ c.if-position.true) (held_none r.state.table r.held c.settle.ensures.held)) c.after_elements.ensures.ended
 
-pub returns-clause-kept : goal.returns-clause-kept
-returns-clause-kept g c =
+pub returns-clause-keeps : goal.returns-clause-keeps
+returns-clause-keeps g c =
     let d = c.after_lone_string.new.derivatives in
-    kept_no_string (g.D.Derivatives.reading d) (g.D.Derivatives.basis d).keys (g.D.Derivatives.trees d)
-    (record { state = c.after_lone_string.new.state; has_begun = true; held = c.take-string.new.self }) c.take-string.ensures.after
-    c.in_ok-after_lone_string.ensures.kept
+    record {
+      basis = c.in_ok-after_lone_string.ensures.keeps.basis;
+      right = kept_no_string (reading_by (g.D.Derivatives.basis d)) (g.D.Derivatives.basis d).keys (g.D.Derivatives.trees d)
+          (record { state = c.after_lone_string.new.state; has_begun = true; held = c.take-string.new.self }) c.take-string.ensures.after
+          c.in_ok-after_lone_string.ensures.keeps.right;
+    }
 
 pub returns-clause-step : goal.returns-clause-step
 returns-clause-step g c =
     let trees = g.D.Derivatives.trees in
-    let reading = g.D.Derivatives.reading c.args.derivatives.now in
+    let reading = reading_by (g.D.Derivatives.basis c.args.derivatives.now) in
     let old = trees c.args.derivatives.now in
     let new = trees c.after_lone_string.new.derivatives in
     let p = c.args.position.now in

@@ -1,6 +1,7 @@
 use Rattle.std.proofs.Common.{refl, false, map}
 use Rattle.rng_model.specs.documents.DocumentViews.{attribute_of}
 use Rattle.rng_model.specs.names.NameViews.{name_of}
+use Rattle.rng_deriv_events.specs.views.Basis.{reading_by}
 use Rattle.rng_deriv_events.specs.views.OpenPositions.{open_position, open_state}
 use Rattle.rng_deriv_events.specs.declared.position.Position.{Position}
 use Rattle.rng_deriv_events.proofs.OpenStates.{held_none, kept_no_string}
@@ -10,19 +11,22 @@ use Rattle.rng_deriv_events.proofs.position.after_start.Goals as goal
 pub enter-requires : goal.enter-requires
 enter-requires g c =
     let d = c.args.derivatives.now in
-    c.settle.ensures.kept (g.D.Derivatives.reading d) (g.D.Derivatives.basis d).keys (g.D.Derivatives.trees d) c.requires
+    c.settle.ensures.kept (reading_by (g.D.Derivatives.basis d)) (g.D.Derivatives.basis d).keys (g.D.Derivatives.trees d) c.requires
 
-pub returns-clause-kept : goal.returns-clause-kept
-returns-clause-kept g c =
+pub returns-clause-keeps : goal.returns-clause-keeps
+returns-clause-keeps g c =
     let d = c.enter.new.derivatives in
     let settled = c.settle.new.position in
-    kept_no_string (g.D.Derivatives.reading d) (g.D.Derivatives.basis d).keys (g.D.Derivatives.trees d)
-    (record { state = c.enter.new.state; has_begun = false; held = settled.held }) c.settle.ensures.held c.in_ok-enter.ensures.kept
+    record {
+      basis = c.in_ok-enter.ensures.keeps.basis;
+      right = kept_no_string (reading_by (g.D.Derivatives.basis d)) (g.D.Derivatives.basis d).keys (g.D.Derivatives.trees d)
+          (record { state = c.enter.new.state; has_begun = false; held = settled.held }) c.settle.ensures.held c.in_ok-enter.ensures.keeps.right;
+    }
 
 pub returns-clause-step : goal.returns-clause-step
 returns-clause-step g c =
     let trees = g.D.Derivatives.trees in
-    let reading = g.D.Derivatives.reading c.args.derivatives.now in
+    let reading = reading_by (g.D.Derivatives.basis c.args.derivatives.now) in
     let old = trees c.args.derivatives.now in
     let settled = c.settle.new.position in
     let r : Position = record { state = c.enter.new.state; has_begun = false; held = settled.held } in

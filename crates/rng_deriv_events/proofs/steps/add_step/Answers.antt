@@ -1,5 +1,6 @@
 use Rattle.std.proofs.Common.{ap, length, refl, subst, sym, All}
 use Rattle.rng_model.specs.names.NameViews.{name_of}
+use Rattle.rng_deriv_events.specs.views.Basis.{reading_by}
 use Rattle.rng_deriv_events.specs.views.LevelTable.{levels_in, steps_in}
 use Rattle.rng_deriv_events.specs.declared.level_table.step.Step.{Step}
 use Rattle.rng_deriv_events.specs.views.Levels.{AddsOpened}
@@ -20,17 +21,15 @@ level_of-requires-clause-inside g c =
 pub level_of-requires-clause-kept : goal.level_of-requires-clause-kept
 level_of-requires-clause-kept g c =
     let trees = g.D.Derivatives.trees in
-    let reading = g.D.Derivatives.reading in
     let basis = g.D.Derivatives.basis in
     let old = c.args.derivatives.now in
     let new = c.started.new.derivatives in
     let told = c.in_ok-bodies.ensures in
-    kept_on (reading old) (reading new) (basis old) (basis new) (trees old) (trees new) c.args.table.now told.reading told.basis told.longer c.requires.kept
+    kept_on (basis old) (basis new) (trees old) (trees new) c.args.table.now told.basis told.longer c.requires.kept
 
-pub returns-clause-adds : goal.returns-clause-adds
-returns-clause-adds g c =
+pub returns-clause-keeps : goal.returns-clause-keeps
+returns-clause-keeps g c =
     let trees = g.D.Derivatives.trees in
-    let reading = g.D.Derivatives.reading in
     let basis = g.D.Derivatives.basis in
     let before = c.args.derivatives.now in
     let d = c.started.new.derivatives in
@@ -42,13 +41,18 @@ returns-clause-adds g c =
     let told = c.in_ok-step.ensures in
     let first = c.in_ok-child.ensures in
     let step : Step = record { from = c.args.from; key = key; child = c.in_ok-child.child; around = length c.numbers-numbers.result.now; links = opened } in
-    let law = step_kept (reading before) (reading d) (basis before) (basis d) (trees before) (trees d) c.args.table.now t step bodies q
-    c.in_ok-bodies.ensures.reading c.in_ok-bodies.ensures.basis c.requires.from first.adds.levels
+    let law = step_kept (basis before) (basis d) (trees before) (trees d) c.args.table.now t step bodies q
+    c.in_ok-bodies.ensures.basis c.requires.from first.adds.levels
     (ap length c.numbers-numbers.ensures) c.key-key.ensures.key
-    (λ r e. subst (λ ps. AddsOpened (reading before) r (trees before) (trees d) ps bodies opened.items) c.numbers-numbers.ensures
+    (λ r e. subst (λ ps. AddsOpened (reading_by (basis before)) r (trees before) (trees d) ps bodies opened.items) c.numbers-numbers.ensures
     (c.in_ok-bodies.ensures.opened r e)) first.level in
-    adds_through (reading d) (reading d) (basis d).keys (basis d).keys (trees d) (trees d) c.args.table.now t c.add_step.new.self first.adds
-    (adds_step (reading d) (basis d).keys (trees d) t c.add_step.new.self first.adds.kept step law told.levels told.steps told.closed told.sampled told.ends)
+    record {
+      basis = c.in_ok-bodies.ensures.basis;
+      right = adds_through (reading_by (basis d)) (reading_by (basis d)) (basis d).keys (basis d).keys (trees d) (trees d) c.args.table.now t
+          c.add_step.new.self first.adds
+          (adds_step (reading_by (basis d)) (basis d).keys (trees d) t c.add_step.new.self first.adds.kept step law told.levels told.steps told.known.closed
+          told.known.sampled told.known.ends);
+    }
 
 pub returns-clause-step : goal.returns-clause-step
 returns-clause-step g c =

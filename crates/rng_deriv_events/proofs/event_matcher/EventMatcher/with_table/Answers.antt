@@ -1,4 +1,5 @@
 use Rattle.std.proofs.Common.{◌∙◌, refl, false, None}
+use Rattle.rng_deriv_events.specs.views.Basis.{reading_by}
 use Rattle.rng_deriv_events.specs.views.OpenPositions.{open_position}
 use Rattle.rng_deriv_events.specs.declared.position.Position.{Position}
 use Rattle.rng_deriv_events.proofs.KnownDocuments.{comes_first}
@@ -10,7 +11,7 @@ invariant_of-result g c =
     let d = c.args.derivatives in
     let told = c.in_ok-now.ensures in
     record {
-      state = kept_first (g.D.Derivatives.reading d) (g.D.Derivatives.basis d).keys (g.D.Derivatives.trees d)
+      state = kept_first (reading_by (g.D.Derivatives.basis d)) (g.D.Derivatives.basis d).keys (g.D.Derivatives.trees d)
           (record { table = c.level_of.new.table; now = c.in_ok-now.now; carried = c.new.result; steps = c.new-2.result }) told.adds.kept told.level.0
           c.new.ensures.items c.new-2.ensures.items;
       held = tt;
@@ -25,5 +26,5 @@ returns-clause-known g c =
       has_begun = false;
       held = None;
     } in
-    comes_first (g.D.Derivatives.reading d) (g.D.Derivatives.trees d) (open_position p) 0 c.in_ok-start.start
+    comes_first (reading_by (g.D.Derivatives.basis d)) (g.D.Derivatives.trees d) (open_position p) 0 c.in_ok-start.start
     (told.level.1 ∙ c.in_ok-numbers.ensures.ok) (levels_first p.state c.new.ensures.items c.new-2.ensures.items) refl refl c.in_ok-start.ensures.start

@@ -1,4 +1,4 @@
-use Rattle.std.proofs.Common.{◌≡◌, ◌∙◌, ◌+◌, ◌-◌, arith, ap, drop, length, sym, false, refl, slice_index_or}
+use Rattle.std.proofs.Common.{◌≡◌, ◌∙◌, ◌+◌, ◌-◌, arith, ap, drop, length, sym, false, slice_index_or}
 use Rattle.std.proofs.lemmas.List.{drop_all, drop_more}
 use Rattle.rng_deriv_events.specs.plain.Bits.{bits_of, with_bit}
 use Rattle.rng_deriv_events.proofs.level_table.bits.bits_of.Goals as goal
