@@ -10,7 +10,7 @@ import sys
 import tempfile
 import threading
 import unittest
-from urllib.parse import unquote_to_bytes
+from urllib.parse import unquote, unquote_to_bytes
 
 HERE, PROGRAM = pathlib.Path(sys.argv[1]), pathlib.Path(sys.argv[2])
 TOP = HERE.parents[1]
@@ -431,11 +431,11 @@ class Sentences(unittest.TestCase):
 
     @staticmethod
     def rows(crate, *names):
-        """The bytes of each row and what is printed for it."""
-        folder = TOP / "crates" / crate
-        lines = [line for name in names for line in (folder / "data" / name).read_text(encoding="utf-8").split("\n") if line and line[0] != "#"]
-        answers = (folder / "stdout").read_text(encoding="utf-8").split("\n")
-        return [(unquote_to_bytes(line), answer) for line, answer in zip(lines, answers)]
+        """The bytes of each row without its answer, and the answer."""
+        data = TOP / "crates" / crate / "data"
+        lines = [line for name in names for line in (data / name).read_text(encoding="utf-8").split("\n") if line and line[0] != "#"]
+        parted = [line.rpartition("\t= ") for line in lines]
+        return [(unquote_to_bytes(row), unquote(answer)) for row, _, answer in parted]
 
     def test_sentences_have_the_datatypes_and_files_of_their_trees(self):
         served = 0

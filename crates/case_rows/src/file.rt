@@ -9,9 +9,9 @@ use std::{fs, io};
 pub fn rows<R: Files + AllocGlobal>(rt: &R, path: &str) -> io::Result<Vec<Row>> {
     let text = fs::read_to_string(rt, path)?;
     let mut rows = Vec::new(rt.alloc());
-    for line in text.lines() {
+    for (before, line) in text.lines().enumerate() {
         if !line.is_empty() && !line.starts_with('#') {
-            rows.push(Row::new(rt.alloc(), line)?)?;
+            rows.push(Row::new(rt.alloc(), before.wrapping_add(1), line)?)?;
         }
     }
     Ok(rows)

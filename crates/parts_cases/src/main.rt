@@ -1,5 +1,5 @@
-//! Prints what calls return for rows, one line per row: calls on texts of schema files, on names, on datatypes, and on
-//! what all crates share.
+//! Compares what calls return for rows: calls on texts of schema files, on names, on datatypes, and on what all crates
+//! share.
 //!
 //! The rows of each are in a file of their own. The module that reads them describes them.
 #![tactic(auto)]
@@ -15,8 +15,8 @@ mod type_rows;
 use std::io;
 
 fn main(rt: HostRuntime) -> io::Result<()> {
-    text_rows::print_all(&rt)?;
-    name_rows::print_all(&rt)?;
-    type_rows::print_all(&rt)?;
-    model_rows::print_all(&rt)
+    text_rows::compare(&rt)?;
+    name_rows::compare(&rt)?;
+    type_rows::compare(&rt)?;
+    model_rows::compare(&rt)
 }

@@ -1,18 +1,19 @@
-// Prints what `rng_model` returns for each row of `model.txt`, one line per row.
+// Compares what `rng_model` returns for each row of `model.txt`.
 //
 // A row is a call and its argument. `reads` and `writes` count the failed calls of working devices and of broken ones. The
 // other calls are calls on texts.
 use crate::{model_devices, model_texts};
-use case_rows::rows;
+use case_rows::compare_rows;
 use std::io;
 use std::rt::Files;
 
-/// Prints a line for each row of `model.txt`.
-pub fn print_all(rt: &(impl Files + Print + AllocGlobal)) -> io::Result<()> {
-    for row in rows(rt, "model.txt")? {
-        print_answer(rt, row.text(0)?, row.text(1)?)?;
-    }
-    Ok(())
+/// Compares the answers to the rows of `model.txt`.
+pub fn compare(rt: &(impl Files + Print + AllocGlobal)) -> io::Result<()> {
+    compare_rows(
+        rt,
+        "model.txt",
+        |to, row| print_answer(to, row.text(0)?, row.text(1)?),
+    )
 }
 
 /// Prints what a call returns.

@@ -1,21 +1,17 @@
-// Prints what `rng_names` returns for each row of `names.txt`, one line per row.
+// Compares what `rng_names` returns for each row of `names.txt`.
 //
 // A row is `contains`, a class and a name, or `overlap` and two classes, which are tried in both orders.
 
 use crate::name_classes::{class_in, name_in};
-use case_rows::{Row, rows};
+use case_rows::{Row, compare_rows};
 use rng_model::NameClass;
 use rng_names::{contains, overlap};
 use std::io;
 use std::rt::Files;
 
-/// Prints a line for each row of `names.txt`.
-pub fn print_all(rt: &(impl Files + Print + AllocGlobal)) -> io::Result<()> {
-    let rows = rows(rt, "names.txt")?;
-    for row in rows.iter() {
-        print_answer(rt, row)?;
-    }
-    Ok(())
+/// Compares the answers to the rows of `names.txt`.
+pub fn compare(rt: &(impl Files + Print + AllocGlobal)) -> io::Result<()> {
+    compare_rows(rt, "names.txt", |to, row| print_answer(to, row))
 }
 
 /// Prints the line of a row.

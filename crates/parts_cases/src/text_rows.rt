@@ -1,19 +1,19 @@
-// Prints what `rnc_text` returns for each row of `texts.txt`, one line per row.
+// Compares what `rnc_text` returns for each row of `texts.txt`.
 //
 // A row is a call and bytes. For `decode` the decoded text is printed, for `cut` the tokens of that text, and for both
 // the clause that is broken and its offset.
-use case_rows::rows;
+use case_rows::compare_rows;
 use rnc_text::{Text, TextFault, read_text, tokens};
 use std::io;
 use std::rt::Files;
 
-/// Prints a line for each row of `texts.txt`.
-pub fn print_all(rt: &(impl Files + Print + AllocGlobal)) -> io::Result<()> {
-    let rows = rows(rt, "texts.txt")?;
-    for row in rows.iter() {
-        print_answer(rt, row.text(0)?, row.bytes(1)?)?;
-    }
-    Ok(())
+/// Compares the answers to the rows of `texts.txt`.
+pub fn compare(rt: &(impl Files + Print + AllocGlobal)) -> io::Result<()> {
+    compare_rows(
+        rt,
+        "texts.txt",
+        |to, row| print_answer(to, row.text(0)?, row.bytes(1)?),
+    )
 }
 
 /// Prints what a call returns for bytes.

@@ -1,21 +1,17 @@
-// Prints what `rng_types` returns for each row of `types.txt`, one line per row.
+// Compares what `rng_types` returns for each row of `types.txt`.
 //
 // A row is a call, a library, a type, the texts of the call, and then parameters, each a name and a value. For `find`
 // the datatype is printed. For `allows` of one text, `equal` of two and `all` of three it is printed whether it holds.
 // For each call the fault is printed if there is no such datatype.
-use case_rows::{Row, rows};
+use case_rows::{Row, compare_rows};
 use rng_types::{Builtin, Datatype, TypeFault, are_all_equal};
 use std::alloc::{AllocError, Global};
 use std::io;
 use std::rt::Files;
 
-/// Prints a line for each row of `types.txt`.
-pub fn print_all(rt: &(impl Files + Print + AllocGlobal)) -> io::Result<()> {
-    let rows = rows(rt, "types.txt")?;
-    for row in rows.iter() {
-        print_row(rt, row)?;
-    }
-    Ok(())
+/// Compares the answers to the rows of `types.txt`.
+pub fn compare(rt: &(impl Files + Print + AllocGlobal)) -> io::Result<()> {
+    compare_rows(rt, "types.txt", |to, row| print_row(to, row))
 }
 
 /// Prints the line of a row.

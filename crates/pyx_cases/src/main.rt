@@ -1,15 +1,14 @@
-//! Prints what `pyx` returns for each document of `cases.txt`, one line per row, fed in pieces of 1, 2, 3 and 4,096
-//! bytes.
+//! Compares what `pyx` returns for each document of `cases.txt`, fed in pieces of 1, 2, 3 and 4,096 bytes.
 //!
 //! A row is a document. Or it is a front, a count, a part that is repeated so often, and an end, where the part may
-//! have the same form. It prints the events with their lines, then the number of bytes held before the end if there are
-//! some, and then the outcome. For pieces of other sizes it only prints whether the result differs. After a fault it
-//! calls the reader again, and an answer other than the fault is the outcome.
+//! have the same form. The answer is the events with their lines, then the number of bytes held before the end if there
+//! are some, and then the outcome. For pieces of other sizes it only says where the result differs. After a fault the
+//! reader is called again, and an answer other than the fault is the outcome.
 #![tactic(auto)]
 
 ghost use Rattle.std.specs.Prelude.{◌<◌};
 
-use case_rows::{Row, rows};
+use case_rows::{Row, compare_rows};
 use pyx::{PyxFault, Reader};
 use rng_model::{Attr, Event, EventKind, Events, Name, OutOfMemory};
 use std::alloc::{AllocError, Global};
@@ -205,7 +204,10 @@ fn document_of(alloc: Global, row: &Row) -> io::Result<Vec<u8>> {
     Ok(document)
 }
 
-fn print_answer(rt: &(impl Print + AllocGlobal), document: &[u8]) -> io::Result<()> {
+/// Prints what is returned for the document of a row.
+fn print_answer(rt: &(impl Print + AllocGlobal), row: &Row) -> io::Result<()> {
+    let document = document_of(rt.alloc(), row)?;
+    let document = document.as_slice();
     let whole = answer_to(rt.alloc(), document, 4096)?;
     let outcome = whole.outcome.as_str();
     if outcome == OUT_OF_MEMORY {
@@ -231,10 +233,5 @@ fn print_answer(rt: &(impl Print + AllocGlobal), document: &[u8]) -> io::Result<
 }
 
 fn main(rt: HostRuntime) -> io::Result<()> {
-    let rows = rows(&rt, "cases.txt")?;
-    for row in rows.iter() {
-        let document = document_of(rt.alloc(), row)?;
-        print_answer(&rt, document.as_slice())?;
-    }
-    Ok(())
+    compare_rows(&rt, "cases.txt", |to, row| print_answer(to, row))
 }

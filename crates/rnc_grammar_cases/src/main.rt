@@ -1,16 +1,15 @@
-//! Prints what `rnc_grammar` returns for the texts in the rows of its data.
+//! Compares what `rnc_grammar` returns for the texts in the rows of its data.
 //!
-//! For `worked.txt` and `sentences.txt` it prints the tree, the number of components if the file is a grammar, and the
-//! files that it mentions, or the broken clause. For `neighbors.txt`, whose texts may declare anything, it only prints
-//! whether they are sentences. `tools/grammar_cases` writes the rows and the expected output.
+//! In `worked.txt` and `sentences.txt` the answer is the tree, the number of components if the file is a grammar, and the
+//! files that it mentions, or the broken clause. In `neighbors.txt`, whose texts may declare anything, it only says
+//! whether they are sentences. `dev/rows/grammar_cases` writes the rows with their answers.
 #![tactic(auto)]
 
-use case_rows::rows;
+use case_rows::{Answer, Row, compare_rows};
 use rnc_grammar::{FileTree, MentionedFile, ParseFault, parse};
 use rnc_text::{TextFault, read_text, tokens};
 use std::alloc::{AllocError, Global};
 use std::io;
-use std::rt::Files;
 
 /// Returns the fault of a file whose text has this one.
 fn fault_of(fault: TextFault) -> ParseFault {
@@ -97,24 +96,18 @@ fn sentence_line(alloc: Global, bytes: &[u8]) -> Result<String, AllocError> {
     }
 }
 
-/// Prints a line for each row of a file.
-fn print_answers<R: Files + Print + AllocGlobal>(rt: &R, path: &str) -> io::Result<()> {
-    for row in rows(rt, path)? {
-        println!(rt; "{}", answer_line(rt.alloc(), row.bytes(0)?)?)?;
-    }
-    Ok(())
+/// Prints the answer to a row.
+fn print_answer(to: &Answer, row: &Row) -> io::Result<()> {
+    println!(to; "{}", answer_line(to.alloc(), row.bytes(0)?)?)
 }
 
-/// Prints for each row of a file whether it is a sentence.
-fn print_sentences<R: Files + Print + AllocGlobal>(rt: &R, path: &str) -> io::Result<()> {
-    for row in rows(rt, path)? {
-        println!(rt; "{}", sentence_line(rt.alloc(), row.bytes(0)?)?)?;
-    }
-    Ok(())
+/// Prints whether the text of a row is a sentence.
+fn print_sentence(to: &Answer, row: &Row) -> io::Result<()> {
+    println!(to; "{}", sentence_line(to.alloc(), row.bytes(0)?)?)
 }
 
 fn main(rt: HostRuntime) -> io::Result<()> {
-    print_answers(&rt, "worked.txt")?;
-    print_answers(&rt, "sentences.txt")?;
-    print_sentences(&rt, "neighbors.txt")
+    compare_rows(&rt, "worked.txt", |to, row| print_answer(to, row))?;
+    compare_rows(&rt, "sentences.txt", |to, row| print_answer(to, row))?;
+    compare_rows(&rt, "neighbors.txt", |to, row| print_sentence(to, row))
 }

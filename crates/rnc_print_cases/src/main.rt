@@ -1,5 +1,5 @@
-//! Prints the text of the simple grammar of the files in each row of `cases.txt`, or the clause that the files break.
-//! Then it prints whether that text, read as a schema of one file, is printed as the same text.
+//! Compares the text of the simple grammar of the files in each row of `cases.txt`, or the clause that the files break.
+//! Then the answer says whether that text, read as a schema of one file, is printed as the same text.
 //!
 //! A row has a request, and files: the name of each, a text, and how often the text is repeated in it. Consecutive
 //! texts with the same name are one file. In each text `^` is its number, from 0, and `^+` the next one. The first file
@@ -11,7 +11,7 @@
 
 mod writers;
 
-use case_rows::{Row, files_of, rows};
+use case_rows::{Row, compare_rows, files_of};
 use rnc_print::printed_text;
 use rng_model::{SchemaFault, SimpleGrammar};
 use simple_forms::simplified;
@@ -21,10 +21,7 @@ use writers::print_to_writers;
 use written_grammars::read_grammar;
 
 fn main(rt: HostRuntime) -> io::Result<()> {
-    for row in rows(&rt, "cases.txt")? {
-        print_case(&rt, &row)?;
-    }
-    Ok(())
+    compare_rows(&rt, "cases.txt", |to, row| print_case(to, row))
 }
 
 /// Prints what is requested of the text of a row's files.

@@ -38,7 +38,7 @@ pub fn print_to_writers(
     print_to_narrow(rt, grammar, "the seventh byte fails", 6)
 }
 
-/// Prints the result, how many calls failed, and what was written, with `%0A` for its line feeds.
+/// Prints the result, how many calls failed, and what was written.
 fn print_to_narrow(
     rt: &(impl Print + AllocGlobal),
     grammar: &SimpleGrammar,
@@ -53,20 +53,6 @@ fn print_to_narrow(
         Err(PrintFault::Memory) => "out of memory",
     };
     print!(rt; "{title}: {answer}, {} failed, \"", device.failures())?;
-    print_in_a_line(rt, device.into_inner().bytes.as_slice())?;
+    rt.write_all(device.into_inner().bytes.as_slice())?;
     println!(rt; "\"")
-}
-
-/// Prints a text with `%0A` for its line feeds.
-fn print_in_a_line(rt: &impl Print, bytes: &[u8]) -> io::Result<()> {
-    let Ok(text) = str::from_utf8(bytes) else {
-        return Err(io::Error::from(io::ErrorKind::InvalidData));
-    };
-    for (place, line) in text.split('\n').enumerate() {
-        if place > 0 {
-            print!(rt; "%0A")?;
-        }
-        print!(rt; "{line}")?;
-    }
-    Ok(())
 }

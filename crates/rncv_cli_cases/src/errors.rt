@@ -3,7 +3,7 @@ use std::fmt::Display;
 use std::io;
 use std::io::{Eprint, Print};
 
-/// Prints on standard output what a run prints on standard error.
+/// Prints as the answer to a row what a run prints on standard error.
 #[derive(Drop)]
 pub struct Errors<'a, P>(pub &'a P);
 

@@ -1,13 +1,13 @@
-//! Prints for each row of `data/runs.txt` what a run of the program prints on standard error, and in the next line its
-//! exit status and what it wrote.
+//! Compares runs of the program for the rows of `runs.txt`.
 //!
-//! The files that the words name are in `data/` too.
+//! The answer is what the run prints on standard error, and in the next line its exit status and what it writes. The files
+//! that the words name are in `data/` too.
 #![tactic(auto)]
 
 mod environment;
 mod errors;
 
-use case_rows::{Pace, Row, Sink, Source, rows};
+use case_rows::{Answer, Pace, Row, Sink, Source, compare_rows};
 use environment::Environment;
 use errors::Errors;
 use rncv_cli::run_program;
@@ -17,25 +17,22 @@ use std::rt::Files;
 use std::{env, fs, io};
 
 fn main(rt: HostRuntime) -> io::Result<()> {
-    for row in rows(&rt, "runs.txt")? {
-        print_run(&rt, &row)?;
-    }
-    Ok(())
+    compare_rows(&rt, "runs.txt", |to, row| print_run(to, &rt, row))
 }
 
 /// Prints the line of a fault of a run over the devices and with the words of a row, and in the next line the exit
 /// status of the run and what it writes.
-fn print_run(rt: &(impl Files + Print + AllocGlobal), row: &Row) -> io::Result<()> {
+fn print_run(to: &Answer, rt: &impl Files, row: &Row) -> io::Result<()> {
     let device = row.text(0)?;
     let source = Source::new(row.bytes(1)?, pace_of(device, "read "));
-    let sink = Sink::new(rt.alloc(), pace_of(device, "write "), device == "flush")?;
+    let sink = Sink::new(to.alloc(), pace_of(device, "write "), device == "flush")?;
     let mut input = Device::new(source);
     let mut output = Device::new(sink);
-    let given = env::args(&(Environment(row), rt.alloc()));
+    let given = env::args(&(Environment(row), to.alloc()));
     let open_file = |name: &str| fs::open(rt, name);
-    let errors = (Errors(rt), rt.alloc());
+    let errors = (Errors(to), to.alloc());
     let exit_code = run_program(&errors, given, open_file, &mut input, &mut output);
-    print_end(rt, exit_code, output.into_inner().text()?)
+    print_end(to, exit_code, output.into_inner().text()?)
 }
 
 /// Prints an exit status and what was written, ended by a line feed.

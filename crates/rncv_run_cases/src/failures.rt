@@ -59,17 +59,6 @@ fn print_outcome(rt: &impl Print, outcome: &Outcome) -> io::Result<()> {
         }
         Err(fault) => print!(rt; "{fault:?}")?,
     }
-    print!(rt; ", failed {reads} {writes}, unread {}: ", outcome.unread)?;
-    print_in_a_line(rt, written)
-}
-
-/// Prints a text with `%0A` for its line feeds.
-fn print_in_a_line(rt: &impl Print, text: &str) -> io::Result<()> {
-    for (place, line) in text.split('\n').enumerate() {
-        if place > 0 {
-            print!(rt; "%0A")?;
-        }
-        print!(rt; "{line}")?;
-    }
-    println!(rt;)
+    let unread = outcome.unread;
+    println!(rt; ", failed {reads} {writes}, unread {unread}: {written}")
 }

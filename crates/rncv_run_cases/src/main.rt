@@ -1,60 +1,78 @@
-//! Prints the status that `run` returns and what it writes for each row of `data/cases.txt`, `data/sizes.txt`,
-//! `data/files.txt` and `data/worked.txt`, with a reader that returns everything at once. Readers that return at most 1,
-//! 2, 3 and 4,096 bytes at a time must give the same; any other result is printed after it. For each row of
-//! `data/devices.txt` it prints what a run over devices that fail returns, how many reads and writes failed, how many
-//! bytes are unread, and what is written. Then it prints a line for each document of `data/documents.txt`, with a letter
-//! for each schema of `data/schemas.txt`: V for valid and I for invalid. If validators that judge all these documents
-//! one after the other, in pieces, differ, their letters follow.
+//! Compares runs for the rows of six files.
 //!
-//! The documents, the schemas and their letters come from a second program, `tools/all_splits`.
+//! In `cases.txt`, `sizes.txt`, `files.txt` and `worked.txt` the answer is the status that `run` returns and what it
+//! writes, with a reader that returns everything at once. Readers that return at most 1, 2, 3 and 4,096 bytes at a time
+//! must give the same; any other result is printed after it. In `devices.txt` the answer is what a run over devices that
+//! fail returns, how many reads and writes failed, how many bytes are unread, and what is written. A row of
+//! `documents.txt` is a document, and the answer has a letter for each schema of `schemas.txt`: V for valid and I for
+//! invalid. If validators that judge all these documents one after the other, in pieces, differ, their letters follow.
+//!
+//! The documents, the schemas and their letters come from a second program, `dev/rows/all_splits`.
 #![tactic(auto)]
 
 mod failures;
 
-use case_rows::{Pace, Row, Source, rows};
+use case_rows::{Pace, Row, Source, compare_rows, rows};
 use failures::print_over_devices;
 use rncv_run::{Command, Status, run};
 use rncv_validator::{Validator, Verdict};
 use rng_model::Device;
 use std::alloc::Global;
 use std::io;
-use std::rt::Files;
 
 fn main(rt: HostRuntime) -> io::Result<()> {
-    for row in rows(&rt, "cases.txt")? {
-        let document = joined(rt.alloc(), &row)?;
-        let line = line_of(rt.alloc(), &row, row.bytes(2)?, document.as_slice())?;
-        print!(rt; "{line}")?;
-    }
-    for row in rows(&rt, "sizes.txt")? {
-        let schema = joined(rt.alloc(), &row)?;
-        let line = line_of(rt.alloc(), &row, schema.as_slice(), row.bytes(2)?)?;
-        print!(rt; "{line}")?;
-    }
-    print_rows_with_files(&rt, "files.txt")?;
-    print_rows_with_files(&rt, "worked.txt")?;
-    for row in rows(&rt, "devices.txt")? {
-        print_over_devices(&rt, &row)?;
-    }
+    compare_rows(&rt, "cases.txt", |to, row| print_of_document(to, row))?;
+    compare_rows(&rt, "sizes.txt", |to, row| print_of_schema(to, row))?;
+    compare_rows(&rt, "files.txt", |to, row| print_of_files(to, row))?;
+    compare_rows(&rt, "worked.txt", |to, row| print_of_files(to, row))?;
+    compare_rows(&rt, "devices.txt", |to, row| print_over_devices(to, row))?;
     let schemas = rows(&rt, "schemas.txt")?;
-    let mut validators = validators_of(rt.alloc(), schemas.as_slice())?;
-    for document in rows(&rt, "documents.txt")? {
-        let letters = letters_of(rt.alloc(), schemas.as_slice(), document.bytes(0)?)?;
-        println!(rt; "{letters}")?;
-        let others = letters_by(rt.alloc(), &mut validators, document.bytes(0)?)?;
-        if letters.as_str() != others.as_str() {
-            println!(rt; "by validators {others}")?;
-        }
-    }
-    Ok(())
+    let schemas = schemas.as_slice();
+    let mut validators = validators_of(rt.alloc(), schemas)?;
+    compare_rows(&rt, "documents.txt", |to, row| {
+        print_letters(to, schemas, &mut validators, row)
+    })
 }
 
-/// Prints what `run` returns and writes for each row of a file whose rows have a document and several files.
-fn print_rows_with_files(rt: &(impl Print + AllocGlobal + Files), path: &str) -> io::Result<()> {
-    for row in rows(rt, path)? {
-        let files = files_of(rt.alloc(), &row, 2)?;
-        let line = line_over(rt.alloc(), &row, files.as_slice(), row.bytes(1)?)?;
-        print!(rt; "{line}")?;
+/// Prints the result for a row with a schema, and a document in pieces.
+fn print_of_document(rt: &(impl Print + AllocGlobal), row: &Row) -> io::Result<()> {
+    let document = joined(rt.alloc(), row)?;
+    print!(rt;
+        "{}",
+        line_of(rt.alloc(), row, row.bytes(2)?, document.as_slice())?
+    )
+}
+
+/// Prints the result for a row with a document, and a schema in pieces.
+fn print_of_schema(rt: &(impl Print + AllocGlobal), row: &Row) -> io::Result<()> {
+    let schema = joined(rt.alloc(), row)?;
+    print!(rt;
+        "{}",
+        line_of(rt.alloc(), row, schema.as_slice(), row.bytes(2)?)?
+    )
+}
+
+/// Prints the result for a row with a document and several files.
+fn print_of_files(rt: &(impl Print + AllocGlobal), row: &Row) -> io::Result<()> {
+    let files = files_of(rt.alloc(), row, 2)?;
+    print!(rt;
+        "{}",
+        line_over(rt.alloc(), row, files.as_slice(), row.bytes(1)?)?
+    )
+}
+
+/// Prints a letter for each schema. If the validators of the schemas have others, prints theirs too.
+fn print_letters(
+    rt: &(impl Print + AllocGlobal),
+    schemas: &[Row],
+    validators: &mut Vec<Option<Validator>>,
+    document: &Row,
+) -> io::Result<()> {
+    let letters = letters_of(rt.alloc(), schemas, document.bytes(0)?)?;
+    println!(rt; "{letters}")?;
+    let others = letters_by(rt.alloc(), validators, document.bytes(0)?)?;
+    if letters.as_str() != others.as_str() {
+        println!(rt; "by validators {others}")?;
     }
     Ok(())
 }

@@ -1,4 +1,4 @@
-// Outcomes by the matcher over owned trees, and whether others agree.
+// Outcomes by the matcher over owned trees.
 ghost use Rattle.rng_model.specs.restrictions.Restrictions.{BreaksNone};
 ghost use Rattle.rng_model.specs.simple.Table.{grammar_of};
 
@@ -8,25 +8,6 @@ use rng_model::{PyxFault, SimpleGrammar};
 use rng_plain_matcher::PlainMatcher;
 use std::alloc::Global;
 use std::io;
-
-/// How many rows there were, and how many of them are valid.
-#[derive(Drop)]
-pub struct Verdicts {
-    pub rows: u32,
-    pub valid: u32,
-}
-
-impl Verdicts {
-    /// Counts a row. Returns whether the two outcomes are the same and the verdict of the row is theirs.
-    pub fn count(&mut self, verdict: &str, outcome: Outcome, by_trees: Outcome) -> bool {
-        self.rows = self.rows.wrapping_add(1);
-        let is_valid = matches!(outcome, Outcome::Valid);
-        if is_valid {
-            self.valid = self.valid.wrapping_add(1);
-        }
-        outcome == by_trees && is_valid == (verdict == "V")
-    }
-}
 
 /// Returns the outcome of a document by the matcher over owned trees.
 ///

@@ -1,12 +1,12 @@
-//! Prints what the matcher returns for each row of `cases.txt`. A matcher that begins anew must return the same, and so
-//! must the matcher over owned trees; any other outcome is printed after it. Then it prints a line for each document of
-//! `documents.txt`, with a letter for each schema of `schemas.txt`: V for valid, I for invalid, and X if the two matchers
-//! differ. At last it prints how many rows of `generated.txt` there are, and how many of them are valid. Before that it
-//! prints each row of that file whose schema is refused, or for which the two matchers, or the row, differ.
+//! Compares what the matcher returns for the rows of three files.
 //!
 //! A row of `cases.txt` has a schema and a document, possibly in pieces, each followed by how often it is repeated. The
-//! schemas of `schemas.txt`, the documents and their letters come from a second program, `tools/all_splits`. The rows of
-//! `generated.txt` come from `dev/search/fuzz/matcher_rows.py`: a verdict, a schema and a document.
+//! answer is the outcome. A matcher that begins anew must return the same, and so must the matcher over owned trees: any
+//! other outcome is printed after it. A row of `documents.txt` is a document. The answer has a letter for each schema of
+//! `schemas.txt`: V for valid, I for invalid, and X if the two matchers differ. These schemas, the documents and the
+//! letters come from a second program, `dev/rows/all_splits`. The rows of `generated.txt` come from
+//! `dev/search/fuzz/matcher_rows.py`: a schema, a document and the verdict. Both matchers must have that verdict, and the
+//! same outcome.
 #![tactic(auto)]
 
 mod compared;
@@ -16,8 +16,8 @@ ghost use Rattle.std.specs.Prelude.{All, IfOk, IfSome};
 ghost use Rattle.rng_model.specs.restrictions.Restrictions.{BreaksNone};
 ghost use Rattle.rng_model.specs.simple.Table.{grammar_of};
 
-use case_rows::{Row, rows};
-use compared::{Verdicts, outcome_by_trees};
+use case_rows::{Answer, Comparison, Row, compare_rows, rows};
+use compared::outcome_by_trees;
 use rng_deriv::{Matcher, Outcome};
 use rng_load::load;
 use rng_model::{SchemaFault, SimpleGrammar};
@@ -29,45 +29,46 @@ use std::rt::Files;
 use watched::taken;
 
 fn main(rt: HostRuntime) -> io::Result<()> {
-    for row in rows(&rt, "cases.txt")? {
-        print_case(&rt, &row)?;
-    }
-    let grammars = grammars_of(rt.alloc(), rows(&rt, "schemas.txt")?.as_slice())?;
-    for document in rows(&rt, "documents.txt")? {
-        let letters = letters_of(rt.alloc(), grammars.as_slice(), document.bytes(0)?)?;
-        println!(rt; "{letters}")?;
-    }
-    print_generated(&rt)
+    compare_rows(&rt, "cases.txt", |to, row| print_case(to, row))?;
+    compare_documents(&rt)?;
+    compare_rows(&rt, "generated.txt", |to, row| print_verdict(to, row))
 }
 
-/// Prints each row of `generated.txt` that is refused or for which something differs, and then how many others there are.
-fn print_generated(rt: &(impl Files + Print + AllocGlobal)) -> io::Result<()> {
-    let mut verdicts = Verdicts { rows: 0, valid: 0 };
-    for row in rows(rt, "generated.txt")? {
-        print_compared(rt, &row, &mut verdicts)?;
+/// Compares the letters of each document of `documents.txt`.
+fn compare_documents(rt: &(impl Files + Print + AllocGlobal)) -> io::Result<()> {
+    let grammars = grammars_of(rt.alloc(), rows(rt, "schemas.txt")?.as_slice())?;
+    let mut documents = Comparison::of("documents.txt");
+    for row in documents.rows(rt)? {
+        let answer = Answer::new(rt.alloc());
+        let ended = print_letters(&answer, grammars.as_slice(), &row);
+        documents.compare(rt, &row, answer, ended)?;
     }
-    println!(rt; "{} rows, {} valid", verdicts.rows, verdicts.valid)
+    documents.finish(rt)
 }
 
-/// Counts a row of `generated.txt`, and prints it if something differs. A row whose schema is refused is printed alone.
-fn print_compared(
-    rt: &(impl Print + AllocGlobal),
-    row: &Row,
-    verdicts: &mut Verdicts,
-) -> io::Result<()> {
-    let schema = row.text(1)?;
-    let Some(grammar) = accepted(rt.alloc(), schema.as_bytes())? else {
-        return println!(rt; "refused: {schema}");
+/// Prints the verdict on a document, and the outcomes of both matchers if these differ. Or prints that the schema is
+/// refused.
+fn print_verdict(rt: &(impl Print + AllocGlobal), row: &Row) -> io::Result<()> {
+    let Some(grammar) = accepted(rt.alloc(), row.bytes(0)?)? else {
+        return println!(rt; "refused");
     };
-    let document = row.bytes(2)?;
+    let document = row.bytes(1)?;
     let outcome = judged(rt.alloc(), &grammar, document, false)?;
     let by_trees = outcome_by_trees(rt.alloc(), &grammar, document)?;
-    if !verdicts.count(row.text(0)?, outcome, by_trees) {
-        println!(rt; "row {}", verdicts.rows)?;
+    println!(rt; "{}", verdict_of(outcome))?;
+    if outcome != by_trees {
         print_outcome(rt, outcome)?;
         print_outcome(rt, by_trees)?;
     }
     Ok(())
+}
+
+/// Returns the word for a verdict.
+fn verdict_of(outcome: Outcome) -> &'static str {
+    match outcome {
+        Outcome::Valid => "valid",
+        Outcome::Invalid(_) => "invalid",
+    }
 }
 
 /// Prints the outcome of a row: `valid`, or `invalid line N`.
@@ -184,6 +185,14 @@ fn ended(matcher: Matcher<'_>) -> io::Result<Outcome> {
         Ok(outcome) => Ok(outcome),
         Err(_) => Err(io::Error::from(io::ErrorKind::OutOfMemory)),
     }
+}
+
+/// Prints a letter for each grammar.
+fn print_letters(to: &Answer, grammars: &[SimpleGrammar], document: &Row) -> io::Result<()>
+    requires { All (λ g. BreaksNone (grammar_of g)) grammars.now }
+{
+    let letters = letters_of(to.alloc(), grammars, document.bytes(0)?)?;
+    println!(to; "{letters}")
 }
 
 /// Returns a letter for each grammar.

@@ -1,5 +1,5 @@
-//! Prints what `rng_load` returns for the files in the rows of `files.txt`: the clause that is broken, with the file
-//! that breaks it by itself, or the schema.
+//! Compares what `rng_load` returns for the files in the rows of `files.txt`: the clause that is broken, with the file
+//! that breaks it by itself, or the schema. Then it compares where the file in each row of `places.txt` breaks a clause.
 //!
 //! A row has a request, and files: the name of each, a text, and how often the text is repeated in it. The first file
 //! is the main one. The request `schema` prints all grammars from the main one on, each before those that are nested in
@@ -11,7 +11,7 @@ mod grammars;
 mod nested;
 mod patterns;
 
-use case_rows::{Row, rows};
+use case_rows::{Row, compare_rows};
 use grammars::{print_grammar, print_grammars};
 use rnc_places::place_of;
 use rng_load::{Schema, load};
@@ -20,13 +20,8 @@ use std::alloc::Global;
 use std::io;
 
 fn main(rt: HostRuntime) -> io::Result<()> {
-    for row in rows(&rt, "files.txt")? {
-        print_answer(&rt, &row)?;
-    }
-    for row in rows(&rt, "places.txt")? {
-        print_place(&rt, &row)?;
-    }
-    Ok(())
+    compare_rows(&rt, "files.txt", |to, row| print_answer(to, row))?;
+    compare_rows(&rt, "places.txt", |to, row| print_place(to, row))
 }
 
 /// Prints where the file of a row breaks a clause.

@@ -1,5 +1,5 @@
-//! Prints what `rng_load` and then `rng_simple` return for the files in the rows of `cases.txt`, one line per row: the
-//! clause that is broken, or the simple form.
+//! Compares what `rng_load` and then `rng_simple` return for the files in the rows of `cases.txt`: the clause that is
+//! broken, or the simple form.
 //!
 //! A row has a request, and files: the name of each, a text, and how often the text is repeated in it. Consecutive
 //! texts with the same name are one file. In each text `^` is its number, from 0, and `^+` the next one. The first file
@@ -13,17 +13,14 @@ mod elements;
 mod forms;
 mod patterns;
 
-use case_rows::{Row, files_of, rows};
+use case_rows::{Row, compare_rows, files_of};
 use forms::{print_form, print_size};
 use rng_model::SchemaFault;
 use simple_forms::simplified;
 use std::io;
 
 fn main(rt: HostRuntime) -> io::Result<()> {
-    for row in rows(&rt, "cases.txt")? {
-        print_answer(&rt, &row)?;
-    }
-    Ok(())
+    compare_rows(&rt, "cases.txt", |to, row| print_answer(to, row))
 }
 
 /// Prints what is requested of the simple form of a row's files, or why they have none.

@@ -3,16 +3,16 @@
 
     dev/bench/overlap_time/run.py [PROGRAM]
 
-The default PROGRAM is `crates/parts_cases/out/parts_cases`. It answers rows. This script writes one row with two classes in its notation
-(`crates/parts_cases/src/name_classes.rt`). Each row has the answers for both orders of the classes, and the seconds of a processor for the two calls.
-The time of a row with the same classes and a quick call is subtracted: it is the time to read the row and to make the classes.
+The default PROGRAM is `crates/parts_cases/out/parts_cases`. It compares the answers to rows. This script writes one row with two classes in its notation
+(`crates/parts_cases/src/name_classes.rt`) and the answer for both orders of the classes. It shows that answer and the seconds of a processor for the two
+calls. The time of a row with the same classes and a quick call is subtracted: it is the time to read the row and to make the classes.
 """
 import pathlib
 import sys
 import tempfile
 
 sys.path.insert(0, str(pathlib.Path(__file__).resolve().parents[1]))
-from measuring import TOP, Table, answer, took  # noqa: E402
+from measuring import TOP, Table, took, wanted  # noqa: E402
 
 
 def choice(words):
@@ -34,13 +34,13 @@ def namespaces(front, count):
 
 COUNT = 20000
 ROWS = [
-    ("20,000 names, and 20,000 others", choice(names("p", COUNT)), choice(names("p", COUNT, "m"))),
-    ("20,000 names, and 19,999 others and the last of them", choice(names("p", COUNT)), choice(names("p", COUNT - 1, "m") + [f"p:n{COUNT - 1}"])),
-    ("20,000 namespaces, and 20,000 others", choice(namespaces("p", COUNT)), choice(namespaces("q", COUNT))),
-    ("20,000 namespaces, and 20,000 names of others", choice(namespaces("p", COUNT)), choice(names("q", COUNT))),
-    ("20,000 names and one of 500,000 letters, and 20,000 others", choice(names("p", COUNT) + ["p:" + "x" * 500000]), choice(names("q", COUNT))),
-    ("`*` but 2,000 names, and those names", choice(names("p", 2000)) + " -", choice(names("p", 2000))),
-    ("`*` but 20,000 names, and those names", choice(names("p", COUNT)) + " -", choice(names("p", COUNT))),
+    ("20,000 names, and 20,000 others", "false false", choice(names("p", COUNT)), choice(names("p", COUNT, "m"))),
+    ("20,000 names, and 19,999 others and the last of them", "true true", choice(names("p", COUNT)), choice(names("p", COUNT - 1, "m") + [f"p:n{COUNT - 1}"])),
+    ("20,000 namespaces, and 20,000 others", "false false", choice(namespaces("p", COUNT)), choice(namespaces("q", COUNT))),
+    ("20,000 namespaces, and 20,000 names of others", "false false", choice(namespaces("p", COUNT)), choice(names("q", COUNT))),
+    ("20,000 names and one of 500,000 letters, and 20,000 others", "false false", choice(names("p", COUNT) + ["p:" + "x" * 500000]), choice(names("q", COUNT))),
+    ("`*` but 2,000 names, and those names", "false false", choice(names("p", 2000)) + " -", choice(names("p", 2000))),
+    ("`*` but 20,000 names, and those names", "false false", choice(names("p", COUNT)) + " -", choice(names("p", COUNT))),
 ]
 
 
@@ -50,16 +50,18 @@ def row_run(program, row):
         for name in ("texts", "types", "model"):
             pathlib.Path(folder, f"{name}.txt").touch()
         pathlib.Path(folder, "names.txt").write_text(row + "\n")
-        return took([program], cwd=folder)
+        return wanted(took([program], cwd=folder), row[:80])
 
 
 def main():
     program = pathlib.Path(sys.argv[1] if len(sys.argv) > 1 else TOP / "crates/parts_cases/out/parts_cases").resolve()
     table = Table("Classes", "Answers", "Seconds of a processor")
-    for what, first, second in ROWS:
-        run = row_run(program, f"overlap\t{first}\t{second}")
+    for what, answer, first, second in ROWS:
+        run = row_run(program, f"overlap\t{first}\t{second}\t= {answer}")
+        if not run.printed.startswith("texts.txt: 0 rows\nnames.txt: 1 rows\n"):
+            sys.exit(f"overlap_time: {what}: the answer is not {answer}: {run.printed[-200:]}")
         reading = row_run(program, f"overlap\tp:a\t{first} {second} |").processor
-        table.row(what, f"`{answer(run)}`", f"{max(run.processor - reading, 0) / 1000:.3f}")
+        table.row(what, f"`{answer}`", f"{max(run.processor - reading, 0) / 1000:.3f}")
 
 
 if __name__ == "__main__":

@@ -1,11 +1,11 @@
 #!/usr/bin/env python3
 """A second program for matching. It tries all splits, as the rules of matching say (RELAX NG Specification, section 6.2).
 
-It writes the input of `rncv_run_cases` for small documents, and the output that `rncv_run_cases` must print for it. The schemas and the documents of at
-most six lines go to crates/rncv_run_cases/data/. A letter for each document and schema (V: valid, I: invalid) goes to standard output. These letters are
-the end of crates/rncv_run_cases/stdout. The schemas contain every kind of pattern. The last schemas are random.
+It writes rows for small documents: `schemas.txt`, and `documents.txt` with all documents of at most six lines. The answer of a document has a letter for
+each schema (V: valid, I: invalid). The schemas contain every kind of pattern. The last schemas are random.
 
-    dev/rows/all_splits/run.py [--kinds all]        (at the top of the repository; without --kinds only the schemas of FIRST_KINDS)
+    dev/rows/all_splits/run.py                      (the rows of crates/rncv_run_cases/data: the schemas of FIRST_KINDS)
+    dev/rows/all_splits/run.py --kinds all          (the rows of crates/rng_deriv_cases/data)
 """
 import argparse
 import functools
@@ -13,6 +13,7 @@ import itertools
 import pathlib
 import random
 
+TOP = pathlib.Path(__file__).resolve().parents[3]
 EMPTY, TEXT, NOT_ALLOWED = ("empty",), ("text",), ("notAllowed",)
 
 
@@ -434,17 +435,17 @@ def documents():
 def main():
     words = argparse.ArgumentParser(description=__doc__)
     words.add_argument("--kinds", choices=["first", "all"], default="first")
-    words.add_argument("--data", type=pathlib.Path, default=pathlib.Path("crates/rncv_run_cases/data"))
+    words.add_argument("--data", type=pathlib.Path, help="the folder that the rows are written to")
     chosen = words.parse_args()
-    schemas = FIRST_KINDS
+    crate, schemas = "rncv_run_cases", FIRST_KINDS
     if chosen.kinds == "all":
-        schemas = schemas + [(written(it), it) for it in ALL_KINDS + random_schemas(40)]
-    (chosen.data / "schemas.txt").write_text("".join(f"{schema}\n" for schema, _ in schemas))
-    written_documents = []
-    for lines, root in documents():
-        written_documents.append(lines)
-        print("".join("V" if matches(pattern, (), (root,)) else "I" for _, pattern in schemas))
-    (chosen.data / "documents.txt").write_text("".join(f"{it}\n" for it in written_documents))
+        crate, schemas = "rng_deriv_cases", schemas + [(written(it), it) for it in ALL_KINDS + random_schemas(40)]
+    data = chosen.data or TOP / "crates" / crate / "data"
+    (data / "schemas.txt").write_text("".join(f"{schema}\n" for schema, _ in schemas))
+    with open(data / "documents.txt", "w") as rows:
+        for lines, root in documents():
+            letters = "".join("V" if matches(pattern, (), (root,)) else "I" for _, pattern in schemas)
+            rows.write(f"{lines}\t= {letters}\n")
 
 
 main()

@@ -1,5 +1,6 @@
 #!/bin/sh
-# Writes the cases of the program `rnc_grammar_cases` again: the rows in its data/ and the output that it must print. Each run gives the same files.
+# Writes the cases of the program `rnc_grammar_cases` again: the rows in its data/ with their answers, and its stdout, which has how many there are. Each
+# run gives the same files.
 #
 #   dev/rows/grammar_cases/run.sh
 #

@@ -1,4 +1,4 @@
-"""Writes the rows and the expected output of `rnc_grammar_cases` into its folder. run.sh says more."""
+"""Writes the rows of `rnc_grammar_cases` with their answers, and how many there are, into its folder. run.sh says more."""
 import os
 import random
 import re
@@ -50,8 +50,14 @@ def answer(printed):
     return "".join([printed, grammar, *mentions(printed)])
 
 
-def row(text):
+def field(text):
+    """A field of a row."""
     return text.replace("%", "%25").replace("\t", "%09")
+
+
+def row(text, wanted):
+    """The row of a text with its answer. An empty text is written as a space, which is not a token."""
+    return f"{field(text) or '%20'}\t= {field(wanted)}\n"
 
 
 def sentences(count):
@@ -97,9 +103,8 @@ def main(folder):
     with open(f"{folder}/stdout", "w", encoding="utf-8") as stdout:
         for name, rows in parts.items():
             with open(f"{folder}/data/{name}", "w", encoding="utf-8") as data:
-                # (an empty row is written as a space, which is not a token)
-                data.writelines(f"{row(text) or '%20'}\n" for text in rows)
-            stdout.writelines(f"{it}\n" for it in rows.values())
+                data.writelines(row(text, wanted) for text, wanted in rows.items())
+            stdout.write(f"{name}: {len(rows)} rows\n")
 
 
 main(sys.argv[1])

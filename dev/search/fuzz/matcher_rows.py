@@ -3,10 +3,10 @@
 
     dev/search/fuzz/matcher_rows.py [--seed S] [--schemas N] [PROGRAM] > crates/rng_deriv_cases/data/generated.txt
 
-A row has a verdict (`V` for valid, `I` for invalid), a schema of one file and a document. The verdict is that of the plain matcher of this folder
+A row has a schema of one file, a document and the verdict (`= valid` or `= invalid`). The verdict is that of the plain matcher of this folder
 (`matching.py`), which shares nothing with the matchers that `rng_deriv_cases` compares. Each of these schemas is in the grammar and breaks no clause: the
 default PROGRAM, `crates/rncv/out/rncv`, answers `schema ok`. For each schema there are valid documents and changed ones. The same seed gives the same rows.
-The last line says how many rows there are, and how many of them are valid: `rng_deriv_cases` has to print the same.
+The last line says how many rows there are, and how many of them are valid. `stdout` of `rng_deriv_cases` has the first number too.
 """
 import argparse
 import pathlib
@@ -39,7 +39,7 @@ def rows_of(schema, text, name):
         if verdict == "malformed" or document in seen or len(document) > MOST_BYTES:
             continue
         seen.add(document)
-        yield verdict, f"{verdict[0].upper()}\t{field(text)}\t{field(document)}"
+        yield verdict, f"{field(text)}\t{field(document)}\t= {verdict}"
 
 
 def rows(program, seed, count):
@@ -64,7 +64,7 @@ def main():
             made = list(rows(running.Program(pathlib.Path(given.program).resolve(), room), given.seed, given.schemas))
         except OSError as fault:
             sys.exit(f"matcher_rows.py: {given.program}: {fault.strerror}")
-    print("# Random schemas and documents, by dev/search/fuzz/matcher_rows.py. A row has a verdict, a schema and a document.")
+    print("# Random schemas and documents, by dev/search/fuzz/matcher_rows.py. A row has a schema, a document and the verdict.")
     print(f"# seed {given.seed}, {given.schemas} schemas")
     print("\n".join(row for _, row in made))
     valid = sum(verdict == "valid" for verdict, _ in made)

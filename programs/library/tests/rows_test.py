@@ -1,11 +1,12 @@
 """Rows of cases through the C library:   rows_test.py librncv.so
 
-For each row of crates/rncv_run_cases the library answers what the program does. The gate compares the program with crates/rncv_run_cases/stdout.
-Documents are fed whole, and then in pieces of 4,096 bytes and of one byte, or of 97 if they are long.
+For each row of crates/rncv_run_cases the library gives the answer in the row. The gate compares the program with the same answers. Documents are fed
+whole, and then in pieces of 4,096 bytes and of one byte, or of 97 if they are long.
 """
 
 import ctypes
 import os
+import re
 import sys
 import urllib.parse
 
@@ -15,11 +16,18 @@ CASES = os.path.abspath(f"{os.path.dirname(__file__)}/../../../crates/rncv_run_c
 
 
 def rows(name):
-    """The rows of a file of cases, each a list of fields."""
+    """The rows of a file of cases: the place of each, and its fields. The last field is `= ` and the answer, except in `schemas.txt`."""
     with open(f"{CASES}/data/{name}", encoding="utf-8") as lines:
-        for line in lines.read().split("\n"):
+        for number, line in enumerate(lines.read().split("\n"), 1):
             if line and not line.startswith("#"):
-                yield [urllib.parse.unquote_to_bytes(field) for field in line.split("\t")]
+                yield f"{name}:{number}", [urllib.parse.unquote_to_bytes(field) for field in line.split("\t")]
+
+
+def cases(name):
+    """The rows of a file of cases: the place of each, its fields and its answer, as the program prints it."""
+    for place, (*fields, answer) in rows(name):
+        assert answer.startswith(b"= "), place
+        yield place, fields, answer[2:].decode() + "\n"
 
 
 def joined(fields):
@@ -83,45 +91,48 @@ class Program:
 
 
 def runs():
-    """The command, the files and the document of each row of a run, in the order of `stdout`."""
-    for command, name, schema, *document in rows("cases.txt"):
-        yield command, [(name, schema)], joined(document)
-    for command, name, document, *schema in rows("sizes.txt"):
-        yield command, [(name, joined(schema))], document
-    for command, document, *files in (row for name in ("files.txt", "worked.txt") for row in rows(name)):
+    """The place, the command, the files, the document and the answer of each row of a run."""
+    for place, (command, name, schema, *document), answer in cases("cases.txt"):
+        yield place, command, [(name, schema)], joined(document), answer
+    for place, (command, name, document, *schema), answer in cases("sizes.txt"):
+        yield place, command, [(name, joined(schema))], document, answer
+    for place, (command, document, *files), answer in (case for name in ("files.txt", "worked.txt") for case in cases(name)):
         times = [*files[2::3], b"1"]
-        yield command, [(name, text * int(often or 1)) for name, text, often in zip(files[::3], files[1::3], times)], document
+        yield place, command, [(name, text * int(often or 1)) for name, text, often in zip(files[::3], files[1::3], times)], document, answer
 
 
 def letters(program, schemas):
-    """The letters of a document, as the last lines of `stdout` have them, by schemas that were compiled once."""
+    """The place of each document, its letters by schemas that were compiled once, and its answer."""
     handles = [Schema() for _ in schemas]
-    for handle, (schema,) in zip(handles, schemas):
+    for handle, (_, (schema,)) in zip(handles, schemas):
         assert program.lib.rncv_compile(files_of((b"s.rnc", schema)), 1, handle, Fault()) == DONE
-    for (document,) in rows("documents.txt"):
-        yield "".join(program.verdict(handle, document, 3)[0].replace("G", "V") for handle in handles) + "\n"
+    for place, (document,), answer in cases("documents.txt"):
+        yield place, "".join(program.verdict(handle, document, 3)[0].replace("G", "V") for handle in handles) + "\n", answer
     for handle in handles:
         program.lib.rncv_schema_free(handle)
 
 
+def answers(program):
+    """The place of each row, what the library answers, and the answer of the row. C has no devices that fail, so none of `devices.txt`."""
+    for place, command, files, document, answer in runs():
+        yield place, program.answer(command, files, document), answer
+    yield from letters(program, [*rows("schemas.txt")])
+
+
+def row_count():
+    """How many rows the program compares, without those of `devices.txt`."""
+    with open(f"{CASES}/stdout", encoding="utf-8") as lines:
+        counts = dict(re.findall(r"(\S+): (\d+) rows\n", lines.read()))
+    return sum(int(count) for name, count in counts.items() if name != "devices.txt")
+
+
 def main():
-    program = Program(sys.argv[1])
-    with open(f"{CASES}/stdout", encoding="utf-8") as it:
-        left = it.read()
     count = 0
-    for command, files, document in runs():
-        answer = program.answer(command, files, document)
-        if not left.startswith(answer):
-            sys.exit(f"{command} {files} {document[:200]}: {answer!r}, but the program answers {left[:80]!r}")
-        left = left[len(answer) :]
+    for place, by_library, answer in answers(Program(sys.argv[1])):
+        if by_library != answer:
+            sys.exit(f"{place}: {by_library!r}, and not {answer!r}")
         count += 1
-    left = left.split("\n", len(list(rows("devices.txt"))))[-1]  # the lines of devices that fail, of which C has none
-    for answer in letters(program, [*rows("schemas.txt")]):
-        if not left.startswith(answer):
-            sys.exit(f"document {count}: {answer!r}, but the program answers {left[:80]!r}")
-        left = left[len(answer) :]
-        count += 1
-    assert not left, left[:200]
+    assert count == row_count(), (count, row_count())
     print(f"rows by the library: {count} as the program answers them")
 
 
