@@ -1,27 +1,26 @@
-//! Compares the text of the simple grammar of the files in each row of `cases.txt`, or the clause that the files break.
-//! Then the answer says whether that text, read as a schema of one file, is printed as the same text.
-//!
-//! A row has a request, and files: the name of each, a text, and how often the text is repeated in it. Consecutive
-//! texts with the same name are one file. In each text `^` is its number, from 0, and `^+` the next one. The first file
-//! is the main one. The request `text` prints the whole text, and `end` the number of its lines and the last line. The
-//! request `again` only prints whether the same text is printed for it, and `written` only the results of printing
-//! the grammar to writers. A row of `table` has no files, but the number of elements of a grammar and its tables, as
-//! `written_grammars` reads them. For it the whole text is printed.
-#![tactic(auto)]
-
-mod writers;
-
+// Compares the text of the simple grammar of the files in each row of `print.txt`, or the clause that the files break. Then
+// the answer says whether that text, read as a schema of one file, is printed as the same text.
+//
+// A row has a request, and files: the name of each, a text, and how often the text is repeated in it. Consecutive texts
+// with the same name are one file. In each text `^` is its number, from 0, and `^+` the next one. The first file is the
+// main one. The request `text` prints the whole text, and `end` the number of its lines and the last line. The request
+// `again` only prints whether the same text is printed for it, and `written` only the results of printing the grammar to
+// writers. A row of `table` has no files, but the number of elements of a grammar and its tables, as `written_grammars`
+// reads them. For it the whole text is printed.
+use crate::faults::print_fault;
+use crate::writers::print_to_writers;
 use case_rows::{Row, compare_rows, files_of};
 use rnc_print::printed_text;
 use rng_model::{SchemaFault, SimpleGrammar};
 use simple_forms::simplified;
 use std::alloc::Global;
 use std::io;
-use writers::print_to_writers;
+use std::rt::Files;
 use written_grammars::read_grammar;
 
-fn main(rt: HostRuntime) -> io::Result<()> {
-    compare_rows(&rt, "cases.txt", |to, row| print_case(to, row))
+/// Compares the answers to the rows of `print.txt`.
+pub fn compare(rt: &(impl Files + Print + AllocGlobal)) -> io::Result<()> {
+    compare_rows(rt, "print.txt", |to, row| print_case(to, row))
 }
 
 /// Prints what is requested of the text of a row's files.
@@ -102,15 +101,6 @@ fn print_again(rt: &(impl Print + AllocGlobal), text: &str) -> io::Result<()> {
         Ok(again) if again.as_str() == text => println!(rt; "again: same"),
         Ok(again) => println!(rt; "again: {again}"),
         Err(fault) => print_fault(rt, fault),
-    }
-}
-
-/// Prints which clause is broken.
-fn print_fault(rt: &impl Print, fault: SchemaFault) -> io::Result<()> {
-    match fault {
-        SchemaFault::File { clause, name } => println!(rt; "S{clause} {name}"),
-        SchemaFault::Clause(clause) => println!(rt; "S{clause}"),
-        SchemaFault::Memory => println!(rt; "out of memory"),
     }
 }
 

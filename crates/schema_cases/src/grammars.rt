@@ -1,6 +1,6 @@
 // The grammars of a schema, printed.
 use crate::nested::add_nested;
-use crate::patterns::{print_pattern, print_place};
+use crate::schema_patterns::{print_pattern, print_place};
 use rng_load::Schema;
 use rng_model::{Component, Method, Place};
 use std::io;

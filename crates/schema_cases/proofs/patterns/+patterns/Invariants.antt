@@ -1,5 +1,5 @@
 use Rattle.std.proofs.Common.{◌+◌, ◌*◌, max}
-use Rattle.rng_simple_cases.proofs.patterns.+patterns.Given as goal
+use Rattle.schema_cases.proofs.patterns.+patterns.Given as goal
 
 abbrev pub decreases-print_pattern : goal.decreases-print_pattern
 decreases-print_pattern g l = 2 * l.id.0

@@ -1,0 +1,30 @@
+//! Compares what the calls on schemas return, for the rows of five files: what files load to, where a file breaks a clause,
+//! the simple form of files, the restriction that a simple grammar breaks, and the printed text of a simple grammar.
+//!
+//! The module that compares the rows of a file describes them.
+#![tactic(auto)]
+
+mod classes;
+mod elements;
+mod faults;
+mod forms;
+mod grammars;
+mod load_rows;
+mod nested;
+mod patterns;
+mod place_rows;
+mod print_rows;
+mod rule_rows;
+mod schema_patterns;
+mod simple_rows;
+mod writers;
+
+use std::io;
+
+fn main(rt: HostRuntime) -> io::Result<()> {
+    load_rows::compare(&rt)?;
+    place_rows::compare(&rt)?;
+    simple_rows::compare(&rt)?;
+    rule_rows::compare(&rt)?;
+    print_rows::compare(&rt)
+}
