@@ -5,7 +5,9 @@ use Rattle.std.specs.Str.{bytes_eq}
 use Rattle.rng_model.specs.datatypes.Datatypes.{xsd_uri}
 use Rattle.rng_model.specs.documents.PyxNamespaces.{xml_uri}
 use Rattle.rnc_model.specs.grammar.Syntax as syntax
-use Rattle.rnc_model.specs.grammar.Syntax.{Declaration}
+use Rattle.rnc_model.specs.grammar.Syntax.{written, Declaration, Namespace, inherited, given}
+use Rattle.rnc_model.specs.declarations.FileTree as tree
+use Rattle.rnc_model.specs.declarations.FileTree.{FileTree}
 use Rattle.rnc_model.specs.declarations.AppliedDeclarations.{namespace_of, declared_namespace, declared_library, declared_default, namespace_by, library_by}
 use Rattle.rnc_model.specs.declarations.AppliedDeclarations.{name_by, class_by, classes_by, type_by, passed_on, mention_by, pattern_by, patterns_by}
 use Rattle.rnc_model.specs.declarations.AppliedDeclarations.{component_by, components_by, body_by, tree_of_file}
@@ -14,8 +16,6 @@ use Rattle.rnc_model.specs.declarations.Declarations.{◌>>=◌, Scope, nothing_
 use Rattle.rnc_model.specs.declarations.Declarations.{with_datatypes, option_or, option_none_else, declare, declare_all, default_of, namespace_in, library_in}
 use Rattle.rnc_model.specs.declarations.Declarations.{name_in, class_in, classes_in, type_in, handed_on, mention_in, pattern_in, patterns_in, component_in}
 use Rattle.rnc_model.specs.declarations.Declarations.{components_in, body_in, file_tree}
-use Rattle.rnc_model.specs.declarations.FileTree as tree
-use Rattle.rnc_model.specs.declarations.FileTree.{Namespace, inherited, given, FileTree}
 use Rattle.rnc_grammar.proofs.DeclarationRules.{broken_where_none}
 
 -- there is no value, or it is this one
@@ -205,26 +205,26 @@ module _ (s : Scope) (ds : List Declaration) (is : IsFound nothing_declared s ds
     by true = says_this refl
     by false = is.datatypes p
 
-  says_name : (ns : Namespace) (n : syntax.Name) → Says (name_in s ns n) (name_by ds ns n)
+  says_name : (ns : Namespace) (n : syntax.Name written) → Says (name_in s ns n) (name_by ds ns n)
   says_name ns (syntax.unprefixed l) = says_this refl
   says_name ns (syntax.prefixed p l) = one (namespace_in s p) (namespace_by ds p) (λ u. record { namespace = u; local = l }) (says_namespace p)
 
   mutual
-    says_class : (ns : Namespace) (c : syntax.NameClass) → Says (class_in s ns c) (class_by ds ns c)
+    says_class : (ns : Namespace) (c : syntax.NameClass written) → Says (class_in s ns c) (class_by ds ns c)
     says_class ns syntax.any_name = says_this refl
-    says_class ns (syntax.any_except c) = one (class_in s ns c) (class_by ds ns c) tree.any_except (says_class ns c)
-    says_class ns (syntax.ns_name p) = one (namespace_in s p) (namespace_by ds p) tree.ns_name (says_namespace p)
+    says_class ns (syntax.any_except c) = one (class_in s ns c) (class_by ds ns c) syntax.any_except (says_class ns c)
+    says_class ns (syntax.ns_name p) = one (namespace_in s p) (namespace_by ds p) syntax.ns_name (says_namespace p)
     says_class ns (syntax.ns_except p c) =
-        two (namespace_in s p) (class_in s ns c) (namespace_by ds p) (class_by ds ns c) tree.ns_except (says_namespace p) (says_class ns c)
-    says_class ns (syntax.name_is n) = one (name_in s ns n) (name_by ds ns n) tree.name_is (says_name ns n)
-    says_class ns (syntax.one_of cs) = one (classes_in s ns cs) (classes_by ds ns cs) tree.one_of (says_classes ns cs)
+        two (namespace_in s p) (class_in s ns c) (namespace_by ds p) (class_by ds ns c) syntax.ns_except (says_namespace p) (says_class ns c)
+    says_class ns (syntax.name_is n) = one (name_in s ns n) (name_by ds ns n) syntax.name_is (says_name ns n)
+    says_class ns (syntax.one_of cs) = one (classes_in s ns cs) (classes_by ds ns cs) syntax.one_of (says_classes ns cs)
 
-    says_classes : (ns : Namespace) (cs : syntax.NameClasses) → Says (classes_in s ns cs) (classes_by ds ns cs)
+    says_classes : (ns : Namespace) (cs : syntax.NameClasses written) → Says (classes_in s ns cs) (classes_by ds ns cs)
     says_classes ns syntax.no_classes = says_this refl
     says_classes ns (syntax.class_and c cs) =
-        two (class_in s ns c) (classes_in s ns cs) (class_by ds ns c) (classes_by ds ns cs) tree.class_and (says_class ns c) (says_classes ns cs)
+        two (class_in s ns c) (classes_in s ns cs) (class_by ds ns c) (classes_by ds ns cs) syntax.class_and (says_class ns c) (says_classes ns cs)
 
-  says_type : (d : syntax.DatatypeName) → Says (type_in s d) (type_by ds d)
+  says_type : (d : syntax.DatatypeName written) → Says (type_in s d) (type_by ds d)
   says_type syntax.string_type = says_this refl
   says_type syntax.token_type = says_this refl
   says_type (syntax.prefixed_type p l) = one (library_in s p) (library_by ds p) (λ u. record { library = u; name = l }) (says_library p)
@@ -233,53 +233,53 @@ module _ (s : Scope) (ds : List Declaration) (is : IsFound nothing_declared s ds
   says_passed None = says_this default_same
   says_passed (Some p) = says_namespace p
 
-  says_mention : (m : syntax.Mention) → Says (mention_in s m) (mention_by ds m)
-  says_mention m = one (handed_on s m.inherit) (passed_on ds m.inherit) (λ u. record { href = m.href; namespace = u; token = m.token }) (says_passed m.inherit)
+  says_mention : (m : syntax.Mention written) → Says (mention_in s m) (mention_by ds m)
+  says_mention m = one (handed_on s m.inherit) (passed_on ds m.inherit) (λ u. record { href = m.href; inherit = u; token = m.token }) (says_passed m.inherit)
 
-  says_element_class : (c : syntax.NameClass) → Says (class_in s (default_of s) c) (class_by ds (declared_default ds) c)
+  says_element_class : (c : syntax.NameClass written) → Says (class_in s (default_of s) c) (class_by ds (declared_default ds) c)
   says_element_class c = subst (λ ns. Says (class_in s (default_of s) c) (class_by ds ns c)) default_same (says_class (default_of s) c)
 
   mutual
-    says_pattern : (p : syntax.Pattern) → Says (pattern_in s p) (pattern_by ds p)
+    says_pattern : (p : syntax.Pattern written) → Says (pattern_in s p) (pattern_by ds p)
     says_pattern (syntax.element c p) =
-        two (class_in s (default_of s) c) (pattern_in s p) (class_by ds (declared_default ds) c) (pattern_by ds p) tree.element (says_element_class c)
+        two (class_in s (default_of s) c) (pattern_in s p) (class_by ds (declared_default ds) c) (pattern_by ds p) syntax.element (says_element_class c)
         (says_pattern p)
     says_pattern (syntax.attribute c p) =
-        two (class_in s (given []) c) (pattern_in s p) (class_by ds (given []) c) (pattern_by ds p) tree.attribute (says_class (given []) c) (says_pattern p)
-    says_pattern (syntax.list p) = one (pattern_in s p) (pattern_by ds p) tree.list (says_pattern p)
-    says_pattern (syntax.mixed p) = one (pattern_in s p) (pattern_by ds p) tree.mixed (says_pattern p)
-    says_pattern (syntax.optional p) = one (pattern_in s p) (pattern_by ds p) tree.optional (says_pattern p)
-    says_pattern (syntax.zero_or_more p) = one (pattern_in s p) (pattern_by ds p) tree.zero_or_more (says_pattern p)
-    says_pattern (syntax.one_or_more p) = one (pattern_in s p) (pattern_by ds p) tree.one_or_more (says_pattern p)
+        two (class_in s (given []) c) (pattern_in s p) (class_by ds (given []) c) (pattern_by ds p) syntax.attribute (says_class (given []) c) (says_pattern p)
+    says_pattern (syntax.list p) = one (pattern_in s p) (pattern_by ds p) syntax.list (says_pattern p)
+    says_pattern (syntax.mixed p) = one (pattern_in s p) (pattern_by ds p) syntax.mixed (says_pattern p)
+    says_pattern (syntax.optional p) = one (pattern_in s p) (pattern_by ds p) syntax.optional (says_pattern p)
+    says_pattern (syntax.zero_or_more p) = one (pattern_in s p) (pattern_by ds p) syntax.zero_or_more (says_pattern p)
+    says_pattern (syntax.one_or_more p) = one (pattern_in s p) (pattern_by ds p) syntax.one_or_more (says_pattern p)
     says_pattern (syntax.ref n) = says_this refl
     says_pattern (syntax.parent_ref n) = says_this refl
     says_pattern syntax.empty = says_this refl
     says_pattern syntax.text = says_this refl
     says_pattern syntax.not_allowed = says_this refl
-    says_pattern (syntax.value d v) = one (type_in s d) (type_by ds d) (λ d. tree.value d v) (says_type d)
-    says_pattern (syntax.data_of d ps) = one (type_in s d) (type_by ds d) (λ d. tree.data_of d ps) (says_type d)
+    says_pattern (syntax.value d v) = one (type_in s d) (type_by ds d) (λ d. syntax.value d v) (says_type d)
+    says_pattern (syntax.data_of d ps) = one (type_in s d) (type_by ds d) (λ d. syntax.data_of d ps) (says_type d)
     says_pattern (syntax.data_except d ps p) =
-        two (type_in s d) (pattern_in s p) (type_by ds d) (pattern_by ds p) (λ d p. tree.data_except d ps p) (says_type d) (says_pattern p)
-    says_pattern (syntax.external m) = one (mention_in s m) (mention_by ds m) tree.external (says_mention m)
-    says_pattern (syntax.grammar cs) = one (components_in s cs) (components_by ds cs) tree.grammar (says_components cs)
-    says_pattern (syntax.joined k ps) = one (patterns_in s ps) (patterns_by ds ps) (tree.joined k) (says_patterns ps)
+        two (type_in s d) (pattern_in s p) (type_by ds d) (pattern_by ds p) (λ d p. syntax.data_except d ps p) (says_type d) (says_pattern p)
+    says_pattern (syntax.external m) = one (mention_in s m) (mention_by ds m) syntax.external (says_mention m)
+    says_pattern (syntax.grammar cs) = one (components_in s cs) (components_by ds cs) syntax.grammar (says_components cs)
+    says_pattern (syntax.joined k ps) = one (patterns_in s ps) (patterns_by ds ps) (syntax.joined k) (says_patterns ps)
 
-    says_patterns : (ps : syntax.Patterns) → Says (patterns_in s ps) (patterns_by ds ps)
+    says_patterns : (ps : syntax.Patterns written) → Says (patterns_in s ps) (patterns_by ds ps)
     says_patterns syntax.no_patterns = says_this refl
     says_patterns (syntax.pattern_and p ps) =
-        two (pattern_in s p) (patterns_in s ps) (pattern_by ds p) (patterns_by ds ps) tree.pattern_and (says_pattern p) (says_patterns ps)
+        two (pattern_in s p) (patterns_in s ps) (pattern_by ds p) (patterns_by ds ps) syntax.pattern_and (says_pattern p) (says_patterns ps)
 
-    says_component : (c : syntax.Component) → Says (component_in s c) (component_by ds c)
-    says_component (syntax.start m p) = one (pattern_in s p) (pattern_by ds p) (tree.start m) (says_pattern p)
-    says_component (syntax.define n m p) = one (pattern_in s p) (pattern_by ds p) (tree.define n m) (says_pattern p)
-    says_component (syntax.div cs) = one (components_in s cs) (components_by ds cs) tree.div (says_components cs)
+    says_component : (c : syntax.Component written) → Says (component_in s c) (component_by ds c)
+    says_component (syntax.start m p) = one (pattern_in s p) (pattern_by ds p) (syntax.start m) (says_pattern p)
+    says_component (syntax.define n m p) = one (pattern_in s p) (pattern_by ds p) (syntax.define n m) (says_pattern p)
+    says_component (syntax.div cs) = one (components_in s cs) (components_by ds cs) syntax.div (says_components cs)
     says_component (syntax.include m cs) =
-        two (mention_in s m) (components_in s cs) (mention_by ds m) (components_by ds cs) tree.include (says_mention m) (says_components cs)
+        two (mention_in s m) (components_in s cs) (mention_by ds m) (components_by ds cs) syntax.include (says_mention m) (says_components cs)
 
-    says_components : (cs : syntax.Components) → Says (components_in s cs) (components_by ds cs)
+    says_components : (cs : syntax.Components written) → Says (components_in s cs) (components_by ds cs)
     says_components syntax.no_components = says_this refl
     says_components (syntax.component_and c cs) =
-        two (component_in s c) (components_in s cs) (component_by ds c) (components_by ds cs) tree.component_and (says_component c) (says_components cs)
+        two (component_in s c) (components_in s cs) (component_by ds c) (components_by ds cs) syntax.component_and (says_component c) (says_components cs)
 
   says_body : (b : syntax.Body) → Says (body_in s b) (body_by ds b)
   says_body (syntax.pattern_body p) = one (pattern_in s p) (pattern_by ds p) tree.pattern_file (says_pattern p)

@@ -2,16 +2,16 @@
 use Rattle.std.proofs.Common.{◌≢◌, refl, ℕ, List, [], ◌∷◌, Some, None, codes}
 use Rattle.rng_model.specs.names.Lists.{here, there}
 use Rattle.rng_model.specs.documents.PyxNamespaces.{xml_uri}
-use Rattle.rnc_model.specs.grammar.Syntax.{prefixed, name_is, any_except, ns_name, prefixed_type, Pattern, element, empty, data_of, external, start}
-use Rattle.rnc_model.specs.grammar.Syntax.{include, component_and, no_components, inherit, literal, Declaration, namespace, default_namespace, datatypes, pattern_body}
-use Rattle.rnc_model.specs.grammar.Syntax.{grammar_body, File}
+use Rattle.rnc_model.specs.grammar.Syntax.{written, prefixed, name_is, any_except, ns_name, prefixed_type, Pattern, element, empty, data_of, external, start}
+use Rattle.rnc_model.specs.grammar.Syntax.{include, component_and, no_components, inherit, literal, Declaration, namespace, default_namespace, datatypes}
+use Rattle.rnc_model.specs.grammar.Syntax.{pattern_body, grammar_body, File}
 use Rattle.rnc_model.specs.declarations.Declarations.{file_tree}
 use Rattle.rnc_model.specs.declarations.DeclarationRules.{namespace_prefix, datatype_prefix, IsUndeclared, at_first, later, BreaksDeclarationRule, namespace_prefix_twice}
 use Rattle.rnc_model.specs.declarations.DeclarationRules.{default_namespace_twice, xml_as_another, xmlns_declared, namespace_prefix_undeclared, datatype_prefix_undeclared}
 use Rattle.rnc_grammar.proofs.DeclarationRules.{kept_where_tree}
 
 -- the declarations, and one pattern
-abbrev file : List Declaration → Pattern → File
+abbrev file : List Declaration → Pattern written → File
 file ds p = record { declarations = ds; body = pattern_body p }
 
 -- the prefixes of these examples
@@ -25,7 +25,7 @@ p_is_not_xml : p ≢ codes "xml"
 p_is_not_xml e = cc
 
 -- `element p:a { .. }`
-abbrev element_of : List ℕ → Pattern → Pattern
+abbrev element_of : List ℕ → Pattern written → Pattern written
 element_of p content = element (name_is (prefixed p (codes "a"))) content
 
 -- `namespace xml = inherit`

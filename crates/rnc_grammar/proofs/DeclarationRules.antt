@@ -10,6 +10,9 @@ use Rattle.rng_model.specs.datatypes.Datatypes.{xsd_uri}
 use Rattle.rng_model.specs.names.Lists.{Among, here, there}
 use Rattle.rng_model.specs.documents.PyxNamespaces.{xml_uri}
 use Rattle.rnc_model.specs.grammar.Syntax as syntax
+use Rattle.rnc_model.specs.grammar.Syntax.{Namespace, given}
+use Rattle.rnc_model.specs.declarations.FileTree as tree
+use Rattle.rnc_model.specs.declarations.FileTree.{FileTree}
 use Rattle.rnc_model.specs.declarations.Declarations.{◌>>=◌, Scope, nothing_declared, uri_of, is_xml_uri, may_stand_for, may_stand_for_types, with_one, with_prefix}
 use Rattle.rnc_model.specs.declarations.Declarations.{with_default, with_datatypes, option_none_else, declare_all, body_in, file_tree}
 use Rattle.rnc_model.specs.declarations.DeclarationRules.{Declarable, namespace_prefix, datatype_prefix, default_namespace, declared_in, IsUndeclared, IsTwiceIn}
@@ -18,8 +21,6 @@ use Rattle.rnc_model.specs.declarations.DeclarationRules.{default_namespace_twic
 use Rattle.rnc_model.specs.declarations.DeclarationRules.{datatype_prefix_undeclared}
 use Rattle.rnc_model.specs.declarations.FaultyTokens as faulty
 use Rattle.rnc_model.specs.declarations.FaultyTokens.{BreakDeclarationRule, IsUndeclaredPrefix}
-use Rattle.rnc_model.specs.declarations.FileTree as tree
-use Rattle.rnc_model.specs.declarations.FileTree.{FileTree, Namespace, given}
 use Rattle.rnc_grammar.proofs.UsedPrefixes.{is_known, no_body, stands_unknown}
 
 -- ---- one table for everything that can be declared
@@ -376,7 +377,7 @@ broken_where_stuck ds e = broken_where_none (alone ds) (alone_tree ds ∙ ap (λ
 -- declarations that can be applied break none
 pub kept_where_applied : (ds : List syntax.Declaration) (s : Scope) → declare_all nothing_declared ds ≡ Some s → ¬ (BreakDeclarationRule ds)
 kept_where_applied ds s e =
-    kept_where_tree (alone ds) (tree.grammar_file tree.no_components) (alone_tree ds ∙ ap (λ o. o >>= λ s. body_in s (alone ds).body) e)
+    kept_where_tree (alone ds) (tree.grammar_file syntax.no_components) (alone_tree ds ∙ ap (λ o. o >>= λ s. body_in s (alone ds).body) e)
 
 are_applied : (s : Scope) (es : List (Declarable × syntax.Uri)) (o : Option Scope) → o ≡ Some s → AfterAll nothing_declared es o → AreThere nothing_declared s es
 are_applied s es None e after = absurd (none-some s e)

@@ -2,20 +2,21 @@
 use Rattle.std.proofs.Common.{◌≡◌, refl, ℕ, List, [], ◌∷◌, codes}
 use Rattle.rng_model.specs.simple.Tree.{group}
 use Rattle.rng_model.specs.declared.method.Method.TheVariants as methods
-use Rattle.rnc_model.specs.declarations.FileTree.{Mention, inherited, any_name, element, external, grammar, ref, text, members, Component, start}
-use Rattle.rnc_model.specs.declarations.FileTree.{define, div, include, components_of, pattern_file, grammar_file}
+use Rattle.rnc_model.specs.grammar.Syntax.{applied, Mention, inherited, any_name, element, external, grammar, ref, text, members, Component, start, define}
+use Rattle.rnc_model.specs.grammar.Syntax.{div, include, components_of}
+use Rattle.rnc_model.specs.declarations.FileTree.{pattern_file, grammar_file}
 use Rattle.rnc_model.specs.loading.Mentions.{external_file, included_file, mentions_of}
 
 -- a mention of the file of this name, by the word with this number
-abbrev mention : List ℕ → ℕ → Mention
-mention name number = record { href = name; namespace = inherited; token = number }
+abbrev mention : List ℕ → ℕ → Mention applied
+mention name number = record { href = name; inherit = inherited; token = number }
 
 -- `element * { external "x" }`
 pub in_an_element : mentions_of (pattern_file (element any_name (external (mention (codes "x") 4)))) ≡ external_file (mention (codes "x") 4) ∷ []
 in_an_element = refl
 
 -- `include "g" { start = external "x" }`: the file of the include, and then the external in its braces
-abbrev in_braces : List Component
+abbrev in_braces : List (Component applied)
 in_braces = start methods.Plain (external (mention (codes "x") 6)) ∷ []
 
 pub in_the_braces : mentions_of (grammar_file (components_of (include (mention (codes "g") 1) (components_of in_braces) ∷ []))) ≡

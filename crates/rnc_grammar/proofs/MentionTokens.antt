@@ -8,12 +8,12 @@ use Rattle.rnc_model.specs.grammar.Grammar.{IsPattern, AreMore, IsParticle, IsPr
 use Rattle.rnc_model.specs.grammar.Grammar.{MayOverride, IsBody, IsFile, Setting}
 use Rattle.rnc_model.specs.tokens.Lexeme.{Lexeme, lexemes}
 use Rattle.rnc_model.specs.grammar.Syntax as syntax
+use Rattle.rnc_model.specs.grammar.Syntax.{applied, written, given}
+use Rattle.rnc_model.specs.declarations.FileTree as tree
 use Rattle.rnc_model.specs.declared.token.Sign.{Sign}
 use Rattle.rnc_model.specs.tokens.Cut.{Token}
 use Rattle.rnc_model.specs.declarations.Declarations.{◌>>=◌, Scope, class_in, type_in, default_of, handed_on, mention_in, pattern_in, patterns_in, component_in}
 use Rattle.rnc_model.specs.declarations.Declarations.{components_in, body_in, declare_all, nothing_declared, file_tree}
-use Rattle.rnc_model.specs.declarations.FileTree as tree
-use Rattle.rnc_model.specs.declarations.FileTree.{given}
 use Rattle.rnc_model.specs.loading.Mentions.{MentionedFile, mention_of, mentions_of, mentions_of_pattern, mentions_of_patterns, mentions_of_component}
 use Rattle.rnc_model.specs.loading.Mentions.{mentions_of_components}
 use Rattle.rnc_model.specs.declarations.Parsing.{IsFileTree}
@@ -24,7 +24,7 @@ use Rattle.rnc_grammar.proofs.KeywordNumbers.{numbers_increase}
 -- ---- the tokens of the mentions in a syntax tree
 
 abbrev mutual
-  tokens_in : syntax.Pattern → List ℕ
+  tokens_in : syntax.Pattern written → List ℕ
   tokens_in (syntax.element c p) = tokens_in p
   tokens_in (syntax.attribute c p) = tokens_in p
   tokens_in (syntax.list p) = tokens_in p
@@ -44,17 +44,17 @@ abbrev mutual
   tokens_in (syntax.grammar cs) = tokens_in_components cs
   tokens_in (syntax.joined k ps) = tokens_in_patterns ps
 
-  tokens_in_patterns : syntax.Patterns → List ℕ
+  tokens_in_patterns : syntax.Patterns written → List ℕ
   tokens_in_patterns syntax.no_patterns = []
   tokens_in_patterns (syntax.pattern_and p ps) = tokens_in p ++ tokens_in_patterns ps
 
-  tokens_in_component : syntax.Component → List ℕ
+  tokens_in_component : syntax.Component written → List ℕ
   tokens_in_component (syntax.start m p) = tokens_in p
   tokens_in_component (syntax.define n m p) = tokens_in p
   tokens_in_component (syntax.div cs) = tokens_in_components cs
   tokens_in_component (syntax.include m cs) = m.token ∷ tokens_in_components cs
 
-  tokens_in_components : syntax.Components → List ℕ
+  tokens_in_components : syntax.Components written → List ℕ
   tokens_in_components syntax.no_components = []
   tokens_in_components (syntax.component_and c cs) = tokens_in_component c ++ tokens_in_components cs
 
@@ -65,25 +65,26 @@ tokens_in_body (syntax.grammar_body cs) = tokens_in_components cs
 -- ---- they are numbers of keywords, in order
 
 mutual
-  pattern_within : {ts : List Lexeme} {p : syntax.Pattern} → IsPattern ts p → AreNumbersIn (tokens_in p) ts
+  pattern_within : {ts : List Lexeme} {p : syntax.Pattern written} → IsPattern ts p → AreNumbersIn (tokens_in p) ts
   pattern_within (grammar.one_particle q) = particle_within q
   pattern_within (grammar.particles k q more parts is) = rw (parts, is) (numbers_of_both (particle_within q) (more_within more))
   pattern_within (grammar.data_except x n type ps q parts) = rw parts (numbers_after _ (numbers_later (numbers_after _ (numbers_later (primary_within q)))))
 
-  more_within : {s : Sign} {ts : List Lexeme} {ps : List syntax.Pattern} → AreMore s ts ps → AreNumbersIn (tokens_in_patterns (syntax.patterns_of ps)) ts
+  more_within : {s : Sign} {ts : List Lexeme} {ps : List (syntax.Pattern written)} → AreMore s ts ps
+      → AreNumbersIn (tokens_in_patterns (syntax.patterns_of ps)) ts
   more_within (grammar.last_particle q parts) = rw (parts, append-nil) (numbers_later (particle_within q))
   more_within (grammar.more_particles q more parts) = rw parts (numbers_later (numbers_of_both (particle_within q) (more_within more)))
 
-  particle_within : {ts : List Lexeme} {p : syntax.Pattern} → IsParticle ts p → AreNumbersIn (tokens_in p) ts
+  particle_within : {ts : List Lexeme} {p : syntax.Pattern written} → IsParticle ts p → AreNumbersIn (tokens_in p) ts
   particle_within (grammar.once q) = primary_within q
   particle_within (grammar.optional q parts) = rw parts (numbers_before _ (primary_within q))
   particle_within (grammar.zero_or_more q parts) = rw parts (numbers_before _ (primary_within q))
   particle_within (grammar.one_or_more q parts) = rw parts (numbers_before _ (primary_within q))
 
-  primary_within : {ts : List Lexeme} {p : syntax.Pattern} → IsPrimary ts p → AreNumbersIn (tokens_in p) ts
+  primary_within : {ts : List Lexeme} {p : syntax.Pattern written} → IsPrimary ts p → AreNumbersIn (tokens_in p) ts
   primary_within (grammar.annotated_primary n q parts) = rw parts (numbers_after _ (bare_primary_within q))
 
-  bare_primary_within : {ts : List Lexeme} {p : syntax.Pattern} → IsBarePrimary ts p → AreNumbersIn (tokens_in p) ts
+  bare_primary_within : {ts : List Lexeme} {p : syntax.Pattern written} → IsBarePrimary ts p → AreNumbersIn (tokens_in p) ts
   bare_primary_within (grammar.element c q parts) = rw parts (numbers_later (numbers_after _ (braced_within q)))
   bare_primary_within (grammar.attribute c q parts) = rw parts (numbers_later (numbers_after _ (braced_within q)))
   bare_primary_within (grammar.list q parts) = rw parts (numbers_later (braced_within q))
@@ -100,25 +101,26 @@ mutual
   bare_primary_within (grammar.grammar cs parts is) = rw (parts, is) (numbers_later (numbers_later (numbers_before _ (components_within cs))))
   bare_primary_within (grammar.in_parens q parts) = rw parts (numbers_later (numbers_before _ (pattern_within q)))
 
-  braced_within : {ts : List Lexeme} {p : syntax.Pattern} → IsBraced ts p → AreNumbersIn (tokens_in p) ts
+  braced_within : {ts : List Lexeme} {p : syntax.Pattern written} → IsBraced ts p → AreNumbersIn (tokens_in p) ts
   braced_within (grammar.in_braces q parts) = rw parts (numbers_later (numbers_before _ (pattern_within q)))
 
-  components_within : {w : Setting} {ts : List Lexeme} {cs : List syntax.Component} → AreComponents w ts cs
+  components_within : {w : Setting} {ts : List Lexeme} {cs : List (syntax.Component written)} → AreComponents w ts cs
       → AreNumbersIn (tokens_in_components (syntax.components_of cs)) ts
   components_within (grammar.no_components parts) = no_numbers
   components_within (grammar.and_component c cs parts) = rw parts (numbers_of_both (component_within c) (components_within cs))
 
-  component_within : {w : Setting} {ts : List Lexeme} {c : syntax.Component} → IsComponent w ts c → AreNumbersIn (tokens_in_component c) ts
+  component_within : {w : Setting} {ts : List Lexeme} {c : syntax.Component written} → IsComponent w ts c → AreNumbersIn (tokens_in_component c) ts
   component_within (grammar.annotated_component n c parts) = rw parts (numbers_after _ (bare_component_within c))
 
-  bare_component_within : {w : Setting} {ts : List Lexeme} {c : syntax.Component} → IsBareComponent w ts c → AreNumbersIn (tokens_in_component c) ts
+  bare_component_within : {w : Setting} {ts : List Lexeme} {c : syntax.Component written} → IsBareComponent w ts c → AreNumbersIn (tokens_in_component c) ts
   bare_component_within (grammar.start m q parts) = rw parts (numbers_later (numbers_later (pattern_within q)))
   bare_component_within (grammar.define m q parts) = rw parts (numbers_later (numbers_later (pattern_within q)))
   bare_component_within (grammar.div cs parts is) = rw (parts, is) (numbers_later (numbers_later (numbers_before _ (components_within cs))))
   bare_component_within (grammar.include setting v p over parts is) =
       rw (parts, is) (number_here refl (numbers_after _ (numbers_after _ (overrides_within over))))
 
-  overrides_within : {ts : List Lexeme} {cs : List syntax.Component} → MayOverride ts cs → AreNumbersIn (tokens_in_components (syntax.components_of cs)) ts
+  overrides_within : {ts : List Lexeme} {cs : List (syntax.Component written)} → MayOverride ts cs
+      → AreNumbersIn (tokens_in_components (syntax.components_of cs)) ts
   overrides_within (grammar.without_overrides parts) = no_numbers
   overrides_within (grammar.with_overrides cs parts) = rw parts (numbers_later (numbers_before _ (components_within cs)))
 
@@ -157,33 +159,33 @@ two None q f same has more = is_none
 two (Some x) None f same has more = is_none
 two (Some x) (Some y) f same (has_these has) (has_these more) = has_these (same x y ∙ ap₂ (λ ns ms. ns ++ ms) has more)
 
-abbrev tokens_of_pattern : tree.Pattern → List ℕ
+abbrev tokens_of_pattern : syntax.Pattern applied → List ℕ
 tokens_of_pattern p = tokens_of (mentions_of_pattern p)
 
-abbrev tokens_of_patterns : tree.Patterns → List ℕ
+abbrev tokens_of_patterns : syntax.Patterns applied → List ℕ
 tokens_of_patterns ps = tokens_of (mentions_of_patterns ps)
 
-abbrev tokens_of_component : tree.Component → List ℕ
+abbrev tokens_of_component : syntax.Component applied → List ℕ
 tokens_of_component c = tokens_of (mentions_of_component c)
 
-abbrev tokens_of_components : tree.Components → List ℕ
+abbrev tokens_of_components : syntax.Components applied → List ℕ
 tokens_of_components cs = tokens_of (mentions_of_components cs)
 
-abbrev token_of_mention : tree.Mention → List ℕ
+abbrev token_of_mention : syntax.Mention applied → List ℕ
 token_of_mention m = m.token ∷ []
 
-mention_has : (s : Scope) (m : syntax.Mention) → Has token_of_mention (mention_in s m) (m.token ∷ [])
+mention_has : (s : Scope) (m : syntax.Mention written) → Has token_of_mention (mention_in s m) (m.token ∷ [])
 mention_has s m = then (handed_on s m.inherit) _ (λ u. has_these refl)
 
 mutual
-  pattern_has : (s : Scope) (p : syntax.Pattern) → Has tokens_of_pattern (pattern_in s p) (tokens_in p)
-  pattern_has s (syntax.element c p) = then (class_in s (default_of s) c) _ (λ c. one (pattern_in s p) (tree.element c) (λ p. refl) (pattern_has s p))
-  pattern_has s (syntax.attribute c p) = then (class_in s (given []) c) _ (λ c. one (pattern_in s p) (tree.attribute c) (λ p. refl) (pattern_has s p))
-  pattern_has s (syntax.list p) = one (pattern_in s p) tree.list (λ p. refl) (pattern_has s p)
-  pattern_has s (syntax.mixed p) = one (pattern_in s p) tree.mixed (λ p. refl) (pattern_has s p)
-  pattern_has s (syntax.optional p) = one (pattern_in s p) tree.optional (λ p. refl) (pattern_has s p)
-  pattern_has s (syntax.zero_or_more p) = one (pattern_in s p) tree.zero_or_more (λ p. refl) (pattern_has s p)
-  pattern_has s (syntax.one_or_more p) = one (pattern_in s p) tree.one_or_more (λ p. refl) (pattern_has s p)
+  pattern_has : (s : Scope) (p : syntax.Pattern written) → Has tokens_of_pattern (pattern_in s p) (tokens_in p)
+  pattern_has s (syntax.element c p) = then (class_in s (default_of s) c) _ (λ c. one (pattern_in s p) (syntax.element c) (λ p. refl) (pattern_has s p))
+  pattern_has s (syntax.attribute c p) = then (class_in s (given []) c) _ (λ c. one (pattern_in s p) (syntax.attribute c) (λ p. refl) (pattern_has s p))
+  pattern_has s (syntax.list p) = one (pattern_in s p) syntax.list (λ p. refl) (pattern_has s p)
+  pattern_has s (syntax.mixed p) = one (pattern_in s p) syntax.mixed (λ p. refl) (pattern_has s p)
+  pattern_has s (syntax.optional p) = one (pattern_in s p) syntax.optional (λ p. refl) (pattern_has s p)
+  pattern_has s (syntax.zero_or_more p) = one (pattern_in s p) syntax.zero_or_more (λ p. refl) (pattern_has s p)
+  pattern_has s (syntax.one_or_more p) = one (pattern_in s p) syntax.one_or_more (λ p. refl) (pattern_has s p)
   pattern_has s (syntax.ref n) = has_these refl
   pattern_has s (syntax.parent_ref n) = has_these refl
   pattern_has s syntax.empty = has_these refl
@@ -191,28 +193,28 @@ mutual
   pattern_has s syntax.not_allowed = has_these refl
   pattern_has s (syntax.value d v) = then (type_in s d) _ (λ d. has_these refl)
   pattern_has s (syntax.data_of d ps) = then (type_in s d) _ (λ d. has_these refl)
-  pattern_has s (syntax.data_except d ps p) = then (type_in s d) _ (λ d. one (pattern_in s p) (tree.data_except d ps) (λ p. refl) (pattern_has s p))
-  pattern_has s (syntax.external m) = one (mention_in s m) tree.external (λ m. refl) (mention_has s m)
-  pattern_has s (syntax.grammar cs) = one (components_in s cs) tree.grammar (λ cs. refl) (components_have s cs)
-  pattern_has s (syntax.joined k ps) = one (patterns_in s ps) (tree.joined k) (λ ps. refl) (patterns_have s ps)
+  pattern_has s (syntax.data_except d ps p) = then (type_in s d) _ (λ d. one (pattern_in s p) (syntax.data_except d ps) (λ p. refl) (pattern_has s p))
+  pattern_has s (syntax.external m) = one (mention_in s m) syntax.external (λ m. refl) (mention_has s m)
+  pattern_has s (syntax.grammar cs) = one (components_in s cs) syntax.grammar (λ cs. refl) (components_have s cs)
+  pattern_has s (syntax.joined k ps) = one (patterns_in s ps) (syntax.joined k) (λ ps. refl) (patterns_have s ps)
 
-  patterns_have : (s : Scope) (ps : syntax.Patterns) → Has tokens_of_patterns (patterns_in s ps) (tokens_in_patterns ps)
+  patterns_have : (s : Scope) (ps : syntax.Patterns written) → Has tokens_of_patterns (patterns_in s ps) (tokens_in_patterns ps)
   patterns_have s syntax.no_patterns = has_these refl
   patterns_have s (syntax.pattern_and p ps) =
-      two (pattern_in s p) (patterns_in s ps) tree.pattern_and (λ p ps. map-append _ (mentions_of_pattern p) (mentions_of_patterns ps)) (pattern_has s p)
+      two (pattern_in s p) (patterns_in s ps) syntax.pattern_and (λ p ps. map-append _ (mentions_of_pattern p) (mentions_of_patterns ps)) (pattern_has s p)
       (patterns_have s ps)
 
-  component_has : (s : Scope) (c : syntax.Component) → Has tokens_of_component (component_in s c) (tokens_in_component c)
-  component_has s (syntax.start m p) = one (pattern_in s p) (tree.start m) (λ p. refl) (pattern_has s p)
-  component_has s (syntax.define n m p) = one (pattern_in s p) (tree.define n m) (λ p. refl) (pattern_has s p)
-  component_has s (syntax.div cs) = one (components_in s cs) tree.div (λ cs. refl) (components_have s cs)
+  component_has : (s : Scope) (c : syntax.Component written) → Has tokens_of_component (component_in s c) (tokens_in_component c)
+  component_has s (syntax.start m p) = one (pattern_in s p) (syntax.start m) (λ p. refl) (pattern_has s p)
+  component_has s (syntax.define n m p) = one (pattern_in s p) (syntax.define n m) (λ p. refl) (pattern_has s p)
+  component_has s (syntax.div cs) = one (components_in s cs) syntax.div (λ cs. refl) (components_have s cs)
   component_has s (syntax.include m cs) =
-      two (mention_in s m) (components_in s cs) tree.include (λ m cs. refl) (mention_has s m) (components_have s cs)
+      two (mention_in s m) (components_in s cs) syntax.include (λ m cs. refl) (mention_has s m) (components_have s cs)
 
-  components_have : (s : Scope) (cs : syntax.Components) → Has tokens_of_components (components_in s cs) (tokens_in_components cs)
+  components_have : (s : Scope) (cs : syntax.Components written) → Has tokens_of_components (components_in s cs) (tokens_in_components cs)
   components_have s syntax.no_components = has_these refl
   components_have s (syntax.component_and c cs) =
-      two (component_in s c) (components_in s cs) tree.component_and (λ c cs. map-append _ (mentions_of_component c) (mentions_of_components cs))
+      two (component_in s c) (components_in s cs) syntax.component_and (λ c cs. map-append _ (mentions_of_component c) (mentions_of_components cs))
       (component_has s c) (components_have s cs)
 
 abbrev tokens_of_file : tree.FileTree → List ℕ

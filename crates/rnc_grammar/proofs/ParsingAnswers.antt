@@ -10,6 +10,7 @@ use Rattle.rnc_model.specs.tokens.Lexeme.{Lexeme, lexemes}
 use Rattle.rnc_syntax.specs.views.SentenceFaults as sentence_faults
 use Rattle.rnc_model.specs.grammar.SyntaxTrees.{IsSyntaxTree}
 use Rattle.rnc_model.specs.grammar.Syntax.{File}
+use Rattle.rnc_model.specs.declarations.FileTree.{FileTree}
 use Rattle.rnc_syntax.specs.views.SyntaxView as syntax
 use Rattle.rnc_model.specs.tokens.Cut.{Token}
 use Rattle.rnc_grammar.specs.declared.fault.ParseFault.{ParseFault}
@@ -18,7 +19,6 @@ use Rattle.rnc_grammar.specs.declared.file_tree.FileTree as declared
 use Rattle.rnc_model.specs.declarations.DeclarationRules.{BreaksDeclarationRule}
 use Rattle.rnc_model.specs.declarations.Declarations.{file_tree}
 use Rattle.rnc_grammar.specs.views.Fault.{fault_of, tree_or_fault}
-use Rattle.rnc_model.specs.declarations.FileTree.{FileTree}
 use Rattle.rnc_model.specs.loading.Mentions.{mention_of, mentions_of}
 use Rattle.rnc_grammar.specs.views.View.{file_of}
 use Rattle.rnc_model.specs.declarations.AppliedDeclarations.{tree_of_file}

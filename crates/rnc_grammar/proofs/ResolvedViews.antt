@@ -10,22 +10,22 @@ use Rattle.rnc_syntax.specs.declared.syntax_tree.Pattern.{Pattern}
 use Rattle.rnc_syntax.specs.declared.syntax_tree.Pattern.TheVariants as patterns
 use Rattle.rnc_syntax.specs.declared.syntax_tree.Component.{the_lemmas}
 use Rattle.rnc_model.specs.declarations.Declarations.{Scope, ◌>>=◌, class_in, pattern_in, type_in}
-use Rattle.rnc_model.specs.declarations.FileTree as tree
+use Rattle.rnc_model.specs.grammar.Syntax as tree
+use Rattle.rnc_model.specs.grammar.Syntax.{applied, written}
 use Rattle.rnc_grammar.specs.views.Resolved.{each}
-use Rattle.rnc_model.specs.grammar.Syntax as written
 use Rattle.rnc_syntax.specs.views.SyntaxView as syntax
 use Rattle.rnc_grammar.proofs.ResolvedMembers.{choice_in, members_in}
 
-choice_class_view : (all : Vec NameClass Global) → syntax.class_of (classes.Choice all) ≡ written.choice_of (map syntax.class_of all.items)
+choice_class_view : (all : Vec NameClass Global) → syntax.class_of (classes.Choice all) ≡ tree.choice_of (map syntax.class_of all.items)
 choice_class_view all = search (rules, class_lemmas)
 
-group_view : (all : Vec Pattern Global) → syntax.pattern_of (patterns.Group all) ≡ written.members group (map syntax.pattern_of all.items)
+group_view : (all : Vec Pattern Global) → syntax.pattern_of (patterns.Group all) ≡ tree.members group (map syntax.pattern_of all.items)
 group_view all = search (rules, the_lemmas)
 
-interleave_view : (all : Vec Pattern Global) → syntax.pattern_of (patterns.Interleave all) ≡ written.members interleave (map syntax.pattern_of all.items)
+interleave_view : (all : Vec Pattern Global) → syntax.pattern_of (patterns.Interleave all) ≡ tree.members interleave (map syntax.pattern_of all.items)
 interleave_view all = search (rules, the_lemmas)
 
-choice_view : (all : Vec Pattern Global) → syntax.pattern_of (patterns.Choice all) ≡ written.members choice (map syntax.pattern_of all.items)
+choice_view : (all : Vec Pattern Global) → syntax.pattern_of (patterns.Choice all) ≡ tree.members choice (map syntax.pattern_of all.items)
 choice_view all = search (rules, the_lemmas)
 
 -- the members, which the code has as a slice
@@ -50,20 +50,21 @@ pub choice_pattern_in : (s : Scope) (all : Vec Pattern Global) (slice : List Pat
 choice_pattern_in s all slice e = ap (pattern_in s) (choice_view all) ∙ members_in choice s (map syntax.pattern_of all.items)
     ∙ ap (λ xs. each (pattern_in s) (map syntax.pattern_of xs) >>= λ all. Some (tree.members choice all)) (sym e)
 
-data_view : (d : DatatypeName) (ps : Vec Parameter Global) → syntax.pattern_of (patterns.Data d ps) ≡ written.data_of (syntax.type_of d)
+data_view : (d : DatatypeName) (ps : Vec Parameter Global) → syntax.pattern_of (patterns.Data d ps) ≡ tree.data_of (syntax.type_of d)
     (map syntax.parameter_of ps.items)
 data_view d ps = search (rules, the_lemmas)
 
 data_except_view : (d : DatatypeName) (ps : Vec Parameter Global) (b : Box Pattern Global)
-    → syntax.pattern_of (patterns.DataExcept d ps b) ≡ written.data_except (syntax.type_of d) (map syntax.parameter_of ps.items) (syntax.pattern_of b.value)
+    → syntax.pattern_of (patterns.DataExcept d ps b) ≡ tree.data_except (syntax.type_of d) (map syntax.parameter_of ps.items) (syntax.pattern_of b.value)
 data_except_view d ps b = search (rules, the_lemmas)
 
-pub plain_in : (s : Scope) (d : written.DatatypeName) (ps values : List (List ℕ × List ℕ)) (u : tree.DatatypeName) → type_in s d ≡ Some u → Some ps ≡ Some values
-    → pattern_in s (written.data_of d ps) ≡ Some (tree.data_of u values)
+pub plain_in : (s : Scope) (d : tree.DatatypeName written) (ps values : List (List ℕ × List ℕ)) (u : tree.DatatypeName applied) → type_in s d ≡ Some u
+    → Some ps ≡ Some values → pattern_in s (tree.data_of d ps) ≡ Some (tree.data_of u values)
 plain_in s d ps values u type same = rw type (ap (option_map (tree.data_of u)) same)
 
-pub except_in : (s : Scope) (d : written.DatatypeName) (ps values : List (List ℕ × List ℕ)) (p : written.Pattern) (u : tree.DatatypeName) (q : tree.Pattern)
-    → type_in s d ≡ Some u → Some ps ≡ Some values → pattern_in s p ≡ Some q → pattern_in s (written.data_except d ps p) ≡ Some (tree.data_except u values q)
+pub except_in : (s : Scope) (d : tree.DatatypeName written) (ps values : List (List ℕ × List ℕ)) (p : tree.Pattern written) (u : tree.DatatypeName applied)
+    (q : tree.Pattern applied)
+    → type_in s d ≡ Some u → Some ps ≡ Some values → pattern_in s p ≡ Some q → pattern_in s (tree.data_except d ps p) ≡ Some (tree.data_except u values q)
 except_in s d ps values p u q type same except = rw (type, except) (ap (option_map (λ ps. tree.data_except u ps q)) same)
 
 -- a name that is found, together with parameters
@@ -75,12 +76,12 @@ typed_with {A} {B} (Some d) ps values u e =
 
 -- a datatype, whose parameters the code has as a slice
 pub data_in : (s : Scope) (d : DatatypeName) (ps : Vec Parameter Global) (slice : List Parameter) → slice ≡ ps.items
-    → pattern_in s (syntax.pattern_of (patterns.Data d ps)) ≡ pattern_in s (written.data_of (syntax.type_of d) (map syntax.parameter_of slice))
-data_in s d ps slice e = ap (pattern_in s) (data_view d ps) ∙ ap (λ xs. pattern_in s (written.data_of (syntax.type_of d) (map syntax.parameter_of xs))) (sym e)
+    → pattern_in s (syntax.pattern_of (patterns.Data d ps)) ≡ pattern_in s (tree.data_of (syntax.type_of d) (map syntax.parameter_of slice))
+data_in s d ps slice e = ap (pattern_in s) (data_view d ps) ∙ ap (λ xs. pattern_in s (tree.data_of (syntax.type_of d) (map syntax.parameter_of xs))) (sym e)
 
 pub data_except_in : (s : Scope) (d : DatatypeName) (ps : Vec Parameter Global) (b : Box Pattern Global) (slice : List Parameter) (inner : Pattern)
     → slice ≡ ps.items → inner ≡ b.value → pattern_in s (syntax.pattern_of (patterns.DataExcept d ps b))
-    ≡ pattern_in s (written.data_except (syntax.type_of d) (map syntax.parameter_of slice) (syntax.pattern_of inner))
+    ≡ pattern_in s (tree.data_except (syntax.type_of d) (map syntax.parameter_of slice) (syntax.pattern_of inner))
 data_except_in s d ps b slice inner e body = ap (pattern_in s) (data_except_view d ps b)
-    ∙ ap (λ xs. pattern_in s (written.data_except (syntax.type_of d) (map syntax.parameter_of xs) (syntax.pattern_of b.value))) (sym e)
-    ∙ ap (λ p. pattern_in s (written.data_except (syntax.type_of d) (map syntax.parameter_of slice) (syntax.pattern_of p))) (sym body)
+    ∙ ap (λ xs. pattern_in s (tree.data_except (syntax.type_of d) (map syntax.parameter_of xs) (syntax.pattern_of b.value))) (sym e)
+    ∙ ap (λ p. pattern_in s (tree.data_except (syntax.type_of d) (map syntax.parameter_of slice) (syntax.pattern_of p))) (sym body)

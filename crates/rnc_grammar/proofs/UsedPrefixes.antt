@@ -6,13 +6,13 @@ use Rattle.std.proofs.Math.Bool.{and-true}
 use Rattle.std.specs.List.{list_all}
 use Rattle.rng_model.specs.names.Lists.{Among, here, there}
 use Rattle.rnc_model.specs.grammar.Syntax as syntax
+use Rattle.rnc_model.specs.grammar.Syntax.{written, Namespace, given}
+use Rattle.rnc_model.specs.declarations.FileTree as tree
 use Rattle.rnc_model.specs.declarations.Declarations.{◌>>=◌, Scope, namespace_in, library_in, default_of, name_in, class_in, classes_in, type_in, handed_on, mention_in}
 use Rattle.rnc_model.specs.declarations.Declarations.{pattern_in, patterns_in, component_in, components_in, body_in}
 use Rattle.rnc_model.specs.declarations.DeclarationRules.{Declarable, namespace_prefix, datatype_prefix, default_namespace, IsPrefixIn}
 use Rattle.rnc_model.specs.declarations.DeclarationRules.{prefixes_of_name, prefixes_of_class, prefixes_of_classes, prefixes_of_type, prefixes_of_inherit}
 use Rattle.rnc_model.specs.declarations.DeclarationRules.{prefixes_of_pattern, prefixes_of_patterns, prefixes_of_component, prefixes_of_components, prefixes_of_body}
-use Rattle.rnc_model.specs.declarations.FileTree as tree
-use Rattle.rnc_model.specs.declarations.FileTree.{Namespace, given}
 
 -- ---- optional parts
 
@@ -39,26 +39,27 @@ joined : {A B C : Type 0} (s : Scope) (xs ys : List Declarable) (o : Option A) (
     → is_some q ≡ are_known s ys → is_some (o >>= λ x. q >>= λ y. Some (f x y)) ≡ are_known s (xs ++ ys)
 joined s xs ys o q f d e = two o q f ∙ ap₂ (λ a b. a && b) d e ∙ sym (list_all-append (is_known s) xs ys)
 
-name_known : (s : Scope) (ns : Namespace) (n : syntax.Name) → is_some (name_in s ns n) ≡ are_known s (prefixes_of_name n)
+name_known : (s : Scope) (ns : Namespace) (n : syntax.Name written) → is_some (name_in s ns n) ≡ are_known s (prefixes_of_name n)
 name_known s ns (syntax.unprefixed l) = refl
 name_known s ns (syntax.prefixed p l) = one (namespace_in s p) _ ∙ sym (and-true _)
 
 mutual
-  class_known : (s : Scope) (ns : Namespace) (c : syntax.NameClass) → is_some (class_in s ns c) ≡ are_known s (prefixes_of_class c)
+  class_known : (s : Scope) (ns : Namespace) (c : syntax.NameClass written) → is_some (class_in s ns c) ≡ are_known s (prefixes_of_class c)
   class_known s ns syntax.any_name = refl
-  class_known s ns (syntax.any_except c) = one (class_in s ns c) tree.any_except ∙ class_known s ns c
-  class_known s ns (syntax.ns_name p) = one (namespace_in s p) tree.ns_name ∙ sym (and-true _)
+  class_known s ns (syntax.any_except c) = one (class_in s ns c) syntax.any_except ∙ class_known s ns c
+  class_known s ns (syntax.ns_name p) = one (namespace_in s p) syntax.ns_name ∙ sym (and-true _)
   class_known s ns (syntax.ns_except p c) =
-      joined s (namespace_prefix p ∷ []) (prefixes_of_class c) (namespace_in s p) (class_in s ns c) tree.ns_except (sym (and-true _)) (class_known s ns c)
-  class_known s ns (syntax.name_is n) = one (name_in s ns n) tree.name_is ∙ name_known s ns n
-  class_known s ns (syntax.one_of cs) = one (classes_in s ns cs) tree.one_of ∙ classes_known s ns cs
+      joined s (namespace_prefix p ∷ []) (prefixes_of_class c) (namespace_in s p) (class_in s ns c) syntax.ns_except (sym (and-true _)) (class_known s ns c)
+  class_known s ns (syntax.name_is n) = one (name_in s ns n) syntax.name_is ∙ name_known s ns n
+  class_known s ns (syntax.one_of cs) = one (classes_in s ns cs) syntax.one_of ∙ classes_known s ns cs
 
-  classes_known : (s : Scope) (ns : Namespace) (cs : syntax.NameClasses) → is_some (classes_in s ns cs) ≡ are_known s (prefixes_of_classes cs)
+  classes_known : (s : Scope) (ns : Namespace) (cs : syntax.NameClasses written) → is_some (classes_in s ns cs) ≡ are_known s (prefixes_of_classes cs)
   classes_known s ns syntax.no_classes = refl
   classes_known s ns (syntax.class_and c cs) =
-      joined s (prefixes_of_class c) (prefixes_of_classes cs) (class_in s ns c) (classes_in s ns cs) tree.class_and (class_known s ns c) (classes_known s ns cs)
+      joined s (prefixes_of_class c) (prefixes_of_classes cs) (class_in s ns c) (classes_in s ns cs) syntax.class_and (class_known s ns c)
+      (classes_known s ns cs)
 
-type_known : (s : Scope) (d : syntax.DatatypeName) → is_some (type_in s d) ≡ are_known s (prefixes_of_type d)
+type_known : (s : Scope) (d : syntax.DatatypeName written) → is_some (type_in s d) ≡ are_known s (prefixes_of_type d)
 type_known s syntax.string_type = refl
 type_known s syntax.token_type = refl
 type_known s (syntax.prefixed_type p l) = one (library_in s p) _ ∙ sym (and-true _)
@@ -67,50 +68,53 @@ inherit_known : (s : Scope) (p : Option (List ℕ)) → is_some (handed_on s p) 
 inherit_known s None = refl
 inherit_known s (Some p) = sym (and-true _)
 
-mention_known : (s : Scope) (m : syntax.Mention) → is_some (mention_in s m) ≡ are_known s (prefixes_of_inherit m.inherit)
+mention_known : (s : Scope) (m : syntax.Mention written) → is_some (mention_in s m) ≡ are_known s (prefixes_of_inherit m.inherit)
 mention_known s m = one (handed_on s m.inherit) _ ∙ inherit_known s m.inherit
 
 mutual
-  pattern_known : (s : Scope) (p : syntax.Pattern) → is_some (pattern_in s p) ≡ are_known s (prefixes_of_pattern p)
+  pattern_known : (s : Scope) (p : syntax.Pattern written) → is_some (pattern_in s p) ≡ are_known s (prefixes_of_pattern p)
   pattern_known s (syntax.element c p) =
-      joined s (prefixes_of_class c) (prefixes_of_pattern p) (class_in s (default_of s) c) (pattern_in s p) tree.element (class_known s _ c) (pattern_known s p)
+      joined s (prefixes_of_class c) (prefixes_of_pattern p) (class_in s (default_of s) c) (pattern_in s p) syntax.element (class_known s _ c)
+      (pattern_known s p)
   pattern_known s (syntax.attribute c p) =
-      joined s (prefixes_of_class c) (prefixes_of_pattern p) (class_in s (given []) c) (pattern_in s p) tree.attribute (class_known s _ c) (pattern_known s p)
-  pattern_known s (syntax.list p) = one (pattern_in s p) tree.list ∙ pattern_known s p
-  pattern_known s (syntax.mixed p) = one (pattern_in s p) tree.mixed ∙ pattern_known s p
-  pattern_known s (syntax.optional p) = one (pattern_in s p) tree.optional ∙ pattern_known s p
-  pattern_known s (syntax.zero_or_more p) = one (pattern_in s p) tree.zero_or_more ∙ pattern_known s p
-  pattern_known s (syntax.one_or_more p) = one (pattern_in s p) tree.one_or_more ∙ pattern_known s p
+      joined s (prefixes_of_class c) (prefixes_of_pattern p) (class_in s (given []) c) (pattern_in s p) syntax.attribute (class_known s _ c) (pattern_known s p)
+  pattern_known s (syntax.list p) = one (pattern_in s p) syntax.list ∙ pattern_known s p
+  pattern_known s (syntax.mixed p) = one (pattern_in s p) syntax.mixed ∙ pattern_known s p
+  pattern_known s (syntax.optional p) = one (pattern_in s p) syntax.optional ∙ pattern_known s p
+  pattern_known s (syntax.zero_or_more p) = one (pattern_in s p) syntax.zero_or_more ∙ pattern_known s p
+  pattern_known s (syntax.one_or_more p) = one (pattern_in s p) syntax.one_or_more ∙ pattern_known s p
   pattern_known s (syntax.ref n) = refl
   pattern_known s (syntax.parent_ref n) = refl
   pattern_known s syntax.empty = refl
   pattern_known s syntax.text = refl
   pattern_known s syntax.not_allowed = refl
-  pattern_known s (syntax.value d v) = one (type_in s d) (λ d. tree.value d v) ∙ type_known s d
-  pattern_known s (syntax.data_of d ps) = one (type_in s d) (λ d. tree.data_of d ps) ∙ type_known s d
+  pattern_known s (syntax.value d v) = one (type_in s d) (λ d. syntax.value d v) ∙ type_known s d
+  pattern_known s (syntax.data_of d ps) = one (type_in s d) (λ d. syntax.data_of d ps) ∙ type_known s d
   pattern_known s (syntax.data_except d ps p) =
-      joined s (prefixes_of_type d) (prefixes_of_pattern p) (type_in s d) (pattern_in s p) (λ d p. tree.data_except d ps p) (type_known s d) (pattern_known s p)
-  pattern_known s (syntax.external m) = one (mention_in s m) tree.external ∙ mention_known s m
-  pattern_known s (syntax.grammar cs) = one (components_in s cs) tree.grammar ∙ components_known s cs
-  pattern_known s (syntax.joined k ps) = one (patterns_in s ps) (tree.joined k) ∙ patterns_known s ps
+      joined s (prefixes_of_type d) (prefixes_of_pattern p) (type_in s d) (pattern_in s p) (λ d p. syntax.data_except d ps p) (type_known s d)
+      (pattern_known s p)
+  pattern_known s (syntax.external m) = one (mention_in s m) syntax.external ∙ mention_known s m
+  pattern_known s (syntax.grammar cs) = one (components_in s cs) syntax.grammar ∙ components_known s cs
+  pattern_known s (syntax.joined k ps) = one (patterns_in s ps) (syntax.joined k) ∙ patterns_known s ps
 
-  patterns_known : (s : Scope) (ps : syntax.Patterns) → is_some (patterns_in s ps) ≡ are_known s (prefixes_of_patterns ps)
+  patterns_known : (s : Scope) (ps : syntax.Patterns written) → is_some (patterns_in s ps) ≡ are_known s (prefixes_of_patterns ps)
   patterns_known s syntax.no_patterns = refl
   patterns_known s (syntax.pattern_and p ps) =
-      joined s (prefixes_of_pattern p) (prefixes_of_patterns ps) (pattern_in s p) (patterns_in s ps) tree.pattern_and (pattern_known s p) (patterns_known s ps)
+      joined s (prefixes_of_pattern p) (prefixes_of_patterns ps) (pattern_in s p) (patterns_in s ps) syntax.pattern_and (pattern_known s p)
+      (patterns_known s ps)
 
-  component_known : (s : Scope) (c : syntax.Component) → is_some (component_in s c) ≡ are_known s (prefixes_of_component c)
-  component_known s (syntax.start m p) = one (pattern_in s p) (tree.start m) ∙ pattern_known s p
-  component_known s (syntax.define n m p) = one (pattern_in s p) (tree.define n m) ∙ pattern_known s p
-  component_known s (syntax.div cs) = one (components_in s cs) tree.div ∙ components_known s cs
+  component_known : (s : Scope) (c : syntax.Component written) → is_some (component_in s c) ≡ are_known s (prefixes_of_component c)
+  component_known s (syntax.start m p) = one (pattern_in s p) (syntax.start m) ∙ pattern_known s p
+  component_known s (syntax.define n m p) = one (pattern_in s p) (syntax.define n m) ∙ pattern_known s p
+  component_known s (syntax.div cs) = one (components_in s cs) syntax.div ∙ components_known s cs
   component_known s (syntax.include m cs) =
-      joined s (prefixes_of_inherit m.inherit) (prefixes_of_components cs) (mention_in s m) (components_in s cs) tree.include (mention_known s m)
+      joined s (prefixes_of_inherit m.inherit) (prefixes_of_components cs) (mention_in s m) (components_in s cs) syntax.include (mention_known s m)
       (components_known s cs)
 
-  components_known : (s : Scope) (cs : syntax.Components) → is_some (components_in s cs) ≡ are_known s (prefixes_of_components cs)
+  components_known : (s : Scope) (cs : syntax.Components written) → is_some (components_in s cs) ≡ are_known s (prefixes_of_components cs)
   components_known s syntax.no_components = refl
   components_known s (syntax.component_and c cs) =
-      joined s (prefixes_of_component c) (prefixes_of_components cs) (component_in s c) (components_in s cs) tree.component_and (component_known s c)
+      joined s (prefixes_of_component c) (prefixes_of_components cs) (component_in s c) (components_in s cs) syntax.component_and (component_known s c)
       (components_known s cs)
 
 body_known : (s : Scope) (b : syntax.Body) → is_some (body_in s b) ≡ are_known s (prefixes_of_body b)

@@ -1,6 +1,7 @@
 // The tree of a schema file, with its declarations applied.
 ghost use Rattle.std.specs.Prelude.{◌≡◌, map, option_map};
-ghost use Rattle.rnc_model.specs.declarations.FileTree.{components_of, grammar_of, is_grammar as is_grammar_tree};
+ghost use Rattle.rnc_model.specs.grammar.Syntax.{components_of};
+ghost use Rattle.rnc_model.specs.declarations.FileTree.{grammar_of, is_grammar as is_grammar_tree};
 ghost use Rattle.rnc_grammar.specs.views.View.{component_of, file_of};
 
 use rng_model::Method;

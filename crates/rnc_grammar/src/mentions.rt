@@ -1,6 +1,6 @@
 // The files that a schema file mentions.
 ghost use Rattle.std.specs.Prelude.{◌≡◌, ◌++◌, IfOk, OnOk, map};
-ghost use Rattle.rnc_model.specs.declarations.FileTree.{components_of, patterns_of};
+ghost use Rattle.rnc_model.specs.grammar.Syntax.{components_of, patterns_of};
 ghost use Rattle.rnc_model.specs.loading.Mentions.{mentions_of, mentions_of_component, mentions_of_components, mentions_of_pattern, mentions_of_patterns};
 ghost use Rattle.rnc_grammar.specs.views.View.{component_of, file_of, mentioned_file_of, pattern_of};
 

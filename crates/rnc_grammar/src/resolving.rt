@@ -1,10 +1,9 @@
 // From a syntax tree to the file tree, with declarations applied.
 ghost use Rattle.std.specs.Prelude.{◌≡◌, ◌++◌, ◌∷◌, ℕ, List, map, [], OnOk, Some, option_map, string_bytes};
 ghost use Rattle.rnc_model.specs.declarations.Declarations as rules;
-ghost use Rattle.rnc_model.specs.declarations.FileTree as types;
-ghost use Rattle.rnc_model.specs.declarations.FileTree.{components_of};
+ghost use Rattle.rnc_model.specs.grammar.Syntax as types;
+ghost use Rattle.rnc_model.specs.grammar.Syntax.{applied, components_of};
 ghost use Rattle.rnc_grammar.specs.views.Resolved.{Resolves, connector_of, each, joined_in, named_in, named_with, namespace_at, scope_view, wrapped_in, wrapped_with};
-ghost use Rattle.rnc_model.specs.grammar.Syntax as written;
 ghost use Rattle.rnc_syntax.specs.views.SyntaxView as syntax;
 ghost use Rattle.rnc_grammar.specs.views.View as tree;
 
@@ -172,7 +171,7 @@ impl<'s, 'a> Resolver<'s, 'a> {
         type_name: &rnc_syntax::DatatypeName<'a>,
         parameters: &[rnc_syntax::Parameter<'a>],
     ) -> Result<Box<Datatype>, ScopeFault>
-        ensures { Resolves {Y = types.DatatypeName × List (List ℕ × List ℕ)} (λ d. (tree.type_of d.value.type_name, tree.parameters_of d.value)) result
+        ensures { Resolves {Y = types.DatatypeName applied × List (List ℕ × List ℕ)} (λ d. (tree.type_of d.value.type_name, tree.parameters_of d.value)) result
             (option_map (λ d. (d, map syntax.parameter_of parameters.now)) (rules.type_in (scope_view self.entry.scope.now) (syntax.type_of type_name.now))) }
     {
         let type_name = self.type_name(type_name)?;
@@ -190,7 +189,7 @@ impl<'s, 'a> Resolver<'s, 'a> {
         type_name: &rnc_syntax::DatatypeName<'a>,
         text: &rnc_syntax::Literal<'a>,
     ) -> Result<Box<DatatypeValue>, ScopeFault>
-        ensures { Resolves {Y = types.DatatypeName × List ℕ} (λ v. (tree.type_of v.value.type_name, string_bytes v.value.text)) result
+        ensures { Resolves {Y = types.DatatypeName applied × List ℕ} (λ v. (tree.type_of v.value.type_name, string_bytes v.value.text)) result
             (option_map (λ d. (d, syntax.text_of text.now)) (rules.type_in (scope_view self.entry.scope.now) (syntax.type_of type_name.now))) }
     {
         let type_name = self.type_name(type_name)?;
@@ -235,7 +234,7 @@ impl<'s, 'a> Resolver<'s, 'a> {
         text: &rnc_syntax::Literal<'a>,
         place: &mut Pattern,
     ) -> Result<(), ScopeFault>
-        ensures { Resolves (λ _. tree.pattern_of place.new) result (rules.pattern_in (scope_view self.entry.scope.now) (written.value (syntax.type_of type_name.now) (syntax.text_of text.now))) }
+        ensures { Resolves (λ _. tree.pattern_of place.new) result (rules.pattern_in (scope_view self.entry.scope.now) (types.value (syntax.type_of type_name.now) (syntax.text_of text.now))) }
     {
         put(place, Pattern::Value(self.value(type_name, text)?));
         Ok(())
@@ -249,7 +248,7 @@ impl<'s, 'a> Resolver<'s, 'a> {
         parameters: &[rnc_syntax::Parameter<'a>],
         place: &mut Pattern,
     ) -> Result<(), ScopeFault>
-        ensures { Resolves (λ _. tree.pattern_of place.new) result (rules.pattern_in (scope_view self.entry.scope.now) (written.data_of (syntax.type_of type_name.now) (map syntax.parameter_of parameters.now))) }
+        ensures { Resolves (λ _. tree.pattern_of place.new) result (rules.pattern_in (scope_view self.entry.scope.now) (types.data_of (syntax.type_of type_name.now) (map syntax.parameter_of parameters.now))) }
     {
         let datatype = self.datatype(type_name, parameters)?;
         put_data(place, datatype, None);
@@ -284,7 +283,7 @@ impl<'s, 'a> Resolver<'s, 'a> {
         mention: &rnc_syntax::Mention<'a>,
         place: &mut Pattern,
     ) -> Result<(), ScopeFault>
-        ensures { Resolves (λ _. tree.pattern_of place.new) result (rules.pattern_in (scope_view self.entry.scope.now) (written.external (syntax.mention_of mention.now))) }
+        ensures { Resolves (λ _. tree.pattern_of place.new) result (rules.pattern_in (scope_view self.entry.scope.now) (types.external (syntax.mention_of mention.now))) }
     {
         put(place, Pattern::External(self.mention(mention)?));
         Ok(())
@@ -412,7 +411,7 @@ impl<'s, 'a> Resolver<'s, 'a> {
         except: &rnc_syntax::Pattern<'a>,
         place: &mut Pattern,
     ) -> Result<(), ScopeFault>
-        ensures { Resolves (λ _. tree.pattern_of place.new) result (rules.pattern_in (scope_view self.entry.scope.now) (written.data_except (syntax.type_of type_name.now) (map syntax.parameter_of parameters.now) (syntax.pattern_of except.now))) }
+        ensures { Resolves (λ _. tree.pattern_of place.new) result (rules.pattern_in (scope_view self.entry.scope.now) (types.data_except (syntax.type_of type_name.now) (map syntax.parameter_of parameters.now) (syntax.pattern_of except.now))) }
     {
         let datatype = self.datatype(type_name, parameters)?;
         let except = self.child(except)?;
@@ -448,7 +447,7 @@ impl<'s, 'a> Resolver<'s, 'a> {
         all: &[rnc_syntax::Component<'a>],
         place: &mut Pattern,
     ) -> Result<(), ScopeFault>
-        ensures { Resolves (λ _. tree.pattern_of place.new) result (rules.pattern_in (scope_view self.entry.scope.now) (written.grammar (written.components_of (map syntax.component_of all.now)))) }
+        ensures { Resolves (λ _. tree.pattern_of place.new) result (rules.pattern_in (scope_view self.entry.scope.now) (types.grammar (types.components_of (map syntax.component_of all.now)))) }
     {
         put(place, Pattern::Grammar(self.components(all)?));
         Ok(())
@@ -483,7 +482,7 @@ impl<'s, 'a> Resolver<'s, 'a> {
     #[cycle(resolved)]
     #[inline(never)]
     fn div(self, all: &[rnc_syntax::Component<'a>], place: &mut Component) -> Result<(), ScopeFault>
-        ensures { Resolves (λ _. tree.component_of place.new) result (rules.component_in (scope_view self.entry.scope.now) (written.div (written.components_of (map syntax.component_of all.now)))) }
+        ensures { Resolves (λ _. tree.component_of place.new) result (rules.component_in (scope_view self.entry.scope.now) (types.div (types.components_of (map syntax.component_of all.now)))) }
     {
         put(place, Component::Div(self.components(all)?));
         Ok(())
@@ -498,7 +497,7 @@ impl<'s, 'a> Resolver<'s, 'a> {
         all: &[rnc_syntax::Component<'a>],
         place: &mut Component,
     ) -> Result<(), ScopeFault>
-        ensures { Resolves (λ _. tree.component_of place.new) result (rules.component_in (scope_view self.entry.scope.now) (written.include (syntax.mention_of mention.now) (written.components_of (map syntax.component_of all.now)))) }
+        ensures { Resolves (λ _. tree.component_of place.new) result (rules.component_in (scope_view self.entry.scope.now) (types.include (syntax.mention_of mention.now) (types.components_of (map syntax.component_of all.now)))) }
     {
         let mention = self.mention(mention)?;
         put(place, Component::Include(mention, self.components(all)?));
@@ -507,7 +506,7 @@ impl<'s, 'a> Resolver<'s, 'a> {
 
     #[cycle(resolved)]
     fn components(self, all: &[rnc_syntax::Component<'a>]) -> Result<Vec<Component>, ScopeFault>
-        ensures { Resolves (λ components. components_of (map tree.component_of components.items)) result (rules.components_in (scope_view self.entry.scope.now) (written.components_of (map syntax.component_of all.now))) }
+        ensures { Resolves (λ components. components_of (map tree.component_of components.items)) result (rules.components_in (scope_view self.entry.scope.now) (types.components_of (map syntax.component_of all.now))) }
     {
         let mut components = Vec::with_capacity(self.alloc, all.len())?;
         let mut next = Box::new(self.alloc, Component::Div(Vec::new(self.alloc)))?;

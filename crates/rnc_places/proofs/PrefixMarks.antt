@@ -17,6 +17,7 @@ use Rattle.rnc_model.specs.grammar.Grammar.{AreComponents, AreMore, AreMoreClass
 use Rattle.rnc_model.specs.grammar.Grammar.{IsBasic, IsBody, IsBraced, IsClass, IsComponent, IsLiteral, IsParticle, IsPattern, IsPrimary, MayBeAnnotation}
 use Rattle.rnc_model.specs.grammar.Grammar.{MayBeParameters, MayInherit, MayOverride, Setting, connector_of, is_bracket, method_of, type_of, word_of}
 use Rattle.rnc_model.specs.grammar.Syntax as syntax
+use Rattle.rnc_model.specs.grammar.Syntax.{written}
 use Rattle.rnc_model.specs.tokens.Lexeme.{Lexeme, cname, identifier, keyword, ns_name, segment, sign}
 use Rattle.rnc_places.specs.declared.prefixes.Part.{Part}
 use Rattle.rnc_places.specs.declared.prefixes.Part.TheVariants.{Body, Class, Inherit, Prefix}
@@ -200,7 +201,7 @@ ns_front p q = record {
 }
 
 mutual
-  class_marked : {ts : List Lexeme} {c : syntax.NameClass} → (p : IsClass ts c) → Marks Class Class ts (in_class p) (prefixes_of_class c)
+  class_marked : {ts : List Lexeme} {c : syntax.NameClass written} → (p : IsClass ts c) → Marks Class Class ts (in_class p) (prefixes_of_class c)
   class_marked (grammar.basic_class p) = basic_marked p
   class_marked (grammar.choice_class {c = c} {cs = cs} p q e f) =
       with_prefixes (sym (ap prefixes_of_class f)) (is e (joined (basic_marked p) (more_classes_marked q)))
@@ -208,16 +209,16 @@ mutual
       is e (joined (class_note may) (token 0 Class (sign Star) refl (token 0 Class (sign Minus) refl (basic_marked p))))
   class_marked (grammar.ns_except {p = w} may p e) = is e (joined (class_note may) (ns_front w (token 0 Class (sign Minus) refl (basic_marked p))))
 
-  more_classes_marked : {ts : List Lexeme} {cs : List syntax.NameClass} → (p : AreMoreClasses ts cs)
+  more_classes_marked : {ts : List Lexeme} {cs : List (syntax.NameClass written)} → (p : AreMoreClasses ts cs)
       → Marks Class Class ts (in_more_classes p) (prefixes_of_classes (syntax.classes_of cs))
   more_classes_marked (grammar.last_class {c = c} p e) =
       with_prefixes (sym (append-nil (prefixes_of_class c))) (is e (token 0 Class (sign Bar) refl (basic_marked p)))
   more_classes_marked (grammar.more_classes p q e) = is e (token 0 Class (sign Bar) refl (joined (basic_marked p) (more_classes_marked q)))
 
-  basic_marked : {ts : List Lexeme} {c : syntax.NameClass} → (p : IsBasic ts c) → Marks Class Class ts (in_basic p) (prefixes_of_class c)
+  basic_marked : {ts : List Lexeme} {c : syntax.NameClass written} → (p : IsBasic ts c) → Marks Class Class ts (in_basic p) (prefixes_of_class c)
   basic_marked (grammar.annotated_basic may p e) = is e (joined (class_note may) (bare_basic_marked p))
 
-  bare_basic_marked : {ts : List Lexeme} {c : syntax.NameClass} → (p : IsBareBasic ts c) → Marks Class Class ts (in_bare_basic p) (prefixes_of_class c)
+  bare_basic_marked : {ts : List Lexeme} {c : syntax.NameClass written} → (p : IsBareBasic ts c) → Marks Class Class ts (in_bare_basic p) (prefixes_of_class c)
   bare_basic_marked (grammar.word_class {x = x} {w = w} word e) = is e (word_in_class x w word)
   bare_basic_marked (grammar.cname_class {p = p} {l = l} e) = is e (record { reads = λ rest. refl; are = refl })
   bare_basic_marked (grammar.ns_class {p = p} e) = is e (ns_front p (nothing 0 Class))
@@ -228,21 +229,21 @@ mutual
 -- ---- patterns and components
 
 -- the name of a datatype, and the tokens after it
-typed : (x : Lexeme) (n : syntax.DatatypeName) {ts : List Lexeme} {ms : List (Option Declarable)} {xs : List Declarable} → type_of x ≡ Some n
+typed : (x : Lexeme) (n : syntax.DatatypeName written) {ts : List Lexeme} {ms : List (Option Declarable)} {xs : List Declarable} → type_of x ≡ Some n
     → Marks Body Body ts ms xs → Marks Body Body (x ∷ ts) (prefix_of_type n ∷ ms) (prefixes_of_type n ++ xs)
 typed (cname p l) n {ts} {ms} {xs} e q =
     let same : syntax.prefixed_type p l ≡ n = cc in
-    subst (λ (n : syntax.DatatypeName). Marks Body Body (cname p l ∷ ts) (prefix_of_type n ∷ ms) (prefixes_of_type n ++ xs)) same (record {
+    subst (λ (n : syntax.DatatypeName written). Marks Body Body (cname p l ∷ ts) (prefix_of_type n ∷ ms) (prefixes_of_type n ++ xs)) same (record {
       reads = λ rest. ap (λ (r : List (Option Declarable)). prefix_at 0 Body (cname p l) ∷ r) (q.reads rest);
       are = ap (λ (r : List Declarable). prefixes_of_type (syntax.prefixed_type p l) ++ r) q.are;
     })
 typed (keyword keywords.String s) n {ts} {ms} {xs} e q =
     let same : syntax.string_type ≡ n = cc in
-    subst (λ (n : syntax.DatatypeName). Marks Body Body (keyword keywords.String s ∷ ts) (prefix_of_type n ∷ ms) (prefixes_of_type n ++ xs)) same
+    subst (λ (n : syntax.DatatypeName written). Marks Body Body (keyword keywords.String s ∷ ts) (prefix_of_type n ∷ ms) (prefixes_of_type n ++ xs)) same
     (token 0 Body (keyword keywords.String s) refl q)
 typed (keyword keywords.Token s) n {ts} {ms} {xs} e q =
     let same : syntax.token_type ≡ n = cc in
-    subst (λ (n : syntax.DatatypeName). Marks Body Body (keyword keywords.Token s ∷ ts) (prefix_of_type n ∷ ms) (prefixes_of_type n ++ xs)) same
+    subst (λ (n : syntax.DatatypeName written). Marks Body Body (keyword keywords.Token s ∷ ts) (prefix_of_type n ∷ ms) (prefixes_of_type n ++ xs)) same
     (token 0 Body (keyword keywords.Token s) refl q)
 typed _ n e q = absurd cc
 
@@ -263,29 +264,30 @@ connector_front Bar k e q = token 0 Body (sign Bar) refl q
 connector_front _ k e q = absurd cc
 
 mutual
-  pattern_marked : {ts : List Lexeme} {t : syntax.Pattern} → (p : IsPattern ts t) → Marks Body Body ts (in_pattern p) (prefixes_of_pattern t)
+  pattern_marked : {ts : List Lexeme} {t : syntax.Pattern written} → (p : IsPattern ts t) → Marks Body Body ts (in_pattern p) (prefixes_of_pattern t)
   pattern_marked (grammar.one_particle p) = particle_marked p
   pattern_marked (grammar.particles {k = k} joins p q e f) =
       with_prefixes (sym (ap prefixes_of_pattern f)) (is e (joined (particle_marked p) (more_marked k joins q)))
   pattern_marked (grammar.data_except {d = d} x may type ps p e) =
       is e (joined (body_note may) (typed x d type (joined (may_parameters_marked ps) (token 0 Body (sign Minus) refl (primary_marked p)))))
 
-  more_marked : {s : Sign} {ts : List Lexeme} {us : List syntax.Pattern} (k : Connector) → connector_of s ≡ Some k → (p : AreMore s ts us)
+  more_marked : {s : Sign} {ts : List Lexeme} {us : List (syntax.Pattern written)} (k : Connector) → connector_of s ≡ Some k → (p : AreMore s ts us)
       → Marks Body Body ts (in_more p) (prefixes_of_patterns (syntax.patterns_of us))
   more_marked {s} k joins (grammar.last_particle {t = t} p e) =
       with_prefixes (sym (append-nil (prefixes_of_pattern t))) (is e (connector_front s k joins (particle_marked p)))
   more_marked {s} k joins (grammar.more_particles p q e) = is e (connector_front s k joins (joined (particle_marked p) (more_marked k joins q)))
 
-  particle_marked : {ts : List Lexeme} {t : syntax.Pattern} → (p : IsParticle ts t) → Marks Body Body ts (in_particle p) (prefixes_of_pattern t)
+  particle_marked : {ts : List Lexeme} {t : syntax.Pattern written} → (p : IsParticle ts t) → Marks Body Body ts (in_particle p) (prefixes_of_pattern t)
   particle_marked (grammar.once p) = primary_marked p
   particle_marked (grammar.optional p e) = is e (closed 0 (sign Question) refl (primary_marked p))
   particle_marked (grammar.zero_or_more p e) = is e (closed 0 (sign Star) refl (primary_marked p))
   particle_marked (grammar.one_or_more p e) = is e (closed 0 (sign Plus) refl (primary_marked p))
 
-  primary_marked : {ts : List Lexeme} {t : syntax.Pattern} → (p : IsPrimary ts t) → Marks Body Body ts (in_primary p) (prefixes_of_pattern t)
+  primary_marked : {ts : List Lexeme} {t : syntax.Pattern written} → (p : IsPrimary ts t) → Marks Body Body ts (in_primary p) (prefixes_of_pattern t)
   primary_marked (grammar.annotated_primary may p e) = is e (joined (body_note may) (bare_primary_marked p))
 
-  bare_primary_marked : {ts : List Lexeme} {t : syntax.Pattern} → (p : IsBarePrimary ts t) → Marks Body Body ts (in_bare_primary p) (prefixes_of_pattern t)
+  bare_primary_marked : {ts : List Lexeme} {t : syntax.Pattern written} → (p : IsBarePrimary ts t)
+      → Marks Body Body ts (in_bare_primary p) (prefixes_of_pattern t)
   bare_primary_marked (grammar.element {s = s} c p e) = is e (token 0 Body (keyword keywords.Element s) refl (joined (class_marked c) (class_braced p)))
   bare_primary_marked (grammar.attribute {s = s} c p e) = is e (token 0 Body (keyword keywords.Attribute s) refl (joined (class_marked c) (class_braced p)))
   bare_primary_marked (grammar.list {s = s} p e) = is e (token 0 Body (keyword keywords.List s) refl (body_braced p))
@@ -308,22 +310,22 @@ mutual
   bare_primary_marked (grammar.in_parens p e) =
       is e (token 0 Body (sign OpenParenthesis) refl (closed 0 (sign CloseParenthesis) refl (pattern_marked p)))
 
-  class_braced : {ts : List Lexeme} {t : syntax.Pattern} → (p : IsBraced ts t) → Marks Class Body ts (in_braced p) (prefixes_of_pattern t)
+  class_braced : {ts : List Lexeme} {t : syntax.Pattern written} → (p : IsBraced ts t) → Marks Class Body ts (in_braced p) (prefixes_of_pattern t)
   class_braced (grammar.in_braces p e) = is e (token 0 Class (sign OpenBrace) refl (closed 0 (sign CloseBrace) refl (pattern_marked p)))
 
-  body_braced : {ts : List Lexeme} {t : syntax.Pattern} → (p : IsBraced ts t) → Marks Body Body ts (in_braced p) (prefixes_of_pattern t)
+  body_braced : {ts : List Lexeme} {t : syntax.Pattern written} → (p : IsBraced ts t) → Marks Body Body ts (in_braced p) (prefixes_of_pattern t)
   body_braced (grammar.in_braces p e) = is e (token 0 Body (sign OpenBrace) refl (closed 0 (sign CloseBrace) refl (pattern_marked p)))
 
-  components_marked : {w : Setting} {ts : List Lexeme} {cs : List syntax.Component} → (p : AreComponents w ts cs)
+  components_marked : {w : Setting} {ts : List Lexeme} {cs : List (syntax.Component written)} → (p : AreComponents w ts cs)
       → Marks Body Body ts (in_components p) (prefixes_of_components (syntax.components_of cs))
   components_marked (grammar.no_components e) = is e (nothing 0 Body)
   components_marked (grammar.and_component p q e) = is e (joined (component_marked p) (components_marked q))
 
-  component_marked : {w : Setting} {ts : List Lexeme} {c : syntax.Component} → (p : IsComponent w ts c)
+  component_marked : {w : Setting} {ts : List Lexeme} {c : syntax.Component written} → (p : IsComponent w ts c)
       → Marks Body Body ts (in_component p) (prefixes_of_component c)
   component_marked (grammar.annotated_component may p e) = is e (joined (body_note may) (bare_component_marked p))
 
-  bare_component_marked : {w : Setting} {ts : List Lexeme} {c : syntax.Component} → (p : IsBareComponent w ts c)
+  bare_component_marked : {w : Setting} {ts : List Lexeme} {c : syntax.Component written} → (p : IsBareComponent w ts c)
       → Marks Body Body ts (in_bare_component p) (prefixes_of_component c)
   bare_component_marked (grammar.start {x = x} {m = m} {s = s} method p e) =
       is e (token 0 Body (keyword keywords.Start s) refl (method_front x m method (pattern_marked p)))
@@ -336,7 +338,7 @@ mutual
       with_prefixes (sym (ap prefixes_of_component f))
       (is e (token 0 Body (keyword keywords.Include s) refl (joined (literal_in_body p) (joined (inherit_marked may) (overrides_marked q)))))
 
-  overrides_marked : {ts : List Lexeme} {cs : List syntax.Component} → (p : MayOverride ts cs)
+  overrides_marked : {ts : List Lexeme} {cs : List (syntax.Component written)} → (p : MayOverride ts cs)
       → Marks Body Body ts (in_overrides p) (prefixes_of_components (syntax.components_of cs))
   overrides_marked (grammar.without_overrides e) = is e (nothing 0 Body)
   overrides_marked (grammar.with_overrides p e) = is e (token 0 Body (sign OpenBrace) refl (closed 0 (sign CloseBrace) refl (components_marked p)))

@@ -11,6 +11,7 @@ use Rattle.rng_model.specs.simple.Grammar.{Grammar}
 use Rattle.rng_model.specs.declared.method.Method.TheVariants as methods
 use Rattle.rncv_model.specs.printed.PrintedText.{Item, element, pattern, element_at, item_name, prefix_of, namespace_of, namespaces_in, namespaces_among, namespaces_of}
 use Rattle.rnc_model.specs.grammar.Syntax as syntax
+use Rattle.rnc_model.specs.grammar.Syntax.{written}
 use Rattle.rnc_model.specs.declarations.DeclarationRules.{Declarable, namespace_prefix, datatype_prefix, declared_in, IsTwiceIn, at_first, later}
 use Rattle.rnc_model.specs.declarations.DeclarationRules.{BreaksDeclarationRule, namespace_prefix_twice, datatype_prefix_twice, default_namespace_twice, xml_as_another}
 use Rattle.rnc_model.specs.declarations.DeclarationRules.{xsd_as_another, xmlns_declared, namespace_prefix_undeclared, datatype_prefix_undeclared}
@@ -105,19 +106,19 @@ module _ (ns : List (List ℕ)) where
     parts [] vs h = (tt, h)
     parts (u ∷ us) vs h = let r = parts us vs h.1 in ((h.0, r.0), r.1)
 
-    members_known : (t : syntax.NameClass) → AllKnown (prefixes_of_class t) → AllKnown (prefixes_of_classes (syntax.classes_of (lines.members_in t)))
+    members_known : (t : syntax.NameClass written) → AllKnown (prefixes_of_class t) → AllKnown (prefixes_of_classes (syntax.classes_of (lines.members_in t)))
     members_known syntax.any_name h = tt
     members_known (syntax.any_except c) h = both_known (prefixes_of_class c) [] h tt
     members_known (syntax.ns_name p) h = (h.0, tt)
     members_known (syntax.ns_except p c) h = both_known (namespace_prefix p ∷ prefixes_of_class c) [] h tt
     members_known (syntax.name_is n) h = both_known (prefixes_of_name n) [] h tt
-    members_known (syntax.one_of cs) h = subst (λ (x : syntax.NameClasses). AllKnown (prefixes_of_classes x)) (sym (listed cs)) h
+    members_known (syntax.one_of cs) h = subst (λ (x : syntax.NameClasses written). AllKnown (prefixes_of_classes x)) (sym (listed cs)) h
       where
-        listed : (cs : syntax.NameClasses) → syntax.classes_of (lines.list_of cs) ≡ cs
+        listed : (cs : syntax.NameClasses written) → syntax.classes_of (lines.list_of cs) ≡ cs
         listed syntax.no_classes = refl
         listed (syntax.class_and c cs) = ap (syntax.class_and c) (listed cs)
 
-    classes_both : (xs ys : List syntax.NameClass) → AllKnown (prefixes_of_classes (syntax.classes_of xs))
+    classes_both : (xs ys : List (syntax.NameClass written)) → AllKnown (prefixes_of_classes (syntax.classes_of xs))
         → AllKnown (prefixes_of_classes (syntax.classes_of ys))
         → AllKnown (prefixes_of_classes (syntax.classes_of (xs ++ ys)))
     classes_both [] ys h i = i
@@ -201,7 +202,7 @@ module _ (ns : List (List ℕ)) where
         both_known (prefixes_of_pattern (lines.reference_of items a)) (prefixes_of_pattern (lines.reference_of items b) ++ []) (reference_known items a)
         (both_known (prefixes_of_pattern (lines.reference_of items b)) [] (reference_known items b) tt)
 
-    abbrev defines : Grammar → List Item → List Item → List syntax.Component
+    abbrev defines : Grammar → List Item → List Item → List (syntax.Component written)
     defines g items some = map (λ i. syntax.define (item_name items i) methods.Plain (lines.item_pattern g ns items i)) some
 
     defines_known : (g : Grammar) (items some : List Item) → AllByRecursion (λ i. AllByRecursion KnowsPrefix (namespaces_of g i)) some

@@ -10,7 +10,7 @@ use Rattle.rng_model.specs.simple.Tree.{Simple, s_not_allowed, s_empty, s_text, 
 use Rattle.rng_model.specs.simple.Grammar.{Grammar}
 use Rattle.rng_model.specs.schema.Schema.{Schema}
 use Rattle.rncv_model.specs.printed.PrintedText.{Item, element, pattern, element_at}
-use Rattle.rnc_model.specs.declarations.FileTree as tree
+use Rattle.rnc_model.specs.grammar.Syntax as tree
 use Rattle.rnc_model.specs.declarations.FileTree.{FileTree}
 use Rattle.rnc_model.specs.loading.Mentions.{MentionedFile, mention_of, mentions_of, mentions_of_pattern, mentions_of_component, mentions_of_components}
 use Rattle.rnc_model.specs.loading.MentionPaths.{Path, Mentions, directly, through, IsPath, path_ends, path_goes_on, BreaksMentions, path_limit}

@@ -9,8 +9,7 @@ use Rattle.rng_model.specs.simple.Tree.{Simple, s_not_allowed, s_empty, s_text, 
 use Rattle.rng_model.specs.simple.Grammar.{Grammar}
 use Rattle.rng_model.specs.declared.method.Method.TheVariants as methods
 use Rattle.rnc_model.specs.grammar.Syntax as syntax
-use Rattle.rnc_model.specs.declarations.FileTree as tree
-use Rattle.rnc_model.specs.declarations.FileTree.{Namespace, inherited, given}
+use Rattle.rnc_model.specs.grammar.Syntax.{applied, written, Namespace, inherited, given}
 use Rattle.rnc_model.specs.declarations.Declarations.{Scope, class_in, classes_in, pattern_in, components_in, type_in, name_in, namespace_in, default_of}
 use Rattle.rnc_model.specs.declarations.Declarations.{nothing_declared, declare, declare_all, file_tree}
 use Rattle.rncv_model.specs.printed.PrintedText.{Item, element, pattern, element_at, item_name, prefix_of, namespaces_in, namespaces_among, namespace_of, namespaces_of}
@@ -38,30 +37,30 @@ prefix_in s ns u k = k
 
 -- ---- name classes
 
-listed : (cs : List syntax.NameClass) → lines.list_of (syntax.classes_of cs) ≡ cs
+listed : (cs : List (syntax.NameClass written)) → lines.list_of (syntax.classes_of cs) ≡ cs
 listed [] = refl
-listed (c ∷ cs) = ap (λ (x : List syntax.NameClass). c ∷ x) (listed cs)
+listed (c ∷ cs) = ap (λ (x : List (syntax.NameClass written)). c ∷ x) (listed cs)
 
-tree_listed : (cs : List tree.NameClass) → trees.list_of (tree.classes_of cs) ≡ cs
+tree_listed : (cs : List (syntax.NameClass applied)) → trees.list_of (syntax.classes_of cs) ≡ cs
 tree_listed [] = refl
-tree_listed (c ∷ cs) = ap (λ (x : List tree.NameClass). c ∷ x) (tree_listed cs)
+tree_listed (c ∷ cs) = ap (λ (x : List (syntax.NameClass applied)). c ∷ x) (tree_listed cs)
 
 -- the first classes, resolved, are the second ones
-abbrev Become : Scope → Namespace → List syntax.NameClass → List tree.NameClass → Type 0
+abbrev Become : Scope → Namespace → List (syntax.NameClass written) → List (syntax.NameClass applied) → Type 0
 Become s d [] [] = Unit {0}
 Become s d (x ∷ xs) (u ∷ us) = (class_in s d x ≡ Some u) × Become s d xs us
 Become s d [] (u ∷ us) = ⊥
 Become s d (x ∷ xs) [] = ⊥
 
-both_become : (s : Scope) (d : Namespace) (xs ys : List syntax.NameClass) (us vs : List tree.NameClass) → Become s d xs us → Become s d ys vs
-    → Become s d (xs ++ ys) (us ++ vs)
+both_become : (s : Scope) (d : Namespace) (xs ys : List (syntax.NameClass written)) (us vs : List (syntax.NameClass applied)) → Become s d xs us
+    → Become s d ys vs → Become s d (xs ++ ys) (us ++ vs)
 both_become s d [] ys [] vs e f = f
 both_become s d (x ∷ xs) ys (u ∷ us) vs e f = (e.0, both_become s d xs ys us vs e.1 f)
 both_become s d [] ys (u ∷ us) vs e f = absurd e
 both_become s d (x ∷ xs) ys [] vs e f = absurd e
 
-all_become : (s : Scope) (d : Namespace) (xs : List syntax.NameClass) (us : List tree.NameClass) → Become s d xs us
-    → classes_in s d (syntax.classes_of xs) ≡ Some (tree.classes_of us)
+all_become : (s : Scope) (d : Namespace) (xs : List (syntax.NameClass written)) (us : List (syntax.NameClass applied)) → Become s d xs us
+    → classes_in s d (syntax.classes_of xs) ≡ Some (syntax.classes_of us)
 all_become s d [] [] e = refl
 all_become s d (x ∷ xs) (u ∷ us) e = rw (e.0, all_become s d xs us e.1) refl
 all_become s d [] (u ∷ us) e = absurd e
@@ -186,14 +185,14 @@ item_found s g ns items (pattern a) d k n = pattern_found s ns items a k (namesp
 defines_found : (s : Scope) (g : Grammar) (ns : List (List ℕ)) (items some : List Item) → default_of s ≡ inherited → AllByRecursion (KnowsItem g) some
     → AllByRecursion (λ i. KnowsAll s ns (namespaces_of g i)) some
     → components_in s (syntax.components_of (map (λ i. syntax.define (item_name items i) methods.Plain (lines.item_pattern g ns items i)) some))
-    ≡ Some (tree.components_of (map (trees.define_of g items) some))
+    ≡ Some (syntax.components_of (map (trees.define_of g items) some))
 defines_found s g ns items [] d k n = refl
 defines_found s g ns items (i ∷ some) d k n = rw (item_found s g ns items i d k.0 n.0, defines_found s g ns items some d k.1 n.1) refl
 
 components_found : (s : Scope) (g : Grammar) (ns : List (List ℕ)) (items : List Item) → default_of s ≡ inherited → KnowsType g.start
     → AllByRecursion (KnowsItem g) items → AllByRecursion (λ i. KnowsAll s ns (namespaces_of g i)) items
     → components_in s (syntax.components_of (lines.components g ns items))
-    ≡ Some (tree.components_of (tree.start methods.Plain (trees.reference_of items g.start) ∷ map (trees.define_of g items) items))
+    ≡ Some (syntax.components_of (syntax.start methods.Plain (trees.reference_of items g.start) ∷ map (trees.define_of g items) items))
 components_found s g ns items d t k n = rw (reference_found s items g.start t, defines_found s g ns items items d k n) refl
 
 -- ---- declarations

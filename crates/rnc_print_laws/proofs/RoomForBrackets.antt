@@ -17,7 +17,7 @@ use Rattle.rnc_model.specs.declared.token.Sign.TheVariants.{OpenParenthesis, Clo
 use Rattle.rnc_model.specs.grammar.Grammar.{word_of, type_of, method_of, connector_of, is_bracket}
 use Rattle.rnc_model.specs.tokens.Lexeme.{Lexeme, Spelling, keyword, identifier, cname, ns_name, segment, sign}
 use Rattle.rnc_model.specs.grammar.Sentence.{is_opening, is_closing, NestsWithin}
-use Rattle.rnc_model.specs.grammar.Syntax.{DatatypeName, string_type, token_type, prefixed_type}
+use Rattle.rnc_model.specs.grammar.Syntax.{written, DatatypeName, string_type, token_type, prefixed_type}
 use Rattle.rnc_print_laws.specs.plain.Printable.{IsText, IsName}
 
 -- the words of a token are NCNames, and its text is made of Chars
@@ -123,12 +123,12 @@ past_word (segment v) i f = absurd (none-some _ i)
 past_word (sign s) i f = absurd (none-some _ i)
 
 -- the name of a datatype has an NCName after its prefix
-abbrev pub IsWellSpelledName : DatatypeName → Type 0
+abbrev pub IsWellSpelledName : DatatypeName written → Type 0
 IsWellSpelledName string_type = Unit {0}
 IsWellSpelledName token_type = Unit {0}
 IsWellSpelledName (prefixed_type p l) = IsName l
 
-pub past_type : {ts : List Lexeme} {r : ℕ} {P : Type 0} (x : Lexeme) {d : DatatypeName} → type_of x ≡ Some d → Keeps ts r P
+pub past_type : {ts : List Lexeme} {r : ℕ} {P : Type 0} (x : Lexeme) {d : DatatypeName written} → type_of x ≡ Some d → Keeps ts r P
     → Keeps (x ∷ ts) r (IsWellSpelledName d × P)
 past_type (cname p l) i f = record { keeps = λ e h. let q = f.keeps e h.1 in (q.0, (subst IsWellSpelledName (same_Some _ _ i) h.0.1, q.1)) }
 past_type (keyword keywords.String s) i f = record { keeps = λ e h. let q = f.keeps e h.1 in (q.0, (subst IsWellSpelledName (same_Some _ _ i) tt, q.1)) }

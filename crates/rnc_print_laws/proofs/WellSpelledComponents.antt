@@ -11,8 +11,9 @@ use Rattle.rng_model.specs.schema.SchemaClauses.{BreaksNoClause, in_schema, in_d
 use Rattle.rng_model.specs.simple.SchemaForm.{IsSimpleGrammarOf}
 use Rattle.rng_model.specs.simple.Grammar.{Grammar}
 use Rattle.rng_model.specs.simple.Tree.{Connector, choice, group, interleave}
-use Rattle.rnc_model.specs.declarations.FileTree as tree
-use Rattle.rnc_model.specs.declarations.FileTree.{FileTree, Namespace, inherited, given, grammar_file, pattern_file, grammar_of, whole_grammar}
+use Rattle.rnc_model.specs.grammar.Syntax as tree
+use Rattle.rnc_model.specs.grammar.Syntax.{applied, Namespace, inherited, given}
+use Rattle.rnc_model.specs.declarations.FileTree.{FileTree, grammar_file, pattern_file, grammar_of, whole_grammar}
 use Rattle.rnc_model.specs.loading.LoadedSchema.{AreSchema}
 use Rattle.rnc_model.specs.loading.Loading.{TakenFiles, tree_in, IsTaken, AreTaken, are_taken, FilesHaveOnlyVerdict}
 use Rattle.rnc_model.specs.loading.Loading as loading
@@ -58,11 +59,12 @@ members_spelled k (p ∷ (q ∷ ps)) h = (h.0, h.1.0, patterns_spelled ps h.1.1)
 
 -- ---- grammars of files
 
-whole_spelled : (p : tree.Pattern) (cs : tree.Components) → whole_grammar p ≡ Some cs → spelled.IsWellSpelledPattern p → AreWellSpelledComponents cs
+whole_spelled : (p : tree.Pattern applied) (cs : tree.Components applied) → whole_grammar p ≡ Some cs → spelled.IsWellSpelledPattern p
+    → AreWellSpelledComponents cs
 whole_spelled (tree.grammar ds) cs e h = subst AreWellSpelledComponents (same_Some _ _ e) h
 whole_spelled _ cs e h = absurd (none-some _ e)
 
-grammar_spelled : (t : FileTree) (cs : tree.Components) → grammar_of t ≡ Some cs → IsWellSpelledFile t → AreWellSpelledComponents cs
+grammar_spelled : (t : FileTree) (cs : tree.Components applied) → grammar_of t ≡ Some cs → IsWellSpelledFile t → AreWellSpelledComponents cs
 grammar_spelled (grammar_file ds) cs e h = subst AreWellSpelledComponents (same_Some _ _ e) h
 grammar_spelled (pattern_file p) cs e h = whole_spelled p cs e h
 
@@ -70,7 +72,7 @@ main_spelled : (t : FileTree) → IsWellSpelledFile t → AreWellSpelledComponen
 main_spelled (grammar_file cs) h = h
 main_spelled (pattern_file p) h = by_grammar (whole_grammar p) refl
   where
-    by_grammar : (o : Option tree.Components) → whole_grammar p ≡ o → AreWellSpelledComponents (grammar_or_start p o)
+    by_grammar : (o : Option (tree.Components applied)) → whole_grammar p ≡ o → AreWellSpelledComponents (grammar_or_start p o)
     by_grammar None e = (h, tt)
     by_grammar (Some cs) e = whole_spelled p cs e h
 
@@ -84,7 +86,7 @@ IsSpelledGathered g = IsWellSpelledComponent g.component × AllByRecursion IsSpe
 
 module _ (files : List ℕ → Option FileTree) (good : (f : List ℕ) (t : FileTree) → files f ≡ Some t → IsWellSpelledFile t) where
   mutual
-    reads : {u : List ℕ} {x : TreePath} {a : tree.Pattern} {p : Pattern} {gs : List Nested} → Reads files u x a p gs → IsText u
+    reads : {u : List ℕ} {x : TreePath} {a : tree.Pattern applied} {p : Pattern} {gs : List Nested} → Reads files u x a p gs → IsText u
         → spelled.IsWellSpelledPattern a → IsWellSpelledPattern p × AllByRecursion IsSpelledNested gs
     reads (places.element_is {u} d) i h = let r = reads d i h.1 in ((h.0 u i, r.0), r.1)
     reads (places.attribute_is {u} d) i h = let r = reads d i h.1 in ((h.0 u i, r.0), r.1)
@@ -102,19 +104,19 @@ module _ (files : List ℕ → Option FileTree) (good : (f : List ℕ) (t : File
     reads places.data_is i h = (h, tt)
     reads (places.except_is d) i h = let r = reads d i h.1 in ((h.0, r.0), r.1)
     reads places.grammar_is i h = (tt, ((i, h), tt))
-    reads (places.pattern_file_is {u} {x} {m} {a} f d) i h = reads d (uri_text u m.namespace i h.1) (good m.href (pattern_file a) f)
-    reads (places.grammar_file_is {u} {x} {m} {cs} f) i h = (tt, ((uri_text u m.namespace i h.1, good m.href (grammar_file cs) f), tt))
+    reads (places.pattern_file_is {u} {x} {m} {a} f d) i h = reads d (uri_text u m.inherit i h.1) (good m.href (pattern_file a) f)
+    reads (places.grammar_file_is {u} {x} {m} {cs} f) i h = (tt, ((uri_text u m.inherit i h.1, good m.href (grammar_file cs) f), tt))
     reads (places.joined_is {u} {x} {k} {all} {ps} ds) i h = let r = read_all ds i h in (members_spelled k ps r.0, r.1)
 
-    read_all : {u : List ℕ} {x : TreePath} {n : ℕ} {all : tree.Patterns} {ps : List Pattern} {gs : List Nested} → ReadAll files u x n all ps gs → IsText u
-        → AreWellSpelledPatterns all → AllByRecursion IsWellSpelledPattern ps × AllByRecursion IsSpelledNested gs
+    read_all : {u : List ℕ} {x : TreePath} {n : ℕ} {all : tree.Patterns applied} {ps : List Pattern} {gs : List Nested} → ReadAll files u x n all ps gs
+        → IsText u → AreWellSpelledPatterns all → AllByRecursion IsWellSpelledPattern ps × AllByRecursion IsSpelledNested gs
     read_all places.none_are i h = (tt, tt)
     read_all (places.more_are {u} {x} {n} {a} {all} {p} {ps} {gs} {hs} d ds e) i h =
         let r = reads d i h.0 in
         let rs = read_all ds i h.1 in
         ((r.0, rs.0), all_same IsSpelledNested e (all_both IsSpelledNested gs hs r.1 rs.1))
 
-  gathers : {u : List ℕ} {x : TreePath} {n : ℕ} {cs : tree.Components} {all : List Gathered} → Gathers files u x n cs all → IsText u
+  gathers : {u : List ℕ} {x : TreePath} {n : ℕ} {cs : tree.Components applied} {all : List Gathered} → Gathers files u x n cs all → IsText u
       → AreWellSpelledComponents cs → AllByRecursion IsSpelledGathered all
   gathers places.nothing i h = tt
   gathers (places.a_start d ds) i h = let r = reads d i h.0 in (((tt, r.0), r.1), gathers ds i h.1)
@@ -122,14 +124,14 @@ module _ (files : List ℕ → Option FileTree) (good : (f : List ℕ) (t : File
   gathers (places.a_div {u} {x} {n} {is} {cs} {inner} {rest} {all} ds es e) i h =
       all_same IsSpelledGathered e (all_both IsSpelledGathered inner rest (gathers ds i h.0) (gathers es i h.1))
   gathers (places.an_include {u} {x} {n} {m} {over} {cs} {is} {f} {included} {overriding} {rest} {all} found g ds os es e) i h =
-      let own = gathers ds (uri_text u m.namespace i h.0.0.1) (grammar_spelled f is g (good m.href f found)) in
+      let own = gathers ds (uri_text u m.inherit i h.0.0.1) (grammar_spelled f is g (good m.href f found)) in
       let kept = all_kept IsSpelledGathered (λ g. not (is_overridden overriding g)) included own in
       all_same IsSpelledGathered e (all_both IsSpelledGathered (filter (λ g. not (is_overridden overriding g)) included ++ overriding) rest
       (all_both IsSpelledGathered (filter (λ g. not (is_overridden overriding g)) included) overriding kept (gathers os i h.0.1))
       (gathers es i h.1))
 
   module _ (main : FileTree) (main-is : IsWellSpelledFile main) where
-    grammar_there : {x : Place} {o : Option Place} {u : List ℕ} {cs : tree.Components} → HasGrammar files main x o u cs
+    grammar_there : {x : Place} {o : Option Place} {u : List ℕ} {cs : tree.Components applied} → HasGrammar files main x o u cs
         → IsText u × AreWellSpelledComponents cs
     grammar_there (places.main_is e) = (empty_text, subst AreWellSpelledComponents (sym e) (main_spelled main main-is))
     grammar_there (places.nested_is {x} {o} {u} {cs} {gathered} {g} {n} has ds m k) =

@@ -1,6 +1,6 @@
 // Reading the parts of patterns and components that contain no other pattern.
 ghost use Rattle.std.specs.Prelude.{◌≡◌, ◌++◌, ◌∷◌, [], IfOk, Ok, OnOk, if◌then◌else◌, map, option_map};
-ghost use Rattle.rnc_model.specs.grammar.Syntax as written;
+ghost use Rattle.rnc_model.specs.grammar.Syntax as syntax;
 ghost use Rattle.rnc_syntax.specs.plain.Reading.{lexemes_in};
 ghost use Rattle.rng_model.specs.plain.Answers.{Gives};
 ghost use Rattle.rnc_syntax.specs.views.Fault.{stop_of};
@@ -62,7 +62,7 @@ pub fn put_joined<'a>(place: &mut Pattern<'a>, sign: Sign, all: Vec<Pattern<'a>>
 /// Puts a grammar of these components in this place.
 #[inline(never)]
 pub fn put_grammar<'a>(place: &mut Pattern<'a>, components: Vec<Component<'a>>)
-    ensures { pattern_of place.new ≡ written.grammar (written.components_of (map component_of components.entry.items)) }
+    ensures { pattern_of place.new ≡ syntax.grammar (syntax.components_of (map component_of components.entry.items)) }
 {
     put(place, Pattern::Grammar(components));
 }
@@ -105,7 +105,7 @@ pub fn put_named<'a>(
     class: &mut NameClass<'a>,
     body: Box<Pattern<'a>>,
 )
-    ensures { pattern_of place.new ≡ (if is_attribute then written.attribute else written.element) (class_of class.old) (pattern_of body.entry.value) }
+    ensures { pattern_of place.new ≡ (if is_attribute then syntax.attribute else syntax.element) (class_of class.old) (pattern_of body.entry.value) }
 {
     let class = mem::replace(class, NameClass::Any);
     if is_attribute {
@@ -131,7 +131,7 @@ impl Reader {
     /// A pattern in whose place another one is read.
     #[inline(never)]
     pub fn no_pattern<'a>(self) -> Result<Box<Pattern<'a>>, OutOfMemory>
-        ensures { IfOk result (λ p. pattern_of p.value ≡ written.empty) }
+        ensures { IfOk result (λ p. pattern_of p.value ≡ syntax.empty) }
     {
         Ok(Box::new(self.alloc, Pattern::Empty)?)
     }

@@ -1,7 +1,7 @@
 // Reading patterns and the components of grammars.
 ghost use Rattle.std.specs.Prelude.{◌≡◌, [], Some, map, if◌then◌else◌};
 ghost use Rattle.rnc_syntax.specs.plain.Reading.{lexemes_in};
-ghost use Rattle.rnc_model.specs.grammar.Syntax as written;
+ghost use Rattle.rnc_model.specs.grammar.Syntax as syntax;
 ghost use Rattle.rnc_syntax.specs.plain.Combinators.{with_front};
 ghost use Rattle.rng_model.specs.plain.Answers.{Gives};
 ghost use Rattle.rnc_syntax.specs.views.Fault.{stop_of};
@@ -87,7 +87,7 @@ impl Reader {
         tokens: &'t [Token<'a>],
         place: &mut Pattern<'a>,
     ) -> Result<&'t [Token<'a>], ReadFault>
-        ensures { Gives stop_of (λ x. (pattern_of place.new, lexemes_in self.count x.now)) result (named_with (inside_at levels) (if is_attribute then written.attribute else written.element) (lexemes_in self.count tokens.now)) }
+        ensures { Gives stop_of (λ x. (pattern_of place.new, lexemes_in self.count x.now)) result (named_with (inside_at levels) (if is_attribute then syntax.attribute else syntax.element) (lexemes_in self.count tokens.now)) }
     {
         let mut class = NameClass::Any;
         let rest = self.class(levels, tokens, &mut class)?;

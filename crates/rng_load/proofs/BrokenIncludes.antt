@@ -13,8 +13,9 @@ use Rattle.std.proofs.lemmas.Option.{same_Some, none-some}
 use Rattle.rng_model.proofs.Members.{among_mapped}
 use Rattle.rng_model.specs.names.Lists.{Among, here}
 use Rattle.rnc_grammar.specs.declared.file_tree.FileTree as declared
-use Rattle.rnc_model.specs.declarations.FileTree as tree
-use Rattle.rnc_model.specs.declarations.FileTree.{FileTree, Mention, grammar_of}
+use Rattle.rnc_model.specs.grammar.Syntax as tree
+use Rattle.rnc_model.specs.grammar.Syntax.{applied, Mention}
+use Rattle.rnc_model.specs.declarations.FileTree.{FileTree, grammar_of}
 use Rattle.rnc_grammar.specs.views.View.{file_of}
 use Rattle.rnc_model.specs.loading.Loading.{TakenFiles, tree_in, BreaksInclude, no_grammar, nothing_to_override}
 use Rattle.rnc_model.specs.loading.GrammarNames.{HasName}
@@ -28,7 +29,7 @@ no_truth t = cc
 
 -- ---- one include
 
-module _ (read : TakenFiles) (m : Mention) (over : tree.Components) where
+module _ (read : TakenFiles) (m : Mention applied) (over : tree.Components applied) where
   pub unread : tree_in read m.href ≡ None → IsTrue false ↔ BreaksInclude read m over
   unread none = (λ t. absurd (no_truth t), λ b. absurd (breaks b)) where
     breaks : BreaksInclude read m over → ⊥
@@ -39,8 +40,8 @@ module _ (read : TakenFiles) (m : Mention) (over : tree.Components) where
     pub is_no_grammar : grammar_of t ≡ None → IsTrue true ↔ BreaksInclude read m over
     is_no_grammar e = (λ w. no_grammar is e, λ b. refl)
 
-    module _ (cs : tree.Components) (grammar : grammar_of t ≡ Some cs) where
-      its_components : {u : FileTree} {ds : tree.Components} → tree_in read m.href ≡ Some u → grammar_of u ≡ Some ds → ds ≡ cs
+    module _ (cs : tree.Components applied) (grammar : grammar_of t ≡ Some cs) where
+      its_components : {u : FileTree} {ds : tree.Components applied} → tree_in read m.href ≡ Some u → grammar_of u ≡ Some ds → ds ≡ cs
       its_components j e = same_Some _ _ (sym e ∙ ap grammar_of (same_Some _ _ (sym j ∙ is)) ∙ grammar)
 
       a_grammar : {u : FileTree} → tree_in read m.href ≡ Some u → grammar_of u ≡ None → ⊥

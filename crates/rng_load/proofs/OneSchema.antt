@@ -3,30 +3,32 @@ use Rattle.std.proofs.Common.{◌≡◌, refl, sym, subst, ap, ap₂, ◌∙◌,
 use Rattle.rng_model.specs.schema.Patterns.{Place, Pattern, members}
 use Rattle.rng_model.specs.schema.Patterns as pattern
 use Rattle.rng_model.specs.schema.Schema.{Schema, Component}
-use Rattle.rnc_model.specs.declarations.FileTree as tree
+use Rattle.rnc_model.specs.grammar.Syntax as tree
+use Rattle.rnc_model.specs.grammar.Syntax.{applied}
 use Rattle.rnc_model.specs.declarations.FileTree.{FileTree, grammar_file, pattern_file, grammar_of}
 use Rattle.rnc_model.specs.loading.Places.{TreePath, Nested, Gathered, is_overridden, uri_in, class_in, datatype_in, HasGrammar, IsSchemaOf}
 use Rattle.rnc_model.specs.loading.Places.{Reads, element_is, attribute_is, list_is, mixed_is, optional_is, zero_or_more_is, one_or_more_is, ref_is, parent_ref_is}
 use Rattle.rnc_model.specs.loading.Places.{empty_is, text_is, not_allowed_is, value_is, data_is, except_is, grammar_is, pattern_file_is, grammar_file_is, joined_is}
 use Rattle.rnc_model.specs.loading.Places.{ReadAll, none_are, more_are, Gathers, nothing, a_start, a_define, a_div, an_include}
 
-same_content : {o : Option FileTree} {a b : tree.Pattern} → o ≡ Some (pattern_file a) → o ≡ Some (pattern_file b) → b ≡ a
+same_content : {o : Option FileTree} {a b : tree.Pattern applied} → o ≡ Some (pattern_file a) → o ≡ Some (pattern_file b) → b ≡ a
 same_content e f = cc
 
-same_components : {o : Option FileTree} {a b : tree.Components} → o ≡ Some (grammar_file a) → o ≡ Some (grammar_file b) → a ≡ b
+same_components : {o : Option FileTree} {a b : tree.Components applied} → o ≡ Some (grammar_file a) → o ≡ Some (grammar_file b) → a ≡ b
 same_components e f = cc
 
-not_both : {o : Option FileTree} {a : tree.Pattern} {b : tree.Components} → o ≡ Some (pattern_file a) → o ≡ Some (grammar_file b) → ⊥
+not_both : {o : Option FileTree} {a : tree.Pattern applied} {b : tree.Components applied} → o ≡ Some (pattern_file a) → o ≡ Some (grammar_file b) → ⊥
 not_both e f = cc
 
-same_included : {o : Option FileTree} {f g : FileTree} {a b : tree.Components} → o ≡ Some f → o ≡ Some g → grammar_of f ≡ Some a → grammar_of g ≡ Some b → b ≡ a
+same_included : {o : Option FileTree} {f g : FileTree} {a b : tree.Components applied} → o ≡ Some f → o ≡ Some g → grammar_of f ≡ Some a → grammar_of g ≡ Some b
+    → b ≡ a
 same_included e f i j = cc
 
 module _ (files : List ℕ → Option FileTree) where
   mutual
     -- a pattern is read in only one way
-    pub one_pattern : {u : List ℕ} {x : TreePath} {a : tree.Pattern} {p q : Pattern} {gs hs : List Nested} → Reads files u x a p gs → Reads files u x a q hs
-        → (p ≡ q) × (gs ≡ hs)
+    pub one_pattern : {u : List ℕ} {x : TreePath} {a : tree.Pattern applied} {p q : Pattern} {gs hs : List Nested} → Reads files u x a p gs
+        → Reads files u x a q hs → (p ≡ q) × (gs ≡ hs)
     one_pattern (element_is d) (element_is {u} {c = c} e) = let i = one_pattern d e in (ap (pattern.element (class_in u c)) i.0, i.1)
     one_pattern (attribute_is d) (attribute_is {u} {c = c} e) = let i = one_pattern d e in (ap (pattern.attribute (class_in u c)) i.0, i.1)
     one_pattern (list_is d) (list_is e) = let i = one_pattern d e in (ap pattern.list i.0, i.1)
@@ -44,16 +46,16 @@ module _ (files : List ℕ → Option FileTree) where
     one_pattern (except_is d) (except_is {d = t} {ps} e) = let i = one_pattern d e in (ap (pattern.data_except (datatype_in t ps)) i.0, i.1)
     one_pattern grammar_is grammar_is = (refl, refl)
     one_pattern (pattern_file_is {u} {x} {m} {p = p} {gs} f d) (pattern_file_is {p = q} {gs = hs} g e) =
-        let i = one_pattern d (subst (λ b. Reads files (uri_in u m.namespace) (0 ∷ x) b q hs) (same_content f g) e) in
+        let i = one_pattern d (subst (λ b. Reads files (uri_in u m.inherit) (0 ∷ x) b q hs) (same_content f g) e) in
         (ap pattern.external i.0, i.1)
     one_pattern (pattern_file_is f d) (grammar_file_is g) = absurd (not_both f g)
     one_pattern (grammar_file_is f) (pattern_file_is g e) = absurd (not_both g f)
     one_pattern (grammar_file_is {u} {x} {m} f) (grammar_file_is g) =
-        (refl, ap (λ cs. record { place = x; uri = uri_in u m.namespace; components = cs } ∷ []) (same_components f g))
+        (refl, ap (λ cs. record { place = x; uri = uri_in u m.inherit; components = cs } ∷ []) (same_components f g))
     one_pattern (joined_is d) (joined_is {k = k} e) = let i = all_one d e in (ap (members k) i.0, i.1)
 
     -- patterns are read in only one way
-    pub all_one : {u : List ℕ} {x : TreePath} {n : ℕ} {all : tree.Patterns} {ps qs : List Pattern} {gs hs : List Nested} → ReadAll files u x n all ps gs
+    pub all_one : {u : List ℕ} {x : TreePath} {n : ℕ} {all : tree.Patterns applied} {ps qs : List Pattern} {gs hs : List Nested} → ReadAll files u x n all ps gs
         → ReadAll files u x n all qs hs → (ps ≡ qs) × (gs ≡ hs)
     all_one none_are none_are = (refl, refl)
     all_one (more_are d ds p) (more_are e es q) =
@@ -62,7 +64,7 @@ module _ (files : List ℕ → Option FileTree) where
         (ap₂ (λ p ps. p ∷ ps) i.0 j.0, p ∙ ap₂ (λ a b. a ++ b) i.1 j.1 ∙ sym q)
 
   -- components are gathered in only one way
-  pub one_gathering : {u : List ℕ} {x : TreePath} {n : ℕ} {cs : tree.Components} {all more : List Gathered} → Gathers files u x n cs all
+  pub one_gathering : {u : List ℕ} {x : TreePath} {n : ℕ} {cs : tree.Components applied} {all more : List Gathered} → Gathers files u x n cs all
       → Gathers files u x n cs more → all ≡ more
   one_gathering nothing nothing = refl
   one_gathering (a_start d ds) (a_start {m = m} e es) =
@@ -75,12 +77,12 @@ module _ (files : List ℕ → Option FileTree) where
       ap₂ (λ g rest. g ∷ rest) (ap₂ (λ p gs. record { component = record { name = Some y; method = m; pattern = p }; nested = gs }) i.0 i.1) j
   one_gathering (a_div d ds p) (a_div e es q) = p ∙ ap₂ (λ a b. a ++ b) (one_gathering d e) (one_gathering ds es) ∙ sym q
   one_gathering (an_include {u} {x} {n} {m} f i d o r p) (an_include {included = included} g j e v s q) =
-      let c = one_gathering d (subst (λ is. Gathers files (uri_in u m.namespace) (0 ∷ n ∷ x) 0 is included) (same_included f g i j) e) in
+      let c = one_gathering d (subst (λ is. Gathers files (uri_in u m.inherit) (0 ∷ n ∷ x) 0 is included) (same_included f g i j) e) in
       let k = ap₂ (λ included over. filter (λ g. not (is_overridden over g)) included ++ over) c (one_gathering o v) in
       p ∙ ap₂ (λ a b. a ++ b) k (one_gathering r s) ∙ sym q
 
   module _ (main : FileTree) where
-    at_grammar : (s t : Schema) → IsSchemaOf files main s → IsSchemaOf files main t → (x : Place) (o : Option Place) (u : List ℕ) (cs : tree.Components)
+    at_grammar : (s t : Schema) → IsSchemaOf files main s → IsSchemaOf files main t → (x : Place) (o : Option Place) (u : List ℕ) (cs : tree.Components applied)
         → HasGrammar files main x o u cs → (s.components x ≡ t.components x) × (s.outer x ≡ t.outer x)
     at_grammar s t a b x o u cs h =
         let i = a.there x o u cs h in

@@ -1,8 +1,8 @@
 -- Open lists of components gathered component by component.
 use Rattle.std.proofs.Common.{◌≡◌, ◌∙◌, refl, sym, ap, ap₂, ℕ, ◌+◌, List, [], ◌∷◌, ◌++◌, drop, append_assoc}
 use Rattle.std.proofs.lemmas.List.{append-nil}
-use Rattle.rnc_model.specs.declarations.FileTree as tree
-use Rattle.rnc_model.specs.declarations.FileTree.{components_of}
+use Rattle.rnc_model.specs.grammar.Syntax as tree
+use Rattle.rnc_model.specs.grammar.Syntax.{applied, components_of}
 use Rattle.rnc_model.specs.loading.Places.{TreePath, Gathered}
 use Rattle.rnc_model.specs.loading.FileGrammars.{grammar_if}
 use Rattle.rnc_model.specs.loading.Places.{uri_in}
@@ -27,7 +27,8 @@ module _ (files : Files) where
       ap (λ g. gathered_at_end files os (after_end files o.at_end (g, y))) (sym none)
 
   -- the next component is gathered
-  pub goes_on : (levels : ℕ) (u : List ℕ) (n : ℕ) (c : tree.Component) (cs : List tree.Component) (end : AtEnd) (os : List OpenList) (x : TreePath)
+  pub goes_on : (levels : ℕ) (u : List ℕ) (n : ℕ) (c : tree.Component applied) (cs : List (tree.Component applied)) (end : AtEnd) (os : List OpenList)
+      (x : TreePath)
       (s : List Gathered) → gathered_at_end files (record { levels = levels; uri = u; number = n + 1; left = cs; at_end = end } ∷ os)
       (s ++ gather_one_at files levels u (n ∷ drop 1 x) c, n ∷ drop 1 x)
       ≡ gathered_at_end files (record { levels = levels; uri = u; number = n; left = c ∷ cs; at_end = end } ∷ os) (s, x)
@@ -38,9 +39,9 @@ module _ (files : Files) where
       ap (λ g. gathered_at_end files os (after_end files end (g, y))) (append_assoc s (gather_one_at files levels u (n ∷ y) c) rest)
 
   -- an include: its file, and its braces at the end of that
-  pub include_opened : (o : OpenList) (levels : ℕ) (u : List ℕ) (m : tree.Mention) (over : List tree.Component) (before s : List Gathered) (x y : TreePath)
-      → s ≡ [] → y ≡ 0 ∷ x → o.at_end ≡ braces before levels u over
-      → components_at files (0 ∷ x) o ≡ included_with (gather_below files levels) (uri_in u m.namespace) x (grammar_if (files m.href))
+  pub include_opened : (o : OpenList) (levels : ℕ) (u : List ℕ) (m : tree.Mention applied) (over : List (tree.Component applied)) (before s : List Gathered)
+      (x y : TreePath) → s ≡ [] → y ≡ 0 ∷ x → o.at_end ≡ braces before levels u over
+      → components_at files (0 ∷ x) o ≡ included_with (gather_below files levels) (uri_in u m.inherit) x (grammar_if (files m.href))
       → with_list files o (s, y) ≡ (before ++ gather_one_at files levels u x (tree.include m (components_of over)), x)
   unfolding gather_with
   include_opened o levels u m over before s x y none here end is =

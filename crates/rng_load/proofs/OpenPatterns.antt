@@ -9,8 +9,8 @@ use Rattle.rng_model.specs.schema.Patterns as pattern
 use Rattle.rng_model.specs.views.SchemaView.{child, patterns_in, row_arity, row_pattern, with_row}
 use Rattle.rng_model.proofs.ReplacedLists.{with_children}
 use Rattle.rng_model.proofs.SchemaRows.{leaf_put, put_around}
-use Rattle.rnc_model.specs.declarations.FileTree as tree
-use Rattle.rnc_model.specs.declarations.FileTree.{patterns_of}
+use Rattle.rnc_model.specs.grammar.Syntax as tree
+use Rattle.rnc_model.specs.grammar.Syntax.{applied, patterns_of}
 use Rattle.rnc_model.specs.loading.Places.{TreePath, Nested}
 use Rattle.rng_load.specs.plain.OpenPatterns.{Files, Made, Open, finished, left_at, with_read}
 use Rattle.rng_load.specs.plain.PlainReading.{read_all_at, read_all_with, read_at}
@@ -75,7 +75,7 @@ external_made rows more most r gs e f none =
 -- ---- open patterns
 
 module _ (files : Files) where
-  all_read : (levels : ℕ) (u : List ℕ) (x : TreePath) (n : ℕ) (ps : List tree.Pattern)
+  all_read : (levels : ℕ) (u : List ℕ) (x : TreePath) (n : ℕ) (ps : List (tree.Pattern applied))
       → length ps ≡ length (read_all_at files levels u x n (patterns_of ps)).0
   unfolding read_all_with
   all_read levels u x n [] = refl
@@ -92,8 +92,8 @@ module _ (files : Files) where
       ∙ ap (λ r. finished files os y (with_row (s.0 ++ r.0) o.row, s.1 ++ r.1)) (sym none)
 
   -- the next child is read
-  pub goes_on : (row : SchemaRow) (levels : ℕ) (u : List ℕ) (n : ℕ) (p : tree.Pattern) (ps : List tree.Pattern) (os : List Open) (x : TreePath) (s : Made)
-      → finished files (record { row = row; levels = levels; uri = u; number = n + 1; left = ps } ∷ os) (n ∷ drop 1 x)
+  pub goes_on : (row : SchemaRow) (levels : ℕ) (u : List ℕ) (n : ℕ) (p : tree.Pattern applied) (ps : List (tree.Pattern applied)) (os : List Open)
+      (x : TreePath) (s : Made) → finished files (record { row = row; levels = levels; uri = u; number = n + 1; left = ps } ∷ os) (n ∷ drop 1 x)
       (with_read s (read_at files levels u (n ∷ drop 1 x) p))
       ≡ finished files (record { row = row; levels = levels; uri = u; number = n; left = p ∷ ps } ∷ os) x s
   unfolding finished read_all_with

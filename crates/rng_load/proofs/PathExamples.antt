@@ -2,8 +2,9 @@
 use Rattle.std.proofs.Common.{refl, [], ◌∷◌, arith, inl, codes}
 use Rattle.rng_model.specs.names.Lists.{here}
 use Rattle.rng_model.specs.simple.Tree.{group}
-use Rattle.rnc_model.specs.declarations.FileTree as tree
-use Rattle.rnc_model.specs.declarations.FileTree.{FileTree, inherited, pattern_file}
+use Rattle.rnc_model.specs.grammar.Syntax as tree
+use Rattle.rnc_model.specs.grammar.Syntax.{applied, inherited}
+use Rattle.rnc_model.specs.declarations.FileTree.{FileTree, pattern_file}
 use Rattle.rng_load.specs.plain.Counting.{paths, paths_along, HasPaths, has, have_none, have_more}
 use Rattle.rnc_model.specs.loading.Loading.{TakenFiles, hrefs_in}
 use Rattle.rnc_model.specs.loading.MentionPaths.{IsCyclic, HasMorePathsThan, directly, through}
@@ -17,8 +18,8 @@ a = codes "a.rnc"
 abbrev b : Name
 b = codes "b.rnc"
 
-abbrev mention : Name → tree.Pattern
-mention f = tree.external (record { href = f; namespace = inherited; token = 0 })
+abbrev mention : Name → tree.Pattern applied
+mention f = tree.external (record { href = f; inherit = inherited; token = 0 })
 
 -- ---- cycles of mentions
 

@@ -7,8 +7,9 @@ use Rattle.rng_model.specs.schema.Schema.{Schema, Component}
 use Rattle.rng_model.specs.names.Names as names
 use Rattle.rng_model.specs.schema.Patterns as pattern
 use Rattle.rng_model.specs.declared.method.Method.TheVariants as methods
-use Rattle.rnc_model.specs.declarations.FileTree as tree
-use Rattle.rnc_model.specs.declarations.FileTree.{FileTree, Namespace, inherited, given, grammar_file, pattern_file}
+use Rattle.rnc_model.specs.grammar.Syntax as tree
+use Rattle.rnc_model.specs.grammar.Syntax.{applied, Namespace, inherited, given}
+use Rattle.rnc_model.specs.declarations.FileTree.{FileTree, grammar_file, pattern_file}
 use Rattle.rnc_model.specs.loading.Places.{Gathered, Gathers, nothing, a_start, a_define, an_include, ref_is, element_is, empty_is, grammar_is}
 use Rattle.rnc_model.specs.loading.Places.{Reads, pattern_file_is, grammar_file_is, HasGrammar, main_is, nested_is, Nested, IsSchemaOf}
 use Rattle.rng_load.proofs.NameLists.{in_none}
@@ -18,14 +19,14 @@ abbrev always : FileTree → List ℕ → Option FileTree
 always f h = Some f
 
 -- `element NAME { empty }`, where the name has this namespace
-abbrev empty_element : Namespace → List ℕ → tree.Pattern
+abbrev empty_element : Namespace → List ℕ → tree.Pattern applied
 empty_element u local = tree.element (tree.name_is (record { namespace = u; local = local })) tree.empty
 
 abbrev read_element : List ℕ → List ℕ → pattern.Pattern
 read_element u local = pattern.element (names.name_is (record { ns = u; local = local })) pattern.empty
 
-abbrev mention : Namespace → tree.Mention
-mention u = record { href = codes "b.rnc"; namespace = u; token = 1 }
+abbrev mention : Namespace → tree.Mention applied
+mention u = record { href = codes "b.rnc"; inherit = u; token = 1 }
 
 abbrev a_component : Option (List ℕ) → pattern.Pattern → Gathered
 a_component y p = record { component = record { name = y; method = methods.Plain; pattern = p }; nested = [] }
@@ -33,14 +34,14 @@ a_component y p = record { component = record { name = y; method = methods.Plain
 -- ---- a name that is overridden
 
 -- b.rnc: start = x   x |= element z { empty }   x |= element w { empty }
-abbrev two_of_x : tree.Components
+abbrev two_of_x : tree.Components applied
 two_of_x =
     tree.component_and (tree.start methods.Plain (tree.ref (codes "x")))
     (tree.component_and (tree.define (codes "x") methods.Choice (empty_element inherited (codes "z")))
     (tree.component_and (tree.define (codes "x") methods.Choice (empty_element inherited (codes "w"))) tree.no_components))
 
 -- include "b.rnc" { x = element y { empty } }
-abbrev including : tree.Components
+abbrev including : tree.Components applied
 including = tree.component_and
     (tree.include (mention inherited) (tree.component_and (tree.define (codes "x") methods.Plain (empty_element inherited (codes "y"))) tree.no_components))
     tree.no_components
@@ -58,15 +59,15 @@ abbrev first_or_second : FileTree → FileTree → List ℕ → Option FileTree
 first_or_second b c h = if bytes_eq h (codes "b.rnc") then Some b else Some c
 
 -- c.rnc: start = x   x = element w { empty }
-abbrev one_of_x : tree.Components
+abbrev one_of_x : tree.Components applied
 one_of_x =
     tree.component_and (tree.start methods.Plain (tree.ref (codes "x")))
     (tree.component_and (tree.define (codes "x") methods.Plain (empty_element inherited (codes "w"))) tree.no_components)
 
 -- b.rnc: include "c.rnc" { x = element z { empty } }
-abbrev including_c : tree.Components
+abbrev including_c : tree.Components applied
 including_c = tree.component_and
-    (tree.include (record { href = codes "c.rnc"; namespace = inherited; token = 1 })
+    (tree.include (record { href = codes "c.rnc"; inherit = inherited; token = 1 })
     (tree.component_and (tree.define (codes "x") methods.Plain (empty_element inherited (codes "z"))) tree.no_components))
     tree.no_components
 
@@ -80,11 +81,11 @@ overridden_twice = an_include refl refl
 -- ---- an inherited namespace
 
 -- b.rnc: start = element a { empty }
-abbrev one_start : tree.Components
+abbrev one_start : tree.Components applied
 one_start = tree.component_and (tree.start methods.Plain (empty_element inherited (codes "a"))) tree.no_components
 
 -- default namespace = "u"   include "b.rnc"
-abbrev handing_on : tree.Components
+abbrev handing_on : tree.Components applied
 handing_on = tree.component_and (tree.include (mention (given (codes "u"))) tree.no_components) tree.no_components
 
 handed_on : Gathers (always (grammar_file one_start)) [] [] 0 handing_on (a_component None (read_element (codes "u") (codes "a")) ∷ [])
@@ -106,11 +107,11 @@ external_grammar = grammar_file_is refl
 -- ---- a nested grammar
 
 -- start = parent x
-abbrev inner_components : tree.Components
+abbrev inner_components : tree.Components applied
 inner_components = tree.component_and (tree.start methods.Plain (tree.parent_ref (codes "x"))) tree.no_components
 
 -- start = element a { grammar { start = parent x } }   x = element b { empty }
-abbrev outer_components : tree.Components
+abbrev outer_components : tree.Components applied
 outer_components =
     tree.component_and
     (tree.start methods.Plain (tree.element (tree.name_is (record { namespace = inherited; local = codes "a" })) (tree.grammar inner_components)))
@@ -123,11 +124,11 @@ nested_place = nested_is (main_is refl) (a_start (element_is grammar_is) (a_defi
 -- ---- a whole schema
 
 -- start = empty
-abbrev empty_start : tree.Components
+abbrev empty_start : tree.Components applied
 empty_start = tree.component_and (tree.start methods.Plain tree.empty) tree.no_components
 
 -- start = grammar { start = empty }
-abbrev grammar_start : tree.Components
+abbrev grammar_start : tree.Components applied
 grammar_start = tree.component_and (tree.start methods.Plain (tree.grammar empty_start)) tree.no_components
 
 abbrev no_files : List ℕ → Option FileTree
@@ -153,11 +154,11 @@ abbrev two_grammars : Schema
 two_grammars = record { main = []; components = two_components; outer = around_two }
 
 -- the two, at their places
-data IsOneOfTwo : Place → Option Place → List ℕ → tree.Components → Type 0 where
+data IsOneOfTwo : Place → Option Place → List ℕ → tree.Components applied → Type 0 where
   the_main : IsOneOfTwo [] None [] grammar_start
   the_other : IsOneOfTwo (0 ∷ []) (Some []) [] empty_start
 
-nested_in_one : {x : Place} {o : Option Place} {u : List ℕ} {cs : tree.Components} {all : List Gathered} {g : Gathered} {n : Nested}
+nested_in_one : {x : Place} {o : Option Place} {u : List ℕ} {cs : tree.Components applied} {all : List Gathered} {g : Gathered} {n : Nested}
     → IsOneOfTwo x o u cs → Gathers no_files u x 0 cs all → Among g all → Among n g.nested → IsOneOfTwo n.place (Some x) n.uri n.components
 nested_in_one the_main (a_start grammar_is nothing) here here = the_other
 nested_in_one the_main (a_start grammar_is nothing) here (there j) = absurd (in_none j)
@@ -165,18 +166,18 @@ nested_in_one the_main (a_start grammar_is nothing) (there i) j = absurd (in_non
 nested_in_one the_other (a_start empty_is nothing) here j = absurd (in_none j)
 nested_in_one the_other (a_start empty_is nothing) (there i) j = absurd (in_none i)
 
-one_of_two : {x : Place} {o : Option Place} {u : List ℕ} {cs : tree.Components} → HasGrammar no_files (grammar_file grammar_start) x o u cs
+one_of_two : {x : Place} {o : Option Place} {u : List ℕ} {cs : tree.Components applied} → HasGrammar no_files (grammar_file grammar_start) x o u cs
     → IsOneOfTwo x o u cs
 one_of_two (main_is e) = subst (λ cs. IsOneOfTwo [] None [] cs) (sym e) the_main
 one_of_two (nested_is h d i j) = nested_in_one (one_of_two h) d i j
 
-components_there : {x : Place} {o : Option Place} {u : List ℕ} {cs : tree.Components} → IsOneOfTwo x o u cs
+components_there : {x : Place} {o : Option Place} {u : List ℕ} {cs : tree.Components applied} → IsOneOfTwo x o u cs
     → (gathered : List Gathered) × Gathers no_files u x 0 cs gathered × (two_components x ≡ Some (map (λ g. g.component) gathered)) × (around_two x ≡ o)
 components_there the_main = (_, a_start grammar_is nothing, refl, refl)
 components_there the_other = (_, a_start empty_is nothing, refl, refl)
 
 grammar_there : (x : Place) (all : List Component) → two_components x ≡ Some all
-    → (o : Option Place) × (u : List ℕ) × (cs : tree.Components) × HasGrammar no_files (grammar_file grammar_start) x o u cs
+    → (o : Option Place) × (u : List ℕ) × (cs : tree.Components applied) × HasGrammar no_files (grammar_file grammar_start) x o u cs
 grammar_there [] all e = (None, [], grammar_start, main_is refl)
 grammar_there (zero ∷ []) all e = (Some [], [], empty_start, nested_is (main_is refl) (a_start grammar_is nothing) here here)
 grammar_there (zero ∷ (c ∷ x)) all e = absurd cc

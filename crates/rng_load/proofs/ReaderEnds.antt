@@ -8,7 +8,8 @@ use Rattle.rng_model.specs.schema.Patterns.{Place}
 use Rattle.rng_model.specs.views.SchemaView.{place_eq, place_of, schema_component_of}
 use Rattle.rng_model.specs.declared.method.Method.TheVariants as methods
 use Rattle.rng_model.specs.declared.place.Place as declared
-use Rattle.rnc_model.specs.declarations.FileTree as tree
+use Rattle.rnc_model.specs.grammar.Syntax as tree
+use Rattle.rnc_model.specs.grammar.Syntax.{applied}
 use Rattle.rnc_model.specs.declarations.FileTree.{FileTree}
 use Rattle.rng_load.specs.plain.FoundGrammars.{AreFound, AreLeft, CanBeRead, HasGathered, IsPut, gathered_at, grammar_with, left_by, nested_in}
 use Rattle.rng_load.specs.plain.FoundGrammars.{pending_in, places_left}
@@ -24,7 +25,7 @@ use Rattle.rng_load.proofs.OneGrammar.{main_there}
 
 module _ (files : List ℕ → Option FileTree) where
   -- a main file that is no grammar has one component
-  pub only_start : (p : tree.Pattern) → gathered_at files [] [] (tree.component_and (tree.start methods.Plain p) tree.no_components)
+  pub only_start : (p : tree.Pattern applied) → gathered_at files [] [] (tree.component_and (tree.start methods.Plain p) tree.no_components)
       ≡ gathered_as None methods.Plain (read_at files path_limit [] (0 ∷ []) p) ∷ []
   unfolding gather_with gather_one_with
   only_start p = refl

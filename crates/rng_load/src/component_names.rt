@@ -1,6 +1,6 @@
 // The names that the components of a grammar have, including the components of the files that it includes.
 ghost use Rattle.std.specs.Prelude.{◌≡◌, ◌↔◌, ℕ, List, Option, IfOk, IsFalse, IsTrue, OnOk, Some, map, option_map, slice_get};
-ghost use Rattle.rnc_model.specs.declarations.FileTree.{components_of};
+ghost use Rattle.rnc_model.specs.grammar.Syntax.{components_of};
 ghost use Rattle.rnc_grammar.specs.views.View.{component_of};
 ghost use Rattle.rng_load.specs.plain.ComponentNames.{HasIt, gather, gather_component, gather_if, names_in, no_names};
 ghost use Rattle.rng_load.specs.views.FilesView.{taken_files_of};

@@ -2,7 +2,7 @@
 ghost use Rattle.std.specs.Prelude.{◌≡◌, [], ◌∷◌, ◌++◌, false, IfOk, OnOk, map, option_map, reverse, string_bytes};
 ghost use Rattle.rng_model.specs.names.NamespaceViews.{namespace_bytes};
 ghost use Rattle.rng_model.specs.views.SchemaView.{schema_component_of};
-ghost use Rattle.rnc_model.specs.declarations.FileTree.{components_of};
+ghost use Rattle.rnc_model.specs.grammar.Syntax.{components_of};
 ghost use Rattle.rnc_grammar.specs.views.View.{component_of, mention_of, pattern_of};
 ghost use Rattle.rng_load.specs.views.GatheredComponents.{gathered_in, gathered_of, list_of, lists_in};
 ghost use Rattle.rnc_model.specs.loading.FileGrammars.{grammar_if};
@@ -193,7 +193,7 @@ impl<'a> TreeReader<'a> {
         at_end: AtEnd<'a>,
     ) -> OpenComponents<'a>
         ensures gathered { (x : TreePath) → components_at (files_in self.entry) (0 ∷ x) (list_of result)
-            ≡ included_with (gather_below (files_in self.entry) scope.entry.levels) (uri_in (namespace_bytes scope.entry.uri.now) (mention_of mention.now).namespace)
+            ≡ included_with (gather_below (files_in self.entry) scope.entry.levels) (uri_in (namespace_bytes scope.entry.uri.now) (mention_of mention.now).inherit)
             x (grammar_if (files_in self.entry (mention_of mention.now).href)) }
         ensures end { result.at_end ≡ at_end.entry }
     {

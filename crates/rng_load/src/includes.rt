@@ -1,6 +1,6 @@
 // Whether each include is of a grammar that has everything that is overridden.
 ghost use Rattle.std.specs.Prelude.{◌↔◌, IfOk, IsTrue, map};
-ghost use Rattle.rnc_model.specs.declarations.FileTree.{components_of};
+ghost use Rattle.rnc_model.specs.grammar.Syntax.{components_of};
 ghost use Rattle.rnc_grammar.specs.views.View.{component_of, file_of, mention_of, mentioned_file_of};
 ghost use Rattle.rng_load.specs.views.FilesView.{taken_files_of};
 ghost use Rattle.rnc_model.specs.loading.Loading.{BreaksInclude, BreaksIncludes, IsBrokenInclude, HasBrokenInclude};

@@ -6,7 +6,7 @@ ghost use Rattle.rng_model.specs.views.SchemaView.{row_arity, row_pattern, schem
 ghost use Rattle.rng_model.specs.datatypes.DatatypeViews.{datatype_of, parameter_of};
 ghost use Rattle.rng_model.specs.names.NameViews.{class_of as schema_class_of};
 ghost use Rattle.rng_model.specs.names.NamespaceViews.{namespace_bytes};
-ghost use Rattle.rnc_model.specs.declarations.FileTree.{components_of};
+ghost use Rattle.rnc_model.specs.grammar.Syntax.{components_of};
 ghost use Rattle.rnc_grammar.specs.views.View.{class_of, component_of, data_of, file_of, mention_of, parameters_of, pattern_of, type_of};
 ghost use Rattle.rnc_model.specs.loading.Places.{TreePath, class_in, datatype_in};
 ghost use Rattle.rng_load.specs.plain.OpenPatterns.{Files, finished, with_read};

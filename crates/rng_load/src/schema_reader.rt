@@ -2,7 +2,7 @@
 ghost use Rattle.std.specs.Prelude.{◌≡◌, ◌++◌, [], List, map, option_map, reverse, IfOk, OnOk, None};
 ghost use Rattle.rng_model.specs.views.SchemaView.{place_of};
 ghost use Rattle.rng_model.specs.names.NamespaceViews.{namespace_bytes};
-ghost use Rattle.rnc_model.specs.declarations.FileTree.{components_of};
+ghost use Rattle.rnc_model.specs.grammar.Syntax.{components_of};
 ghost use Rattle.rnc_grammar.specs.views.View.{component_of, file_of, pattern_of};
 ghost use Rattle.rng_load.specs.views.FilesView.{taken_files_of};
 ghost use Rattle.rng_load.specs.plain.FoundGrammars.{AreFound, CanBeRead, IsPut, gathered_at, grammar_with, left_by};

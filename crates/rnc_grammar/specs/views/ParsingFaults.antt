@@ -2,8 +2,8 @@
 use Rattle.std.specs.Prelude.{◌≡◌, ◌⊎◌, List, Option, Some, None}
 use Rattle.rnc_model.specs.declarations.DeclarationRules.{BreaksDeclarationRule}
 use Rattle.rnc_model.specs.declarations.Declarations.{file_tree}
-use Rattle.rnc_model.specs.declarations.FileTree.{FileTree}
 use Rattle.rnc_model.specs.grammar.Syntax.{File}
+use Rattle.rnc_model.specs.declarations.FileTree.{FileTree}
 use Rattle.rnc_grammar.specs.declared.fault.ParseFault.{ParseFault}
 use Rattle.rnc_grammar.specs.declared.fault.ParseFault.TheVariants as faults
 use Rattle.rnc_model.specs.tokens.Lexeme.{Lexeme}

@@ -14,9 +14,8 @@ use Rattle.rnc_grammar.specs.declared.scope.ScopeFault.{ScopeFault}
 use Rattle.rnc_grammar.specs.declared.scope.ScopeFault.TheVariants.{Broken, Memory}
 use Rattle.rnc_model.specs.declarations.Declarations as declarations
 use Rattle.rnc_model.specs.declarations.Declarations.{◌>>=◌, class_in, default_of, pattern_in}
-use Rattle.rnc_model.specs.declarations.FileTree as tree
-use Rattle.rnc_model.specs.declarations.FileTree.{Namespace, given}
 use Rattle.rnc_model.specs.grammar.Syntax as syntax
+use Rattle.rnc_model.specs.grammar.Syntax.{applied, written, Namespace, given}
 use Rattle.rng_model.specs.simple.Tree as simple
 use Rattle.rnc_grammar.specs.views.View.{namespace_of}
 
@@ -44,24 +43,24 @@ namespace_at s places.Default = default_of s
 namespace_at s places.None = given []
 
 -- an element or an attribute of this class
-abbrev pub named_with : Unprefixed → tree.NameClass → tree.Pattern → tree.Pattern
-named_with places.Default = tree.element
-named_with places.None = tree.attribute
+abbrev pub named_with : Unprefixed → syntax.NameClass applied → syntax.Pattern applied → syntax.Pattern applied
+named_with places.Default = syntax.element
+named_with places.None = syntax.attribute
 
 -- an element or an attribute, with its declarations applied
-abbrev pub named_in : declarations.Scope → Unprefixed → syntax.NameClass → syntax.Pattern → Option tree.Pattern
+abbrev pub named_in : declarations.Scope → Unprefixed → syntax.NameClass written → syntax.Pattern written → Option (syntax.Pattern applied)
 named_in s place c p = class_in s (namespace_at s place) c >>= λ c. pattern_in s p >>= λ p. Some (named_with place c p)
 
 -- this around a pattern
-abbrev pub wrapped_with : Wrapper → tree.Pattern → tree.Pattern
-wrapped_with wrappers.List = tree.list
-wrapped_with wrappers.Mixed = tree.mixed
-wrapped_with wrappers.Optional = tree.optional
-wrapped_with wrappers.ZeroOrMore = tree.zero_or_more
-wrapped_with wrappers.OneOrMore = tree.one_or_more
+abbrev pub wrapped_with : Wrapper → syntax.Pattern applied → syntax.Pattern applied
+wrapped_with wrappers.List = syntax.list
+wrapped_with wrappers.Mixed = syntax.mixed
+wrapped_with wrappers.Optional = syntax.optional
+wrapped_with wrappers.ZeroOrMore = syntax.zero_or_more
+wrapped_with wrappers.OneOrMore = syntax.one_or_more
 
 -- this around a pattern, with its declarations applied
-abbrev pub wrapped_in : declarations.Scope → Wrapper → syntax.Pattern → Option tree.Pattern
+abbrev pub wrapped_in : declarations.Scope → Wrapper → syntax.Pattern written → Option (syntax.Pattern applied)
 wrapped_in s wrapper p = pattern_in s p >>= λ p. Some (wrapped_with wrapper p)
 
 -- a connector, without its place in memory
@@ -76,5 +75,5 @@ each f [] = Some []
 each f (x ∷ xs) = f x >>= λ y. each f xs >>= λ ys. Some (y ∷ ys)
 
 -- members with this connector between them, with their declarations applied
-abbrev pub joined_in : declarations.Scope → Connector → List syntax.Pattern → Option tree.Pattern
-joined_in s k ps = each (pattern_in s) ps >>= λ ps. Some (tree.members (connector_of k) ps)
+abbrev pub joined_in : declarations.Scope → Connector → List (syntax.Pattern written) → Option (syntax.Pattern applied)
+joined_in s k ps = each (pattern_in s) ps >>= λ ps. Some (syntax.members (connector_of k) ps)

@@ -6,9 +6,9 @@ use Rattle.std.specs.Str.{bytes_eq}
 use Rattle.rng_model.specs.datatypes.Datatypes.{xsd_uri}
 use Rattle.rng_model.specs.documents.PyxNamespaces.{xml_uri}
 use Rattle.rnc_model.specs.grammar.Syntax as syntax
-use Rattle.rnc_model.specs.grammar.Syntax.{Declaration}
+use Rattle.rnc_model.specs.grammar.Syntax.{applied, written, Declaration, Namespace, inherited, given}
 use Rattle.rnc_model.specs.declarations.FileTree as tree
-use Rattle.rnc_model.specs.declarations.FileTree.{Namespace, inherited, given, FileTree}
+use Rattle.rnc_model.specs.declarations.FileTree.{FileTree}
 
 -- ---- what is declared
 
@@ -50,25 +50,25 @@ module _ (ds : List Declaration) where
   library_by p = if bytes_eq p (codes "xsd") then xsd_uri else declared_library ds p
 
   -- a name without a prefix has the given namespace
-  abbrev pub name_by : Namespace → syntax.Name → tree.Name
+  abbrev pub name_by : Namespace → syntax.Name written → syntax.Name applied
   name_by ns (syntax.unprefixed l) = record { namespace = ns; local = l }
   name_by ns (syntax.prefixed p l) = record { namespace = namespace_by p; local = l }
 
   abbrev mutual
-    pub class_by : Namespace → syntax.NameClass → tree.NameClass
-    class_by ns syntax.any_name = tree.any_name
-    class_by ns (syntax.any_except c) = tree.any_except (class_by ns c)
-    class_by ns (syntax.ns_name p) = tree.ns_name (namespace_by p)
-    class_by ns (syntax.ns_except p c) = tree.ns_except (namespace_by p) (class_by ns c)
-    class_by ns (syntax.name_is n) = tree.name_is (name_by ns n)
-    class_by ns (syntax.one_of cs) = tree.one_of (classes_by ns cs)
+    pub class_by : Namespace → syntax.NameClass written → syntax.NameClass applied
+    class_by ns syntax.any_name = syntax.any_name
+    class_by ns (syntax.any_except c) = syntax.any_except (class_by ns c)
+    class_by ns (syntax.ns_name p) = syntax.ns_name (namespace_by p)
+    class_by ns (syntax.ns_except p c) = syntax.ns_except (namespace_by p) (class_by ns c)
+    class_by ns (syntax.name_is n) = syntax.name_is (name_by ns n)
+    class_by ns (syntax.one_of cs) = syntax.one_of (classes_by ns cs)
 
-    pub classes_by : Namespace → syntax.NameClasses → tree.NameClasses
-    classes_by ns syntax.no_classes = tree.no_classes
-    classes_by ns (syntax.class_and c cs) = tree.class_and (class_by ns c) (classes_by ns cs)
+    pub classes_by : Namespace → syntax.NameClasses written → syntax.NameClasses applied
+    classes_by ns syntax.no_classes = syntax.no_classes
+    classes_by ns (syntax.class_and c cs) = syntax.class_and (class_by ns c) (classes_by ns cs)
 
   -- `string` and `token` are in the library with the empty URI
-  abbrev pub type_by : syntax.DatatypeName → tree.DatatypeName
+  abbrev pub type_by : syntax.DatatypeName written → syntax.DatatypeName applied
   type_by syntax.string_type = record { library = []; name = codes "string" }
   type_by syntax.token_type = record { library = []; name = codes "token" }
   type_by (syntax.prefixed_type p l) = record { library = library_by p; name = l }
@@ -78,44 +78,44 @@ module _ (ds : List Declaration) where
   passed_on None = declared_default ds
   passed_on (Some p) = namespace_by p
 
-  abbrev pub mention_by : syntax.Mention → tree.Mention
-  mention_by m = record { href = m.href; namespace = passed_on m.inherit; token = m.token }
+  abbrev pub mention_by : syntax.Mention written → syntax.Mention applied
+  mention_by m = record { href = m.href; inherit = passed_on m.inherit; token = m.token }
 
   abbrev mutual
     -- a name without a prefix has the default namespace in an element's class, and none in an attribute's
-    pub pattern_by : syntax.Pattern → tree.Pattern
-    pattern_by (syntax.element c p) = tree.element (class_by (declared_default ds) c) (pattern_by p)
-    pattern_by (syntax.attribute c p) = tree.attribute (class_by (given []) c) (pattern_by p)
-    pattern_by (syntax.list p) = tree.list (pattern_by p)
-    pattern_by (syntax.mixed p) = tree.mixed (pattern_by p)
-    pattern_by (syntax.optional p) = tree.optional (pattern_by p)
-    pattern_by (syntax.zero_or_more p) = tree.zero_or_more (pattern_by p)
-    pattern_by (syntax.one_or_more p) = tree.one_or_more (pattern_by p)
-    pattern_by (syntax.ref n) = tree.ref n
-    pattern_by (syntax.parent_ref n) = tree.parent_ref n
-    pattern_by syntax.empty = tree.empty
-    pattern_by syntax.text = tree.text
-    pattern_by syntax.not_allowed = tree.not_allowed
-    pattern_by (syntax.value d v) = tree.value (type_by d) v
-    pattern_by (syntax.data_of d ps) = tree.data_of (type_by d) ps
-    pattern_by (syntax.data_except d ps p) = tree.data_except (type_by d) ps (pattern_by p)
-    pattern_by (syntax.external m) = tree.external (mention_by m)
-    pattern_by (syntax.grammar cs) = tree.grammar (components_by cs)
-    pattern_by (syntax.joined k ps) = tree.joined k (patterns_by ps)
+    pub pattern_by : syntax.Pattern written → syntax.Pattern applied
+    pattern_by (syntax.element c p) = syntax.element (class_by (declared_default ds) c) (pattern_by p)
+    pattern_by (syntax.attribute c p) = syntax.attribute (class_by (given []) c) (pattern_by p)
+    pattern_by (syntax.list p) = syntax.list (pattern_by p)
+    pattern_by (syntax.mixed p) = syntax.mixed (pattern_by p)
+    pattern_by (syntax.optional p) = syntax.optional (pattern_by p)
+    pattern_by (syntax.zero_or_more p) = syntax.zero_or_more (pattern_by p)
+    pattern_by (syntax.one_or_more p) = syntax.one_or_more (pattern_by p)
+    pattern_by (syntax.ref n) = syntax.ref n
+    pattern_by (syntax.parent_ref n) = syntax.parent_ref n
+    pattern_by syntax.empty = syntax.empty
+    pattern_by syntax.text = syntax.text
+    pattern_by syntax.not_allowed = syntax.not_allowed
+    pattern_by (syntax.value d v) = syntax.value (type_by d) v
+    pattern_by (syntax.data_of d ps) = syntax.data_of (type_by d) ps
+    pattern_by (syntax.data_except d ps p) = syntax.data_except (type_by d) ps (pattern_by p)
+    pattern_by (syntax.external m) = syntax.external (mention_by m)
+    pattern_by (syntax.grammar cs) = syntax.grammar (components_by cs)
+    pattern_by (syntax.joined k ps) = syntax.joined k (patterns_by ps)
 
-    pub patterns_by : syntax.Patterns → tree.Patterns
-    patterns_by syntax.no_patterns = tree.no_patterns
-    patterns_by (syntax.pattern_and p ps) = tree.pattern_and (pattern_by p) (patterns_by ps)
+    pub patterns_by : syntax.Patterns written → syntax.Patterns applied
+    patterns_by syntax.no_patterns = syntax.no_patterns
+    patterns_by (syntax.pattern_and p ps) = syntax.pattern_and (pattern_by p) (patterns_by ps)
 
-    pub component_by : syntax.Component → tree.Component
-    component_by (syntax.start m p) = tree.start m (pattern_by p)
-    component_by (syntax.define n m p) = tree.define n m (pattern_by p)
-    component_by (syntax.div cs) = tree.div (components_by cs)
-    component_by (syntax.include m cs) = tree.include (mention_by m) (components_by cs)
+    pub component_by : syntax.Component written → syntax.Component applied
+    component_by (syntax.start m p) = syntax.start m (pattern_by p)
+    component_by (syntax.define n m p) = syntax.define n m (pattern_by p)
+    component_by (syntax.div cs) = syntax.div (components_by cs)
+    component_by (syntax.include m cs) = syntax.include (mention_by m) (components_by cs)
 
-    pub components_by : syntax.Components → tree.Components
-    components_by syntax.no_components = tree.no_components
-    components_by (syntax.component_and c cs) = tree.component_and (component_by c) (components_by cs)
+    pub components_by : syntax.Components written → syntax.Components applied
+    components_by syntax.no_components = syntax.no_components
+    components_by (syntax.component_and c cs) = syntax.component_and (component_by c) (components_by cs)
 
   abbrev pub body_by : syntax.Body → FileTree
   body_by (syntax.pattern_body p) = tree.pattern_file (pattern_by p)

@@ -6,6 +6,7 @@ use Rattle.rng_model.specs.datatypes.Datatypes.{xsd_uri}
 use Rattle.rng_model.specs.names.Lists.{Among}
 use Rattle.rng_model.specs.documents.PyxNamespaces.{xml_uri}
 use Rattle.rnc_model.specs.grammar.Syntax as syntax
+use Rattle.rnc_model.specs.grammar.Syntax.{written}
 
 -- what can be declared; a namespace prefix and a datatype prefix with the same spelling are distinct
 pub data Declarable : Type 0 where
@@ -46,13 +47,13 @@ IsDeclaredTwice x ds = IsTwiceIn x (declared_in ds)
 -- ---- the prefixes in a tree
 
 -- the prefix of a name, if it has one
-abbrev pub prefixes_of_name : syntax.Name → List Declarable
+abbrev pub prefixes_of_name : syntax.Name written → List Declarable
 prefixes_of_name (syntax.unprefixed l) = []
 prefixes_of_name (syntax.prefixed p l) = namespace_prefix p ∷ []
 
 abbrev mutual
   -- the prefixes of the names and of the `p:*` in a name class, including its excepts and choices
-  pub prefixes_of_class : syntax.NameClass → List Declarable
+  pub prefixes_of_class : syntax.NameClass written → List Declarable
   prefixes_of_class syntax.any_name = []
   prefixes_of_class (syntax.any_except c) = prefixes_of_class c
   prefixes_of_class (syntax.ns_name p) = namespace_prefix p ∷ []
@@ -60,12 +61,12 @@ abbrev mutual
   prefixes_of_class (syntax.name_is n) = prefixes_of_name n
   prefixes_of_class (syntax.one_of cs) = prefixes_of_classes cs
 
-  pub prefixes_of_classes : syntax.NameClasses → List Declarable
+  pub prefixes_of_classes : syntax.NameClasses written → List Declarable
   prefixes_of_classes syntax.no_classes = []
   prefixes_of_classes (syntax.class_and c cs) = prefixes_of_class c ++ prefixes_of_classes cs
 
 -- the prefix of a datatype: `string` and `token` have none
-abbrev pub prefixes_of_type : syntax.DatatypeName → List Declarable
+abbrev pub prefixes_of_type : syntax.DatatypeName written → List Declarable
 prefixes_of_type syntax.string_type = []
 prefixes_of_type syntax.token_type = []
 prefixes_of_type (syntax.prefixed_type p l) = datatype_prefix p ∷ []
@@ -77,7 +78,7 @@ prefixes_of_inherit (Some p) = namespace_prefix p ∷ []
 
 abbrev mutual
   -- the prefixes of the names, datatypes and `inherit`s in a pattern
-  pub prefixes_of_pattern : syntax.Pattern → List Declarable
+  pub prefixes_of_pattern : syntax.Pattern written → List Declarable
   prefixes_of_pattern (syntax.element c p) = prefixes_of_class c ++ prefixes_of_pattern p
   prefixes_of_pattern (syntax.attribute c p) = prefixes_of_class c ++ prefixes_of_pattern p
   prefixes_of_pattern (syntax.list p) = prefixes_of_pattern p
@@ -97,17 +98,17 @@ abbrev mutual
   prefixes_of_pattern (syntax.grammar cs) = prefixes_of_components cs
   prefixes_of_pattern (syntax.joined k ps) = prefixes_of_patterns ps
 
-  pub prefixes_of_patterns : syntax.Patterns → List Declarable
+  pub prefixes_of_patterns : syntax.Patterns written → List Declarable
   prefixes_of_patterns syntax.no_patterns = []
   prefixes_of_patterns (syntax.pattern_and p ps) = prefixes_of_pattern p ++ prefixes_of_patterns ps
 
-  pub prefixes_of_component : syntax.Component → List Declarable
+  pub prefixes_of_component : syntax.Component written → List Declarable
   prefixes_of_component (syntax.start m p) = prefixes_of_pattern p
   prefixes_of_component (syntax.define n m p) = prefixes_of_pattern p
   prefixes_of_component (syntax.div cs) = prefixes_of_components cs
   prefixes_of_component (syntax.include m cs) = prefixes_of_inherit m.inherit ++ prefixes_of_components cs
 
-  pub prefixes_of_components : syntax.Components → List Declarable
+  pub prefixes_of_components : syntax.Components written → List Declarable
   prefixes_of_components syntax.no_components = []
   prefixes_of_components (syntax.component_and c cs) = prefixes_of_component c ++ prefixes_of_components cs
 

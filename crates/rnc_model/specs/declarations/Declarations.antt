@@ -5,8 +5,9 @@ use Rattle.std.specs.Str.{bytes_eq}
 use Rattle.rng_model.specs.datatypes.Datatypes.{xsd_uri}
 use Rattle.rng_model.specs.documents.PyxNamespaces.{xml_uri}
 use Rattle.rnc_model.specs.grammar.Syntax as syntax
+use Rattle.rnc_model.specs.grammar.Syntax.{applied, written, Namespace, inherited, given}
 use Rattle.rnc_model.specs.declarations.FileTree as tree
-use Rattle.rnc_model.specs.declarations.FileTree.{Namespace, inherited, given, FileTree}
+use Rattle.rnc_model.specs.declarations.FileTree.{FileTree}
 
 infixl 10 ◌>>=◌
 -- one part, and then the next part with its value
@@ -97,26 +98,26 @@ abbrev pub library_in : Scope → List ℕ → Option (List ℕ)
 library_in s p = if bytes_eq p (codes "xsd") then Some xsd_uri else s.datatypes p
 
 -- a name with its namespace; names without a prefix have the given one
-abbrev pub name_in : Scope → Namespace → syntax.Name → Option tree.Name
+abbrev pub name_in : Scope → Namespace → syntax.Name written → Option (syntax.Name applied)
 name_in s ns (syntax.unprefixed l) = Some (record { namespace = ns; local = l })
 name_in s ns (syntax.prefixed p l) = namespace_in s p >>= λ u. Some (record { namespace = u; local = l })
 
 abbrev mutual
   -- a name class with its namespaces; names without a prefix have the given one
-  pub class_in : Scope → Namespace → syntax.NameClass → Option tree.NameClass
-  class_in s ns syntax.any_name = Some tree.any_name
-  class_in s ns (syntax.any_except c) = class_in s ns c >>= λ c. Some (tree.any_except c)
-  class_in s ns (syntax.ns_name p) = namespace_in s p >>= λ u. Some (tree.ns_name u)
-  class_in s ns (syntax.ns_except p c) = namespace_in s p >>= λ u. class_in s ns c >>= λ c. Some (tree.ns_except u c)
-  class_in s ns (syntax.name_is n) = name_in s ns n >>= λ n. Some (tree.name_is n)
-  class_in s ns (syntax.one_of cs) = classes_in s ns cs >>= λ cs. Some (tree.one_of cs)
+  pub class_in : Scope → Namespace → syntax.NameClass written → Option (syntax.NameClass applied)
+  class_in s ns syntax.any_name = Some syntax.any_name
+  class_in s ns (syntax.any_except c) = class_in s ns c >>= λ c. Some (syntax.any_except c)
+  class_in s ns (syntax.ns_name p) = namespace_in s p >>= λ u. Some (syntax.ns_name u)
+  class_in s ns (syntax.ns_except p c) = namespace_in s p >>= λ u. class_in s ns c >>= λ c. Some (syntax.ns_except u c)
+  class_in s ns (syntax.name_is n) = name_in s ns n >>= λ n. Some (syntax.name_is n)
+  class_in s ns (syntax.one_of cs) = classes_in s ns cs >>= λ cs. Some (syntax.one_of cs)
 
-  pub classes_in : Scope → Namespace → syntax.NameClasses → Option tree.NameClasses
-  classes_in s ns syntax.no_classes = Some tree.no_classes
-  classes_in s ns (syntax.class_and c cs) = class_in s ns c >>= λ c. classes_in s ns cs >>= λ cs. Some (tree.class_and c cs)
+  pub classes_in : Scope → Namespace → syntax.NameClasses written → Option (syntax.NameClasses applied)
+  classes_in s ns syntax.no_classes = Some syntax.no_classes
+  classes_in s ns (syntax.class_and c cs) = class_in s ns c >>= λ c. classes_in s ns cs >>= λ cs. Some (syntax.class_and c cs)
 
 -- a datatype with its library; `string` and `token` are in the library with the empty URI
-abbrev pub type_in : Scope → syntax.DatatypeName → Option tree.DatatypeName
+abbrev pub type_in : Scope → syntax.DatatypeName written → Option (syntax.DatatypeName applied)
 type_in s syntax.string_type = Some (record { library = []; name = codes "string" })
 type_in s syntax.token_type = Some (record { library = []; name = codes "token" })
 type_in s (syntax.prefixed_type p l) = library_in s p >>= λ u. Some (record { library = u; name = l })
@@ -126,44 +127,44 @@ abbrev pub handed_on : Scope → Option (List ℕ) → Option Namespace
 handed_on s None = Some (default_of s)
 handed_on s (Some p) = namespace_in s p
 
-abbrev pub mention_in : Scope → syntax.Mention → Option tree.Mention
-mention_in s m = handed_on s m.inherit >>= λ u. Some (record { href = m.href; namespace = u; token = m.token })
+abbrev pub mention_in : Scope → syntax.Mention written → Option (syntax.Mention applied)
+mention_in s m = handed_on s m.inherit >>= λ u. Some (record { href = m.href; inherit = u; token = m.token })
 
 abbrev mutual
   -- an unprefixed name has the default namespace in an element's class, and none in an attribute's
-  pub pattern_in : Scope → syntax.Pattern → Option tree.Pattern
-  pattern_in s (syntax.element c p) = class_in s (default_of s) c >>= λ c. pattern_in s p >>= λ p. Some (tree.element c p)
-  pattern_in s (syntax.attribute c p) = class_in s (given []) c >>= λ c. pattern_in s p >>= λ p. Some (tree.attribute c p)
-  pattern_in s (syntax.list p) = pattern_in s p >>= λ p. Some (tree.list p)
-  pattern_in s (syntax.mixed p) = pattern_in s p >>= λ p. Some (tree.mixed p)
-  pattern_in s (syntax.optional p) = pattern_in s p >>= λ p. Some (tree.optional p)
-  pattern_in s (syntax.zero_or_more p) = pattern_in s p >>= λ p. Some (tree.zero_or_more p)
-  pattern_in s (syntax.one_or_more p) = pattern_in s p >>= λ p. Some (tree.one_or_more p)
-  pattern_in s (syntax.ref n) = Some (tree.ref n)
-  pattern_in s (syntax.parent_ref n) = Some (tree.parent_ref n)
-  pattern_in s syntax.empty = Some tree.empty
-  pattern_in s syntax.text = Some tree.text
-  pattern_in s syntax.not_allowed = Some tree.not_allowed
-  pattern_in s (syntax.value d v) = type_in s d >>= λ d. Some (tree.value d v)
-  pattern_in s (syntax.data_of d ps) = type_in s d >>= λ d. Some (tree.data_of d ps)
-  pattern_in s (syntax.data_except d ps p) = type_in s d >>= λ d. pattern_in s p >>= λ p. Some (tree.data_except d ps p)
-  pattern_in s (syntax.external m) = mention_in s m >>= λ m. Some (tree.external m)
-  pattern_in s (syntax.grammar cs) = components_in s cs >>= λ cs. Some (tree.grammar cs)
-  pattern_in s (syntax.joined k ps) = patterns_in s ps >>= λ ps. Some (tree.joined k ps)
+  pub pattern_in : Scope → syntax.Pattern written → Option (syntax.Pattern applied)
+  pattern_in s (syntax.element c p) = class_in s (default_of s) c >>= λ c. pattern_in s p >>= λ p. Some (syntax.element c p)
+  pattern_in s (syntax.attribute c p) = class_in s (given []) c >>= λ c. pattern_in s p >>= λ p. Some (syntax.attribute c p)
+  pattern_in s (syntax.list p) = pattern_in s p >>= λ p. Some (syntax.list p)
+  pattern_in s (syntax.mixed p) = pattern_in s p >>= λ p. Some (syntax.mixed p)
+  pattern_in s (syntax.optional p) = pattern_in s p >>= λ p. Some (syntax.optional p)
+  pattern_in s (syntax.zero_or_more p) = pattern_in s p >>= λ p. Some (syntax.zero_or_more p)
+  pattern_in s (syntax.one_or_more p) = pattern_in s p >>= λ p. Some (syntax.one_or_more p)
+  pattern_in s (syntax.ref n) = Some (syntax.ref n)
+  pattern_in s (syntax.parent_ref n) = Some (syntax.parent_ref n)
+  pattern_in s syntax.empty = Some syntax.empty
+  pattern_in s syntax.text = Some syntax.text
+  pattern_in s syntax.not_allowed = Some syntax.not_allowed
+  pattern_in s (syntax.value d v) = type_in s d >>= λ d. Some (syntax.value d v)
+  pattern_in s (syntax.data_of d ps) = type_in s d >>= λ d. Some (syntax.data_of d ps)
+  pattern_in s (syntax.data_except d ps p) = type_in s d >>= λ d. pattern_in s p >>= λ p. Some (syntax.data_except d ps p)
+  pattern_in s (syntax.external m) = mention_in s m >>= λ m. Some (syntax.external m)
+  pattern_in s (syntax.grammar cs) = components_in s cs >>= λ cs. Some (syntax.grammar cs)
+  pattern_in s (syntax.joined k ps) = patterns_in s ps >>= λ ps. Some (syntax.joined k ps)
 
-  pub patterns_in : Scope → syntax.Patterns → Option tree.Patterns
-  patterns_in s syntax.no_patterns = Some tree.no_patterns
-  patterns_in s (syntax.pattern_and p ps) = pattern_in s p >>= λ p. patterns_in s ps >>= λ ps. Some (tree.pattern_and p ps)
+  pub patterns_in : Scope → syntax.Patterns written → Option (syntax.Patterns applied)
+  patterns_in s syntax.no_patterns = Some syntax.no_patterns
+  patterns_in s (syntax.pattern_and p ps) = pattern_in s p >>= λ p. patterns_in s ps >>= λ ps. Some (syntax.pattern_and p ps)
 
-  pub component_in : Scope → syntax.Component → Option tree.Component
-  component_in s (syntax.start m p) = pattern_in s p >>= λ p. Some (tree.start m p)
-  component_in s (syntax.define n m p) = pattern_in s p >>= λ p. Some (tree.define n m p)
-  component_in s (syntax.div cs) = components_in s cs >>= λ cs. Some (tree.div cs)
-  component_in s (syntax.include m cs) = mention_in s m >>= λ m. components_in s cs >>= λ cs. Some (tree.include m cs)
+  pub component_in : Scope → syntax.Component written → Option (syntax.Component applied)
+  component_in s (syntax.start m p) = pattern_in s p >>= λ p. Some (syntax.start m p)
+  component_in s (syntax.define n m p) = pattern_in s p >>= λ p. Some (syntax.define n m p)
+  component_in s (syntax.div cs) = components_in s cs >>= λ cs. Some (syntax.div cs)
+  component_in s (syntax.include m cs) = mention_in s m >>= λ m. components_in s cs >>= λ cs. Some (syntax.include m cs)
 
-  pub components_in : Scope → syntax.Components → Option tree.Components
-  components_in s syntax.no_components = Some tree.no_components
-  components_in s (syntax.component_and c cs) = component_in s c >>= λ c. components_in s cs >>= λ cs. Some (tree.component_and c cs)
+  pub components_in : Scope → syntax.Components written → Option (syntax.Components applied)
+  components_in s syntax.no_components = Some syntax.no_components
+  components_in s (syntax.component_and c cs) = component_in s c >>= λ c. components_in s cs >>= λ cs. Some (syntax.component_and c cs)
 
 -- ---- files
 

@@ -8,7 +8,7 @@ use Rattle.rnc_model.specs.grammar.Grammar as grammar
 use Rattle.rnc_model.specs.grammar.Grammar.{MayInherit, IsClass, AreMoreClasses, IsBasic, IsBareBasic, IsPattern, AreMore, IsParticle, IsPrimary, IsBarePrimary}
 use Rattle.rnc_model.specs.grammar.Grammar.{IsBraced, Setting, AreComponents, IsComponent, IsBareComponent, MayOverride, AreDeclarations, IsBody, IsFile}
 use Rattle.rnc_model.specs.grammar.Syntax as syntax
-use Rattle.rnc_model.specs.grammar.Syntax.{File}
+use Rattle.rnc_model.specs.grammar.Syntax.{written, File}
 use Rattle.rnc_model.specs.tokens.Lexeme.{Lexeme}
 
 -- ---- the prefix of each token of a body, if it has one that the file uses
@@ -18,7 +18,7 @@ abbrev pub no_prefixes : List Lexeme → List (Option Declarable)
 no_prefixes ts = map (λ x. None) ts
 
 -- the prefix of a datatype
-abbrev pub prefix_of_type : syntax.DatatypeName → Option Declarable
+abbrev pub prefix_of_type : syntax.DatatypeName written → Option Declarable
 prefix_of_type syntax.string_type = None
 prefix_of_type syntax.token_type = None
 prefix_of_type (syntax.prefixed_type p l) = Some (datatype_prefix p)
@@ -28,20 +28,20 @@ in_inherit (grammar.without_inherit e) = []
 in_inherit (grammar.with_inherit {w = w} is e) = None ∷ None ∷ Some (namespace_prefix w) ∷ []
 
 abbrev mutual
-  pub in_class : {ts : List Lexeme} {c : syntax.NameClass} → IsClass ts c → List (Option Declarable)
+  pub in_class : {ts : List Lexeme} {c : syntax.NameClass written} → IsClass ts c → List (Option Declarable)
   in_class (grammar.basic_class b) = in_basic b
   in_class (grammar.choice_class b more e f) = in_basic b ++ in_more_classes more
   in_class (grammar.any_except {n = n} may b e) = no_prefixes n ++ None ∷ None ∷ in_basic b
   in_class (grammar.ns_except {n = n} {p = p} may b e) = no_prefixes n ++ Some (namespace_prefix p) ∷ None ∷ in_basic b
 
-  pub in_more_classes : {ts : List Lexeme} {cs : List syntax.NameClass} → AreMoreClasses ts cs → List (Option Declarable)
+  pub in_more_classes : {ts : List Lexeme} {cs : List (syntax.NameClass written)} → AreMoreClasses ts cs → List (Option Declarable)
   in_more_classes (grammar.last_class b e) = None ∷ in_basic b
   in_more_classes (grammar.more_classes b more e) = None ∷ (in_basic b ++ in_more_classes more)
 
-  pub in_basic : {ts : List Lexeme} {c : syntax.NameClass} → IsBasic ts c → List (Option Declarable)
+  pub in_basic : {ts : List Lexeme} {c : syntax.NameClass written} → IsBasic ts c → List (Option Declarable)
   in_basic (grammar.annotated_basic {n = n} may b e) = no_prefixes n ++ in_bare_basic b
 
-  pub in_bare_basic : {ts : List Lexeme} {c : syntax.NameClass} → IsBareBasic ts c → List (Option Declarable)
+  pub in_bare_basic : {ts : List Lexeme} {c : syntax.NameClass written} → IsBareBasic ts c → List (Option Declarable)
   in_bare_basic (grammar.word_class is e) = None ∷ []
   in_bare_basic (grammar.cname_class {p = p} e) = Some (namespace_prefix p) ∷ []
   in_bare_basic (grammar.ns_class {p = p} e) = Some (namespace_prefix p) ∷ []
@@ -49,26 +49,26 @@ abbrev mutual
   in_bare_basic (grammar.class_in_parens c e) = None ∷ (in_class c ++ None ∷ [])
 
 abbrev mutual
-  pub in_pattern : {ts : List Lexeme} {t : syntax.Pattern} → IsPattern ts t → List (Option Declarable)
+  pub in_pattern : {ts : List Lexeme} {t : syntax.Pattern written} → IsPattern ts t → List (Option Declarable)
   in_pattern (grammar.one_particle p) = in_particle p
   in_pattern (grammar.particles is p more e f) = in_particle p ++ in_more more
   in_pattern (grammar.data_except {n = n} {a = a} {d = d} x may is parameters p e) =
       no_prefixes n ++ prefix_of_type d ∷ (no_prefixes a ++ None ∷ in_primary p)
 
-  pub in_more : {s : Sign} {ts : List Lexeme} {us : List syntax.Pattern} → AreMore s ts us → List (Option Declarable)
+  pub in_more : {s : Sign} {ts : List Lexeme} {us : List (syntax.Pattern written)} → AreMore s ts us → List (Option Declarable)
   in_more (grammar.last_particle p e) = None ∷ in_particle p
   in_more (grammar.more_particles p more e) = None ∷ (in_particle p ++ in_more more)
 
-  pub in_particle : {ts : List Lexeme} {t : syntax.Pattern} → IsParticle ts t → List (Option Declarable)
+  pub in_particle : {ts : List Lexeme} {t : syntax.Pattern written} → IsParticle ts t → List (Option Declarable)
   in_particle (grammar.once p) = in_primary p
   in_particle (grammar.optional p e) = in_primary p ++ None ∷ []
   in_particle (grammar.zero_or_more p e) = in_primary p ++ None ∷ []
   in_particle (grammar.one_or_more p e) = in_primary p ++ None ∷ []
 
-  pub in_primary : {ts : List Lexeme} {t : syntax.Pattern} → IsPrimary ts t → List (Option Declarable)
+  pub in_primary : {ts : List Lexeme} {t : syntax.Pattern written} → IsPrimary ts t → List (Option Declarable)
   in_primary (grammar.annotated_primary {n = n} may p e) = no_prefixes n ++ in_bare_primary p
 
-  pub in_bare_primary : {ts : List Lexeme} {t : syntax.Pattern} → IsBarePrimary ts t → List (Option Declarable)
+  pub in_bare_primary : {ts : List Lexeme} {t : syntax.Pattern written} → IsBarePrimary ts t → List (Option Declarable)
   in_bare_primary (grammar.element c p e) = None ∷ (in_class c ++ in_braced p)
   in_bare_primary (grammar.attribute c p e) = None ∷ (in_class c ++ in_braced p)
   in_bare_primary (grammar.list p e) = None ∷ in_braced p
@@ -85,23 +85,23 @@ abbrev mutual
   in_bare_primary (grammar.grammar cs e f) = None ∷ None ∷ (in_components cs ++ None ∷ [])
   in_bare_primary (grammar.in_parens p e) = None ∷ (in_pattern p ++ None ∷ [])
 
-  pub in_braced : {ts : List Lexeme} {t : syntax.Pattern} → IsBraced ts t → List (Option Declarable)
+  pub in_braced : {ts : List Lexeme} {t : syntax.Pattern written} → IsBraced ts t → List (Option Declarable)
   in_braced (grammar.in_braces p e) = None ∷ (in_pattern p ++ None ∷ [])
 
-  pub in_components : {w : Setting} {ts : List Lexeme} {cs : List syntax.Component} → AreComponents w ts cs → List (Option Declarable)
+  pub in_components : {w : Setting} {ts : List Lexeme} {cs : List (syntax.Component written)} → AreComponents w ts cs → List (Option Declarable)
   in_components (grammar.no_components e) = []
   in_components (grammar.and_component c cs e) = in_component c ++ in_components cs
 
-  pub in_component : {w : Setting} {ts : List Lexeme} {c : syntax.Component} → IsComponent w ts c → List (Option Declarable)
+  pub in_component : {w : Setting} {ts : List Lexeme} {c : syntax.Component written} → IsComponent w ts c → List (Option Declarable)
   in_component (grammar.annotated_component {n = n} may c e) = no_prefixes n ++ in_bare_component c
 
-  pub in_bare_component : {w : Setting} {ts : List Lexeme} {c : syntax.Component} → IsBareComponent w ts c → List (Option Declarable)
+  pub in_bare_component : {w : Setting} {ts : List Lexeme} {c : syntax.Component written} → IsBareComponent w ts c → List (Option Declarable)
   in_bare_component (grammar.start is p e) = None ∷ None ∷ in_pattern p
   in_bare_component (grammar.define is p e) = None ∷ None ∷ in_pattern p
   in_bare_component (grammar.div cs e f) = None ∷ None ∷ (in_components cs ++ None ∷ [])
   in_bare_component (grammar.include {a = a} is v may over e f) = None ∷ (no_prefixes a ++ (in_inherit may ++ in_overrides over))
 
-  pub in_overrides : {ts : List Lexeme} {cs : List syntax.Component} → MayOverride ts cs → List (Option Declarable)
+  pub in_overrides : {ts : List Lexeme} {cs : List (syntax.Component written)} → MayOverride ts cs → List (Option Declarable)
   in_overrides (grammar.without_overrides e) = []
   in_overrides (grammar.with_overrides cs e) = None ∷ (in_components cs ++ None ∷ [])
 

@@ -2,10 +2,10 @@
 use Rattle.std.specs.Prelude.{◌≡◌, List}
 use Rattle.rnc_model.specs.declarations.AppliedDeclarations.{tree_of_file}
 use Rattle.rnc_model.specs.declarations.DeclarationRules.{BreaksDeclarationRule}
+use Rattle.rnc_model.specs.grammar.Syntax.{File}
 use Rattle.rnc_model.specs.declarations.FileTree.{FileTree}
 use Rattle.rnc_model.specs.grammar.Grammar.{IsFile}
 use Rattle.rnc_model.specs.tokens.Lexeme.{Lexeme}
-use Rattle.rnc_model.specs.grammar.Syntax.{File}
 use Rattle.rnc_model.specs.grammar.Sentence.{NestsWithin, nesting_limit}
 
 -- the tokens are a sentence that nests within the limit, and it breaks a rule about declarations (clause 8)

@@ -1,98 +1,137 @@
--- The syntax tree of a schema file: as it is written, with prefixes for namespaces (RELAX NG Compact Syntax, "Syntax").
+-- The syntax tree of a schema file (RELAX NG Compact Syntax, "Syntax"): as it is written, with prefixes for namespaces, or
+-- with its declarations applied, with the namespaces themselves.
 use Rattle.std.specs.Prelude.{ℕ, List, [], ◌∷◌, ◌++◌, Option}
 use Rattle.rng_model.specs.simple.Tree.{Connector}
 use Rattle.rng_model.specs.declared.method.Method.{Method}
+
+-- whether a tree is as it is written, or has its declarations applied
+pub data Stage : Type 0 where
+  written : Stage
+  applied : Stage
 
 -- the text of a literal: the texts of its segments, joined
 abbrev pub joined_text : List (List ℕ) → List ℕ
 joined_text [] = []
 joined_text (w ∷ ws) = w ++ joined_text ws
 
+-- the namespace that the file inherits, or a given one
+pub data Namespace : Type 0 where
+  inherited : Namespace
+  given : List ℕ → Namespace
+
+-- what represents a namespace: a prefix, or the namespace
+abbrev pub NamespaceAt : Stage → Type 0
+NamespaceAt written = List ℕ
+NamespaceAt applied = Namespace
+
 -- a name as it is written
-pub data Name : Type 0 where
-  unprefixed : List ℕ → Name
-  prefixed : List ℕ → List ℕ → Name
+pub data WrittenName : Type 0 where
+  unprefixed : List ℕ → WrittenName
+  prefixed : List ℕ → List ℕ → WrittenName
+
+-- a name with its namespace (Namespaces in XML 1.0, section 2.1)
+pub record AppliedName : Type 0 where
+  pub namespace : Namespace
+  pub local : List ℕ
+
+abbrev pub Name : Stage → Type 0
+Name written = WrittenName
+Name applied = AppliedName
 
 -- a name class
 mutual
-  pub data NameClass : Type 0 where
-    any_name : NameClass
-    any_except : NameClass → NameClass
-    ns_name : List ℕ → NameClass
-    ns_except : List ℕ → NameClass → NameClass
-    name_is : Name → NameClass
-    one_of : NameClasses → NameClass
+  pub data NameClass (w : Stage) : Type 0 where
+    any_name : NameClass w
+    any_except : NameClass w → NameClass w
+    ns_name : NamespaceAt w → NameClass w
+    ns_except : NamespaceAt w → NameClass w → NameClass w
+    name_is : Name w → NameClass w
+    one_of : NameClasses w → NameClass w
 
-  pub data NameClasses : Type 0 where
-    no_classes : NameClasses
-    class_and : NameClass → NameClasses → NameClasses
+  pub data NameClasses (w : Stage) : Type 0 where
+    no_classes : NameClasses w
+    class_and : NameClass w → NameClasses w → NameClasses w
 
-abbrev pub classes_of : List NameClass → NameClasses
+abbrev pub classes_of : {w : Stage} → List (NameClass w) → NameClasses w
 classes_of [] = no_classes
 classes_of (c ∷ cs) = class_and c (classes_of cs)
 
 -- a choice of these name classes
-abbrev pub choice_of : List NameClass → NameClass
+abbrev pub choice_of : {w : Stage} → List (NameClass w) → NameClass w
 choice_of cs = one_of (classes_of cs)
 
 -- the name of a datatype as it is written
-pub data DatatypeName : Type 0 where
-  string_type : DatatypeName
-  token_type : DatatypeName
-  prefixed_type : List ℕ → List ℕ → DatatypeName
+pub data WrittenType : Type 0 where
+  string_type : WrittenType
+  token_type : WrittenType
+  prefixed_type : List ℕ → List ℕ → WrittenType
 
--- another file: its name, the prefix of the namespace that it inherits, and the number of the word that mentions it
-pub record Mention : Type 0 where
+-- the URI of a datatype's library, and the datatype's name there
+pub record AppliedType : Type 0 where
+  pub library : List ℕ
+  pub name : List ℕ
+
+abbrev pub DatatypeName : Stage → Type 0
+DatatypeName written = WrittenType
+DatatypeName applied = AppliedType
+
+-- what a file inherits that another one mentions: the namespace of a prefix, where one is written, or the namespace
+abbrev pub Inherited : Stage → Type 0
+Inherited written = Option (List ℕ)
+Inherited applied = Namespace
+
+-- another file: its name as it is written, the namespace that it inherits, and the number of the word that mentions it
+pub record Mention (w : Stage) : Type 0 where
   pub href : List ℕ
-  pub inherit : Option (List ℕ)
+  pub inherit : Inherited w
   pub token : ℕ
 
 -- patterns, and the components of grammars
 mutual
-  pub data Pattern : Type 0 where
-    element : NameClass → Pattern → Pattern
-    attribute : NameClass → Pattern → Pattern
-    list : Pattern → Pattern
-    mixed : Pattern → Pattern
-    optional : Pattern → Pattern
-    zero_or_more : Pattern → Pattern
-    one_or_more : Pattern → Pattern
-    ref : List ℕ → Pattern
-    parent_ref : List ℕ → Pattern
-    empty : Pattern
-    text : Pattern
-    not_allowed : Pattern
-    value : DatatypeName → List ℕ → Pattern
-    data_of : DatatypeName → List (List ℕ × List ℕ) → Pattern
-    data_except : DatatypeName → List (List ℕ × List ℕ) → Pattern → Pattern
-    external : Mention → Pattern
-    grammar : Components → Pattern
-    joined : Connector → Patterns → Pattern
+  pub data Pattern (w : Stage) : Type 0 where
+    element : NameClass w → Pattern w → Pattern w
+    attribute : NameClass w → Pattern w → Pattern w
+    list : Pattern w → Pattern w
+    mixed : Pattern w → Pattern w
+    optional : Pattern w → Pattern w
+    zero_or_more : Pattern w → Pattern w
+    one_or_more : Pattern w → Pattern w
+    ref : List ℕ → Pattern w
+    parent_ref : List ℕ → Pattern w
+    empty : Pattern w
+    text : Pattern w
+    not_allowed : Pattern w
+    value : DatatypeName w → List ℕ → Pattern w
+    data_of : DatatypeName w → List (List ℕ × List ℕ) → Pattern w
+    data_except : DatatypeName w → List (List ℕ × List ℕ) → Pattern w → Pattern w
+    external : Mention w → Pattern w
+    grammar : Components w → Pattern w
+    joined : Connector → Patterns w → Pattern w
 
-  pub data Patterns : Type 0 where
-    no_patterns : Patterns
-    pattern_and : Pattern → Patterns → Patterns
+  pub data Patterns (w : Stage) : Type 0 where
+    no_patterns : Patterns w
+    pattern_and : Pattern w → Patterns w → Patterns w
 
-  pub data Component : Type 0 where
-    start : Method → Pattern → Component
-    define : List ℕ → Method → Pattern → Component
-    div : Components → Component
-    include : Mention → Components → Component
+  pub data Component (w : Stage) : Type 0 where
+    start : Method → Pattern w → Component w
+    define : List ℕ → Method → Pattern w → Component w
+    div : Components w → Component w
+    include : Mention w → Components w → Component w
 
-  pub data Components : Type 0 where
-    no_components : Components
-    component_and : Component → Components → Components
+  pub data Components (w : Stage) : Type 0 where
+    no_components : Components w
+    component_and : Component w → Components w → Components w
 
-abbrev pub patterns_of : List Pattern → Patterns
+abbrev pub patterns_of : {w : Stage} → List (Pattern w) → Patterns w
 patterns_of [] = no_patterns
 patterns_of (p ∷ ps) = pattern_and p (patterns_of ps)
 
-abbrev pub components_of : List Component → Components
+abbrev pub components_of : {w : Stage} → List (Component w) → Components w
 components_of [] = no_components
 components_of (c ∷ cs) = component_and c (components_of cs)
 
 -- these members, joined by a connector
-abbrev pub members : Connector → List Pattern → Pattern
+abbrev pub members : {w : Stage} → Connector → List (Pattern w) → Pattern w
 members k ps = joined k (patterns_of ps)
 
 -- the URI of a declaration: the inherited one, or a text
@@ -108,8 +147,8 @@ pub data Declaration : Type 0 where
 
 -- what follows the declarations
 pub data Body : Type 0 where
-  pattern_body : Pattern → Body
-  grammar_body : Components → Body
+  pattern_body : Pattern written → Body
+  grammar_body : Components written → Body
 
 pub record File : Type 0 where
   pub declarations : List Declaration

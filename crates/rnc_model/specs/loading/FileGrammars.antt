@@ -1,14 +1,15 @@
 -- The grammars that files are.
 use Rattle.std.specs.Prelude.{Option, None, Some}
+use Rattle.rnc_model.specs.grammar.Syntax as tree
+use Rattle.rnc_model.specs.grammar.Syntax.{applied}
 use Rattle.rnc_model.specs.declarations.FileTree.{FileTree, grammar_of}
-use Rattle.rnc_model.specs.declarations.FileTree as tree
 use Rattle.rnc_model.specs.loading.Loading.{TakenFiles, tree_in}
 use Rattle.rnc_model.specs.loading.SchemaFile.{Name}
 
-abbrev pub grammar_if : Option FileTree → Option tree.Components
+abbrev pub grammar_if : Option FileTree → Option (tree.Components applied)
 grammar_if None = None
 grammar_if (Some t) = grammar_of t
 
 -- the components of the grammar that the file of this name is
-abbrev pub grammar_in : TakenFiles → Name → Option tree.Components
+abbrev pub grammar_in : TakenFiles → Name → Option (tree.Components applied)
 grammar_in read f = grammar_if (tree_in read f)

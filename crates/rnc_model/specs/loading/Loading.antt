@@ -5,8 +5,9 @@ use Rattle.std.specs.List.{list_any}
 use Rattle.std.specs.Map.{lookup}
 use Rattle.std.specs.Str.{bytes_eq}
 use Rattle.rng_model.specs.names.Lists.{Among}
-use Rattle.rnc_model.specs.declarations.FileTree.{FileTree, Mention, grammar_of}
-use Rattle.rnc_model.specs.declarations.FileTree as tree
+use Rattle.rnc_model.specs.grammar.Syntax as tree
+use Rattle.rnc_model.specs.grammar.Syntax.{applied, Mention}
+use Rattle.rnc_model.specs.declarations.FileTree.{FileTree, grammar_of}
 use Rattle.rnc_model.specs.loading.MentionPaths.{BreaksMentions}
 use Rattle.rnc_model.specs.loading.Mentions.{MentionedFile, external_file, included_file, mention_of, mentions_of}
 use Rattle.rnc_model.specs.loading.GrammarNames.{HasName}
@@ -66,9 +67,9 @@ hrefs_in read f = hrefs_if (tree_in read f)
 module _ (read : TakenFiles) where
   -- an include, in a file or in a component that is overridden: the file that it mentions is not a grammar, or the
   -- braces override a name, or a start, that the grammar of this file does not have
-  pub data BreaksInclude (m : Mention) (over : tree.Components) : Type 0 where
+  pub data BreaksInclude (m : Mention applied) (over : tree.Components applied) : Type 0 where
     no_grammar : {t : FileTree} → tree_in read m.href ≡ Some t → grammar_of t ≡ None → BreaksInclude m over
-    nothing_to_override : {t : FileTree} {cs : tree.Components} {y : Option (List ℕ)} → tree_in read m.href ≡ Some t → grammar_of t ≡ Some cs
+    nothing_to_override : {t : FileTree} {cs : tree.Components applied} {y : Option (List ℕ)} → tree_in read m.href ≡ Some t → grammar_of t ≡ Some cs
         → HasName (tree_in read) y over → ¬ (HasName (tree_in read) y cs) → BreaksInclude m over
 
   abbrev pub IsBrokenInclude : MentionedFile → Type 0

@@ -16,8 +16,9 @@ use Rattle.rng_model.specs.schema.Patterns as pattern
 use Rattle.rng_model.specs.schema.Schema.{Schema, Component, same_name}
 use Rattle.rng_model.specs.declared.method.Method.{Method}
 use Rattle.rng_model.specs.declared.method.Method.TheVariants as methods
-use Rattle.rnc_model.specs.declarations.FileTree as tree
-use Rattle.rnc_model.specs.declarations.FileTree.{FileTree, Namespace, inherited, given, DatatypeName, grammar_file, pattern_file, grammar_of, whole_grammar}
+use Rattle.rnc_model.specs.grammar.Syntax as tree
+use Rattle.rnc_model.specs.grammar.Syntax.{applied, Namespace, inherited, given, DatatypeName}
+use Rattle.rnc_model.specs.declarations.FileTree.{FileTree, grammar_file, pattern_file, grammar_of, whole_grammar}
 
 -- ---- names, in a file that inherits a namespace
 
@@ -25,11 +26,11 @@ abbrev pub uri_in : List ℕ → Namespace → List ℕ
 uri_in u inherited = u
 uri_in u (given v) = v
 
-abbrev pub name_in : List ℕ → tree.Name → names.Name
+abbrev pub name_in : List ℕ → tree.Name applied → names.Name
 name_in u n = record { ns = uri_in u n.namespace; local = n.local }
 
 abbrev mutual
-  pub class_in : List ℕ → tree.NameClass → names.NameClass
+  pub class_in : List ℕ → tree.NameClass applied → names.NameClass
   class_in u tree.any_name = names.any_name
   class_in u (tree.any_except c) = names.any_except (class_in u c)
   class_in u (tree.ns_name ns) = names.ns_name (uri_in u ns)
@@ -37,11 +38,11 @@ abbrev mutual
   class_in u (tree.name_is n) = names.name_is (name_in u n)
   class_in u (tree.one_of cs) = names.some_of (classes_in u cs)
 
-  pub classes_in : List ℕ → tree.NameClasses → List names.NameClass
+  pub classes_in : List ℕ → tree.NameClasses applied → List names.NameClass
   classes_in u tree.no_classes = []
   classes_in u (tree.class_and c cs) = class_in u c ∷ classes_in u cs
 
-abbrev pub datatype_in : DatatypeName → List (List ℕ × List ℕ) → Datatype
+abbrev pub datatype_in : DatatypeName applied → List (List ℕ × List ℕ) → Datatype
 datatype_in d ps = record { library = d.library; name = d.name; parameters = ps }
 
 -- ---- patterns
@@ -54,7 +55,7 @@ TreePath = List ℕ
 pub record Nested : Type 0 where
   pub place : Place
   pub uri : List ℕ
-  pub components : tree.Components
+  pub components : tree.Components applied
 
 -- a component that its grammar gets, and the grammars that are nested directly in it
 pub record Gathered : Type 0 where
@@ -66,11 +67,11 @@ abbrev pub is_overridden : List Gathered → Gathered → Bool
 is_overridden os g = list_any (λ o. same_name o.component.name g.component.name) os
 
 -- the components of the grammar of the main file; any other pattern is the start of a grammar
-abbrev pub grammar_or_start : tree.Pattern → Option tree.Components → tree.Components
+abbrev pub grammar_or_start : tree.Pattern applied → Option (tree.Components applied) → tree.Components applied
 grammar_or_start p None = tree.component_and (tree.start methods.Plain p) tree.no_components
 grammar_or_start p (Some cs) = cs
 
-abbrev pub main_grammar : FileTree → tree.Components
+abbrev pub main_grammar : FileTree → tree.Components applied
 main_grammar (grammar_file cs) = cs
 main_grammar (pattern_file p) = grammar_or_start p (whole_grammar p)
 
@@ -86,81 +87,83 @@ module _ (files : List ℕ → Option FileTree) where
   -- in a file that inherits this namespace, the pattern at this path is that one, and these grammars are nested
   -- directly in it
   mutual
-    pub data Reads : List ℕ → TreePath → tree.Pattern → Pattern → List Nested → Type 0 where
-      element_is : {u : List ℕ} {x : TreePath} {c : tree.NameClass} {a : tree.Pattern} {p : Pattern} {gs : List Nested} → Reads u (0 ∷ x) a p gs
+    pub data Reads : List ℕ → TreePath → tree.Pattern applied → Pattern → List Nested → Type 0 where
+      element_is : {u : List ℕ} {x : TreePath} {c : tree.NameClass applied} {a : tree.Pattern applied} {p : Pattern} {gs : List Nested} → Reads u (0 ∷ x) a p gs
           → Reads u x (tree.element c a) (pattern.element (class_in u c) p) gs
-      attribute_is : {u : List ℕ} {x : TreePath} {c : tree.NameClass} {a : tree.Pattern} {p : Pattern} {gs : List Nested} → Reads u (0 ∷ x) a p gs
-          → Reads u x (tree.attribute c a) (pattern.attribute (class_in u c) p) gs
-      list_is : {u : List ℕ} {x : TreePath} {a : tree.Pattern} {p : Pattern} {gs : List Nested} → Reads u (0 ∷ x) a p gs
+      attribute_is : {u : List ℕ} {x : TreePath} {c : tree.NameClass applied} {a : tree.Pattern applied} {p : Pattern} {gs : List Nested}
+          → Reads u (0 ∷ x) a p gs → Reads u x (tree.attribute c a) (pattern.attribute (class_in u c) p) gs
+      list_is : {u : List ℕ} {x : TreePath} {a : tree.Pattern applied} {p : Pattern} {gs : List Nested} → Reads u (0 ∷ x) a p gs
           → Reads u x (tree.list a) (pattern.list p) gs
-      mixed_is : {u : List ℕ} {x : TreePath} {a : tree.Pattern} {p : Pattern} {gs : List Nested} → Reads u (0 ∷ x) a p gs
+      mixed_is : {u : List ℕ} {x : TreePath} {a : tree.Pattern applied} {p : Pattern} {gs : List Nested} → Reads u (0 ∷ x) a p gs
           → Reads u x (tree.mixed a) (pattern.mixed p) gs
-      optional_is : {u : List ℕ} {x : TreePath} {a : tree.Pattern} {p : Pattern} {gs : List Nested} → Reads u (0 ∷ x) a p gs
+      optional_is : {u : List ℕ} {x : TreePath} {a : tree.Pattern applied} {p : Pattern} {gs : List Nested} → Reads u (0 ∷ x) a p gs
           → Reads u x (tree.optional a) (pattern.optional p) gs
-      zero_or_more_is : {u : List ℕ} {x : TreePath} {a : tree.Pattern} {p : Pattern} {gs : List Nested} → Reads u (0 ∷ x) a p gs
+      zero_or_more_is : {u : List ℕ} {x : TreePath} {a : tree.Pattern applied} {p : Pattern} {gs : List Nested} → Reads u (0 ∷ x) a p gs
           → Reads u x (tree.zero_or_more a) (pattern.zero_or_more p) gs
-      one_or_more_is : {u : List ℕ} {x : TreePath} {a : tree.Pattern} {p : Pattern} {gs : List Nested} → Reads u (0 ∷ x) a p gs
+      one_or_more_is : {u : List ℕ} {x : TreePath} {a : tree.Pattern applied} {p : Pattern} {gs : List Nested} → Reads u (0 ∷ x) a p gs
           → Reads u x (tree.one_or_more a) (pattern.one_or_more p) gs
       ref_is : {u : List ℕ} {x : TreePath} {y : List ℕ} → Reads u x (tree.ref y) (pattern.ref y) []
       parent_ref_is : {u : List ℕ} {x : TreePath} {y : List ℕ} → Reads u x (tree.parent_ref y) (pattern.parent_ref y) []
       empty_is : {u : List ℕ} {x : TreePath} → Reads u x tree.empty pattern.empty []
       text_is : {u : List ℕ} {x : TreePath} → Reads u x tree.text pattern.text []
       not_allowed_is : {u : List ℕ} {x : TreePath} → Reads u x tree.not_allowed pattern.not_allowed []
-      value_is : {u : List ℕ} {x : TreePath} {d : DatatypeName} {v : List ℕ} → Reads u x (tree.value d v) (pattern.value d.library d.name v) []
-      data_is : {u : List ℕ} {x : TreePath} {d : DatatypeName} {ps : List (List ℕ × List ℕ)} →
+      value_is : {u : List ℕ} {x : TreePath} {d : DatatypeName applied} {v : List ℕ} → Reads u x (tree.value d v) (pattern.value d.library d.name v) []
+      data_is : {u : List ℕ} {x : TreePath} {d : DatatypeName applied} {ps : List (List ℕ × List ℕ)} →
           Reads u x (tree.data_of d ps) (pattern.data_of (datatype_in d ps)) []
-      except_is : {u : List ℕ} {x : TreePath} {d : DatatypeName} {ps : List (List ℕ × List ℕ)} {a : tree.Pattern} {p : Pattern} {gs : List Nested} →
-          Reads u (0 ∷ x) a p gs → Reads u x (tree.data_except d ps a) (pattern.data_except (datatype_in d ps) p) gs
+      except_is : {u : List ℕ} {x : TreePath} {d : DatatypeName applied} {ps : List (List ℕ × List ℕ)} {a : tree.Pattern applied} {p : Pattern}
+          {gs : List Nested} → Reads u (0 ∷ x) a p gs → Reads u x (tree.data_except d ps a) (pattern.data_except (datatype_in d ps) p) gs
       -- a nested grammar is at this place
-      grammar_is : {u : List ℕ} {x : TreePath} {cs : tree.Components} →
+      grammar_is : {u : List ℕ} {x : TreePath} {cs : tree.Components applied} →
           Reads u x (tree.grammar cs) (pattern.grammar x) (record { place = x; uri = u; components = cs } ∷ [])
       -- an external is its file's pattern, read with the namespace that the mention passes on; a file of grammar
       -- content is a nested grammar
-      pattern_file_is : {u : List ℕ} {x : TreePath} {m : tree.Mention} {a : tree.Pattern} {p : Pattern} {gs : List Nested} → files m.href ≡ Some (pattern_file a)
-          → Reads (uri_in u m.namespace) (0 ∷ x) a p gs → Reads u x (tree.external m) (pattern.external p) gs
-      grammar_file_is : {u : List ℕ} {x : TreePath} {m : tree.Mention} {cs : tree.Components} → files m.href ≡ Some (grammar_file cs) →
-          Reads u x (tree.external m) (pattern.external (pattern.grammar x)) (record { place = x; uri = uri_in u m.namespace; components = cs } ∷ [])
-      joined_is : {u : List ℕ} {x : TreePath} {k : Connector} {all : tree.Patterns} {ps : List Pattern} {gs : List Nested} → ReadAll u x 0 all ps gs
+      pattern_file_is : {u : List ℕ} {x : TreePath} {m : tree.Mention applied} {a : tree.Pattern applied} {p : Pattern} {gs : List Nested}
+          → files m.href ≡ Some (pattern_file a) → Reads (uri_in u m.inherit) (0 ∷ x) a p gs → Reads u x (tree.external m) (pattern.external p) gs
+      grammar_file_is : {u : List ℕ} {x : TreePath} {m : tree.Mention applied} {cs : tree.Components applied} → files m.href ≡ Some (grammar_file cs) →
+          Reads u x (tree.external m) (pattern.external (pattern.grammar x)) (record { place = x; uri = uri_in u m.inherit; components = cs } ∷ [])
+      joined_is : {u : List ℕ} {x : TreePath} {k : Connector} {all : tree.Patterns applied} {ps : List Pattern} {gs : List Nested} → ReadAll u x 0 all ps gs
           → Reads u x (tree.joined k all) (members k ps) gs
 
     -- the first of these patterns is the child with this number
-    pub data ReadAll : List ℕ → TreePath → ℕ → tree.Patterns → List Pattern → List Nested → Type 0 where
+    pub data ReadAll : List ℕ → TreePath → ℕ → tree.Patterns applied → List Pattern → List Nested → Type 0 where
       none_are : {u : List ℕ} {x : TreePath} {n : ℕ} → ReadAll u x n tree.no_patterns [] []
-      more_are : {u : List ℕ} {x : TreePath} {n : ℕ} {a : tree.Pattern} {all : tree.Patterns} {p : Pattern} {ps : List Pattern} {gs hs : List Nested}
+      more_are : {u : List ℕ} {x : TreePath} {n : ℕ} {a : tree.Pattern applied} {all : tree.Patterns applied} {p : Pattern} {ps : List Pattern}
+          {gs hs : List Nested}
           {both : List Nested} → Reads u (n ∷ x) a p gs → ReadAll u x (n + 1) all ps hs → both ≡ gs ++ hs → ReadAll u x n (tree.pattern_and a all) (p ∷ ps) both
 
   -- the components that these give to their grammar, in order; the first of them is the child with this number
-  pub data Gathers : List ℕ → TreePath → ℕ → tree.Components → List Gathered → Type 0 where
+  pub data Gathers : List ℕ → TreePath → ℕ → tree.Components applied → List Gathered → Type 0 where
     nothing : {u : List ℕ} {x : TreePath} {n : ℕ} → Gathers u x n tree.no_components []
-    a_start : {u : List ℕ} {x : TreePath} {n : ℕ} {m : Method} {a : tree.Pattern} {cs : tree.Components} {p : Pattern} {gs : List Nested} {rest : List Gathered} →
-        Reads u (n ∷ x) a p gs → Gathers u x (n + 1) cs rest →
+    a_start : {u : List ℕ} {x : TreePath} {n : ℕ} {m : Method} {a : tree.Pattern applied} {cs : tree.Components applied} {p : Pattern} {gs : List Nested}
+        {rest : List Gathered} → Reads u (n ∷ x) a p gs → Gathers u x (n + 1) cs rest →
         Gathers u x n (tree.component_and (tree.start m a) cs) (record { component = record { name = None; method = m; pattern = p }; nested = gs } ∷ rest)
-    a_define : {u : List ℕ} {x : TreePath} {n : ℕ} {y : List ℕ} {m : Method} {a : tree.Pattern} {cs : tree.Components} {p : Pattern} {gs : List Nested}
+    a_define : {u : List ℕ} {x : TreePath} {n : ℕ} {y : List ℕ} {m : Method} {a : tree.Pattern applied} {cs : tree.Components applied} {p : Pattern}
+        {gs : List Nested}
         {rest : List Gathered} → Reads u (n ∷ x) a p gs → Gathers u x (n + 1) cs rest →
         Gathers u x n (tree.component_and (tree.define y m a) cs) (record { component = record { name = Some y; method = m; pattern = p }; nested = gs } ∷ rest)
-    a_div : {u : List ℕ} {x : TreePath} {n : ℕ} {is cs : tree.Components} {inner rest all : List Gathered} →
+    a_div : {u : List ℕ} {x : TreePath} {n : ℕ} {is cs : tree.Components applied} {inner rest all : List Gathered} →
         Gathers u (n ∷ x) 0 is inner → Gathers u x (n + 1) cs rest → all ≡ inner ++ rest → Gathers u x n (tree.component_and (tree.div is) cs) all
     -- an include gives the components of its file that are not overridden, and then those in its braces
-    an_include : {u : List ℕ} {x : TreePath} {n : ℕ} {m : tree.Mention} {over cs is : tree.Components} {f : FileTree}
+    an_include : {u : List ℕ} {x : TreePath} {n : ℕ} {m : tree.Mention applied} {over cs is : tree.Components applied} {f : FileTree}
         {included overriding rest all : List Gathered} →
-        files m.href ≡ Some f → grammar_of f ≡ Some is → Gathers (uri_in u m.namespace) (0 ∷ n ∷ x) 0 is included →
+        files m.href ≡ Some f → grammar_of f ≡ Some is → Gathers (uri_in u m.inherit) (0 ∷ n ∷ x) 0 is included →
         Gathers u (1 ∷ n ∷ x) 0 over overriding → Gathers u x (n + 1) cs rest →
         all ≡ (filter (λ g. not (is_overridden overriding g)) included ++ overriding) ++ rest →
         Gathers u x n (tree.component_and (tree.include m over) cs) all
 
   -- At the place there is a grammar with these components, in a file that inherits this namespace; the main file
   -- inherits the empty one. The grammar around it is the one at the other place, if there is one.
-  pub data HasGrammar (main : FileTree) : Place → Option Place → List ℕ → tree.Components → Type 0 where
-    main_is : {cs : tree.Components} → cs ≡ main_grammar main → HasGrammar main [] None [] cs
-    nested_is : {x : Place} {o : Option Place} {u : List ℕ} {cs : tree.Components} {gathered : List Gathered} {g : Gathered} {n : Nested} →
+  pub data HasGrammar (main : FileTree) : Place → Option Place → List ℕ → tree.Components applied → Type 0 where
+    main_is : {cs : tree.Components applied} → cs ≡ main_grammar main → HasGrammar main [] None [] cs
+    nested_is : {x : Place} {o : Option Place} {u : List ℕ} {cs : tree.Components applied} {gathered : List Gathered} {g : Gathered} {n : Nested} →
         HasGrammar main x o u cs → Gathers u x 0 cs gathered → Among g gathered → Among n g.nested → HasGrammar main n.place (Some x) n.uri n.components
 
   -- The schema of these files, if they break none of S1 to S10: at each place of a grammar, its components and the
   -- place of the grammar around it; at any other place nothing.
   pub record IsSchemaOf (main : FileTree) (s : Schema) : Type 0 where
     pub main_place : s.main ≡ []
-    pub there : (x : Place) (o : Option Place) (u : List ℕ) (cs : tree.Components) → HasGrammar main x o u cs →
+    pub there : (x : Place) (o : Option Place) (u : List ℕ) (cs : tree.Components applied) → HasGrammar main x o u cs →
         (gathered : List Gathered) × Gathers u x 0 cs gathered × (s.components x ≡ Some (map (λ g. g.component) gathered)) × (s.outer x ≡ o)
     pub only_there : (x : Place) (all : List Component) → s.components x ≡ Some all →
-        (o : Option Place) × (u : List ℕ) × (cs : tree.Components) × HasGrammar main x o u cs
+        (o : Option Place) × (u : List ℕ) × (cs : tree.Components applied) × HasGrammar main x o u cs
     pub none_around : (x : Place) → s.components x ≡ None → s.outer x ≡ None

@@ -7,17 +7,18 @@ use Rattle.rng_model.specs.simple.Tree.{Datatype, Simple, s_not_allowed, s_empty
 use Rattle.rng_model.specs.simple.Tree.{s_joined}
 use Rattle.rng_model.specs.simple.Grammar.{Grammar}
 use Rattle.rng_model.specs.declared.method.Method.TheVariants as methods
-use Rattle.rnc_model.specs.declarations.FileTree.{Namespace, inherited, given, Name, NameClass, NameClasses, no_classes, class_and, any_name, any_except, ns_name}
-use Rattle.rnc_model.specs.declarations.FileTree.{ns_except, name_is, one_of, choice_of, DatatypeName, Pattern, Component, FileTree, grammar_file}
-use Rattle.rnc_model.specs.declarations.FileTree as tree
+use Rattle.rnc_model.specs.grammar.Syntax as tree
+use Rattle.rnc_model.specs.grammar.Syntax.{applied, Namespace, inherited, given, Name, NameClass, NameClasses, no_classes, class_and, any_name, any_except}
+use Rattle.rnc_model.specs.grammar.Syntax.{ns_name, ns_except, name_is, one_of, choice_of, DatatypeName, Pattern, Component}
+use Rattle.rnc_model.specs.declarations.FileTree.{FileTree, grammar_file}
 use Rattle.rncv_model.specs.printed.PrintedText.{Item, element, pattern, element_at, item_name}
 
-abbrev pub list_of : NameClasses → List NameClass
+abbrev pub list_of : NameClasses applied → List (NameClass applied)
 list_of no_classes = []
 list_of (class_and c cs) = c ∷ list_of cs
 
 -- the members of a choice, or the class itself
-abbrev pub members_in : NameClass → List NameClass
+abbrev pub members_in : NameClass applied → List (NameClass applied)
 members_in (one_of cs) = list_of cs
 members_in any_name = any_name ∷ []
 members_in (any_except c) = any_except c ∷ []
@@ -26,13 +27,13 @@ members_in (ns_except u c) = ns_except u c ∷ []
 members_in (name_is n) = name_is n ∷ []
 
 -- a name without namespace is written without prefix
-abbrev pub name_of : Namespace → List ℕ → List ℕ → Name
+abbrev pub name_of : Namespace → List ℕ → List ℕ → Name applied
 name_of plain [] l = record { namespace = plain; local = l }
 name_of plain (c ∷ u) l = record { namespace = given (c ∷ u); local = l }
 
 abbrev mutual
   -- where a name without prefix has this namespace
-  pub class_of : Namespace → names.NameClass → NameClass
+  pub class_of : Namespace → names.NameClass → NameClass applied
   class_of plain names.any_name = any_name
   class_of plain (names.any_except c) = any_except (class_of plain c)
   class_of plain (names.ns_name u) = ns_name (given u)
@@ -40,16 +41,16 @@ abbrev mutual
   class_of plain (names.name_is n) = name_is (name_of plain n.ns n.local)
   class_of plain (names.one_of c d cs) = choice_of (members_in (class_of plain c) ++ class_of plain d ∷ classes_of plain cs)
 
-  pub classes_of : Namespace → names.NameClasses → List NameClass
+  pub classes_of : Namespace → names.NameClasses → List (NameClass applied)
   classes_of plain names.no_classes = []
   classes_of plain (names.class_and c cs) = class_of plain c ∷ classes_of plain cs
 
 -- `string` and `token` have the library with the empty URI
-abbrev pub type_of : Datatype → DatatypeName
+abbrev pub type_of : Datatype → DatatypeName applied
 type_of d = record { library = d.library; name = d.name }
 
 -- what a line shows for a pattern inside another: its own word, or the name of its line
-abbrev pub reference_of : List Item → Simple ℕ → Pattern
+abbrev pub reference_of : List Item → Simple ℕ → Pattern applied
 reference_of items s_not_allowed = tree.not_allowed
 reference_of items s_empty = tree.empty
 reference_of items s_text = tree.text
@@ -59,7 +60,7 @@ reference_of items (s_value d v) = tree.value (type_of d) v
 reference_of items s = tree.ref (item_name items (pattern s))
 
 -- what its own line shows; an unprefixed name in an attribute's class has no namespace
-abbrev pub pattern_of : List Item → Simple ℕ → Pattern
+abbrev pub pattern_of : List Item → Simple ℕ → Pattern applied
 pattern_of items (s_joined k a b) = tree.members k (reference_of items a ∷ reference_of items b ∷ [])
 pattern_of items (s_one_or_more a) = tree.one_or_more (reference_of items a)
 pattern_of items (s_list a) = tree.list (reference_of items a)
@@ -68,11 +69,11 @@ pattern_of items (s_data_except d a) = tree.data_except (type_of d) d.parameters
 pattern_of items s = reference_of items s
 
 -- an unprefixed name in an element's class has the namespace that the file inherits
-abbrev pub item_pattern : Grammar → List Item → Item → Pattern
+abbrev pub item_pattern : Grammar → List Item → Item → Pattern applied
 item_pattern g items (element k) = tree.element (class_of inherited (element_at g k).0) (reference_of items (element_at g k).1)
 item_pattern g items (pattern s) = pattern_of items s
 
-abbrev pub define_of : Grammar → List Item → Item → Component
+abbrev pub define_of : Grammar → List Item → Item → Component applied
 define_of g items i = tree.define (item_name items i) methods.Plain (item_pattern g items i)
 
 -- all lines; the main file of a schema inherits the empty namespace, so an unprefixed name has no namespace

@@ -2,8 +2,9 @@
 -- made of Chars, and their name classes nest within the limit (RELAX NG Compact Syntax, "Syntax").
 use Rattle.std.specs.Prelude.{ℕ, List}
 use Rattle.std.specs.List.{AllByRecursion}
-use Rattle.rnc_model.specs.declarations.FileTree as tree
-use Rattle.rnc_model.specs.declarations.FileTree.{FileTree, Namespace, inherited, given, grammar_file, pattern_file}
+use Rattle.rnc_model.specs.grammar.Syntax as tree
+use Rattle.rnc_model.specs.grammar.Syntax.{applied, Namespace, inherited, given}
+use Rattle.rnc_model.specs.declarations.FileTree.{FileTree, grammar_file, pattern_file}
 use Rattle.rnc_model.specs.loading.Places.{class_in}
 use Rattle.rnc_print_laws.specs.plain.Printable.{IsText, IsName, IsPrintableClass, IsPrintableParameter}
 
@@ -13,20 +14,20 @@ IsTextNamespace inherited = Unit {0}
 IsTextNamespace (given u) = IsText u
 
 -- the library of a datatype is a text, and its name is an NCName
-abbrev pub IsWellSpelledType : tree.DatatypeName → Type 0
+abbrev pub IsWellSpelledType : tree.DatatypeName applied → Type 0
 IsWellSpelledType d = IsText d.library × IsName d.name
 
 -- the name of another file and the namespace that it inherits are texts
-abbrev pub IsWellSpelledMention : tree.Mention → Type 0
-IsWellSpelledMention m = IsText m.href × IsTextNamespace m.namespace
+abbrev pub IsWellSpelledMention : tree.Mention applied → Type 0
+IsWellSpelledMention m = IsText m.href × IsTextNamespace m.inherit
 
 -- whatever namespace of Chars the file inherits, the class is printable
-abbrev pub IsWellSpelledClass : tree.NameClass → Type 0
+abbrev pub IsWellSpelledClass : tree.NameClass applied → Type 0
 IsWellSpelledClass c = (u : List ℕ) → IsText u → IsPrintableClass (class_in u c)
 
 -- everything in the pattern is well spelled, including the files that it mentions
 abbrev mutual
-  pub IsWellSpelledPattern : tree.Pattern → Type 0
+  pub IsWellSpelledPattern : tree.Pattern applied → Type 0
   IsWellSpelledPattern (tree.element c p) = IsWellSpelledClass c × IsWellSpelledPattern p
   IsWellSpelledPattern (tree.attribute c p) = IsWellSpelledClass c × IsWellSpelledPattern p
   IsWellSpelledPattern (tree.list p) = IsWellSpelledPattern p
@@ -46,17 +47,17 @@ abbrev mutual
   IsWellSpelledPattern (tree.grammar cs) = AreWellSpelledComponents cs
   IsWellSpelledPattern (tree.joined k ps) = AreWellSpelledPatterns ps
 
-  pub AreWellSpelledPatterns : tree.Patterns → Type 0
+  pub AreWellSpelledPatterns : tree.Patterns applied → Type 0
   AreWellSpelledPatterns tree.no_patterns = Unit {0}
   AreWellSpelledPatterns (tree.pattern_and p ps) = IsWellSpelledPattern p × AreWellSpelledPatterns ps
 
-  pub IsWellSpelledComponent : tree.Component → Type 0
+  pub IsWellSpelledComponent : tree.Component applied → Type 0
   IsWellSpelledComponent (tree.start m p) = IsWellSpelledPattern p
   IsWellSpelledComponent (tree.define n m p) = IsName n × IsWellSpelledPattern p
   IsWellSpelledComponent (tree.div cs) = AreWellSpelledComponents cs
   IsWellSpelledComponent (tree.include m cs) = IsWellSpelledMention m × AreWellSpelledComponents cs
 
-  pub AreWellSpelledComponents : tree.Components → Type 0
+  pub AreWellSpelledComponents : tree.Components applied → Type 0
   AreWellSpelledComponents tree.no_components = Unit {0}
   AreWellSpelledComponents (tree.component_and c cs) = IsWellSpelledComponent c × AreWellSpelledComponents cs
 

@@ -5,13 +5,12 @@ use Rattle.std.proofs.lemmas.Option.{same_Some}
 use Rattle.rnc_model.specs.declared.token.Keyword.TheVariants as keywords
 use Rattle.rnc_model.specs.declared.token.Sign.TheVariants.{Equal, OpenBrace, CloseBrace, OpenBracket, Tilde}
 use Rattle.rnc_model.specs.tokens.Lexeme.{Lexeme, Spelling, keyword, identifier, segment, sign}
-use Rattle.rnc_model.specs.grammar.Syntax.{Mention}
+use Rattle.rnc_model.specs.grammar.Syntax.{written, Mention, joined_text}
 use Rattle.rnc_model.specs.grammar.Grammar as grammar
 use Rattle.rnc_model.specs.grammar.Grammar.{word_of, MayBeAnnotation, IsLiteral, AreParameters, MayBeParameters, MayInherit}
 use Rattle.rnc_syntax.specs.plain.Combinators.{follow, follow_keyword, after, word_at, segment_at, either_way, many}
 use Rattle.rnc_syntax.specs.plain.Productions.{literal_at, parameter_at, parameter_front, annotated_parameter_at, in_braces_at, parameters_at, word_after_equal}
 use Rattle.rnc_syntax.specs.plain.Productions.{inherit_at, mention_at}
-use Rattle.rnc_model.specs.grammar.Syntax.{joined_text}
 use Rattle.rnc_syntax.proofs.Soundness.{bind_ok, ok_is, same_inherit, keyword_follows, after_is, TakesFront, Sound, IsWord, word_sound, IsSegment}
 use Rattle.rnc_syntax.proofs.Soundness.{segment_sound, Closed, Preceded, in_braces_sound, Each, no_items, and_item, many_sound, preceded_sound, both_sound}
 use Rattle.rnc_syntax.proofs.Soundness.{bracketed, IsSetting, setting_sound}
@@ -121,7 +120,7 @@ unfolding inherit_at
 inherit_sound ts x e = inherit_step ts x (follow_keyword keywords.Inherit ts) refl e
 
 -- a literal, and the prefix that is inherited
-pub record IsMention (number : ℕ) (ts : List Lexeme) (m : Mention) : Type 0 where
+pub record IsMention (number : ℕ) (ts : List Lexeme) (m : Mention written) : Type 0 where
   pub first : List Lexeme
   pub second : List Lexeme
   pub literal : IsLiteral first m.href

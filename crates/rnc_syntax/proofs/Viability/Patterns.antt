@@ -7,7 +7,7 @@ use Rattle.rnc_model.specs.declared.token.Sign.TheVariants.{Minus}
 use Rattle.rnc_syntax.specs.declared.fault.Stop.TheVariants.{Unexpected}
 use Rattle.rnc_model.specs.tokens.Lexeme.{Lexeme, sign}
 use Rattle.rnc_model.specs.grammar.Syntax as syntax
-use Rattle.rnc_model.specs.grammar.Syntax.{DatatypeName, Pattern}
+use Rattle.rnc_model.specs.grammar.Syntax.{written, DatatypeName, Pattern}
 use Rattle.rnc_model.specs.grammar.Grammar as grammar
 use Rattle.rnc_model.specs.grammar.Grammar.{type_of, connector_of, MayBeAnnotation, IsBarePrimary, MayBeParameters, IsPattern, IsParticle, IsPrimary}
 use Rattle.rnc_syntax.specs.plain.Combinators.{Outcome, ◌>>=◌, follow, either_way, many}
@@ -27,7 +27,7 @@ one_primary : Completes IsPrimary IsPattern
 one_primary ts t p = exactly IsPattern ts t (grammar.one_particle (grammar.once p))
 
 -- particles with a connector before each, after the first one
-particles_begin : (front : List Lexeme) (s : Sign) (k : Connector) (t : Pattern) → connector_of s ≡ Some k → IsParticle front t
+particles_begin : (front : List Lexeme) (s : Sign) (k : Connector) (t : Pattern written) → connector_of s ≡ Some k → IsParticle front t
     → Completes (Each (Preceded IsParticle s)) (Behinds front IsPattern)
 particles_begin front s k t connects p ts [] q =
     exactly (Behinds front IsPattern) ts t (grammar.one_particle
@@ -36,14 +36,14 @@ particles_begin front s k t connects p ts (u ∷ us) q = exactly (Behinds front 
     (grammar.particles connects p (more_are q u us refl) refl refl)
 
 -- a datatype and its parameters, after an annotation and its name
-data_begins : (n : List Lexeme) (t : Lexeme) (d : DatatypeName) → MayBeAnnotation n → type_of t ≡ Some d
+data_begins : (n : List Lexeme) (t : Lexeme) (d : DatatypeName written) → MayBeAnnotation n → type_of t ≡ Some d
     → Completes MayBeParameters (Behind t (Behinds n IsPattern))
 data_begins n t d may is ts ps p = exactly (Behind t (Behinds n IsPattern)) ts (syntax.data_of d ps) (pattern_is n (t ∷ ts) (syntax.data_of d ps) may
     (grammar.data_of is p refl))
 
 -- what is excluded from a datatype, after its parameters
-except_begins : (n : List Lexeme) (t : Lexeme) (d : DatatypeName) (front : List Lexeme) (ps : List (List ℕ × List ℕ)) → MayBeAnnotation n → type_of t ≡ Some d
-    → MayBeParameters front ps → Completes IsPrimary (Behind (sign Minus) (Behinds front (Behind t (Behinds n IsPattern))))
+except_begins : (n : List Lexeme) (t : Lexeme) (d : DatatypeName written) (front : List Lexeme) (ps : List (List ℕ × List ℕ)) → MayBeAnnotation n
+    → type_of t ≡ Some d → MayBeParameters front ps → Completes IsPrimary (Behind (sign Minus) (Behinds front (Behind t (Behinds n IsPattern))))
 except_begins n t d front ps may is params ts u p = exactly (Behind (sign Minus) (Behinds front (Behind t (Behinds n IsPattern)))) ts
     (syntax.data_except d ps u) (grammar.data_except t may is params p refl)
 
@@ -53,7 +53,7 @@ module _ (inside : Inside) (sound : InsideSound inside) (viable : InsideViable i
       many_viable (Preceded IsParticle s) (follow s) (particle_with inside) (preceded_sound IsParticle s (particle_with inside) (particle_sound inside sound))
       (preceded_item IsParticle s (particle_with inside) (particle_viable inside sound viable))
 
-  rest_viable : (ts : List Lexeme) (t : Pattern × List Lexeme) (left : ℕ) (o : Option Sign) → TakesFront IsParticle ts t → separator_of t.1 ≡ o
+  rest_viable : (ts : List Lexeme) (t : Pattern written × List Lexeme) (left : ℕ) (o : Option Sign) → TakesFront IsParticle ts t → separator_of t.1 ≡ o
       → rest_with inside t.0 o t.1 ≡ Err (Unexpected left) → Viable IsPattern ts left
   unfolding rest_with
   rest_viable ts t left None p is e = absurd cc
@@ -62,13 +62,13 @@ module _ (inside : Inside) (sound : InsideSound inside) (viable : InsideViable i
       let others = many (follow s) (particle_with inside) t.1 in
       behind_tokens IsPattern p.front ts t.1 left p.parts
       (completed (Each (Preceded IsParticle s)) (Behinds p.front IsPattern) t.1 left (particles_begin p.front s o.2 t.0 o.3 p.is)
-      (particles_viable s t.1 left (first_stopped {B = Pattern × List Lexeme} others (λ x. (joined s (t.0 ∷ x.0), x.1)) (Unexpected left) e)))
+      (particles_viable s t.1 left (first_stopped {B = Pattern written × List Lexeme} others (λ x. (joined s (t.0 ∷ x.0), x.1)) (Unexpected left) e)))
 
-  from_viable : (ts : List Lexeme) (t : Pattern × List Lexeme) (left : ℕ) → TakesFront IsPrimary ts t → pattern_from inside t.0 t.1 ≡ Err (Unexpected left)
-      → Viable IsPattern ts left
+  from_viable : (ts : List Lexeme) (t : Pattern written × List Lexeme) (left : ℕ) → TakesFront IsPrimary ts t
+      → pattern_from inside t.0 t.1 ≡ Err (Unexpected left) → Viable IsPattern ts left
   from_viable ts t left p e = rest_viable ts (repeated t.0 t.1) left (separator_of (repeated t.0 t.1).1) (repeated_reads ts t.1 p.front t.0 p.is p.parts) refl e
 
-  except_viable : (n : List Lexeme) (t : Lexeme) (d : DatatypeName) (ts us vs front : List Lexeme) (ps : List (List ℕ × List ℕ)) (left : ℕ)
+  except_viable : (n : List Lexeme) (t : Lexeme) (d : DatatypeName written) (ts us vs front : List Lexeme) (ps : List (List ℕ × List ℕ)) (left : ℕ)
       → MayBeAnnotation n → type_of t ≡ Some d → MayBeParameters front ps → ts ≡ front ++ us → us ≡ sign Minus ∷ vs → Viable IsPrimary vs left
       → Viable IsPattern (n ++ t ∷ ts) left
   except_viable n t d ts us vs front ps left may is params parts minus v =
@@ -77,18 +77,18 @@ module _ (inside : Inside) (sound : InsideSound inside) (viable : InsideViable i
       (moved (Behinds front P) us (sign Minus ∷ vs) left minus (behind_token (Behinds front P) (sign Minus) vs left
       (completed IsPrimary (Behind (sign Minus) (Behinds front P)) vs left (except_begins n t d front ps may is params) v)))))
 
-  data_step : (n : List Lexeme) (t : Lexeme) (d : DatatypeName) (ts : List Lexeme) (ps : List (List ℕ × List ℕ) × List Lexeme) (left : ℕ)
+  data_step : (n : List Lexeme) (t : Lexeme) (d : DatatypeName written) (ts : List Lexeme) (ps : List (List ℕ × List ℕ) × List Lexeme) (left : ℕ)
       (o : Option (List Lexeme)) → MayBeAnnotation n → type_of t ≡ Some d → TakesFront MayBeParameters ts ps → follow Minus ps.1 ≡ o
-      → either_way {B = Outcome Pattern} o (pattern_from inside (syntax.data_of d ps.0) ps.1) (λ us. primary_with inside us
+      → either_way {B = Outcome (Pattern written)} o (pattern_from inside (syntax.data_of d ps.0) ps.1) (λ us. primary_with inside us
       >>= λ t. Ok (syntax.data_except d ps.0 t.0, t.1)) ≡ Err (Unexpected left) → Viable IsPattern (n ++ t ∷ ts) left
   data_step n t d ts ps left None may is p f e =
       from_viable (n ++ t ∷ ts) (syntax.data_of d ps.0, ps.1) left (data_primary inside sound n t d ts ps may is p) e
   data_step n t d ts ps left (Some us) may is p f e =
       except_viable n t d ts ps.1 us p.front ps.0 left may is p.is p.parts (follow_is Minus ps.1 us f)
-      (primary_viable inside sound viable us left (first_stopped {B = Pattern × List Lexeme} (primary_with inside us)
+      (primary_viable inside sound viable us left (first_stopped {B = Pattern written × List Lexeme} (primary_with inside us)
       (λ t. (syntax.data_except d ps.0 t.0, t.1)) (Unexpected left) e))
 
-  data_viable : (n : List Lexeme) (t : Lexeme) (d : DatatypeName) (ts : List Lexeme) (left : ℕ) → MayBeAnnotation n → type_of t ≡ Some d
+  data_viable : (n : List Lexeme) (t : Lexeme) (d : DatatypeName written) (ts : List Lexeme) (left : ℕ) → MayBeAnnotation n → type_of t ≡ Some d
       → (parameters_at ts >>= λ ps. data_with inside d ps.0 ps.1) ≡ Err (Unexpected left) → Viable IsPattern (n ++ t ∷ ts) left
   unfolding data_with
   data_viable n t d ts left may is e =
@@ -100,8 +100,8 @@ module _ (inside : Inside) (sound : InsideSound inside) (viable : InsideViable i
         | inr h ↦ data_step n t d ts h.0 left (follow Minus h.0.1) may is (parameters_sound ts h.0 h.1) refl h.2
       ]
 
-  pattern_step : (n ts : List Lexeme) (left : ℕ) (o : Option (DatatypeName × List Lexeme)) → MayBeAnnotation n → data_front ts ≡ o
-      → either_way {B = Outcome Pattern} o (bare_primary_with inside ts >>= λ t. pattern_from inside t.0 t.1) (λ d. parameters_at d.1
+  pattern_step : (n ts : List Lexeme) (left : ℕ) (o : Option (DatatypeName written × List Lexeme)) → MayBeAnnotation n → data_front ts ≡ o
+      → either_way {B = Outcome (Pattern written)} o (bare_primary_with inside ts >>= λ t. pattern_from inside t.0 t.1) (λ d. parameters_at d.1
       >>= λ ps. data_with inside d.0 ps.0 ps.1) ≡ Err (Unexpected left) → Viable IsPattern (n ++ ts) left
   pattern_step n ts left None may is e =
       elim (bind_err (bare_primary_with inside ts) (λ t. pattern_from inside t.0 t.1) (Unexpected left) e) [

@@ -2,7 +2,8 @@
 use Rattle.std.specs.Prelude.{◌≡◌, ℕ, List, [], ◌++◌, ◌∷◌, Option, Some, map, ◌⊎◌}
 use Rattle.rng_model.specs.names.Lists.{Among}
 use Rattle.rng_model.specs.schema.Patterns.{Place}
-use Rattle.rnc_model.specs.declarations.FileTree as tree
+use Rattle.rnc_model.specs.grammar.Syntax as tree
+use Rattle.rnc_model.specs.grammar.Syntax.{applied}
 use Rattle.rnc_model.specs.declarations.FileTree.{FileTree}
 use Rattle.rnc_model.specs.loading.MentionPaths.{path_limit}
 use Rattle.rng_load.specs.views.PendingGrammars.{Pending}
@@ -48,7 +49,7 @@ places_left left = map (λ p. p.nested.place) left
 
 module _ (files : List ℕ → Option FileTree) where
   -- the components of the grammar at this place, in a file that inherits this namespace
-  abbrev pub gathered_at : List ℕ → Place → tree.Components → List Gathered
+  abbrev pub gathered_at : List ℕ → Place → tree.Components applied → List Gathered
   gathered_at u x cs = gather_at files path_limit u x 0 cs
 
   module _ (main : FileTree) where
@@ -59,14 +60,14 @@ module _ (files : List ℕ → Option FileTree) where
     -- this is the grammar at the place
     pub record IsGrammarAt (x : Place) (g : PlacedGrammar) : Type 0 where
       pub uri : List ℕ
-      pub components : tree.Components
+      pub components : tree.Components applied
       pub there : HasGrammar files main x g.outer uri components
       pub are : g.components ≡ map (λ c. c.component) (gathered_at uri x components)
 
     -- the place has a grammar with these components, and `o` is the place of the grammar around it
     pub record HasGathered (x : Place) (o : Option Place) (all : List Gathered) : Type 0 where
       pub uri : List ℕ
-      pub components : tree.Components
+      pub components : tree.Components applied
       pub there : HasGrammar files main x o uri components
       pub are : all ≡ gathered_at uri x components
 
@@ -78,6 +79,6 @@ module _ (files : List ℕ → Option FileTree) where
     -- it is found, or left.
     pub record AreFound (gs : PlacedGrammars) (left : List Place) : Type 0 where
       pub main_known : IsKnown gs left []
-      pub nested_known : (x : Place) → IsFound x gs → (o : Option Place) (u : List ℕ) (cs : tree.Components) → HasGrammar files main x o u cs → (n : Nested)
-          → Among n (nested_in (gathered_at u x cs)) → IsKnown gs left n.place
+      pub nested_known : (x : Place) → IsFound x gs → (o : Option Place) (u : List ℕ) (cs : tree.Components applied) → HasGrammar files main x o u cs
+          → (n : Nested) → Among n (nested_in (gathered_at u x cs)) → IsKnown gs left n.place
       pub right : (e : Place × PlacedGrammar) → Among e gs → IsGrammarAt e.0 e.1

@@ -1,7 +1,8 @@
 -- What is gathered, when the lists of components that are open are gathered to their ends.
 use Rattle.std.specs.Prelude.{◌≡◌, ℕ, List, [], ◌∷◌, ◌++◌, drop, Option}
-use Rattle.rnc_model.specs.declarations.FileTree as tree
-use Rattle.rnc_model.specs.declarations.FileTree.{FileTree, components_of}
+use Rattle.rnc_model.specs.grammar.Syntax as tree
+use Rattle.rnc_model.specs.grammar.Syntax.{applied, components_of}
+use Rattle.rnc_model.specs.declarations.FileTree.{FileTree}
 use Rattle.rnc_model.specs.loading.Places.{TreePath, Gathered}
 use Rattle.rng_load.specs.plain.PlainReading.{gather_at, replaced_by}
 
@@ -9,7 +10,7 @@ use Rattle.rng_load.specs.plain.PlainReading.{gather_at, replaced_by}
 pub data AtEnd : Type 0 where
   nothing : AtEnd
   -- what is gathered before the include, where its braces are read, and the components in these
-  braces : List Gathered → ℕ → List ℕ → List tree.Component → AtEnd
+  braces : List Gathered → ℕ → List ℕ → List (tree.Component applied) → AtEnd
   -- what is gathered before the include, and the components of the included file
   override : List Gathered → List Gathered → AtEnd
 
@@ -19,7 +20,7 @@ pub record OpenList : Type 0 where
   pub levels : ℕ
   pub uri : List ℕ
   pub number : ℕ
-  pub left : List tree.Component
+  pub left : List (tree.Component applied)
   pub at_end : AtEnd
 
 -- one list is open, with nothing to do at its end

@@ -3,8 +3,9 @@ use Rattle.std.specs.Prelude.{ℕ, List, [], ◌∷◌, ◌++◌, drop, Option}
 use Rattle.rng_model.specs.declared.schema_pattern.SchemaRow.{SchemaRow}
 use Rattle.rng_model.specs.schema.Patterns.{Pattern}
 use Rattle.rng_model.specs.views.SchemaView.{with_row}
-use Rattle.rnc_model.specs.declarations.FileTree as tree
-use Rattle.rnc_model.specs.declarations.FileTree.{FileTree, patterns_of}
+use Rattle.rnc_model.specs.grammar.Syntax as tree
+use Rattle.rnc_model.specs.grammar.Syntax.{applied, patterns_of}
+use Rattle.rnc_model.specs.declarations.FileTree.{FileTree}
 use Rattle.rnc_model.specs.loading.Places.{TreePath, Nested}
 use Rattle.rng_load.specs.plain.PlainReading.{read_all_at}
 
@@ -15,7 +16,7 @@ pub record Open : Type 0 where
   pub levels : ℕ
   pub uri : List ℕ
   pub number : ℕ
-  pub left : List tree.Pattern
+  pub left : List (tree.Pattern applied)
 
 -- the trees of the files by name
 abbrev pub Files : Type 0

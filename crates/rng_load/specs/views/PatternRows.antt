@@ -3,7 +3,8 @@ use Rattle.std.specs.Prelude.{◌≡◌, List, [], ◌∷◌, map, reverse, drop
 use Rattle.rng_model.specs.names.NamespaceViews.{namespace_bytes}
 use Rattle.rng_model.specs.schema.Patterns as pattern
 use Rattle.rng_model.specs.views.SchemaView.{patterns_in, row_arity, row_pattern}
-use Rattle.rnc_model.specs.declarations.FileTree as tree
+use Rattle.rnc_model.specs.grammar.Syntax as tree
+use Rattle.rnc_model.specs.grammar.Syntax.{applied}
 use Rattle.rnc_model.specs.loading.Places.{TreePath, Nested}
 use Rattle.rnc_grammar.specs.views.View.{pattern_of}
 use Rattle.rng_load.specs.declared.pattern_rows.Children.{Children}
@@ -15,7 +16,7 @@ use Rattle.rng_load.specs.declared.pattern_rows.PatternRows.{PatternRows}
 use Rattle.rng_load.specs.plain.OpenPatterns.{Files, Made, Open, left_at}
 use Rattle.rng_load.specs.views.ReadPatterns.{nested_of}
 
-abbrev pub children_of : Children → List tree.Pattern
+abbrev pub children_of : Children → List (tree.Pattern applied)
 children_of (children.One p) = pattern_of p.now ∷ []
 children_of (children.All ps) = map pattern_of ps.now
 

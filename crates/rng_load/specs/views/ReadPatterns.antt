@@ -2,7 +2,8 @@
 use Rattle.std.specs.Prelude.{ℕ, List, map, Option}
 use Rattle.rng_model.specs.names.NamespaceViews.{namespace_bytes}
 use Rattle.rng_model.specs.views.SchemaView.{place_of}
-use Rattle.rnc_model.specs.declarations.FileTree.{FileTree, components_of}
+use Rattle.rnc_model.specs.grammar.Syntax.{components_of}
+use Rattle.rnc_model.specs.declarations.FileTree.{FileTree}
 use Rattle.rnc_grammar.specs.views.View.{component_of}
 use Rattle.rng_load.specs.declared.reading_patterns.NestedGrammar.{NestedGrammar}
 use Rattle.rng_load.specs.declared.reading_patterns.TreeReader.{TreeReader}

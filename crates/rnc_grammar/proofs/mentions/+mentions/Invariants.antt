@@ -1,5 +1,5 @@
 use Rattle.std.proofs.Common.{◌≡◌, ◌++◌, map, drop}
-use Rattle.rnc_model.specs.declarations.FileTree.{components_of, patterns_of}
+use Rattle.rnc_model.specs.grammar.Syntax.{components_of, patterns_of}
 use Rattle.rnc_model.specs.loading.Mentions.{mentions_of_components, mentions_of_patterns}
 use Rattle.rnc_grammar.specs.views.View.{component_of, mentioned_file_of, pattern_of}
 use Rattle.rnc_grammar.proofs.mentions.+mentions.Given as goal

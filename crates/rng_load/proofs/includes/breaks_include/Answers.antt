@@ -1,6 +1,6 @@
 use Rattle.std.proofs.Common.{rules, ◌≡◌, ap, sym, map, Some, None, length}
 use Rattle.std.proofs.lemmas.List.{nil_from_length}
-use Rattle.rnc_model.specs.declarations.FileTree.{components_of}
+use Rattle.rnc_model.specs.grammar.Syntax.{components_of}
 use Rattle.rnc_grammar.specs.views.View.{component_of, file_of, mention_of}
 use Rattle.rng_load.specs.views.FilesView.{taken_files_of}
 use Rattle.rng_load.proofs.BrokenIncludes.{found_at, unread, is_no_grammar, nothing_in_braces, judged}

@@ -1,7 +1,7 @@
 use Rattle.std.proofs.Common.{◌≡◌, ◌++◌, map, drop}
 use Rattle.rng_model.specs.names.NamespaceViews.{namespace_bytes}
 use Rattle.rng_model.specs.names.NameViews.{class_of}
-use Rattle.rnc_model.specs.declarations.FileTree.{classes_of}
+use Rattle.rnc_model.specs.grammar.Syntax.{classes_of}
 use Rattle.rnc_grammar.specs.views.View as file
 use Rattle.rnc_model.specs.loading.Places.{classes_in}
 use Rattle.rng_load.proofs.reading_names.+name_classes.Given as goal

@@ -4,7 +4,7 @@ use Rattle.rng_model.specs.simple.Tree.{choice, group, interleave}
 use Rattle.rnc_grammar.specs.declared.file_tree.Component.{Component}
 use Rattle.rnc_grammar.specs.declared.file_tree.Pattern.{Pattern}
 use Rattle.rnc_model.specs.declarations.Declarations.{◌>>=◌, component_in, pattern_in}
-use Rattle.rnc_model.specs.declarations.FileTree as trees
+use Rattle.rnc_model.specs.grammar.Syntax as trees
 use Rattle.rnc_grammar.specs.views.Resolved.{Resolves, connector_of, each, scope_view}
 use Rattle.rnc_syntax.specs.views.SyntaxView as syntax
 use Rattle.rnc_grammar.specs.views.View as tree

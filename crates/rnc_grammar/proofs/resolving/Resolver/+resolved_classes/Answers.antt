@@ -3,7 +3,7 @@ use Rattle.std.proofs.lemmas.List.{map_push}
 use Rattle.std.proofs.lemmas.Result.{err_from_is_err_and}
 use Rattle.rnc_grammar.specs.declared.file_tree.NameClass.{NameClass}
 use Rattle.rnc_model.specs.declarations.Declarations.{◌>>=◌, class_in}
-use Rattle.rnc_model.specs.declarations.FileTree as trees
+use Rattle.rnc_model.specs.grammar.Syntax as trees
 use Rattle.rnc_grammar.specs.views.Resolved.{each, namespace_at, scope_view}
 use Rattle.rnc_syntax.specs.views.SyntaxView as syntax
 use Rattle.rnc_grammar.specs.views.View as tree

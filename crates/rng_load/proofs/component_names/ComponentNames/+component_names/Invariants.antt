@@ -1,5 +1,5 @@
 use Rattle.std.proofs.Common.{◌≡◌, map, drop}
-use Rattle.rnc_model.specs.declarations.FileTree.{components_of}
+use Rattle.rnc_model.specs.grammar.Syntax.{components_of}
 use Rattle.rnc_grammar.specs.views.View.{component_of}
 use Rattle.rng_load.specs.plain.ComponentNames.{gather, names_in}
 use Rattle.rng_load.proofs.component_names.ComponentNames.+component_names.Given as goal

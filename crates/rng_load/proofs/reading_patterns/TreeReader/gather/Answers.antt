@@ -1,7 +1,7 @@
 use Rattle.std.proofs.Common.{◌≡◌, ◌∙◌, ◌∷◌, ◌++◌, [], sym, ap, ap₂, map, reverse}
 use Rattle.rng_model.specs.names.NamespaceViews.{namespace_bytes}
-use Rattle.rnc_model.specs.declarations.FileTree as tree
-use Rattle.rnc_model.specs.declarations.FileTree.{components_of}
+use Rattle.rnc_model.specs.grammar.Syntax as tree
+use Rattle.rnc_model.specs.grammar.Syntax.{components_of}
 use Rattle.rnc_grammar.specs.views.View.{component_of, mention_of}
 use Rattle.rng_load.specs.plain.OpenComponents.{gathered_at_end}
 use Rattle.rng_load.specs.plain.PlainReading.{gather_one_at}

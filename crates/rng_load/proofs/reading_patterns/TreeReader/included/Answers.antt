@@ -1,6 +1,6 @@
 use Rattle.std.proofs.Common.{◌∙◌, ◌<◌, rules, arith, sym, ap, map}
 use Rattle.rng_model.specs.names.NamespaceViews.{namespace_bytes}
-use Rattle.rnc_model.specs.declarations.FileTree.{components_of}
+use Rattle.rnc_model.specs.grammar.Syntax.{components_of}
 use Rattle.rnc_model.specs.loading.FileGrammars.{grammar_if}
 use Rattle.rnc_model.specs.loading.Places.{uri_in}
 use Rattle.rnc_grammar.specs.views.View.{component_of, mention_of}
@@ -22,7 +22,7 @@ returns-in_default-clause-gathered c = λ x.
     let files = files_in c.args.self in
     let levels = c.args.scope.levels in
     let uri = namespace_bytes c.namespace_uri-uri.result.now in
-    let v = uri_in (namespace_bytes c.args.scope.uri.now) (mention_of c.args.mention.now).namespace in
+    let v = uri_in (namespace_bytes c.args.scope.uri.now) (mention_of c.args.mention.now).inherit in
     let file = grammar_if (files (mention_of c.args.mention.now).href) in
     elim c.in_default.branch [
       | in_default-via-in-Some+else-scope-gt0 w ↦ no_level files 0 levels uri v x file (omega (arith, w.if-scope-gt0.false))
