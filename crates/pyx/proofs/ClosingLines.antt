@@ -5,10 +5,11 @@ use Rattle.std.specs.List.{All, AllByRecursion}
 use Rattle.std.specs.Str.{IsUtf8, is_utf8, chars}
 use Rattle.std.proofs.lemmas.List.{append-nil}
 use Rattle.std.proofs.lemmas.List.Elements.{All-from_recursion, recursion_from_All}
-use Rattle.rng_model.specs.names.Characters.{is_xml_char}
+use Rattle.rng_model.specs.names.Names.{is_xml_char}
 use Rattle.rng_model.specs.documents.Lines.{Line, lines, with_first}
 use Rattle.rng_model.specs.documents.PyxLines as said
-use Rattle.rng_model.specs.documents.PyxLines.{Said, WrittenName, IsNcnameText, IsName, alone, prefixed, Says, says_start, says_end, IsGoodLine, AreGoodLines, no_lines}
+use Rattle.rng_model.specs.documents.PyxLines.{Said, WrittenName, IsNcnameText, IsName, alone, prefixed, Says, says_start, says_end, IsGoodLine, AreGoodLines}
+use Rattle.rng_model.specs.documents.PyxLines.{no_lines}
 use Rattle.rng_model.specs.documents.PyxLines.{line_and}
 use Rattle.rng_model.specs.documents.PyxTrees.{Placed, Event, events_of, IsPyxDocument}
 use Rattle.rng_model.specs.documents.PyxClauses as clauses

@@ -2,7 +2,7 @@
 use Rattle.std.proofs.Common.{◌≡◌, List, [], ◌++◌, Option, Some, None, Result, Ok, Err, refl, ap, sym, ◌∙◌, subst, length, true, false}
 use Rattle.std.specs.Prelude.{◌==◌}
 use Rattle.std.proofs.lemmas.List.{append-nil}
-use Rattle.rng_model.specs.documents.PyxFaults.{Fault}
+use Rattle.rng_model.specs.documents.Lines.{Fault}
 use Rattle.rng_model.specs.documents.PyxTrees.{Event}
 use Rattle.rng_model.specs.declared.pyx_fault.PyxFault.{PyxFault}
 use Rattle.rng_model.specs.declared.pyx_fault.PyxFault.TheVariants as pyx

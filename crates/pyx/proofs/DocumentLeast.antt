@@ -6,14 +6,14 @@ use Rattle.std.proofs.lemmas.List.{length-append, append-nil}
 use Rattle.pyx.proofs.DocumentEnds.{ends_badly}
 use Rattle.rng_model.proofs.Options.{same_err, same_ok}
 use Rattle.rng_model.proofs.Members.{same_rest, one_or_none}
-use Rattle.rng_model.specs.documents.Lines.{Line, line_limit, attribute_limit, open_limit, text_limit}
-use Rattle.rng_model.specs.documents.PyxFaults.{HasKind, Fault, EndsInTag, IsBefore}
+use Rattle.rng_model.specs.documents.Lines.{Line, line_limit, attribute_limit, open_limit, text_limit, HasKind, Fault, EndsInTag, IsBefore}
 use Rattle.rng_model.specs.documents.PyxLines as said
 use Rattle.rng_model.specs.documents.PyxLines.{Said, WrittenName, IsGoodLine, AreGoodLines}
 use Rattle.rng_model.specs.documents.PyxNamespaces.{WrittenAttribute, NamespaceScope}
 use Rattle.rng_model.specs.documents.PyxTrees.{Event}
 use Rattle.rng_model.specs.documents.PyxClauses as clauses
-use Rattle.rng_model.specs.documents.PyxClauses.{BeginsOtherwise, AreOpenTags, none_open, SaysTag, HasScope, EndsWithTag, EndsInText, BreaksNamespaces, RepeatsName}
+use Rattle.rng_model.specs.documents.PyxClauses.{BeginsOtherwise, AreOpenTags, none_open, SaysTag, HasScope, EndsWithTag, EndsInText, BreaksNamespaces}
+use Rattle.rng_model.specs.documents.PyxClauses.{RepeatsName}
 use Rattle.rng_model.specs.documents.PyxClauses.{BreaksHere}
 use Rattle.rng_model.specs.documents.PyxClauses.{Breaks, at_line, unfinished, rootless, IsFirstFault}
 use Rattle.pyx.specs.plain.LineReader.{said_of}
@@ -30,12 +30,14 @@ use Rattle.pyx.proofs.Tags.Exact.{tag_namespaces, tag_repeats}
 use Rattle.pyx.proofs.LineTurns.{followed_same, followed_twice}
 use Rattle.pyx.proofs.SaidLines.{is_attribute, line_said}
 use Rattle.pyx.proofs.StateSteps.{inside, in_tag, open_of, not_zero}
-use Rattle.pyx.proofs.LineCases.{Move, instruction_passes, attribute_outside, text_joins, text_too_long, text_outside, start_begins, start_too_deep, start_again}
+use Rattle.pyx.proofs.LineCases.{Move, instruction_passes, attribute_outside, text_joins, text_too_long, text_outside, start_begins, start_too_deep}
+use Rattle.pyx.proofs.LineCases.{start_again}
 use Rattle.pyx.proofs.LineCases.{end_closes, end_of_other, end_of_none, moves, TagMove, attribute_added, attribute_too_many, tag_refused, tag_closes, tag_moves}
 use Rattle.pyx.proofs.OpenTags.{is_kind, kind_not, marks, Marks, open_marks, ends_marks, open_same, no_tag}
 use Rattle.pyx.proofs.JoinedText.{start_line, end_line, says_a_start, says_an_attribute, says_a_text, says_an_end, joined_with, texts_more}
 use Rattle.pyx.proofs.JoinedText.{good_line_more, text_within, has_root, root_in, root_not}
-use Rattle.pyx.proofs.StateAfterLines.{AreMatched, none_matched, one_matched, scope_of, matched_scope, matched_declared, matched_once, matched_length, says_same}
+use Rattle.pyx.proofs.StateAfterLines.{AreMatched, none_matched, one_matched, scope_of, matched_scope, matched_declared, matched_once, matched_length}
+use Rattle.pyx.proofs.StateAfterLines.{says_same}
 use Rattle.pyx.proofs.StateAfterLines.{scope_same}
 use Rattle.pyx.proofs.StateAfterLines.{Content, Within, Place, at_content, at_tag, place_first, closed}
 use Rattle.pyx.proofs.DocumentBroken.{at, failed, TagBreaks, LineTells, goes_on, breaks_here, tag_breaks, tag_lines, alone_few, bad_line, ended_silent}

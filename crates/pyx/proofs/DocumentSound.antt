@@ -4,13 +4,13 @@ use Rattle.std.proofs.Common.{refl, sym, ap, subst, ◌∙◌, append_assoc, ari
 use Rattle.std.specs.Prelude.{◌==◌, ◌-◌}
 use Rattle.std.proofs.lemmas.List.{append-nil, length-append}
 use Rattle.rng_model.proofs.Options.{same_ok, err_is_ok}
-use Rattle.rng_model.specs.documents.Lines.{Line, lines, attribute_limit, open_limit, text_limit}
-use Rattle.rng_model.specs.documents.PyxFaults.{Fault}
+use Rattle.rng_model.specs.documents.Lines.{Line, lines, attribute_limit, open_limit, text_limit, Fault}
 use Rattle.rng_model.specs.documents.PyxLines as said
 use Rattle.rng_model.specs.documents.PyxLines.{Said, WrittenName, IsGoodLine, AreGoodLines, no_lines, line_and}
 use Rattle.rng_model.specs.documents.PyxNamespaces.{WrittenAttribute, AreWritten, none_written, written_and, NamespaceScope}
 use Rattle.rng_model.specs.documents.PyxTrees.{Placed, element_at, PlacedItems, none_placed, placed_and, Event, IsRun, no_run, text_and, instruction_and}
-use Rattle.rng_model.specs.documents.PyxTrees.{AreInstructions, no_instructions, another_instruction, string_before, IsTag, IsElement, element, IsContent, last_run}
+use Rattle.rng_model.specs.documents.PyxTrees.{AreInstructions, no_instructions, another_instruction, string_before, IsTag, IsElement, element, IsContent}
+use Rattle.rng_model.specs.documents.PyxTrees.{last_run}
 use Rattle.rng_model.specs.documents.PyxTrees.{run_and_element, IsPyxDocument}
 use Rattle.pyx.specs.plain.LineReader.{said_of}
 use Rattle.pyx.specs.plain.TagReader.{Element, tag_read}
@@ -23,7 +23,8 @@ use Rattle.pyx.proofs.Tags.Parts.{IsSplit, split_declared}
 use Rattle.pyx.proofs.Tags.Exact.{is_tag}
 use Rattle.pyx.proofs.SaidLines.{said_line, good, line_said}
 use Rattle.pyx.proofs.StateSteps.{inside, in_tag, begun, open_of, not_zero}
-use Rattle.pyx.proofs.LineCases.{Move, instruction_passes, attribute_outside, text_joins, text_too_long, text_outside, start_begins, start_too_deep, start_again}
+use Rattle.pyx.proofs.LineCases.{Move, instruction_passes, attribute_outside, text_joins, text_too_long, text_outside, start_begins, start_too_deep}
+use Rattle.pyx.proofs.LineCases.{start_again}
 use Rattle.pyx.proofs.LineCases.{end_closes, end_of_other, end_of_none, moves, TagMove, attribute_added, attribute_too_many, tag_refused, tag_closes, tag_moves}
 use Rattle.pyx.proofs.DocumentComplete.{attribute_longer, split_length}
 

@@ -7,8 +7,7 @@ use Rattle.std.specs.List.{AllByRecursion}
 use Rattle.std.proofs.lemmas.List.{append-nil, length-append, length-take-le, take-append-drop}
 use Rattle.std.proofs.lemmas.List.Elements.{All-from_recursion}
 use Rattle.pyx.proofs.DocumentEnds.{last_sends}
-use Rattle.rng_model.specs.documents.Lines.{Line, lines, attribute_limit, open_limit, text_limit}
-use Rattle.rng_model.specs.documents.PyxFaults.{Fault}
+use Rattle.rng_model.specs.documents.Lines.{Line, lines, attribute_limit, open_limit, text_limit, Fault}
 use Rattle.rng_model.specs.documents.PyxLines as said
 use Rattle.rng_model.specs.documents.PyxLines.{Said, WrittenName}
 use Rattle.rng_model.specs.documents.PyxNamespaces.{WrittenAttribute}

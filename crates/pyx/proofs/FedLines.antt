@@ -4,8 +4,7 @@ use Rattle.std.proofs.Common.{refl, ap, sym, ◌∙◌, subst, arith, append_ass
 use Rattle.std.proofs.lemmas.List.{append-nil}
 use Rattle.std.proofs.lemmas.List.Elements.{All-append, All-cons, All-head, All-nil, All-tail, All-weaker}
 use Rattle.rng_model.proofs.Options.{ok_is_err}
-use Rattle.rng_model.specs.documents.Lines.{Line, line_limit, lines}
-use Rattle.rng_model.specs.documents.PyxFaults.{Fault}
+use Rattle.rng_model.specs.documents.Lines.{Line, line_limit, lines, Fault}
 use Rattle.rng_model.specs.documents.PyxTrees.{Event, Placed, IsPyxDocument, events_of}
 use Rattle.pyx.specs.plain.DocumentReader.{State, Turn, document_read, all_read, followed, go_on, line_read, nothing_read, silent}
 use Rattle.pyx.specs.plain.Pieces.{Progress, ended_line, finished, nothing_fed, open_line, read, with_begun}

@@ -9,10 +9,10 @@ use Rattle.std.proofs.lemmas.List.Elements.{All-from_recursion}
 use Rattle.std.proofs.lemmas.List.Sums.{sum_by-cons}
 use Rattle.pyx.proofs.DocumentSound.{goes_first}
 use Rattle.rng_model.proofs.Options.{same_ok}
-use Rattle.rng_model.specs.documents.Lines.{Line, lines, line_limit}
-use Rattle.rng_model.specs.documents.PyxFaults.{HasKind, Fault}
+use Rattle.rng_model.specs.documents.Lines.{Line, lines, line_limit, HasKind, Fault}
 use Rattle.rng_model.specs.documents.PyxLines as said
-use Rattle.rng_model.specs.documents.PyxLines.{Said, WrittenName, IsName, alone, prefixed, StandsFor, at_end, itself, line_feed, tab, backslash, Says, says_start}
+use Rattle.rng_model.specs.documents.PyxLines.{Said, WrittenName, IsName, alone, prefixed, StandsFor, at_end, itself, line_feed, tab, backslash, Says}
+use Rattle.rng_model.specs.documents.PyxLines.{says_start}
 use Rattle.rng_model.specs.documents.PyxLines.{says_attribute, IsGoodLine, AreGoodLines, no_lines, line_and}
 use Rattle.rng_model.specs.documents.PyxNamespaces.{WrittenAttribute, AreWritten, none_written, written_and, Declares, default_namespace, prefix_declared}
 use Rattle.rng_model.specs.documents.PyxTrees.{Event, no_run}

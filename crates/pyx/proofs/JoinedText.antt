@@ -7,10 +7,10 @@ use Rattle.std.proofs.lemmas.List.Elements.{All-from_recursion, recursion_from_A
 use Rattle.std.proofs.Math.Bool.{or-true}
 use Rattle.rng_model.proofs.Options.{same_ok}
 use Rattle.rng_model.proofs.Members.{same_first, same_rest}
-use Rattle.rng_model.specs.documents.Lines.{Line}
-use Rattle.rng_model.specs.documents.PyxFaults.{HasKind}
+use Rattle.rng_model.specs.documents.Lines.{Line, HasKind}
 use Rattle.rng_model.specs.documents.PyxLines as said
-use Rattle.rng_model.specs.documents.PyxLines.{Said, WrittenName, Says, says_start, says_attribute, says_text, says_end, says_instruction, IsGoodLine, AreGoodLines}
+use Rattle.rng_model.specs.documents.PyxLines.{Said, WrittenName, Says, says_start, says_attribute, says_text, says_end, says_instruction, IsGoodLine}
+use Rattle.rng_model.specs.documents.PyxLines.{AreGoodLines}
 use Rattle.rng_model.specs.documents.PyxLines.{no_lines, line_and}
 use Rattle.rng_model.specs.documents.PyxTrees.{IsRun, no_run, text_and, instruction_and}
 use Rattle.rng_model.specs.documents.PyxClauses.{EndsInText}

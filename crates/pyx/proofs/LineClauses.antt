@@ -9,11 +9,11 @@ use Rattle.std.proofs.lemmas.List.Elements.{All-from_recursion, recursion_from_A
 use Rattle.std.proofs.lemmas.List.Sums.{AllPass-from_list_all, list_all-from_AllPass}
 use Rattle.std.proofs.lemmas.Str.{is_utf8-from_IsUtf8, IsUtf8-from_is_utf8}
 use Rattle.pyx.proofs.LineTexts.{read_when_utf8}
-use Rattle.rng_model.specs.names.Characters.{is_xml_char}
-use Rattle.rng_model.specs.schema.Least.{IsLeast}
-use Rattle.rng_model.specs.documents.Lines.{Line, line_limit}
-use Rattle.rng_model.specs.documents.PyxFaults.{HasKind}
-use Rattle.rng_model.specs.documents.PyxLines.{WrittenName, IsName, IsNoName, Said, start, attribute, text, end, instruction, Says, says_start, says_attribute, says_text}
+use Rattle.rng_model.specs.names.Names.{is_xml_char}
+use Rattle.rng_model.specs.names.Lists.{IsLeast}
+use Rattle.rng_model.specs.documents.Lines.{Line, line_limit, HasKind}
+use Rattle.rng_model.specs.documents.PyxLines.{WrittenName, IsName, IsNoName, Said, start, attribute, text, end, instruction, Says, says_start, says_attribute}
+use Rattle.rng_model.specs.documents.PyxLines.{says_text}
 use Rattle.rng_model.specs.documents.PyxLines.{says_end, says_instruction, IsGoodLine, HasNoKind, IsCutAtSpace, StandsForNothing, BreaksAlone, unended, no_utf8}
 use Rattle.rng_model.specs.documents.PyxLines.{no_xml_char, no_kind, bad_text, bad_value, bad_start_name, bad_end_name, bad_attribute_name, no_space}
 use Rattle.pyx.specs.plain.Cuts.{either_way, at_byte}

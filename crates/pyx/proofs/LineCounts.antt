@@ -2,8 +2,7 @@
 use Rattle.std.proofs.Common.{◌≡◌, ℕ, ◌+◌, ◌≤◌, Bool, true, false, cond, ◌&&◌, List, [], ◌∷◌, ◌++◌, length, Option, Some, None, Result, Ok, Err, refl, ap, ◌∙◌}
 use Rattle.std.proofs.Common.{arith, lit≤}
 use Rattle.std.specs.Prelude.{nat_le, is_some}
-use Rattle.rng_model.specs.documents.Lines.{Line, open_limit}
-use Rattle.rng_model.specs.documents.PyxFaults.{Fault}
+use Rattle.rng_model.specs.documents.Lines.{Line, open_limit, Fault}
 use Rattle.rng_model.specs.documents.PyxLines as lines
 use Rattle.rng_model.specs.documents.PyxLines.{Said, WrittenName}
 use Rattle.rng_model.specs.documents.PyxNamespaces.{WrittenAttribute}
@@ -12,7 +11,8 @@ use Rattle.pyx.specs.plain.Cuts.{behind}
 use Rattle.pyx.specs.plain.LineReader.{said_of}
 use Rattle.pyx.specs.plain.TagReader.{Element, tag_read}
 use Rattle.pyx.specs.plain.Declarations.{declared_by}
-use Rattle.pyx.specs.plain.DocumentReader.{State, Tag, Open, Turn, fault, silent, go_on, followed, tag_bytes, tag_closed, close_tag, tag_ended, text_ended, begin_tag}
+use Rattle.pyx.specs.plain.DocumentReader.{State, Tag, Open, Turn, fault, silent, go_on, followed, tag_bytes, tag_closed, close_tag, tag_ended, text_ended}
+use Rattle.pyx.specs.plain.DocumentReader.{begin_tag}
 use Rattle.pyx.specs.plain.DocumentReader.{is_outside, started, add_attribute, attributed, joined_by, end_in, ended, said_read, judged, line_read, declared_in}
 
 -- if a turn has no fault, this many lines are counted after it, and the tag has at most this many bytes

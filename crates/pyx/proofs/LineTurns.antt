@@ -1,14 +1,14 @@
 -- Turns, one after the other, and how a piece is read line by line.
 use Rattle.std.proofs.Common.{◌≡◌, ℕ, List, [], ◌∷◌, ◌++◌, Result, Ok, Err, refl, ap, sym, ◌∙◌, append_assoc}
 use Rattle.std.proofs.lemmas.List.{append-nil}
-use Rattle.rng_model.specs.documents.PyxFaults.{Fault}
+use Rattle.rng_model.specs.documents.Lines.{Fault}
 use Rattle.rng_model.specs.documents.PyxTrees.{Event}
 use Rattle.rng_model.specs.declared.pyx_fault.PyxFault.{PyxFault}
 use Rattle.rng_model.specs.declared.pyx_fault.PyxFault.TheVariants as pyx
 use Rattle.pyx.specs.plain.DocumentReader.{Turn, after_events, go_on, followed}
 use Rattle.pyx.specs.plain.Pieces.{Progress, byte_read, read}
 use Rattle.pyx.specs.views.View.{Takes}
-use Rattle.rng_model.specs.documents.Handing.{Hands}
+use Rattle.rng_model.specs.documents.EventViews.{Hands}
 
 pub sent_before : {A B : Type 0} (r : Result A Fault) (fs es : List Event) (g : A → Turn B) → go_on r (es ++ fs) g ≡ after_events es (go_on r fs g)
 sent_before {B = B} (Ok s) fs es g = ap (λ (x : List Event). let r : Turn B = ((g s).0, x) in r) (append_assoc es fs (g s).1)

@@ -4,8 +4,7 @@ use Rattle.std.proofs.Common.{Err, refl, ap, sym, ◌∙◌, arith, append_assoc
 use Rattle.std.specs.Prelude.{nat_le}
 use Rattle.std.proofs.lemmas.List.{append-nil, length-append}
 use Rattle.std.proofs.lemmas.Bool.{lt-leb, le-leb}
-use Rattle.rng_model.specs.documents.Lines.{Line, line_limit}
-use Rattle.rng_model.specs.documents.PyxFaults.{Fault}
+use Rattle.rng_model.specs.documents.Lines.{Line, line_limit, Fault}
 use Rattle.rng_model.specs.documents.PyxTrees.{Event}
 use Rattle.pyx.specs.plain.Cuts.{at_byte, at_front}
 use Rattle.pyx.specs.plain.LineReader.{said_of}

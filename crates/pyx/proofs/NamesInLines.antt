@@ -12,7 +12,7 @@ use Rattle.std.proofs.lemmas.Str.{IsCharBoundary-after_ascii, chars-append, char
 use Rattle.std.proofs.lemmas.Str.Ascii.{IsAscii-nil, IsAscii-cons}
 use Rattle.std.proofs.Math.Bool.{and-false}
 use Rattle.rng_model.proofs.Truths.{number_itself}
-use Rattle.rng_model.specs.names.Characters.{is_ncname, is_name_start, is_name_char, is_colon}
+use Rattle.rng_model.specs.names.Names.{is_ncname, is_name_start, is_name_char, is_colon}
 use Rattle.rng_model.specs.documents.PyxLines.{WrittenName, IsNcnameText, IsName, alone, prefixed}
 use Rattle.pyx.specs.plain.Cuts.{at_byte, at_front}
 use Rattle.pyx.specs.plain.WrittenNames.{written_of, cut_name}

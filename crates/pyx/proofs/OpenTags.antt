@@ -5,8 +5,7 @@ use Rattle.std.proofs.lemmas.Bool.{eqb-true}
 use Rattle.std.proofs.lemmas.List.{append-nil}
 use Rattle.std.proofs.lemmas.List.Elements.{All-nil, All-cons, All-head, All-tail, All-append}
 use Rattle.rng_model.proofs.Members.{same_first}
-use Rattle.rng_model.specs.documents.Lines.{Line}
-use Rattle.rng_model.specs.documents.PyxFaults.{HasKind, IsBalanced, nothing, other, pair, EndsInTag}
+use Rattle.rng_model.specs.documents.Lines.{Line, HasKind, IsBalanced, nothing, other, pair, EndsInTag}
 use Rattle.rng_model.specs.documents.PyxClauses.{BeginsOtherwise, Tag, AreOpenTags, none_open, one_open}
 
 -- ---- the first byte

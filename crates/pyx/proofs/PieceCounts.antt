@@ -4,8 +4,7 @@ use Rattle.std.specs.Prelude.{nat_le}
 use Rattle.std.proofs.lemmas.List.{length-append}
 use Rattle.pyx.proofs.DocumentSound.{goes_first}
 use Rattle.rng_model.proofs.Options.{err_is_ok}
-use Rattle.rng_model.specs.documents.Lines.{line_limit}
-use Rattle.rng_model.specs.documents.PyxFaults.{Fault}
+use Rattle.rng_model.specs.documents.Lines.{line_limit, Fault}
 use Rattle.rng_model.specs.documents.PyxTrees.{Event}
 use Rattle.pyx.specs.plain.DocumentReader.{Turn, silent, go_on, followed, line_read}
 use Rattle.pyx.specs.plain.Pieces.{Progress, with_begun, ended_line, open_line, byte_read, read, overlong, line_taken, weight}

@@ -9,7 +9,7 @@ use Rattle.std.proofs.lemmas.Str.{encodes-chars, scalars-chars, chars-IsAscii, i
 use Rattle.std.proofs.lemmas.Str.Ascii.{IsAscii-nil, IsAscii-cons}
 use Rattle.std.proofs.lemmas.Bool.{or_right, and_parts}
 use lib.Utf8.{scalar, scalars, encode, encodes}
-use Rattle.rng_model.specs.names.Characters.{is_ncname, is_xml_char, is_name_char, is_name_start, is_colon, is_in_ranges, more_name_ranges}
+use Rattle.rng_model.specs.names.Names.{is_ncname, is_xml_char, is_name_char, is_name_start, is_colon, is_in_ranges, more_name_ranges}
 use Rattle.pyx.specs.plain.Cuts.{at_byte}
 use Rattle.pyx.specs.plain.LineReader.{is_name, bytes_of, characters_of, kind_of}
 use Rattle.pyx.specs.plain.PlainBytes.{is_plain, is_plain_name, may_begin, may_follow}

@@ -1,16 +1,16 @@
 -- The bytes and events that a reader represents after a piece.
 use Rattle.std.proofs.Common.{◌≡◌, ℕ, List, [], ◌++◌, Option, Some, None, Result, Ok, Err, refl, ap, sym, ◌∙◌, subst}
 use Rattle.std.proofs.lemmas.List.{append-nil}
-use Rattle.rng_model.specs.documents.PyxFaults.{Fault}
+use Rattle.rng_model.specs.documents.Lines.{Fault}
 use Rattle.rng_model.specs.documents.PyxTrees.{Event}
 use Rattle.rng_model.specs.declared.pyx_fault.PyxFault.{PyxFault}
 use Rattle.rng_model.specs.declared.pyx_fault.PyxFault.TheVariants as pyx
 use Rattle.pyx.specs.plain.DocumentReader.{after_events}
 use Rattle.pyx.specs.plain.Pieces.{Progress, read, nothing_fed}
 use Rattle.pyx.specs.views.ReaderAfterPiece.{Kept, Stands, result_of}
-use Rattle.pyx.specs.views.Calls.{Extends, UnlessMemory}
+use Rattle.pyx.specs.views.Calls.{Extends, UnlessOutOfMemory}
 use Rattle.pyx.specs.views.View.{Takes}
-use Rattle.rng_model.specs.documents.Handing.{Hands}
+use Rattle.rng_model.specs.documents.EventViews.{Hands}
 use Rattle.pyx.proofs.LineTurns.{read_append, followed_ok, followed_err, hands_nothing}
 
 ok_more : (bytes more : List ℕ) (p : Progress) → (read bytes nothing_fed).0 ≡ Ok p
@@ -42,7 +42,7 @@ fed_ok handed h k piece p e f g t = (
 )
 
 pub fed_err : (A : Type 0) (handed : List Event → Type 0) (h k : Kept) (piece : List ℕ) (p new : Progress) (x : PyxFault) → p ≡ h.progress → h.fault ≡ None
-    → k.fault ≡ Some x → Takes {A = A} (Err x) new handed (read piece p) → UnlessMemory {A = A} (Err x) (Extends handed h k piece)
+    → k.fault ≡ Some x → Takes {A = A} (Err x) new handed (read piece p) → UnlessOutOfMemory {A = A} (Err x) (Extends handed h k piece)
 fed_err A handed h k piece p new pyx.Memory e f g t = tt
 fed_err A handed h k piece p new (pyx.At clause line) e f g t = (
   (read piece p).1,
@@ -54,7 +54,7 @@ fed_err A handed h k piece p new (pyx.At clause line) e f g t = (
 )
 
 pub fed_stuck : (A : Type 0) {E : Type 0} (stands : E → E → List Event → Type 0) (taker : E) (h : Kept) (piece : List ℕ) (x : PyxFault) → h.fault ≡ Some x
-    → UnlessMemory {A = A} (Err x) (Extends (Hands stands taker taker) h h piece)
+    → UnlessOutOfMemory {A = A} (Err x) (Extends (Hands stands taker taker) h h piece)
 fed_stuck A stands taker h piece pyx.Memory f = tt
 fed_stuck A stands taker h piece (pyx.At clause line) f = (
   [],

@@ -1,8 +1,7 @@
 -- The outcome of a reader, for all bytes that it represents.
 use Rattle.std.proofs.Common.{◌≡◌, ℕ, List, [], ◌++◌, Some, None, Result, Ok, Err, refl, ap, sym, subst, ◌∙◌}
 use Rattle.std.proofs.lemmas.List.{append-nil}
-use Rattle.rng_model.specs.documents.Lines.{lines}
-use Rattle.rng_model.specs.documents.PyxFaults.{Fault}
+use Rattle.rng_model.specs.documents.Lines.{lines, Fault}
 use Rattle.rng_model.specs.documents.PyxTrees.{Event}
 use Rattle.rng_model.specs.declared.pyx_fault.PyxFault.{PyxFault}
 use Rattle.rng_model.specs.declared.pyx_fault.PyxFault.TheVariants as pyx
@@ -10,9 +9,9 @@ use Rattle.pyx.specs.plain.DocumentReader.{State, Turn, after_events, followed, 
 use Rattle.rng_model.specs.documents.Documents.{IsTheDocument, IsTheFault}
 use Rattle.pyx.specs.plain.Pieces.{Progress, read, finished, nothing_fed}
 use Rattle.pyx.specs.views.ReaderAfterPiece.{Kept, Stands}
-use Rattle.pyx.specs.views.Calls.{UnlessMemory, Ends, IsFaultAfter}
+use Rattle.pyx.specs.views.Calls.{UnlessOutOfMemory, Ends, IsFaultAfter}
 use Rattle.pyx.specs.views.View.{Concludes}
-use Rattle.rng_model.specs.documents.Handing.{Hands}
+use Rattle.rng_model.specs.documents.EventViews.{Hands}
 use Rattle.pyx.proofs.ReaderAfterPiece.{at_fault, ok_progress, stuck_more}
 use Rattle.pyx.proofs.LineTurns.{followed_ok, hands_nothing}
 use Rattle.pyx.proofs.WholeVerdict.{is_document, is_fault}
@@ -34,7 +33,7 @@ fault_at : (bytes : List ℕ) (sent : List Event) (p : Progress) (x : Fault) →
 fault_at bytes sent p x e f = is_fault bytes x (sent ++ (finished p).1) (ap (λ (t : Turn State). t.0) e ∙ f) (ap (λ (t : Turn State). t.1) e)
 
 pub finishes : (A : Type 0) (handed : List Event → Type 0) (k : Kept) (p : Progress) (r : Result A PyxFault) → p ≡ k.progress → k.fault ≡ None
-    → Concludes r handed (finished p) → UnlessMemory r (Ends handed k r)
+    → Concludes r handed (finished p) → UnlessOutOfMemory r (Ends handed k r)
 finishes A handed k p (Ok x) e f c =
     ((finished p).1, c.1, λ bytes sent st. verdict_at bytes sent p c.0.0 (whole k p bytes sent e f st) c.0.1)
 finishes A handed k p (Err pyx.Memory) e f c = tt
@@ -54,7 +53,7 @@ is_fault_after k (pyx.At clause line) f = λ bytes sent st rest.
     is_fault (bytes ++ rest) x sent (ap (λ (t : Turn State). t.0) all) (ap (λ (t : Turn State). t.1) all ∙ st.events)
 
 pub finishes_stuck : (A : Type 0) {E : Type 0} (stands : E → E → List Event → Type 0) (taker : E) (k : Kept) (x : PyxFault) → k.fault ≡ Some x
-    → UnlessMemory {A = A} (Err x) (Ends {A = A} (Hands stands taker taker) k (Err x))
+    → UnlessOutOfMemory {A = A} (Err x) (Ends {A = A} (Hands stands taker taker) k (Err x))
 finishes_stuck A stands taker k pyx.Memory f = tt
 finishes_stuck A stands taker k (pyx.At clause line) f = (
   [],

@@ -5,8 +5,7 @@ use Rattle.std.proofs.lemmas.List.{length-append}
 use Rattle.std.specs.Prelude.{is_some, sum_by}
 use Rattle.std.proofs.lemmas.List.Sums.{sum_by_push}
 use Rattle.rng_model.specs.names.Lists.{HasTwice}
-use Rattle.rng_model.specs.documents.Lines.{Line, attribute_limit, open_limit, text_limit}
-use Rattle.rng_model.specs.documents.PyxFaults.{HasKind, nothing, EndsInTag}
+use Rattle.rng_model.specs.documents.Lines.{Line, attribute_limit, open_limit, text_limit, HasKind, nothing, EndsInTag}
 use Rattle.rng_model.specs.documents.PyxLines as said
 use Rattle.rng_model.specs.documents.PyxLines.{Said, WrittenName, IsGoodLine, AreGoodLines, no_lines, line_and}
 use Rattle.rng_model.specs.documents.PyxNamespaces.{WrittenAttribute, AreWritten, none_written, written_and, AreParted, NamespaceScope}

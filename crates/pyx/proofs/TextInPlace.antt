@@ -1,5 +1,6 @@
 -- A line with a text and the line of an end tag behind it, read in one step.
-use Rattle.std.proofs.Common.{◌≡◌, ◌∙◌, ◌+◌, ◌<◌, ◌≤◌, ℕ, eqb, Bool, true, false, cond, List, [], ◌∷◌, ◌++◌, length, Option, Some, None, Result, Ok, Err, ap, arith, refl, rules, sym}
+use Rattle.std.proofs.Common.{◌≡◌, ◌∙◌, ◌+◌, ◌<◌, ◌≤◌, ℕ, eqb, Bool, true, false, cond, List, [], ◌∷◌, ◌++◌, length, Option, Some, None, Result, Ok, Err, ap}
+use Rattle.std.proofs.Common.{arith, refl, rules, sym}
 use Rattle.std.specs.Prelude.{nat_le}
 use Rattle.std.specs.List.{list_all}
 use Rattle.std.specs.Str.{IsUtf8}
@@ -7,15 +8,15 @@ use Rattle.std.proofs.lemmas.Bool.{eqb-true, le-leb}
 use Rattle.std.proofs.lemmas.List.{append-nil, nil_from_length}
 use Rattle.std.proofs.lemmas.Str.{IsUtf8-append, encode_ascii}
 use Rattle.pyx.proofs.DocumentSound.{goes_first}
-use Rattle.rng_model.specs.documents.Handing.{Hands}
-use Rattle.rng_model.specs.documents.Lines.{line_limit, text_limit}
-use Rattle.rng_model.specs.documents.PyxFaults.{Fault}
+use Rattle.rng_model.specs.documents.EventViews.{Hands}
+use Rattle.rng_model.specs.documents.Lines.{line_limit, text_limit, Fault}
 use Rattle.rng_model.specs.documents.PyxLines as lines
 use Rattle.rng_model.specs.documents.PyxTrees.{Event}
 use Rattle.rng_model.specs.declared.pyx_fault.PyxFault.{PyxFault}
 use Rattle.rng_model.specs.declared.pyx_fault.PyxFault.TheVariants as pyx
 use Rattle.pyx.specs.plain.Cuts.{at_byte, at_front, behind}
-use Rattle.pyx.specs.plain.DocumentReader.{State, Tag, Turn, after_events, close_tag, declared_in, fault, followed, is_outside, joined_by, judged, line_read, said_read}
+use Rattle.pyx.specs.plain.DocumentReader.{State, Tag, Turn, after_events, close_tag, declared_in, fault, followed, is_outside, joined_by, judged, line_read}
+use Rattle.pyx.specs.plain.DocumentReader.{said_read}
 use Rattle.pyx.specs.plain.DocumentReader.{silent, tag_bytes, tag_closed, tag_ended}
 use Rattle.pyx.specs.plain.LineReader.{kind_of, named, said_of, text_of}
 use Rattle.pyx.specs.plain.Pieces.{Progress, ended_line, line_taken, overlong, read, with_begun}

@@ -1,8 +1,7 @@
 -- The result for whole bytes is the verdict on them.
 use Rattle.std.proofs.Common.{◌≡◌, ℕ, List, Ok, Err, sym, ap, subst, ◌∙◌}
 use Rattle.rng_model.proofs.Options.{ok_is_err}
-use Rattle.rng_model.specs.documents.Lines.{lines}
-use Rattle.rng_model.specs.documents.PyxFaults.{Fault}
+use Rattle.rng_model.specs.documents.Lines.{lines, Fault}
 use Rattle.rng_model.specs.documents.PyxTrees.{Placed, Event, events_of, IsPyxDocument}
 use Rattle.pyx.specs.plain.DocumentReader.{State, Turn, document_read}
 use Rattle.rng_model.specs.documents.Documents.{AreEventsBefore, IsTheDocument, IsTheFault}

@@ -2,7 +2,7 @@
 ghost use Rattle.std.specs.Prelude.{◌≡◌, [], map, string_bytes};
 ghost use Rattle.rng_model.specs.plain.Answers.{Gives};
 ghost use Rattle.rng_model.specs.names.NameViews.{name_of};
-ghost use Rattle.rng_model.specs.documents.DocumentViews.{attribute_of};
+ghost use Rattle.rng_model.specs.documents.EventViews.{attribute_of};
 ghost use Rattle.pyx.specs.plain.DocumentReader.{declared_in};
 ghost use Rattle.pyx.specs.plain.WrittenNames.{written_of};
 ghost use Rattle.pyx.specs.plain.TagReader.{attribute_name, expanded};

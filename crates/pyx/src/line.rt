@@ -2,7 +2,7 @@
 ghost use Rattle.std.specs.Prelude.{◌≡◌, MatchResult, Err};
 ghost use Rattle.std.specs.List.{list_all};
 ghost use Rattle.std.specs.Str.{chars};
-ghost use Rattle.rng_model.specs.names.Characters.{is_ncname, is_xml_char};
+ghost use Rattle.rng_model.specs.names.Names.{is_ncname, is_xml_char};
 ghost use Rattle.pyx.specs.plain.LineReader.{is_name, kind_of, said_of};
 ghost use Rattle.pyx.specs.plain.Pieces.{ended_line};
 ghost use Rattle.pyx.specs.views.View.{line_of};

@@ -2,9 +2,9 @@
 ghost use Rattle.std.specs.Prelude.{◌≡◌, ◌+◌, ◌<◌, ◌≤◌, ◌^◌, [], length, IfSome, IfErr, OnOk, is_ok, if◌then◌else◌, Some, None, Err};
 ghost use Rattle.pyx.specs.views.HeldCalls.{IsHeld};
 ghost use Rattle.pyx.specs.plain.Pieces.{weight};
-ghost use Rattle.pyx.specs.views.Calls.{Ends, Extends, IsFaultAfter, UnlessMemory};
+ghost use Rattle.pyx.specs.views.Calls.{Ends, Extends, IsFaultAfter, UnlessOutOfMemory};
 ghost use Rattle.pyx.specs.views.ReaderAfterPiece.{Kept, Stands};
-ghost use Rattle.rng_model.specs.documents.Handing.{Hands};
+ghost use Rattle.rng_model.specs.documents.EventViews.{Hands};
 ghost use Rattle.pyx.specs.views.View.{progress_of};
 
 use crate::pieces::Pieces;
@@ -75,7 +75,7 @@ impl Reader {
     /// XML 1.0, sections 2.2 and 3.1; Namespaces in XML 1.0, sections 3 to 6.
     pub fn feed<E: Events>(&mut self, piece: &[u8], events: &mut E) -> Result<(), PyxFault>
         requires { self.old.fed + length piece.now < 2 ^ 63 }
-        ensures stands { UnlessMemory result (Extends (Hands E.stands events.old events.new) self.old self.new piece.now) }
+        ensures stands { UnlessOutOfMemory result (Extends (Hands E.stands events.old events.new) self.old self.new piece.now) }
         ensures fault { IfErr result (λ f. (self.new.fault ≡ Some f) × IsFaultAfter self.new f) }
         ensures working { OnOk result (self.new.fault ≡ None) }
         ensures sticky { IfSome self.old.fault (λ f. (result ≡ Err f) × (self.new ≡ self.old)) }
@@ -103,7 +103,7 @@ impl Reader {
     /// After an error of `feed` it is the same error. XML 1.0, sections 2.2 and 3.1; Namespaces in XML 1.0, sections 3 to
     /// 6. The cost is at most that of one line and one tag.
     pub fn finish<E: Events>(self, events: &mut E) -> Result<(), PyxFault>
-        ensures document { UnlessMemory result (Ends (Hands E.stands events.old events.new) self result) }
+        ensures document { UnlessOutOfMemory result (Ends (Hands E.stands events.old events.new) self result) }
         ensures sticky { IfSome self.fault (λ f. result ≡ Err f) }
     {
         if let Some(fault) = self.fault {

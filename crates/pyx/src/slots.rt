@@ -1,7 +1,7 @@
 // Attributes with the same name in a tag.
 ghost use Rattle.std.specs.Prelude.{◌≡◌, map, false};
 ghost use Rattle.rng_model.specs.names.NameViews.{name_of};
-ghost use Rattle.rng_model.specs.documents.DocumentViews.{attribute_of};
+ghost use Rattle.rng_model.specs.documents.EventViews.{attribute_of};
 ghost use Rattle.pyx.specs.plain.Slots.{AreMet};
 ghost use Rattle.pyx.specs.plain.TagReader.{is_named_in, is_named_twice};
 

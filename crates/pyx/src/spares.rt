@@ -1,6 +1,6 @@
 // Buffers that are used again.
 ghost use Rattle.std.specs.Prelude.{◌≡◌, [], IfOk, OnOk, string_bytes};
-ghost use Rattle.rng_model.specs.names.NamespaceViews.{namespace_bytes};
+ghost use Rattle.rng_model.specs.names.NameViews.{namespace_bytes};
 ghost use Rattle.pyx.specs.views.FoundNamespaces.{found_bytes};
 
 use crate::namespaces::FoundNamespace;

@@ -17,7 +17,7 @@ ghost use Rattle.pyx.specs.plain.PlainBytes.{is_plain};
 ghost use Rattle.pyx.specs.plain.Declarations.{declared_by};
 ghost use Rattle.pyx.specs.plain.TagReader.{tag_read};
 ghost use Rattle.pyx.specs.views.View.{Adds, EndsBy, Takes, line_of, state_of, state_with, tag_of};
-ghost use Rattle.rng_model.specs.documents.Handing.{Hands};
+ghost use Rattle.rng_model.specs.documents.EventViews.{Hands};
 
 use crate::attributes::expand_attributes;
 use crate::escapes::append;

@@ -3,7 +3,7 @@ use Rattle.std.proofs.Common.{◌≡◌, ◌∙◌, ap, ap₂, sym, subst, refl,
 use Rattle.std.proofs.lemmas.Slice.Eq.{bytes_eq-Decides}
 use Rattle.std.specs.Str.{bytes_eq}
 use Rattle.rng_model.specs.datatypes.Datatypes.{xsd_uri}
-use Rattle.rng_model.specs.documents.PyxNamespaces.{xml_uri}
+use Rattle.rng_model.specs.names.Names.{xml_uri}
 use Rattle.rnc_model.specs.grammar.Syntax as syntax
 use Rattle.rnc_model.specs.grammar.Syntax.{written, Declaration, Namespace, inherited, given}
 use Rattle.rnc_model.specs.declarations.FileTree as tree

@@ -1,13 +1,15 @@
 -- Worked examples of files that break a rule about declarations, and of files that break none.
 use Rattle.std.proofs.Common.{◌≢◌, refl, ℕ, List, [], ◌∷◌, Some, None, codes}
 use Rattle.rng_model.specs.names.Lists.{here, there}
-use Rattle.rng_model.specs.documents.PyxNamespaces.{xml_uri}
+use Rattle.rng_model.specs.names.Names.{xml_uri}
 use Rattle.rnc_model.specs.grammar.Syntax.{written, prefixed, name_is, any_except, ns_name, prefixed_type, Pattern, element, empty, data_of, external, start}
 use Rattle.rnc_model.specs.grammar.Syntax.{include, component_and, no_components, inherit, literal, Declaration, namespace, default_namespace, datatypes}
 use Rattle.rnc_model.specs.grammar.Syntax.{pattern_body, grammar_body, File}
 use Rattle.rnc_model.specs.declarations.Declarations.{file_tree}
-use Rattle.rnc_model.specs.declarations.DeclarationRules.{namespace_prefix, datatype_prefix, IsUndeclared, at_first, later, BreaksDeclarationRule, namespace_prefix_twice}
-use Rattle.rnc_model.specs.declarations.DeclarationRules.{default_namespace_twice, xml_as_another, xmlns_declared, namespace_prefix_undeclared, datatype_prefix_undeclared}
+use Rattle.rnc_model.specs.declarations.DeclarationRules.{namespace_prefix, datatype_prefix, IsUndeclared, at_first, later, BreaksDeclarationRule}
+use Rattle.rnc_model.specs.declarations.DeclarationRules.{namespace_prefix_twice}
+use Rattle.rnc_model.specs.declarations.DeclarationRules.{default_namespace_twice, xml_as_another, xmlns_declared, namespace_prefix_undeclared}
+use Rattle.rnc_model.specs.declarations.DeclarationRules.{datatype_prefix_undeclared}
 use Rattle.rnc_grammar.proofs.DeclarationRules.{kept_where_tree}
 
 -- the declarations, and one pattern

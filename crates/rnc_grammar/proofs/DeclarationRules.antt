@@ -8,14 +8,16 @@ use Rattle.std.specs.Str.{bytes_eq}
 use Rattle.rng_model.proofs.Texts.{bytes_differ}
 use Rattle.rng_model.specs.datatypes.Datatypes.{xsd_uri}
 use Rattle.rng_model.specs.names.Lists.{Among, here, there}
-use Rattle.rng_model.specs.documents.PyxNamespaces.{xml_uri}
+use Rattle.rng_model.specs.names.Names.{xml_uri}
 use Rattle.rnc_model.specs.grammar.Syntax as syntax
 use Rattle.rnc_model.specs.grammar.Syntax.{Namespace, given}
 use Rattle.rnc_model.specs.declarations.FileTree as tree
 use Rattle.rnc_model.specs.declarations.FileTree.{FileTree}
-use Rattle.rnc_model.specs.declarations.Declarations.{◌>>=◌, Scope, nothing_declared, uri_of, is_xml_uri, may_stand_for, may_stand_for_types, with_one, with_prefix}
+use Rattle.rnc_model.specs.declarations.Declarations.{◌>>=◌, Scope, nothing_declared, uri_of, is_xml_uri, may_stand_for, may_stand_for_types, with_one}
+use Rattle.rnc_model.specs.declarations.Declarations.{with_prefix}
 use Rattle.rnc_model.specs.declarations.Declarations.{with_default, with_datatypes, option_none_else, declare_all, body_in, file_tree}
-use Rattle.rnc_model.specs.declarations.DeclarationRules.{Declarable, namespace_prefix, datatype_prefix, default_namespace, declared_in, IsUndeclared, IsTwiceIn}
+use Rattle.rnc_model.specs.declarations.DeclarationRules.{Declarable, namespace_prefix, datatype_prefix, default_namespace, declared_in, IsUndeclared}
+use Rattle.rnc_model.specs.declarations.DeclarationRules.{IsTwiceIn}
 use Rattle.rnc_model.specs.declarations.DeclarationRules.{at_first, later, IsPrefixIn, BreaksDeclarationRule, namespace_prefix_twice, datatype_prefix_twice}
 use Rattle.rnc_model.specs.declarations.DeclarationRules.{default_namespace_twice, xml_as_another, xsd_as_another, xmlns_declared, namespace_prefix_undeclared}
 use Rattle.rnc_model.specs.declarations.DeclarationRules.{datatype_prefix_undeclared}

@@ -1,10 +1,9 @@
 -- The numbers of keywords among tokens, in order. They increase for the tokens of a file.
 use Rattle.std.proofs.Common.{◌≡◌, ℕ, ◌+◌, ◌<◌, ◌≤◌, zero, suc, List, [], ◌∷◌, ◌++◌, slice_index, Option, Some, None, arith, add-one}
 use Rattle.std.specs.List.Sorted.{IsStrictlyIncreasing}
-use Rattle.rnc_model.specs.tokens.Lexeme.{Lexeme, keyword, identifier, cname, ns_name, segment, sign, lexeme_at, numbered}
+use Rattle.rnc_model.specs.tokens.Cut.{Lexeme, keyword, identifier, cname, ns_name, segment, sign, lexeme_at, numbered, Token}
 use Rattle.rnc_model.specs.declared.token.TokenKind.{TokenKind}
 use Rattle.rnc_model.specs.declared.token.TokenKind.TheVariants as kinds
-use Rattle.rnc_model.specs.tokens.Cut.{Token}
 
 -- the number that a token has
 abbrev pub number_of : Lexeme → Option ℕ

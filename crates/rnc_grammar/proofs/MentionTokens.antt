@@ -6,17 +6,16 @@ use Rattle.std.specs.List.Sorted.{IsStrictlyIncreasing}
 use Rattle.rnc_model.specs.grammar.Grammar as grammar
 use Rattle.rnc_model.specs.grammar.Grammar.{IsPattern, AreMore, IsParticle, IsPrimary, IsBarePrimary, IsBraced, AreComponents, IsComponent, IsBareComponent}
 use Rattle.rnc_model.specs.grammar.Grammar.{MayOverride, IsBody, IsFile, Setting}
-use Rattle.rnc_model.specs.tokens.Lexeme.{Lexeme, lexemes}
+use Rattle.rnc_model.specs.tokens.Cut.{Lexeme, lexemes, Token}
 use Rattle.rnc_model.specs.grammar.Syntax as syntax
 use Rattle.rnc_model.specs.grammar.Syntax.{applied, written, given}
 use Rattle.rnc_model.specs.declarations.FileTree as tree
 use Rattle.rnc_model.specs.declared.token.Sign.{Sign}
-use Rattle.rnc_model.specs.tokens.Cut.{Token}
 use Rattle.rnc_model.specs.declarations.Declarations.{◌>>=◌, Scope, class_in, type_in, default_of, handed_on, mention_in, pattern_in, patterns_in, component_in}
 use Rattle.rnc_model.specs.declarations.Declarations.{components_in, body_in, declare_all, nothing_declared, file_tree}
 use Rattle.rnc_model.specs.loading.Mentions.{MentionedFile, mention_of, mentions_of, mentions_of_pattern, mentions_of_patterns, mentions_of_component}
 use Rattle.rnc_model.specs.loading.Mentions.{mentions_of_components}
-use Rattle.rnc_model.specs.declarations.Parsing.{IsFileTree}
+use Rattle.rnc_model.specs.loading.SchemaFile.{IsFileTree}
 use Rattle.rnc_grammar.proofs.AppliedTrees.{made_where_applied}
 use Rattle.rnc_grammar.proofs.KeywordNumbers.{AreNumbersIn, no_numbers, number_here, numbers_later, numbers_after, numbers_before, numbers_of_both}
 use Rattle.rnc_grammar.proofs.KeywordNumbers.{numbers_increase}

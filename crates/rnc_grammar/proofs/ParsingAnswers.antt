@@ -6,13 +6,12 @@ use Rattle.rnc_syntax.specs.declared.fault.SyntaxFault.TheVariants as syntax_fau
 use Rattle.rnc_syntax.specs.declared.syntax_tree.File as written
 use Rattle.rnc_syntax.specs.views.Fault as syntax_fault
 use Rattle.rnc_model.specs.grammar.Grammar.{IsFile}
-use Rattle.rnc_model.specs.tokens.Lexeme.{Lexeme, lexemes}
+use Rattle.rnc_model.specs.tokens.Cut.{Lexeme, lexemes, Token}
 use Rattle.rnc_syntax.specs.views.SentenceFaults as sentence_faults
 use Rattle.rnc_model.specs.grammar.SyntaxTrees.{IsSyntaxTree}
 use Rattle.rnc_model.specs.grammar.Syntax.{File}
 use Rattle.rnc_model.specs.declarations.FileTree.{FileTree}
 use Rattle.rnc_syntax.specs.views.SyntaxView as syntax
-use Rattle.rnc_model.specs.tokens.Cut.{Token}
 use Rattle.rnc_grammar.specs.declared.fault.ParseFault.{ParseFault}
 use Rattle.rnc_grammar.specs.declared.fault.ParseFault.TheVariants as faults
 use Rattle.rnc_grammar.specs.declared.file_tree.FileTree as declared
@@ -25,7 +24,7 @@ use Rattle.rnc_model.specs.declarations.AppliedDeclarations.{tree_of_file}
 use Rattle.rnc_grammar.proofs.AppliedTrees.{applied_where_made, made_where_applied}
 use Rattle.rnc_grammar.proofs.DeclarationRules.{broken_where_none, kept_where_tree, none_where_broken}
 use Rattle.rnc_grammar.proofs.MentionTokens.{mentions_in_order}
-use Rattle.rnc_model.specs.declarations.Parsing.{BreaksDeclarations, IsFileTree}
+use Rattle.rnc_model.specs.loading.SchemaFile.{BreaksDeclarations, IsFileTree}
 use Rattle.rnc_grammar.specs.views.ParsingFaults.{IsFaultOf, IsFaultOfTree, IsResolved, unless_memory}
 use Rattle.rng_model.specs.plain.Answers.{Gives}
 

@@ -1,7 +1,7 @@
 // The tree of a schema file, with its declarations applied.
 ghost use Rattle.std.specs.Prelude.{◌≡◌, map, option_map};
 ghost use Rattle.rnc_model.specs.grammar.Syntax.{components_of};
-ghost use Rattle.rnc_model.specs.declarations.FileTree.{grammar_of, is_grammar as is_grammar_tree};
+ghost use Rattle.rnc_model.specs.declarations.FileTree.{grammar_components, is_grammar as is_grammar_tree};
 ghost use Rattle.rnc_grammar.specs.views.View.{component_of, file_of};
 
 use rng_model::Method;
@@ -151,7 +151,7 @@ impl FileTree {
     /// RELAX NG Specification, section 4.7.
     #[tactic(auto, using(crate::proofs::NoGrammar::joined_is_none, crate::proofs::NoGrammar::data_is_none))]
     pub fn grammar(&self) -> Option<&[Component]>
-        ensures { option_map (λ cs. components_of (map component_of cs.now)) result ≡ grammar_of (file_of self.now) }
+        ensures { option_map (λ cs. components_of (map component_of cs.now)) result ≡ grammar_components (file_of self.now) }
     {
         match self {
             FileTree::Grammar(components) => Some(components),

@@ -6,14 +6,14 @@ ghost use Rattle.rnc_model.specs.declarations.Declarations as declarations;
 ghost use Rattle.rnc_grammar.specs.views.Fault.{tree_or_fault};
 ghost use Rattle.rnc_model.specs.declarations.FileTree as tree;
 ghost use Rattle.rnc_model.specs.loading.Mentions.{mention_of, mentions_of};
-ghost use Rattle.rnc_model.specs.declarations.Parsing.{BreaksDeclarations, IsFileTree};
+ghost use Rattle.rnc_model.specs.loading.SchemaFile.{BreaksDeclarations, IsFileTree};
 ghost use Rattle.rnc_model.specs.grammar.Sentence.{BreaksNesting};
 ghost use Rattle.rnc_model.specs.grammar.SyntaxTrees.{BreaksGrammar};
 ghost use Rattle.rng_model.specs.plain.Answers.{Gives};
 ghost use Rattle.rnc_grammar.specs.views.ParsingFaults.{IsFaultOf, IsFaultOfTree, IsResolved, unless_memory};
 ghost use Rattle.rnc_grammar.specs.views.View.{file_of};
 ghost use Rattle.rnc_grammar.specs.declared.fault.ParseFault.TheVariants as faults;
-ghost use Rattle.rnc_model.specs.tokens.Lexeme.{lexemes};
+ghost use Rattle.rnc_model.specs.tokens.Cut.{lexemes};
 ghost use Rattle.rnc_syntax.specs.views.SyntaxView as syntax;
 ghost use Rattle.rnc_model.specs.tokens.CutTokens.{tokens_of};
 

@@ -1,5 +1,4 @@
 -- The characters of a file.
 pub mod BrokenTexts
-pub mod Characters
 pub mod Decoding
 pub mod FilePlaces

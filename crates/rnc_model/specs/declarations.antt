@@ -4,4 +4,3 @@ pub mod DeclarationRules
 pub mod Declarations
 pub mod FaultyTokens
 pub mod FileTree
-pub mod Parsing

@@ -1,14 +1,16 @@
 -- Single steps of the search for the first fault.
-use Rattle.std.proofs.Common.{◌≡◌, ◌∙◌, ℕ, suc, ◌+◌, ◌-◌, ◌<◌, ◌≤◌, Bool, true, false, List, [], ◌∷◌, length, drop, get_or, map, Option, Some, None, arith, ap, ap₂, refl, sym, if◌then◌else◌}
+use Rattle.std.proofs.Common.{◌≡◌, ◌∙◌, ℕ, suc, ◌+◌, ◌-◌, ◌<◌, ◌≤◌, Bool, true, false, List, [], ◌∷◌, length, drop, get_or, map, Option, Some, None, arith, ap}
+use Rattle.std.proofs.Common.{ap₂, refl, sym, if◌then◌else◌}
 use Rattle.rnc_model.specs.declarations.DeclarationRules.{Declarable}
 use Rattle.rnc_model.specs.declarations.Declarations.{Scope, declare}
 use Rattle.rnc_model.specs.declared.token.Token.{Token}
 use Rattle.rnc_model.specs.grammar.Syntax.{Declaration}
 use Rattle.rnc_model.specs.declared.token.Sign.TheVariants.{CloseBracket, OpenBracket}
-use Rattle.rnc_model.specs.tokens.Lexeme.{Lexeme, cname, identifier, keyword, ns_name, segment, sign}
+use Rattle.rnc_model.specs.tokens.Cut.{Lexeme, cname, identifier, keyword, ns_name, segment, sign}
 use Rattle.rnc_places.specs.declared.prefixes.Part.{Part}
 use Rattle.rnc_places.specs.plain.FaultNumbers.{behind_declaration, behind_first, behind_tildes, fault_number, from_equal, is_equal, is_tilde}
-use Rattle.rnc_places.specs.plain.FaultNumbers.{depth_after, first_of, is_unknown, marks, other_front, part_at, prefix_at, tilde_front, unknown_number, unless_applied}
+use Rattle.rnc_places.specs.plain.FaultNumbers.{depth_after, first_of, is_unknown, marks, other_front, part_at, prefix_at, tilde_front, unknown_number}
+use Rattle.rnc_places.specs.plain.FaultNumbers.{unless_applied}
 use Rattle.rnc_places.specs.declared.prefixes.Part.TheVariants.{Body}
 use Rattle.rnc_syntax.proofs.Lexemes.{length_of_lexemes}
 use Rattle.rnc_syntax.specs.declared.syntax_tree.Declaration as written

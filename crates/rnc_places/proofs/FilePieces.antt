@@ -5,8 +5,7 @@ use Rattle.std.proofs.lemmas.List.{length-append, append_assoc, map-append}
 use Rattle.std.proofs.lemmas.Option.{none-some}
 use Rattle.std.specs.Str.{encode_utf8_all}
 use Rattle.std.proofs.lemmas.Str.{encodes-append}
-use Rattle.rnc_model.specs.characters.Characters.{bytes_of, byte_length, number_of, numbers_of}
-use Rattle.rnc_model.specs.characters.Decoding.{Decodes, here, next_is}
+use Rattle.rnc_model.specs.characters.Decoding.{bytes_of, byte_length, number_of, numbers_of, Decodes, here, next_is}
 use Rattle.rnc_model.specs.declared.character.Character.{Character}
 use Rattle.rnc_model.specs.tokens.Cut as cut
 use Rattle.rnc_model.specs.tokens.Cut.{Cuts, Token, tokens_at, HasTokens, BreaksTokensAt}

@@ -9,16 +9,19 @@ use Rattle.rnc_grammar.proofs.DeclarationRules.{broken_where_stuck, declared_whe
 use Rattle.rnc_grammar.proofs.UsedPrefixes.{is_known}
 use Rattle.rnc_model.specs.declarations.DeclarationRules.{BreaksDeclarationRule, Declarable, datatype_prefix, default_namespace, namespace_prefix}
 use Rattle.rnc_model.specs.declarations.Declarations.{◌>>=◌, Scope, declare, declare_all, nothing_declared}
-use Rattle.rnc_model.specs.declarations.FaultyTokens.{BreakDeclarationRule, BreaksDeclarationsAt, HasUndeclaredPrefix, IsBrokenDeclaration, IsFaultyToken, declaration_numbers, in_body}
-use Rattle.rnc_model.specs.declarations.Parsing.{BreaksDeclarations}
+use Rattle.rnc_model.specs.declarations.FaultyTokens.{BreakDeclarationRule, HasUndeclaredPrefix, IsBrokenDeclaration, declaration_numbers, in_body}
+use Rattle.rnc_model.specs.loading.FaultPlaces.{BreaksDeclarationsAt, IsFaultyToken}
+use Rattle.rnc_model.specs.loading.SchemaFile.{BreaksDeclarations}
 use Rattle.rnc_model.specs.declared.token.Keyword.TheVariants as keywords
 use Rattle.rnc_model.specs.declared.token.Sign.TheVariants.{Equal, Tilde}
 use Rattle.rnc_model.specs.grammar.Grammar as grammar
-use Rattle.rnc_model.specs.grammar.Grammar.{AreDeclarations, IsBody, IsDeclaration, IsFile, IsLiteral, IsUri, word_of}
+use Rattle.rnc_model.specs.grammar.NameClasses as name_classes
+use Rattle.rnc_model.specs.grammar.Grammar.{AreDeclarations, IsBody, IsDeclaration, IsFile, IsUri}
+use Rattle.rnc_model.specs.grammar.NameClasses.{IsLiteral, word_of}
 use Rattle.rnc_model.specs.grammar.Syntax.{Declaration, File, Uri}
 use Rattle.rnc_model.specs.declared.token.Token as declared
 use Rattle.rnc_model.specs.tokens.CutTokens.{tokens_of}
-use Rattle.rnc_model.specs.tokens.Lexeme.{Lexeme, cname, identifier, keyword, lexemes, ns_name, segment, sign}
+use Rattle.rnc_model.specs.tokens.Cut.{Lexeme, cname, identifier, keyword, lexemes, ns_name, segment, sign}
 use Rattle.rng_model.specs.declared.fault.OutOfMemory.{OutOfMemory}
 use Rattle.rnc_syntax.proofs.Lexemes.{all_lexemes, count_of_lexemes}
 use Rattle.rnc_syntax.specs.plain.Reading.{lexemes_in}
@@ -113,8 +116,8 @@ single : (x : Lexeme) (rest : List Lexeme) → follow Tilde rest ≡ None → be
 single x rest f = no_tildes rest f
 
 literal_behind : {ts : List Lexeme} {v : List ℕ} → IsLiteral ts v → (rest : List Lexeme) → follow Tilde rest ≡ None → behind_value (ts ++ rest) ≡ rest
-literal_behind (grammar.one_segment {w = w} e) rest f = rw e (single (segment w) rest f)
-literal_behind (grammar.more_segments {a = a} p e g) rest f = rw e (tilde_skipped (sign Tilde ∷ (a ++ rest)) (a ++ rest) refl ∙ literal_behind p rest f)
+literal_behind (name_classes.one_segment {w = w} e) rest f = rw e (single (segment w) rest f)
+literal_behind (name_classes.more_segments {a = a} p e g) rest f = rw e (tilde_skipped (sign Tilde ∷ (a ++ rest)) (a ++ rest) refl ∙ literal_behind p rest f)
 
 uri_behind : {ts : List Lexeme} {u : Uri} → IsUri ts u → (rest : List Lexeme) → follow Tilde rest ≡ None → behind_value (ts ++ rest) ≡ rest
 uri_behind (grammar.inherit {s = s} e) rest f = rw e (single (keyword keywords.Inherit s) rest f)

@@ -2,7 +2,7 @@
 use Rattle.std.proofs.Common.{◌≡◌, ℕ, zero, suc, ◌+◌, ◌<◌, List, arith, subst}
 use Rattle.rnc_model.specs.grammar.Sentence.{nesting_limit}
 use Rattle.rnc_model.specs.loading.FaultPlaces.{IsTooDeepAt}
-use Rattle.rnc_model.specs.tokens.Lexeme.{Lexeme}
+use Rattle.rnc_model.specs.tokens.Cut.{Lexeme}
 use Rattle.rnc_syntax.proofs.NestingSteps.{IsFirst}
 
 -- `before` tokens come before `rest`; if the k-th token of `rest` is the first that is too deep there, it is the first

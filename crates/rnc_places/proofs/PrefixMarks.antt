@@ -3,8 +3,10 @@ use Rattle.std.proofs.Common.{◌≡◌, ◌∙◌, ap, ap₂, sym, subst, refl,
 use Rattle.std.proofs.lemmas.List.{append-nil, map-append}
 use Rattle.rng_model.specs.declared.method.Method.{Method}
 use Rattle.rng_model.specs.simple.Tree.{Connector}
-use Rattle.rnc_model.specs.declarations.DeclarationRules.{Declarable, namespace_prefix, prefixes_of_body, prefixes_of_class, prefixes_of_classes, prefixes_of_component}
-use Rattle.rnc_model.specs.declarations.DeclarationRules.{prefixes_of_components, prefixes_of_inherit, prefixes_of_pattern, prefixes_of_patterns, prefixes_of_type}
+use Rattle.rnc_model.specs.declarations.DeclarationRules.{Declarable, namespace_prefix, prefixes_of_body, prefixes_of_class, prefixes_of_classes}
+use Rattle.rnc_model.specs.declarations.DeclarationRules.{prefixes_of_component}
+use Rattle.rnc_model.specs.declarations.DeclarationRules.{prefixes_of_components, prefixes_of_inherit, prefixes_of_pattern, prefixes_of_patterns}
+use Rattle.rnc_model.specs.declarations.DeclarationRules.{prefixes_of_type}
 use Rattle.rnc_model.specs.declarations.FaultyTokens.{in_basic, in_bare_basic, in_bare_component, in_bare_primary, in_body, in_braced, in_class, in_component}
 use Rattle.rnc_model.specs.declarations.FaultyTokens.{in_components, in_inherit, in_more, in_more_classes, in_overrides, in_particle, in_pattern, in_primary}
 use Rattle.rnc_model.specs.declarations.FaultyTokens.{no_prefixes, prefix_of_type}
@@ -12,13 +14,16 @@ use Rattle.rnc_model.specs.declared.token.Keyword.TheVariants as keywords
 use Rattle.rnc_model.specs.declared.token.Sign.{Sign}
 use Rattle.rnc_model.specs.declared.token.Sign.TheVariants.{And, AndEqual, Bar, BarEqual, CloseBrace, CloseBracket, CloseParenthesis, Comma, Equal, Minus}
 use Rattle.rnc_model.specs.declared.token.Sign.TheVariants.{OpenBrace, OpenBracket, OpenParenthesis, Plus, Question, Star, Tilde}
+use Rattle.rnc_model.specs.grammar.NameClasses as name_classes
 use Rattle.rnc_model.specs.grammar.Grammar as grammar
-use Rattle.rnc_model.specs.grammar.Grammar.{AreComponents, AreMore, AreMoreClasses, AreParameters, IsAnnotationContent, IsBareBasic, IsBareComponent, IsBarePrimary}
-use Rattle.rnc_model.specs.grammar.Grammar.{IsBasic, IsBody, IsBraced, IsClass, IsComponent, IsLiteral, IsParticle, IsPattern, IsPrimary, MayBeAnnotation}
-use Rattle.rnc_model.specs.grammar.Grammar.{MayBeParameters, MayInherit, MayOverride, Setting, connector_of, is_bracket, method_of, type_of, word_of}
+use Rattle.rnc_model.specs.grammar.Grammar.{AreComponents, AreMore, IsBareComponent, IsBarePrimary}
+use Rattle.rnc_model.specs.grammar.NameClasses.{AreMoreClasses, AreParameters, IsAnnotationContent, IsBareBasic, IsBasic, IsClass, IsLiteral, MayBeAnnotation}
+use Rattle.rnc_model.specs.grammar.NameClasses.{MayBeParameters, MayInherit, connector_of, is_bracket, method_of, type_of, word_of}
+use Rattle.rnc_model.specs.grammar.Grammar.{IsBody, IsBraced, IsComponent, IsParticle, IsPattern, IsPrimary}
+use Rattle.rnc_model.specs.grammar.Grammar.{MayOverride, Setting}
 use Rattle.rnc_model.specs.grammar.Syntax as syntax
 use Rattle.rnc_model.specs.grammar.Syntax.{written}
-use Rattle.rnc_model.specs.tokens.Lexeme.{Lexeme, cname, identifier, keyword, ns_name, segment, sign}
+use Rattle.rnc_model.specs.tokens.Cut.{Lexeme, cname, identifier, keyword, ns_name, segment, sign}
 use Rattle.rnc_places.specs.declared.prefixes.Part.{Part}
 use Rattle.rnc_places.specs.declared.prefixes.Part.TheVariants.{Body, Class, Inherit, Prefix}
 use Rattle.rnc_places.specs.plain.FaultNumbers.{depth_after, marks, part_at, prefix_at}
@@ -117,10 +122,10 @@ inner_joined d a ts us p q =
     (subst (λ (k : ℕ). Marked k a (suc d) a us (no_prefixes us) []) one_less q))))
 
 content_marked : {ts : List Lexeme} → IsAnnotationContent ts → (d : ℕ) (a : Part) → Inner d a ts
-content_marked (grammar.no_content e) d a = subst (Inner d a) (sym e) (nothing (suc d) a)
-content_marked (grammar.and_token {a = ts} {x = x} other p e) d a = subst (Inner d a) (sym e)
+content_marked (name_classes.no_content e) d a = subst (Inner d a) (sym e) (nothing (suc d) a)
+content_marked (name_classes.and_token {a = ts} {x = x} other p e) d a = subst (Inner d a) (sym e)
     (token (suc d) a x refl (subst (λ (k : ℕ). Marked k a (suc d) a ts (no_prefixes ts) []) (sym (stays (suc d) x other)) (content_marked p d a)))
-content_marked (grammar.and_annotation {a = ts} {b = us} p q e) d a = subst (Inner d a) (sym e)
+content_marked (name_classes.and_annotation {a = ts} {b = us} p q e) d a = subst (Inner d a) (sym e)
     (inner_joined d a ts us (content_marked p (suc d) a) (content_marked q d a))
 
 opened : (a : Part) (b : Part) → part_at 0 a (sign OpenBracket) ≡ b → prefix_at 0 a (sign OpenBracket) ≡ None → part_at 1 b (sign CloseBracket) ≡ a
@@ -130,12 +135,12 @@ opened a b to none back ts p = with_marks (ap (λ (r : List (Option Declarable))
     (subst (λ (c : Part). Marked 1 b 0 c (ts ++ sign CloseBracket ∷ []) (no_prefixes ts ++ None ∷ []) []) back (closed 1 (sign CloseBracket) refl p))))
 
 body_note : {n : List Lexeme} → MayBeAnnotation n → Plain Body Body n
-body_note (grammar.without_annotation e) = subst (Plain Body Body) (sym e) (nothing 0 Body)
-body_note (grammar.with_annotation {a = ts} p e) = subst (Plain Body Body) (sym e) (opened Body Body refl refl refl ts (content_marked p 0 Body))
+body_note (name_classes.without_annotation e) = subst (Plain Body Body) (sym e) (nothing 0 Body)
+body_note (name_classes.with_annotation {a = ts} p e) = subst (Plain Body Body) (sym e) (opened Body Body refl refl refl ts (content_marked p 0 Body))
 
 class_note : {n : List Lexeme} → MayBeAnnotation n → Plain Class Class n
-class_note (grammar.without_annotation e) = subst (Plain Class Class) (sym e) (nothing 0 Class)
-class_note (grammar.with_annotation {a = ts} p e) = subst (Plain Class Class) (sym e) (opened Class Class refl refl refl ts (content_marked p 0 Class))
+class_note (name_classes.without_annotation e) = subst (Plain Class Class) (sym e) (nothing 0 Class)
+class_note (name_classes.with_annotation {a = ts} p e) = subst (Plain Class Class) (sym e) (opened Class Class refl refl refl ts (content_marked p 0 Class))
 
 -- ---- literals, parameters, and what mentions pass on
 
@@ -148,8 +153,8 @@ segment_marked a takes w ts p =
     token 0 a (segment w) (takes w).0 (subst (λ (b : Part). Marked 0 b 0 Body ts (no_prefixes ts) []) (sym (takes w).1) p)
 
 literal_marked : {ts : List Lexeme} {v : List ℕ} → IsLiteral ts v → (a : Part) → Takes a → Plain a Body ts
-literal_marked (grammar.one_segment {w = w} e) a takes = subst (Plain a Body) (sym e) (segment_marked a takes w [] (nothing 0 Body))
-literal_marked (grammar.more_segments {a = ts} {w = w} p e f) a takes = subst (Plain a Body) (sym e)
+literal_marked (name_classes.one_segment {w = w} e) a takes = subst (Plain a Body) (sym e) (segment_marked a takes w [] (nothing 0 Body))
+literal_marked (name_classes.more_segments {a = ts} {w = w} p e f) a takes = subst (Plain a Body) (sym e)
     (segment_marked a takes w (sign Tilde ∷ ts) (token 0 Body (sign Tilde) refl (literal_marked p Body (λ w. (refl, refl)))))
 
 literal_in_body : {ts : List Lexeme} {v : List ℕ} → IsLiteral ts v → Plain Body Body ts
@@ -166,13 +171,13 @@ equal_marked (keyword k s) w e p = token 0 Body (keyword k s) refl (token 0 Body
 equal_marked _ w e p = absurd cc
 
 parameters_marked : {ts : List Lexeme} {ps : List (List ℕ × List ℕ)} → AreParameters ts ps → Plain Body Body ts
-parameters_marked (grammar.no_parameters e) = subst (Plain Body Body) (sym e) (nothing 0 Body)
-parameters_marked (grammar.and_parameter {n = n} {a = ts} {b = us} {w = w} x may word p ps e) = subst (Plain Body Body) (sym e)
+parameters_marked (name_classes.no_parameters e) = subst (Plain Body Body) (sym e) (nothing 0 Body)
+parameters_marked (name_classes.and_parameter {n = n} {a = ts} {b = us} {w = w} x may word p ps e) = subst (Plain Body Body) (sym e)
     (both_plain (body_note may) (both_plain {ts = x ∷ sign Equal ∷ ts} (equal_marked x w word p) (parameters_marked ps)))
 
 may_parameters_marked : {ts : List Lexeme} {ps : List (List ℕ × List ℕ)} → MayBeParameters ts ps → Plain Body Body ts
-may_parameters_marked (grammar.without_parameters e) = subst (Plain Body Body) (sym e) (nothing 0 Body)
-may_parameters_marked (grammar.with_parameters {a = ts} p e) = subst (Plain Body Body) (sym e)
+may_parameters_marked (name_classes.without_parameters e) = subst (Plain Body Body) (sym e) (nothing 0 Body)
+may_parameters_marked (name_classes.with_parameters {a = ts} p e) = subst (Plain Body Body) (sym e)
     (token 0 Body (sign OpenBrace) refl (with_marks (no_prefixes_both ts (sign CloseBrace ∷ [])) (closed 0 (sign CloseBrace) refl (parameters_marked p))))
 
 word_prefix : (x : Lexeme) (w : List ℕ) → word_of x ≡ Some w → Marks Prefix Body (x ∷ []) (Some (namespace_prefix w) ∷ []) (namespace_prefix w ∷ [])
@@ -181,8 +186,8 @@ word_prefix (keyword k s) w e = record { reads = λ rest. ap (λ (o : Option (Li
 word_prefix _ w e = absurd cc
 
 inherit_marked : {ts : List Lexeme} {p : Option (List ℕ)} → (may : MayInherit ts p) → Marks Body Body ts (in_inherit may) (prefixes_of_inherit p)
-inherit_marked (grammar.without_inherit e) = is e (nothing 0 Body)
-inherit_marked (grammar.with_inherit {w = w} {x = x} {s = s} word e) =
+inherit_marked (name_classes.without_inherit e) = is e (nothing 0 Body)
+inherit_marked (name_classes.with_inherit {w = w} {x = x} {s = s} word e) =
     is e (token 0 Body (keyword keywords.Inherit s) refl (token 0 Inherit (sign Equal) refl (word_prefix x w word)))
 
 -- ---- name classes
@@ -202,28 +207,28 @@ ns_front p q = record {
 
 mutual
   class_marked : {ts : List Lexeme} {c : syntax.NameClass written} → (p : IsClass ts c) → Marks Class Class ts (in_class p) (prefixes_of_class c)
-  class_marked (grammar.basic_class p) = basic_marked p
-  class_marked (grammar.choice_class {c = c} {cs = cs} p q e f) =
+  class_marked (name_classes.basic_class p) = basic_marked p
+  class_marked (name_classes.choice_class {c = c} {cs = cs} p q e f) =
       with_prefixes (sym (ap prefixes_of_class f)) (is e (joined (basic_marked p) (more_classes_marked q)))
-  class_marked (grammar.any_except may p e) =
+  class_marked (name_classes.any_except may p e) =
       is e (joined (class_note may) (token 0 Class (sign Star) refl (token 0 Class (sign Minus) refl (basic_marked p))))
-  class_marked (grammar.ns_except {p = w} may p e) = is e (joined (class_note may) (ns_front w (token 0 Class (sign Minus) refl (basic_marked p))))
+  class_marked (name_classes.ns_except {p = w} may p e) = is e (joined (class_note may) (ns_front w (token 0 Class (sign Minus) refl (basic_marked p))))
 
   more_classes_marked : {ts : List Lexeme} {cs : List (syntax.NameClass written)} → (p : AreMoreClasses ts cs)
       → Marks Class Class ts (in_more_classes p) (prefixes_of_classes (syntax.classes_of cs))
-  more_classes_marked (grammar.last_class {c = c} p e) =
+  more_classes_marked (name_classes.last_class {c = c} p e) =
       with_prefixes (sym (append-nil (prefixes_of_class c))) (is e (token 0 Class (sign Bar) refl (basic_marked p)))
-  more_classes_marked (grammar.more_classes p q e) = is e (token 0 Class (sign Bar) refl (joined (basic_marked p) (more_classes_marked q)))
+  more_classes_marked (name_classes.more_classes p q e) = is e (token 0 Class (sign Bar) refl (joined (basic_marked p) (more_classes_marked q)))
 
   basic_marked : {ts : List Lexeme} {c : syntax.NameClass written} → (p : IsBasic ts c) → Marks Class Class ts (in_basic p) (prefixes_of_class c)
-  basic_marked (grammar.annotated_basic may p e) = is e (joined (class_note may) (bare_basic_marked p))
+  basic_marked (name_classes.annotated_basic may p e) = is e (joined (class_note may) (bare_basic_marked p))
 
   bare_basic_marked : {ts : List Lexeme} {c : syntax.NameClass written} → (p : IsBareBasic ts c) → Marks Class Class ts (in_bare_basic p) (prefixes_of_class c)
-  bare_basic_marked (grammar.word_class {x = x} {w = w} word e) = is e (word_in_class x w word)
-  bare_basic_marked (grammar.cname_class {p = p} {l = l} e) = is e (record { reads = λ rest. refl; are = refl })
-  bare_basic_marked (grammar.ns_class {p = p} e) = is e (ns_front p (nothing 0 Class))
-  bare_basic_marked (grammar.any_class e) = is e (token 0 Class (sign Star) refl (nothing 0 Class))
-  bare_basic_marked (grammar.class_in_parens p e) =
+  bare_basic_marked (name_classes.word_class {x = x} {w = w} word e) = is e (word_in_class x w word)
+  bare_basic_marked (name_classes.cname_class {p = p} {l = l} e) = is e (record { reads = λ rest. refl; are = refl })
+  bare_basic_marked (name_classes.ns_class {p = p} e) = is e (ns_front p (nothing 0 Class))
+  bare_basic_marked (name_classes.any_class e) = is e (token 0 Class (sign Star) refl (nothing 0 Class))
+  bare_basic_marked (name_classes.class_in_parens p e) =
       is e (token 0 Class (sign OpenParenthesis) refl (closed 0 (sign CloseParenthesis) refl (class_marked p)))
 
 -- ---- patterns and components

@@ -7,19 +7,16 @@ use Rattle.rnc_grammar.specs.declared.fault.ParseFault.TheVariants as faults
 use Rattle.rnc_grammar.specs.views.ParsingFaults.{IsFaultOf, unless_memory}
 use Rattle.rnc_grammar.specs.views.View.{file_of}
 use Rattle.rnc_model.specs.declarations.FileTree.{FileTree}
-use Rattle.rnc_model.specs.declarations.Parsing.{IsFileTree}
-use Rattle.rnc_model.specs.characters.Characters.{byte_length}
-use Rattle.rnc_model.specs.characters.Decoding.{BreaksCharactersAt, BreaksUtf8At, Decodes, IsDecoded, IsSpelling}
+use Rattle.rnc_model.specs.loading.SchemaFile.{IsFileTree, AreTokensOf, BreaksFileClause}
+use Rattle.rnc_model.specs.characters.Decoding.{byte_length, BreaksCharactersAt, BreaksUtf8At, Decodes, IsDecoded, IsSpelling}
 use Rattle.rnc_model.specs.characters.BrokenTexts.{BreaksTextAt}
 use Rattle.rnc_model.specs.characters.FilePlaces.{IsPlaceBehind, IsPlaceBetween}
 use Rattle.rnc_model.specs.declared.character.Character.{Character}
 use Rattle.rnc_model.specs.declared.file_place.FilePlace.{FilePlace}
 use Rattle.rnc_model.specs.loading.FaultPlaces.{BreaksClauseAt, IsPlaceOfToken}
 use Rattle.rnc_model.specs.loading.FaultPlaces as places
-use Rattle.rnc_model.specs.loading.SchemaFile.{AreTokensOf, BreaksFileClause}
 use Rattle.rnc_model.specs.loading.FileVerdicts.{ContentHasOnlyVerdict, breaks, has_tree}
-use Rattle.rnc_model.specs.tokens.Cut.{BreaksTokensAt, HasTokens, Token}
-use Rattle.rnc_model.specs.tokens.Lexeme.{lexemes}
+use Rattle.rnc_model.specs.tokens.Cut.{BreaksTokensAt, HasTokens, Token, lexemes}
 use Rattle.rnc_places.specs.views.Told.{BreaksAtToken, IsNumberOf, IsTold, clause_of, unexpected, too_deep, unruly}
 use Rattle.rnc_text.specs.declared.fault.TextFault.{TextFault}
 use Rattle.rnc_text.specs.declared.fault.TextFault.TheVariants as texts

@@ -1,10 +1,10 @@
 // Finding the declaration that breaks a rule.
 ghost use Rattle.std.specs.Prelude.{◌≡◌, ◌≤◌, ◌<◌, ℕ, List, IfOk, IfSome, length, map, option_map};
 ghost use Rattle.rnc_model.specs.declarations.Declarations.{nothing_declared};
-ghost use Rattle.rnc_model.specs.declarations.FaultyTokens.{BreaksDeclarationsAt};
-ghost use Rattle.rnc_model.specs.declarations.Parsing.{BreaksDeclarations};
+ghost use Rattle.rnc_model.specs.loading.FaultPlaces.{BreaksDeclarationsAt};
+ghost use Rattle.rnc_model.specs.loading.SchemaFile.{BreaksDeclarations};
 ghost use Rattle.rnc_model.specs.tokens.CutTokens.{tokens_of};
-ghost use Rattle.rnc_model.specs.tokens.Lexeme.{lexemes};
+ghost use Rattle.rnc_model.specs.tokens.Cut.{lexemes};
 ghost use Rattle.rnc_places.specs.plain.FaultNumbers as plain;
 ghost use Rattle.rnc_syntax.specs.plain.Reading.{lexemes_in};
 ghost use Rattle.rnc_syntax.specs.views.SyntaxView.{declaration_of};

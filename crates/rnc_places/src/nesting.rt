@@ -3,7 +3,7 @@ ghost use Rattle.std.specs.Prelude.{◌≡◌, []};
 ghost use Rattle.rnc_model.specs.grammar.Sentence.{BreaksNesting, is_closing, is_opening};
 ghost use Rattle.rnc_model.specs.loading.FaultPlaces.{IsTooDeepAt};
 ghost use Rattle.rnc_model.specs.tokens.CutTokens.{tokens_of};
-ghost use Rattle.rnc_model.specs.tokens.Lexeme.{lexeme_at, lexemes};
+ghost use Rattle.rnc_model.specs.tokens.Cut.{lexeme_at, lexemes};
 
 use rnc_model::{Sign, Token, TokenKind};
 

@@ -1,14 +1,12 @@
 // The place at which a file breaks a clause.
 ghost use Rattle.std.specs.Prelude.{◌≡◌, List, IfOk, IfSome, IsSome};
 ghost use Rattle.rnc_grammar.specs.views.ParsingFaults.{IsFaultOf};
-ghost use Rattle.rnc_model.specs.characters.Characters.{byte_length};
-ghost use Rattle.rnc_model.specs.characters.Decoding.{IsDecoded};
+ghost use Rattle.rnc_model.specs.characters.Decoding.{byte_length, IsDecoded};
 ghost use Rattle.rnc_model.specs.declared.character.Character.{Character};
 ghost use Rattle.rnc_model.specs.loading.FaultPlaces.{BreaksClauseAt, IsPlaceOfToken};
 ghost use Rattle.rnc_model.specs.loading.SchemaFile.{BreaksFileClause};
-ghost use Rattle.rnc_model.specs.tokens.Cut.{HasTokens};
+ghost use Rattle.rnc_model.specs.tokens.Cut.{HasTokens, lexemes};
 ghost use Rattle.rnc_model.specs.tokens.CutTokens.{tokens_of};
-ghost use Rattle.rnc_model.specs.tokens.Lexeme.{lexemes};
 ghost use Rattle.rnc_places.specs.views.Told.{IsNumberOf, IsTold};
 
 use crate::declarations::unruly_number;

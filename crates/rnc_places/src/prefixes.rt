@@ -2,8 +2,8 @@
 ghost use Rattle.std.specs.Prelude.{◌≡◌, ◌≤◌, ◌<◌, ◌^◌, ◌-◌, ◌+◌, ℕ, List, IfOk, IfSome, is_none, length, option_map};
 ghost use Rattle.rnc_grammar.specs.views.Resolved.{scope_view};
 ghost use Rattle.rnc_model.specs.declarations.Declarations.{library_in, namespace_in};
-ghost use Rattle.rnc_model.specs.tokens.Lexeme as lexeme;
-ghost use Rattle.rnc_model.specs.tokens.Lexeme.{lexeme_at};
+ghost use Rattle.rnc_model.specs.tokens.Cut as lexeme;
+ghost use Rattle.rnc_model.specs.tokens.Cut.{lexeme_at};
 ghost use Rattle.rnc_places.specs.plain.FaultNumbers as plain;
 ghost use Rattle.rnc_places.specs.plain.FaultNumbers.{is_unknown, marks, unknown_number};
 ghost use Rattle.rnc_places.specs.declared.prefixes.Part.TheVariants as parts;

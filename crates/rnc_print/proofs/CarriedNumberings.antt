@@ -3,7 +3,7 @@ use Rattle.std.proofs.Common.{◌≡◌, ◌∙◌, Bool, true, false, cond, Lis
 use Rattle.std.specs.Prelude.{Contains}
 use Rattle.std.specs.List.{AllByRecursion}
 use Rattle.rng_model.proofs.Members.{contains_mapped}
-use Rattle.rncv_model.specs.printed.Numbering.{has, with_new, and_new, first_times, place_in, IsReached, at_start, in_line, IsNumbering}
+use Rattle.rncv_model.specs.printed.Items.{has, with_new, and_new, first_times, place_in, IsReached, at_start, in_line, IsNumbering}
 use Rattle.rnc_print.proofs.Numberings.{all_contained, all_append}
 
 pub map_append : {A B : Type 0} (f : A → B) (xs ys : List A) → map f (xs ++ ys) ≡ map f xs ++ map f ys

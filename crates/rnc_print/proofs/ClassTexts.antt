@@ -7,7 +7,7 @@ use Rattle.rng_model.proofs.ChoiceViews.{choice_is}
 use Rattle.rng_model.specs.names.Names.{no_classes, one_of, some_of}
 use Rattle.rng_model.specs.names.NameViews.{class_of}
 use Rattle.rng_model.specs.declared.name.NameClass.{NameClass, Choice}
-use Rattle.rncv_model.specs.printed.PrintedText.{class_text, in_parentheses_if, is_choice, is_except}
+use Rattle.rncv_model.specs.printed.Words.{class_text, in_parentheses_if, is_choice, is_except}
 
 two_items : {A : Type 0} (xs : List A) (l r : A) → 2 ≤ length xs → length xs < 3 → l ≡ get_or xs 0 l → r ≡ get_or xs 1 r → xs ≡ l ∷ r ∷ []
 two_items [] l r a b e f = absurd (omega (arith, a))

@@ -4,9 +4,8 @@ use Rattle.std.specs.List.{AllByRecursion}
 use Rattle.std.proofs.lemmas.List.{append-nil, length-map, take_all, take_more, take-append-le}
 use Rattle.std.proofs.Math.ListN.{get_or-map}
 use Rattle.rng_model.specs.simple.Table.{Table, grammar_of}
-use Rattle.rncv_model.specs.printed.Numbering.{and_new, first_times, IsReached, at_start, in_line}
-use Rattle.rncv_model.specs.printed.PrintedText as text
-use Rattle.rncv_model.specs.printed.PrintedText.{IsItemsOf, item_of, mentions, same_item}
+use Rattle.rncv_model.specs.printed.Items.{and_new, first_times, IsReached, at_start, in_line, IsItemsOf, named_item, mentions, same_item}
+use Rattle.rncv_model.specs.printed.Items as text
 use Rattle.rnc_print.specs.views.Items.{AreItems, item_at, items_seen}
 use Rattle.rnc_print.specs.declared.items.Item.{Item}
 use Rattle.rnc_print.specs.declared.items.Items.{Items}
@@ -15,13 +14,13 @@ use Rattle.rnc_print.proofs.ListLookups.{each_at}
 use Rattle.rnc_print.proofs.Numberings.{all_each, and_all, and_fresh, fresh, written_more}
 
 module _ (t : Table) where
-  abbrev first : List text.Item
-  first = item_of (grammar_of t).start
+  abbrev first : List text.PrintedItem
+  first = named_item (grammar_of t).start
 
-  abbrev line : text.Item → List text.Item
+  abbrev line : text.PrintedItem → List text.PrintedItem
   line = mentions (grammar_of t)
 
-  abbrev written : List text.Item → List text.Item
+  abbrev written : List text.PrintedItem → List text.PrintedItem
   written done = first_times same_item (first ++ flat_map line done)
 
   -- the first n of the items have their lines

@@ -9,10 +9,9 @@ use Rattle.rng_model.proofs.Truths.{same_truth}
 use Rattle.rng_model.specs.simple.Table.{Table, tree_at}
 use Rattle.rng_model.specs.declared.simple.ElementId.{ElementId}
 use Rattle.rng_model.specs.declared.simple.PatternId.{PatternId}
-use Rattle.rncv_model.specs.printed.Numbering.{has, and_new, place_in}
-use Rattle.rncv_model.specs.printed.Same.{same_tree}
-use Rattle.rncv_model.specs.printed.PrintedText as text
-use Rattle.rncv_model.specs.printed.PrintedText.{same_item, element_in, pattern_in, item_name}
+use Rattle.rncv_model.specs.printed.Items.{has, and_new, place_in, same_tree, same_item}
+use Rattle.rncv_model.specs.printed.Items as text
+use Rattle.rncv_model.specs.printed.PrintedText.{element_in, pattern_in, item_name}
 use Rattle.rnc_print.specs.plain.PatternCodes.{number_at}
 use Rattle.rnc_print.specs.views.Items.{AreIndexed, AreItems, AreWith, IsInside, element_of, item_at, items_seen, numbered_name, same_number, tree_number}
 use Rattle.rnc_print.specs.views.TreeNumbers.{AreTreeNumbers}
@@ -52,7 +51,7 @@ items_with t old new x h i w = record {
 }
 
 -- what is written for a pattern that is an item
-pub seen_one : (t : Table) (old new : Items) (x : Item) (is : List text.Item) → AreItems t old → IsInside t x → AreWith old x new
+pub seen_one : (t : Table) (old new : Items) (x : Item) (is : List text.PrintedItem) → AreItems t old → IsInside t x → AreWith old x new
     → map (item_at t) (x ∷ []) ≡ is → items_seen t new ≡ and_new same_item (items_seen t old) is
 seen_one t old new x is h i w m =
     ap (map (item_at t)) w.all

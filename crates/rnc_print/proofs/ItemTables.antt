@@ -13,7 +13,7 @@ use Rattle.rng_model.specs.simple.TableRules.{IsTable, IsLeafListed, IsPaired, I
 use Rattle.rng_model.specs.declared.name.NameClass.{NameClass}
 use Rattle.rng_model.specs.declared.simple.PatternId.{PatternId}
 use Rattle.rng_model.specs.declared.simple.Simple.{Simple}
-use Rattle.rncv_model.specs.printed.PrintedText.{element_at}
+use Rattle.rncv_model.specs.printed.Items.{element_at}
 
 module _ (t : Table) (h : IsTable t) where
   pub leaf_listed : (k : ℕ) (p : Simple) → slice_get t.patterns k ≡ Some p → IsLeafListed (length t.elements) p

@@ -1,6 +1,6 @@
 -- Lines, one after the other.
 use Rattle.std.proofs.Common.{◌≡◌, ◌∙◌, ℕ, ◌+◌, ◌≤◌, ◌<◌, List, [], ◌∷◌, ◌++◌, length, map, take, flat_map, get_or, sym, ap, append_assoc, codes}
-use Rattle.rncv_model.specs.printed.PrintedText.{line}
+use Rattle.rncv_model.specs.printed.PrintedText.{definition_line}
 use Rattle.std.proofs.lemmas.List.{flat_map_more, map-append, take_all, take_more}
 
 module _ {A B : Type 0} (f : B → List ℕ) (v : A → B) (old : List ℕ) where
@@ -20,7 +20,7 @@ module _ {A B : Type 0} (f : B → List ℕ) (v : A → B) (old : List ℕ) wher
 -- a line, part by part
 pub line_written : (old name w given named tied texted new : List ℕ) → named ≡ old ++ given → given ≡ name → tied ≡ named ++ codes " = " → texted ≡ tied ++ w
     → new ≡ texted ++ 0xA ∷ []
-    → new ≡ old ++ line name w
+    → new ≡ old ++ definition_line name w
 line_written old name w given named tied texted new a b c d e =
     e ∙ ap (λ x. x ++ 0xA ∷ []) (d ∙ ap (λ x. x ++ w) (c ∙ ap (λ x. x ++ codes " = ") (a ∙ ap (λ x. old ++ x) b)))
     ∙ append_assoc ((old ++ name) ++ codes " = ") w (0xA ∷ []) ∙ append_assoc (old ++ name) (codes " = ") (w ++ 0xA ∷ [])

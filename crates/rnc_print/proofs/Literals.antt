@@ -3,7 +3,7 @@ use Rattle.std.proofs.Common.{◌≡◌, ◌∙◌, ℕ, suc, ◌+◌, ◌≤◌
 use Rattle.std.proofs.Common.{ap, append_assoc, codes, drop-cons}
 use Rattle.std.specs.Prelude.{◌==◌}
 use Rattle.std.proofs.lemmas.Bool.{eqb-true}
-use Rattle.rncv_model.specs.printed.PrintedText.{delimiter, with_character, runs_of, escaped, more_runs, joined_runs, literal}
+use Rattle.rncv_model.specs.printed.Words.{delimiter, with_character, runs_of, escaped, more_runs, joined_runs, literal}
 use Rattle.rnc_print.specs.plain.Literals.{byte_text, open_text}
 use Rattle.rnc_print.proofs.SameTests.{number_itself}
 

@@ -7,8 +7,8 @@ use Rattle.std.proofs.lemmas.Grind.{flat_map-append}
 use Rattle.rng_model.proofs.Texts.{bytes_same, bytes_itself}
 use Rattle.indexmap.specs.IndexSet.{insert_key}
 use Rattle.rng_model.specs.names.Names as names
-use Rattle.rng_model.specs.names.Names.{classes_of, some_of}
-use Rattle.rncv_model.specs.printed.Numbering.{and_new, with_new}
+use Rattle.rng_model.specs.names.Names.{class_list, some_of}
+use Rattle.rncv_model.specs.printed.Items.{and_new, with_new}
 use Rattle.rncv_model.specs.printed.PrintedText.{namespaces_in, namespaces_among}
 use Rattle.rnc_print.proofs.CarriedNumberings.{with_map}
 use Rattle.rnc_print.proofs.Numberings.{and_append}
@@ -28,7 +28,7 @@ place_seen u (k ∷ ks) = ap (λ n. cond (not (bytes_eq u k.now)) (1 + n) 0) (pl
 
 -- the namespaces of a choice are those of its members
 module _ {A : Type 0} (view : A → names.NameClass) where
-  among : (xs : List A) → namespaces_among (classes_of (map view xs)) ≡ flat_map (λ c. namespaces_in (view c)) xs
+  among : (xs : List A) → namespaces_among (class_list (map view xs)) ≡ flat_map (λ c. namespaces_in (view c)) xs
   among [] = refl
   among (x ∷ xs) = ap (λ z. namespaces_in (view x) ++ z) (among xs)
 

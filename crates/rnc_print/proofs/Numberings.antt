@@ -6,7 +6,7 @@ use Rattle.std.specs.List.{AllByRecursion}
 use Rattle.std.proofs.lemmas.Bool.{or_cases, or_right, or_left}
 use Rattle.std.proofs.lemmas.List.{append-nil}
 use Rattle.rng_model.proofs.Members.{not_in_none, first_or_later}
-use Rattle.rncv_model.specs.printed.Numbering.{has, with_new, and_new, first_times, IsReached, at_start, in_line, IsNumbering}
+use Rattle.rncv_model.specs.printed.Items.{has, with_new, and_new, first_times, IsReached, at_start, in_line, IsNumbering}
 use Rattle.rncv_model.specs.printed.NumberingSteps.{numbered_from, numbered}
 use Rattle.rnc_print.proofs.FailedTests.{false_true}
 

@@ -12,7 +12,7 @@ use Rattle.rng_model.specs.simple.SchemaForm.{Element, SimpleForm, IsElementOf, 
 use Rattle.rng_model.specs.simple.Grammar.{Grammar}
 use Rattle.rng_model.specs.simple.Tree.{Simple, s_not_allowed, as_tree}
 use Rattle.rng_model.specs.schema.Unfolding.{Leaf}
-use Rattle.rncv_model.specs.printed.PrintedText.{element_at}
+use Rattle.rncv_model.specs.printed.Items.{element_at}
 use Rattle.rnc_print.specs.plain.Renumbered.{renumbered, AreSameUpToNumbering}
 use Rattle.rncv_model.specs.printed.SchemaText.{IsPrintedForm}
 use Rattle.rnc_print.proofs.FailedTests.{false_true}

@@ -5,10 +5,11 @@ use Rattle.std.specs.Str.{bytes_eq}
 use Rattle.std.proofs.lemmas.Bool.{and_parts, eqb-true, eq-eqb, and_from}
 use Rattle.rng_model.proofs.Texts.{bytes_same, bytes_itself, bytes_differ}
 use Rattle.rng_model.specs.names.Names.{Name, NameClass, any_name, any_except, ns_name, ns_except, name_is, one_of, NameClasses, no_classes, class_and}
-use Rattle.rng_model.specs.simple.Tree.{Datatype, Connector, choice, group, interleave, Simple, s_not_allowed, s_empty, s_text, s_leaf, s_attribute, s_list, s_data}
+use Rattle.rng_model.specs.simple.Tree.{Datatype, Connector, choice, group, interleave, Simple, s_not_allowed, s_empty, s_text, s_leaf, s_attribute, s_list}
+use Rattle.rng_model.specs.simple.Tree.{s_data}
 use Rattle.rng_model.specs.simple.Tree.{s_data_except, s_value, s_one_or_more, s_joined}
-use Rattle.rncv_model.specs.printed.Same.{same_name, same_class, same_classes, same_parameters, same_datatype, same_connector, same_tree}
-use Rattle.rncv_model.specs.printed.PrintedText.{Item, element, pattern, same_item}
+use Rattle.rncv_model.specs.printed.Items.{same_expanded_name, same_class, same_classes, same_parameters, same_datatype, same_connector, same_tree, PrintedItem}
+use Rattle.rncv_model.specs.printed.Items.{element, pattern, same_item}
 use Rattle.rnc_print.proofs.FailedTests.{false_true}
 
 pub number_itself : (n : ℕ) → (n == n) ≡ true
@@ -17,10 +18,10 @@ number_itself n = eq-eqb n n refl
 pub bytes_other_way : (v w : List ℕ) → bytes_eq v w ≡ false → bytes_eq w v ≡ false
 bytes_other_way v w e = bytes_differ w v (λ h. false_true (sym e ∙ subst (λ (x : List ℕ). bytes_eq v x ≡ true) (sym h) (bytes_itself v)))
 
-name_itself : (n : Name) → same_name n n ≡ true
+name_itself : (n : Name) → same_expanded_name n n ≡ true
 name_itself n = and_from (bytes_eq n.ns n.ns) _ (bytes_itself n.ns) (bytes_itself n.local)
 
-name_exact : (n m : Name) → same_name n m ≡ true → n ≡ m
+name_exact : (n m : Name) → same_expanded_name n m ≡ true → n ≡ m
 name_exact n m e =
     let p = and_parts (bytes_eq n.ns m.ns) (bytes_eq n.local m.local) e in
     let a = bytes_same n.ns m.ns p.0 in
@@ -159,11 +160,11 @@ tree_exact (s_joined k a b) (s_joined l c d) e =
     cc
 tree_exact _ _ e = absurd (false_true e)
 
-pub item_itself : (i : Item) → same_item i i ≡ true
+pub item_itself : (i : PrintedItem) → same_item i i ≡ true
 item_itself (element k) = number_itself k
 item_itself (pattern s) = tree_itself s
 
-pub item_exact : (i j : Item) → same_item i j ≡ true → i ≡ j
+pub item_exact : (i j : PrintedItem) → same_item i j ≡ true → i ≡ j
 item_exact (element k) (element l) e = ap element (eqb-true k l e)
 item_exact (pattern s) (pattern u) e = ap pattern (tree_exact s u e)
 item_exact (element k) (pattern s) e = absurd (false_true e)

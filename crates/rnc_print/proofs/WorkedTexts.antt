@@ -8,11 +8,13 @@ use Rattle.rng_model.specs.simple.Tree.{Datatype, choice, group, Simple, s_not_a
 use Rattle.rng_model.specs.simple.Tree.{s_one_or_more, s_joined}
 use Rattle.rng_model.specs.simple.Grammar.{Grammar}
 use Rattle.rncv_model.specs.printed.NumberingSteps.{numbered, numbered_from}
-use Rattle.rncv_model.specs.printed.PrintedText.{Item, element, same_item, item_of, mentions, text_of, literal, class_text}
+use Rattle.rncv_model.specs.printed.Items.{PrintedItem, element, same_item, named_item, mentions}
+use Rattle.rncv_model.specs.printed.PrintedText.{text_of}
+use Rattle.rncv_model.specs.printed.Words.{literal, class_text}
 
 -- the items as the steps give them
-abbrev items_by : ℕ → Grammar → List Item
-items_by steps g = numbered same_item steps (item_of g.start) (mentions g)
+abbrev items_by : ℕ → Grammar → List PrintedItem
+items_by steps g = numbered same_item steps (named_item g.start) (mentions g)
 
 -- `decimal` does not compute
 zero_text : decimal 0 ≡ codes "0"

@@ -1,7 +1,7 @@
 // Datatypes with their parameters.
 ghost use Rattle.std.specs.Prelude.{◌≡◌, ◌++◌, OnOk, codes, map, string_bytes};
 ghost use Rattle.rng_model.specs.datatypes.DatatypeViews.{datatype_of, parameter_of};
-ghost use Rattle.rncv_model.specs.printed.PrintedText.{datatype_text, literal, parameter_text, parameters_text};
+ghost use Rattle.rncv_model.specs.printed.Words.{datatype_text, literal, parameter_text, parameters_text};
 ghost use Rattle.rnc_print.specs.plain.Parts.{named_type_text};
 
 use crate::literal::write_literal;

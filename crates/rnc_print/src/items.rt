@@ -3,8 +3,7 @@ ghost use Rattle.std.specs.Prelude.{◌≡◌, ◌<◌, ◌++◌, decimal, IfSom
 ghost use Rattle.rng_model.specs.simple.Table.{grammar_of, tree_at};
 ghost use Rattle.rng_model.specs.simple.TableRules.{IsTable};
 ghost use Rattle.rnc_print.specs.declared.items.Item.TheVariants as items;
-ghost use Rattle.rncv_model.specs.printed.Numbering.{and_new};
-ghost use Rattle.rncv_model.specs.printed.PrintedText.{IsItemsOf, item_of, mentions, parts_of, same_item};
+ghost use Rattle.rncv_model.specs.printed.Items.{and_new, IsItemsOf, named_item, mentions, parts_of, same_item};
 ghost use Rattle.rnc_print.specs.plain.PatternCodes.{number_at};
 ghost use Rattle.rnc_print.specs.views.Items.{AreIndexed, AreItems, AreWith, IsInside, item_at, items_seen, numbered_name};
 
@@ -103,7 +102,7 @@ impl Items {
         requires inside { id.0 < length grammar.now.patterns }
         ensures items { OnOk result (AreItems grammar.now self.new) }
         ensures added { OnOk result (items_seen grammar.now self.new
-            ≡ and_new same_item (items_seen grammar.now self.old) (item_of (tree_at grammar.now.patterns id))) }
+            ≡ and_new same_item (items_seen grammar.now self.old) (named_item (tree_at grammar.now.patterns id))) }
     {
         match item_of(grammar, id) {
             Some(item) => self.add(item),
@@ -197,7 +196,7 @@ pub(crate) fn write_numbered(
 fn item_of(grammar: &SimpleGrammar, id: PatternId) -> Option<Item>
     requires table { IsTable grammar.now }
     requires inside { id.0 < length grammar.now.patterns }
-    ensures item { map (item_at grammar.now) (option_to_list result) ≡ item_of (tree_at grammar.now.patterns id) }
+    ensures item { map (item_at grammar.now) (option_to_list result) ≡ named_item (tree_at grammar.now.patterns id) }
     ensures inside { IfSome result (IsInside grammar.now) }
 {
     match grammar.pattern(id)? {

@@ -3,7 +3,8 @@ ghost use Rattle.std.specs.Prelude.{◌≡◌, ◌<◌, ◌++◌, OnOk, codes, f
 ghost use Rattle.rng_model.specs.simple.Table.{grammar_of, tree_at};
 ghost use Rattle.rng_model.specs.simple.TableRules.{IsPaired};
 ghost use Rattle.rng_model.specs.names.NameViews.{class_of};
-ghost use Rattle.rncv_model.specs.printed.PrintedText.{class_text, item_line, item_text, line, namespace_line, pattern_text, reference};
+ghost use Rattle.rncv_model.specs.printed.Words.{class_text};
+ghost use Rattle.rncv_model.specs.printed.PrintedText.{item_line, item_text, definition_line, namespace_line, pattern_text, reference};
 ghost use Rattle.rnc_print.specs.views.Items.{AreItems, IsInside, item_at, items_seen};
 ghost use Rattle.rnc_print.specs.plain.Lines.{braced_text};
 ghost use Rattle.rnc_print.specs.views.Prefixes.{namespaces_seen};
@@ -41,7 +42,7 @@ impl<'a, 'b> Lines<'a, 'b> {
     pub(crate) fn write_start(&self, text: &mut Vec<u8>) -> Result<(), OutOfMemory>
         requires { AreItems self.now.grammar.now self.now.items.now }
         ensures { OnOk result (text.new.items ≡ text.old.items
-            ++ line (codes "start") (reference (items_seen self.now.grammar.now self.now.items.now) (grammar_of self.now.grammar.now).start)) }
+            ++ definition_line (codes "start") (reference (items_seen self.now.grammar.now self.now.items.now) (grammar_of self.now.grammar.now).start)) }
     {
         text.extend_from_slice(b"start = ")?;
         self.write_reference(self.grammar.start(), text)?;

@@ -3,7 +3,7 @@ ghost use Rattle.std.specs.Prelude.{◌≡◌, ◌++◌, ◌||◌, OnOk};
 ghost use Rattle.rng_model.specs.names.Names as names;
 ghost use Rattle.rng_model.specs.simple.TableRules.{IsPaired};
 ghost use Rattle.rng_model.specs.names.NameViews.{class_of, name_of};
-ghost use Rattle.rncv_model.specs.printed.PrintedText.{class_text, in_parentheses_if, is_choice, is_except};
+ghost use Rattle.rncv_model.specs.printed.Words.{class_text, in_parentheses_if, is_choice, is_except};
 ghost use Rattle.rnc_print.specs.views.Prefixes.{namespaces_seen};
 
 use crate::prefixes::Prefixes;

@@ -4,8 +4,9 @@ ghost use Rattle.std.specs.List.{AllByRecursion};
 ghost use Rattle.std.specs.Str.{bytes_eq};
 ghost use Rattle.rng_model.specs.simple.Table.{grammar_of};
 ghost use Rattle.rng_model.specs.names.NameViews.{class_of};
-ghost use Rattle.rncv_model.specs.printed.Numbering.{and_new, with_new};
-ghost use Rattle.rncv_model.specs.printed.PrintedText.{namespaces, namespaces_in, namespaces_of, prefix_of};
+ghost use Rattle.rncv_model.specs.printed.Items.{and_new, with_new};
+ghost use Rattle.rncv_model.specs.printed.PrintedText.{namespaces, namespaces_in, namespaces_of};
+ghost use Rattle.rncv_model.specs.printed.Words.{prefix_of};
 ghost use Rattle.rnc_print.specs.views.Items.{IsInside, item_at};
 ghost use Rattle.rnc_print.specs.views.Prefixes.{namespaces_seen};
 

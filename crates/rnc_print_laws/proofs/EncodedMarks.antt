@@ -7,8 +7,8 @@ use Rattle.std.specs.Char.{encode_utf8}
 use Rattle.std.proofs.lemmas.Bool.{ne_eqb, eqb-true, and_parts, lt-ltb, le-ltb, ltb-true, ltb-false, and_from}
 use Rattle.std.proofs.lemmas.List.{append-nil}
 use Rattle.std.proofs.lemmas.Str.{encodes-append, encode_ascii}
-use Rattle.rng_model.specs.names.Characters.{is_xml_char}
-use Rattle.rncv_model.specs.printed.PrintedText.{delimiter, with_character, runs_of, escaped}
+use Rattle.rng_model.specs.names.Names.{is_xml_char}
+use Rattle.rncv_model.specs.printed.Words.{delimiter, with_character, runs_of, escaped}
 use Rattle.rnc_text.specs.plain.Marks.{is_within}
 use Rattle.rnc_model.specs.tokens.Tokens.{is_quote}
 use Rattle.std.proofs.lemmas.Bool.{false≢true}

@@ -4,10 +4,10 @@ use Rattle.std.specs.Prelude.{◌&&◌, ◌==◌}
 use Rattle.std.specs.Char.{is_digit, IsScalar}
 use Rattle.std.specs.Str.{all_scalars}
 use Rattle.std.proofs.lemmas.Bool.{eqb-true, eqb-false}
-use Rattle.rng_model.specs.names.Characters.{is_xml_char}
+use Rattle.rng_model.specs.names.Names.{is_xml_char}
 use Rattle.rnc_model.specs.declared.character.Character.TheVariants.{Ordinary}
 use Rattle.rnc_model.specs.characters.Decoding.{AreDigits, hexadecimal, OpensEscape, Begins, escape, other}
-use Rattle.rncv_model.specs.printed.PrintedText.{escaped}
+use Rattle.rncv_model.specs.printed.Words.{escaped}
 use Rattle.rnc_text.specs.plain.Marks.{IsReadBack}
 
 no_escape : (c : ℕ) (rest : List ℕ) → c ≢ 0x5C → ¬ (OpensEscape (c ∷ rest))

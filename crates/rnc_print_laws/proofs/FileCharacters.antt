@@ -7,11 +7,10 @@ use Rattle.std.proofs.lemmas.Bool.{and_parts, or_cases, lt-ltb, le-ltb, le-leb, 
 use Rattle.std.proofs.lemmas.Str.{chars-encodes}
 use Rattle.rnc_text.proofs.MarkScalars.{ends}
 use Rattle.rng_model.proofs.Truths.{no_truth}
-use Rattle.rng_model.specs.names.Characters.{is_xml_char, is_ncname}
-use Rattle.rnc_model.specs.characters.Characters.{number_of, numbers_of, bytes_of}
+use Rattle.rng_model.specs.names.Names.{is_xml_char, is_ncname}
+use Rattle.rnc_model.specs.characters.Decoding.{number_of, numbers_of, bytes_of, Begins, Decodes, IsDecoded}
 use Rattle.rnc_model.specs.tokens.Cut.{IsNext, Cuts}
 use Rattle.rnc_model.specs.tokens.Cut as cut
-use Rattle.rnc_model.specs.characters.Decoding.{Begins, Decodes, IsDecoded}
 use Rattle.rnc_model.specs.characters.Decoding as decoding
 use Rattle.rnc_model.specs.tokens.Tokens.{Piece, characters_in, IsPiece, IsNcname}
 use Rattle.rnc_model.specs.declared.character.Character.{Character}

@@ -1,7 +1,9 @@
 -- A name class with its first members taken apart nests to the same class. The same holds for each class in a tree.
 use Rattle.std.proofs.Common.{◌≡◌, ◌∙◌, refl, ap, ap₂, List, ◌∷◌, ◌++◌}
-use Rattle.rng_model.specs.names.Names.{NameClass, any_name, any_except, ns_name, ns_except, name_is, one_of, NameClasses, no_classes, class_and, classes_of, some_of}
-use Rattle.rng_model.specs.simple.Tree.{Simple, s_not_allowed, s_empty, s_text, s_leaf, s_attribute, s_list, s_data, s_data_except, s_value, s_one_or_more, s_joined}
+use Rattle.rng_model.specs.names.Names.{NameClass, any_name, any_except, ns_name, ns_except, name_is, one_of, NameClasses, no_classes, class_and, class_list}
+use Rattle.rng_model.specs.names.Names.{some_of}
+use Rattle.rng_model.specs.simple.Tree.{Simple, s_not_allowed, s_empty, s_text, s_leaf, s_attribute, s_list, s_data, s_data_except, s_value, s_one_or_more}
+use Rattle.rng_model.specs.simple.Tree.{s_joined}
 use Rattle.rng_model.specs.simple.Tree.{as_tree}
 use Rattle.rng_model.specs.simple.Leaves.{LeafIn}
 use Rattle.rng_model.specs.simple.Leaves as at
@@ -11,12 +13,12 @@ use Rattle.rnc_print_laws.specs.plain.LinesSchema.{list_of, members_in, flattene
 
 -- one class more after members, followed by others
 after_members : (e : NameClass) (cs : NameClasses) (x : NameClass) (xs : List NameClass)
-    → nested_after e (classes_of (list_of cs ++ x ∷ xs)) ≡ nested_after (one_of (nested_after e cs) (nested x) no_classes) (classes_of xs)
+    → nested_after e (class_list (list_of cs ++ x ∷ xs)) ≡ nested_after (one_of (nested_after e cs) (nested x) no_classes) (class_list xs)
 after_members e no_classes x xs = refl
 after_members e (class_and d ds) x xs = after_members (one_of e (nested d) no_classes) ds x xs
 
 nested_members : (c x : NameClass) (xs : List NameClass)
-    → nested (some_of (members_in c ++ x ∷ xs)) ≡ nested_after (one_of (nested c) (nested x) no_classes) (classes_of xs)
+    → nested (some_of (members_in c ++ x ∷ xs)) ≡ nested_after (one_of (nested c) (nested x) no_classes) (class_list xs)
 nested_members any_name x xs = refl
 nested_members (any_except c) x xs = refl
 nested_members (ns_name u) x xs = refl
@@ -33,13 +35,13 @@ mutual
   nested_flattened (name_is n) = refl
   nested_flattened (one_of c d cs) =
       nested_members (flattened c) (flattened d) (all_flattened cs)
-      ∙ ap₂ (λ a b. nested_after (one_of a b no_classes) (classes_of (all_flattened cs))) (nested_flattened c) (nested_flattened d)
+      ∙ ap₂ (λ a b. nested_after (one_of a b no_classes) (class_list (all_flattened cs))) (nested_flattened c) (nested_flattened d)
       ∙ after_flattened cs (one_of (nested c) (nested d) no_classes)
 
-  after_flattened : (cs : NameClasses) (e : NameClass) → nested_after e (classes_of (all_flattened cs)) ≡ nested_after e cs
+  after_flattened : (cs : NameClasses) (e : NameClass) → nested_after e (class_list (all_flattened cs)) ≡ nested_after e cs
   after_flattened no_classes e = refl
   after_flattened (class_and c cs) e =
-      ap (λ a. nested_after (one_of e a no_classes) (classes_of (all_flattened cs))) (nested_flattened c) ∙ after_flattened cs (one_of e (nested c) no_classes)
+      ap (λ a. nested_after (one_of e a no_classes) (class_list (all_flattened cs))) (nested_flattened c) ∙ after_flattened cs (one_of e (nested c) no_classes)
 
 module _ {L : Type 0} where
   -- the tree with classes as its lines show them

@@ -3,13 +3,13 @@ use Rattle.std.proofs.Common.{◌≡◌, ◌∙◌, refl, sym, ap, subst, ℕ, �
 use Rattle.std.proofs.lemmas.List.Elements.{All-contains}
 use Rattle.std.proofs.lemmas.Option.{slice_get-get_or}
 use Rattle.rng_model.specs.names.Names.{NameClass, any_name}
-use Rattle.rng_model.specs.simple.ClassSteps.{ClassStep, IsSimpleClassOf}
+use Rattle.rng_model.specs.simple.Simplification.{ClassStep, IsSimpleClassOf, RuleGroup, Step, IsSimpleFormOf}
 use Rattle.rng_model.specs.simple.Tree.{Datatype, Tree, as_tree}
-use Rattle.rng_model.specs.simple.Tree.{Simple, s_not_allowed, s_empty, s_text, s_leaf, s_attribute, s_list, s_data, s_data_except, s_value, s_one_or_more, s_joined}
+use Rattle.rng_model.specs.simple.Tree.{Simple, s_not_allowed, s_empty, s_text, s_leaf, s_attribute, s_list, s_data, s_data_except, s_value, s_one_or_more}
+use Rattle.rng_model.specs.simple.Tree.{s_joined}
 use Rattle.rng_model.specs.simple.Grammar.{Grammar}
 use Rattle.rng_model.specs.datatypes.Datatypes.{IsKnownDatatype, IsAllowed}
-use Rattle.rng_model.specs.schema.Depth.{depth, class_depth, depth_limit}
-use Rattle.rng_model.specs.simple.Leaves.{LeafIn, renamed, AreLeavesBelow}
+use Rattle.rng_model.specs.simple.Leaves.{depth, class_depth, depth_limit, LeafIn, renamed, AreLeavesBelow}
 use Rattle.rng_model.specs.simple.Leaves as at
 use Rattle.rng_model.specs.schema.Patterns as written
 use Rattle.rng_model.specs.schema.Patterns.{Place, Pattern, without_parameters}
@@ -17,10 +17,8 @@ use Rattle.rng_model.specs.schema.Schema.{Schema, IsWrittenAt}
 use Rattle.rng_model.specs.simple.SchemaForm.{Element, SimpleForm, IsElementOf, IsSimpleFormOfSchema, IsSameUpToNumbering}
 use Rattle.rng_model.specs.schema.SchemaClauses as clause
 use Rattle.rng_model.specs.schema.SchemaClauses.{BreaksNoClause}
-use Rattle.rng_model.specs.simple.Simplification.{RuleGroup, Step, IsSimpleFormOf}
-use Rattle.rng_model.specs.schema.Reached.{IsReachedTree, of_start, of_body, IsReachedByTrees, IsReachedBySimpleForms}
-use Rattle.rng_model.specs.schema.Unfolding.{Leaf}
-use Rattle.rncv_model.specs.printed.PrintedText.{element_at}
+use Rattle.rng_model.specs.schema.Unfolding.{IsReachedTree, of_start, of_body, IsReachedByTrees, IsReachedBySimpleForms, Leaf}
+use Rattle.rncv_model.specs.printed.Items.{element_at}
 use Rattle.rng_simple.specs.plain.InTwos.{nested, in_twos}
 use Rattle.rng_simple.proofs.InTwos.{is_rewritten}
 use Rattle.rng_simple.proofs.SimpleClass.{class_keeps, is_only_simple_class}

@@ -3,13 +3,15 @@ use Rattle.std.proofs.Common.{◌≡◌, ◌≢◌, ◌∙◌, ℕ, zero, suc, �
 use Rattle.std.specs.List.{AllByRecursion, slice_index_or}
 use Rattle.std.specs.Str.{bytes_eq}
 use Rattle.rng_model.specs.names.Names.{any_name}
-use Rattle.rng_model.specs.simple.Tree.{Simple, s_not_allowed, s_empty, s_text, s_leaf, s_attribute, s_list, s_data, s_data_except, s_value, s_one_or_more, s_joined}
+use Rattle.rng_model.specs.simple.Tree.{Simple, s_not_allowed, s_empty, s_text, s_leaf, s_attribute, s_list, s_data, s_data_except, s_value, s_one_or_more}
+use Rattle.rng_model.specs.simple.Tree.{s_joined}
 use Rattle.rng_model.specs.simple.Grammar.{Grammar}
 use Rattle.rnc_model.specs.grammar.Sentence.{nesting_limit}
-use Rattle.rnc_model.specs.declarations.Parsing.{IsFileTree}
+use Rattle.rnc_model.specs.loading.SchemaFile.{IsFileTree}
 use Rattle.rnc_grammar.proofs.AppliedTrees.{applied_where_made}
-use Rattle.rncv_model.specs.printed.Numbering.{has, first_times, IsReached, at_start, in_line}
-use Rattle.rncv_model.specs.printed.PrintedText.{Item, element, pattern, same_item, item_of, element_at, parts_of, mentions, IsItemsOf, namespaces_of, namespaces}
+use Rattle.rncv_model.specs.printed.Items.{has, first_times, IsReached, at_start, in_line, PrintedItem, element, pattern, same_item, named_item, element_at}
+use Rattle.rncv_model.specs.printed.Items.{parts_of, mentions, IsItemsOf}
+use Rattle.rncv_model.specs.printed.PrintedText.{namespaces_of, namespaces}
 use Rattle.rnc_print_laws.specs.plain.Printable.{IsPrintableClass, IsPrintableTree, IsPrintable}
 use Rattle.rnc_print_laws.specs.plain.MarkLexemes.{lexemes_from}
 use Rattle.rnc_print_laws.specs.plain.PrintedMarks.{marks_of}
@@ -27,7 +29,7 @@ use Rattle.rnc_print_laws.proofs.LineDeclarations.{rules_kept}
 
 -- ---- what is reached is printable
 
-abbrev pub PrintableItem : Grammar → Item → Type 0
+abbrev pub PrintableItem : Grammar → PrintedItem → Type 0
 PrintableItem g (element k) = IsPrintableClass (element_at g k).0 × IsPrintableTree (element_at g k).1
 PrintableItem g (pattern s) = IsPrintableTree s
 
@@ -39,7 +41,7 @@ at_place P (x ∷ xs) d h i (suc k) = at_place P xs d h.1 i k
 element_printable : (g : Grammar) → IsPrintable g → (k : ℕ) → PrintableItem g (element k)
 element_printable g p k = at_place (λ e. IsPrintableClass e.0 × IsPrintableTree e.1) g.elements (any_name, s_not_allowed) p.elements ((tt, omega arith), tt) k
 
-written_printable : (g : Grammar) → IsPrintable g → (s : Simple ℕ) → IsPrintableTree s → AllByRecursion (PrintableItem g) (item_of s)
+written_printable : (g : Grammar) → IsPrintable g → (s : Simple ℕ) → IsPrintableTree s → AllByRecursion (PrintableItem g) (named_item s)
 written_printable g p s_not_allowed h = tt
 written_printable g p s_empty h = tt
 written_printable g p s_text h = tt
@@ -63,22 +65,22 @@ parts_printable g p (s_attribute c a) h = written_printable g p a h.1
 parts_printable g p (s_list a) h = written_printable g p a h
 parts_printable g p (s_data_except d a) h = written_printable g p a h.1
 parts_printable g p (s_one_or_more a) h = written_printable g p a h
-parts_printable g p (s_joined j a b) h = all_append (PrintableItem g) (item_of a) (item_of b) (written_printable g p a h.0) (written_printable g p b h.1)
+parts_printable g p (s_joined j a b) h = all_append (PrintableItem g) (named_item a) (named_item b) (written_printable g p a h.0) (written_printable g p b h.1)
 
-mentions_printable : (g : Grammar) → IsPrintable g → (i : Item) → PrintableItem g i → AllByRecursion (PrintableItem g) (mentions g i)
+mentions_printable : (g : Grammar) → IsPrintable g → (i : PrintedItem) → PrintableItem g i → AllByRecursion (PrintableItem g) (mentions g i)
 mentions_printable g p (element k) h = written_printable g p (element_at g k).1 h.1
 mentions_printable g p (pattern s) h = parts_printable g p s h
 
-reached_printable : (g : Grammar) → IsPrintable g → (i : Item) → IsReached same_item (item_of g.start) (mentions g) i → PrintableItem g i
-reached_printable g p i (at_start {a} c) = all_contained (PrintableItem g) (item_of g.start) (written_printable g p g.start p.start) a c
+reached_printable : (g : Grammar) → IsPrintable g → (i : PrintedItem) → IsReached same_item (named_item g.start) (mentions g) i → PrintableItem g i
+reached_printable g p i (at_start {a} c) = all_contained (PrintableItem g) (named_item g.start) (written_printable g p g.start p.start) a c
 reached_printable g p i (in_line {a} {x} r c) = all_contained (PrintableItem g) (mentions g x) (mentions_printable g p x (reached_printable g p x r)) a c
 
 each_of : {A : Type 0} (P Q : A → Type 0) (xs : List A) → ((a : A) → P a → Q a) → AllByRecursion P xs → AllByRecursion Q xs
 each_of P Q [] f h = tt
 each_of P Q (x ∷ xs) f h = (f x h.0, each_of P Q xs f h.1)
 
-pub items_printable : (g : Grammar) → IsPrintable g → (items : List Item) → IsItemsOf g items → AllByRecursion (PrintableItem g) items
-items_printable g p items n = each_of (IsReached same_item (item_of g.start) (mentions g)) (PrintableItem g) items (reached_printable g p) n.reached
+pub items_printable : (g : Grammar) → IsPrintable g → (items : List PrintedItem) → IsItemsOf g items → AllByRecursion (PrintableItem g) items
+items_printable g p items n = each_of (IsReached same_item (named_item g.start) (mentions g)) (PrintableItem g) items (reached_printable g p) n.reached
 
 -- ---- the conditions on lines
 
@@ -108,7 +110,7 @@ knows_types (s_data_except d a) h = (h.0.0, knows_type a h.1)
 knows_types (s_one_or_more a) h = knows_type a h
 knows_types (s_joined j a b) h = (knows_type a h.0, knows_type b h.1)
 
-knows_item : (g : Grammar) (i : Item) → PrintableItem g i → KnowsItem g i
+knows_item : (g : Grammar) (i : PrintedItem) → PrintableItem g i → KnowsItem g i
 knows_item g (element k) h = knows_type (element_at g k).1 h.1
 knows_item g (pattern s) h = knows_types s h
 
@@ -125,7 +127,7 @@ shallow (s_data_except d a) h = tt
 shallow (s_one_or_more a) h = tt
 shallow (s_joined j a b) h = tt
 
-shallow_item : (g : Grammar) (i : Item) → PrintableItem g i → ShallowItem g nesting_limit i
+shallow_item : (g : Grammar) (i : PrintedItem) → PrintableItem g i → ShallowItem g nesting_limit i
 shallow_item g (element k) h = h.0.1
 shallow_item g (pattern s) h = shallow s h
 
@@ -167,7 +169,7 @@ namespaces_apart us lt =
     (subst (AreNew bytes_eq bytes_same bytes_itself []) (sym (and_fresh bytes_eq bytes_same bytes_itself [] us))
     (fresh_new bytes_eq bytes_same bytes_itself [] us)) (all_itself (first_times bytes_eq us))
 
-each_namespace : (Q : List ℕ → Type 0) (f : Item → List (List ℕ)) (items : List Item) → ((u : List ℕ) → has bytes_eq (flat_map f items) u ≡ true → Q u)
+each_namespace : (Q : List ℕ → Type 0) (f : PrintedItem → List (List ℕ)) (items : List PrintedItem) → ((u : List ℕ) → has bytes_eq (flat_map f items) u ≡ true → Q u)
     → AllByRecursion (λ i. AllByRecursion Q (f i)) items
 each_namespace Q f [] h = tt
 each_namespace Q f (i ∷ items) h = (
@@ -177,7 +179,7 @@ each_namespace Q f (i ∷ items) h = (
 )
 
 -- what holds for all namespaces holds for those of each item
-namespaces_serve : (g : Grammar) (items : List Item) (P : List ℕ → Type 0) → AllByRecursion P (namespaces g items)
+namespaces_serve : (g : Grammar) (items : List PrintedItem) (P : List ℕ → Type 0) → AllByRecursion P (namespaces g items)
     → AllByRecursion (λ i. AllByRecursion P (namespaces_of g i)) items
 namespaces_serve g items P k =
     let ns = namespaces g items in
@@ -188,7 +190,7 @@ namespaces_serve g items P k =
 -- ---- the tokens of the printed text
 
 -- they break no clause, and their file tree is that of the lines
-pub tokens_read : (g : Grammar) (items : List Item) → IsPrintable g → IsItemsOf g items → length items < 2 ^ 64 → length (namespaces g items) < 2 ^ 64
+pub tokens_read : (g : Grammar) (items : List PrintedItem) → IsPrintable g → IsItemsOf g items → length items < 2 ^ 64 → length (namespaces g items) < 2 ^ 64
     → (n : ℕ) → IsFileTree (lexemes_from n (marks_of g items)) (lines_tree g items)
 tokens_read g items p is lt lt' n =
     let ns = namespaces g items in

@@ -6,14 +6,18 @@ use Rattle.std.proofs.lemmas.Bool.{false≢true}
 use Rattle.rng_model.proofs.Texts.{bytes_itself}
 use Rattle.rng_model.specs.names.Lists.{Among, here, there}
 use Rattle.rng_model.specs.names.Names as names
-use Rattle.rng_model.specs.simple.Tree.{Simple, s_not_allowed, s_empty, s_text, s_leaf, s_attribute, s_list, s_data, s_data_except, s_value, s_one_or_more, s_joined}
+use Rattle.rng_model.specs.simple.Tree.{Simple, s_not_allowed, s_empty, s_text, s_leaf, s_attribute, s_list, s_data, s_data_except, s_value, s_one_or_more}
+use Rattle.rng_model.specs.simple.Tree.{s_joined}
 use Rattle.rng_model.specs.simple.Grammar.{Grammar}
 use Rattle.rng_model.specs.declared.method.Method.TheVariants as methods
-use Rattle.rncv_model.specs.printed.PrintedText.{Item, element, pattern, element_at, item_name, prefix_of, namespace_of, namespaces_in, namespaces_among, namespaces_of}
+use Rattle.rncv_model.specs.printed.Items.{PrintedItem, element, pattern, element_at}
+use Rattle.rncv_model.specs.printed.PrintedText.{item_name, namespace_if_any, namespaces_in, namespaces_among, namespaces_of}
+use Rattle.rncv_model.specs.printed.Words.{prefix_of}
 use Rattle.rnc_model.specs.grammar.Syntax as syntax
 use Rattle.rnc_model.specs.grammar.Syntax.{written}
 use Rattle.rnc_model.specs.declarations.DeclarationRules.{Declarable, namespace_prefix, datatype_prefix, declared_in, IsTwiceIn, at_first, later}
-use Rattle.rnc_model.specs.declarations.DeclarationRules.{BreaksDeclarationRule, namespace_prefix_twice, datatype_prefix_twice, default_namespace_twice, xml_as_another}
+use Rattle.rnc_model.specs.declarations.DeclarationRules.{BreaksDeclarationRule, namespace_prefix_twice, datatype_prefix_twice, default_namespace_twice}
+use Rattle.rnc_model.specs.declarations.DeclarationRules.{xml_as_another}
 use Rattle.rnc_model.specs.declarations.DeclarationRules.{xsd_as_another, xmlns_declared, namespace_prefix_undeclared, datatype_prefix_undeclared}
 use Rattle.rnc_model.specs.declarations.DeclarationRules.{prefixes_of_name, prefixes_of_class, prefixes_of_classes, prefixes_of_type, prefixes_of_pattern}
 use Rattle.rnc_model.specs.declarations.DeclarationRules.{prefixes_of_components, prefixes_of_body}
@@ -130,7 +134,7 @@ module _ (ns : List (List ℕ)) where
         known_parts [] ys h = (tt, h)
         known_parts (x ∷ xs) ys h = let r = known_parts xs ys h.1 in ((h.0, r.0), r.1)
 
-    name_known : (u l : List ℕ) → AllByRecursion KnowsPrefix (namespace_of u) → AllKnown (prefixes_of_name (lines.written_name ns u l))
+    name_known : (u l : List ℕ) → AllByRecursion KnowsPrefix (namespace_if_any u) → AllKnown (prefixes_of_name (lines.written_name ns u l))
     name_known [] l h = tt
     name_known (c ∷ u) l h = h
 
@@ -165,7 +169,7 @@ module _ (ns : List (List ℕ)) where
         at_tests true false = tt
         at_tests false b = (xsd, tt)
 
-    reference_known : (items : List Item) (a : Simple ℕ) → AllKnown (prefixes_of_pattern (lines.reference_of items a))
+    reference_known : (items : List PrintedItem) (a : Simple ℕ) → AllKnown (prefixes_of_pattern (lines.reference_of items a))
     reference_known items s_not_allowed = tt
     reference_known items s_empty = tt
     reference_known items s_text = tt
@@ -178,12 +182,12 @@ module _ (ns : List (List ℕ)) where
     reference_known items (s_one_or_more a) = tt
     reference_known items (s_joined j a b) = tt
 
-    with_class : (items : List Item) (c : names.NameClass) (a : Simple ℕ) → AllByRecursion KnowsPrefix (namespaces_in c)
+    with_class : (items : List PrintedItem) (c : names.NameClass) (a : Simple ℕ) → AllByRecursion KnowsPrefix (namespaces_in c)
         → AllKnown (prefixes_of_class (lines.class_of ns c) ++ prefixes_of_pattern (lines.reference_of items a))
     with_class items c a h =
         both_known (prefixes_of_class (lines.class_of ns c)) (prefixes_of_pattern (lines.reference_of items a)) (class_known c h) (reference_known items a)
 
-    item_known : (g : Grammar) (items : List Item) (i : Item) → AllByRecursion KnowsPrefix (namespaces_of g i)
+    item_known : (g : Grammar) (items : List PrintedItem) (i : PrintedItem) → AllByRecursion KnowsPrefix (namespaces_of g i)
         → AllKnown (prefixes_of_pattern (lines.item_pattern g ns items i))
     item_known g items (element e) h = with_class items (element_at g e).0 (element_at g e).1 h
     item_known g items (pattern s_not_allowed) h = tt
@@ -202,17 +206,17 @@ module _ (ns : List (List ℕ)) where
         both_known (prefixes_of_pattern (lines.reference_of items a)) (prefixes_of_pattern (lines.reference_of items b) ++ []) (reference_known items a)
         (both_known (prefixes_of_pattern (lines.reference_of items b)) [] (reference_known items b) tt)
 
-    abbrev defines : Grammar → List Item → List Item → List (syntax.Component written)
+    abbrev defines : Grammar → List PrintedItem → List PrintedItem → List (syntax.Component written)
     defines g items some = map (λ i. syntax.define (item_name items i) methods.Plain (lines.item_pattern g ns items i)) some
 
-    defines_known : (g : Grammar) (items some : List Item) → AllByRecursion (λ i. AllByRecursion KnowsPrefix (namespaces_of g i)) some
+    defines_known : (g : Grammar) (items some : List PrintedItem) → AllByRecursion (λ i. AllByRecursion KnowsPrefix (namespaces_of g i)) some
         → AllKnown (prefixes_of_components (syntax.components_of (defines g items some)))
     defines_known g items [] h = tt
     defines_known g items (i ∷ some) h =
         both_known (prefixes_of_pattern (lines.item_pattern g ns items i)) (prefixes_of_components (syntax.components_of (defines g items some)))
         (item_known g items i h.0) (defines_known g items some h.1)
 
-    body_known : (g : Grammar) (items : List Item) → AllByRecursion (λ i. AllByRecursion KnowsPrefix (namespaces_of g i)) items
+    body_known : (g : Grammar) (items : List PrintedItem) → AllByRecursion (λ i. AllByRecursion KnowsPrefix (namespaces_of g i)) items
         → AllKnown (prefixes_of_body (lines.file g ns items).body)
     body_known g items h =
         both_known (prefixes_of_pattern (lines.reference_of items g.start)) (prefixes_of_components (syntax.components_of (defines g items items)))
@@ -224,7 +228,7 @@ module _ (ns : List (List ℕ)) where
   abbrev IsServed : Declarable → Type 0
   IsServed x = (x ≡ datatype_prefix (codes "xsd")) ⊎ ((u : syntax.Uri) × Among (x, u) (declared ns))
 
-  module _ (g : Grammar) (items : List Item) (apart : HaveDistinctPrefixes ns ns)
+  module _ (g : Grammar) (items : List PrintedItem) (apart : HaveDistinctPrefixes ns ns)
       (serves : (P : List ℕ → Type 0) → AllByRecursion P ns → AllByRecursion (λ i. AllByRecursion P (namespaces_of g i)) items) where
     served : (x : Declarable) → Among x (prefixes_of_body (lines.file g ns items).body) → IsServed x
     served x among =

@@ -3,15 +3,18 @@ use Rattle.std.proofs.Common.{◌≡◌, ◌∙◌, ℕ, suc, zero, ◌+◌, ◌
 use Rattle.std.specs.Prelude.{◌||◌, max}
 use Rattle.std.specs.List.{AllByRecursion}
 use Rattle.rng_model.specs.names.Names as names
-use Rattle.rng_model.specs.simple.Tree.{Datatype, Connector, choice, group, interleave, Simple, s_not_allowed, s_empty, s_text, s_leaf, s_attribute, s_list, s_data}
+use Rattle.rng_model.specs.simple.Tree.{Datatype, Connector, choice, group, interleave, Simple, s_not_allowed, s_empty, s_text, s_leaf, s_attribute, s_list}
+use Rattle.rng_model.specs.simple.Tree.{s_data}
 use Rattle.rng_model.specs.simple.Tree.{s_data_except, s_value, s_one_or_more, s_joined}
 use Rattle.rng_model.specs.simple.Grammar.{Grammar}
 use Rattle.rnc_model.specs.declared.token.Sign.{Sign}
 use Rattle.rnc_model.specs.declared.token.Sign.TheVariants as signs
-use Rattle.rnc_model.specs.tokens.Lexeme.{Lexeme}
-use Rattle.rnc_model.specs.tokens.Lexeme as lexeme
+use Rattle.rnc_model.specs.tokens.Cut.{Lexeme}
+use Rattle.rnc_model.specs.tokens.Cut as lexeme
 use Rattle.rnc_model.specs.grammar.Sentence.{is_opening, is_closing, openings, closings, NestsWithin}
-use Rattle.rncv_model.specs.printed.PrintedText.{Item, element, pattern, element_at, item_name, prefix_of, is_choice, is_except}
+use Rattle.rncv_model.specs.printed.Items.{PrintedItem, element, pattern, element_at}
+use Rattle.rncv_model.specs.printed.PrintedText.{item_name}
+use Rattle.rncv_model.specs.printed.Words.{prefix_of, is_choice, is_except, runs_of}
 use Rattle.rnc_text.specs.plain.Marks.{Mark, space, line_end, word, cname, segment, sign}
 use Rattle.rnc_text.specs.plain.Marks as marks
 use Rattle.std.specs.Str.{bytes_eq}
@@ -19,10 +22,11 @@ use Rattle.std.proofs.Common.{Option, Some, None}
 use Rattle.std.specs.Prelude.{cond}
 use Rattle.rnc_model.specs.tokens.Tokens.{keyword_of, keyword_or_identifier}
 use Rattle.rnc_model.specs.declared.token.Keyword.{Keyword}
-use Rattle.rncv_model.specs.printed.PrintedText.{runs_of}
 use Rattle.rnc_print_laws.specs.plain.Printable.{one_more_if, parentheses, parentheses_among}
-use Rattle.rnc_print_laws.specs.plain.PrintedMarks.{more_run_marks, joined_run_marks, literal_marks, in_parentheses_if, name_mark, class_marks, classes_marks, type_mark}
-use Rattle.rnc_print_laws.specs.plain.PrintedMarks.{parameter_marks, parameters_marks, datatype_marks, reference_marks, connector_marks, braced_marks, pattern_marks}
+use Rattle.rnc_print_laws.specs.plain.PrintedMarks.{more_run_marks, joined_run_marks, literal_marks, in_parentheses_if, name_mark, class_marks, classes_marks}
+use Rattle.rnc_print_laws.specs.plain.PrintedMarks.{type_mark}
+use Rattle.rnc_print_laws.specs.plain.PrintedMarks.{parameter_marks, parameters_marks, datatype_marks, reference_marks, connector_marks, braced_marks}
+use Rattle.rnc_print_laws.specs.plain.PrintedMarks.{pattern_marks}
 use Rattle.rnc_print_laws.specs.plain.PrintedMarks.{item_marks, line_marks, namespace_marks, item_line_marks, lines_marks}
 use Rattle.std.proofs.lemmas.Bool.{false≢true}
 use Rattle.std.proofs.lemmas.List.Sums.{sum_by-cons}
@@ -279,7 +283,7 @@ may_fit (p ∷ ps) (suc r) le = stay refl (open_one refl (stay refl (fits_append
 datatype_fits : (d : Datatype) → FitsFrom 1 (datatype_marks d)
 datatype_fits d r le = type_fits d _ r r (may_fit d.parameters r le)
 
-reference_fits : (items : List Item) (s : Simple ℕ) → FitsFrom 1 (reference_marks items s)
+reference_fits : (items : List PrintedItem) (s : Simple ℕ) → FitsFrom 1 (reference_marks items s)
 reference_fits items s_not_allowed r le = stay refl none
 reference_fits items s_empty r le = stay refl none
 reference_fits items s_text r le = stay refl none
@@ -292,7 +296,7 @@ reference_fits items (s_data_except d a) r le = stay refl none
 reference_fits items (s_one_or_more a) r le = stay refl none
 reference_fits items (s_joined j a b) r le = stay refl none
 
-braced_fits : (items : List Item) (a : Simple ℕ) → FitsFrom 2 (braced_marks (reference_marks items a))
+braced_fits : (items : List PrintedItem) (a : Simple ℕ) → FitsFrom 2 (braced_marks (reference_marks items a))
 braced_fits items a zero le = absurd (omega (arith, le))
 braced_fits items a (suc r) le = open_one refl (stay refl (fits_append (reference_fits items a r (omega (arith, le))) (stay refl (close_one refl none))))
 
@@ -306,7 +310,7 @@ abbrev pub Shallow : ℕ → Simple ℕ → Type 0
 Shallow r (s_attribute c a) = parentheses c ≤ r
 Shallow r _ = Unit {0}
 
-pattern_fits : (ns : List (List ℕ)) (items : List Item) (s : Simple ℕ) (r : ℕ) → 2 ≤ r → Shallow r s → Fits r (pattern_marks ns items s) r
+pattern_fits : (ns : List (List ℕ)) (items : List PrintedItem) (s : Simple ℕ) (r : ℕ) → 2 ≤ r → Shallow r s → Fits r (pattern_marks ns items s) r
 pattern_fits ns items (s_joined j a b) r le h =
     fits_append (reference_fits items a r (omega (arith, le))) (fits_append (connector_fits j r) (reference_fits items b r (omega (arith, le))))
 pattern_fits ns items (s_one_or_more a) r le h = fits_append (reference_fits items a r (omega (arith, le))) (stay refl none)
@@ -321,11 +325,11 @@ pattern_fits ns items (s_leaf e) r le h = stay refl none
 pattern_fits ns items (s_data d) r le h = datatype_fits d r (omega (arith, le))
 pattern_fits ns items (s_value d v) r le h = reference_fits items (s_value d v) r (omega (arith, le))
 
-abbrev pub ShallowItem : Grammar → ℕ → Item → Type 0
+abbrev pub ShallowItem : Grammar → ℕ → PrintedItem → Type 0
 ShallowItem g r (element k) = parentheses (element_at g k).0 ≤ r
 ShallowItem g r (pattern s) = Shallow r s
 
-item_fits : (g : Grammar) (ns : List (List ℕ)) (items : List Item) (i : Item) (r : ℕ) → 2 ≤ r → ShallowItem g r i → Fits r (item_marks g ns items i) r
+item_fits : (g : Grammar) (ns : List (List ℕ)) (items : List PrintedItem) (i : PrintedItem) (r : ℕ) → 2 ≤ r → ShallowItem g r i → Fits r (item_marks g ns items i) r
 item_fits g ns items (element e) r le h =
     stay refl (stay refl (fits_append (class_fits ns (element_at g e).0 r h) (stay refl (braced_fits items (element_at g e).1 r le))))
 item_fits g ns items (pattern s) r le h = pattern_fits ns items s r le h
@@ -333,7 +337,7 @@ item_fits g ns items (pattern s) r le h = pattern_fits ns items s r le h
 line_fits : (name : List ℕ) (ms : List Mark) (r : ℕ) → Fits r ms r → Fits r (line_marks name ms) r
 line_fits name ms r h = stay refl (stay refl (stay refl (stay refl (fits_append h (stay refl none)))))
 
-items_fit : (g : Grammar) (ns : List (List ℕ)) (items some : List Item) (r : ℕ) → 2 ≤ r → AllByRecursion (ShallowItem g r) some
+items_fit : (g : Grammar) (ns : List (List ℕ)) (items some : List PrintedItem) (r : ℕ) → 2 ≤ r → AllByRecursion (ShallowItem g r) some
     → Fits r (flat_map (item_line_marks g ns items) some) r
 items_fit g ns items [] r le h = none
 items_fit g ns items (i ∷ some) r le h =
@@ -344,7 +348,7 @@ namespaces_fit ns [] r = none
 namespaces_fit ns (u ∷ us) r = fits_append (stay refl (stay refl (line_fits (prefix_of ns u) (literal_marks u) r (literal_fits u r)))) (namespaces_fit ns us r)
 
 -- the tokens of the printed lines nest within the limit
-pub lines_nest : (g : Grammar) (ns : List (List ℕ)) (items : List Item) (r : ℕ) → 2 ≤ r → AllByRecursion (ShallowItem g r) items → (n : ℕ)
+pub lines_nest : (g : Grammar) (ns : List (List ℕ)) (items : List PrintedItem) (r : ℕ) → 2 ≤ r → AllByRecursion (ShallowItem g r) items → (n : ℕ)
     → NestsWithin r (lexemes_from n (lines_marks g ns items))
 lines_nest g ns items r le h n =
     fits_nests (fits_append (namespaces_fit ns ns r)

@@ -5,35 +5,44 @@ use Rattle.std.specs.Prelude.{◌||◌, ◌==◌, cond}
 use Rattle.std.specs.List.{AllByRecursion}
 use Rattle.std.proofs.lemmas.List.{append-nil}
 use Rattle.rng_model.specs.names.Names as names
-use Rattle.rng_model.specs.simple.Tree.{Datatype, Connector, choice, group, interleave, Simple, s_not_allowed, s_empty, s_text, s_leaf, s_attribute, s_list, s_data}
+use Rattle.rng_model.specs.simple.Tree.{Datatype, Connector, choice, group, interleave, Simple, s_not_allowed, s_empty, s_text, s_leaf, s_attribute, s_list}
+use Rattle.rng_model.specs.simple.Tree.{s_data}
 use Rattle.rng_model.specs.simple.Tree.{s_data_except, s_value, s_one_or_more, s_joined}
 use Rattle.rng_model.specs.simple.Grammar.{Grammar}
 use Rattle.rnc_model.specs.tokens.Tokens.{keyword_of, keyword_or_identifier}
 use Rattle.rnc_model.specs.declared.token.Keyword.{Keyword}
 use Rattle.rnc_model.specs.declared.token.Sign.TheVariants as signs
 use Rattle.rng_model.specs.declared.method.Method.TheVariants as methods
-use Rattle.rnc_model.specs.tokens.Lexeme.{Lexeme, lexeme_at, identifier}
-use Rattle.rnc_model.specs.tokens.Lexeme as lexeme
+use Rattle.rnc_model.specs.tokens.Cut.{Lexeme, lexeme_at, identifier}
+use Rattle.rnc_model.specs.tokens.Cut as lexeme
 use Rattle.rnc_model.specs.grammar.Syntax as syntax
 use Rattle.rnc_model.specs.grammar.Syntax.{written, NameClass, NameClasses, DatatypeName, Pattern, Component, Declaration, File, string_type, token_type}
 use Rattle.rnc_model.specs.grammar.Syntax.{prefixed_type, choice_of, classes_of}
-use Rattle.rnc_model.specs.grammar.Grammar.{word_of, type_of, connector_of, IsLiteral, one_segment, more_segments, AreParameters, no_parameters, and_parameter}
-use Rattle.rnc_model.specs.grammar.Grammar.{MayBeParameters, without_parameters, with_parameters, IsClass, basic_class, choice_class, AreMoreClasses, last_class}
-use Rattle.rnc_model.specs.grammar.Grammar.{more_classes, IsBasic, annotated_basic, MayBeAnnotation, without_annotation, IsBareBasic, IsBarePrimary}
-use Rattle.rnc_model.specs.grammar.Grammar.{annotated_primary, IsBareComponent, annotated_component, word_class, cname_class, ns_class, any_class, class_in_parens}
-use Rattle.rnc_model.specs.grammar.Grammar.{content, IsPattern, one_particle, particles, AreMore, last_particle, IsParticle, once, IsPrimary, IsBraced, in_braces}
+use Rattle.rnc_model.specs.grammar.NameClasses.{word_of, type_of, connector_of, IsLiteral, one_segment, more_segments, AreParameters, no_parameters}
+use Rattle.rnc_model.specs.grammar.NameClasses.{and_parameter, MayBeParameters, without_parameters, with_parameters, IsClass, basic_class, choice_class}
+use Rattle.rnc_model.specs.grammar.NameClasses.{AreMoreClasses, last_class, more_classes, IsBasic, annotated_basic, MayBeAnnotation, without_annotation}
+use Rattle.rnc_model.specs.grammar.NameClasses.{IsBareBasic, word_class, cname_class, ns_class, any_class, class_in_parens}
+use Rattle.rnc_model.specs.grammar.Grammar.{IsBarePrimary}
+use Rattle.rnc_model.specs.grammar.Grammar.{annotated_primary, IsBareComponent, annotated_component}
+use Rattle.rnc_model.specs.grammar.Grammar.{content, IsPattern, one_particle, particles, AreMore, last_particle, IsParticle, once, IsPrimary, IsBraced}
+use Rattle.rnc_model.specs.grammar.Grammar.{in_braces}
 use Rattle.rnc_model.specs.grammar.Grammar.{AreComponents, no_components, and_component, IsComponent, IsUri, IsDeclaration, AreDeclarations, no_declarations}
 use Rattle.rnc_model.specs.grammar.Grammar.{and_declaration, IsBody, grammar_body, IsFile}
+use Rattle.rnc_model.specs.grammar.NameClasses as name_classes
 use Rattle.rnc_model.specs.grammar.Grammar as grammar
-use Rattle.rncv_model.specs.printed.PrintedText.{Item, element, pattern, element_at, item_name, prefix_of, runs_of, with_character, delimiter, is_choice, is_except}
+use Rattle.rncv_model.specs.printed.Items.{PrintedItem, element, pattern, element_at}
+use Rattle.rncv_model.specs.printed.PrintedText.{item_name}
+use Rattle.rncv_model.specs.printed.Words.{prefix_of, runs_of, with_character, delimiter, is_choice, is_except}
 use Rattle.rnc_text.specs.plain.Marks.{Mark, space, line_end, word, cname, segment, sign}
 use Rattle.rnc_text.specs.plain.Marks as marks
 use Rattle.rnc_print_laws.specs.plain.MarkLexemes.{word_at, lexemes_from, place_behind}
 use Rattle.rnc_print_laws.specs.plain.PrintedMarks.{joined_run_marks, literal_marks, in_parentheses_if, name_mark, class_marks, classes_marks, type_mark}
-use Rattle.rnc_print_laws.specs.plain.PrintedMarks.{parameter_marks, parameters_marks, datatype_marks, reference_marks, connector_marks, braced_marks, pattern_marks}
+use Rattle.rnc_print_laws.specs.plain.PrintedMarks.{parameter_marks, parameters_marks, datatype_marks, reference_marks, connector_marks, braced_marks}
+use Rattle.rnc_print_laws.specs.plain.PrintedMarks.{pattern_marks}
 use Rattle.rnc_print_laws.specs.plain.PrintedMarks.{item_marks, line_marks, namespace_marks, item_line_marks, lines_marks}
 use Rattle.rnc_print_laws.specs.plain.Printable.{CanBeNamed}
-use Rattle.rnc_print_laws.specs.plain.LinesSyntax.{list_of, members_in, written_name, class_of, reference_of, pattern_of, item_pattern, components, declarations, file}
+use Rattle.rnc_print_laws.specs.plain.LinesSyntax.{list_of, members_in, written_name, class_of, reference_of, pattern_of, item_pattern, components}
+use Rattle.rnc_print_laws.specs.plain.LinesSyntax.{declarations, file}
 use Rattle.rnc_print_laws.specs.plain.LinesSyntax as lines
 
 -- ---- marks one after the other
@@ -157,9 +166,9 @@ more_behind (more_classes {ts = a} {cs} {a = x} {b = y} {c} basic rest e) b ts m
 mutual
   pub is_class : (ns : List (List ℕ)) (c : names.NameClass) (n : ℕ) → IsClass (lexemes_from n (class_marks ns c)) (class_of ns c)
   is_class ns names.any_name n = basic_class (bare (any_class refl))
-  is_class ns (names.any_except c) n = grammar.any_except unannotated (is_basic ns c (suc (suc n))) refl
+  is_class ns (names.any_except c) n = name_classes.any_except unannotated (is_basic ns c (suc (suc n))) refl
   is_class ns (names.ns_name u) n = basic_class (bare (ns_class refl))
-  is_class ns (names.ns_except u c) n = grammar.ns_except unannotated (is_basic ns c (suc (suc n))) refl
+  is_class ns (names.ns_except u c) n = name_classes.ns_except unannotated (is_basic ns c (suc (suc n))) refl
   is_class ns (names.name_is k) n = basic_class (name_basic ns k.ns k.local n)
   is_class ns (names.one_of c d cs) n =
       let left = in_parentheses_if (is_except c) (class_marks ns c) in
@@ -169,10 +178,10 @@ mutual
   is_basic : (ns : List (List ℕ)) (c : names.NameClass) → Basic ns c
   is_basic ns names.any_name n = bare (any_class refl)
   is_basic ns (names.any_except c) n =
-      in_parentheses n (class_marks ns (names.any_except c)) _ (grammar.any_except unannotated (is_basic ns c (suc (suc (suc n)))) refl)
+      in_parentheses n (class_marks ns (names.any_except c)) _ (name_classes.any_except unannotated (is_basic ns c (suc (suc (suc n)))) refl)
   is_basic ns (names.ns_name u) n = bare (ns_class refl)
   is_basic ns (names.ns_except u c) n =
-      in_parentheses n (class_marks ns (names.ns_except u c)) _ (grammar.ns_except unannotated (is_basic ns c (suc (suc (suc n)))) refl)
+      in_parentheses n (class_marks ns (names.ns_except u c)) _ (name_classes.ns_except unannotated (is_basic ns c (suc (suc (suc n)))) refl)
   is_basic ns (names.name_is k) n = name_basic ns k.ns k.local n
   is_basic ns (names.one_of c d cs) n =
       let left = in_parentheses_if (is_except c) (class_marks ns c) in
@@ -184,11 +193,11 @@ mutual
   is_first ns names.any_name n b ts more = choice_class (bare (any_class refl)) more refl refl
   is_first ns (names.any_except c) n b ts more =
       choice_class
-      (in_parentheses n (class_marks ns (names.any_except c)) _ (grammar.any_except unannotated (is_basic ns c (suc (suc (suc n)))) refl)) more refl refl
+      (in_parentheses n (class_marks ns (names.any_except c)) _ (name_classes.any_except unannotated (is_basic ns c (suc (suc (suc n)))) refl)) more refl refl
   is_first ns (names.ns_name u) n b ts more = choice_class (bare (ns_class refl)) more refl refl
   is_first ns (names.ns_except u c) n b ts more =
       choice_class
-      (in_parentheses n (class_marks ns (names.ns_except u c)) _ (grammar.ns_except unannotated (is_basic ns c (suc (suc (suc n)))) refl)) more refl refl
+      (in_parentheses n (class_marks ns (names.ns_except u c)) _ (name_classes.ns_except unannotated (is_basic ns c (suc (suc (suc n)))) refl)) more refl refl
   is_first ns (names.name_is k) n b ts more = choice_class (name_basic ns k.ns k.local n) more refl refl
   is_first ns (names.one_of c d cs) n b ts more =
       let left = in_parentheses_if (is_except c) (class_marks ns c) in
@@ -254,13 +263,13 @@ may_be_parameters (p ∷ ps) n =
 -- ---- patterns
 
 -- no name of an item is a keyword
-abbrev pub AreIdentifiers : List Item → Type 0
-AreIdentifiers items = (i : Item) → keyword_of (item_name items i) ≡ None
+abbrev pub AreIdentifiers : List PrintedItem → Type 0
+AreIdentifiers items = (i : PrintedItem) → keyword_of (item_name items i) ≡ None
 
 bare_primary : {ts : List Lexeme} {t : Pattern written} → IsBarePrimary ts t → IsPrimary ts t
 bare_primary p = annotated_primary unannotated p refl
 
-name_primary : (items : List Item) → AreIdentifiers items → (i : Item) (n : ℕ)
+name_primary : (items : List PrintedItem) → AreIdentifiers items → (i : PrintedItem) (n : ℕ)
     → IsPrimary (lexemes_from n (word (item_name items i) ∷ [])) (syntax.ref (item_name items i))
 name_primary items ids i n = bare_primary (grammar.ref (ap (λ (x : Lexeme). x ∷ []) (identifier_is (item_name items i) n (ids i))))
 
@@ -280,7 +289,7 @@ value_primary : (d : Datatype) (v : List ℕ) (n : ℕ) → CanBeNamed d.library
 value_primary d v n k = let t = type_token n d.library d.name d.parameters k in
     bare_primary (grammar.value t.is (is_literal v (suc n)) (t.behind (space ∷ literal_marks v)))
 
-reference_primary : (items : List Item) → AreIdentifiers items → (s : Simple ℕ) (n : ℕ) → KnowsType s
+reference_primary : (items : List PrintedItem) → AreIdentifiers items → (s : Simple ℕ) (n : ℕ) → KnowsType s
     → IsPrimary (lexemes_from n (reference_marks items s)) (reference_of items s)
 unfolding keyword_of
 reference_primary items ids s_not_allowed n k = bare_primary (grammar.not_allowed refl)
@@ -295,7 +304,7 @@ reference_primary items ids (s_data_except d a) n k = name_primary items ids (pa
 reference_primary items ids (s_one_or_more a) n k = name_primary items ids (pattern (s_one_or_more a)) n
 reference_primary items ids (s_joined j a b) n k = name_primary items ids (pattern (s_joined j a b)) n
 
-reference_pattern : (items : List Item) → AreIdentifiers items → (s : Simple ℕ) (n : ℕ) → KnowsType s
+reference_pattern : (items : List PrintedItem) → AreIdentifiers items → (s : Simple ℕ) (n : ℕ) → KnowsType s
     → IsPattern (lexemes_from n (reference_marks items s)) (reference_of items s)
 reference_pattern items ids s n k = one_particle (once (reference_primary items ids s n k))
 
@@ -303,7 +312,7 @@ braced : (n : ℕ) (ms : List Mark) (t : Pattern written) → IsPattern (lexemes
 braced n ms t p = in_braces p (ap (λ (x : List Lexeme). lexeme.sign signs.OpenBrace ∷ x) (lexemes_append (suc n) ms (space ∷ sign signs.CloseBrace ∷ [])))
 
 -- members on both sides of a connector
-two_members : (items : List Item) (k : Connector) (a b : List Mark) (t u : Pattern written) (n : ℕ) → IsPrimary (lexemes_from n a) t
+two_members : (items : List PrintedItem) (k : Connector) (a b : List Mark) (t u : Pattern written) (n : ℕ) → IsPrimary (lexemes_from n a) t
     → ((n : ℕ) → IsPrimary (lexemes_from n b) u) → IsPattern (lexemes_from n (a ++ (connector_marks k ++ b))) (syntax.members k (t ∷ u ∷ []))
 two_members items choice a b t u n p q =
     particles {s = signs.Bar} refl (once p) (last_particle (once (q (suc (place_behind n a)))) refl) (lexemes_append n a (connector_marks choice ++ b)) refl
@@ -322,7 +331,7 @@ KnowsTypes (s_data_except d a) = CanBeNamed d.library d.name × KnowsType a
 KnowsTypes s = KnowsType s
 
 -- a class and a body in braces
-classed : (ns : List (List ℕ)) (items : List Item) (c : names.NameClass) (a : Simple ℕ) (n : ℕ)
+classed : (ns : List (List ℕ)) (items : List PrintedItem) (c : names.NameClass) (a : Simple ℕ) (n : ℕ)
     → lexemes_from n (class_marks ns c ++ space ∷ braced_marks (reference_marks items a))
     ≡ lexemes_from n (class_marks ns c) ++ lexemes_from (place_behind n (class_marks ns c)) (braced_marks (reference_marks items a))
 classed ns items c a n = lexemes_append n (class_marks ns c) (space ∷ braced_marks (reference_marks items a))
@@ -341,7 +350,7 @@ element_word : (n : ℕ) (ts a b : List Lexeme) (c : NameClass written) (t : Pat
 unfolding keyword_of
 element_word n ts a b c t p q e = bare_primary (grammar.element p q (ap (λ (x : List Lexeme). word_at (codes "element") n ∷ x) e))
 
-pattern_sentence : (ns : List (List ℕ)) (items : List Item) → AreIdentifiers items → (s : Simple ℕ) (n : ℕ) → KnowsTypes s
+pattern_sentence : (ns : List (List ℕ)) (items : List PrintedItem) → AreIdentifiers items → (s : Simple ℕ) (n : ℕ) → KnowsTypes s
     → IsPattern (lexemes_from n (pattern_marks ns items s)) (pattern_of ns items s)
 pattern_sentence ns items ids (s_joined j a b) n k =
     two_members items j (reference_marks items a) (reference_marks items b) _ _ n (reference_primary items ids a n k.0)
@@ -369,11 +378,11 @@ pattern_sentence ns items ids (s_value d v) n k = reference_pattern items ids (s
 
 -- ---- lines
 
-abbrev pub KnowsItem : Grammar → Item → Type 0
+abbrev pub KnowsItem : Grammar → PrintedItem → Type 0
 KnowsItem g (element k) = KnowsType (element_at g k).1
 KnowsItem g (pattern s) = KnowsTypes s
 
-item_sentence : (g : Grammar) (ns : List (List ℕ)) (items : List Item) → AreIdentifiers items → (i : Item) (n : ℕ) → KnowsItem g i
+item_sentence : (g : Grammar) (ns : List (List ℕ)) (items : List PrintedItem) → AreIdentifiers items → (i : PrintedItem) (n : ℕ) → KnowsItem g i
     → IsPattern (lexemes_from n (item_marks g ns items i)) (item_pattern g ns items i)
 item_sentence g ns items ids (element e) n k =
     let c = (element_at g e).0 in
@@ -400,7 +409,7 @@ start_line ms t n p =
     bare_component (grammar.start {x = lexeme.sign signs.Equal} refl p
     (ap (λ (x : List Lexeme). word_at (codes "start") n ∷ lexeme.sign signs.Equal ∷ x) (lexemes_line (suc (suc n)) ms)))
 
-item_lines : (g : Grammar) (ns : List (List ℕ)) (items : List Item) → AreIdentifiers items → (some : List Item) → AllByRecursion (KnowsItem g) some → (n : ℕ)
+item_lines : (g : Grammar) (ns : List (List ℕ)) (items : List PrintedItem) → AreIdentifiers items → (some : List PrintedItem) → AllByRecursion (KnowsItem g) some → (n : ℕ)
     → AreComponents content (lexemes_from n (flat_map (item_line_marks g ns items) some))
     (map (λ i. syntax.define (item_name items i) methods.Plain (item_pattern g ns items i)) some)
 item_lines g ns items ids [] k n = no_components refl
@@ -409,7 +418,7 @@ item_lines g ns items ids (i ∷ some) k n =
     (item_lines g ns items ids some k.1 (place_behind n (item_line_marks g ns items i)))
     (lexemes_append n (item_line_marks g ns items i) (flat_map (item_line_marks g ns items) some))
 
-all_components : (g : Grammar) (ns : List (List ℕ)) (items : List Item) → AreIdentifiers items → KnowsType g.start → AllByRecursion (KnowsItem g) items
+all_components : (g : Grammar) (ns : List (List ℕ)) (items : List PrintedItem) → AreIdentifiers items → KnowsType g.start → AllByRecursion (KnowsItem g) items
     → (n : ℕ)
     → AreComponents content (lexemes_from n (line_marks (codes "start") (reference_marks items g.start) ++ flat_map (item_line_marks g ns items) items))
     (components g ns items)
@@ -436,7 +445,7 @@ all_declarations ns (u ∷ us) n =
     (lexemes_append n (namespace_marks ns u) (flat_map (namespace_marks ns) us))
 
 -- the tokens of the printed lines are a sentence, with this syntax tree
-pub lines_sentence : (g : Grammar) (ns : List (List ℕ)) (items : List Item) → AreIdentifiers items → KnowsType g.start → AllByRecursion (KnowsItem g) items
+pub lines_sentence : (g : Grammar) (ns : List (List ℕ)) (items : List PrintedItem) → AreIdentifiers items → KnowsType g.start → AllByRecursion (KnowsItem g) items
     → (n : ℕ) → IsFile (lexemes_from n (lines_marks g ns items)) (file g ns items)
 lines_sentence g ns items ids s k n =
     let front = flat_map (namespace_marks ns) ns in

@@ -2,7 +2,8 @@
 use Rattle.std.proofs.Common.{◌≡◌, refl, sym, ap, subst, ℕ, ◌<◌, ◌^◌, List, [], ◌∷◌, length}
 use Rattle.rng_model.specs.names.Lists.{Among, here}
 use Rattle.rng_model.specs.simple.Tree.{Datatype, Tree, leaf, value, as_tree}
-use Rattle.rng_model.specs.simple.Tree.{Simple, s_not_allowed, s_empty, s_text, s_leaf, s_attribute, s_list, s_data, s_data_except, s_value, s_one_or_more, s_joined}
+use Rattle.rng_model.specs.simple.Tree.{Simple, s_not_allowed, s_empty, s_text, s_leaf, s_attribute, s_list, s_data, s_data_except, s_value, s_one_or_more}
+use Rattle.rng_model.specs.simple.Tree.{s_joined}
 use Rattle.rng_model.specs.simple.Grammar.{Grammar}
 use Rattle.rng_model.specs.simple.Leaves.{LeafIn}
 use Rattle.rng_model.specs.simple.Leaves as at
@@ -10,7 +11,8 @@ use Rattle.rng_model.specs.schema.Patterns.{Position, Point, a_ref, pattern_tree
 use Rattle.rng_model.specs.schema.Schema.{Schema, main_start}
 use Rattle.rng_model.specs.schema.Unfolding as u
 use Rattle.rng_model.specs.schema.Unfolding.{Leaf, Unfolds, IsTreeOf, IsBodyOf}
-use Rattle.rncv_model.specs.printed.PrintedText.{Item, element, pattern, item_of, item_name, element_at, parts_of, IsItemsOf}
+use Rattle.rncv_model.specs.printed.Items.{PrintedItem, element, pattern, named_item, element_at, parts_of, IsItemsOf}
+use Rattle.rncv_model.specs.printed.PrintedText.{item_name}
 use Rattle.rng_simple.specs.plain.Renamed.{simple_renamed}
 use Rattle.rnc_print_laws.specs.plain.LinesSchema.{flattened, reference_pattern, item_pattern, IsSchemaOfLines}
 use Rattle.rnc_print_laws.proofs.ListedLines.{AreAmong, among_left, among_right, start_among, line_among}
@@ -21,7 +23,7 @@ use Rattle.rnc_print_laws.proofs.GoodGrammars.{IsGoodTree}
 pub plain_datatype : (d : Datatype) → d.parameters ≡ [] → without_parameters d.library d.name ≡ d
 plain_datatype d e = ap (λ ps. record { library = d.library; name = d.name; parameters = ps }) (sym e)
 
-module _ (g : Grammar) (items : List Item) where
+module _ (g : Grammar) (items : List PrintedItem) where
   -- the element of this number, where its line puts it
   abbrev pub leaf_at : ℕ → Leaf
   leaf_at k = record {
@@ -41,7 +43,7 @@ module _ (g : Grammar) (items : List Item) where
 
   module _ (numbered : IsItemsOf g items) where
     -- the elements in a tree whose items have lines have lines too
-    pub leaf_among : (a : Simple ℕ) (k : ℕ) → AreAmong items (item_of a) → LeafIn k (as_tree a) → Among (element k) items
+    pub leaf_among : (a : Simple ℕ) (k : ℕ) → AreAmong items (named_item a) → LeafIn k (as_tree a) → Among (element k) items
     leaf_among s_not_allowed k h i = elim i [ ]
     leaf_among s_empty k h i = elim i [ ]
     leaf_among s_text k h i = elim i [ ]
@@ -57,25 +59,25 @@ module _ (g : Grammar) (items : List Item) where
         leaf_among a k (line_among g items numbered (pattern (s_one_or_more a)) (h (pattern (s_one_or_more a)) here)) i
     leaf_among (s_joined m a b) k h (at.of_first i) =
         let p = line_among g items numbered (pattern (s_joined m a b)) (h (pattern (s_joined m a b)) here) in
-        leaf_among a k (λ j c. p j (among_left (item_of b) c)) i
+        leaf_among a k (λ j c. p j (among_left (named_item b) c)) i
     leaf_among (s_joined m a b) k h (at.of_second i) =
         let p = line_among g items numbered (pattern (s_joined m a b)) (h (pattern (s_joined m a b)) here) in
-        leaf_among b k (λ j c. p j (among_right (item_of a) c)) i
+        leaf_among b k (λ j c. p j (among_right (named_item a) c)) i
     leaf_among (s_joined m a b) k h (at.of_others i) = elim i [ ]
 
     module _ (few : length items < 2 ^ 64) (r : Schema) (lines : IsSchemaOfLines g items r) where
-      abbrev line_of : Item → Tree Point
+      abbrev line_of : PrintedItem → Tree Point
       line_of i = pattern_tree (line_number items i ∷ []) (item_pattern g items i)
 
       -- a name has the tree of its line
-      through : (i : Item) (t : Tree Leaf) → Among i items → Unfolds r [] (line_of i) t → Unfolds r [] (leaf (a_ref (item_name items i))) t
+      through : (i : PrintedItem) (t : Tree Leaf) → Among i items → Unfolds r [] (line_of i) t → Unfolds r [] (leaf (a_ref (item_name items i))) t
       through i t a d = u.found refl (item_found g items numbered few r lines i a) d
 
       parts_among : (a : Simple ℕ) → Among (pattern a) items → AreAmong items (parts_of a)
       parts_among a b = line_among g items numbered (pattern a) b
 
       module _ (n : ℕ) where
-        pub reference_unfolds : (a : Simple ℕ) (x : Position) → IsGoodTree n a → AreAmong items (item_of a)
+        pub reference_unfolds : (a : Simple ℕ) (x : Position) → IsGoodTree n a → AreAmong items (named_item a)
             → Unfolds r [] (pattern_tree x (reference_pattern items a)) (line_tree_of a)
         reference_unfolds s_not_allowed x f h = u.not_allowed_is
         reference_unfolds s_empty x f h = u.empty_is
@@ -100,8 +102,8 @@ module _ (g : Grammar) (items : List Item) where
             let i = pattern (s_joined k a b) in
             let p = parts_among (s_joined k a b) (h i here) in
             through i (line_tree_of (s_joined k a b)) (h i here)
-            (u.joined_is (reference_unfolds a _ f.0 (λ j c. p j (among_left (item_of b) c)))
-            (reference_unfolds b _ f.1.0 (λ j c. p j (among_right (item_of a) c))) u.none_is)
+            (u.joined_is (reference_unfolds a _ f.0 (λ j c. p j (among_left (named_item b) c)))
+            (reference_unfolds b _ f.1.0 (λ j c. p j (among_right (named_item a) c))) u.none_is)
 
         -- the start has its tree, and the body of an element has its own
         pub start_tree_is : IsGoodTree n g.start → IsTreeOf r (main_start r) (line_tree_of g.start)

@@ -7,21 +7,19 @@ use Rattle.std.proofs.lemmas.List.Elements.{All-contains}
 use Rattle.std.proofs.lemmas.Option.{slice_get-get_or}
 use Rattle.rng_model.specs.names.Lists.{Among}
 use Rattle.rng_model.specs.names.Names.{NameClass, any_name}
-use Rattle.rng_model.specs.simple.ClassSteps.{ClassStep, IsSimpleClassOf}
+use Rattle.rng_model.specs.simple.Simplification.{ClassStep, IsSimpleClassOf, RuleGroup, Step, IsSimpleFormOf}
 use Rattle.rng_model.specs.simple.Tree.{Tree, as_tree}
-use Rattle.rng_model.specs.simple.Tree.{Simple, s_not_allowed, s_empty, s_text, s_leaf, s_attribute, s_list, s_data, s_data_except, s_value, s_one_or_more, s_joined}
+use Rattle.rng_model.specs.simple.Tree.{Simple, s_not_allowed, s_empty, s_text, s_leaf, s_attribute, s_list, s_data, s_data_except, s_value, s_one_or_more}
+use Rattle.rng_model.specs.simple.Tree.{s_joined}
 use Rattle.rng_model.specs.simple.Grammar.{Grammar}
 use Rattle.rng_model.specs.simple.Leaves.{LeafIn, renamed, AreLeavesBelow}
 use Rattle.rng_model.specs.simple.Leaves as at
 use Rattle.rng_model.specs.schema.Patterns.{Position}
 use Rattle.rng_model.specs.schema.Schema.{Schema, main_start}
 use Rattle.rng_model.specs.simple.SchemaForm.{SimpleForm, IsElementOf, IsSimpleFormOfSchema, IsSameUpToNumbering}
-use Rattle.rng_model.specs.simple.Simplification.{RuleGroup, Step, IsSimpleFormOf}
-use Rattle.rng_model.specs.schema.Reached.{IsReachedBySimpleForms, from_simple_start, from_simple_body}
-use Rattle.rng_model.specs.schema.Unfolding.{Leaf, IsTreeOf, IsBodyOf}
+use Rattle.rng_model.specs.schema.Unfolding.{IsReachedBySimpleForms, from_simple_start, from_simple_body, Leaf, IsTreeOf, IsBodyOf}
 use Rattle.rng_model.proofs.Unfolding.{one_tree}
-use Rattle.rncv_model.specs.printed.Numbering.{place_in}
-use Rattle.rncv_model.specs.printed.PrintedText.{Item, element, pattern, same_item, element_at, IsItemsOf}
+use Rattle.rncv_model.specs.printed.Items.{place_in, PrintedItem, element, pattern, same_item, element_at, IsItemsOf}
 use Rattle.rnc_print.proofs.SameTests.{item_exact}
 use Rattle.rng_simple.proofs.SimpleClass.{has_simple_class, class_unchanged}
 use Rattle.rng_simple.specs.plain.Renamed.{simple_renamed}
@@ -62,7 +60,7 @@ below_of n a h k i = leaf_of IsAttributeClass IsGoodData IsGoodValue (λ k. k < 
 
 -- ---- the number of its line determines an element
 
-abbrev pub number_of : Item → ℕ
+abbrev pub number_of : PrintedItem → ℕ
 number_of (element k) = k
 number_of (pattern a) = 0
 
@@ -70,13 +68,13 @@ abbrev pub first_of : Position → ℕ
 first_of [] = 0
 first_of (n ∷ ns) = n
 
-abbrev pub number_at : List Item → Leaf → ℕ
+abbrev pub number_at : List PrintedItem → Leaf → ℕ
 number_at items l = number_of (slice_index_or (element 0 ∷ items) (first_of l.position) (element 0))
 
-next_at : (i : Item) (items : List Item) (p : ℕ) → slice_index_or (i ∷ items) (1 + p) (element 0) ≡ slice_index_or items p (element 0)
+next_at : (i : PrintedItem) (items : List PrintedItem) (p : ℕ) → slice_index_or (i ∷ items) (1 + p) (element 0) ≡ slice_index_or items p (element 0)
 next_at i items p = let e : 1 + p ≡ suc p = omega arith in ap (λ (m : ℕ). slice_index_or (i ∷ items) m (element 0)) e
 
-at_place : (items : List Item) (i : Item) → Among i items → slice_index_or items (place_in same_item items i) (element 0) ≡ i
+at_place : (items : List PrintedItem) (i : PrintedItem) → Among i items → slice_index_or items (place_in same_item items i) (element 0) ≡ i
 at_place [] i a = elim a [ ]
 at_place (x ∷ items) i a = by_test (λ b. at_place items i b) (same_item i x) refl a
   where
@@ -89,7 +87,7 @@ at_place (x ∷ items) i a = by_test (λ b. at_place items i b) (same_item i x) 
         ∙ next_at x items (place_in same_item items i)
         ∙ again (in_rest i x items e a)
 
-module _ (g : Grammar) (items : List Item) where
+module _ (g : Grammar) (items : List PrintedItem) where
   pub number_back : (k : ℕ) → Among (element k) items → number_at items (leaf_at g items k) ≡ k
   number_back k a = ap number_of (next_at (element 0) items (place_in same_item items (element k)) ∙ at_place items (element k) a)
 
@@ -118,7 +116,7 @@ class_is_form c last = subst (IsSimpleClassOf (flattened c)) (nested_flattened c
 
 -- ---- what is reached
 
-module _ (s r : Schema) (g : Grammar) (items : List Item) (good : IsGoodGrammar g) (numbered : IsItemsOf g items) (few : length items < 2 ^ 64)
+module _ (s r : Schema) (g : Grammar) (items : List PrintedItem) (good : IsGoodGrammar g) (numbered : IsItemsOf g items) (few : length items < 2 ^ 64)
     (lines : IsSchemaOfLines g items r) (f : SimpleForm) (is : IsSimpleFormOfSchema s f) (same : IsSameUpToNumbering g f) where
   abbrev n : ℕ
   n = length g.elements

@@ -11,7 +11,7 @@ use Rattle.rng_model.specs.schema.Schema.{Schema}
 use Rattle.rng_model.specs.simple.SchemaForm.{Element, SimpleForm, IsElementOf, IsSimpleFormOfSchema, IsSameUpToNumbering, IsSimpleGrammarOf}
 use Rattle.rng_model.specs.simple.Simplification.{IsSimpleFormOf}
 use Rattle.rng_model.specs.schema.Unfolding.{Leaf}
-use Rattle.rncv_model.specs.printed.PrintedText.{Item, element_at, IsItemsOf}
+use Rattle.rncv_model.specs.printed.Items.{PrintedItem, element_at, IsItemsOf}
 use Rattle.rng_simple.proofs.Renamed.{as_tree_renamed}
 use Rattle.rnc_print_laws.specs.plain.LinesSchema.{IsSchemaOfLines}
 use Rattle.rnc_print_laws.proofs.GoodGrammars.{IsGoodGrammar}
@@ -43,7 +43,7 @@ module _ (name : ℕ → Leaf) where
       let same : (1 + k) + i ≡ k + suc i = omega arith in
       named_at (1 + k) es i d e (omega (arith, l)) ∙ ap (λ n. named n (get_or es i e)) same
 
-module _ (s r : Schema) (g : Grammar) (items : List Item) (good : IsGoodGrammar g) (numbered : IsItemsOf g items) (few : length items < 2 ^ 64)
+module _ (s r : Schema) (g : Grammar) (items : List PrintedItem) (good : IsGoodGrammar g) (numbered : IsItemsOf g items) (few : length items < 2 ^ 64)
     (lines : IsSchemaOfLines g items r) (f : SimpleForm) (is : IsSimpleFormOfSchema s f) (same : IsSameUpToNumbering g f) where
   abbrev n : ℕ
   n = length g.elements

@@ -1,20 +1,17 @@
 -- The schema of the lines breaks no clause.
 use Rattle.std.proofs.Common.{◌≡◌, ◌∙◌, sym, ap, subst, ℕ, ◌<◌, ◌≤◌, ◌^◌, List, length, arith}
 use Rattle.rng_model.specs.names.Lists.{Among}
-use Rattle.rng_model.specs.simple.ClassSteps.{IsSimpleClassOf}
+use Rattle.rng_model.specs.simple.Simplification.{IsSimpleClassOf, rewriting, IsRewritten, no_step}
 use Rattle.rng_model.specs.simple.Tree.{Tree, Simple, as_tree}
 use Rattle.rng_model.specs.simple.Grammar.{Grammar}
-use Rattle.rng_model.specs.schema.Depth.{depth, class_depth, depth_limit}
-use Rattle.rng_model.specs.simple.Leaves.{LeafIn}
-use Rattle.rng_model.specs.schema.Reached.{IsReachedByTrees, IsReachedTree, from_start, from_element, of_start, of_body}
+use Rattle.rng_model.specs.simple.Leaves.{depth, class_depth, depth_limit, LeafIn}
+use Rattle.rng_model.specs.schema.Unfolding.{IsReachedByTrees, IsReachedTree, from_start, from_element, of_start, of_body, Leaf, IsTreeOf, IsBodyOf}
 use Rattle.rng_model.specs.schema.Schema.{Schema, main_start}
 use Rattle.rng_model.specs.schema.SchemaClauses as clause
 use Rattle.rng_model.specs.schema.SchemaClauses.{BreaksExpansion, BreaksDepth, BreaksSchemaClause, BreaksClause, BreaksNoClause}
 use Rattle.rng_model.specs.simple.SchemaForm.{SimpleForm, IsSimpleFormOfSchema, IsSameUpToNumbering, IsSimpleGrammarOf, IsOnlySimpleGrammarOf}
-use Rattle.rng_model.specs.simple.Simplification.{rewriting, IsRewritten, no_step}
-use Rattle.rng_model.specs.schema.Unfolding.{Leaf, IsTreeOf, IsBodyOf}
 use Rattle.rng_model.proofs.Unfolding.{one_tree}
-use Rattle.rncv_model.specs.printed.PrintedText.{Item, element, element_at, IsItemsOf}
+use Rattle.rncv_model.specs.printed.Items.{PrintedItem, element, element_at, IsItemsOf}
 use Rattle.rnc_print.specs.plain.Renumbered.{AreSameUpToNumbering}
 use Rattle.rnc_print.proofs.OneForm.{one_form, same_numbering}
 use Rattle.rng_simple.specs.plain.InTwos.{in_twos}
@@ -33,7 +30,7 @@ use Rattle.rnc_print_laws.proofs.LinesGrammar.{lines_grammar}
 use Rattle.rnc_print_laws.proofs.LinesWritten.{no_name_class, no_datatype, no_combination, has_start, no_ref}
 use Rattle.rnc_print_laws.proofs.SimpleDepths.{renamed_depth}
 
-module _ (s r : Schema) (g : Grammar) (items : List Item) (good : IsGoodGrammar g) (numbered : IsItemsOf g items) (few : length items < 2 ^ 64)
+module _ (s r : Schema) (g : Grammar) (items : List PrintedItem) (good : IsGoodGrammar g) (numbered : IsItemsOf g items) (few : length items < 2 ^ 64)
     (lines : IsSchemaOfLines g items r) (f : SimpleForm) (is : IsSimpleFormOfSchema s f) (same : IsSameUpToNumbering g f) where
   abbrev n : ℕ
   n = length g.elements
@@ -123,7 +120,7 @@ module _ (s r : Schema) (g : Grammar) (items : List Item) (good : IsGoodGrammar 
 
 -- ---- the laws
 
-module _ (s r : Schema) (g : Grammar) (items : List Item) (h : IsReprinted s r g items) where
+module _ (s r : Schema) (g : Grammar) (items : List PrintedItem) (h : IsReprinted s r g items) where
   good : IsGoodGrammar g
   good = good_grammar s h.kept g h.form.0 h.form.1 h.form.2
 

@@ -11,9 +11,9 @@ use Rattle.rnc_model.specs.loading.LoadedSchema.{AreSchema}
 use Rattle.rng_load.specs.views.Loaded.{IsLoaded}
 use Rattle.rnc_model.specs.loading.Loading.{TakenFiles, together_break, are_taken}
 use Rattle.rng_load.specs.views.PlacedGrammars.{schema_of}
-use Rattle.rnc_model.specs.loading.SchemaFile.{Name, NamedFile, HasTree, BreaksLimit, size_limit}
+use Rattle.rnc_model.specs.loading.SchemaFile.{FileName, NamedFile, HasTree, BreaksLimit, size_limit}
 use Rattle.rng_load.specs.declared.schema.Schema as loaded
-use Rattle.rncv_model.specs.printed.PrintedText.{Item}
+use Rattle.rncv_model.specs.printed.Items.{PrintedItem}
 use Rattle.rnc_print_laws.specs.plain.HandedIn.{lines_alone, IsHandedInAgain, IsAgain, IsPrintedFile, text_alone}
 use Rattle.rnc_print_laws.specs.plain.LinesSchema.{IsSchemaOfLines}
 use Rattle.rnc_print_laws.specs.plain.LinesTree.{lines_tree}
@@ -23,7 +23,7 @@ use Rattle.rnc_print_laws.proofs.LinesTaken.{lines_taken, lines_are_schema}
 together_or_all : {k : ℕ} {r : TakenFiles} → together_break k ≡ are_taken r → ⊥
 together_or_all e = cc
 
-module _ (files : List NamedFile) (main : Name) (g : Grammar) (items : List Item) (has : HasTree files main main (lines_tree g items)) where
+module _ (files : List NamedFile) (main : FileName) (g : Grammar) (items : List PrintedItem) (has : HasTree files main main (lines_tree g items)) where
   -- what loading returns is the schema of the lines
   pub lines_loaded : (result : Result loaded.Schema SchemaFault) → IsLoaded files main result
       → MatchResult result (λ r. IsSchemaOfLines g items (schema_of r)) (λ fault. fault ≡ faults.Memory)
@@ -36,7 +36,7 @@ module _ (files : List NamedFile) (main : Name) (g : Grammar) (items : List Item
       absurd (together_or_all (h.only (are_taken (lines_alone main g items)) (lines_taken main g items files has)))
   lines_loaded (Err faults.Memory) h = refl
 
-module _ (s : Schema) (text : List ℕ) (files : List NamedFile) (main : Name) (h : IsHandedInAgain s text files main) where
+module _ (s : Schema) (text : List ℕ) (files : List NamedFile) (main : FileName) (h : IsHandedInAgain s text files main) where
   again : (result : Result loaded.Schema SchemaFault)
       → MatchResult result (λ r. IsSchemaOfLines h.printed.grammar h.printed.is_printed.items (schema_of r)) (λ fault. fault ≡ faults.Memory)
       → IsAgain text result
@@ -52,11 +52,11 @@ one_file : (P : NamedFile → NamedFile → Type 0) (a : NamedFile) → HasTwo P
 one_file P a (first_and b p) = elim b [ ]
 one_file P a (both_later t) = elim t [ ]
 
-within_limits : (main : Name) (text : List ℕ) → length text ≤ size_limit → ¬ (BreaksLimit (text_alone main text) main main text)
+within_limits : (main : FileName) (text : List ℕ) → length text ≤ size_limit → ¬ (BreaksLimit (text_alone main text) main main text)
 within_limits main text small (inl b) = let more = b.1 in omega (arith, more)
 within_limits main text small (inr more) = omega (arith, small, more)
 
-pub printed_alone : (s : Schema) (text : List ℕ) → IsPrintedFile s text → (main : Name) → IsHandedInAgain s text (text_alone main text) main
+pub printed_alone : (s : Schema) (text : List ℕ) → IsPrintedFile s text → (main : FileName) → IsHandedInAgain s text (text_alone main text) main
 printed_alone s text h main = record {
   kept = h.kept;
   printed = h.printed;

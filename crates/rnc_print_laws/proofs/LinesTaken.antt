@@ -6,19 +6,20 @@ use Rattle.std.proofs.lemmas.Option.{slice_get_within}
 use Rattle.std.specs.Str.{bytes_eq}
 use Rattle.rng_model.proofs.Texts.{bytes_itself}
 use Rattle.rng_model.specs.names.Lists.{Among, here, there, HasTwice, at_first}
-use Rattle.rng_model.specs.simple.Tree.{Simple, s_not_allowed, s_empty, s_text, s_leaf, s_attribute, s_list, s_data, s_data_except, s_value, s_one_or_more, s_joined}
+use Rattle.rng_model.specs.simple.Tree.{Simple, s_not_allowed, s_empty, s_text, s_leaf, s_attribute, s_list, s_data, s_data_except, s_value, s_one_or_more}
+use Rattle.rng_model.specs.simple.Tree.{s_joined}
 use Rattle.rng_model.specs.simple.Grammar.{Grammar}
 use Rattle.rng_model.specs.schema.Schema.{Schema}
-use Rattle.rncv_model.specs.printed.PrintedText.{Item, element, pattern, element_at}
+use Rattle.rncv_model.specs.printed.Items.{PrintedItem, element, pattern, element_at}
 use Rattle.rnc_model.specs.grammar.Syntax as tree
 use Rattle.rnc_model.specs.declarations.FileTree.{FileTree}
-use Rattle.rnc_model.specs.loading.Mentions.{MentionedFile, mention_of, mentions_of, mentions_of_pattern, mentions_of_component, mentions_of_components}
-use Rattle.rnc_model.specs.loading.MentionPaths.{Path, Mentions, directly, through, IsPath, path_ends, path_goes_on, BreaksMentions, path_limit}
-use Rattle.rnc_model.specs.loading.Loading.{TakenFiles, with_name, hrefs_of, tree_in, hrefs_if, hrefs_in, none_yet, one_more, AreTaken, BreaksIncludes, BreaksTogether}
+use Rattle.rnc_model.specs.loading.Mentions.{MentionedFile, mention_of, mentions_of, mentions_of_pattern, mentions_of_component, mentions_of_components, Path}
+use Rattle.rnc_model.specs.loading.Mentions.{Mentions, directly, through, IsPath, path_ends, path_goes_on, BreaksMentions, path_limit}
+use Rattle.rnc_model.specs.loading.Loading.{TakenFiles, with_name, hrefs_of, tree_in, hrefs_if, hrefs_in, none_yet, one_more, AreTaken, BreaksIncludes}
+use Rattle.rnc_model.specs.loading.Loading.{BreaksTogether}
 use Rattle.rnc_model.specs.loading.Loading.{mentions_break, includes_break, are_taken, FilesHaveVerdict}
-use Rattle.rnc_model.specs.loading.LoadedSchema.{AreSchema}
-use Rattle.rnc_model.specs.loading.Places.{IsSchemaOf}
-use Rattle.rnc_model.specs.loading.SchemaFile.{Name, NamedFile, HasTree}
+use Rattle.rnc_model.specs.loading.LoadedSchema.{AreSchema, IsSchemaOf}
+use Rattle.rnc_model.specs.loading.SchemaFile.{FileName, NamedFile, HasTree}
 use Rattle.rnc_print_laws.specs.plain.LinesSchema.{IsSchemaOfLines, schema_of_lines}
 use Rattle.rnc_print_laws.specs.plain.HandedIn.{lines_alone}
 use Rattle.rnc_print_laws.specs.plain.LinesTree as lines
@@ -27,7 +28,7 @@ use Rattle.rnc_print_laws.proofs.ReadLines.{lines_read, lines_are_read}
 
 -- ---- the lines mention no file
 
-reference_mentions : (items : List Item) (a : Simple ℕ) → mentions_of_pattern (lines.reference_of items a) ≡ []
+reference_mentions : (items : List PrintedItem) (a : Simple ℕ) → mentions_of_pattern (lines.reference_of items a) ≡ []
 reference_mentions items s_not_allowed = refl
 reference_mentions items s_empty = refl
 reference_mentions items s_text = refl
@@ -40,7 +41,7 @@ reference_mentions items (s_value d v) = refl
 reference_mentions items (s_one_or_more a) = refl
 reference_mentions items (s_joined k a b) = refl
 
-pattern_mentions : (items : List Item) (a : Simple ℕ) → mentions_of_pattern (lines.pattern_of items a) ≡ []
+pattern_mentions : (items : List PrintedItem) (a : Simple ℕ) → mentions_of_pattern (lines.pattern_of items a) ≡ []
 pattern_mentions items s_not_allowed = refl
 pattern_mentions items s_empty = refl
 pattern_mentions items s_text = refl
@@ -53,15 +54,15 @@ pattern_mentions items (s_value d v) = refl
 pattern_mentions items (s_one_or_more a) = reference_mentions items a
 pattern_mentions items (s_joined k a b) = ap₂ (λ (xs ys : List MentionedFile). xs ++ (ys ++ [])) (reference_mentions items a) (reference_mentions items b)
 
-item_mentions : (g : Grammar) (items : List Item) (i : Item) → mentions_of_component (lines.define_of g items i) ≡ []
+item_mentions : (g : Grammar) (items : List PrintedItem) (i : PrintedItem) → mentions_of_component (lines.define_of g items i) ≡ []
 item_mentions g items (element k) = reference_mentions items (element_at g k).1
 item_mentions g items (pattern a) = pattern_mentions items a
 
-items_mention : (g : Grammar) (items js : List Item) → mentions_of_components (tree.components_of (map (lines.define_of g items) js)) ≡ []
+items_mention : (g : Grammar) (items js : List PrintedItem) → mentions_of_components (tree.components_of (map (lines.define_of g items) js)) ≡ []
 items_mention g items [] = refl
 items_mention g items (j ∷ js) = ap₂ (λ (xs ys : List MentionedFile). xs ++ ys) (item_mentions g items j) (items_mention g items js)
 
-lines_mention : (g : Grammar) (items : List Item) → mentions_of (lines_tree g items) ≡ []
+lines_mention : (g : Grammar) (items : List PrintedItem) → mentions_of (lines_tree g items) ≡ []
 lines_mention g items = ap₂ (λ (xs ys : List MentionedFile). xs ++ ys) (reference_mentions items g.start) (items_mention g items items)
 
 -- ---- a main file that mentions no other
@@ -69,30 +70,30 @@ lines_mention g items = ap₂ (λ (xs ys : List MentionedFile). xs ++ ys) (refer
 twice_none : (p q : Path) (rest : List Path) → p ≡ [] → q ≡ [] → HasTwice (p ∷ q ∷ rest)
 twice_none p q rest e f = subst (λ x. HasTwice (p ∷ x ∷ rest)) (e ∙ sym f) (at_first here)
 
-module _ (main : Name) (t : FileTree) (none : mentions_of t ≡ []) where
+module _ (main : FileName) (t : FileTree) (none : mentions_of t ≡ []) where
   abbrev pub alone : TakenFiles
   alone = (main, t) ∷ []
 
   no_hrefs : hrefs_of t ≡ []
   no_hrefs = ap (map (λ m. (mention_of m).href)) none
 
-  hrefs_none : (f : Name) → hrefs_in alone f ≡ []
+  hrefs_none : (f : FileName) → hrefs_in alone f ≡ []
   hrefs_none f = by_name (bytes_eq f main)
     where
       by_name : (b : Bool) → hrefs_if (cond b (Some t) None) ≡ []
       by_name true = no_hrefs
       by_name false = refl
 
-  mentions_none : {f g : Name} → Mentions (hrefs_in alone) f g → ⊥
+  mentions_none : {f g : FileName} → Mentions (hrefs_in alone) f g → ⊥
   mentions_none (directly {f} {g} a) = let b = subst (Among g) (hrefs_none f) a in elim b [ ]
   mentions_none (through {f} {g} {h} m a) = mentions_none m
 
-  path_none : (f : Name) (p : Path) → IsPath (hrefs_in alone) f p → p ≡ []
+  path_none : (f : FileName) (p : Path) → IsPath (hrefs_in alone) f p → p ≡ []
   path_none f p (path_ends e) = e
   path_none f p (path_goes_on {f = d} {g} {i} here_is rest e) =
-      not_found i g (sym (ap (λ (ns : List Name). slice_get ns i) (hrefs_none d)) ∙ here_is)
+      not_found i g (sym (ap (λ (ns : List FileName). slice_get ns i) (hrefs_none d)) ∙ here_is)
     where
-      not_found : (i : ℕ) (g : Name) → slice_get [] i ≡ Some g → p ≡ []
+      not_found : (i : ℕ) (g : FileName) → slice_get [] i ≡ Some g → p ≡ []
       not_found i g e = let h = slice_get_within [] i g e in absurd (omega (arith, h))
 
   few_paths : (some : List Path) → ((p : Path) → Among p some → IsPath (hrefs_in alone) main p) → ¬ (HasTwice some) → path_limit < length some → ⊥
@@ -104,7 +105,7 @@ module _ (main : Name) (t : FileTree) (none : mentions_of t ≡ []) where
   no_mentions (inl c) = mentions_none c.2
   no_mentions (inr m) = few_paths m.some m.are m.differ m.more
 
-  only_main : (file : Name × FileTree) → Among file alone → mentions_of file.1 ≡ []
+  only_main : (file : FileName × FileTree) → Among file alone → mentions_of file.1 ≡ []
   only_main file here = none
   only_main file (there a) = elim a [ ]
 
@@ -135,7 +136,7 @@ module _ (main : Name) (t : FileTree) (none : mentions_of t ≡ []) where
 
 -- ---- the file of the lines
 
-module _ (main : Name) (g : Grammar) (items : List Item) where
+module _ (main : FileName) (g : Grammar) (items : List PrintedItem) where
   abbrev only_lines : TakenFiles
   only_lines = lines_alone main g items
 

@@ -4,7 +4,8 @@ use Rattle.rng_model.proofs.Members.{among_mapped}
 use Rattle.rng_model.specs.names.Lists.{Among, here, there, HasTwo, first_and, both_later}
 use Rattle.rng_model.specs.names.Names.{NameClass}
 use Rattle.rng_model.specs.datatypes.Datatypes.{IsAllowed}
-use Rattle.rng_model.specs.simple.Tree.{Simple, s_not_allowed, s_empty, s_text, s_leaf, s_attribute, s_list, s_data, s_data_except, s_value, s_one_or_more, s_joined}
+use Rattle.rng_model.specs.simple.Tree.{Simple, s_not_allowed, s_empty, s_text, s_leaf, s_attribute, s_list, s_data, s_data_except, s_value, s_one_or_more}
+use Rattle.rng_model.specs.simple.Tree.{s_joined}
 use Rattle.rng_model.specs.simple.Grammar.{Grammar}
 use Rattle.rng_model.specs.schema.Patterns as written
 use Rattle.rng_model.specs.schema.Patterns.{Place, Pattern, IsWrittenIn, without_parameters}
@@ -12,7 +13,8 @@ use Rattle.rng_model.specs.schema.Schema.{Schema, Component, HasComponent, IsWri
 use Rattle.rng_model.specs.schema.SchemaClauses as clause
 use Rattle.rng_model.specs.schema.SchemaClauses.{BreaksNameClass, BreaksDatatype, BreaksCombination, HasNoStart, BreaksRef}
 use Rattle.rng_model.specs.declared.method.Method.TheVariants as methods
-use Rattle.rncv_model.specs.printed.PrintedText.{Item, element, pattern, item_of, item_name, element_at, parts_of, mentions, IsItemsOf}
+use Rattle.rncv_model.specs.printed.Items.{PrintedItem, element, pattern, named_item, element_at, parts_of, mentions, IsItemsOf}
+use Rattle.rncv_model.specs.printed.PrintedText.{item_name}
 use Rattle.rnc_print_laws.specs.plain.LinesSchema.{flattened, reference_pattern, item_pattern, start_line, item_line, lines_components, IsSchemaOfLines}
 use Rattle.rnc_print_laws.proofs.ClassParts.{IsGoodClass, IsFreeOfDeclarations, good_nested, good_from_nested, free_from_nested}
 use Rattle.rnc_print_laws.proofs.FlattenedClasses.{nested_flattened}
@@ -44,15 +46,15 @@ IsWhole (s_value d v) = ⊥
 IsWhole (s_one_or_more a) = Unit {0}
 IsWhole (s_joined k a b) = Unit {0}
 
-module _ (g : Grammar) (items : List Item) (good : IsGoodGrammar g) (numbered : IsItemsOf g items) where
+module _ (g : Grammar) (items : List PrintedItem) (good : IsGoodGrammar g) (numbered : IsItemsOf g items) where
   abbrev n : ℕ
   n = length g.elements
 
-  abbrev IsGoodItem : Item → Type 0
+  abbrev IsGoodItem : PrintedItem → Type 0
   IsGoodItem (element k) = k < n
   IsGoodItem (pattern a) = IsWhole a × IsGoodTree n a
 
-  tree_items : (a : Simple ℕ) → IsGoodTree n a → (i : Item) → Among i (item_of a) → IsGoodItem i
+  tree_items : (a : Simple ℕ) → IsGoodTree n a → (i : PrintedItem) → Among i (named_item a) → IsGoodItem i
   tree_items s_not_allowed h i m = elim m [ ]
   tree_items s_empty h i m = elim m [ ]
   tree_items s_text h i m = elim m [ ]
@@ -71,13 +73,13 @@ module _ (g : Grammar) (items : List Item) (good : IsGoodGrammar g) (numbered : 
   tree_items (s_joined k a b) h i here = (tt, h)
   tree_items (s_joined k a b) h i (there m) = elim m [ ]
 
-  either_items : (xs ys : List Item) → ((i : Item) → Among i xs → IsGoodItem i) → ((i : Item) → Among i ys → IsGoodItem i) → (i : Item) → Among i (xs ++ ys)
+  either_items : (xs ys : List PrintedItem) → ((i : PrintedItem) → Among i xs → IsGoodItem i) → ((i : PrintedItem) → Among i ys → IsGoodItem i) → (i : PrintedItem) → Among i (xs ++ ys)
       → IsGoodItem i
   either_items [] ys f h i m = h i m
   either_items (x ∷ xs) ys f h i here = f x here
   either_items (x ∷ xs) ys f h i (there m) = either_items xs ys (λ j a. f j (there a)) h i m
 
-  part_items : (a : Simple ℕ) → IsGoodTree n a → (i : Item) → Among i (parts_of a) → IsGoodItem i
+  part_items : (a : Simple ℕ) → IsGoodTree n a → (i : PrintedItem) → Among i (parts_of a) → IsGoodItem i
   part_items s_not_allowed h i m = elim m [ ]
   part_items s_empty h i m = elim m [ ]
   part_items s_text h i m = elim m [ ]
@@ -88,13 +90,13 @@ module _ (g : Grammar) (items : List Item) (good : IsGoodGrammar g) (numbered : 
   part_items (s_data_except d a) h i m = tree_items a h.1 i m
   part_items (s_value d v) h i m = elim m [ ]
   part_items (s_one_or_more a) h i m = tree_items a h i m
-  part_items (s_joined k a b) h i m = either_items (item_of a) (item_of b) (tree_items a h.0) (tree_items b h.1.0) i m
+  part_items (s_joined k a b) h i m = either_items (named_item a) (named_item b) (tree_items a h.0) (tree_items b h.1.0) i m
 
-  mention_items : (j : Item) → IsGoodItem j → (i : Item) → Among i (mentions g j) → IsGoodItem i
+  mention_items : (j : PrintedItem) → IsGoodItem j → (i : PrintedItem) → Among i (mentions g j) → IsGoodItem i
   mention_items (element k) l = tree_items (element_at g k).1 (good.elements k l).body.good
   mention_items (pattern a) h = part_items a h.1
 
-  good_item : (i : Item) → Among i items → IsGoodItem i
+  good_item : (i : PrintedItem) → Among i items → IsGoodItem i
   good_item = each_item g items numbered IsGoodItem (tree_items g.start good.start.good) mention_items
 
   -- ---- the conditions of the clauses on a pattern
@@ -114,12 +116,12 @@ module _ (g : Grammar) (items : List Item) (good : IsGoodGrammar g) (numbered : 
   Asked (written.zero_or_more p) = Unit {0}
   Asked (written.one_or_more p) = Unit {0}
   Asked (written.joined k p q ps) = Unit {0}
-  Asked (written.ref y) = (i : Item) × Among i items × (y ≡ item_name items i)
+  Asked (written.ref y) = (i : PrintedItem) × Among i items × (y ≡ item_name items i)
   Asked (written.parent_ref y) = ⊥
   Asked (written.grammar z) = ⊥
   Asked (written.external p) = Unit {0}
 
-  in_reference : (a : Simple ℕ) → IsGoodTree n a → AreAmong items (item_of a) → (q : Pattern) → IsWrittenIn q (reference_pattern items a) → Asked q
+  in_reference : (a : Simple ℕ) → IsGoodTree n a → AreAmong items (named_item a) → (q : Pattern) → IsWrittenIn q (reference_pattern items a) → Asked q
   in_reference s_not_allowed h m q written.itself = tt
   in_reference s_empty h m q written.itself = tt
   in_reference s_text h m q written.itself = tt
@@ -155,15 +157,15 @@ module _ (g : Grammar) (items : List Item) (good : IsGoodGrammar g) (numbered : 
   in_tree_line (s_one_or_more a) w h m q written.itself = tt
   in_tree_line (s_one_or_more a) w h m q (written.in_one_or_more i) = in_reference a h m q i
   in_tree_line (s_joined k a b) w h m q written.itself = tt
-  in_tree_line (s_joined k a b) w h m q (written.in_first i) = in_reference a h.0 (λ j c. m j (among_left (item_of b) c)) q i
-  in_tree_line (s_joined k a b) w h m q (written.in_second i) = in_reference b h.1.0 (λ j c. m j (among_right (item_of a) c)) q i
+  in_tree_line (s_joined k a b) w h m q (written.in_first i) = in_reference a h.0 (λ j c. m j (among_left (named_item b) c)) q i
+  in_tree_line (s_joined k a b) w h m q (written.in_second i) = in_reference b h.1.0 (λ j c. m j (among_right (named_item a) c)) q i
   in_tree_line (s_joined k a b) w h m q (written.in_another i) = elim i [ ]
 
   in_element_line : (k : ℕ) → k < n → AreAmong items (mentions g (element k)) → (q : Pattern) → IsWrittenIn q (item_pattern g items (element k)) → Asked q
   in_element_line k l m q written.itself = good_flattened (element_at g k).0 (good.elements k l).class
   in_element_line k l m q (written.in_element i) = in_reference (element_at g k).1 (good.elements k l).body.good m q i
 
-  in_line : (i : Item) → IsGoodItem i → AreAmong items (mentions g i) → (q : Pattern) → IsWrittenIn q (item_pattern g items i) → Asked q
+  in_line : (i : PrintedItem) → IsGoodItem i → AreAmong items (mentions g i) → (q : Pattern) → IsWrittenIn q (item_pattern g items i) → Asked q
   in_line (element k) h m q w = in_element_line k h m q w
   in_line (pattern a) h m q w = in_tree_line a h.0 h.1 m q w
 
@@ -205,7 +207,7 @@ module _ (g : Grammar) (items : List Item) (good : IsGoodGrammar g) (numbered : 
     AreTwo c d = (c.name ≡ d.name) × (c.method ≡ methods.Plain) × (d.method ≡ methods.Plain)
 
     module _ (few : length items < 2 ^ 64) where
-      no_two : (w js : List Item) → AreItemsNew w js → AreAmong items js → HasTwo AreTwo (map (item_line g items) js) → ⊥
+      no_two : (w js : List PrintedItem) → AreItemsNew w js → AreAmong items js → HasTwo AreTwo (map (item_line g items) js) → ⊥
       no_two w [] new inside t = elim t [ ]
       no_two w (j ∷ js) new inside (first_and {y = c} a p) =
           let x = among_map (item_line g items) js c a in
@@ -233,7 +235,7 @@ module _ (g : Grammar) (items : List Item) (good : IsGoodGrammar g) (numbered : 
     pub has_start : ¬ (HasNoStart r)
     has_start h = h.none (start_line g items) (subst (Among (start_line g items)) (sym (at_lines h.place h.components h.there)) here) refl
 
-    named_line : (x : Place) (cs : List Component) → r.components x ≡ Some cs → (i : Item) → Among i items → HasComponent r x (item_line g items i)
+    named_line : (x : Place) (cs : List Component) → r.components x ≡ Some cs → (i : PrintedItem) → Among i items → HasComponent r x (item_line g items i)
     named_line x cs e i a = record {
       components = lines_components g items;
       there = ap r.components (lines.only x cs e) ∙ lines.components;

@@ -5,8 +5,7 @@ use Rattle.std.proofs.lemmas.Bool.{or_cases, or_right, or_left}
 use Rattle.rng_model.proofs.Members.{all_among}
 use Rattle.rng_model.specs.names.Lists.{Among, here, there}
 use Rattle.rng_model.specs.simple.Grammar.{Grammar}
-use Rattle.rncv_model.specs.printed.Numbering.{has, IsReached, at_start, in_line}
-use Rattle.rncv_model.specs.printed.PrintedText.{Item, same_item, item_of, mentions, IsItemsOf}
+use Rattle.rncv_model.specs.printed.Items.{has, IsReached, at_start, in_line, PrintedItem, same_item, named_item, mentions, IsItemsOf}
 use Rattle.rnc_print.proofs.FailedTests.{false_true}
 use Rattle.rnc_print.proofs.SameTests.{item_exact, item_itself}
 use Rattle.rnc_print.proofs.Numberings.{AreNew, numbering_new, and_has_right}
@@ -21,14 +20,14 @@ pub among_right : {A : Type 0} {x : A} (xs : List A) {ys : List A} → Among x y
 among_right [] i = i
 among_right (y ∷ xs) i = there (among_right xs i)
 
-pub among_has : {x : Item} {xs : List Item} → Among x xs → has same_item xs x ≡ true
+pub among_has : {x : PrintedItem} {xs : List PrintedItem} → Among x xs → has same_item xs x ≡ true
 among_has {x} (here {xs}) = or_left (same_item x x) (has same_item xs x) (item_itself x)
 among_has {x} (there {y} {xs} i) = or_right (same_item x y) (has same_item xs x) (among_has i)
 
-pub has_among : (xs : List Item) (x : Item) → has same_item xs x ≡ true → Among x xs
+pub has_among : (xs : List PrintedItem) (x : PrintedItem) → has same_item xs x ≡ true → Among x xs
 has_among [] x h = absurd (false_true h)
 has_among (y ∷ xs) x h = elim (or_cases (same_item x y) (has same_item xs x) h) [
-  | inl e ↦ subst (λ (z : Item). Among x (z ∷ xs)) (item_exact x y e) here
+  | inl e ↦ subst (λ (z : PrintedItem). Among x (z ∷ xs)) (item_exact x y e) here
   | inr d ↦ there (has_among xs x d)
 ]
 
@@ -44,30 +43,30 @@ flat_among f (there {y = z} i) j = among_right (f z) (flat_among f i j)
 -- ---- the items of a grammar
 
 -- these are all among the items
-abbrev pub AreAmong : List Item → List Item → Type 0
-AreAmong items xs = (i : Item) → Among i xs → Among i items
+abbrev pub AreAmong : List PrintedItem → List PrintedItem → Type 0
+AreAmong items xs = (i : PrintedItem) → Among i xs → Among i items
 
-module _ (g : Grammar) (items : List Item) (n : IsItemsOf g items) where
-  written_among : (i : Item) → Among i (item_of g.start ++ flat_map (mentions g) items) → Among i items
+module _ (g : Grammar) (items : List PrintedItem) (n : IsItemsOf g items) where
+  written_among : (i : PrintedItem) → Among i (named_item g.start ++ flat_map (mentions g) items) → Among i items
   written_among i a =
-      let h = and_has_right same_item item_exact item_itself [] (item_of g.start ++ flat_map (mentions g) items) i (among_has a) in
+      let h = and_has_right same_item item_exact item_itself [] (named_item g.start ++ flat_map (mentions g) items) i (among_has a) in
       subst (Among i) (sym n.in_order) (has_among _ i h)
 
-  pub start_among : AreAmong items (item_of g.start)
+  pub start_among : AreAmong items (named_item g.start)
   start_among i a = written_among i (among_left (flat_map (mentions g) items) a)
 
-  pub line_among : (j : Item) → Among j items → AreAmong items (mentions g j)
-  line_among j b i a = written_among i (among_right (item_of g.start) (flat_among (mentions g) b a))
+  pub line_among : (j : PrintedItem) → Among j items → AreAmong items (mentions g j)
+  line_among j b i a = written_among i (among_right (named_item g.start) (flat_among (mentions g) b a))
 
   pub each_once : AreNew same_item item_exact item_itself [] items
-  each_once = numbering_new same_item item_exact item_itself (item_of g.start) (mentions g) items n
+  each_once = numbering_new same_item item_exact item_itself (named_item g.start) (mentions g) items n
 
   -- what holds for everything the start mentions, and passes from a line's item to everything the line mentions, holds
   -- for each item
-  pub each_item : (P : Item → Type 0) → ((i : Item) → Among i (item_of g.start) → P i) → ((j : Item) → P j → (i : Item) → Among i (mentions g j) → P i)
-      → (i : Item) → Among i items → P i
-  each_item P starts lines i a = reached i (all_among (IsReached same_item (item_of g.start) (mentions g)) n.reached a)
+  pub each_item : (P : PrintedItem → Type 0) → ((i : PrintedItem) → Among i (named_item g.start) → P i) → ((j : PrintedItem) → P j → (i : PrintedItem) → Among i (mentions g j) → P i)
+      → (i : PrintedItem) → Among i items → P i
+  each_item P starts lines i a = reached i (all_among (IsReached same_item (named_item g.start) (mentions g)) n.reached a)
     where
-      reached : (i : Item) → IsReached same_item (item_of g.start) (mentions g) i → P i
-      reached i (at_start {a = x} c) = starts x (contains_among (item_of g.start) x c)
+      reached : (i : PrintedItem) → IsReached same_item (named_item g.start) (mentions g) i → P i
+      reached i (at_start {a = x} c) = starts x (contains_among (named_item g.start) x c)
       reached i (in_line {a = y} {x} r c) = lines x (reached x r) y (contains_among (mentions g x) y c)

@@ -4,19 +4,23 @@ use Rattle.std.specs.Prelude.{◌||◌, cond}
 use Rattle.std.specs.Str.{bytes_eq}
 use Rattle.std.proofs.lemmas.List.{append-nil}
 use Rattle.rng_model.specs.names.Names.{NameClass, any_name, any_except, ns_name, ns_except, name_is, one_of, NameClasses, no_classes, class_and}
-use Rattle.rng_model.specs.simple.Tree.{Datatype, Connector, choice, group, interleave, Simple, s_not_allowed, s_empty, s_text, s_leaf, s_attribute, s_list, s_data}
+use Rattle.rng_model.specs.simple.Tree.{Datatype, Connector, choice, group, interleave, Simple, s_not_allowed, s_empty, s_text, s_leaf, s_attribute, s_list}
+use Rattle.rng_model.specs.simple.Tree.{s_data}
 use Rattle.rng_model.specs.simple.Tree.{s_data_except, s_value, s_one_or_more, s_joined}
 use Rattle.rng_model.specs.simple.Grammar.{Grammar}
 use Rattle.rnc_model.specs.declared.token.Sign.TheVariants as signs
-use Rattle.rncv_model.specs.printed.PrintedText as printed
-use Rattle.rncv_model.specs.printed.PrintedText.{Item, element, pattern, element_at, item_name, prefix_of, escaped, runs_of, is_choice, is_except, namespaces, run_text}
-use Rattle.rncv_model.specs.printed.PrintedText.{more_runs, joined_runs, literal, class_text, classes_text, name_text, type_text, parameter_text, parameters_text}
-use Rattle.rncv_model.specs.printed.PrintedText.{datatype_text, reference, connector_text, pattern_text, element_text, item_text, line, namespace_line, item_line, lines}
-use Rattle.rncv_model.specs.printed.PrintedText.{text_of}
+use Rattle.rncv_model.specs.printed.Words as printed
+use Rattle.rncv_model.specs.printed.Items.{PrintedItem, element, pattern, element_at}
+use Rattle.rncv_model.specs.printed.PrintedText.{item_name, namespaces, reference, pattern_text, element_text, item_text, definition_line, namespace_line}
+use Rattle.rncv_model.specs.printed.PrintedText.{item_line, schema_lines, text_of}
+use Rattle.rncv_model.specs.printed.Words.{prefix_of, escaped, runs_of, is_choice, is_except, run_text, more_runs, joined_runs, literal, class_text}
+use Rattle.rncv_model.specs.printed.Words.{classes_text, name_text, type_text, parameter_text, parameters_text, datatype_text, connector_text}
 use Rattle.rnc_text.specs.plain.Marks.{Mark, space, line_end, word, cname, segment, sign, mark_text, text_of_marks}
 use Rattle.rnc_text.specs.plain.Marks as marks
-use Rattle.rnc_print_laws.specs.plain.PrintedMarks.{run_mark, joined_run_marks, literal_marks, in_parentheses_if, name_mark, class_marks, classes_marks, type_mark}
-use Rattle.rnc_print_laws.specs.plain.PrintedMarks.{parameter_marks, parameters_marks, datatype_marks, reference_marks, connector_marks, braced_marks, pattern_marks}
+use Rattle.rnc_print_laws.specs.plain.PrintedMarks.{run_mark, joined_run_marks, literal_marks, in_parentheses_if, name_mark, class_marks, classes_marks}
+use Rattle.rnc_print_laws.specs.plain.PrintedMarks.{type_mark}
+use Rattle.rnc_print_laws.specs.plain.PrintedMarks.{parameter_marks, parameters_marks, datatype_marks, reference_marks, connector_marks, braced_marks}
+use Rattle.rnc_print_laws.specs.plain.PrintedMarks.{pattern_marks}
 use Rattle.rnc_print_laws.specs.plain.PrintedMarks.{item_marks, line_marks, namespace_marks, item_line_marks, lines_marks, marks_of}
 
 pub text_append : (ms ns : List Mark) → text_of_marks escaped (ms ++ ns) ≡ text_of_marks escaped ms ++ text_of_marks escaped ns
@@ -112,7 +116,7 @@ datatype_is d = rw (type_is d, parameters_are d.parameters) refl
 value_is : (d : Datatype) (v : List ℕ) → type_text d ++ (codes " " ++ literal v) ≡ text_of_marks escaped (type_mark d ∷ space ∷ literal_marks v)
 value_is d v = rw (type_is d, literal_text v) refl
 
-pub reference_is : (items : List Item) (s : Simple ℕ) → reference items s ≡ text_of_marks escaped (reference_marks items s)
+pub reference_is : (items : List PrintedItem) (s : Simple ℕ) → reference items s ≡ text_of_marks escaped (reference_marks items s)
 reference_is items s_not_allowed = refl
 reference_is items s_empty = refl
 reference_is items s_text = refl
@@ -130,20 +134,20 @@ connector_is choice = refl
 connector_is group = refl
 connector_is interleave = refl
 
-braced_is : (items : List Item) (a : Simple ℕ)
+braced_is : (items : List PrintedItem) (a : Simple ℕ)
     → codes "{ " ++ (reference items a ++ codes " }") ≡ text_of_marks escaped (braced_marks (reference_marks items a))
 braced_is items a =
     ap (λ (x : List ℕ). codes "{ " ++ x)
     (behind (reference items a) (codes " }") (reference_marks items a) (space ∷ sign signs.CloseBrace ∷ []) (reference_is items a) refl)
 
-classed_is : (ns : List (List ℕ)) (items : List Item) (c : NameClass) (a : Simple ℕ)
+classed_is : (ns : List (List ℕ)) (items : List PrintedItem) (c : NameClass) (a : Simple ℕ)
     → class_text ns c ++ (codes " { " ++ (reference items a ++ codes " }"))
     ≡ text_of_marks escaped (class_marks ns c ++ space ∷ braced_marks (reference_marks items a))
 classed_is ns items c a =
     behind (class_text ns c) _ (class_marks ns c) (space ∷ braced_marks (reference_marks items a)) (class_is ns c)
     (ap (λ (x : List ℕ). 0x20 ∷ x) (braced_is items a))
 
-pattern_is : (ns : List (List ℕ)) (items : List Item) (s : Simple ℕ) → pattern_text ns items s ≡ text_of_marks escaped (pattern_marks ns items s)
+pattern_is : (ns : List (List ℕ)) (items : List PrintedItem) (s : Simple ℕ) → pattern_text ns items s ≡ text_of_marks escaped (pattern_marks ns items s)
 pattern_is ns items (s_joined k a b) =
     behind (reference items a) _ (reference_marks items a) (connector_marks k ++ reference_marks items b) (reference_is items a)
     (behind (connector_text k) (reference items b) (connector_marks k) (reference_marks items b) (connector_is k) (reference_is items b))
@@ -160,27 +164,27 @@ pattern_is ns items (s_leaf k) = reference_is items (s_leaf k)
 pattern_is ns items (s_data d) = reference_is items (s_data d)
 pattern_is ns items (s_value d v) = reference_is items (s_value d v)
 
-item_is : (g : Grammar) (ns : List (List ℕ)) (items : List Item) (i : Item) → item_text g ns items i ≡ text_of_marks escaped (item_marks g ns items i)
+item_is : (g : Grammar) (ns : List (List ℕ)) (items : List PrintedItem) (i : PrintedItem) → item_text g ns items i ≡ text_of_marks escaped (item_marks g ns items i)
 item_is g ns items (element k) = ap (λ (x : List ℕ). codes "element " ++ x) (classed_is ns items (element_at g k).0 (element_at g k).1)
 item_is g ns items (pattern s) = pattern_is ns items s
 
-line_is : (name w : List ℕ) (ms : List Mark) → w ≡ text_of_marks escaped ms → line name w ≡ text_of_marks escaped (line_marks name ms)
+line_is : (name w : List ℕ) (ms : List Mark) → w ≡ text_of_marks escaped ms → definition_line name w ≡ text_of_marks escaped (line_marks name ms)
 line_is name w ms e = ap (λ (x : List ℕ). name ++ (codes " = " ++ x)) (behind w (0xA ∷ []) ms (line_end ∷ []) e refl)
 
 namespace_is : (ns : List (List ℕ)) (u : List ℕ) → namespace_line ns u ≡ text_of_marks escaped (namespace_marks ns u)
 namespace_is ns u = ap (λ (x : List ℕ). codes "namespace " ++ x) (line_is (prefix_of ns u) (literal u) (literal_marks u) (literal_text u))
 
-pub lines_are : (g : Grammar) (ns : List (List ℕ)) (items : List Item) → lines g ns items ≡ text_of_marks escaped (lines_marks g ns items)
+pub lines_are : (g : Grammar) (ns : List (List ℕ)) (items : List PrintedItem) → schema_lines g ns items ≡ text_of_marks escaped (lines_marks g ns items)
 lines_are g ns items =
     behind (flat_map (namespace_line ns) ns) _ (flat_map (namespace_marks ns) ns)
     (line_marks (codes "start") (reference_marks items g.start) ++ flat_map (item_line_marks g ns items) items)
     (each_text (namespace_line ns) (namespace_marks ns) (namespace_is ns) ns)
-    (behind (line (codes "start") (reference items g.start)) (flat_map (item_line g ns items) items)
+    (behind (definition_line (codes "start") (reference items g.start)) (flat_map (item_line g ns items) items)
     (line_marks (codes "start") (reference_marks items g.start)) (flat_map (item_line_marks g ns items) items)
     (line_is (codes "start") (reference items g.start) (reference_marks items g.start) (reference_is items g.start))
     (each_text (item_line g ns items) (item_line_marks g ns items)
     (λ i. line_is (item_name items i) (item_text g ns items i) (item_marks g ns items i) (item_is g ns items i)) items))
 
 -- the printed text is that of its marks
-pub text_is : (g : Grammar) (items : List Item) → text_of g items ≡ text_of_marks escaped (marks_of g items)
+pub text_is : (g : Grammar) (items : List PrintedItem) → text_of g items ≡ text_of_marks escaped (marks_of g items)
 text_is g items = lines_are g (namespaces g items) items

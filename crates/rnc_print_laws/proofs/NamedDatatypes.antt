@@ -7,9 +7,9 @@ use Rattle.std.proofs.lemmas.Bool.{true≢false}
 use Rattle.std.proofs.lemmas.Str.{IsUtf8-from_ascii, chars_from_encodes, encodes-IsAscii}
 use Rattle.rng_model.proofs.ValueLaws.{known_if_allowed}
 use Rattle.rng_model.proofs.Texts.{bytes_same}
-use Rattle.rng_model.specs.names.Characters.{is_xml_char, is_ncname}
+use Rattle.rng_model.specs.names.Names.{is_xml_char, is_ncname}
 use Rattle.rng_model.specs.simple.Tree.{Datatype}
-use Rattle.rng_model.specs.datatypes.Parameters.{named}
+use Rattle.rng_model.specs.datatypes.Facets.{named}
 use Rattle.rng_model.specs.datatypes.Datatypes.{Maker, plain_types, xsd_types, xsd_uri, type_named, meaning_of, IsKnownDatatype, IsAllowed}
 use Rattle.rnc_print_laws.specs.plain.Printable.{IsText, IsName, CanBeNamed}
 

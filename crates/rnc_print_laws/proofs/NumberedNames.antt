@@ -8,11 +8,11 @@ use Rattle.std.proofs.lemmas.Bool.{ne_eqb, le-leb, and_parts, and_from, or_left,
 use Rattle.std.proofs.lemmas.Str.{encode_ascii, encodes-IsAscii}
 use Rattle.std.proofs.lemmas.List.Sums.{prefix_len-le-length}
 use Rattle.std.proofs.lemmas.Fmt.{decimal_by_steps, IsAscii-decimal, decimal_injective}
-use Rattle.rng_model.specs.names.Characters.{is_ncname, is_name_char, is_name_start, is_colon}
+use Rattle.rng_model.specs.names.Names.{is_ncname, is_name_char, is_name_start, is_colon}
 use Rattle.rnc_model.specs.tokens.Tokens.{keyword_of}
-use Rattle.rncv_model.specs.printed.Numbering.{has, place_in}
-use Rattle.rncv_model.specs.printed.Same.{same_tree}
-use Rattle.rncv_model.specs.printed.PrintedText.{Item, element, pattern, element_in, pattern_in, item_name, prefix_of}
+use Rattle.rncv_model.specs.printed.Items.{has, place_in, same_tree, PrintedItem, element, pattern}
+use Rattle.rncv_model.specs.printed.PrintedText.{element_in, pattern_in, item_name}
+use Rattle.rncv_model.specs.printed.Words.{prefix_of}
 use Rattle.std.proofs.lemmas.Bool.{false≢true}
 use Rattle.rng_model.proofs.Members.{same_rest}
 use Rattle.rng_model.proofs.Texts.{bytes_same, bytes_differ}
@@ -126,13 +126,13 @@ one_place same exact (x ∷ xs) a b h i e = at_tests (same a x) (same b x) refl 
 
 -- ---- the names of items and namespaces
 
-pub item_no_keyword : (items : List Item) → length items < 2 ^ 64 → (i : Item) → keyword_of (item_name items i) ≡ None
+pub item_no_keyword : (items : List PrintedItem) → length items < 2 ^ 64 → (i : PrintedItem) → keyword_of (item_name items i) ≡ None
 item_no_keyword items lt (element k) =
     e_number _ (let a = place_le (λ k l. k == l) (filter_map element_in items) k in let b = kept_le element_in items in omega (arith, a, b, lt))
 item_no_keyword items lt (pattern s) =
     p_number _ (let a = place_le same_tree (filter_map pattern_in items) s in let b = kept_le pattern_in items in omega (arith, a, b, lt))
 
-pub item_ncname : (items : List Item) → length items < 2 ^ 64 → (i : Item) → is_ncname (item_name items i) ≡ true
+pub item_ncname : (items : List PrintedItem) → length items < 2 ^ 64 → (i : PrintedItem) → is_ncname (item_name items i) ≡ true
 item_ncname items lt (element k) =
     letter_number_name 0x65 _ refl
     (let a = place_le (λ k l. k == l) (filter_map element_in items) k in let b = kept_le element_in items in omega (arith, a, b, lt))
@@ -155,7 +155,7 @@ letter_number_bytes : (c n : ℕ) → c < 128 → n < 2 ^ 64 → encode_utf8_all
 letter_number_bytes c n l lt =
     ap (λ (x : List ℕ). x ++ encode_utf8_all (decimal n)) (encode_ascii c l) ∙ ap (λ (x : List ℕ). c ∷ x) (encodes-IsAscii (decimal n) (IsAscii-decimal n lt))
 
-pub item_bytes : (items : List Item) → length items < 2 ^ 64 → (i : Item) → encode_utf8_all (item_name items i) ≡ item_name items i
+pub item_bytes : (items : List PrintedItem) → length items < 2 ^ 64 → (i : PrintedItem) → encode_utf8_all (item_name items i) ≡ item_name items i
 item_bytes items lt (element k) =
     letter_number_bytes 0x65 _ (omega arith)
     (let a = place_le (λ k l. k == l) (filter_map element_in items) k in let b = kept_le element_in items in omega (arith, a, b, lt))

@@ -1,9 +1,9 @@
 -- A step of simplification in a name class keeps its names, and the parentheses of its printed text.
 use Rattle.std.proofs.Common.{◌≡◌, refl, sym, subst, ap, ℕ, ◌≤◌, max, ◌||◌, arith}
 use Rattle.rng_model.specs.names.Names.{NameClass, NameClasses}
-use Rattle.rng_model.specs.simple.ClassSteps as step
-use Rattle.rng_model.specs.simple.ClassSteps.{ClassStep, ClassesStep, ClassSteps, IsSimpleClassOf}
-use Rattle.rncv_model.specs.printed.PrintedText.{is_choice, is_except}
+use Rattle.rng_model.specs.simple.Simplification as step
+use Rattle.rng_model.specs.simple.Simplification.{ClassStep, ClassesStep, ClassSteps, IsSimpleClassOf}
+use Rattle.rncv_model.specs.printed.Words.{is_choice, is_except}
 use Rattle.rnc_model.specs.grammar.Sentence.{nesting_limit}
 use Rattle.rnc_print_laws.specs.plain.Printable.{HasNames, HaveNames, one_more_if, parentheses, parentheses_among, IsPrintableClass}
 

@@ -18,12 +18,13 @@ use Rattle.rng_model.specs.schema.Patterns.{Place, Position, Pattern, Patterns, 
 use Rattle.rng_model.specs.schema.Patterns.{pattern_tree, pattern_trees, without_parameters, IsWrittenIn, itself, in_element, in_attribute, in_list, in_except}
 use Rattle.rng_model.specs.schema.Patterns.{in_mixed, in_optional, in_zero_or_more, in_one_or_more, in_first, in_second, in_another, in_external}
 use Rattle.rng_model.specs.schema.Patterns.{IsWrittenAmong, in_this, in_later}
-use Rattle.rng_model.specs.schema.Schema.{Schema, Component, Definition, main_start, body, body_among, combining_connector, same_name, trees_named, HasComponent, IsWrittenAt}
+use Rattle.rng_model.specs.schema.Schema.{Schema, Component, Definition, main_start, body, body_among, combining_connector, same_component_name, trees_named}
+use Rattle.rng_model.specs.schema.Schema.{HasComponent, IsWrittenAt}
 use Rattle.rng_model.specs.schema.SchemaClauses.{BreaksDatatype, of_data, of_data_except, of_value}
 use Rattle.rng_model.specs.simple.SchemaForm.{IsElementOf, IsSimpleFormOfSchema, IsSameUpToNumbering, IsSimpleGrammarOf, SimpleForm}
 use Rattle.rng_model.specs.schema.Unfolding as unfolding_of
-use Rattle.rng_model.specs.schema.Unfolding.{Leaf, to_element, outside, aim, Unfolds, UnfoldAll, IsTreeOf, IsBodyOf}
-use Rattle.rng_model.specs.schema.Reached.{IsReachedBySimpleForms, from_simple_start, from_simple_body}
+use Rattle.rng_model.specs.schema.Unfolding.{Leaf, to_element, outside, aim, Unfolds, UnfoldAll, IsTreeOf, IsBodyOf, IsReachedBySimpleForms, from_simple_start}
+use Rattle.rng_model.specs.schema.Unfolding.{from_simple_body}
 use Rattle.rnc_print_laws.specs.plain.Printable.{IsName, IsPrintableClass, CanBeNamed, IsPrintableTree, IsPrintable}
 use Rattle.rnc_print_laws.specs.plain.WellSpelledSchemas.{IsWellSpelledPattern, AreWellSpelledPatterns, IsWellSpelledSchema}
 use Rattle.rnc_print_laws.proofs.NamedDatatypes.{datatype_named, allowed_named}
@@ -118,7 +119,7 @@ module _ (s : Schema) (good : IsWellSpelledSchema s) (kept : ¬ (BreaksDatatype 
   trees_good : (x : Place) (y : Option (List ℕ)) (n : ℕ) (cs : List Component) → ((c : Component) → Among c cs → HasComponent s x c)
       → AreAllGood (IsGoodPoint x) (trees_named y n cs)
   trees_good x y n [] has = tt
-  trees_good x y n (c ∷ cs) has = by_name (same_name y c.name) (trees_good x y (n + 1) cs (λ d m. has d (there m)))
+  trees_good x y n (c ∷ cs) has = by_name (same_component_name y c.name) (trees_good x y (n + 1) cs (λ d m. has d (there m)))
     where
       by_name : (b : Bool) → AreAllGood (IsGoodPoint x) (trees_named y (n + 1) cs)
           → AreAllGood (IsGoodPoint x) (if b then pattern_tree (n ∷ []) c.pattern ∷ trees_named y (n + 1) cs else trees_named y (n + 1) cs)

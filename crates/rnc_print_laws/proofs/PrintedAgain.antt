@@ -2,7 +2,7 @@
 use Rattle.std.proofs.Common.{◌≡◌, ap, subst, ℕ, List, Option}
 use Rattle.rnc_model.specs.loading.LoadedSchema.{AreSchema}
 use Rattle.rnc_model.specs.loading.Loading.{are_taken}
-use Rattle.rnc_model.specs.loading.SchemaFile.{Name, NamedFile}
+use Rattle.rnc_model.specs.loading.SchemaFile.{FileName, NamedFile}
 use Rattle.rng_model.specs.schema.Schema.{Schema}
 use Rattle.rnc_print_laws.specs.plain.HandedIn.{IsHandedInAgain, IsPrintedFile, lines_alone, text_alone}
 use Rattle.rnc_print_laws.specs.plain.LinesSchema.{IsReprintedAs}
@@ -21,7 +21,7 @@ not_check e = cc
 pub not_valid : {A : Type 0} → Simple ≡ Valid → A
 not_valid e = cc
 
-module _ (s : Schema) (text : List ℕ) (files : List NamedFile) (main : Name) (h : IsHandedInAgain s text files main) (input_old input_new : Option (List ℕ))
+module _ (s : Schema) (text : List ℕ) (files : List NamedFile) (main : FileName) (h : IsHandedInAgain s text files main) (input_old input_new : Option (List ℕ))
   where
     -- the schema of the text
     reprinted : (r : Schema) → AreSchema (lines_alone main h.printed.grammar h.printed.is_printed.items) main r → IsReprintedAs s r text
@@ -44,6 +44,6 @@ module _ (s : Schema) (text : List ℕ) (files : List NamedFile) (main : Name) (
         let f = subst (λ v. IsAnswerTo Simple main v input_old input_new answer) e a.follows in
         answer_by f.0 (reprinted f.0 f.1) answer f.2
 
-pub answer_alone : (s : Schema) (text : List ℕ) → IsPrintedFile s text → (main : Name) (input_old input_new : Option (List ℕ)) (answer : Answer)
+pub answer_alone : (s : Schema) (text : List ℕ) → IsPrintedFile s text → (main : FileName) (input_old input_new : Option (List ℕ)) (answer : Answer)
     → IsAnswer Simple (text_alone main text) main input_old input_new answer → answer ≡ printed text
 answer_alone s text h main input_old input_new = answer_again s text (text_alone main text) main (printed_alone s text h main) input_old input_new

@@ -2,7 +2,7 @@
 use Rattle.std.proofs.Common.{◌≡◌, refl, sym, subst, ℕ, ◌≤◌, List, Option, length}
 use Rattle.rnc_model.specs.loading.LoadedSchema.{AreSchema}
 use Rattle.rnc_model.specs.loading.Loading.{TakenFiles, are_taken, FilesHaveOnlyVerdict}
-use Rattle.rnc_model.specs.loading.SchemaFile.{Name, NamedFile, IsSchemaFile, size_limit}
+use Rattle.rnc_model.specs.loading.SchemaFile.{FileName, NamedFile, IsSchemaFile, size_limit}
 use Rattle.rng_model.specs.schema.Schema.{Schema}
 use Rattle.rng_model.specs.schema.SchemaClauses.{BreaksNoClause}
 use Rattle.rncv_model.specs.printed.SchemaText.{IsPrintedForm}
@@ -27,7 +27,7 @@ same_printed e = cc
 
 -- texts that are printed for schemas of files without broken clauses are read back, if they are no longer than a file
 -- may be
-module _ (files : List NamedFile) (main : Name) (text : List ℕ) (small : length text ≤ size_limit)
+module _ (files : List NamedFile) (main : FileName) (text : List ℕ) (small : length text ≤ size_limit)
     (reads : (read : TakenFiles) (s : Schema) → FilesHaveOnlyVerdict files main (are_taken read) → AreSchema read main s → BreaksNoClause s
     → (p : IsPrintedForm s text) → IsSchemaFile text (lines_tree p.grammar p.is_printed.items)) (input_old input_new : Option (List ℕ)) where
   -- the schema of the files for which the text is printed
@@ -50,12 +50,12 @@ module _ (files : List NamedFile) (main : Name) (text : List ℕ) (small : lengt
     abbrev first : (s : Schema) × AreFilesOf s files main × IsPrintedFile s text
     first = read_back (printed text) refl answered
 
-    pub printed_twice : (name : Name) (old new : Option (List ℕ)) (answer : Answer) → IsAnswer Simple (text_alone name text) name old new answer
+    pub printed_twice : (name : FileName) (old new : Option (List ℕ)) (answer : Answer) → IsAnswer Simple (text_alone name text) name old new answer
         → answer ≡ printed text
     printed_twice = answer_alone first.0 text first.2
 
-    pub same_form_twice : ((read : TakenFiles) (n : Name) (r t : Schema) → AreSchema read n r → AreSchema read n t → r ≡ t)
-        → (s : Schema) → AreFilesOf s files main → (name : Name) → AreOfSameForm s (text_alone name text) name
+    pub same_form_twice : ((read : TakenFiles) (n : FileName) (r t : Schema) → AreSchema read n r → AreSchema read n t → r ≡ t)
+        → (s : Schema) → AreFilesOf s files main → (name : FileName) → AreOfSameForm s (text_alone name text) name
     same_form_twice one_schema s is name =
         let same : s ≡ first.0 = only_schema one_schema files main first.1.read first.0 s first.1.taken.is first.1.are is in
         subst (λ x. AreOfSameForm x (text_alone name text) name) (sym same)

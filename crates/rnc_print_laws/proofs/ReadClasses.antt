@@ -18,7 +18,7 @@ listed : (cs : List (tree.NameClass applied)) → lines.list_of (tree.classes_of
 listed [] = refl
 listed (c ∷ cs) = ap (λ (xs : List (tree.NameClass applied)). c ∷ xs) (listed cs)
 
-listed_names : (cs : List names.NameClass) → list_of (names.classes_of cs) ≡ cs
+listed_names : (cs : List names.NameClass) → list_of (names.class_list cs) ≡ cs
 listed_names [] = refl
 listed_names (c ∷ cs) = ap (λ (xs : List names.NameClass). c ∷ xs) (listed_names cs)
 

@@ -7,20 +7,23 @@ use Rattle.std.specs.Str.{bytes_eq}
 use Rattle.std.proofs.lemmas.Bool.{or_cases, eqb-true, or_right}
 use Rattle.std.proofs.lemmas.Str.{encodes-chars}
 use Rattle.std.specs.Char.{encode_utf8}
-use Rattle.rng_model.specs.names.Characters.{is_ncname}
-use Rattle.rng_model.specs.names.Names.{NameClass, any_name, any_except, ns_name, ns_except, name_is, one_of, NameClasses, no_classes, class_and}
-use Rattle.rng_model.specs.simple.Tree.{Datatype, Connector, choice, group, interleave, Simple, s_not_allowed, s_empty, s_text, s_leaf, s_attribute, s_list, s_data}
+use Rattle.rng_model.specs.names.Names.{is_ncname, NameClass, any_name, any_except, ns_name, ns_except, name_is, one_of, NameClasses, no_classes, class_and}
+use Rattle.rng_model.specs.simple.Tree.{Datatype, Connector, choice, group, interleave, Simple, s_not_allowed, s_empty, s_text, s_leaf, s_attribute, s_list}
+use Rattle.rng_model.specs.simple.Tree.{s_data}
 use Rattle.rng_model.specs.simple.Tree.{s_data_except, s_value, s_one_or_more, s_joined}
 use Rattle.rng_model.specs.simple.Grammar.{Grammar}
 use Rattle.rnc_model.specs.declared.token.Sign.TheVariants as signs
 use Rattle.rnc_model.specs.tokens.Tokens.{is_quote}
-use Rattle.rncv_model.specs.printed.Numbering.{has, with_new, and_new}
-use Rattle.rncv_model.specs.printed.PrintedText.{Item, element, pattern, element_at, item_name, prefix_of, runs_of, is_choice, is_except, namespace_of, namespaces_in}
-use Rattle.rncv_model.specs.printed.PrintedText.{namespaces_among, namespaces_of, namespaces}
-use Rattle.rnc_print_laws.specs.plain.Printable.{IsText, IsName, HasNames, HaveNames, CanBeNamed, IsPrintableParameter, IsPrintableType, IsPrintableTree, IsPrintable}
+use Rattle.rncv_model.specs.printed.Items.{has, with_new, and_new, PrintedItem, element, pattern, element_at}
+use Rattle.rncv_model.specs.printed.PrintedText.{item_name, namespace_if_any, namespaces_in, namespaces_among, namespaces_of, namespaces}
+use Rattle.rncv_model.specs.printed.Words.{prefix_of, runs_of, is_choice, is_except}
+use Rattle.rnc_print_laws.specs.plain.Printable.{IsText, IsName, HasNames, HaveNames, CanBeNamed, IsPrintableParameter, IsPrintableType, IsPrintableTree}
+use Rattle.rnc_print_laws.specs.plain.Printable.{IsPrintable}
 use Rattle.rnc_text.specs.plain.Marks.{Mark, space, line_end, word, cname, sign, IsMark, is_open, begins_apart}
-use Rattle.rnc_print_laws.specs.plain.PrintedMarks.{run_mark, more_run_marks, joined_run_marks, literal_marks, in_parentheses_if, name_mark, class_marks, classes_marks}
-use Rattle.rnc_print_laws.specs.plain.PrintedMarks.{type_mark, parameter_marks, parameters_marks, datatype_marks, reference_marks, connector_marks, braced_marks}
+use Rattle.rnc_print_laws.specs.plain.PrintedMarks.{run_mark, more_run_marks, joined_run_marks, literal_marks, in_parentheses_if, name_mark, class_marks}
+use Rattle.rnc_print_laws.specs.plain.PrintedMarks.{classes_marks}
+use Rattle.rnc_print_laws.specs.plain.PrintedMarks.{type_mark, parameter_marks, parameters_marks, datatype_marks, reference_marks, connector_marks}
+use Rattle.rnc_print_laws.specs.plain.PrintedMarks.{braced_marks}
 use Rattle.rnc_print_laws.specs.plain.PrintedMarks.{pattern_marks, item_marks, line_marks, namespace_marks, item_line_marks, marks_of}
 use Rattle.rnc_print.proofs.Numberings.{all_append}
 use Rattle.rnc_print_laws.proofs.NumberedNames.{item_ncname, prefix_ncname, item_bytes, prefix_bytes}
@@ -160,14 +163,14 @@ datatype_read d h = type_then d (parameters_marks d.parameters) h.0 (parameters_
 
 -- ---- patterns
 
-item_read : (items : List Item) → length items < 2 ^ 64 → (i : Item) → Read (word (item_name items i) ∷ [])
+item_read : (items : List PrintedItem) → length items < 2 ^ 64 → (i : PrintedItem) → Read (word (item_name items i) ∷ [])
 item_read items lt i = ascii_then (item_name items i) [] (item_bytes items lt i) (item_ncname items lt i) refl nothing
 
 -- words of the grammar
 word_then : (ms : List Mark) → begins_apart ms ≡ true → Read ms → (w : List ℕ) → encode_utf8_all w ≡ w → is_ncname w ≡ true → Read (word w ∷ ms)
 word_then ms a r w e h = ascii_then w ms e h a r
 
-reference_read : (items : List Item) → length items < 2 ^ 64 → (s : Simple ℕ) → IsPrintableTree s → Read (reference_marks items s)
+reference_read : (items : List PrintedItem) → length items < 2 ^ 64 → (s : Simple ℕ) → IsPrintableTree s → Read (reference_marks items s)
 unfolding encode_utf8
 reference_read items lt s_not_allowed h = word_then [] refl nothing (codes "notAllowed") refl refl
 reference_read items lt s_empty h = word_then [] refl nothing (codes "empty") refl refl
@@ -189,7 +192,7 @@ connected_read choice ms ns r s = both r refl (space_then (then a_sign tt refl (
 connected_read group ms ns r s = both r refl (then a_sign tt refl (space_then s))
 connected_read interleave ms ns r s = both r refl (space_then (then a_sign tt refl (space_then s)))
 
-pattern_read : (ns : List (List ℕ)) (items : List Item) → AreFew ns → length items < 2 ^ 64 → (s : Simple ℕ) → IsPrintableTree s
+pattern_read : (ns : List (List ℕ)) (items : List PrintedItem) → AreFew ns → length items < 2 ^ 64 → (s : Simple ℕ) → IsPrintableTree s
     → Read (pattern_marks ns items s)
 unfolding encode_utf8
 pattern_read ns items few lt (s_joined j a b) h =
@@ -207,7 +210,7 @@ pattern_read ns items few lt (s_leaf k) h = reference_read items lt (s_leaf k) h
 pattern_read ns items few lt (s_data d) h = reference_read items lt (s_data d) h
 pattern_read ns items few lt (s_value d v) h = reference_read items lt (s_value d v) h
 
-item_marks_read : (g : Grammar) (ns : List (List ℕ)) (items : List Item) → AreFew ns → length items < 2 ^ 64 → (i : Item) → PrintableItem g i
+item_marks_read : (g : Grammar) (ns : List (List ℕ)) (items : List PrintedItem) → AreFew ns → length items < 2 ^ 64 → (i : PrintedItem) → PrintableItem g i
     → Read (item_marks g ns items i)
 unfolding encode_utf8
 item_marks_read g ns items few lt (element k) h =
@@ -224,7 +227,7 @@ line_then name ms rest e h r more =
     ascii_then name _ e h refl (space_then (then a_sign tt refl (space_then
     (subst (λ (x : List Mark). Read x) (sym (append_assoc ms (line_end ∷ []) rest)) (both r refl (then a_line_end tt refl more))))))
 
-items_read : (g : Grammar) (ns : List (List ℕ)) (items some : List Item) → AreFew ns → length items < 2 ^ 64 → AllByRecursion (PrintableItem g) some
+items_read : (g : Grammar) (ns : List (List ℕ)) (items some : List PrintedItem) → AreFew ns → length items < 2 ^ 64 → AllByRecursion (PrintableItem g) some
     → Read (flat_map (item_line_marks g ns items) some)
 items_read g ns items [] few lt h = nothing
 items_read g ns items (i ∷ some) few lt h =
@@ -243,7 +246,7 @@ namespaces_then ns (u ∷ us) rest few h r =
 
 -- ---- the namespaces are texts
 
-namespace_text : (u : List ℕ) → IsText u → AllByRecursion IsText (namespace_of u)
+namespace_text : (u : List ℕ) → IsText u → AllByRecursion IsText (namespace_if_any u)
 namespace_text [] h = tt
 namespace_text (c ∷ u) h = (h, tt)
 
@@ -262,7 +265,7 @@ mutual
   classes_texts no_classes h = tt
   classes_texts (class_and c cs) h = all_append IsText (namespaces_in c) (namespaces_among cs) (class_texts c h.0) (classes_texts cs h.1)
 
-item_texts : (g : Grammar) (i : Item) → PrintableItem g i → AllByRecursion IsText (namespaces_of g i)
+item_texts : (g : Grammar) (i : PrintedItem) → PrintableItem g i → AllByRecursion IsText (namespaces_of g i)
 item_texts g (element k) h = class_texts (element_at g k).0 h.0.0
 item_texts g (pattern (s_attribute c a)) h = class_texts c h.0.0
 item_texts g (pattern s_not_allowed) h = tt
@@ -276,7 +279,7 @@ item_texts g (pattern (s_value d v)) h = tt
 item_texts g (pattern (s_one_or_more a)) h = tt
 item_texts g (pattern (s_joined j a b)) h = tt
 
-items_texts : (g : Grammar) (items : List Item) → AllByRecursion (PrintableItem g) items → AllByRecursion IsText (flat_map (namespaces_of g) items)
+items_texts : (g : Grammar) (items : List PrintedItem) → AllByRecursion (PrintableItem g) items → AllByRecursion IsText (flat_map (namespaces_of g) items)
 items_texts g [] h = tt
 items_texts g (i ∷ items) h = all_append IsText (namespaces_of g i) (flat_map (namespaces_of g) items) (item_texts g i h.0) (items_texts g items h.1)
 
@@ -290,7 +293,7 @@ new_texts w (u ∷ us) h i = new_texts (with_new bytes_eq w u) us (at_test (has 
 
 -- ---- all lines
 
-pub marks_are_read : (g : Grammar) (items : List Item) → IsPrintable g → length items < 2 ^ 64 → length (namespaces g items) < 2 ^ 64
+pub marks_are_read : (g : Grammar) (items : List PrintedItem) → IsPrintable g → length items < 2 ^ 64 → length (namespaces g items) < 2 ^ 64
     → AllByRecursion (PrintableItem g) items → Read (marks_of g items)
 unfolding encode_utf8
 marks_are_read g items p lt few h =

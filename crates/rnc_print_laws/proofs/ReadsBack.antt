@@ -1,11 +1,11 @@
 -- The printed text of a printable grammar is read back.
 use Rattle.std.proofs.Common.{ℕ, ◌≤◌, ◌<◌, ◌^◌, List, length, map, sym, subst, arith}
 use Rattle.rng_model.specs.simple.Grammar.{Grammar}
-use Rattle.rncv_model.specs.printed.PrintedText.{Item, IsItemsOf, namespaces, text_of, IsPrinted}
+use Rattle.rncv_model.specs.printed.Items.{PrintedItem, IsItemsOf}
+use Rattle.rncv_model.specs.printed.PrintedText.{namespaces, text_of, IsPrinted}
 use Rattle.rnc_model.specs.characters.Decoding.{IsDecoded}
-use Rattle.rnc_model.specs.tokens.Cut.{tokens_at}
-use Rattle.rnc_model.specs.tokens.Lexeme.{Lexeme}
-use Rattle.rnc_model.specs.declarations.Parsing.{IsFileTree}
+use Rattle.rnc_model.specs.tokens.Cut.{tokens_at, Lexeme}
+use Rattle.rnc_model.specs.loading.SchemaFile.{IsFileTree}
 use Rattle.rnc_print_laws.specs.plain.Printable.{IsPrintable}
 use Rattle.rnc_text.specs.plain.Marks.{characters_of_marks, piece_of_mark, MarksAreCut, MarksAreDecoded}
 use Rattle.rnc_print_laws.specs.plain.LinesTree.{lines_tree}
@@ -18,7 +18,7 @@ use Rattle.rnc_print_laws.proofs.ReadMarks.{marks_are_read}
 
 -- The printed text of a printable grammar breaks no clause of a file except that of its size, and has the tree of its
 -- lines.
-reads_back : MarksAreCut → MarksAreDecoded → (g : Grammar) (items : List Item) → IsPrintable g → IsItemsOf g items → length items < 2 ^ 64
+reads_back : MarksAreCut → MarksAreDecoded → (g : Grammar) (items : List PrintedItem) → IsPrintable g → IsItemsOf g items → length items < 2 ^ 64
     → length (namespaces g items) < 2 ^ 64 → IsReadAs (text_of g items) (lines_tree g items)
 reads_back cut decoded g items p n lt few =
     let r = marks_are_read g items p lt few (items_printable g p items n) in

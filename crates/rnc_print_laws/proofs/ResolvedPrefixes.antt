@@ -5,14 +5,17 @@ use Rattle.std.specs.List.{AllByRecursion}
 use Rattle.std.specs.Str.{bytes_eq}
 use Rattle.rng_model.proofs.Texts.{bytes_itself}
 use Rattle.rng_model.specs.names.Names as names
-use Rattle.rng_model.specs.simple.Tree.{Simple, s_not_allowed, s_empty, s_text, s_leaf, s_attribute, s_list, s_data, s_data_except, s_value, s_one_or_more, s_joined}
+use Rattle.rng_model.specs.simple.Tree.{Simple, s_not_allowed, s_empty, s_text, s_leaf, s_attribute, s_list, s_data, s_data_except, s_value, s_one_or_more}
+use Rattle.rng_model.specs.simple.Tree.{s_joined}
 use Rattle.rng_model.specs.simple.Grammar.{Grammar}
 use Rattle.rng_model.specs.declared.method.Method.TheVariants as methods
 use Rattle.rnc_model.specs.grammar.Syntax as syntax
 use Rattle.rnc_model.specs.grammar.Syntax.{applied, written, Namespace, inherited, given}
 use Rattle.rnc_model.specs.declarations.Declarations.{Scope, class_in, classes_in, pattern_in, components_in, type_in, name_in, namespace_in, default_of}
 use Rattle.rnc_model.specs.declarations.Declarations.{nothing_declared, declare, declare_all, file_tree}
-use Rattle.rncv_model.specs.printed.PrintedText.{Item, element, pattern, element_at, item_name, prefix_of, namespaces_in, namespaces_among, namespace_of, namespaces_of}
+use Rattle.rncv_model.specs.printed.Items.{PrintedItem, element, pattern, element_at}
+use Rattle.rncv_model.specs.printed.PrintedText.{item_name, namespaces_in, namespaces_among, namespace_if_any, namespaces_of}
+use Rattle.rncv_model.specs.printed.Words.{prefix_of}
 use Rattle.rnc_print_laws.specs.plain.Printable.{CanBeNamed}
 use Rattle.rnc_print_laws.specs.plain.LinesSyntax as lines
 use Rattle.rnc_print_laws.specs.plain.LinesTree as trees
@@ -66,7 +69,7 @@ all_become s d (x ∷ xs) (u ∷ us) e = rw (e.0, all_become s d xs us e.1) refl
 all_become s d [] (u ∷ us) e = absurd e
 all_become s d (x ∷ xs) [] e = absurd e
 
-name_found : (s : Scope) (ns : List (List ℕ)) (d : Namespace) (u l : List ℕ) → KnowsAll s ns (namespace_of u)
+name_found : (s : Scope) (ns : List (List ℕ)) (d : Namespace) (u l : List ℕ) → KnowsAll s ns (namespace_if_any u)
     → name_in s d (lines.written_name ns u l) ≡ Some (trees.name_of d u l)
 name_found s ns d [] l k = refl
 name_found s ns d (c ∷ u) l k = rw k.0 refl
@@ -130,7 +133,7 @@ type_found s library name (inl k) = subst (λ (x : List ℕ). type_in s (lines.t
     named (inr e) = subst (λ (x : List ℕ). type_in s (lines.type_of [] x) ≡ Some (record { library = []; name = x })) (sym e) refl
 type_found s library name (inr k) = subst (λ (x : List ℕ). type_in s (lines.type_of x name) ≡ Some (record { library = x; name = name })) (sym k.0) refl
 
-reference_found : (s : Scope) (items : List Item) (a : Simple ℕ) → KnowsType a → pattern_in s (lines.reference_of items a) ≡ Some (trees.reference_of items a)
+reference_found : (s : Scope) (items : List PrintedItem) (a : Simple ℕ) → KnowsType a → pattern_in s (lines.reference_of items a) ≡ Some (trees.reference_of items a)
 reference_found s items s_not_allowed k = refl
 reference_found s items s_empty k = refl
 reference_found s items s_text k = refl
@@ -148,7 +151,7 @@ abbrev namespaces_at : Simple ℕ → List (List ℕ)
 namespaces_at (s_attribute c a) = namespaces_in c
 namespaces_at _ = []
 
-pattern_found : (s : Scope) (ns : List (List ℕ)) (items : List Item) (a : Simple ℕ) → KnowsTypes a → KnowsAll s ns (namespaces_at a)
+pattern_found : (s : Scope) (ns : List (List ℕ)) (items : List PrintedItem) (a : Simple ℕ) → KnowsTypes a → KnowsAll s ns (namespaces_at a)
     → pattern_in s (lines.pattern_of ns items a) ≡ Some (trees.pattern_of items a)
 pattern_found s ns items (s_joined j a b) k n = rw (reference_found s items a k.0, reference_found s items b k.1) refl
 pattern_found s ns items (s_one_or_more a) k n = rw (reference_found s items a k) refl
@@ -162,7 +165,7 @@ pattern_found s ns items (s_leaf e) k n = refl
 pattern_found s ns items (s_data d) k n = reference_found s items (s_data d) k
 pattern_found s ns items (s_value d v) k n = reference_found s items (s_value d v) k
 
-item_found : (s : Scope) (g : Grammar) (ns : List (List ℕ)) (items : List Item) (i : Item) → default_of s ≡ inherited → KnowsItem g i
+item_found : (s : Scope) (g : Grammar) (ns : List (List ℕ)) (items : List PrintedItem) (i : PrintedItem) → default_of s ≡ inherited → KnowsItem g i
     → KnowsAll s ns (namespaces_of g i) → pattern_in s (lines.item_pattern g ns items i) ≡ Some (trees.item_pattern g items i)
 item_found s g ns items (element e) d k n = rw (d, class_found s ns inherited (element_at g e).0 n, reference_found s items (element_at g e).1 k) refl
 item_found s g ns items (pattern a) d k n = pattern_found s ns items a k (namespaces_there a n)
@@ -182,14 +185,14 @@ item_found s g ns items (pattern a) d k n = pattern_found s ns items a k (namesp
 
 -- ---- components
 
-defines_found : (s : Scope) (g : Grammar) (ns : List (List ℕ)) (items some : List Item) → default_of s ≡ inherited → AllByRecursion (KnowsItem g) some
+defines_found : (s : Scope) (g : Grammar) (ns : List (List ℕ)) (items some : List PrintedItem) → default_of s ≡ inherited → AllByRecursion (KnowsItem g) some
     → AllByRecursion (λ i. KnowsAll s ns (namespaces_of g i)) some
     → components_in s (syntax.components_of (map (λ i. syntax.define (item_name items i) methods.Plain (lines.item_pattern g ns items i)) some))
     ≡ Some (syntax.components_of (map (trees.define_of g items) some))
 defines_found s g ns items [] d k n = refl
 defines_found s g ns items (i ∷ some) d k n = rw (item_found s g ns items i d k.0 n.0, defines_found s g ns items some d k.1 n.1) refl
 
-components_found : (s : Scope) (g : Grammar) (ns : List (List ℕ)) (items : List Item) → default_of s ≡ inherited → KnowsType g.start
+components_found : (s : Scope) (g : Grammar) (ns : List (List ℕ)) (items : List PrintedItem) → default_of s ≡ inherited → KnowsType g.start
     → AllByRecursion (KnowsItem g) items → AllByRecursion (λ i. KnowsAll s ns (namespaces_of g i)) items
     → components_in s (syntax.components_of (lines.components g ns items))
     ≡ Some (syntax.components_of (syntax.start methods.Plain (trees.reference_of items g.start) ∷ map (trees.define_of g items) items))
@@ -250,7 +253,7 @@ all_declared s ns (u ∷ us) a f =
     }
 
 -- what is declared for all namespaces suffices for some of them
-pub file_found : (g : Grammar) (ns : List (List ℕ)) (items : List Item) → KnowsType g.start → AllByRecursion (KnowsItem g) items → HaveDistinctPrefixes ns ns
+pub file_found : (g : Grammar) (ns : List (List ℕ)) (items : List PrintedItem) → KnowsType g.start → AllByRecursion (KnowsItem g) items → HaveDistinctPrefixes ns ns
     → ((s : Scope) → KnowsAll s ns ns → AllByRecursion (λ i. KnowsAll s ns (namespaces_of g i)) items)
     → file_tree (lines.file g ns items) ≡ Some (trees.lines_tree g items)
 unfolding file_tree

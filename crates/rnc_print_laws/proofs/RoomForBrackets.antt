@@ -14,8 +14,8 @@ use Rattle.rnc_model.specs.declared.token.Keyword.TheVariants as keywords
 use Rattle.rnc_model.specs.declared.token.Sign.{Sign}
 use Rattle.rnc_model.specs.declared.token.Sign.TheVariants.{Equal, BarEqual, AndEqual, Comma, Bar, And, OpenBrace, CloseBrace}
 use Rattle.rnc_model.specs.declared.token.Sign.TheVariants.{OpenParenthesis, CloseParenthesis}
-use Rattle.rnc_model.specs.grammar.Grammar.{word_of, type_of, method_of, connector_of, is_bracket}
-use Rattle.rnc_model.specs.tokens.Lexeme.{Lexeme, Spelling, keyword, identifier, cname, ns_name, segment, sign}
+use Rattle.rnc_model.specs.grammar.NameClasses.{word_of, type_of, method_of, connector_of, is_bracket}
+use Rattle.rnc_model.specs.tokens.Cut.{Lexeme, Spelling, keyword, identifier, cname, ns_name, segment, sign}
 use Rattle.rnc_model.specs.grammar.Sentence.{is_opening, is_closing, NestsWithin}
 use Rattle.rnc_model.specs.grammar.Syntax.{written, DatatypeName, string_type, token_type, prefixed_type}
 use Rattle.rnc_print_laws.specs.plain.Printable.{IsText, IsName}

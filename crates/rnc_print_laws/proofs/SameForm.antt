@@ -3,11 +3,11 @@ use Rattle.std.proofs.Common.{◌≡◌, subst, ℕ, List}
 use Rattle.rng_load.proofs.FilesVerdict.{same_files}
 use Rattle.rnc_model.specs.loading.LoadedSchema.{AreSchema}
 use Rattle.rnc_model.specs.loading.Loading.{TakenFiles, are_taken, FilesHaveVerdict}
-use Rattle.rnc_model.specs.loading.SchemaFile.{Name, NamedFile}
+use Rattle.rnc_model.specs.loading.SchemaFile.{FileName, NamedFile}
 use Rattle.rng_model.specs.schema.Schema.{Schema}
 use Rattle.rng_model.specs.simple.SchemaForm.{IsSimpleGrammarOf}
 use Rattle.rng_model.specs.simple.Grammar.{Grammar}
-use Rattle.rncv_model.specs.printed.PrintedText.{Item}
+use Rattle.rncv_model.specs.printed.Items.{PrintedItem}
 use Rattle.rnc_print.proofs.OneForm.{same_numbering}
 use Rattle.rnc_print.proofs.SameNumberings.{is_form_too}
 use Rattle.rng_simple.proofs.NumberedSchema.{only_simple_grammar}
@@ -27,18 +27,18 @@ have_same_form s r g is also h = (also_of s r g is also h, also_of r s g also is
 -- ---- the schema of the lines
 
 -- files have at most one schema
-module _ (one_schema : (read : TakenFiles) (main : Name) (r t : Schema) → AreSchema read main r → AreSchema read main t → r ≡ t) where
-  pub only_schema : (files : List NamedFile) (main : Name) (read : TakenFiles) (s r : Schema) → FilesHaveVerdict files main (are_taken read)
+module _ (one_schema : (read : TakenFiles) (main : FileName) (r t : Schema) → AreSchema read main r → AreSchema read main t → r ≡ t) where
+  pub only_schema : (files : List NamedFile) (main : FileName) (read : TakenFiles) (s r : Schema) → FilesHaveVerdict files main (are_taken read)
       → AreSchema read main s → AreFilesOf r files main → r ≡ s
   only_schema files main read s r taken are is =
       let same : is.read ≡ read = same_files (is.taken.only (are_taken read) taken) in
       one_schema read main r s (subst (λ x. AreSchema x main r) same is.are) are
 
-  module _ (s : Schema) (text : List ℕ) (files : List NamedFile) (main : Name) (h : IsHandedInAgain s text files main) where
+  module _ (s : Schema) (text : List ℕ) (files : List NamedFile) (main : FileName) (h : IsHandedInAgain s text files main) where
     abbrev grammar : Grammar
     grammar = h.printed.grammar
 
-    abbrev items : List Item
+    abbrev items : List PrintedItem
     items = h.printed.is_printed.items
 
     abbrev again : Schema

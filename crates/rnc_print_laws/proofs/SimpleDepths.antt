@@ -2,10 +2,12 @@
 use Rattle.std.proofs.Common.{◌≡◌, refl, ap, ap₂, ℕ, ◌+◌, ◌≤◌, arith}
 use Rattle.std.specs.Prelude.{max}
 use Rattle.rng_model.specs.names.Names.{NameClass}
-use Rattle.rng_model.specs.simple.Tree.{Tree, Trees, Connector, choice, group, interleave, not_allowed, empty, text, leaf, attribute, list, data_of, data_except}
+use Rattle.rng_model.specs.simple.Tree.{Tree, Trees, Connector, choice, group, interleave, not_allowed, empty, text, leaf, attribute, list, data_of}
+use Rattle.rng_model.specs.simple.Tree.{data_except}
 use Rattle.rng_model.specs.simple.Tree.{value, mixed, optional, zero_or_more, one_or_more, joined, no_trees, tree_and, Datatype}
-use Rattle.rng_model.specs.simple.Tree.{Simple, s_not_allowed, s_empty, s_text, s_leaf, s_attribute, s_list, s_data, s_data_except, s_value, s_one_or_more, s_joined}
-use Rattle.rng_model.specs.schema.Depth.{depth, class_depth}
+use Rattle.rng_model.specs.simple.Tree.{Simple, s_not_allowed, s_empty, s_text, s_leaf, s_attribute, s_list, s_data, s_data_except, s_value, s_one_or_more}
+use Rattle.rng_model.specs.simple.Tree.{s_joined}
+use Rattle.rng_model.specs.simple.Leaves.{depth, class_depth}
 use Rattle.rng_simple.specs.plain.InTwos.{nested, in_twos, more_in_twos}
 use Rattle.rng_simple.specs.plain.SimpleOf.{Sort, nothing, blank, proper, sort_of, attribute_by, list_by, except_by, one_or_more_by, choice_by, both_by, join}
 use Rattle.rng_simple.specs.plain.SimpleOf.{some_of, simple_of, join_all}

@@ -4,8 +4,9 @@ use Rattle.std.proofs.Common.{◌≡◌, refl, subst, ℕ, ◌+◌, Bool, true, 
 use Rattle.rng_model.proofs.Options.{none_is_some}
 use Rattle.rng_model.specs.names.Lists.{Among, here, there}
 use Rattle.rng_model.specs.names.Names.{NameClass}
-use Rattle.rng_model.specs.simple.ClassSteps.{ClassStep}
-use Rattle.rng_model.specs.simple.Tree.{Datatype, Connector, Tree, not_allowed, empty, text, leaf, attribute, list, data_of, data_except, value, mixed, optional}
+use Rattle.rng_model.specs.simple.Simplification.{ClassStep, RuleGroup, Step, StepAmong, AnyStep, Steps}
+use Rattle.rng_model.specs.simple.Tree.{Datatype, Connector, Tree, not_allowed, empty, text, leaf, attribute, list, data_of, data_except, value, mixed}
+use Rattle.rng_model.specs.simple.Tree.{optional}
 use Rattle.rng_model.specs.simple.Tree.{zero_or_more, one_or_more, joined, Trees, no_trees, tree_and}
 use Rattle.rng_model.specs.simple.Leaves.{LeafIn, LeafAmong}
 use Rattle.rng_model.specs.schema.Patterns as written
@@ -13,15 +14,14 @@ use Rattle.rng_model.specs.schema.Patterns.{Place, Position, Pattern, Patterns, 
 use Rattle.rng_model.specs.schema.Patterns.{pattern_tree, pattern_trees, without_parameters, IsWrittenIn, itself, in_element, in_attribute, in_list, in_except}
 use Rattle.rng_model.specs.schema.Patterns.{in_mixed, in_optional, in_zero_or_more, in_one_or_more, in_first, in_second, in_another, in_external}
 use Rattle.rng_model.specs.schema.Patterns.{IsWrittenAmong, in_this, in_later}
-use Rattle.rng_model.specs.schema.Schema.{Schema, Component, Definition, main_start, body, body_among, combining_connector, nested, nested_from, same_name}
-use Rattle.rng_model.specs.schema.Schema.{trees_named, HasComponent, IsWrittenAt}
+use Rattle.rng_model.specs.schema.Schema.{Schema, Component, Definition, main_start, body, body_among, combining_connector, nested, nested_from}
+use Rattle.rng_model.specs.schema.Schema.{same_component_name, trees_named, HasComponent, IsWrittenAt}
 use Rattle.rng_model.specs.simple.SchemaForm.{Element, IsElementOf, IsSimpleFormOfSchema, SimpleForm}
 use Rattle.rng_model.specs.simple.Leaves as at
 use Rattle.rng_model.specs.simple.Simplification as step
-use Rattle.rng_model.specs.simple.Simplification.{RuleGroup, Step, StepAmong, AnyStep, Steps}
 use Rattle.rng_model.specs.schema.Unfolding as unfolding_of
-use Rattle.rng_model.specs.schema.Unfolding.{Leaf, to_element, outside, aim, Unfolds, UnfoldAll, IsTreeOf, IsBodyOf}
-use Rattle.rng_model.specs.schema.Reached.{IsReachedBySimpleForms, from_simple_start, from_simple_body}
+use Rattle.rng_model.specs.schema.Unfolding.{Leaf, to_element, outside, aim, Unfolds, UnfoldAll, IsTreeOf, IsBodyOf, IsReachedBySimpleForms, from_simple_start}
+use Rattle.rng_model.specs.schema.Unfolding.{from_simple_body}
 use Rattle.rng_model.proofs.Unfolding.{some_is}
 
 first : {A B : Type 0} → A × B → A
@@ -185,7 +185,7 @@ module _ (IsClass : NameClass → Type 0) (IsData : Datatype → Type 0) (IsValu
     trees_fine : (x : Place) (y : Option (List ℕ)) (n : ℕ) (cs : List Component) → ((c : Component) → Among c cs → HasComponent s x c)
         → AreAllFine (IsPointThere x) (trees_named y n cs)
     trees_fine x y n [] has = tt
-    trees_fine x y n (c ∷ cs) has = by_name (same_name y c.name) (trees_fine x y (n + 1) cs (λ d m. has d (there m)))
+    trees_fine x y n (c ∷ cs) has = by_name (same_component_name y c.name) (trees_fine x y (n + 1) cs (λ d m. has d (there m)))
       where
         by_name : (b : Bool) → AreAllFine (IsPointThere x) (trees_named y (n + 1) cs)
             → AreAllFine (IsPointThere x) (if b then pattern_tree (n ∷ []) c.pattern ∷ trees_named y (n + 1) cs else trees_named y (n + 1) cs)

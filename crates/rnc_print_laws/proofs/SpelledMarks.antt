@@ -6,16 +6,15 @@ use Rattle.std.proofs.lemmas.Bool.{or_cases, or_right}
 use Rattle.std.proofs.lemmas.List.{map-append}
 use Rattle.std.proofs.lemmas.Str.{encodes-append, encode_ascii}
 use Rattle.rnc_text.proofs.MarksCut.{numbers_ordinary}
-use Rattle.rng_model.specs.names.Characters.{is_ncname}
+use Rattle.rng_model.specs.names.Names.{is_ncname}
 use Rattle.rnc_model.specs.declared.character.Character.TheVariants.{Ordinary}
 use Rattle.rnc_model.specs.declared.token.Sign.{Sign}
 use Rattle.rnc_model.specs.declared.token.Sign.TheVariants as signs
 use Rattle.rnc_model.specs.declared.token.TokenKind.TheVariants as kinds
-use Rattle.rnc_model.specs.characters.Characters.{number_of, numbers_of, bytes_of}
+use Rattle.rnc_model.specs.characters.Decoding.{number_of, numbers_of, bytes_of, IsDecoded}
 use Rattle.rnc_model.specs.tokens.Cut.{Token, tokens_at, HasTokens}
-use Rattle.rnc_model.specs.characters.Decoding.{IsDecoded}
-use Rattle.rnc_model.specs.tokens.Lexeme as grammar
-use Rattle.rncv_model.specs.printed.PrintedText.{escaped}
+use Rattle.rnc_model.specs.tokens.Cut as grammar
+use Rattle.rncv_model.specs.printed.Words.{escaped}
 use Rattle.rnc_text.specs.plain.Marks.{Mark, space, line_end, word, cname, segment, sign, sign_text, mark_text, text_of_marks, ordinary}
 use Rattle.rnc_text.specs.plain.Marks.{characters_of_marks, piece_of_mark, IsMark, is_open, is_apart, begins_apart, AreParted, MarksAreCut, MarksAreDecoded}
 use Rattle.rnc_text.specs.plain.Marks as marks

@@ -5,7 +5,7 @@ use Rattle.std.specs.List.{AllByRecursion}
 use Rattle.std.specs.Str.{bytes_eq}
 use Rattle.std.proofs.lemmas.Option.{same_Some, none-some}
 use Rattle.rng_model.proofs.Members.{all_among}
-use Rattle.rng_model.specs.schema.Patterns.{Place, Pattern, members, patterns_of}
+use Rattle.rng_model.specs.schema.Patterns.{Place, Pattern, joined_members, pattern_list}
 use Rattle.rng_model.specs.schema.Schema.{Schema}
 use Rattle.rng_model.specs.schema.SchemaClauses.{BreaksNoClause, in_schema, in_datatype}
 use Rattle.rng_model.specs.simple.SchemaForm.{IsSimpleGrammarOf}
@@ -13,17 +13,19 @@ use Rattle.rng_model.specs.simple.Grammar.{Grammar}
 use Rattle.rng_model.specs.simple.Tree.{Connector, choice, group, interleave}
 use Rattle.rnc_model.specs.grammar.Syntax as tree
 use Rattle.rnc_model.specs.grammar.Syntax.{applied, Namespace, inherited, given}
-use Rattle.rnc_model.specs.declarations.FileTree.{FileTree, grammar_file, pattern_file, grammar_of, whole_grammar}
-use Rattle.rnc_model.specs.loading.LoadedSchema.{AreSchema}
+use Rattle.rnc_model.specs.declarations.FileTree.{FileTree, grammar_file, pattern_file, grammar_components, whole_grammar}
+use Rattle.rnc_model.specs.loading.LoadedSchema.{AreSchema, Gathers, HasGrammar, IsSchemaOf}
 use Rattle.rnc_model.specs.loading.Loading.{TakenFiles, tree_in, IsTaken, AreTaken, are_taken, FilesHaveOnlyVerdict}
 use Rattle.rnc_model.specs.loading.Loading as loading
+use Rattle.rnc_model.specs.loading.LoadedSchema as loaded
 use Rattle.rnc_model.specs.loading.Places as places
-use Rattle.rnc_model.specs.loading.Places.{uri_in, TreePath, Nested, Gathered, is_overridden, grammar_or_start, main_grammar, Reads, ReadAll, Gathers, HasGrammar, IsSchemaOf}
-use Rattle.rnc_model.specs.loading.SchemaFile.{Name, NamedFile}
+use Rattle.rnc_model.specs.loading.Places.{uri_in, TreePath, Nested, Gathered, is_overridden, grammar_or_start, main_grammar, Reads, ReadAll}
+use Rattle.rnc_model.specs.loading.SchemaFile.{FileName, NamedFile}
 use Rattle.rnc_print_laws.specs.plain.Printable.{IsText, IsPrintable}
 use Rattle.rnc_print_laws.specs.plain.WellSpelledFiles as spelled
 use Rattle.rnc_print_laws.specs.plain.WellSpelledFiles.{IsTextNamespace, AreWellSpelledComponents, AreWellSpelledPatterns, IsWellSpelledFile}
-use Rattle.rnc_print_laws.specs.plain.WellSpelledSchemas.{IsWellSpelledPattern, AreWellSpelledPatterns as AreWellSpelled, IsWellSpelledComponent, IsWellSpelledSchema}
+use Rattle.rnc_print_laws.specs.plain.WellSpelledSchemas.{IsWellSpelledPattern, AreWellSpelledPatterns as AreWellSpelled, IsWellSpelledComponent}
+use Rattle.rnc_print_laws.specs.plain.WellSpelledSchemas.{IsWellSpelledSchema}
 use Rattle.rnc_print_laws.proofs.WellSpelledFileTrees.{uri_text, empty_text, schema_file_spelled}
 use Rattle.rnc_print_laws.proofs.PrintableForms.{grammar_printable}
 
@@ -46,11 +48,11 @@ all_same P e h = subst (AllByRecursion P) (sym e) h
 
 -- ---- members
 
-patterns_spelled : (ps : List Pattern) → AllByRecursion IsWellSpelledPattern ps → AreWellSpelled (patterns_of ps)
+patterns_spelled : (ps : List Pattern) → AllByRecursion IsWellSpelledPattern ps → AreWellSpelled (pattern_list ps)
 patterns_spelled [] h = tt
 patterns_spelled (p ∷ ps) h = (h.0, patterns_spelled ps h.1)
 
-members_spelled : (k : Connector) (ps : List Pattern) → AllByRecursion IsWellSpelledPattern ps → IsWellSpelledPattern (members k ps)
+members_spelled : (k : Connector) (ps : List Pattern) → AllByRecursion IsWellSpelledPattern ps → IsWellSpelledPattern (joined_members k ps)
 members_spelled choice [] h = tt
 members_spelled group [] h = tt
 members_spelled interleave [] h = tt
@@ -64,7 +66,7 @@ whole_spelled : (p : tree.Pattern applied) (cs : tree.Components applied) → wh
 whole_spelled (tree.grammar ds) cs e h = subst AreWellSpelledComponents (same_Some _ _ e) h
 whole_spelled _ cs e h = absurd (none-some _ e)
 
-grammar_spelled : (t : FileTree) (cs : tree.Components applied) → grammar_of t ≡ Some cs → IsWellSpelledFile t → AreWellSpelledComponents cs
+grammar_spelled : (t : FileTree) (cs : tree.Components applied) → grammar_components t ≡ Some cs → IsWellSpelledFile t → AreWellSpelledComponents cs
 grammar_spelled (grammar_file ds) cs e h = subst AreWellSpelledComponents (same_Some _ _ e) h
 grammar_spelled (pattern_file p) cs e h = whole_spelled p cs e h
 
@@ -118,12 +120,12 @@ module _ (files : List ℕ → Option FileTree) (good : (f : List ℕ) (t : File
 
   gathers : {u : List ℕ} {x : TreePath} {n : ℕ} {cs : tree.Components applied} {all : List Gathered} → Gathers files u x n cs all → IsText u
       → AreWellSpelledComponents cs → AllByRecursion IsSpelledGathered all
-  gathers places.nothing i h = tt
-  gathers (places.a_start d ds) i h = let r = reads d i h.0 in (((tt, r.0), r.1), gathers ds i h.1)
-  gathers (places.a_define d ds) i h = let r = reads d i h.0.1 in (((h.0.0, r.0), r.1), gathers ds i h.1)
-  gathers (places.a_div {u} {x} {n} {is} {cs} {inner} {rest} {all} ds es e) i h =
+  gathers loaded.nothing i h = tt
+  gathers (loaded.a_start d ds) i h = let r = reads d i h.0 in (((tt, r.0), r.1), gathers ds i h.1)
+  gathers (loaded.a_define d ds) i h = let r = reads d i h.0.1 in (((h.0.0, r.0), r.1), gathers ds i h.1)
+  gathers (loaded.a_div {u} {x} {n} {is} {cs} {inner} {rest} {all} ds es e) i h =
       all_same IsSpelledGathered e (all_both IsSpelledGathered inner rest (gathers ds i h.0) (gathers es i h.1))
-  gathers (places.an_include {u} {x} {n} {m} {over} {cs} {is} {f} {included} {overriding} {rest} {all} found g ds os es e) i h =
+  gathers (loaded.an_include {u} {x} {n} {m} {over} {cs} {is} {f} {included} {overriding} {rest} {all} found g ds os es e) i h =
       let own = gathers ds (uri_text u m.inherit i h.0.0.1) (grammar_spelled f is g (good m.href f found)) in
       let kept = all_kept IsSpelledGathered (λ g. not (is_overridden overriding g)) included own in
       all_same IsSpelledGathered e (all_both IsSpelledGathered (filter (λ g. not (is_overridden overriding g)) included ++ overriding) rest
@@ -133,8 +135,8 @@ module _ (files : List ℕ → Option FileTree) (good : (f : List ℕ) (t : File
   module _ (main : FileTree) (main-is : IsWellSpelledFile main) where
     grammar_there : {x : Place} {o : Option Place} {u : List ℕ} {cs : tree.Components applied} → HasGrammar files main x o u cs
         → IsText u × AreWellSpelledComponents cs
-    grammar_there (places.main_is e) = (empty_text, subst AreWellSpelledComponents (sym e) (main_spelled main main-is))
-    grammar_there (places.nested_is {x} {o} {u} {cs} {gathered} {g} {n} has ds m k) =
+    grammar_there (loaded.main_is e) = (empty_text, subst AreWellSpelledComponents (sym e) (main_spelled main main-is))
+    grammar_there (loaded.nested_is {x} {o} {u} {cs} {gathered} {g} {n} has ds m k) =
         let around = grammar_there has in
         let all = gathers ds around.0 around.1 in
         all_among IsSpelledNested (all_among IsSpelledGathered all m).1 k
@@ -155,14 +157,14 @@ module _ (files : List ℕ → Option FileTree) (good : (f : List ℕ) (t : File
 
 -- ---- the files of a schema
 
-taken_spelled : (files : List NamedFile) (main : Name) {read : TakenFiles} {names : List Name} → IsTaken files main read names
+taken_spelled : (files : List NamedFile) (main : FileName) {read : TakenFiles} {names : List FileName} → IsTaken files main read names
     → AllByRecursion (λ file. IsWellSpelledFile file.1) read
 taken_spelled files main (loading.none_yet e f) = all_same (λ file. IsWellSpelledFile file.1) e tt
 taken_spelled files main (loading.one_more {read} {all} {names} {more} {f} {t} taken n has e m) =
     all_same (λ file. IsWellSpelledFile file.1) e (all_both (λ file. IsWellSpelledFile file.1) read ((f, t) ∷ []) (taken_spelled files main taken)
     (schema_file_spelled has.bytes t has.is, tt))
 
-found_spelled : (f : Name) (read : TakenFiles) → AllByRecursion (λ file. IsWellSpelledFile file.1) read → (t : FileTree) → tree_in read f ≡ Some t
+found_spelled : (f : FileName) (read : TakenFiles) → AllByRecursion (λ file. IsWellSpelledFile file.1) read → (t : FileTree) → tree_in read f ≡ Some t
     → IsWellSpelledFile t
 found_spelled f [] h t e = absurd (none-some _ e)
 found_spelled f (file ∷ read) h t e = by_name (bytes_eq f file.0) (found_spelled f read h.1 t) e
@@ -172,14 +174,14 @@ found_spelled f (file ∷ read) h t e = by_name (bytes_eq f file.0) (found_spell
     by_name false more e = more e
 
 -- the schema is well spelled
-pub loaded_spelled : (files : List NamedFile) (main : Name) (read : TakenFiles) (s : Schema) → FilesHaveOnlyVerdict files main (are_taken read)
+pub loaded_spelled : (files : List NamedFile) (main : FileName) (read : TakenFiles) (s : Schema) → FilesHaveOnlyVerdict files main (are_taken read)
     → AreSchema read main s → IsWellSpelledSchema s
 loaded_spelled files main read s verdict is =
     let all = taken_spelled files main verdict.is.0.taken in
     schema_spelled (tree_in read) (λ f t e. found_spelled f read all t e) is.tree (found_spelled main read all is.tree is.main_file) s is.is
 
 -- each of its simple grammars is printable, if it breaks no clause
-pub files_printable : (files : List NamedFile) (main : Name) (read : TakenFiles) (s : Schema) → FilesHaveOnlyVerdict files main (are_taken read)
+pub files_printable : (files : List NamedFile) (main : FileName) (read : TakenFiles) (s : Schema) → FilesHaveOnlyVerdict files main (are_taken read)
     → AreSchema read main s → BreaksNoClause s → (g : Grammar) → IsSimpleGrammarOf s g → IsPrintable g
 files_printable files main read s verdict is none = grammar_printable s (loaded_spelled files main read s verdict is)
     (λ b. none 12 (in_schema (in_datatype b)))

@@ -8,18 +8,20 @@ use Rattle.std.specs.Str.{bytes_eq, is_utf8, chars}
 use Rattle.std.proofs.lemmas.Str.{IsUtf8-from_is_utf8}
 use Rattle.std.proofs.lemmas.Option.{same_Some, none-some}
 use Rattle.rng_model.specs.names.Names as names
-use Rattle.rng_model.specs.names.Names.{classes_of, some_of}
+use Rattle.rng_model.specs.names.Names.{class_list, some_of, xml_uri}
 use Rattle.rng_model.specs.datatypes.Datatypes.{xsd_uri}
-use Rattle.rng_model.specs.documents.PyxNamespaces.{xml_uri}
-use Rattle.rncv_model.specs.printed.PrintedText.{is_choice, is_except}
+use Rattle.rncv_model.specs.printed.Words.{is_choice, is_except}
 use Rattle.rnc_model.specs.grammar.Syntax as syntax
 use Rattle.rnc_model.specs.grammar.Syntax.{applied, written, Namespace, inherited, given}
 use Rattle.rnc_model.specs.declarations.FileTree.{FileTree}
-use Rattle.rnc_model.specs.declarations.Declarations.{◌>>=◌, option_none_else, option_or, Scope, nothing_declared, uri_of, may_stand_for, may_stand_for_types, with_one}
-use Rattle.rnc_model.specs.declarations.Declarations.{with_prefix, with_default, with_datatypes, declare, declare_all, default_of, namespace_in, library_in, name_in}
-use Rattle.rnc_model.specs.declarations.Declarations.{class_in, classes_in, type_in, handed_on, mention_in, pattern_in, patterns_in, component_in, components_in, body_in}
+use Rattle.rnc_model.specs.declarations.Declarations.{◌>>=◌, option_none_else, option_or, Scope, nothing_declared, uri_of, may_stand_for, may_stand_for_types}
+use Rattle.rnc_model.specs.declarations.Declarations.{with_one}
+use Rattle.rnc_model.specs.declarations.Declarations.{with_prefix, with_default, with_datatypes, declare, declare_all, default_of, namespace_in, library_in}
+use Rattle.rnc_model.specs.declarations.Declarations.{name_in}
+use Rattle.rnc_model.specs.declarations.Declarations.{class_in, classes_in, type_in, handed_on, mention_in, pattern_in, patterns_in, component_in}
+use Rattle.rnc_model.specs.declarations.Declarations.{components_in, body_in}
 use Rattle.rnc_model.specs.declarations.Declarations.{file_tree}
-use Rattle.rnc_model.specs.tokens.Lexeme.{lexemes}
+use Rattle.rnc_model.specs.tokens.Cut.{lexemes}
 use Rattle.rnc_model.specs.loading.Places as places
 use Rattle.rnc_model.specs.loading.Places.{uri_in}
 use Rattle.rnc_model.specs.loading.SchemaFile.{IsSchemaFile}
@@ -29,8 +31,10 @@ use Rattle.rnc_print_laws.specs.plain.Printable.{IsText, IsName, HasNames, HaveN
 use Rattle.rnc_print_laws.specs.plain.WellSpelledFiles.{IsTextNamespace, IsWellSpelledType, IsWellSpelledMention, IsWellSpelledClass, IsWellSpelledPattern}
 use Rattle.rnc_print_laws.specs.plain.WellSpelledFiles.{AreWellSpelledPatterns, IsWellSpelledComponent, AreWellSpelledComponents, IsWellSpelledFile}
 use Rattle.rnc_print_laws.proofs.RoomForBrackets.{IsWellSpelledName, fits}
-use Rattle.rnc_print_laws.proofs.WellSpelledSyntaxTrees.{IsSpelledName, IsSpelledClass, AreSpelledClasses, around, around_all, inside, IsSpelledPattern, AreSpelledPatterns}
-use Rattle.rnc_print_laws.proofs.WellSpelledSyntaxTrees.{IsSpelledComponent, AreSpelledComponents, IsSpelledUri, IsSpelledDeclaration, IsSpelledBody, IsSpelledFile, file}
+use Rattle.rnc_print_laws.proofs.WellSpelledSyntaxTrees.{IsSpelledName, IsSpelledClass, AreSpelledClasses, around, around_all, inside, IsSpelledPattern}
+use Rattle.rnc_print_laws.proofs.WellSpelledSyntaxTrees.{AreSpelledPatterns}
+use Rattle.rnc_print_laws.proofs.WellSpelledSyntaxTrees.{IsSpelledComponent, AreSpelledComponents, IsSpelledUri, IsSpelledDeclaration, IsSpelledBody}
+use Rattle.rnc_print_laws.proofs.WellSpelledSyntaxTrees.{IsSpelledFile, file}
 use Rattle.rnc_print_laws.proofs.WellSpelledTokens.{tokens_spelled}
 
 bind_some : {A B : Type 0} (o : Option A) (f : A → Option B) {b : B} → (o >>= f) ≡ Some b → (a : A) × (o ≡ Some a) × (f a ≡ Some b)
@@ -168,7 +172,7 @@ first_least false b n = omega arith
 abbrev FitsIn : ℕ → names.NameClass → Type 0
 FitsIn n c = HasNames c × (enclosed c ≤ n)
 
-members_names : (n : ℕ) (cs : List names.NameClass) → AllByRecursion (FitsIn n) cs → HaveNames (classes_of cs)
+members_names : (n : ℕ) (cs : List names.NameClass) → AllByRecursion (FitsIn n) cs → HaveNames (class_list cs)
 members_names n [] h = tt
 members_names n (c ∷ cs) h = (h.0.0, members_names n cs h.1)
 
@@ -178,9 +182,9 @@ most a b n h i = omega (arith, h, i)
 below : (a b n : ℕ) → a ≤ b → b ≤ n → a ≤ n
 below a b n h i = omega (arith, h, i)
 
-members_fit : (n : ℕ) (cs : List names.NameClass) → AllByRecursion (FitsIn n) cs → parentheses_among (classes_of cs) ≤ n
+members_fit : (n : ℕ) (cs : List names.NameClass) → AllByRecursion (FitsIn n) cs → parentheses_among (class_list cs) ≤ n
 members_fit n [] h = omega arith
-members_fit n (c ∷ cs) h = most (enclosed c) (parentheses_among (classes_of cs)) n h.0.1 (members_fit n cs h.1)
+members_fit n (c ∷ cs) h = most (enclosed c) (parentheses_among (class_list cs)) n h.0.1 (members_fit n cs h.1)
 
 -- a choice of such classes
 some_fit : (n : ℕ) (cs : List names.NameClass) → AllByRecursion (FitsIn n) cs
@@ -192,8 +196,8 @@ some_fit n (c ∷ []) h =
     (h.0.0, below (parentheses c) (enclosed c) n i l, omega (arith, l))
 some_fit n (c ∷ (d ∷ cs)) h =
     let a = below (one_more_if (is_except c) (parentheses c)) (enclosed c) n (first_least (is_choice c) (is_except c) (parentheses c)) h.0.1 in
-    let b = most (enclosed d) (parentheses_among (classes_of cs)) n h.1.0.1 (members_fit n cs h.1.1) in
-    let all = most (one_more_if (is_except c) (parentheses c)) (max (enclosed d) (parentheses_among (classes_of cs))) n a b in
+    let b = most (enclosed d) (parentheses_among (class_list cs)) n h.1.0.1 (members_fit n cs h.1.1) in
+    let all = most (one_more_if (is_except c) (parentheses c)) (max (enclosed d) (parentheses_among (class_list cs))) n a b in
     ((h.0.0, h.1.0.0, members_names n cs h.1.1), all, in_one_more (parentheses (some_of (c ∷ (d ∷ cs)))) all)
   where
     in_one_more : (m : ℕ) → m ≤ n → suc m ≤ suc n

@@ -4,15 +4,17 @@ use Rattle.std.specs.List.{AllByRecursion, list_all}
 use Rattle.std.specs.Str.{chars}
 use Rattle.std.proofs.lemmas.Bool.{and_parts}
 use Rattle.std.proofs.lemmas.Str.{IsUtf8-append, chars-append}
-use Rattle.rng_model.specs.names.Characters.{is_xml_char}
+use Rattle.rng_model.specs.names.Names.{is_xml_char}
 use Rattle.rng_model.specs.simple.Tree.{Connector}
 use Rattle.rnc_model.specs.declared.token.Sign.{Sign}
 use Rattle.rnc_model.specs.declared.token.Sign.TheVariants.{Equal, Bar, Question, Star, Plus, Minus, OpenBracket, CloseBracket, Tilde}
+use Rattle.rnc_model.specs.grammar.NameClasses as name_classes
 use Rattle.rnc_model.specs.grammar.Grammar as grammar
-use Rattle.rnc_model.specs.grammar.Grammar.{IsAnnotationContent, MayBeAnnotation, IsLiteral, AreParameters, MayBeParameters, MayInherit, IsClass, AreMoreClasses}
-use Rattle.rnc_model.specs.grammar.Grammar.{IsBasic, IsBareBasic, Setting, IsPattern, AreMore, IsParticle, IsPrimary, IsBarePrimary, IsBraced, AreComponents}
-use Rattle.rnc_model.specs.grammar.Grammar.{connector_of, IsComponent, IsBareComponent, MayOverride, IsUri, IsDeclaration, AreDeclarations, IsBody, IsFile}
-use Rattle.rnc_model.specs.tokens.Lexeme.{Lexeme}
+use Rattle.rnc_model.specs.grammar.NameClasses.{IsAnnotationContent, MayBeAnnotation, IsLiteral, AreParameters, MayBeParameters, MayInherit, IsClass}
+use Rattle.rnc_model.specs.grammar.NameClasses.{AreMoreClasses, IsBasic, IsBareBasic, connector_of}
+use Rattle.rnc_model.specs.grammar.Grammar.{Setting, IsPattern, AreMore, IsParticle, IsPrimary, IsBarePrimary, IsBraced, AreComponents}
+use Rattle.rnc_model.specs.grammar.Grammar.{IsComponent, IsBareComponent, MayOverride, IsUri, IsDeclaration, AreDeclarations, IsBody, IsFile}
+use Rattle.rnc_model.specs.tokens.Cut.{Lexeme}
 use Rattle.rnc_model.specs.grammar.Syntax as syntax
 use Rattle.rnc_model.specs.grammar.Syntax.{written, Name, NameClass, NameClasses, Pattern, Patterns, Component, Components, Uri, Declaration, Body, File}
 use Rattle.rnc_model.specs.grammar.Sentence.{nesting_limit}
@@ -147,14 +149,14 @@ pub record IsSpelledFile (f : File) : Type 0 where
 -- ---- annotations, literals, parameters
 
 annotation_content : {ts : List Lexeme} → IsAnnotationContent ts → (r : ℕ) → Keeps ts r (Unit {0})
-annotation_content (grammar.no_content e) r = at e nothing
-annotation_content (grammar.and_token {ts} {a} {x} o c e) r = at e (past_other x o (annotation_content c r))
-annotation_content (grammar.and_annotation c d e) r =
+annotation_content (name_classes.no_content e) r = at e nothing
+annotation_content (name_classes.and_token {ts} {a} {x} o c e) r = at e (past_other x o (annotation_content c r))
+annotation_content (name_classes.and_annotation c d e) r =
     at e (past_sign OpenBracket tt (so (λ p. tt) (both (annotation_content c r) (past_sign CloseBracket tt (annotation_content d r)))))
 
 annotation : {ts : List Lexeme} → MayBeAnnotation ts → (r : ℕ) → Keeps ts r (Unit {0})
-annotation (grammar.without_annotation e) r = at e nothing
-annotation (grammar.with_annotation c e) r =
+annotation (name_classes.without_annotation e) r = at e nothing
+annotation (name_classes.with_annotation c e) r =
     at e (past_sign OpenBracket tt (so (λ p. tt) (both (annotation_content c r) (past_sign CloseBracket tt nothing))))
 
 all_both : (p : ℕ → Bool) (xs ys : List ℕ) → list_all p xs ≡ true → list_all p ys ≡ true → list_all p (xs ++ ys) ≡ true
@@ -168,23 +170,23 @@ text_both w u h i = (
 )
 
 literal : {ts : List Lexeme} {v : List ℕ} → IsLiteral ts v → (r : ℕ) → Keeps ts r (IsText v)
-literal (grammar.one_segment e) r = at e (so first (past_segment nothing))
-literal (grammar.more_segments {ts} {v} {a} {w} {u} l e v-is) r =
+literal (name_classes.one_segment e) r = at e (so first (past_segment nothing))
+literal (name_classes.more_segments {ts} {v} {a} {w} {u} l e v-is) r =
     at e (so (λ p. subst IsText (sym v-is) (text_both w u (first p) (second p))) (past_segment (past_sign Tilde tt (literal l r))))
 
 parameters : {ts : List Lexeme} {ps : List (List ℕ × List ℕ)} → AreParameters ts ps → (r : ℕ) → Keeps ts r (AllByRecursion IsPrintableParameter ps)
-parameters (grammar.no_parameters e) r = at e nothing
-parameters (grammar.and_parameter x n w l more e) r =
+parameters (name_classes.no_parameters e) r = at e nothing
+parameters (name_classes.and_parameter x n w l more e) r =
     at e (so (λ p. ((first (second p), first (second (second p))), second (second (second p))))
     (both (annotation n r) (past_word x w (past_sign Equal tt (both (literal l r) (parameters more r))))))
 
 may_be_parameters : {ts : List Lexeme} {ps : List (List ℕ × List ℕ)} → MayBeParameters ts ps → (r : ℕ) → Keeps ts r (AllByRecursion IsPrintableParameter ps)
-may_be_parameters (grammar.without_parameters e) r = at e nothing
-may_be_parameters (grammar.with_parameters ps e) r = at e (in_braces (λ m i. parameters ps m))
+may_be_parameters (name_classes.without_parameters e) r = at e nothing
+may_be_parameters (name_classes.with_parameters ps e) r = at e (in_braces (λ m i. parameters ps m))
 
 inherit : {ts : List Lexeme} {p : Option (List ℕ)} → MayInherit ts p → (r : ℕ) → Keeps ts r (Unit {0})
-inherit (grammar.without_inherit e) r = at e nothing
-inherit (grammar.with_inherit {ts} {w} {x} o e) r = at e (past_keyword (past_sign Equal tt (so (λ p. tt) (past_word x o nothing))))
+inherit (name_classes.without_inherit e) r = at e nothing
+inherit (name_classes.with_inherit {ts} {w} {x} o e) r = at e (past_keyword (past_sign Equal tt (so (λ p. tt) (past_word x o nothing))))
 
 -- ---- name classes
 
@@ -208,27 +210,27 @@ parentheses_around r m c e h = (h.0, let a = around_inside c in let l = h.1 in o
 
 mutual
   class : {ts : List Lexeme} {c : NameClass written} → IsClass ts c → (r : ℕ) → Keeps ts r (IsSpelledClass c × (inside c ≤ r))
-  class (grammar.basic_class {ts} {c} b) r = so (basic_inside r c) (basic b r)
-  class (grammar.choice_class {ts} {d} {a} {b} {c} {cs} i more e d-is) r =
+  class (name_classes.basic_class {ts} {c} b) r = so (basic_inside r c) (basic b r)
+  class (name_classes.choice_class {ts} {d} {a} {b} {c} {cs} i more e d-is) r =
       at e (so (λ p. subst (λ (d : NameClass written). IsSpelledClass d × (inside d ≤ r)) (sym d-is) (one_more_class r c cs (first p) (second p)))
       (both (basic i r) (more_classes more r)))
-  class (grammar.any_except n b e) r = at e (so second (both (annotation n r) (past_sign Star tt (past_sign Minus tt (basic b r)))))
-  class (grammar.ns_except n b e) r = at e (so second (both (annotation n r) (past_ns (past_sign Minus tt (basic b r)))))
+  class (name_classes.any_except n b e) r = at e (so second (both (annotation n r) (past_sign Star tt (past_sign Minus tt (basic b r)))))
+  class (name_classes.ns_except n b e) r = at e (so second (both (annotation n r) (past_ns (past_sign Minus tt (basic b r)))))
 
   more_classes : {ts : List Lexeme} {cs : List (NameClass written)} → AreMoreClasses ts cs → (r : ℕ) → Keeps ts r (FitInside r cs)
-  more_classes (grammar.last_class {ts} {a} {c} b e) r = at e (past_sign Bar tt (so (λ p. one_more_class r c [] p (tt, omega arith)) (basic b r)))
-  more_classes (grammar.more_classes {ts} {cs} {a} {b} {c} i more e) r =
+  more_classes (name_classes.last_class {ts} {a} {c} b e) r = at e (past_sign Bar tt (so (λ p. one_more_class r c [] p (tt, omega arith)) (basic b r)))
+  more_classes (name_classes.more_classes {ts} {cs} {a} {b} {c} i more e) r =
       at e (past_sign Bar tt (so (λ p. one_more_class r c cs (first p) (second p)) (both (basic i r) (more_classes more r))))
 
   basic : {ts : List Lexeme} {c : NameClass written} → IsBasic ts c → (r : ℕ) → Keeps ts r (FitsAround r c)
-  basic (grammar.annotated_basic n b e) r = at e (so second (both (annotation n r) (bare_basic b r)))
+  basic (name_classes.annotated_basic n b e) r = at e (so second (both (annotation n r) (bare_basic b r)))
 
   bare_basic : {ts : List Lexeme} {c : NameClass written} → IsBareBasic ts c → (r : ℕ) → Keeps ts r (FitsAround r c)
-  bare_basic (grammar.word_class {ts} {x} o e) r = at e (so (λ p. (first p, omega arith)) (past_word x o nothing))
-  bare_basic (grammar.cname_class e) r = at e (so (λ p. (first p, omega arith)) (past_name nothing))
-  bare_basic (grammar.ns_class e) r = at e (so (λ p. (tt, omega arith)) (past_ns nothing))
-  bare_basic (grammar.any_class e) r = at e (so (λ p. (tt, omega arith)) (past_sign Star tt nothing))
-  bare_basic (grammar.class_in_parens {ts} {a} {c} k e) r = at e (in_parentheses (λ m i. so (parentheses_around r m c i) (class k m)))
+  bare_basic (name_classes.word_class {ts} {x} o e) r = at e (so (λ p. (first p, omega arith)) (past_word x o nothing))
+  bare_basic (name_classes.cname_class e) r = at e (so (λ p. (first p, omega arith)) (past_name nothing))
+  bare_basic (name_classes.ns_class e) r = at e (so (λ p. (tt, omega arith)) (past_ns nothing))
+  bare_basic (name_classes.any_class e) r = at e (so (λ p. (tt, omega arith)) (past_sign Star tt nothing))
+  bare_basic (name_classes.class_in_parens {ts} {a} {c} k e) r = at e (in_parentheses (λ m i. so (parentheses_around r m c i) (class k m)))
 
 -- ---- patterns and components
 

@@ -3,16 +3,14 @@ use Rattle.std.proofs.Common.{◌≡◌, ◌∙◌, sym, subst, ap, ℕ, ◌+◌
 use Rattle.std.specs.List.{AllByRecursion}
 use Rattle.std.proofs.lemmas.Str.{encode_ascii}
 use Rattle.rnc_text.proofs.Cursors.{bytes_append}
-use Rattle.rnc_model.specs.characters.Characters.{numbers_of, bytes_of}
-use Rattle.rnc_model.specs.tokens.Cut.{Token, tokens_at, HasTokens}
-use Rattle.rnc_model.specs.characters.Decoding.{IsDecoded}
+use Rattle.rnc_model.specs.characters.Decoding.{numbers_of, bytes_of, IsDecoded}
+use Rattle.rnc_model.specs.tokens.Cut.{Token, tokens_at, HasTokens, lexeme_at, numbered, lexemes, prefix_in, local_in}
 use Rattle.rnc_model.specs.tokens.Tokens.{Piece, gap, token, characters_in, keyword_or_identifier, keyword_of, word_kind, IsNcname, three, IsPiece}
 use Rattle.rnc_model.specs.tokens.Tokens as tokens
 use Rattle.rnc_model.specs.declared.character.Character.{Character}
 use Rattle.rnc_model.specs.declared.character.Character.TheVariants.{Ordinary}
 use Rattle.rnc_model.specs.declared.token.Keyword.{Keyword}
 use Rattle.rnc_model.specs.declared.token.TokenKind.{TokenKind}
-use Rattle.rnc_model.specs.tokens.Lexeme.{lexeme_at, numbered, lexemes, prefix_in, local_in}
 use Rattle.rnc_print_laws.specs.plain.Printable.{IsName}
 use Rattle.rnc_print_laws.proofs.Colons.{ncname_no_colon, before_colon}
 use Rattle.rnc_print_laws.proofs.FileCharacters.{AreChars, decoded_chars, chars_parts, chars_behind, text_of, name_of, IsCharPiece, cut_pieces}

@@ -2,7 +2,7 @@
 ghost use Rattle.std.specs.Prelude.{ℕ, List};
 ghost use Rattle.rnc_model.specs.loading.LoadedSchema.{AreSchema};
 ghost use Rattle.rnc_model.specs.loading.Loading.{TakenFiles, are_taken, FilesHaveOnlyVerdict};
-ghost use Rattle.rnc_model.specs.loading.SchemaFile.{Name, NamedFile, IsSchemaFile};
+ghost use Rattle.rnc_model.specs.loading.SchemaFile.{FileName, NamedFile, IsSchemaFile};
 ghost use Rattle.rng_model.specs.schema.Schema.{Schema};
 ghost use Rattle.rng_model.specs.schema.SchemaClauses.{BreaksDatatype, BreaksNoClause};
 ghost use Rattle.rng_model.specs.simple.SchemaForm.{IsSimpleGrammarOf};
@@ -19,9 +19,9 @@ ghost use Rattle.rnc_print_laws.specs.plain.WellSpelledSchemas.{IsWellSpelledSch
 /// each simple grammar of a schema of files that breaks no clause is printable.
 pub fn printable_laws()
     ensures file { (bytes : List ℕ) (t : FileTree) → IsSchemaFile bytes t → IsWellSpelledFile t }
-    ensures schema { (files : List NamedFile) (main : Name) (read : TakenFiles) (s : Schema) → FilesHaveOnlyVerdict files main (are_taken read)
+    ensures schema { (files : List NamedFile) (main : FileName) (read : TakenFiles) (s : Schema) → FilesHaveOnlyVerdict files main (are_taken read)
         → AreSchema read main s → IsWellSpelledSchema s }
     ensures form { (s : Schema) → IsWellSpelledSchema s → ¬ (BreaksDatatype s) → (g : Grammar) → IsSimpleGrammarOf s g → IsPrintable g }
-    ensures printable { (files : List NamedFile) (main : Name) (read : TakenFiles) (s : Schema) → FilesHaveOnlyVerdict files main (are_taken read)
+    ensures printable { (files : List NamedFile) (main : FileName) (read : TakenFiles) (s : Schema) → FilesHaveOnlyVerdict files main (are_taken read)
         → AreSchema read main s → BreaksNoClause s → (g : Grammar) → IsSimpleGrammarOf s g → IsPrintable g }
 {}

@@ -1,6 +1,6 @@
 // The laws of answers for printed texts.
 ghost use Rattle.std.specs.Prelude.{◌≡◌, ◌≤◌, ℕ, List, Option, length};
-ghost use Rattle.rnc_model.specs.loading.SchemaFile.{Name, NamedFile, size_limit};
+ghost use Rattle.rnc_model.specs.loading.SchemaFile.{FileName, NamedFile, size_limit};
 ghost use Rattle.rng_model.specs.schema.Schema.{Schema};
 ghost use Rattle.rnc_print_laws.specs.plain.HandedIn.{AreFilesOf, AreOfSameForm, IsHandedInAgain, IsPrintedFile, text_alone};
 ghost use Rattle.rncv_model.specs.answers.Answer.{Answer, printed};
@@ -22,15 +22,15 @@ use rncv_run::answer_laws;
 /// no longer than a file may be, and has that tree (`alone`). What `simple` answers for files has that tree. So its
 /// answer for this text alone is the text itself, if it is no longer than a file may be (`twice`).
 pub fn printed_again_laws()
-    ensures same_form { (files : List NamedFile) (main : Name) (input_old input_new : Option (List ℕ)) (text : List ℕ)
+    ensures same_form { (files : List NamedFile) (main : FileName) (input_old input_new : Option (List ℕ)) (text : List ℕ)
         → IsAnswer Simple files main input_old input_new (printed text) → length text ≤ size_limit
-        → (s : Schema) → AreFilesOf s files main → (name : Name) → AreOfSameForm s (text_alone name text) name }
-    ensures again { (s : Schema) (text : List ℕ) (files : List NamedFile) (main : Name) → IsHandedInAgain s text files main
+        → (s : Schema) → AreFilesOf s files main → (name : FileName) → AreOfSameForm s (text_alone name text) name }
+    ensures again { (s : Schema) (text : List ℕ) (files : List NamedFile) (main : FileName) → IsHandedInAgain s text files main
         → (input_old input_new : Option (List ℕ)) (answer : Answer) → IsAnswer Simple files main input_old input_new answer → answer ≡ printed text }
-    ensures alone { (s : Schema) (text : List ℕ) → IsPrintedFile s text → (main : Name) (input_old input_new : Option (List ℕ)) (answer : Answer)
+    ensures alone { (s : Schema) (text : List ℕ) → IsPrintedFile s text → (main : FileName) (input_old input_new : Option (List ℕ)) (answer : Answer)
         → IsAnswer Simple (text_alone main text) main input_old input_new answer → answer ≡ printed text }
-    ensures twice { (files : List NamedFile) (main : Name) (input_old input_new : Option (List ℕ)) (text : List ℕ)
-        → IsAnswer Simple files main input_old input_new (printed text) → length text ≤ size_limit → (name : Name) (old new : Option (List ℕ)) (answer : Answer)
+    ensures twice { (files : List NamedFile) (main : FileName) (input_old input_new : Option (List ℕ)) (text : List ℕ)
+        → IsAnswer Simple files main input_old input_new (printed text) → length text ≤ size_limit → (name : FileName) (old new : Option (List ℕ)) (answer : Answer)
         → IsAnswer Simple (text_alone name text) name old new answer → answer ≡ printed text }
 {
     reading_back_laws();

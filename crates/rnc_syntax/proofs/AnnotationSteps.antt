@@ -6,7 +6,7 @@ use Rattle.rnc_syntax.specs.declared.annotations.Role.TheVariants as roles
 use Rattle.rnc_syntax.specs.declared.fault.ReadFault.{ReadFault}
 use Rattle.rnc_syntax.specs.declared.fault.ReadFault.TheVariants as read_faults
 use Rattle.rnc_syntax.specs.declared.fault.Stop.TheVariants.{Unexpected}
-use Rattle.rnc_model.specs.tokens.Lexeme.{Lexeme}
+use Rattle.rnc_model.specs.tokens.Cut.{Lexeme}
 use Rattle.rnc_syntax.specs.plain.Combinators.{Outcome, unexpected}
 use Rattle.rng_model.specs.plain.Answers.{Refuses}
 use Rattle.rnc_syntax.specs.views.Fault.{stop_of}

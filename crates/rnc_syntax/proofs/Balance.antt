@@ -10,12 +10,15 @@ use Rattle.rnc_model.specs.declared.token.Sign.{Sign}
 use Rattle.rnc_model.specs.declared.token.Sign.TheVariants.{Equal, BarEqual, AndEqual, Comma, Bar, And, Question, Star, Plus, Minus, OpenBrace, CloseBrace}
 use Rattle.rnc_model.specs.declared.token.Sign.TheVariants.{OpenParenthesis, CloseParenthesis, OpenBracket, CloseBracket, Tilde}
 use Rattle.rng_model.specs.declared.method.Method.{Method}
-use Rattle.rnc_model.specs.tokens.Lexeme.{Lexeme, keyword, identifier, cname, ns_name, segment, sign}
+use Rattle.rnc_model.specs.tokens.Cut.{Lexeme, keyword, identifier, cname, ns_name, segment, sign}
 use Rattle.rnc_model.specs.grammar.Syntax.{written, NameClass, DatatypeName, Pattern, Component, Uri, Declaration}
+use Rattle.rnc_model.specs.grammar.NameClasses as name_classes
 use Rattle.rnc_model.specs.grammar.Grammar as grammar
-use Rattle.rnc_model.specs.grammar.Grammar.{word_of, type_of, method_of, connector_of, Setting, IsLiteral, AreParameters, MayBeParameters, MayInherit, IsClass}
-use Rattle.rnc_model.specs.grammar.Grammar.{AreMoreClasses, IsBasic, IsPattern, AreMore, IsParticle, IsPrimary, IsBraced, AreComponents, IsComponent, MayOverride}
-use Rattle.rnc_model.specs.grammar.Grammar.{is_bracket, IsAnnotationContent, MayBeAnnotation, IsBareBasic, IsBarePrimary, IsBareComponent, IsUri, IsDeclaration}
+use Rattle.rnc_model.specs.grammar.NameClasses.{word_of, type_of, method_of, connector_of, IsLiteral, AreParameters, MayBeParameters, MayInherit, IsClass}
+use Rattle.rnc_model.specs.grammar.NameClasses.{AreMoreClasses, IsBasic, is_bracket, IsAnnotationContent, MayBeAnnotation, IsBareBasic}
+use Rattle.rnc_model.specs.grammar.Grammar.{Setting}
+use Rattle.rnc_model.specs.grammar.Grammar.{IsPattern, AreMore, IsParticle, IsPrimary, IsBraced, AreComponents, IsComponent, MayOverride}
+use Rattle.rnc_model.specs.grammar.Grammar.{IsBarePrimary, IsBareComponent, IsUri, IsDeclaration}
 use Rattle.rnc_model.specs.grammar.Grammar.{AreDeclarations}
 use Rattle.rnc_model.specs.grammar.Sentence.{is_opening, is_closing, openings, closings, NestsWithin}
 
@@ -189,65 +192,65 @@ plain_content (sign CloseParenthesis) e = absurd cc
 plain_content _ e = record { no_opening = refl; no_closing = refl }
 
 content_even : {ts : List Lexeme} → IsAnnotationContent ts → Balanced ts
-content_even (grammar.no_content e) = subst Balanced (sym e) refl
-content_even {ts} (grammar.and_token {a = a} {x = x} is p e) = plain_even x a ts (plain_content x is) e (content_even p)
-content_even {ts} (grammar.and_annotation {a = a} {b = b} p q e) =
+content_even (name_classes.no_content e) = subst Balanced (sym e) refl
+content_even {ts} (name_classes.and_token {a = a} {x = x} is p e) = plain_even x a ts (plain_content x is) e (content_even p)
+content_even {ts} (name_classes.and_annotation {a = a} {b = b} p q e) =
     plain_even (sign OpenBracket) (a ++ sign CloseBracket ∷ b) ts (plain _ refl refl) e
     (join_even a (sign CloseBracket ∷ b) (a ++ sign CloseBracket ∷ b) refl (content_even p) (plain_even (sign CloseBracket) b (sign CloseBracket ∷ b)
     (plain _ refl refl) refl (content_even q)))
 
 pub annotation_even : {ts : List Lexeme} → MayBeAnnotation ts → Balanced ts
-annotation_even (grammar.without_annotation e) = subst Balanced (sym e) refl
-annotation_even {ts} (grammar.with_annotation {a = a} p e) = plain_even (sign OpenBracket) (a ++ sign CloseBracket ∷ []) ts (plain _ refl refl) e
+annotation_even (name_classes.without_annotation e) = subst Balanced (sym e) refl
+annotation_even {ts} (name_classes.with_annotation {a = a} p e) = plain_even (sign OpenBracket) (a ++ sign CloseBracket ∷ []) ts (plain _ refl refl) e
     (join_even a (sign CloseBracket ∷ []) (a ++ sign CloseBracket ∷ []) refl (content_even p) refl)
 
 pub literal_even : {ts : List Lexeme} {v : List ℕ} → IsLiteral ts v → Balanced ts
-literal_even (grammar.one_segment e) = subst Balanced (sym e) refl
-literal_even {ts} (grammar.more_segments {a = a} {w = w} p e f) = plain_even (segment w) (sign Tilde ∷ a) ts (plain _ refl refl) e
+literal_even (name_classes.one_segment e) = subst Balanced (sym e) refl
+literal_even {ts} (name_classes.more_segments {a = a} {w = w} p e f) = plain_even (segment w) (sign Tilde ∷ a) ts (plain _ refl refl) e
     (plain_even (sign Tilde) a (sign Tilde ∷ a) (plain _ refl refl) refl (literal_even p))
 
 pub parameters_even : {ts : List Lexeme} {ps : List (List ℕ × List ℕ)} → AreParameters ts ps → Balanced ts
-parameters_even (grammar.no_parameters e) = subst Balanced (sym e) refl
-parameters_even {ts} (grammar.and_parameter {n = n} {a = a} {b = b} {w = w} x may is p q e) =
+parameters_even (name_classes.no_parameters e) = subst Balanced (sym e) refl
+parameters_even {ts} (name_classes.and_parameter {n = n} {a = a} {b = b} {w = w} x may is p q e) =
     join_even n (x ∷ sign Equal ∷ (a ++ b)) ts e (annotation_even may)
     (plain_even x (sign Equal ∷ (a ++ b)) (x ∷ sign Equal ∷ (a ++ b)) (plain_word x w is) refl
     (plain_even (sign Equal) (a ++ b) (sign Equal ∷ (a ++ b)) (plain _ refl refl) refl (join_even a b (a ++ b) refl (literal_even p) (parameters_even q))))
 
 pub may_parameters_even : {ts : List Lexeme} {ps : List (List ℕ × List ℕ)} → MayBeParameters ts ps → Balanced ts
-may_parameters_even (grammar.without_parameters e) = subst Balanced (sym e) refl
-may_parameters_even {ts} (grammar.with_parameters {a = a} p e) = bracket_even _ _ a ts braces e (parameters_even p)
+may_parameters_even (name_classes.without_parameters e) = subst Balanced (sym e) refl
+may_parameters_even {ts} (name_classes.with_parameters {a = a} p e) = bracket_even _ _ a ts braces e (parameters_even p)
 
 pub may_inherit_even : {ts : List Lexeme} {p : Option (List ℕ)} → MayInherit ts p → Balanced ts
-may_inherit_even (grammar.without_inherit e) = subst Balanced (sym e) refl
-may_inherit_even {ts} (grammar.with_inherit {w = w} {x = x} {s = s} is e) =
+may_inherit_even (name_classes.without_inherit e) = subst Balanced (sym e) refl
+may_inherit_even {ts} (name_classes.with_inherit {w = w} {x = x} {s = s} is e) =
     plain_even (keyword keywords.Inherit s) (sign Equal ∷ x ∷ []) ts (plain _ refl refl) e
     (plain_even (sign Equal) (x ∷ []) (sign Equal ∷ x ∷ []) (plain _ refl refl) refl (plain_even x [] (x ∷ []) (plain_word x w is) refl refl))
 
 mutual
   pub class_even : {ts : List Lexeme} {c : NameClass written} → IsClass ts c → Balanced ts
-  class_even (grammar.basic_class p) = basic_even p
-  class_even {ts} (grammar.choice_class {a = a} {b = b} p q e f) = join_even a b ts e (basic_even p) (more_classes_even q)
-  class_even {ts} (grammar.any_except {n = n} {a = a} may p e) = join_even n (sign Star ∷ sign Minus ∷ a) ts e (annotation_even may)
+  class_even (name_classes.basic_class p) = basic_even p
+  class_even {ts} (name_classes.choice_class {a = a} {b = b} p q e f) = join_even a b ts e (basic_even p) (more_classes_even q)
+  class_even {ts} (name_classes.any_except {n = n} {a = a} may p e) = join_even n (sign Star ∷ sign Minus ∷ a) ts e (annotation_even may)
       (plain_even (sign Star) (sign Minus ∷ a) (sign Star ∷ sign Minus ∷ a) (plain _ refl refl) refl
       (plain_even (sign Minus) a (sign Minus ∷ a) (plain _ refl refl) refl (basic_even p)))
-  class_even {ts} (grammar.ns_except {n = n} {a = a} {p = w} may p e) = join_even n (ns_name w ∷ sign Minus ∷ a) ts e (annotation_even may)
+  class_even {ts} (name_classes.ns_except {n = n} {a = a} {p = w} may p e) = join_even n (ns_name w ∷ sign Minus ∷ a) ts e (annotation_even may)
       (plain_even (ns_name w) (sign Minus ∷ a) (ns_name w ∷ sign Minus ∷ a) (plain _ refl refl) refl
       (plain_even (sign Minus) a (sign Minus ∷ a) (plain _ refl refl) refl (basic_even p)))
 
   pub more_classes_even : {ts : List Lexeme} {cs : List (NameClass written)} → AreMoreClasses ts cs → Balanced ts
-  more_classes_even {ts} (grammar.last_class {a = a} p e) = plain_even (sign Bar) a ts (plain _ refl refl) e (basic_even p)
-  more_classes_even {ts} (grammar.more_classes {a = a} {b = b} p q e) = plain_even (sign Bar) (a ++ b) ts (plain _ refl refl) e
+  more_classes_even {ts} (name_classes.last_class {a = a} p e) = plain_even (sign Bar) a ts (plain _ refl refl) e (basic_even p)
+  more_classes_even {ts} (name_classes.more_classes {a = a} {b = b} p q e) = plain_even (sign Bar) (a ++ b) ts (plain _ refl refl) e
       (join_even a b (a ++ b) refl (basic_even p) (more_classes_even q))
 
   pub basic_even : {ts : List Lexeme} {c : NameClass written} → IsBasic ts c → Balanced ts
-  basic_even {ts} (grammar.annotated_basic {n = n} {a = a} may p e) = join_even n a ts e (annotation_even may) (bare_basic_even p)
+  basic_even {ts} (name_classes.annotated_basic {n = n} {a = a} may p e) = join_even n a ts e (annotation_even may) (bare_basic_even p)
 
   pub bare_basic_even : {ts : List Lexeme} {c : NameClass written} → IsBareBasic ts c → Balanced ts
-  bare_basic_even {ts} (grammar.word_class {x = x} {w = w} is e) = plain_even x [] ts (plain_word x w is) e refl
-  bare_basic_even (grammar.cname_class e) = subst Balanced (sym e) refl
-  bare_basic_even (grammar.ns_class e) = subst Balanced (sym e) refl
-  bare_basic_even (grammar.any_class e) = subst Balanced (sym e) refl
-  bare_basic_even {ts} (grammar.class_in_parens {a = a} p e) = bracket_even _ _ a ts parens e (class_even p)
+  bare_basic_even {ts} (name_classes.word_class {x = x} {w = w} is e) = plain_even x [] ts (plain_word x w is) e refl
+  bare_basic_even (name_classes.cname_class e) = subst Balanced (sym e) refl
+  bare_basic_even (name_classes.ns_class e) = subst Balanced (sym e) refl
+  bare_basic_even (name_classes.any_class e) = subst Balanced (sym e) refl
+  bare_basic_even {ts} (name_classes.class_in_parens {a = a} p e) = bracket_even _ _ a ts parens e (class_even p)
 
 mutual
   pub pattern_even : {ts : List Lexeme} {t : Pattern written} → IsPattern ts t → Balanced ts

@@ -4,13 +4,13 @@ use Rattle.std.proofs.lemmas.List.{append-nil, length-append}
 use Rattle.rnc_model.specs.declared.token.Keyword.TheVariants as keywords
 use Rattle.rnc_model.specs.declared.token.Sign.{Sign}
 use Rattle.rnc_model.specs.declared.token.Sign.TheVariants.{Equal, OpenBrace, CloseBrace, Tilde}
-use Rattle.rnc_model.specs.tokens.Lexeme.{Lexeme, Spelling, keyword, identifier, segment, sign}
-use Rattle.rnc_model.specs.grammar.Grammar as grammar
-use Rattle.rnc_model.specs.grammar.Grammar.{word_of, MayBeAnnotation, IsLiteral, AreParameters, MayBeParameters, MayInherit}
+use Rattle.rnc_model.specs.tokens.Cut.{Lexeme, Spelling, keyword, identifier, segment, sign}
+use Rattle.rnc_model.specs.grammar.NameClasses as grammar
+use Rattle.rnc_model.specs.grammar.NameClasses.{word_of, MayBeAnnotation, IsLiteral, AreParameters, MayBeParameters, MayInherit}
 use Rattle.rnc_syntax.specs.plain.Combinators.{Outcome, follow, follow_keyword, after, word_at, segment_at, many_with, many}
 use Rattle.rnc_syntax.specs.plain.Productions.{literal_at, parameter_at, parameter_front, annotated_parameter_at, in_braces_at, parameters_at, word_after_equal}
 use Rattle.rnc_syntax.specs.plain.Productions.{inherit_at, mention_at}
-use Rattle.rnc_model.specs.grammar.Syntax.{joined_text}
+use Rattle.rnc_model.specs.grammar.SyntaxTrees.{joined_text}
 use Rattle.rnc_syntax.proofs.CompletenessAnnotations.{StandsAlone, annotated_behind}
 
 -- ---- items one after another

@@ -2,11 +2,11 @@
 use Rattle.std.proofs.Common.{◌≡◌, ℕ, zero, suc, ◌<◌, List, [], ◌∷◌, ◌++◌, length, Some, None, Ok, refl, sym, ap, subst, ◌∙◌, append_assoc, arith}
 use Rattle.std.proofs.lemmas.List.{length-append}
 use Rattle.rnc_model.specs.declared.token.Sign.TheVariants.{Bar, Star, Minus, OpenParenthesis, CloseParenthesis}
-use Rattle.rnc_model.specs.tokens.Lexeme.{Lexeme, keyword, identifier, cname, ns_name, sign}
+use Rattle.rnc_model.specs.tokens.Cut.{Lexeme, keyword, identifier, cname, ns_name, sign}
 use Rattle.rnc_model.specs.grammar.Syntax as syntax
 use Rattle.rnc_model.specs.grammar.Syntax.{written, NameClass}
-use Rattle.rnc_model.specs.grammar.Grammar as grammar
-use Rattle.rnc_model.specs.grammar.Grammar.{word_of, IsClass, AreMoreClasses, IsBasic, IsBareBasic}
+use Rattle.rnc_model.specs.grammar.NameClasses as grammar
+use Rattle.rnc_model.specs.grammar.NameClasses.{word_of, IsClass, AreMoreClasses, IsBasic, IsBareBasic}
 use Rattle.rnc_syntax.specs.plain.Combinators.{Outcome, follow, after, many}
 use Rattle.rnc_syntax.specs.plain.Productions.{class_in_parens, bare_basic_with, basic_with, choice_with, except_front, bare_class_with, class_with, inside_at}
 use Rattle.rnc_model.specs.grammar.Sentence.{NestsWithin}

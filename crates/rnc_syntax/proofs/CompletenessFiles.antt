@@ -7,11 +7,13 @@ use Rattle.rng_model.specs.declared.method.Method.{Method}
 use Rattle.rnc_model.specs.declared.token.Sign.TheVariants.{Equal, BarEqual, AndEqual, Question, Star, Plus, Minus, OpenBracket, CloseBracket}
 use Rattle.rnc_model.specs.declared.token.Sign.TheVariants.{Tilde}
 use Rattle.rnc_syntax.specs.declared.fault.Stop.{Stop}
-use Rattle.rnc_model.specs.tokens.Lexeme.{Lexeme, Spelling, keyword, identifier, cname, segment, sign}
+use Rattle.rnc_model.specs.tokens.Cut.{Lexeme, Spelling, keyword, identifier, cname, segment, sign}
 use Rattle.rnc_model.specs.grammar.Syntax as syntax
 use Rattle.rnc_model.specs.grammar.Syntax.{written, DatatypeName, Pattern, Component, Uri, Declaration, Body, File}
 use Rattle.rnc_model.specs.grammar.Grammar as grammar
-use Rattle.rnc_model.specs.grammar.Grammar.{content, word_of, type_of, method_of, IsAnnotationContent, MayBeAnnotation, IsLiteral, IsPattern, IsParticle, IsPrimary}
+use Rattle.rnc_model.specs.grammar.NameClasses as name_classes
+use Rattle.rnc_model.specs.grammar.Grammar.{content, IsPattern, IsParticle, IsPrimary}
+use Rattle.rnc_model.specs.grammar.NameClasses.{word_of, type_of, method_of, IsAnnotationContent, MayBeAnnotation, IsLiteral}
 use Rattle.rnc_model.specs.grammar.Grammar.{IsBarePrimary, AreComponents, IsBareComponent}
 use Rattle.rnc_model.specs.grammar.Grammar.{IsComponent, IsUri, IsDeclaration, AreDeclarations, IsBody, IsFile}
 use Rattle.rnc_syntax.specs.plain.Combinators.{Outcome, ◌>>=◌, follow, after, after_keyword, many}
@@ -189,8 +191,8 @@ bare_primary_body (grammar.grammar p e g) r = rw e (record { no_tilde = refl; no
 bare_primary_body (grammar.in_parens p e) r = rw e (record { no_tilde = refl; none = refl })
 
 annotation_body : {note : List Lexeme} → MayBeAnnotation note → (ts a r : List Lexeme) → ts ≡ note ++ a → NoDeclaration (a ++ r) → NoDeclaration (ts ++ r)
-annotation_body (grammar.without_annotation f) ts a r e b = rw (e, f) b
-annotation_body (grammar.with_annotation p f) ts a r e b = rw (e, f) (record { no_tilde = refl; none = refl })
+annotation_body (name_classes.without_annotation f) ts a r e b = rw (e, f) b
+annotation_body (name_classes.with_annotation p f) ts a r e b = rw (e, f) (record { no_tilde = refl; none = refl })
 
 primary_body : {ts : List Lexeme} {t : Pattern written} → IsPrimary ts t → (r : List Lexeme) → NoDeclaration (ts ++ r)
 primary_body {ts} (grammar.annotated_primary {a = a} may p e) r = annotation_body may ts a r e (bare_primary_body p r)
@@ -304,7 +306,7 @@ module _ (n : ℕ) where
   unfolding pattern_with
   pattern_body_by us t None is e =
       let bare = bare_pattern_with (inside_at n) in
-      alone_body_read us (syntax.pattern_body t) is (bare_pattern_read us t (sym (annotated_is bare (grammar.without_annotation refl) us is) ∙ e))
+      alone_body_read us (syntax.pattern_body t) is (bare_pattern_read us t (sym (annotated_is bare (name_classes.without_annotation refl) us is) ∙ e))
   pattern_body_by us t (Some vs) is e =
       let bare = bare_pattern_with (inside_at n) in
       let whole = sym (ap (λ (r : Outcome (Unit {0})). r >>= λ x. bare x.1) (annotation_opened us vs is)) ∙ e in
@@ -325,10 +327,10 @@ module _ (n : ℕ) where
       → ((b : Bool) → is_grammar_body b us ≡ true) → follow OpenBracket us ≡ None → components_with (inside_at n) content (note ++ us) ≡ Ok (c ∷ cs, [])
       → bare_component_with (inside_at n) content us ≡ Ok (c, vs) → components_with (inside_at n) content vs ≡ Ok (cs, [])
       → body_with (inside_at n) (note ++ us) ≡ Ok (syntax.grammar_body (syntax.components_of (c ∷ cs)), [])
-  grammar_body_read {note} (grammar.without_annotation f) us vs c cs is none whole one others =
+  grammar_body_read {note} (name_classes.without_annotation f) us vs c cs is none whole one others =
       let w = subst (λ (note : List Lexeme). components_with (inside_at n) content (note ++ us) ≡ Ok (c ∷ cs, [])) f whole in
       rw f (alone_body_read us (syntax.grammar_body (syntax.components_of (c ∷ cs))) none (bare_grammar_read us (c ∷ cs) (is true) w))
-  grammar_body_read {note} (grammar.with_annotation {a = a} p f) us vs c cs is none whole one others =
+  grammar_body_read {note} (name_classes.with_annotation {a = a} p f) us vs c cs is none whole one others =
       opened_body_read (note ++ us) ((a ++ sign CloseBracket ∷ []) ++ us) us (syntax.grammar_body (syntax.components_of (c ∷ cs))) (rw f refl) (end_read p us)
       (annotated_grammar_read us vs c cs (is false) one others)
 

@@ -9,16 +9,19 @@ use Rattle.rnc_model.specs.declared.token.Sign.TheVariants.{Equal, BarEqual, And
 use Rattle.rnc_model.specs.declared.token.Sign.TheVariants.{OpenParenthesis, CloseParenthesis, OpenBracket, CloseBracket, Tilde}
 use Rattle.rng_model.specs.declared.method.Method.{Method}
 use Rattle.rng_model.specs.declared.method.Method.TheVariants as methods
-use Rattle.rnc_model.specs.tokens.Lexeme.{Lexeme, Spelling, keyword, identifier, cname, segment, sign}
+use Rattle.rnc_model.specs.tokens.Cut.{Lexeme, Spelling, keyword, identifier, cname, segment, sign}
 use Rattle.rnc_model.specs.grammar.Syntax as syntax
 use Rattle.rnc_model.specs.grammar.Syntax.{written, NameClass, DatatypeName, Mention, Pattern, Component}
 use Rattle.rnc_model.specs.grammar.Grammar as grammar
-use Rattle.rnc_model.specs.grammar.Grammar.{Setting, content, override, type_of, method_of, connector_of, IsLiteral, MayBeParameters, IsClass, IsPattern, AreMore}
+use Rattle.rnc_model.specs.grammar.NameClasses as name_classes
+use Rattle.rnc_model.specs.grammar.Grammar.{Setting, content, override, IsPattern, AreMore}
+use Rattle.rnc_model.specs.grammar.NameClasses.{type_of, method_of, connector_of, IsLiteral, MayBeParameters, IsClass, MayBeAnnotation}
 use Rattle.rnc_model.specs.grammar.Grammar.{IsParticle, IsPrimary, IsBarePrimary, IsBraced, AreComponents, IsComponent, IsBareComponent, MayOverride}
-use Rattle.rnc_model.specs.grammar.Grammar.{MayBeAnnotation}
 use Rattle.rnc_syntax.specs.plain.Combinators.{follow, follow_keyword, after, identifier_at, many}
-use Rattle.rnc_syntax.specs.plain.Productions.{literal_at, parameters_at, mention_at, braced_with, contents_with, named_with, begins_segment, typed_at, type_front}
-use Rattle.rnc_syntax.specs.plain.Productions.{other_at, atom_at, parens_with, opened_with, bare_primary_with, primary_with, repeated, particle_with, separator_of}
+use Rattle.rnc_syntax.specs.plain.Productions.{literal_at, parameters_at, mention_at, braced_with, contents_with, named_with, begins_segment, typed_at}
+use Rattle.rnc_syntax.specs.plain.Productions.{type_front}
+use Rattle.rnc_syntax.specs.plain.Productions.{other_at, atom_at, parens_with, opened_with, bare_primary_with, primary_with, repeated, particle_with}
+use Rattle.rnc_syntax.specs.plain.Productions.{separator_of}
 use Rattle.rnc_syntax.specs.plain.Productions.{joined, rest_with}
 use Rattle.rnc_syntax.specs.plain.Productions.{pattern_from, data_front, data_with, bare_pattern_with, pattern_with, method_at, overrides_with, component_front}
 use Rattle.rnc_syntax.specs.plain.Productions.{assigned_at, bare_component_with, component_with, components_with, inside_at}
@@ -152,8 +155,8 @@ bare_component_starts (grammar.div {a = a} {s = s} p e f) = (keyword keywords.Di
 bare_component_starts (grammar.include {a = a} {b = b} {o = o} {s = s} w-is p q r e f) = (keyword keywords.Include s, a ++ (b ++ o), e, refl)
 
 starts_behind : {note : List Lexeme} → MayBeAnnotation note → (ts a : List Lexeme) → ts ≡ note ++ a → Starts a → Starts ts
-starts_behind (grammar.without_annotation f) ts a e s = (s.0, s.1, e ∙ ap (λ (n : List Lexeme). n ++ a) f ∙ s.2, s.3)
-starts_behind (grammar.with_annotation {a = c} p f) ts a e s =
+starts_behind (name_classes.without_annotation f) ts a e s = (s.0, s.1, e ∙ ap (λ (n : List Lexeme). n ++ a) f ∙ s.2, s.3)
+starts_behind (name_classes.with_annotation {a = c} p f) ts a e s =
     let rest = (c ++ sign CloseBracket ∷ []) ++ a in
     let parts : ts ≡ sign OpenBracket ∷ rest = e ∙ ap (λ (n : List Lexeme). n ++ a) f in
     (sign OpenBracket, rest, parts, refl)
@@ -241,8 +244,8 @@ IsDataRead t ts rest = (d : DatatypeName written) × (ps : List (List ℕ × Lis
 
 may_no_segment : {a : List Lexeme} {ps : List (List ℕ × List ℕ)} → MayBeParameters a ps → (rest : List Lexeme) → begins_segment rest ≡ false
     → begins_segment (a ++ rest) ≡ false
-may_no_segment (grammar.without_parameters e) rest is = rw e is
-may_no_segment (grammar.with_parameters p e) rest is = rw e refl
+may_no_segment (name_classes.without_parameters e) rest is = rw e is
+may_no_segment (name_classes.with_parameters p e) rest is = rw e refl
 
 data_is_read : (x : Lexeme) (d : DatatypeName written) (ts a rest : List Lexeme) (ps : List (List ℕ × List ℕ)) → ts ≡ x ∷ a → type_of x ≡ Some d
     → begins_segment (a ++ rest) ≡ false → parameters_at (a ++ rest) ≡ Ok (ps, rest) → IsDataRead (syntax.data_of d ps) (ts ++ rest) rest
@@ -491,8 +494,8 @@ bare_front_starts override (grammar.include is p q o e f) r = absurd cc
 
 front_behind : (w : Setting) {note : List Lexeme} → MayBeAnnotation note → (ts a r : List Lexeme) → ts ≡ note ++ a → component_front w (a ++ r) ≡ Some (a ++ r)
     → component_front w (ts ++ r) ≡ Some (ts ++ r)
-front_behind w (grammar.without_annotation f) ts a r e is = rw (e, f) is
-front_behind w (grammar.with_annotation p f) ts a r e is = rw (e, f) refl
+front_behind w (name_classes.without_annotation f) ts a r e is = rw (e, f) is
+front_behind w (name_classes.with_annotation p f) ts a r e is = rw (e, f) refl
 
 front_starts : (w : Setting) {ts : List Lexeme} {c : Component written} → IsComponent w ts c → (r : List Lexeme) → component_front w (ts ++ r) ≡ Some (ts ++ r)
 front_starts w {ts} (grammar.annotated_component {a = a} may p e) r = front_behind w may ts a r e (bare_front_starts w p r)

@@ -5,7 +5,7 @@ use Rattle.std.proofs.Common.{arith}
 use Rattle.std.proofs.lemmas.List.{length-append, append-nil}
 use Rattle.rnc_syntax.specs.declared.fault.Stop.{Stop}
 use Rattle.rnc_syntax.specs.declared.fault.Stop.TheVariants.{Unexpected}
-use Rattle.rnc_model.specs.tokens.Lexeme.{Lexeme}
+use Rattle.rnc_model.specs.tokens.Cut.{Lexeme}
 use Rattle.rnc_model.specs.grammar.Syntax.{File}
 use Rattle.rnc_syntax.specs.plain.Productions.{inside_at, file_with}
 use Rattle.rnc_model.specs.grammar.Sentence.{NestsWithin, IsSentence, BeginsSentence, BeginsAlike, IsStuckAt}

@@ -2,7 +2,7 @@
 -- to and including it.
 use Rattle.std.proofs.Common.{◌≡◌, ℕ, ◌+◌, ◌-◌, List, [], ◌∷◌, ◌++◌, length, Ok, Err, refl, sym, ap, ◌∙◌}
 use Rattle.rnc_syntax.specs.declared.fault.Stop.TheVariants.{Unexpected, TooDeep}
-use Rattle.rnc_model.specs.tokens.Lexeme.{Lexeme}
+use Rattle.rnc_model.specs.tokens.Cut.{Lexeme}
 use Rattle.rnc_model.specs.grammar.Syntax.{Declaration, File}
 use Rattle.rnc_model.specs.grammar.Sentence.{IsStuckAt}
 use Rattle.rnc_syntax.specs.plain.Combinators.{Outcome, ◌>>=◌}

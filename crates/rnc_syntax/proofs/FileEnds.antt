@@ -4,7 +4,7 @@ use Rattle.rnc_model.specs.declared.token.Token.{Token}
 use Rattle.rnc_syntax.specs.declared.fault.Stop.TheVariants.{Unexpected}
 use Rattle.rnc_syntax.specs.declared.fault.ReadFault.{ReadFault}
 use Rattle.rnc_syntax.specs.declared.fault.ReadFault.TheVariants as read_faults
-use Rattle.rnc_model.specs.tokens.Lexeme.{Lexeme}
+use Rattle.rnc_model.specs.tokens.Cut.{Lexeme}
 use Rattle.rnc_syntax.specs.plain.Reading.{lexemes_in}
 use Rattle.rng_model.specs.plain.Answers.{Gives, Refuses}
 use Rattle.rnc_syntax.specs.views.Fault.{stop_of}

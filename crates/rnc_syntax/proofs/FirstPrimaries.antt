@@ -4,7 +4,7 @@ use Rattle.rnc_model.specs.declared.token.Keyword.TheVariants as keywords
 use Rattle.rnc_model.specs.declared.token.Sign.TheVariants.{Minus}
 use Rattle.rnc_model.specs.grammar.Syntax as syntax
 use Rattle.rnc_model.specs.grammar.Syntax.{written, DatatypeName, Pattern}
-use Rattle.rnc_model.specs.tokens.Lexeme.{Lexeme, keyword, cname}
+use Rattle.rnc_model.specs.tokens.Cut.{Lexeme, keyword, cname}
 use Rattle.rng_model.specs.plain.Answers.{Refuses}
 use Rattle.rnc_syntax.specs.declared.fault.ReadFault.{ReadFault}
 use Rattle.rnc_syntax.specs.declared.fault.ReadFault.TheVariants as read_faults

@@ -5,7 +5,7 @@ use Rattle.rnc_model.specs.declared.token.Sign.TheVariants.{Question, Star, Plus
 use Rattle.rnc_model.specs.grammar.Grammar.{Setting}
 use Rattle.rnc_model.specs.grammar.Syntax as syntax
 use Rattle.rnc_model.specs.grammar.Syntax.{written, Declaration, Pattern}
-use Rattle.rnc_model.specs.tokens.Lexeme.{Lexeme, keyword, sign}
+use Rattle.rnc_model.specs.tokens.Cut.{Lexeme, keyword, sign}
 use Rattle.rnc_syntax.specs.plain.Combinators.{Outcome, ◌>>=◌, after_keyword, either_way, follow_keyword, unexpected}
 use Rattle.rnc_syntax.specs.plain.Productions.{begins_component, component_front, begins_declaration, declaration_at, declaration_front}
 use Rattle.rnc_syntax.specs.plain.Productions.{default_at, parameter_at, prefix_at, repeated, repeated_by, repetition_front}

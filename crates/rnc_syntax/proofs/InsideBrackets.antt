@@ -2,7 +2,7 @@
 use Rattle.std.proofs.Common.{◌≡◌, ℕ, zero, suc, ◌-◌, ◌<◌, List, Err, refl, arith, sub-one}
 use Rattle.rnc_syntax.specs.declared.fault.Stop.TheVariants.{TooDeep}
 use Rattle.rnc_model.specs.grammar.Grammar.{Setting}
-use Rattle.rnc_model.specs.tokens.Lexeme.{Lexeme}
+use Rattle.rnc_model.specs.tokens.Cut.{Lexeme}
 use Rattle.rnc_syntax.specs.plain.Productions.{inside_at, class_with, pattern_with, components_with}
 
 pub class_too_deep : (n : ℕ) (ts : List Lexeme) → n ≡ 0 → (inside_at n).class ts ≡ Err TooDeep

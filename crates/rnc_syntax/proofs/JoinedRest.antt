@@ -2,7 +2,7 @@
 use Rattle.std.proofs.Common.{◌≡◌, List, [], ◌∷◌, Some, Ok, Err, refl, sym, ap, ◌∙◌}
 use Rattle.rnc_model.specs.declared.token.Sign.{Sign}
 use Rattle.rnc_model.specs.grammar.Syntax.{written, Pattern}
-use Rattle.rnc_model.specs.tokens.Lexeme.{Lexeme}
+use Rattle.rnc_model.specs.tokens.Cut.{Lexeme}
 use Rattle.rng_model.specs.plain.Answers.{Refuses}
 use Rattle.rnc_syntax.specs.declared.fault.ReadFault.{ReadFault}
 use Rattle.rnc_syntax.specs.declared.fault.ReadFault.TheVariants as read_faults

@@ -2,7 +2,7 @@
 use Rattle.std.proofs.Common.{◌≡◌, ℕ, suc, ◌+◌, ◌-◌, List, [], ◌∷◌, length, refl, ap, ◌∙◌, arith}
 use Rattle.rnc_model.specs.tokens.CutTokens.{tokens_of}
 use Rattle.rnc_model.specs.declared.token.Token.{Token}
-use Rattle.rnc_model.specs.tokens.Lexeme.{Lexeme, lexeme_at, lexemes, numbered}
+use Rattle.rnc_model.specs.tokens.Cut.{Lexeme, lexeme_at, lexemes, numbered}
 use Rattle.rnc_syntax.specs.plain.Reading.{lexemes_in}
 
 -- the number of tokens

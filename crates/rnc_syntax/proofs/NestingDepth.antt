@@ -12,17 +12,19 @@ use Rattle.rnc_syntax.specs.declared.annotations.Role.TheVariants as roles
 use Rattle.rng_model.specs.declared.method.Method.{Method}
 use Rattle.rnc_syntax.specs.declared.fault.Stop.{Stop}
 use Rattle.rnc_syntax.specs.declared.fault.Stop.TheVariants.{Unexpected, TooDeep}
-use Rattle.rnc_model.specs.tokens.Lexeme.{Lexeme, Spelling, keyword, identifier, cname, ns_name, segment, sign}
+use Rattle.rnc_model.specs.tokens.Cut.{Lexeme, Spelling, keyword, identifier, cname, ns_name, segment, sign}
 use Rattle.rnc_model.specs.grammar.Syntax as syntax
 use Rattle.rnc_model.specs.grammar.Syntax.{written, NameClass, DatatypeName, Pattern, Component, Uri, Declaration, File}
-use Rattle.rnc_model.specs.grammar.Grammar as grammar
-use Rattle.rnc_model.specs.grammar.Grammar.{Setting, content, override, IsBasic, IsParticle, IsComponent, IsDeclaration, method_of, MayBeParameters, IsPrimary}
-use Rattle.rnc_model.specs.grammar.Grammar.{MayBeAnnotation, IsClass}
+use Rattle.rnc_model.specs.grammar.NameClasses as grammar
+use Rattle.rnc_model.specs.grammar.Grammar.{Setting, content, override, IsParticle, IsComponent, IsDeclaration, IsPrimary}
+use Rattle.rnc_model.specs.grammar.NameClasses.{IsBasic, method_of, MayBeParameters, MayBeAnnotation, IsClass}
 use Rattle.rnc_syntax.specs.plain.Combinators.{Outcome, ◌>>=◌, follow, follow_keyword, sign_read, after, after_keyword, word_at, identifier_at, segment_at}
 use Rattle.rnc_syntax.specs.plain.Combinators.{either_way, many_with, many}
-use Rattle.rnc_syntax.specs.plain.Productions.{role_of, annotation_end, annotation_at, annotated, literal_at, parameter_at, parameter_front, annotated_parameter_at}
+use Rattle.rnc_syntax.specs.plain.Productions.{role_of, annotation_end, annotation_at, annotated, literal_at, parameter_at, parameter_front}
+use Rattle.rnc_syntax.specs.plain.Productions.{annotated_parameter_at}
 use Rattle.rnc_syntax.specs.plain.Productions.{in_braces_at, parameters_at, word_after_equal, inherit_at, mention_at}
-use Rattle.rnc_syntax.specs.plain.Productions.{class_in_parens, bare_basic_with, basic_with, choice_with, except_front, bare_class_with, class_with, braced_with}
+use Rattle.rnc_syntax.specs.plain.Productions.{class_in_parens, bare_basic_with, basic_with, choice_with, except_front, bare_class_with, class_with}
+use Rattle.rnc_syntax.specs.plain.Productions.{braced_with}
 use Rattle.rnc_syntax.specs.plain.Productions.{contents_with, named_with}
 use Rattle.rnc_syntax.specs.plain.Productions.{begins_segment, typed_at, other_at, atom_at, parens_with, opened_with, bare_primary_with, primary_with, repeated}
 use Rattle.rnc_syntax.specs.plain.Productions.{particle_with, separator_of, rest_with, pattern_from, data_front, data_with, bare_pattern_with, pattern_with}

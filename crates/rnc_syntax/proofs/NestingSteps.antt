@@ -6,7 +6,7 @@ use Rattle.std.proofs.Math.Seq.{drop-cons}
 use Rattle.rnc_model.specs.declared.token.Token.{Token}
 use Rattle.rnc_model.specs.declared.token.TokenKind.{TokenKind}
 use Rattle.rnc_model.specs.declared.token.TokenKind.TheVariants as kinds
-use Rattle.rnc_model.specs.tokens.Lexeme.{Lexeme, lexeme_at}
+use Rattle.rnc_model.specs.tokens.Cut.{Lexeme, lexeme_at}
 use Rattle.rnc_syntax.specs.plain.Reading.{lexemes_in}
 use Rattle.rnc_model.specs.grammar.Sentence.{is_opening, is_closing, openings, closings, nesting_limit, NestsWithin, BreaksNesting}
 use Rattle.rnc_syntax.proofs.Balance.{counts, discounts, openings-cons, closings-cons}

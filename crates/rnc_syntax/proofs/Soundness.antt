@@ -13,8 +13,8 @@ use Rattle.rnc_model.specs.declared.token.Sign.{Sign}
 use Rattle.rnc_model.specs.declared.token.Sign.TheVariants.{Equal, BarEqual, AndEqual, Comma, Bar, And, Question, Star, Plus, Minus, OpenBrace, CloseBrace}
 use Rattle.rnc_model.specs.declared.token.Sign.TheVariants.{OpenParenthesis, CloseParenthesis, OpenBracket, CloseBracket, Tilde}
 use Rattle.rnc_syntax.specs.declared.fault.Stop.{Stop}
-use Rattle.rnc_model.specs.tokens.Lexeme.{Lexeme, Spelling, keyword, identifier, cname, ns_name, segment, sign}
-use Rattle.rnc_model.specs.grammar.Grammar.{word_of}
+use Rattle.rnc_model.specs.tokens.Cut.{Lexeme, Spelling, keyword, identifier, cname, ns_name, segment, sign}
+use Rattle.rnc_model.specs.grammar.NameClasses.{word_of}
 use Rattle.rnc_syntax.specs.plain.Combinators.{Outcome, ◌>>=◌, same_sign, same_keyword, follow, follow_keyword, sign_read, after, after_keyword, word_at}
 use Rattle.rnc_syntax.specs.plain.Combinators.{identifier_at, segment_at, either_way, many_with, many}
 use Rattle.rnc_syntax.specs.plain.Productions.{in_braces_at}

@@ -7,7 +7,7 @@ use Rattle.rnc_syntax.specs.declared.fault.SyntaxFault.TheVariants as faults
 use Rattle.rnc_syntax.specs.declared.syntax_tree.File as declared
 use Rattle.rng_model.specs.plain.Answers.{Gives}
 use Rattle.rnc_syntax.specs.views.Fault.{told, unless_memory}
-use Rattle.rnc_model.specs.tokens.Lexeme.{Lexeme}
+use Rattle.rnc_model.specs.tokens.Cut.{Lexeme}
 use Rattle.rnc_model.specs.grammar.Syntax.{File}
 use Rattle.rnc_syntax.specs.views.SyntaxView.{file_of}
 use Rattle.rnc_model.specs.grammar.Sentence.{nesting_limit, NestsWithin, IsStuckAt}

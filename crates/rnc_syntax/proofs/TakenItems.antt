@@ -5,7 +5,7 @@ use Rattle.rnc_model.specs.declared.token.Sign.{Sign}
 use Rattle.rnc_model.specs.declared.token.Sign.TheVariants.{Bar, Tilde}
 use Rattle.rnc_model.specs.grammar.Grammar.{Setting}
 use Rattle.rnc_model.specs.grammar.Syntax.{written, NameClass, Pattern, Component, Declaration}
-use Rattle.rnc_model.specs.tokens.Lexeme.{Lexeme}
+use Rattle.rnc_model.specs.tokens.Cut.{Lexeme}
 use Rattle.rnc_syntax.specs.plain.Combinators.{follow, segment_at}
 use Rattle.rnc_syntax.specs.plain.Productions.{annotated_parameter_at, basic_with, component_front, component_with, declaration_at, declaration_front}
 use Rattle.rnc_syntax.specs.plain.Productions.{inside_at, parameter_front, particle_with}

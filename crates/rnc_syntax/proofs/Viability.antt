@@ -13,7 +13,7 @@ use Rattle.rnc_model.specs.declared.token.Sign.{Sign}
 use Rattle.rnc_model.specs.declared.token.Sign.TheVariants.{CloseBrace}
 use Rattle.rnc_syntax.specs.declared.fault.Stop.{Stop}
 use Rattle.rnc_syntax.specs.declared.fault.Stop.TheVariants.{Unexpected}
-use Rattle.rnc_model.specs.tokens.Lexeme.{Lexeme, sign}
+use Rattle.rnc_model.specs.tokens.Cut.{Lexeme, sign}
 use Rattle.rnc_syntax.specs.plain.Combinators.{Outcome, ◌>>=◌, unexpected, follow, sign_read, after, either_way, many_with, many}
 use Rattle.rnc_syntax.specs.plain.Productions.{in_braces_at}
 use Rattle.rnc_syntax.proofs.Soundness.{follow_is, after_is, TakesFront, Sound, Closed, Preceded, Each, no_items, and_item, Behind}

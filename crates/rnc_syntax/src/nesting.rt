@@ -1,6 +1,6 @@
 // How deep brackets nest.
 ghost use Rattle.std.specs.Prelude.{◌≡◌, [], MatchBool};
-ghost use Rattle.rnc_model.specs.tokens.Lexeme.{lexeme_at, lexemes};
+ghost use Rattle.rnc_model.specs.tokens.Cut.{lexeme_at, lexemes};
 ghost use Rattle.rnc_model.specs.grammar.Sentence.{BreaksNesting, NestsWithin, is_closing, is_opening, nesting_limit};
 ghost use Rattle.rnc_model.specs.tokens.CutTokens.{tokens_of};
 

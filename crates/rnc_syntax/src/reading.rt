@@ -1,6 +1,6 @@
 // Reading tokens from left to right.
 ghost use Rattle.std.specs.Prelude.{◌≡◌, [], ◌∷◌, Ok, option_map, length};
-ghost use Rattle.rnc_model.specs.tokens.Lexeme.{local_in, prefix_in};
+ghost use Rattle.rnc_model.specs.tokens.Cut.{local_in, prefix_in};
 ghost use Rattle.rnc_syntax.specs.plain.Reading.{lexemes_in};
 ghost use Rattle.rnc_syntax.specs.plain.Combinators.{after, follow, follow_keyword, word_at, identifier_at, segment_at};
 ghost use Rattle.rng_model.specs.plain.Answers.{Gives};

@@ -3,7 +3,7 @@ ghost use Rattle.std.specs.Prelude.{◌≡◌, ℕ, Err, IfErr, IfOk, Ok, length
 ghost use Rattle.rng_model.specs.plain.Answers.{Gives};
 ghost use Rattle.rnc_syntax.specs.views.Fault.{told, unless_memory};
 ghost use Rattle.rnc_model.specs.grammar.Grammar.{IsFile};
-ghost use Rattle.rnc_model.specs.tokens.Lexeme.{lexemes};
+ghost use Rattle.rnc_model.specs.tokens.Cut.{lexemes};
 ghost use Rattle.rnc_syntax.specs.plain.Productions.{file_with, inside_at};
 ghost use Rattle.rnc_model.specs.grammar.Sentence.{BreaksNesting, nesting_limit};
 ghost use Rattle.rnc_model.specs.grammar.SyntaxTrees.{BreaksGrammar, IsSyntaxTree};

@@ -4,14 +4,14 @@ use Rattle.std.proofs.Common.{rules, tests, arith, not, ◌==◌}
 use Rattle.std.specs.List.{list_all, prefix_len}
 use Rattle.std.specs.Str.{IsUtf8, IsCharBoundary, chars, encode_utf8_all}
 use Rattle.std.proofs.lemmas.Bool.{and_parts, or_cases, or_left, or_right, ne_eqb}
-use Rattle.rng_model.specs.names.Characters.{is_in_ranges, is_name_char, is_name_start, name_start_ranges, more_name_ranges}
+use Rattle.rng_model.specs.names.Names.{is_in_ranges, is_name_char, is_name_start, name_start_ranges, more_name_ranges}
 use Rattle.rnc_text.proofs.MarksDecoded.{all_covered}
 use Rattle.std.proofs.lemmas.List.{take-append-drop}
 use Rattle.std.proofs.lemmas.Str.{IsUtf8-from_ascii, chars-append, chars-IsAscii, encodes-IsAscii}
 use Rattle.rng_model.proofs.TestedRuns.{passing_ascii, run_boundary, run_passes}
 use Rattle.rnc_model.specs.declared.character.Character.{Character}
 use Rattle.rnc_model.specs.declared.character.Character.TheVariants.{Ordinary}
-use Rattle.rnc_model.specs.characters.Characters.{numbers_of}
+use Rattle.rnc_model.specs.characters.Decoding.{numbers_of}
 use Rattle.rnc_text.specs.declared.cursor.Cursor.{Cursor}
 use Rattle.rnc_text.specs.declared.scanning.Class.{Class}
 use Rattle.rnc_text.specs.declared.scanning.Class.TheVariants as classes

@@ -3,8 +3,8 @@ use Rattle.std.proofs.Common.{◌≡◌, ℕ, Bool, true, false, List, [], ◌�
 use Rattle.std.specs.Prelude.{◌&&◌, not}
 use Rattle.std.specs.List.{list_all}
 use Rattle.std.proofs.lemmas.Bool.{and_parts, false≢true}
-use Rattle.rng_model.specs.names.Characters.{is_name_start, is_name_char, is_colon}
-use Rattle.rnc_model.specs.characters.Characters.{numbers_of}
+use Rattle.rng_model.specs.names.Names.{is_name_start, is_name_char, is_colon}
+use Rattle.rnc_model.specs.characters.Decoding.{numbers_of}
 use Rattle.rnc_model.specs.tokens.Tokens.{IsNcname}
 use Rattle.rnc_text.specs.plain.CutSteps.{starts_ncname, is_ncname_number, is_in, front, after, begins_ncname}
 use Rattle.rnc_model.specs.declared.character.Character.{Character}

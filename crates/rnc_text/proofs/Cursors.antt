@@ -12,7 +12,7 @@ use Rattle.rng_model.proofs.Truths.{chosen}
 use Rattle.rnc_model.specs.declared.character.Character.{Character}
 use Rattle.rnc_model.specs.declared.character.Character.TheVariants.{Ordinary}
 use Rattle.rnc_text.specs.declared.cursor.Cursor.{Cursor}
-use Rattle.rnc_model.specs.characters.Characters.{number_of, numbers_of, bytes_of}
+use Rattle.rnc_model.specs.characters.Decoding.{number_of, numbers_of, bytes_of}
 use Rattle.rnc_text.specs.views.Held.{unmarked, marked, next_marks}
 use Rattle.rnc_text.specs.plain.DecodingSteps.{first_and_rest}
 use Rattle.rnc_text.specs.plain.Cursors.{remaining, IsPast}

@@ -7,8 +7,7 @@ use Rattle.std.proofs.lemmas.Bool.{false≢true}
 use Rattle.std.proofs.lemmas.List.{length-append, length-take-le, append-nil, append_assoc}
 use Rattle.std.proofs.lemmas.Option.{none-some, some_pair_parts}
 use Rattle.std.proofs.lemmas.Str.{encodes-chars, scalars-chars, encodes_same, encodes-append, length-le-encodes}
-use Rattle.rnc_model.specs.characters.Characters.{bytes_of, byte_length, numbers_of}
-use Rattle.rnc_model.specs.characters.Decoding.{Begins, BreaksCharactersAt, BreaksUtf8At, Decodes, here, next_is, IsSpelling}
+use Rattle.rnc_model.specs.characters.Decoding.{bytes_of, byte_length, numbers_of, Begins, BreaksCharactersAt, BreaksUtf8At, Decodes, here, next_is, IsSpelling}
 use Rattle.rnc_model.specs.characters.FilePlaces.{ends_line, position, IsPlaceBetween, IsPlaceBehind}
 use Rattle.rnc_model.specs.declared.character.Character.{Character}
 use Rattle.rnc_model.specs.declared.file_place.FilePlace.{FilePlace}

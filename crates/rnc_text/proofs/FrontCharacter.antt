@@ -5,8 +5,9 @@ use Rattle.std.specs.List.{slice_get}
 use Rattle.std.proofs.lemmas.Bool.{eqb-true, eqb-false, ne_eqb, and_parts, false_from_ne_true, false≢true}
 use Rattle.std.proofs.lemmas.Option.{none-some, some_pair_parts}
 use Rattle.rng_model.proofs.Truths.{chosen}
-use Rattle.rng_model.specs.names.Characters.{is_xml_char}
-use Rattle.rnc_model.specs.characters.Decoding.{AreDigits, hexadecimal, OpensEscape, Begins, carriage_return_line_feed, carriage_return, line_feed, escape, other}
+use Rattle.rng_model.specs.names.Names.{is_xml_char}
+use Rattle.rnc_model.specs.characters.Decoding.{AreDigits, hexadecimal, OpensEscape, Begins, carriage_return_line_feed, carriage_return, line_feed, escape}
+use Rattle.rnc_model.specs.characters.Decoding.{other}
 use Rattle.rnc_text.specs.plain.DecodingSteps.{first_and_rest, without_line_feed, hexadecimal_end, opens_from, escape_front, ordinary_if_char, after_brace}
 use Rattle.rnc_text.specs.plain.DecodingSteps.{plain_front, front_of}
 use Rattle.rnc_text.proofs.Escapes.{escape_opens, opens_escape, hexadecimal_read, digits_found}

@@ -15,15 +15,18 @@ use Rattle.rnc_text.specs.declared.scanning.Class.TheVariants as classes
 use Rattle.rnc_model.specs.declared.token.Sign.{Sign}
 use Rattle.rnc_model.specs.declared.token.TokenKind.{TokenKind}
 use Rattle.rnc_model.specs.declared.token.TokenKind.TheVariants as kinds
-use Rattle.rnc_model.specs.characters.Characters.{number_of, numbers_of}
+use Rattle.rnc_model.specs.characters.Decoding.{number_of, numbers_of}
 use Rattle.rnc_model.specs.tokens.Tokens as spec
-use Rattle.rnc_model.specs.tokens.Tokens.{Piece, gap, token, characters_in, IsPiece, IsNcname, IsUpToThree, is_blank_character, is_in_line, is_in_segment, is_quote, word_kind}
+use Rattle.rnc_model.specs.tokens.Tokens.{Piece, gap, token, characters_in, IsPiece, IsNcname, IsUpToThree, is_blank_character, is_in_line, is_in_segment}
+use Rattle.rnc_model.specs.tokens.Tokens.{is_quote, word_kind}
 use Rattle.rnc_model.specs.tokens.Tokens.{sign_of, sign_table, look_up, three}
-use Rattle.rnc_text.specs.plain.CutSteps.{Found, is_in, front, after, first_of, behind, behind_two, until_three, begins_ncname, starts_ncname, local_at, star_at}
+use Rattle.rnc_text.specs.plain.CutSteps.{Found, is_in, front, after, first_of, behind, behind_two, until_three, begins_ncname, starts_ncname, local_at}
+use Rattle.rnc_text.specs.plain.CutSteps.{star_at}
 use Rattle.rnc_text.specs.plain.CutSteps.{colon_at, name_at, segment_at, triple_with, triple_in, triple_at, or_else, signed, long_sign, piece_of}
 use Rattle.rnc_text.proofs.CharacterClasses.{AllIn, front_out, after_out, front_append, after_append, name_of, name_all, name_begins}
 use Rattle.rnc_text.proofs.QuoteRuns.{behind_is, two_parts, until_is}
-use Rattle.rnc_text.proofs.ScanResults.{IsOther, piece_line, piece_name, piece_blank, piece_hash, piece_backslash, piece_quote, piece_sign, name_colon, quoted_name}
+use Rattle.rnc_text.proofs.ScanResults.{IsOther, piece_line, piece_name, piece_blank, piece_hash, piece_backslash, piece_quote, piece_sign, name_colon}
+use Rattle.rnc_text.proofs.ScanResults.{quoted_name}
 use Rattle.rnc_text.proofs.ScanResults.{segment_some, triple_some, name_found}
 
 -- the piece is shorter than what was found, or it is what was found

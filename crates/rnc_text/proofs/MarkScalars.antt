@@ -5,7 +5,7 @@ use Rattle.std.specs.List.{list_all}
 use Rattle.std.specs.Str.{all_scalars}
 use Rattle.std.specs.Char.{IsScalar}
 use Rattle.std.proofs.lemmas.Bool.{eqb-true, and_parts, or_cases, leb-true, lt-ltb, le-ltb, le-leb, false≢true, and_from}
-use Rattle.rng_model.specs.names.Characters.{is_xml_char}
+use Rattle.rng_model.specs.names.Names.{is_xml_char}
 use Rattle.rnc_model.specs.tokens.Tokens.{is_quote}
 use Rattle.rnc_text.specs.plain.Marks.{Mark, space, line_end, word, cname, ns_name, segment, sign, sign_text, mark_text, text_of_marks, IsReadBack, is_within}
 use Rattle.rnc_text.specs.plain.Marks.{IsMark, AreParted, MarksAreDecoded}

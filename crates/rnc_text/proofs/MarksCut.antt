@@ -4,14 +4,14 @@ use Rattle.std.specs.Prelude.{◌||◌, not, ◌==◌}
 use Rattle.std.specs.List.{list_all}
 use Rattle.std.proofs.lemmas.Bool.{and_parts, or_cases, not-true}
 use Rattle.std.proofs.lemmas.List.{append-nil}
-use Rattle.rng_model.specs.names.Characters.{is_ncname, is_xml_char}
+use Rattle.rng_model.specs.names.Names.{is_ncname, is_xml_char}
 use Rattle.rnc_model.specs.declared.character.Character.{Character}
 use Rattle.rnc_model.specs.declared.character.Character.TheVariants.{LineEnd, Ordinary}
 use Rattle.rnc_text.specs.declared.scanning.Class.TheVariants as classes
 use Rattle.rnc_model.specs.declared.token.Sign.{Sign}
 use Rattle.rnc_model.specs.declared.token.Sign.TheVariants as signs
 use Rattle.rnc_model.specs.declared.token.TokenKind.TheVariants as kinds
-use Rattle.rnc_model.specs.characters.Characters.{numbers_of}
+use Rattle.rnc_model.specs.characters.Decoding.{numbers_of}
 use Rattle.rnc_model.specs.tokens.Tokens.{token, word_kind, sign_of, is_quote, IsNcname}
 use Rattle.rnc_model.specs.tokens.Cut.{here, next_is}
 use Rattle.rnc_text.specs.plain.CutSteps.{is_in, front, after, first_of, behind, triple_at, segment_at, long_sign, piece_of}

@@ -3,8 +3,8 @@ use Rattle.std.proofs.Common.{◌≡◌, ◌∙◌, ◌≢◌, ℕ, Bool, true, 
 use Rattle.std.specs.Prelude.{◌&&◌, not, ◌==◌, nat_le}
 use Rattle.std.specs.List.{list_all, list_any}
 use Rattle.std.proofs.lemmas.Bool.{and_parts, eqb-true, eqb-false, ne_eqb, not-true, or_cases, or_right}
-use Rattle.rng_model.specs.names.Characters.{is_ncname, is_xml_char, is_name_char, is_name_start, is_colon, is_in_ranges, xml_char_ranges, name_start_ranges}
-use Rattle.rng_model.specs.names.Characters.{more_name_ranges}
+use Rattle.rng_model.specs.names.Names.{is_ncname, is_xml_char, is_name_char, is_name_start, is_colon, is_in_ranges, xml_char_ranges, name_start_ranges}
+use Rattle.rng_model.specs.names.Names.{more_name_ranges}
 use Rattle.rnc_model.specs.declared.character.Character.{Character}
 use Rattle.rnc_model.specs.declared.character.Character.TheVariants.{Ordinary}
 use Rattle.rnc_model.specs.declared.token.Sign.{Sign}

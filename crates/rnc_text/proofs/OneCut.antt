@@ -12,7 +12,7 @@ use Rattle.rnc_text.specs.declared.fault.TextFault.{TextFault}
 use Rattle.rnc_text.specs.declared.fault.TextFault.TheVariants.{At, Memory}
 use Rattle.rnc_text.specs.declared.scanning.Part.{Part}
 use Rattle.rnc_model.specs.declared.token.TokenKind.{TokenKind}
-use Rattle.rnc_model.specs.characters.Characters.{number_of, bytes_of, byte_length}
+use Rattle.rnc_model.specs.characters.Decoding.{number_of, bytes_of, byte_length}
 use Rattle.rnc_model.specs.tokens.Tokens.{Piece, gap, token, characters_in, IsPiece}
 use Rattle.rnc_model.specs.tokens.Cut.{IsNext, NothingBegins, Cuts, here, next_is, Token, tokens_at, HasTokens, BreaksTokensAt}
 use Rattle.rnc_model.specs.tokens.CutTokens.{AreInOrder}

@@ -11,10 +11,11 @@ use Rattle.rnc_text.specs.declared.scanning.Part.{Part}
 use Rattle.rnc_model.specs.declared.token.Sign.{Sign}
 use Rattle.rnc_model.specs.declared.token.TokenKind.{TokenKind}
 use Rattle.rnc_model.specs.declared.token.TokenKind.TheVariants as kinds
-use Rattle.rnc_model.specs.characters.Characters.{number_of, bytes_of}
+use Rattle.rnc_model.specs.characters.Decoding.{number_of, bytes_of}
 use Rattle.rnc_model.specs.tokens.Tokens.{sign_of, Piece, gap, token, three, word_kind}
 use Rattle.rnc_text.specs.plain.CutSteps.{Found, is_in, front, after, first_of, behind, behind_three, here_or, with_first, until_three, begins_ncname, star_at}
-use Rattle.rnc_text.specs.plain.CutSteps.{colon_at, name_at, quoted_at, segment_at, triple_at, signed, long_sign, sign_at, starts_ncname, piece_by, piece_of, or_else}
+use Rattle.rnc_text.specs.plain.CutSteps.{colon_at, name_at, quoted_at, segment_at, triple_at, signed, long_sign, sign_at, starts_ncname, piece_by, piece_of}
+use Rattle.rnc_text.specs.plain.CutSteps.{or_else}
 use Rattle.rnc_text.specs.plain.Cursors.{remaining, IsPast, Walks, told, FindsPart, Finds, FindsThree}
 use Rattle.rnc_text.proofs.Cursors.{past_none, past_then}
 use Rattle.rnc_text.proofs.CharacterClasses.{front_in, front_out, after_in, after_out}

@@ -1,6 +1,6 @@
 // Cursors in a decoded text.
 ghost use Rattle.std.specs.Prelude.{◌≡◌, ◌-◌, ◌==◌, ◌∷◌, [], List, MatchOption, option_map, length};
-ghost use Rattle.rnc_model.specs.characters.Characters.{bytes_of};
+ghost use Rattle.rnc_model.specs.characters.Decoding.{bytes_of};
 ghost use Rattle.rnc_text.specs.views.Held.{unmarked, next_marks};
 ghost use Rattle.rnc_text.specs.plain.Cursors.{remaining, IsPast, IsBefore, Walks};
 ghost use Rattle.rnc_model.specs.declared.character.Character.{Character};

@@ -2,7 +2,7 @@
 ghost use Rattle.std.specs.Prelude.{◌≡◌, ◌++◌, ◌≤◌, List, length, option_map, IfOk, IfErr, ℕ, Bool, true, false};
 ghost use Rattle.std.specs.List.{list_all, prefix_len};
 ghost use Rattle.std.specs.Str.{chars};
-ghost use Rattle.rng_model.specs.names.Characters.{is_xml_char};
+ghost use Rattle.rng_model.specs.names.Names.{is_xml_char};
 ghost use Rattle.rnc_model.specs.characters.Decoding.{Decodes, IsDecoded, BreaksCharactersAt};
 ghost use Rattle.rnc_model.specs.characters.BrokenTexts.{BreaksTextAt};
 ghost use Rattle.rnc_text.specs.views.Answers.{IfBroken, GivesOk, GivesFault};

@@ -1,8 +1,7 @@
 // Places in a file: from offsets to lines and columns.
 ghost use Rattle.std.specs.Prelude.{◌≡◌, ◌++◌, ◌∷◌, ◌⊎◌, ℕ, List, [], length, take};
 ghost use Rattle.std.specs.Str.{IsUtf8, IsValidUpTo, chars, encode_utf8_all};
-ghost use Rattle.rnc_model.specs.characters.Characters.{byte_length};
-ghost use Rattle.rnc_model.specs.characters.Decoding.{BreaksCharactersAt, BreaksUtf8At, Decodes, IsSpelling};
+ghost use Rattle.rnc_model.specs.characters.Decoding.{byte_length, BreaksCharactersAt, BreaksUtf8At, Decodes, IsSpelling};
 ghost use Rattle.rnc_model.specs.characters.FilePlaces as places;
 ghost use Rattle.rnc_model.specs.characters.FilePlaces.{IsPlaceBehind, IsPlaceBetween};
 ghost use Rattle.rnc_model.specs.declared.character.Character.{Character};

@@ -1,7 +1,7 @@
 // What begins at an offset of a text: a blank, a comment or a token, each the longest.
 ghost use Rattle.std.specs.Prelude.{◌≡◌, ◌∷◌, [], List, Some};
-ghost use Rattle.rng_model.specs.names.Characters.{is_name_start, is_name_char, is_colon};
-ghost use Rattle.rnc_model.specs.characters.Characters.{number_of, bytes_of};
+ghost use Rattle.rng_model.specs.names.Names.{is_name_start, is_name_char, is_colon};
+ghost use Rattle.rnc_model.specs.characters.Decoding.{number_of, bytes_of};
 ghost use Rattle.rnc_model.specs.tokens.Tokens.{three, word_kind};
 ghost use Rattle.std.specs.List.{prefix_len};
 ghost use Rattle.rnc_text.specs.plain.CutSteps.{starts_ncname, is_in, is_ascii_in, begins_ncname, front, after, behind, behind_three, until_three, star_at, first_of, long_sign, name_at, quoted_at, segment_at, triple_at, sign_at, piece_of};

@@ -2,7 +2,7 @@
 ghost use Rattle.std.specs.Prelude.{◌≡◌, ◌++◌, ◌∷◌, [], List, IfOk, map};
 ghost use Rattle.std.specs.Str.{chars};
 ghost use Rattle.std.specs.String.{string_bytes};
-ghost use Rattle.rnc_model.specs.characters.Characters.{bytes_of};
+ghost use Rattle.rnc_model.specs.characters.Decoding.{bytes_of};
 ghost use Rattle.rnc_text.specs.views.Held.{unmarked, with_marks, AreMarks};
 ghost use Rattle.rnc_model.specs.declared.character.Character.{Character};
 

@@ -2,19 +2,19 @@
 use Rattle.std.proofs.Common.{◌≡◌, ℕ, List}
 use Rattle.rng_model.specs.declared.fault.SchemaFault.TheVariants as faults
 use Rattle.rnc_model.specs.loading.Loading.{FilesHaveOnlyVerdict, FilesVerdict, TakenFiles, are_taken, file_breaks, together_break}
-use Rattle.rnc_model.specs.loading.SchemaFile.{Name, NamedFile}
-use Rattle.rncv_model.specs.answers.Compiled.{IsRefusal}
+use Rattle.rnc_model.specs.loading.SchemaFile.{FileName, NamedFile}
+use Rattle.rncv_model.specs.answers.Verdict.{IsRefusal}
 use Rattle.rncv_validator.specs.views.Validators.{IsOneFor}
 use Rattle.rng_model.specs.simple.Table.{Table}
 use Rattle.std.proofs.Common.{inl, inr}
 
-not_together : (k clause : ℕ) (name : Name) → together_break k ≡ file_breaks name clause → ⊥
+not_together : (k clause : ℕ) (name : FileName) → together_break k ≡ file_breaks name clause → ⊥
 not_together k clause name e = cc
 
-not_taken : (read : TakenFiles) (clause : ℕ) (name : Name) → are_taken read ≡ file_breaks name clause → ⊥
+not_taken : (read : TakenFiles) (clause : ℕ) (name : FileName) → are_taken read ≡ file_breaks name clause → ⊥
 not_taken read clause name e = cc
 
-module _ (files : List NamedFile) (main name : Name) (broken : ℕ) (has : FilesHaveOnlyVerdict files main (file_breaks name broken)) where
+module _ (files : List NamedFile) (main name : FileName) (broken : ℕ) (has : FilesHaveOnlyVerdict files main (file_breaks name broken)) where
   -- files that break a clause only together, or as a schema, have no file that breaks one by itself
   pub none_alone : (clause : ℕ) → IsRefusal files main (faults.Clause clause) → ⊥
   none_alone clause (inl together) = not_together clause broken name (together.only _ has.is)

@@ -1,6 +1,6 @@
 // The files of a schema as C passes them.
 ghost use Rattle.std.specs.Prelude.{◌≡◌, ◌<◌, ◌^◌, ◌↔◌, IfOk, IfSome, IsTrue, bytes_eq, option_map, position};
-ghost use Rattle.rnc_model.specs.loading.Files.{named_files};
+ghost use Rattle.rnc_model.specs.loading.SchemaFile.{named_files};
 ghost use Rattle.rncv_model.specs.answers.Run.{main_name};
 ghost use Rattle.rncv_c.specs.views.Files.{AreNamed, file_at, files_of, index_for_c, main_of};
 

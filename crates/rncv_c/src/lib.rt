@@ -7,7 +7,7 @@
 
 ghost use Rattle.std.specs.Prelude.{◌≡◌, ◌≢◌, ◌↔◌, [], pos, IfSome, IsSomeAnd};
 ghost use Rattle.std.specs.declared.option.Option.TheVariants.{None, Some};
-ghost use Rattle.rnc_model.specs.loading.SchemaFile.{Name};
+ghost use Rattle.rnc_model.specs.loading.SchemaFile.{FileName};
 ghost use Rattle.rncv_validator.specs.views.Validators.{IsOneFor};
 ghost use Rattle.rncv_c.specs.views.Calls.{HasBegun, HasEnded, HasTaken, IsInvalidSince};
 ghost use Rattle.rncv_c.specs.views.Files.{AreNamed, files_of, main_of};
@@ -66,7 +66,7 @@ pub extern "C" fn rncv_refused_name(
 ) -> i32
     ensures done { result ≡ pos 0 → IsWritten (IsRefusedName files.now) count.new buffer.old buffer.new }
     ensures space { result ≡ pos 5 → IsTooLong (IsRefusedName files.now) count.new buffer.old }
-    ensures misuse { result ≡ pos 4 → AreNamed files.now → (name : Name) → ¬ (IsRefusedName files.now name) }
+    ensures misuse { result ≡ pos 4 → AreNamed files.now → (name : FileName) → ¬ (IsRefusedName files.now name) }
     ensures named { result ≢ pos 4 → AreNamed files.now }
     ensures others { result ≢ pos 0 → result ≢ pos 4 → result ≢ pos 5 → result ≡ pos 3 }
     ensures failed { result ≢ pos 0 → buffer.new ≡ buffer.old }

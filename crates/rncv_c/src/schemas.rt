@@ -1,8 +1,8 @@
 // Calls on a handle with a schema.
 ghost use Rattle.std.specs.Prelude.{◌≡◌, ◌≢◌, ◌↔◌, ◌<◌, ◌++◌, length, drop, IfErr, IfOk, IfSome, IsErrOf, IsSomeAnd, string_bytes};
 ghost use Rattle.std.specs.declared.option.Option.TheVariants.{None, Some};
-ghost use Rattle.rnc_model.specs.loading.SchemaFile.{Name};
-ghost use Rattle.rncv_model.specs.answers.Compiled.{IsRefusal};
+ghost use Rattle.rnc_model.specs.loading.SchemaFile.{FileName};
+ghost use Rattle.rncv_model.specs.answers.Verdict.{IsRefusal};
 ghost use Rattle.rncv_validator.specs.views.Validators.{IsOneFor};
 ghost use Rattle.rncv_c.specs.views.Files.{AreNamed, files_of, main_of};
 ghost use Rattle.rncv_c.specs.views.Held.{schema_in};
@@ -75,7 +75,7 @@ pub fn refused_name(
 ) -> Status
     ensures done { result ≡ Status.Done → IsWritten (IsRefusedName files.now) count.new buffer.old buffer.new }
     ensures space { result ≡ Status.Space → IsTooLong (IsRefusedName files.now) count.new buffer.old }
-    ensures misuse { result ≡ Status.Misuse → AreNamed files.now → (name : Name) → ¬ (IsRefusedName files.now name) }
+    ensures misuse { result ≡ Status.Misuse → AreNamed files.now → (name : FileName) → ¬ (IsRefusedName files.now name) }
     ensures named { result ≢ Status.Misuse → AreNamed files.now }
     ensures others { (result ≢ Status.Refused) × (result ≢ Status.Malformed) }
     ensures failed { result ≢ Status.Done → buffer.new ≡ buffer.old }
@@ -95,7 +95,7 @@ fn name_of_refused(alloc: Global, files: &[SchemaFile<'_>]) -> Result<String, St
     requires { AreNamed files.now }
     ensures name { IfOk result (λ name. IsRefusedName files.now (string_bytes name)) }
     ensures fault { IfErr result (λ status. status ≢ Status.Misuse → status ≡ Status.Memory) }
-    ensures misuse { IsErrOf result Status.Misuse → (name : Name) → ¬ (IsRefusedName files.now name) }
+    ensures misuse { IsErrOf result Status.Misuse → (name : FileName) → ¬ (IsRefusedName files.now name) }
 {
     match compiled(alloc, files) {
         Ok(_) => Err(Status::Misuse),

@@ -2,7 +2,7 @@
 ghost use Rattle.std.specs.Prelude.{◌≡◌, ◌≢◌, ◌-◌, ◌^◌, ◌<◌, List, Err, IfOk, IfErr, IsErrOf, length, map, string_bytes};
 ghost use Rattle.std.specs.IoError.{error_kind};
 ghost use Rattle.rng_model.specs.devices.Device.{device_failures};
-ghost use Rattle.rnc_model.specs.loading.Files.{named_files};
+ghost use Rattle.rnc_model.specs.loading.SchemaFile.{named_files};
 ghost use Rattle.rncv_model.specs.answers.Run.{IsAnswer, main_name};
 ghost use Rattle.rncv_cli.specs.plain.Answering.{IsAnswerTo, IsReadBy, IsUnreadBy};
 ghost use Rattle.rncv_cli.specs.plain.CommandLine.{IsGivenLine, Text};

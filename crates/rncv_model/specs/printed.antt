@@ -1,7 +1,7 @@
 -- The text of a simple grammar.
-pub mod Numbering
+pub mod Items
 pub mod NumberingSteps
 pub mod PrintedText
 pub mod Printing
-pub mod Same
 pub mod SchemaText
+pub mod Words

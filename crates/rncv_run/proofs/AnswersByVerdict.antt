@@ -4,9 +4,9 @@ use Rattle.rng_model.specs.schema.Schema.{Schema}
 use Rattle.rng_model.specs.schema.SchemaClauses.{BreaksNoClause, IsLeastClause}
 use Rattle.rnc_model.specs.loading.LoadedSchema.{AreSchema}
 use Rattle.rnc_model.specs.loading.Loading.{TakenFiles, FilesVerdict, file_breaks, together_break, are_taken, FilesHaveOnlyVerdict}
-use Rattle.rnc_model.specs.loading.SchemaFile.{Name, NamedFile}
+use Rattle.rnc_model.specs.loading.SchemaFile.{FileName, NamedFile}
 use Rattle.rncv_model.specs.answers.Answer.{Answer, refused, refused_file, schema_ok, printed, judged}
-use Rattle.rncv_model.specs.answers.Compiled.{AreGoodSchema, AreTakenAs}
+use Rattle.rncv_model.specs.answers.Verdict.{AreGoodSchema, AreTakenAs}
 use Rattle.rncv_model.specs.answers.Run as run
 use Rattle.rncv_model.specs.answers.Run.{IsAnswer, IsJudged}
 use Rattle.rncv_model.specs.declared.command.Command.{Command}
@@ -23,18 +23,18 @@ pub data IsAnswerBy (command : Command) (s : Schema) (input_old input_new : Opti
       → IsAnswerBy command s input_old input_new (judged verdict)
 
 -- the answer for files with this verdict
-abbrev pub IsAnswerTo : Command → Name → FilesVerdict → Option (List ℕ) → Option (List ℕ) → Answer → Type 0
+abbrev pub IsAnswerTo : Command → FileName → FilesVerdict → Option (List ℕ) → Option (List ℕ) → Answer → Type 0
 IsAnswerTo command main (file_breaks f clause) input_old input_new answer = answer ≡ refused_file clause f
 IsAnswerTo command main (together_break clause) input_old input_new answer = answer ≡ refused clause
 IsAnswerTo command main (are_taken read) input_old input_new answer = (s : Schema) × AreSchema read main s × IsAnswerBy command s input_old input_new answer
 
 -- the answer follows from the verdict on the files, which is unique
-pub record FollowsFromVerdict (command : Command) (files : List NamedFile) (main : Name) (input_old input_new : Option (List ℕ)) (answer : Answer) : Type 0 where
+pub record FollowsFromVerdict (command : Command) (files : List NamedFile) (main : FileName) (input_old input_new : Option (List ℕ)) (answer : Answer) : Type 0 where
   pub verdict : FilesVerdict
   pub is_verdict : FilesHaveOnlyVerdict files main verdict
   pub follows : IsAnswerTo command main verdict input_old input_new answer
 
-module _ (command : Command) (files : List NamedFile) (main : Name) (input_old input_new : Option (List ℕ)) where
+module _ (command : Command) (files : List NamedFile) (main : FileName) (input_old input_new : Option (List ℕ)) where
   by_taken : {s : Schema} {answer : Answer} → AreTakenAs files main s → IsAnswerBy command s input_old input_new answer
       → FollowsFromVerdict command files main input_old input_new answer
   by_taken {s} are by = record { verdict = are_taken are.read; is_verdict = are.is_verdict; follows = (s, are.are, by) }

@@ -3,7 +3,7 @@ use Rattle.std.proofs.Common.{ℕ, List, [], ◌++◌, Option, Some, None, Err, 
 use Rattle.std.specs.Io.KnownBytes.{Consumes, IsAtEnd}
 use Rattle.std.proofs.KnownBytes.{Consumes-nil, Consumes-trans}
 use Rattle.std.proofs.lemmas.List.{append-nil}
-use Rattle.rncv_model.specs.answers.Input.{HasLeft}
+use Rattle.rncv_model.specs.answers.Verdict.{HasLeft}
 use Rattle.rncv_validator.specs.declared.fault.DocumentFault.{DocumentFault}
 use Rattle.rncv_validator.specs.declared.fault.DocumentFault.TheVariants as document
 use Rattle.rncv_validator.specs.views.Documents.{IsFaultOfFed, UnlessMemory}

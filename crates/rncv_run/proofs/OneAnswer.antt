@@ -2,13 +2,11 @@
 use Rattle.std.proofs.Common.{◌≡◌, ◌∙◌, ◌++◌, ℕ, List, Option, Some, None, refl, sym, ap, subst, arith}
 use Rattle.rng_model.specs.schema.Schema.{Schema}
 use Rattle.rnc_model.specs.loading.Loading.{FilesVerdict, file_breaks, together_break, are_taken}
-use Rattle.rnc_model.specs.loading.SchemaFile.{Name, NamedFile}
+use Rattle.rnc_model.specs.loading.SchemaFile.{FileName, NamedFile}
 use Rattle.rnc_print.proofs.OneForm.{one_form}
 use Rattle.rncv_model.specs.answers.Answer.{Answer, refused, printed}
-use Rattle.rncv_model.specs.answers.Input.{IsRead}
-use Rattle.rncv_model.specs.answers.Compiled.{IsUnknownIn}
+use Rattle.rncv_model.specs.answers.Verdict.{IsRead, IsUnknownIn, AreSameVerdict, IsVerdict}
 use Rattle.rncv_model.specs.answers.Run.{IsAnswer, IsJudged}
-use Rattle.rncv_model.specs.answers.Verdict.{AreSameVerdict, IsVerdict}
 use Rattle.rng_model.specs.matching.SchemaMatching.{IsValidBySchema}
 use Rattle.rncv_model.specs.declared.command.Command.{Command}
 use Rattle.rncv_model.specs.declared.command.Command.TheVariants.{Valid, Check, Simple}
@@ -60,7 +58,7 @@ module _ (command : Command) (s : Schema) where
     same_by (is_judged e kept p) (has_form f also q) = absurd (simple_or_valid f e)
     same_by (is_judged {verdict = v} e kept p) (is_judged {verdict = w} f also q) = (w, refl, same_judged v w p q)
 
-module _ (command : Command) (main : Name) (bytes : List ℕ) (left other : Option (List ℕ)) (a b : Answer) where
+module _ (command : Command) (main : FileName) (bytes : List ℕ) (left other : Option (List ℕ)) (a b : Answer) where
   same_to : (verdict : FilesVerdict) → IsAnswerTo command main verdict (Some bytes) left a → IsAnswerTo command main verdict (Some bytes) other b
       → AreSameAnswer a b
   same_to (file_breaks f clause) p q = subst (λ x. AreSameAnswer x b) (sym p) q
@@ -69,7 +67,7 @@ module _ (command : Command) (main : Name) (bytes : List ℕ) (left other : Opti
       same_by command p.0 bytes left other p.2
       (subst (λ t. IsAnswerBy command t (Some bytes) other b) (same_schema read main q.0 p.0 q.1 p.1) q.2)
 
-pub one_answer : (command : Command) (files : List NamedFile) (main : Name) (bytes : List ℕ) (left other : Option (List ℕ)) (a b : Answer)
+pub one_answer : (command : Command) (files : List NamedFile) (main : FileName) (bytes : List ℕ) (left other : Option (List ℕ)) (a b : Answer)
     → IsAnswer command files main (Some bytes) left a → IsAnswer command files main (Some bytes) other b → AreSameAnswer a b
 one_answer command files main bytes left other a b answer also =
     let p = by_verdict command files main (Some bytes) left answer in

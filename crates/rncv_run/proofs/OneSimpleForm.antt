@@ -4,11 +4,11 @@ use Rattle.std.proofs.lemmas.List.Elements.{All-contains}
 use Rattle.rng_model.specs.names.Names.{In, Name}
 use Rattle.rng_model.specs.schema.Schema.{Schema, main_start}
 use Rattle.rng_model.specs.schema.Unfolding.{IsBodyOf}
-use Rattle.rng_model.specs.simple.ClassSteps.{IsSimpleClassOf}
+use Rattle.rng_model.specs.simple.Simplification.{IsSimpleClassOf}
 use Rattle.rng_model.specs.simple.SchemaForm.{SimpleForm, IsElementOf, IsSimpleFormOfSchema}
 use Rattle.rng_model.proofs.Unfolding.{one_tree}
 use Rattle.rng_simple.proofs.NumberedSchema.{same_element, same_class, same_form, one_of_definition}
-use Rattle.rncv_model.specs.answers.Compiled.{IsUnknownIn}
+use Rattle.rncv_model.specs.answers.Verdict.{IsUnknownIn}
 use Rattle.rncv_run.specs.plain.SameAnswers.{HasPartsOf}
 
 pub one_simple_form : (s : Schema) (f h : SimpleForm) → IsSimpleFormOfSchema s f → IsSimpleFormOfSchema s h → HasPartsOf h f

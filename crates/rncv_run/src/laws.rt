@@ -7,7 +7,7 @@ ghost use Rattle.rnc_model.specs.loading.LoadedSchema.{AreSchema};
 ghost use Rattle.rnc_model.specs.loading.Loading.{TakenFiles};
 ghost use Rattle.rnc_model.specs.loading.SchemaFile.{NamedFile};
 ghost use Rattle.rncv_model.specs.answers.Answer.{Answer};
-ghost use Rattle.rncv_model.specs.answers.Compiled.{IsUnknownIn};
+ghost use Rattle.rncv_model.specs.answers.Verdict.{IsUnknownIn};
 ghost use Rattle.rncv_model.specs.answers.Run.{IsAnswer};
 ghost use Rattle.rncv_model.specs.declared.command.Command.{Command};
 ghost use Rattle.rncv_run.specs.plain.SameAnswers.{AreSameAnswer, HasPartsOf};

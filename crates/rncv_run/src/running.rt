@@ -2,8 +2,7 @@
 ghost use Rattle.std.specs.Prelude.{◌≡◌, ◌≢◌, ◌-◌, ◌^◌, ◌<◌, List, Some, length, IfOk, IfErr, OnOk, IsErrOf};
 ghost use Rattle.rng_model.specs.devices.Device.{device_inner, device_failures};
 ghost use Rattle.rncv_run.specs.views.AnswerView.{answer_of, refusal_of};
-ghost use Rattle.rnc_model.specs.loading.Files.{named_files};
-ghost use Rattle.rnc_model.specs.loading.SchemaFile.{Name, NamedFile};
+ghost use Rattle.rnc_model.specs.loading.SchemaFile.{named_files, FileName, NamedFile};
 ghost use Rattle.rncv_validator.specs.views.Validators.{IsOneFor};
 ghost use Rattle.rncv_model.specs.declared.command.Command.{Command};
 ghost use Rattle.rncv_model.specs.answers.Run.{IsAnswer, JudgesDocument, WritesAnswer, WrittenAfter, main_name};
@@ -118,7 +117,7 @@ fn answer_by<R: Read>(
     ensures unread { command ≢ Command.Valid → input.new ≡ input.old }
     ensures read { IsErrOf result JudgeFault.Read → device_failures input.old < device_failures input.new }
     ensures memory { IsErrOf result JudgeFault.Memory → device_failures input.new ≡ device_failures input.old }
-    ensures answer { IfOk result (λ answer. (files : List NamedFile) (main : Name) → IsOneFor files main validator
+    ensures answer { IfOk result (λ answer. (files : List NamedFile) (main : FileName) → IsOneFor files main validator
         → IsAnswer command files main (R.remaining (device_inner input.old)) (R.remaining (device_inner input.new)) (answer_of answer)) }
 {
     match command {

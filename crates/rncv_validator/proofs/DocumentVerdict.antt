@@ -5,16 +5,14 @@ use Rattle.std.proofs.Common.{sym, ap, subst, refl, ap₂, ◌∙◌, arith, inl
 use Rattle.std.proofs.lemmas.List.Elements.{All-append, All-cons, All-weaker}
 use Rattle.rng_model.proofs.Options.{ok_is_err}
 use Rattle.rng_model.specs.matching.Document.{Item}
-use Rattle.rng_model.specs.documents.Lines.{lines}
+use Rattle.rng_model.specs.documents.Lines.{lines, Fault, IsBefore}
 use Rattle.rng_model.specs.names.Names.{Name}
 use Rattle.rng_model.specs.documents.PyxClauses.{Breaks}
-use Rattle.rng_model.specs.documents.PyxFaults.{Fault, IsBefore}
 use Rattle.rng_model.specs.documents.PyxTrees.{Event, EventKind, a_start, a_string, an_end, Placed, item_of, events_of, IsPyxDocument}
-use Rattle.rng_model.specs.matching.Reading.{Reading}
+use Rattle.rng_model.specs.matching.GrammarMatching.{Reading, IsValidBy}
 use Rattle.rng_model.specs.matching.Outcomes.{IsOutcome, FailsAt, KnowsName}
 use Rattle.rng_model.specs.declared.outcome.Outcome.{Outcome}
 use Rattle.rng_model.specs.declared.outcome.Outcome.TheVariants as outcome
-use Rattle.rng_model.specs.matching.GrammarMatching.{IsValidBy}
 use Rattle.rng_model.specs.datatypes.Texts.{texts_of}
 use Rattle.pyx.specs.plain.DocumentReader.{Turn, State, document_read}
 use Rattle.pyx.proofs.DocumentComplete.{complete}

@@ -11,17 +11,15 @@ use Rattle.rng_model.specs.declared.outcome.Outcome.TheVariants as outcome
 use Rattle.rng_model.specs.declared.pyx_fault.PyxFault.{PyxFault}
 use Rattle.rng_model.specs.declared.pyx_fault.PyxFault.TheVariants as pyx
 use Rattle.rng_model.specs.documents.Documents.{IsTheDocument}
-use Rattle.rng_model.specs.documents.Handing.{Hands}
+use Rattle.rng_model.specs.documents.EventViews.{Hands}
 use Rattle.rng_model.specs.documents.PyxClauses.{IsFirstFault}
 use Rattle.rng_model.specs.documents.PyxTrees.{Event, EventKind, a_start, a_string, an_end, Placed, IsPyxDocument, events_of, item_of}
-use Rattle.rng_model.specs.matching.GrammarReading.{reading_of}
+use Rattle.rng_model.specs.matching.GrammarMatching.{reading_of, IsValidBy}
 use Rattle.rng_model.specs.matching.Outcomes.{FailsAt, IsOutcome, KnowsName}
 use Rattle.rng_model.specs.matching.SchemaMatching.{IsValidBySchema}
 use Rattle.rng_model.specs.schema.Schema.{Schema}
-use Rattle.rng_model.specs.matching.GrammarMatching.{IsValidBy}
 use Rattle.rng_model.specs.simple.Table.{Table, grammar_of}
-use Rattle.rncv_model.specs.answers.Compiled.{IsUnknownIn, IsVerdictOn}
-use Rattle.rncv_model.specs.answers.Verdict.{IsMalformed, IsVerdict, StartsUnknown}
+use Rattle.rncv_model.specs.answers.Verdict.{IsUnknownIn, IsVerdictOn, IsMalformed, IsVerdict, StartsUnknown}
 use Rattle.rncv_model.specs.declared.verdict.Verdict.{Verdict}
 use Rattle.rncv_model.specs.declared.verdict.Verdict.TheVariants.{Malformed, Invalid}
 use Rattle.pyx.specs.views.Calls as calls
@@ -78,7 +76,7 @@ module _ (d : Judging) (old new : Matching) (there : old ≡ d.matching) (s : Sc
 
 -- the verdict on a document that has ended
 pub ended_verdict : {A : Type 0} (d : Judging) (old new : Matching) → old ≡ d.matching → (ended : Result A PyxFault)
-    (outcome : Result Outcome OutOfMemory) → calls.UnlessMemory ended (calls.Ends (Hands HasGoneOn old new) d.reader ended) → IfOk outcome (Says new)
+    (outcome : Result Outcome OutOfMemory) → calls.UnlessOutOfMemory ended (calls.Ends (Hands HasGoneOn old new) d.reader ended) → IfOk outcome (Says new)
     → IfOk (verdict_by ended outcome) (λ v. (s : Schema) (bytes : List ℕ) → Judges d.grammar s → HasBeenFed d bytes → IsVerdictOn s bytes v)
 ended_verdict d old new there (Ok x) (Ok outcome.Valid) ends says = λ s bytes judges fed.
     taken d old new there s judges bytes fed ends.0 outcome.Valid ends.1 (ends.2 bytes fed.events fed.reads) says
@@ -91,7 +89,7 @@ ended_verdict d old new there (Err (pyx.At clause line)) o ends says = λ s byte
 
 -- if there is a verdict, the matcher keeps its grammar
 pub ended_grammar : {A : Type 0} (k : Kept) (old new : Matching) (ended : Result A PyxFault) (outcome : Result Outcome OutOfMemory) (v : Verdict)
-    → calls.UnlessMemory ended (calls.Ends (Hands HasGoneOn old new) k ended) → verdict_by ended outcome ≡ Ok v → new.grammar ≡ old.grammar
+    → calls.UnlessOutOfMemory ended (calls.Ends (Hands HasGoneOn old new) k ended) → verdict_by ended outcome ≡ Ok v → new.grammar ≡ old.grammar
 ended_grammar k old new (Ok x) o v ends e = (gone old new ends.0 ends.1).grammar
 ended_grammar k old new (Err pyx.Memory) o v ends e = absurd (cc)
 ended_grammar k old new (Err (pyx.At clause line)) o v ends e = (gone old new ends.0 ends.1).grammar
@@ -272,7 +270,7 @@ fault_since faults.Memory o = of_some o (λ line e. tt)
 fault_since (faults.Malformed clause line) o = of_some o (λ n e. inl tt)
 
 pub ended_since : {A : Type 0} (d : Judging) (old new : Matching) → old ≡ d.matching → (ended : Result A PyxFault) (o : Result Outcome OutOfMemory)
-    → calls.UnlessMemory ended (calls.Ends (Hands HasGoneOn old new) d.reader ended)
+    → calls.UnlessOutOfMemory ended (calls.Ends (Hands HasGoneOn old new) d.reader ended)
     → ((line : ℕ) → HasFailedAt new line → IfOk o (λ told. told ≡ outcome.Invalid line))
     → IfSome (failed_since d) (λ line. IfOk (verdict_by ended o) (λ v. IsMalformed v ⊎ (v ≡ Invalid line)))
 ended_since d old new there (Ok x) (Ok o) ends says = of_some (failed_since d) (λ line f.

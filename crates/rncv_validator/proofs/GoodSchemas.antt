@@ -1,8 +1,8 @@
 -- The clauses of a schema together: S11 to S17, and the restrictions on its simple form.
 use Rattle.std.proofs.Common.{ℕ, ◌≤◌, arith}
-use Rattle.rng_model.specs.schema.Least.{IsLeast}
+use Rattle.rng_model.specs.names.Lists.{IsLeast}
 use Rattle.rng_model.specs.restrictions.Restrictions as r
-use Rattle.rng_model.specs.restrictions.Restrictions.{BreaksRestriction, IsLeastRestriction}
+use Rattle.rng_model.specs.restrictions.Restrictions.{BreaksRestriction, IsLeastRestriction, IsRestrictionFault}
 use Rattle.rng_model.specs.schema.Schema.{Schema}
 use Rattle.rng_model.specs.schema.SchemaClauses as c
 use Rattle.rng_model.specs.schema.SchemaClauses.{BreaksSchemaClause, BreaksClause, BreaksNoClause, IsLeastClause, in_schema, in_restriction}
@@ -10,7 +10,6 @@ use Rattle.rng_model.specs.simple.SchemaForm.{IsSimpleGrammarOf}
 use Rattle.rng_model.specs.simple.Grammar.{Grammar}
 use Rattle.rng_model.specs.declared.fault.SchemaFault.{SchemaFault}
 use Rattle.rng_model.specs.declared.fault.SchemaFault.TheVariants as faults
-use Rattle.rng_model.specs.restrictions.Restricted.{IsRestrictionFault}
 use Rattle.rncv_validator.specs.plain.LeastFaults.{IsLeastFault}
 use Rattle.rng_model.specs.simple.SimplifiedSchema.{IsSchemaFault}
 use Rattle.rng_model.proofs.ProhibitedPaths.{prohibits}

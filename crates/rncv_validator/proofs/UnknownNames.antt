@@ -5,7 +5,7 @@ use Rattle.rng_model.specs.schema.Schema.{Schema}
 use Rattle.rng_model.specs.simple.SchemaForm.{IsOnlySimpleGrammarOf}
 use Rattle.rng_model.specs.simple.Grammar.{Grammar}
 use Rattle.rncv_validator.specs.plain.Judging.{IsUnknownTo}
-use Rattle.rncv_model.specs.answers.Compiled.{IsUnknownIn}
+use Rattle.rncv_model.specs.answers.Verdict.{IsUnknownIn}
 
 -- they are the names that no element of the grammar may have
 pub unknown_to_grammar : (s : Schema) (g : Grammar) → IsOnlySimpleGrammarOf s g → (name : Name) → IsUnknownIn s name → IsUnknownTo g name

@@ -2,8 +2,7 @@
 ghost use Rattle.std.specs.Prelude.{◌≡◌, ◌⊎◌, ◌+◌, ◌^◌, ◌<◌, ◌++◌, ℕ, List, IfErr, IfOk, IfSome, OnOk, Some, None, Err, length};
 ghost use Rattle.std.specs.Bool.{OnTrue};
 ghost use Rattle.rng_model.specs.schema.Schema.{Schema};
-ghost use Rattle.rncv_model.specs.answers.Compiled.{IsUnknownIn, IsVerdictOn};
-ghost use Rattle.rncv_model.specs.answers.Verdict.{IsMalformed};
+ghost use Rattle.rncv_model.specs.answers.Verdict.{IsUnknownIn, IsVerdictOn, IsMalformed};
 ghost use Rattle.rng_model.specs.matching.SchemaMatching.{IsValidBySchema};
 ghost use Rattle.rncv_model.specs.declared.verdict.Verdict.{Verdict};
 ghost use Rattle.rncv_validator.specs.views.Validators.{Judges};
@@ -12,7 +11,7 @@ ghost use Rattle.rncv_validator.specs.views.FedDocuments.{HasBeenFed, IsFaultOfR
 ghost use Rattle.rncv_validator.specs.views.Documents.{failed_since, told_by};
 ghost use Rattle.rncv_validator.specs.views.FedDocuments.{verdict_by};
 ghost use Rattle.pyx.specs.views.Calls.{Extends};
-ghost use Rattle.rng_model.specs.documents.Handing.{Hands};
+ghost use Rattle.rng_model.specs.documents.EventViews.{Hands};
 ghost use Rattle.rng_deriv.specs.views.Matchers.{HasGoneOn};
 
 use crate::fault::DocumentFault;

@@ -12,7 +12,7 @@ use Rattle.rng_deriv_laws.specs.plain.Derivatives.{is_not_allowed}
 use Rattle.rng_deriv_laws.specs.plain.Derivatives as tree
 use Rattle.rng_deriv_laws.specs.plain.LevelStates as level
 use Rattle.rng_deriv_laws.specs.plain.LevelStates.{IsBodyNamed}
-use Rattle.rng_model.specs.matching.Reading.{Reading}
+use Rattle.rng_model.specs.matching.GrammarMatching.{Reading, reading_of}
 use Rattle.rng_deriv_laws.specs.plain.Restricted.{IsRestricted, IsTyped}
 use Rattle.rng_deriv_laws.specs.plain.Taking.{Same, Takes, WeaklyTakes}
 use Rattle.rng_deriv_laws.specs.plain.Taking as t
@@ -23,7 +23,6 @@ use Rattle.rng_deriv_table.specs.views.PatternTable.{Longer}
 use Rattle.rng_deriv_table.specs.views.Trees.{trees, tree_of}
 use Rattle.rng_deriv_table.specs.declared.pattern.PatternNumber.{PatternNumber}
 use Rattle.rng_deriv_table.proofs.Trees.{Longer-length, tree_stays}
-use Rattle.rng_model.specs.matching.GrammarReading.{reading_of}
 use Rattle.rng_deriv_ways.specs.plain.Starting.{AreStarts, IsRestrictedBodyNamed}
 use Rattle.rng_deriv_ways.specs.plain.Ways.{AreInside, IsInside, way_by, ways_by}
 use Rattle.rng_deriv_ways.specs.declared.way.LeafWay as numbered

@@ -7,7 +7,7 @@ use Rattle.rng_deriv_table.specs.views.Node.{Node}
 use Rattle.rng_deriv_table.specs.views.PatternTable as nodes
 use Rattle.rng_deriv_table.specs.views.Trees.{trees}
 use Rattle.rng_deriv_table.specs.declared.pattern.PatternNumber.{PatternNumber}
-use Rattle.rng_model.specs.matching.GrammarReading.{reading_of}
+use Rattle.rng_model.specs.matching.GrammarMatching.{reading_of}
 use Rattle.rng_deriv_ways.specs.views.KnownWays.{AreAllKnown}
 use Rattle.rng_deriv_ways.specs.declared.known.Known.{Known}
 use Rattle.rng_deriv_events.specs.views.Numbers.{AddsStarts, tree_of, way_of}

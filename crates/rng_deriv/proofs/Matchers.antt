@@ -1,8 +1,8 @@
 -- A matcher of a grammar, given what the event matcher inside it does.
 use Rattle.std.proofs.Common.{◌≡◌, ◌∙◌, ℕ, List, [], ◌∷◌, ◌++◌, Result, Ok, Err, OnOk, append_assoc, sym, ap, subst}
-use Rattle.rng_model.specs.documents.Handing.{Hands}
+use Rattle.rng_model.specs.documents.EventViews.{Hands}
 use Rattle.rng_model.specs.documents.PyxTrees.{Event}
-use Rattle.rng_model.specs.matching.GrammarReading.{reading_of}
+use Rattle.rng_model.specs.matching.GrammarMatching.{reading_of}
 use Rattle.rng_deriv_events.specs.views.Basis.{Basis}
 use Rattle.rng_deriv.specs.views.Matchers.{HasFailedAt, HasGoneOn, HasRunOut, Knows, Matching, judges_by}
 

@@ -16,12 +16,11 @@ use Rattle.rng_names.specs.plain.Keys as keyed
 use Rattle.rng_deriv_laws.specs.plain.Derivatives as tree
 use Rattle.rng_deriv_laws.specs.plain.LevelStates as level
 use Rattle.rng_deriv_laws.specs.plain.LevelStates.{IsBodyNamed}
-use Rattle.rng_model.specs.matching.Reading.{Reading}
+use Rattle.rng_model.specs.matching.GrammarMatching.{Reading, reading_of}
 use Rattle.rng_deriv_laws.specs.plain.Reading.{body_of, has_name}
 use Rattle.rng_deriv_laws.specs.plain.Taking.{Takes, WeaklyMatches}
 use Rattle.rng_deriv_laws.specs.plain.Taking as t
 use Rattle.rng_deriv_laws.specs.plain.Ways.{EachWay}
-use Rattle.rng_model.specs.matching.GrammarReading.{reading_of}
 use Rattle.rng_deriv_ways.proofs.GrammarRows.{class_there, no_class_there}
 
 module _ (g : Reading) where

@@ -27,7 +27,7 @@ use Rattle.rng_deriv_table.specs.declared.pattern.PatternNumber.{PatternNumber}
 use Rattle.rng_deriv_table.proofs.Trees.{length-trees, Longer-trans}
 use Rattle.rng_deriv_texts.specs.plain.After.{IsLeftOfTag}
 use Rattle.rng_deriv_ways.specs.plain.Kinds.{Obeys}
-use Rattle.rng_model.specs.matching.GrammarReading.{reading_of}
+use Rattle.rng_model.specs.matching.GrammarMatching.{reading_of}
 use Rattle.rng_deriv_ways.specs.plain.Starting as starting
 use Rattle.rng_deriv_ways.specs.plain.Ways.{ways_by}
 use Rattle.rng_deriv_ways.specs.declared.known.Known.{Known}

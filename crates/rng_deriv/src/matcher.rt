@@ -2,11 +2,10 @@
 ghost use Rattle.std.specs.Prelude.{◌≡◌, ℕ, List, [], ◌∷◌, ◌++◌, IfOk, IsErr, OnErr, OnOk};
 ghost use Rattle.rng_model.specs.simple.Table.{grammar_of};
 ghost use Rattle.rng_model.specs.restrictions.Restrictions.{BreaksNone};
-ghost use Rattle.rng_model.specs.documents.EventView.{event_of};
-ghost use Rattle.rng_model.specs.documents.Handing.{Hands};
+ghost use Rattle.rng_model.specs.documents.EventViews.{event_of, Hands};
 ghost use Rattle.rng_model.specs.documents.PyxTrees as trees;
 ghost use Rattle.rng_model.specs.documents.PyxTrees.{IsPyxDocument, Placed, events_of};
-ghost use Rattle.rng_model.specs.matching.GrammarReading.{reading_of};
+ghost use Rattle.rng_model.specs.matching.GrammarMatching.{reading_of};
 ghost use Rattle.rng_model.specs.matching.Outcomes.{IsOutcome};
 ghost use Rattle.rng_deriv.specs.views.Matchers.{HasFailedAt, HasGoneOn, HasRunOut, IsStateBy, Knows, judges_by, matching_in};
 ghost use Rattle.rng_model.specs.declared.outcome.Outcome.{Outcome};

@@ -13,7 +13,7 @@ use Rattle.rng_model.proofs.Places.{contains_at}
 use Rattle.rng_model.specs.simple.Tree.{Simple}
 use Rattle.rng_model.specs.matching.Document.{Item}
 use Rattle.rng_model.specs.datatypes.Texts.{is_blank}
-use Rattle.rng_model.specs.matching.Reading.{Reading}
+use Rattle.rng_model.specs.matching.GrammarMatching.{Reading}
 use Rattle.rng_deriv_laws.specs.plain.Taking.{Takes}
 use Rattle.rng_deriv_laws.specs.plain.Derivatives.{is_not_allowed, is_nullable}
 use Rattle.rng_deriv_laws.specs.plain.LevelStates as level

@@ -10,12 +10,13 @@ use Rattle.rng_model.proofs.Places.{at_end, in_front, front_stays, all_at as all
 use Rattle.rng_names.specs.plain.Keys.{Keys, key_of}
 use Rattle.rng_model.specs.names.Names.{Name}
 use Rattle.rng_model.specs.simple.Tree.{Simple}
-use Rattle.rng_model.specs.matching.Reading.{Reading}
+use Rattle.rng_model.specs.matching.GrammarMatching.{Reading}
 use Rattle.rng_deriv_laws.specs.plain.Derivatives.{has_data, is_not_allowed, is_nullable}
 use Rattle.rng_deriv_laws.specs.plain.LevelStates.{AreEnded, AreOpened, IsAfterTag, IsAfterText}
 use Rattle.rng_deriv_table.specs.declared.pattern.PatternNumber.{PatternNumber}
 use Rattle.rng_deriv_events.specs.plain.Bits.{bits_of}
-use Rattle.rng_deriv_events.specs.views.LevelTable.{IsEndAt, IsKnownAt, closed_in, ends_in, levels_in, numbers_in, numbers_or_none, sample_in, sample_of, sampled_in, steps_in}
+use Rattle.rng_deriv_events.specs.views.LevelTable.{IsEndAt, IsKnownAt, closed_in, ends_in, levels_in, numbers_in, numbers_or_none, sample_in, sample_of}
+use Rattle.rng_deriv_events.specs.views.LevelTable.{sampled_in, steps_in}
 use Rattle.rng_deriv_events.specs.declared.level_table.level.Level.{Level}
 use Rattle.rng_deriv_events.specs.declared.level_table.level.LevelNumber.{LevelNumber}
 use Rattle.rng_deriv_events.specs.declared.level_table.table.LevelTable.{LevelTable}
@@ -23,7 +24,8 @@ use Rattle.rng_deriv_events.specs.declared.level_table.link.Link.{Link}
 use Rattle.rng_deriv_events.specs.declared.level_table.step.End.{End}
 use Rattle.rng_deriv_events.specs.declared.level_table.step.Step.{Step}
 use Rattle.rng_deriv_events.specs.views.Basis.{Basis, HoldsBy, Keeps, reading_by}
-use Rattle.rng_deriv_events.specs.views.KeptLevels.{AddsAfter, AddsEndedLevel, AddsLevels, AreKept, Grows, IsAfterLevel, IsEndKept, IsLevelKept, IsStepKept, nullable_in}
+use Rattle.rng_deriv_events.specs.views.KeptLevels.{AddsAfter, AddsEndedLevel, AddsLevels, AreKept, Grows, IsAfterLevel, IsEndKept, IsLevelKept, IsStepKept}
+use Rattle.rng_deriv_events.specs.views.KeptLevels.{nullable_in}
 use Rattle.rng_deriv_events.specs.views.Levels.{AddsEnded, AddsOpened, IsLinkWithin, IsRestWithin, link_of}
 use Rattle.rng_deriv_events.specs.views.Numbers.{AddsEach, IsInside, Longer, tree_of}
 use Rattle.rng_deriv_events.proofs.Numbers.{all_inside_stay, inside_stays, longer_same, trees_stay}

@@ -6,7 +6,7 @@ use Rattle.std.proofs.lemmas.List.{length-take, take_more, take_more_set, drop_m
 use Rattle.std.proofs.lemmas.List.Elements.{All-append, All-map, All-nil, All-head, All-tail, All-weaker}
 use Rattle.rng_model.specs.simple.Tree.{Simple}
 use Rattle.rng_model.specs.documents.PyxTrees.{Event}
-use Rattle.rng_model.specs.matching.Reading.{Reading}
+use Rattle.rng_model.specs.matching.GrammarMatching.{Reading}
 use Rattle.rng_deriv_laws.specs.plain.LevelStates as level
 use Rattle.rng_deriv_table.specs.declared.pattern.PatternNumber.{PatternNumber}
 use Rattle.rng_deriv_events.specs.views.Numbers.{IsInside, AreRenewed, tree_of}
@@ -17,7 +17,8 @@ use Rattle.rng_deriv_events.specs.views.OpenPositions.{OpenPosition, level_at, o
 use Rattle.rng_deriv_events.specs.views.States.{IsLevelInside, IsStateInside, OpenLevel, OpenState, with_level}
 use Rattle.rng_deriv_events.specs.views.Strings.{IsHeld}
 use Rattle.rng_deriv_events.specs.views.Positions.{HasCome}
-use Rattle.rng_deriv_events.specs.views.LevelRenewal.{AreWaysRenewed, IsLevelRenewed, IsLinkRenewed, IsPositionRenewed, IsRenewed, IsStateRenewed, rests_in, rests_of, with_rests}
+use Rattle.rng_deriv_events.specs.views.LevelRenewal.{AreWaysRenewed, IsLevelRenewed, IsLinkRenewed, IsPositionRenewed, IsRenewed, IsStateRenewed, rests_in}
+use Rattle.rng_deriv_events.specs.views.LevelRenewal.{rests_of, with_rests}
 use Rattle.rng_deriv_events.specs.declared.level_table.link.Link.{Link}
 use Rattle.rng_deriv_events.specs.declared.state.WaysOut.{WaysOut}
 use Rattle.rng_deriv_events.proofs.AddedLinks.{zip_all, zip_push, zip_weaker}

@@ -7,7 +7,7 @@ use Rattle.std.proofs.lemmas.List.{length-append, length-set, get_or_append_left
 use Rattle.std.proofs.lemmas.List.Elements.{All-weaker, All-take, All-push, AllZip-push, All-head, All-tail, All-nil, All-cons}
 use Rattle.std.specs.List.{AllZip, refill}
 use Rattle.rng_model.specs.simple.Tree.{Simple, s_not_allowed}
-use Rattle.rng_model.specs.matching.Reading.{Reading}
+use Rattle.rng_model.specs.matching.GrammarMatching.{Reading}
 use Rattle.rng_deriv_laws.specs.plain.Restricted.{IsRestricted}
 use Rattle.rng_deriv_table.specs.declared.pattern.PatternNumber.{PatternNumber}
 use Rattle.rng_deriv_events.specs.views.Numbers.{Longer, IsInside, tree_of, Adds, AddsEach}

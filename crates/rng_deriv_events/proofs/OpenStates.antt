@@ -10,7 +10,7 @@ use Rattle.rng_names.specs.plain.Keys.{Keys, key_of}
 use Rattle.rng_model.specs.names.Names.{Name}
 use Rattle.rng_model.specs.simple.Tree.{Simple}
 use Rattle.rng_model.specs.matching.Document.{Attribute}
-use Rattle.rng_model.specs.matching.Reading.{Reading}
+use Rattle.rng_model.specs.matching.GrammarMatching.{Reading}
 use Rattle.rng_deriv_laws.specs.plain.LevelStates.{EndsWith, IsAfterTag, StartsLevel}
 use Rattle.rng_deriv_table.specs.declared.pattern.PatternNumber.{PatternNumber}
 use Rattle.rng_deriv_events.specs.views.LevelTable.{IsStepOf, levels_in, numbers_in, steps_in}
@@ -23,7 +23,8 @@ use Rattle.rng_deriv_events.specs.views.KeptLevels.{AddsAfter, AddsLevels, AddsO
 use Rattle.rng_deriv_events.specs.views.Levels.{AddsEnded, AddsOpened}
 use Rattle.rng_deriv_events.specs.views.LevelRenewal.{AreWaysRenewed, IsRenewed, IsStateRenewed, rests_in}
 use Rattle.rng_deriv_events.specs.views.Numbers.{AreRenewed, Longer}
-use Rattle.rng_deriv_events.specs.views.OpenPositions.{IsHeldKept, IsPositionKept, IsStateKept, held_string, level_at, open_level, open_position, open_state, open_string, step_level}
+use Rattle.rng_deriv_events.specs.views.OpenPositions.{IsHeldKept, IsPositionKept, IsStateKept, held_string, level_at, open_level, open_position, open_state}
+use Rattle.rng_deriv_events.specs.views.OpenPositions.{open_string, step_level}
 use Rattle.rng_deriv_events.specs.views.Positions.{IsPositionInside}
 use Rattle.rng_deriv_events.specs.views.States.{AddsState, EndsBy, EndsIf, IsLevelInside, IsStateInside, OpenLevel, OpenState, levels_of, state_of}
 use Rattle.rng_deriv_events.specs.views.Strings.{AddsHeld, HeldString, IsHeld, IsHeldInside}

@@ -7,9 +7,10 @@ use Rattle.rng_model.specs.simple.Tree.{Simple}
 use Rattle.rng_model.specs.datatypes.Texts.{is_blank}
 use Rattle.rng_model.specs.matching.Document.{Attribute}
 use Rattle.rng_model.specs.documents.PyxTrees.{a_start, a_string, an_end}
-use Rattle.rng_model.specs.matching.Reading.{Reading}
+use Rattle.rng_model.specs.matching.GrammarMatching.{Reading}
 use Rattle.rng_deriv_laws.specs.plain.LevelStates.{IsAfterText, StartsLevel, LevelState, EndsLevel, EndsNow, EndsWith}
-use Rattle.rng_deriv_laws.specs.plain.LevelEvents.{LevelMatcher, SettlesLevels, StepsTo, as_blank, as_text, at_start, at_string, at_end, at_end_of_text, at_stray_end}
+use Rattle.rng_deriv_laws.specs.plain.LevelEvents.{LevelMatcher, SettlesLevels, StepsTo, as_blank, as_text, at_start, at_string, at_end, at_end_of_text}
+use Rattle.rng_deriv_laws.specs.plain.LevelEvents.{at_stray_end}
 use Rattle.rng_deriv_table.specs.declared.pattern.PatternNumber.{PatternNumber}
 use Rattle.rng_deriv_events.specs.views.Numbers.{Longer, IsInside, tree_of, AddsEach}
 use Rattle.rng_deriv_events.specs.views.Levels.{AreEndsWith}

@@ -6,7 +6,7 @@ use Rattle.rng_model.proofs.Places.{all_at as all_there}
 use Rattle.rng_names.specs.plain.Keys.{Keys}
 use Rattle.rng_model.specs.simple.Tree.{Simple}
 use Rattle.rng_model.specs.datatypes.Texts.{is_blank}
-use Rattle.rng_model.specs.matching.Reading.{Reading}
+use Rattle.rng_model.specs.matching.GrammarMatching.{Reading}
 use Rattle.rng_deriv_laws.specs.plain.Derivatives.{has_data}
 use Rattle.rng_deriv_laws.specs.plain.LevelStates.{IsAfterText}
 use Rattle.rng_deriv_laws.proofs.AnyTexts.{after_any_text, not_first, not_second}

@@ -7,7 +7,7 @@ use Rattle.std.proofs.lemmas.List.{length-append, length-map, length-take, map-a
 use Rattle.std.proofs.lemmas.List.Elements.{All-weaker, All-append, All-head, All-tail, All-take, All-map, All-contains, All-nil, All-cons}
 use Rattle.rng_model.specs.names.Names.{Name}
 use Rattle.rng_model.specs.simple.Tree.{Simple}
-use Rattle.rng_model.specs.matching.Reading.{Reading}
+use Rattle.rng_model.specs.matching.GrammarMatching.{Reading}
 use Rattle.rng_deriv_laws.specs.plain.Ways.{EachWay}
 use Rattle.rng_deriv_laws.specs.plain.LevelStates.{IsBodyNamed, AreStarts, AreOpened}
 use Rattle.rng_deriv_laws.proofs.Levels.Steps.{IsLinked, none_opened, opened_more}

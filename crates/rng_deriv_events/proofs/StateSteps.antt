@@ -5,13 +5,14 @@ use Rattle.std.proofs.lemmas.List.Elements.{All-weaker, All-push, All-head, All-
 use Rattle.rng_model.specs.names.Names.{Name}
 use Rattle.rng_model.specs.simple.Tree.{Simple}
 use Rattle.rng_model.specs.matching.Document.{Attribute}
-use Rattle.rng_model.specs.matching.Reading.{Reading}
+use Rattle.rng_model.specs.matching.GrammarMatching.{Reading}
 use Rattle.rng_deriv_laws.specs.plain.LevelStates as level
 use Rattle.rng_deriv_laws.specs.plain.LevelStates.{IsAfterTag, AreOpened, StartsLevel, LevelState, EndsLevel, IsAfterText, TakesString}
 use Rattle.rng_deriv_table.specs.declared.pattern.PatternNumber.{PatternNumber}
 use Rattle.rng_deriv_events.specs.views.Numbers.{Longer, IsInside, tree_of, AddsEach}
 use Rattle.rng_deriv_events.specs.views.Levels.{link_of, IsLinkWithin, IsRestWithin, AddsOpened, AddsEnded}
-use Rattle.rng_deriv_events.specs.views.States.{OpenLevel, OpenState, with_level, levels_of, state_of, IsLevelInside, IsStateInside, AddsState, EndsBy, EndsLevelBy}
+use Rattle.rng_deriv_events.specs.views.States.{OpenLevel, OpenState, with_level, levels_of, state_of, IsLevelInside, IsStateInside, AddsState, EndsBy}
+use Rattle.rng_deriv_events.specs.views.States.{EndsLevelBy}
 use Rattle.rng_deriv_events.proofs.Numbers.{longer_through, inside_stays, trees_stay, all_before}
 use Rattle.rng_deriv_events.proofs.StartedElements.{links_stay}
 

@@ -2,10 +2,10 @@
 ghost use Rattle.std.specs.Prelude.{◌≡◌, ℕ, List, [], ◌∷◌, ◌++◌, IfOk, IsErr, OnErr, OnOk, map};
 ghost use Rattle.rng_names.specs.plain.Keys.{Keys};
 ghost use Rattle.rng_model.specs.simple.Tree.{Simple};
-ghost use Rattle.rng_model.specs.matching.Reading.{Reading};
+ghost use Rattle.rng_model.specs.matching.GrammarMatching.{Reading};
 ghost use Rattle.rng_deriv_events.specs.views.Basis.{HoldsBy, reading_by};
 ghost use Rattle.rng_deriv_events.specs.views.KeptLevels.{AreKept};
-ghost use Rattle.rng_model.specs.documents.EventView.{event_of};
+ghost use Rattle.rng_model.specs.documents.EventViews.{event_of};
 ghost use Rattle.rng_model.specs.documents.PyxTrees as trees;
 ghost use Rattle.rng_model.specs.documents.PyxTrees.{IsPyxDocument, Placed, events_of};
 ghost use Rattle.rng_model.specs.matching.Outcomes.{IsOutcome};

@@ -1,6 +1,6 @@
 // Levels of open elements, at each event.
 ghost use Rattle.std.specs.Prelude.{◌≡◌, All, IfOk, OnOk, map};
-ghost use Rattle.rng_model.specs.documents.DocumentViews.{attribute_of};
+ghost use Rattle.rng_model.specs.documents.EventViews.{attribute_of};
 ghost use Rattle.rng_deriv_laws.specs.plain.LevelStates.{IsAfterTag, IsAfterText};
 ghost use Rattle.rng_deriv_events.specs.views.Basis.{reading_by};
 ghost use Rattle.rng_deriv_events.specs.views.Numbers.{AddsEach, IsInside};

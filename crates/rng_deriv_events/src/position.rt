@@ -2,11 +2,11 @@
 ghost use Rattle.std.specs.Prelude.{◌≡◌, ℕ, List, None, OnOk, map};
 ghost use Rattle.rng_model.specs.documents.PyxTrees as trees;
 ghost use Rattle.rng_model.specs.simple.Tree.{Simple};
-ghost use Rattle.rng_model.specs.documents.DocumentViews.{attribute_of};
+ghost use Rattle.rng_model.specs.documents.EventViews.{attribute_of};
 ghost use Rattle.rng_model.specs.names.NameViews.{name_of};
 ghost use Rattle.rng_names.specs.plain.Keys.{Keys};
 ghost use Rattle.rng_deriv_laws.specs.plain.LevelEvents.{LevelMatcher, SettlesLevels};
-ghost use Rattle.rng_model.specs.matching.Reading.{Reading};
+ghost use Rattle.rng_model.specs.matching.GrammarMatching.{Reading};
 ghost use Rattle.rng_deriv_events.specs.views.Basis.{HoldsBy, Keeps, reading_by};
 ghost use Rattle.rng_deriv_events.specs.views.Positions.{AddsStep, IsPositionOf};
 ghost use Rattle.rng_deriv_events.specs.views.OpenPositions.{IsPositionKept, IsStateKept, open_position, open_state};

@@ -1,6 +1,6 @@
 // What is known of a document, event by event.
 ghost use Rattle.std.specs.Prelude.{◌≡◌, ℕ, IfOk, IsErr, OnOk};
-ghost use Rattle.rng_model.specs.documents.EventView.{event_of, kind_of};
+ghost use Rattle.rng_model.specs.documents.EventViews.{event_of, event_kind_of};
 ghost use Rattle.rng_model.specs.documents.PyxTrees as trees;
 ghost use Rattle.rng_deriv_events.specs.views.Basis.{HoldsBy, Keeps, reading_by};
 ghost use Rattle.rng_deriv_events.specs.views.OpenPositions.{IsPositionKept, open_position};
@@ -32,7 +32,7 @@ fn step<D: Derivatives>(
 ) -> Result<(), OutOfMemory>
     requires { HoldsBy IsPositionKept (D.basis derivatives.old) (D.trees derivatives.old) position.old }
     ensures keeps { OnOk result (Keeps IsPositionKept (D.basis derivatives.old) (D.basis derivatives.new) (D.trees derivatives.new) position.new) }
-    ensures step { OnOk result (AddsStep (reading_by (D.basis derivatives.old)) (kind_of kind.entry)
+    ensures step { OnOk result (AddsStep (reading_by (D.basis derivatives.old)) (event_kind_of kind.entry)
         (D.trees derivatives.old) (D.trees derivatives.new) (open_position position.old) (open_position position.new)) }
 {
     match kind {

@@ -5,11 +5,10 @@ use Rattle.std.proofs.Common.{◌≡◌, ℕ, List, [], ◌∷◌, ◌++◌, ref
 use Rattle.std.proofs.lemmas.List.{append-nil}
 use Rattle.rng_model.specs.simple.Tree.{Simple, choice, group, interleave, s_not_allowed, s_empty, s_text, s_leaf, s_attribute, s_list, s_data, s_data_except}
 use Rattle.rng_model.specs.simple.Tree.{s_value, s_one_or_more, s_joined}
-use Rattle.rng_model.specs.matching.Document.{Attribute, Item, Interleaves, SharesName}
+use Rattle.rng_model.specs.matching.Document.{Attribute, Item, Interleaves, SharesName, Distinct}
 use Rattle.rng_model.specs.matching.Document as document
-use Rattle.rng_model.specs.matching.WellFormed.{Distinct}
 use Rattle.rng_model.proofs.OneSidedInterleavings.{right_alone, left_is_all, right_is_all}
-use Rattle.rng_model.specs.matching.Reading.{Reading}
+use Rattle.rng_model.specs.matching.GrammarMatching.{Reading}
 use Rattle.rng_deriv_laws.specs.plain.Taking.{Takes, Same}
 use Rattle.rng_deriv_laws.specs.plain.Taking as t
 use Rattle.rng_deriv_laws.specs.plain.Restricted.{HasNoAttribute, HasNoneGrouped, RepeatsWell}

@@ -9,9 +9,10 @@ use Rattle.rng_model.specs.plain.WellFormed as w
 use Rattle.rng_model.specs.datatypes.Texts.{is_blank}
 use Rattle.rng_model.specs.documents.PyxTrees.{Event, EventKind, a_start, a_string, an_end, Placed, PlacedItems, text_at, element_at, none_placed, placed_and}
 use Rattle.rng_model.specs.documents.PyxTrees.{item_of, items_of, events_of, events_in}
-use Rattle.rng_model.specs.matching.Reading.{Reading}
+use Rattle.rng_model.specs.matching.GrammarMatching.{Reading}
 use Rattle.rng_deriv_laws.specs.plain.Blanks.{has_element, string_of}
-use Rattle.rng_deriv_laws.specs.plain.States.{State, never, finished, after, either, is_never, after_of, end_tag, accepts, start_tag, string, end_text, after_items}
+use Rattle.rng_deriv_laws.specs.plain.States.{State, never, finished, after, either, is_never, after_of, end_tag, accepts, start_tag, string, end_text}
+use Rattle.rng_deriv_laws.specs.plain.States.{after_items}
 use Rattle.rng_deriv_laws.specs.plain.States.{after_item}
 use Rattle.rng_deriv_laws.specs.plain.Events.{kinds, events_of_items, Matcher, new, step, run, is_valid}
 

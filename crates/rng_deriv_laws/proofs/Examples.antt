@@ -7,7 +7,7 @@ use Rattle.rng_model.specs.simple.Tree.{s_data_except, s_value, s_one_or_more, s
 use Rattle.rng_model.specs.matching.Document.{Attribute, Item, a_text, an_element, Items, no_items, item_and}
 use Rattle.rng_model.specs.documents.PyxTrees.{a_start}
 use Rattle.rng_model.specs.datatypes.Texts.{TextTests}
-use Rattle.rng_model.specs.matching.Reading.{Reading}
+use Rattle.rng_model.specs.matching.GrammarMatching.{Reading}
 use Rattle.rng_deriv_laws.specs.plain.States.{is_never}
 use Rattle.rng_deriv_laws.specs.plain.Events.{events_of_items, new, run, is_valid}
 

@@ -3,9 +3,9 @@ use Rattle.std.proofs.Common.{◌≡◌, ℕ, List, refl, sym, subst, Bool, true
 use Rattle.std.proofs.lemmas.Bool.{and_from, or_left, or_right, and_parts, or_cases}
 use Rattle.rng_model.specs.simple.Tree.{Simple, Datatype, choice, group, interleave, as_tree, s_not_allowed, s_empty, s_text, s_leaf, s_attribute, s_list}
 use Rattle.rng_model.specs.simple.Tree.{s_data, s_data_except, s_value, s_one_or_more, s_joined}
-use Rattle.rng_model.specs.matching.Lex.{HasText}
+use Rattle.rng_model.specs.matching.Matching.{HasText}
 use Rattle.rng_model.specs.datatypes.Texts.{texts_of}
-use Rattle.rng_model.specs.matching.Reading.{Reading}
+use Rattle.rng_model.specs.matching.GrammarMatching.{Reading}
 use Rattle.rng_deriv_laws.specs.plain.Restricted.{MayBeExcepted}
 use Rattle.rng_deriv_laws.specs.plain.Derivatives.{is_excepted}
 

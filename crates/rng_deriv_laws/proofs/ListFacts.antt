@@ -3,9 +3,9 @@ use Rattle.std.proofs.Common.{◌≡◌, List, [], ◌∷◌, ◌++◌, refl, sy
 use Rattle.rng_deriv_laws.specs.plain.Derivatives.{Way, behind}
 use Rattle.rng_model.specs.simple.Tree.{Simple}
 use Rattle.rng_model.specs.names.Names.{Name}
-use Rattle.rng_model.specs.matching.Document.{Attribute, Item, a_text, an_element, Interleaves, AllTexts, no_texts, text_and, SharesName}
+use Rattle.rng_model.specs.matching.Document.{Attribute, Item, a_text, an_element, Interleaves, AllTexts, no_texts, text_and, SharesName, HasNoName, Distinct}
+use Rattle.rng_model.specs.matching.Document.{nothing_named, another_name, none, one_more}
 use Rattle.rng_model.specs.matching.Document as document
-use Rattle.rng_model.specs.matching.WellFormed.{HasNoName, Distinct, nothing_named, another_name, none, one_more}
 use Rattle.rng_deriv_laws.specs.plain.Blanks.{Every, nil, cons, IsNotBlank, IsBare, strings_alone, no_blanks}
 
 -- ---- lists in parts

@@ -5,7 +5,7 @@ use Rattle.rng_model.specs.simple.Tree.{Simple, choice, group, interleave, s_not
 use Rattle.rng_model.specs.simple.Tree.{s_value, s_one_or_more, s_joined}
 use Rattle.rng_model.specs.matching.Document.{Attribute, Item, no_texts}
 use Rattle.rng_model.specs.matching.Document as document
-use Rattle.rng_model.specs.matching.Reading.{Reading}
+use Rattle.rng_model.specs.matching.GrammarMatching.{Reading}
 use Rattle.rng_deriv_laws.specs.plain.Taking.{Takes}
 use Rattle.rng_deriv_laws.specs.plain.Taking as t
 use Rattle.rng_deriv_laws.specs.plain.Derivatives.{is_nullable}

@@ -3,11 +3,10 @@
 use Rattle.std.proofs.Common.{◌≡◌, ℕ, List, [], ◌∷◌, refl, sym, subst}
 use Rattle.rng_model.specs.names.Lists.{Among}
 use Rattle.rng_model.specs.simple.Tree.{Simple, s_one_or_more}
-use Rattle.rng_model.specs.matching.Document.{Attribute, Item}
+use Rattle.rng_model.specs.matching.Document.{Attribute, Item, Distinct}
 use Rattle.rng_model.specs.matching.Document as document
-use Rattle.rng_model.specs.matching.WellFormed.{Distinct}
 use Rattle.rng_model.proofs.OneSidedInterleavings.{right_alone}
-use Rattle.rng_model.specs.matching.Reading.{Reading}
+use Rattle.rng_model.specs.matching.GrammarMatching.{Reading}
 use Rattle.rng_deriv_laws.specs.plain.Taking.{Takes, Same}
 use Rattle.rng_deriv_laws.specs.plain.Taking as t
 use Rattle.rng_deriv_laws.specs.plain.Restricted.{HasNoneGrouped}

@@ -3,17 +3,17 @@ use Rattle.std.proofs.Common.{◌≡◌, ◌⊎◌, inl, inr, ℕ, [], ◌∷◌
 use Rattle.std.proofs.lemmas.Option.{same_Some}
 use Rattle.rng_model.proofs.Places.{at_among}
 use Rattle.rng_model.specs.names.Names.{NameClass}
-use Rattle.rng_model.specs.simple.Tree.{Simple, Datatype, Connector, choice, group, interleave, s_not_allowed, s_empty, s_text, s_leaf, s_attribute, s_list, s_data}
+use Rattle.rng_model.specs.simple.Tree.{Simple, Datatype, Connector, choice, group, interleave, s_not_allowed, s_empty, s_text, s_leaf, s_attribute, s_list}
+use Rattle.rng_model.specs.simple.Tree.{s_data}
 use Rattle.rng_model.specs.simple.Tree.{s_data_except, s_value, s_one_or_more, s_joined}
-use Rattle.rng_model.specs.simple.Grammar.{Grammar}
-use Rattle.rng_model.specs.simple.Inside.{Kind, kind_of, StandsIn, Inside, itself, of_list}
-use Rattle.rng_model.specs.simple.Inside.{attribute_kind, list_kind, data_kind, one_or_more_kind, group_kind, interleave_kind}
-use Rattle.rng_model.proofs.Inside.{in_attribute, in_list, in_except, in_one_or_more, in_left, in_right, inside_list, inside_one_or_more, inside_left, inside_right}
+use Rattle.rng_model.specs.simple.Grammar.{Grammar, Kind, kind_of, StandsIn, Inside, itself, of_list, attribute_kind, list_kind, data_kind, one_or_more_kind}
+use Rattle.rng_model.specs.simple.Grammar.{group_kind, interleave_kind}
+use Rattle.rng_model.proofs.Inside.{in_attribute, in_list, in_except, in_one_or_more, in_left, in_right, inside_list, inside_one_or_more, inside_left}
+use Rattle.rng_model.proofs.Inside.{inside_right}
 use Rattle.rng_model.proofs.Inside.{inside_except}
-use Rattle.rng_model.specs.restrictions.Paths as paths
-use Rattle.rng_model.specs.restrictions.Paths.{IsProhibited, IsProhibitedInStart, HasProhibited, HasProhibitedInStart}
-use Rattle.rng_model.specs.restrictions.ContentTypes as types
-use Rattle.rng_model.specs.restrictions.ContentTypes.{ContentType, empty_content, complex_content, simple_content, greater, AreGroupable, HasContent, BreaksContent}
+use Rattle.rng_model.specs.restrictions.Contents as contents
+use Rattle.rng_model.specs.restrictions.Contents.{IsProhibited, IsProhibitedInStart, HasProhibited, HasProhibitedInStart, ContentType, empty_content}
+use Rattle.rng_model.specs.restrictions.Contents.{complex_content, simple_content, greater, AreGroupable, HasContent, BreaksContent}
 use Rattle.rng_model.specs.restrictions.Restrictions as r
 use Rattle.rng_model.specs.restrictions.Restrictions.{BreaksRestriction, IsPart}
 use Rattle.rng_deriv_laws.specs.plain.Reading.{body_in}
@@ -92,26 +92,26 @@ repeats_well (s_joined k p q) f =
 
 pub repeats_without_break : (p : Simple ℕ) → (HasProhibited 19 p → ⊥) → RepeatsWell p
 repeats_without_break p keeps = repeats_well p (λ o b i s m u k d e. elim k [
-  | inl f ↦ keeps (_, paths.repeated_group_attribute, (o, s, m, (b, u, f, (i, d, e, tt))))
-  | inr f ↦ keeps (_, paths.repeated_interleave_attribute, (o, s, m, (b, u, f, (i, d, e, tt))))
+  | inl f ↦ keeps (_, contents.repeated_group_attribute, (o, s, m, (b, u, f, (i, d, e, tt))))
+  | inr f ↦ keeps (_, contents.repeated_interleave_attribute, (o, s, m, (b, u, f, (i, d, e, tt))))
 ])
 
 -- ---- sections 7.1.3 and 7.1.4
 
 may_be_excepted : (p : Simple ℕ) → ((inner : Simple ℕ) → StandsIn inner p → BarredFromExcept (kind_of inner) → ⊥) → MayBeExcepted p
 may_be_excepted s_not_allowed f = tt
-may_be_excepted s_empty f = f s_empty itself paths.data_empty
-may_be_excepted s_text f = f s_text itself paths.data_text
-may_be_excepted (s_leaf k) f = f (s_leaf k) itself paths.data_ref
-may_be_excepted (s_attribute c p) f = f (s_attribute c p) itself paths.data_attribute
-may_be_excepted (s_list p) f = f (s_list p) itself paths.data_list
+may_be_excepted s_empty f = f s_empty itself contents.data_empty
+may_be_excepted s_text f = f s_text itself contents.data_text
+may_be_excepted (s_leaf k) f = f (s_leaf k) itself contents.data_ref
+may_be_excepted (s_attribute c p) f = f (s_attribute c p) itself contents.data_attribute
+may_be_excepted (s_list p) f = f (s_list p) itself contents.data_list
 may_be_excepted (s_data d) f = tt
 may_be_excepted (s_data_except d p) f = may_be_excepted p (λ i s b. f i (in_except s) b)
 may_be_excepted (s_value d v) f = tt
-may_be_excepted (s_one_or_more p) f = f (s_one_or_more p) itself paths.data_one_or_more
+may_be_excepted (s_one_or_more p) f = f (s_one_or_more p) itself contents.data_one_or_more
 may_be_excepted (s_joined choice p q) f = (may_be_excepted p (λ i s b. f i (in_left s) b), may_be_excepted q (λ i s b. f i (in_right s) b))
-may_be_excepted (s_joined group p q) f = f (s_joined group p q) itself paths.data_group
-may_be_excepted (s_joined interleave p q) f = f (s_joined interleave p q) itself paths.data_interleave
+may_be_excepted (s_joined group p q) f = f (s_joined group p q) itself contents.data_group
+may_be_excepted (s_joined interleave p q) f = f (s_joined interleave p q) itself contents.data_interleave
 
 -- each except has only what it may have
 abbrev ExceptsWell : Simple ℕ → Type 0
@@ -120,10 +120,10 @@ ExceptsWell p = (d : Datatype) (except inner : Simple ℕ) → StandsIn (s_data_
 may_be_listed : (p : Simple ℕ) → ((inner : Simple ℕ) → StandsIn inner p → BarredFromList (kind_of inner) → ⊥) → ExceptsWell p → MayBeListed p
 may_be_listed s_not_allowed f h = tt
 may_be_listed s_empty f h = tt
-may_be_listed s_text f h = f s_text itself paths.list_text
-may_be_listed (s_leaf k) f h = f (s_leaf k) itself paths.list_ref
-may_be_listed (s_attribute c p) f h = f (s_attribute c p) itself paths.list_attribute
-may_be_listed (s_list p) f h = f (s_list p) itself paths.list_list
+may_be_listed s_text f h = f s_text itself contents.list_text
+may_be_listed (s_leaf k) f h = f (s_leaf k) itself contents.list_ref
+may_be_listed (s_attribute c p) f h = f (s_attribute c p) itself contents.list_attribute
+may_be_listed (s_list p) f h = f (s_list p) itself contents.list_list
 may_be_listed (s_data d) f h = tt
 may_be_listed (s_data_except d p) f h = may_be_excepted p (λ i s b. h d p i itself s b)
 may_be_listed (s_value d v) f h = tt
@@ -136,7 +136,7 @@ may_be_listed (s_joined group p q) f h = (
   may_be_listed p (λ i s b. f i (in_left s) b) (λ d x i s u b. h d x i (in_left s) u b),
   may_be_listed q (λ i s b. f i (in_right s) b) (λ d x i s u b. h d x i (in_right s) u b),
 )
-may_be_listed (s_joined interleave p q) f h = f (s_joined interleave p q) itself paths.list_interleave
+may_be_listed (s_joined interleave p q) f h = f (s_joined interleave p q) itself contents.list_interleave
 
 -- each list has only what it may have
 abbrev ListsWell : Simple ℕ → Type 0
@@ -167,18 +167,18 @@ texts_without_break p lists excepts =
 
 may_start : (p : Simple ℕ) → ((inner : Simple ℕ) → StandsIn inner p → IsProhibitedInStart (kind_of inner) → ⊥) → MayStart p
 may_start s_not_allowed f = tt
-may_start s_empty f = f s_empty itself paths.start_empty
-may_start s_text f = f s_text itself paths.start_text
+may_start s_empty f = f s_empty itself contents.start_empty
+may_start s_text f = f s_text itself contents.start_text
 may_start (s_leaf k) f = tt
-may_start (s_attribute c p) f = f (s_attribute c p) itself paths.start_attribute
-may_start (s_list p) f = f (s_list p) itself paths.start_list
-may_start (s_data d) f = f (s_data d) itself paths.start_data
-may_start (s_data_except d p) f = f (s_data_except d p) itself paths.start_data
-may_start (s_value d v) f = f (s_value d v) itself paths.start_value
-may_start (s_one_or_more p) f = f (s_one_or_more p) itself paths.start_one_or_more
+may_start (s_attribute c p) f = f (s_attribute c p) itself contents.start_attribute
+may_start (s_list p) f = f (s_list p) itself contents.start_list
+may_start (s_data d) f = f (s_data d) itself contents.start_data
+may_start (s_data_except d p) f = f (s_data_except d p) itself contents.start_data
+may_start (s_value d v) f = f (s_value d v) itself contents.start_value
+may_start (s_one_or_more p) f = f (s_one_or_more p) itself contents.start_one_or_more
 may_start (s_joined choice p q) f = (may_start p (λ i s b. f i (in_left s) b), may_start q (λ i s b. f i (in_right s) b))
-may_start (s_joined group p q) f = f (s_joined group p q) itself paths.start_group
-may_start (s_joined interleave p q) f = f (s_joined interleave p q) itself paths.start_interleave
+may_start (s_joined group p q) f = f (s_joined group p q) itself contents.start_group
+may_start (s_joined interleave p q) f = f (s_joined interleave p q) itself contents.start_interleave
 
 pub starts_without_break : (p : Simple ℕ) → (HasProhibitedInStart p → ⊥) → MayStart p
 starts_without_break p keeps = may_start p (λ i s b. keeps (kind_of i, b, (i, s, refl, tt)))
@@ -186,11 +186,11 @@ starts_without_break p keeps = may_start p (λ i s b. keeps (kind_of i, b, (i, s
 -- ---- section 7.2
 
 groupable_type : (s u : ContentType) → AreGroupable s u → type_of_both (Some s) (Some u) ≡ Some (greater s u)
-groupable_type empty_content u types.empty_first = refl
-groupable_type empty_content empty_content types.empty_second = refl
-groupable_type complex_content empty_content types.empty_second = refl
-groupable_type simple_content empty_content types.empty_second = refl
-groupable_type complex_content complex_content types.both_complex = refl
+groupable_type empty_content u contents.empty_first = refl
+groupable_type empty_content empty_content contents.empty_second = refl
+groupable_type complex_content empty_content contents.empty_second = refl
+groupable_type simple_content empty_content contents.empty_second = refl
+groupable_type complex_content complex_content contents.both_complex = refl
 groupable_type complex_content simple_content h = elim h [ ]
 groupable_type simple_content complex_content h = elim h [ ]
 groupable_type simple_content simple_content h = elim h [ ]
@@ -203,31 +203,31 @@ greater_itself simple_content = refl
 -- the content type of a pattern by the definition is the one that the function computes
 pub content_type_in : (p : Simple ℕ) (u : ContentType) → HasContent p u → content_type p ≡ Some u
 content_type_in s_not_allowed u h = elim h [ ]
-content_type_in s_empty u types.of_empty = refl
-content_type_in s_text u types.of_text = refl
-content_type_in (s_leaf k) u types.of_ref = refl
-content_type_in (s_attribute c p) u (types.of_attribute {t = v} h) = ap type_of_attribute (content_type_in p v h)
-content_type_in (s_list p) u types.of_list = refl
-content_type_in (s_data d) u types.of_data = refl
-content_type_in (s_data_except d p) u types.of_data_except = refl
-content_type_in (s_value d v) u types.of_value = refl
-content_type_in (s_one_or_more p) u (types.of_one_or_more h both) =
+content_type_in s_empty u contents.of_empty = refl
+content_type_in s_text u contents.of_text = refl
+content_type_in (s_leaf k) u contents.of_ref = refl
+content_type_in (s_attribute c p) u (contents.of_attribute {t = v} h) = ap type_of_attribute (content_type_in p v h)
+content_type_in (s_list p) u contents.of_list = refl
+content_type_in (s_data d) u contents.of_data = refl
+content_type_in (s_data_except d p) u contents.of_data_except = refl
+content_type_in (s_value d v) u contents.of_value = refl
+content_type_in (s_one_or_more p) u (contents.of_one_or_more h both) =
     ap (λ a. type_of_both a a) (content_type_in p u h) ∙ groupable_type u u both ∙ ap Some (greater_itself u)
-content_type_in (s_joined choice p q) u (types.of_choice {t = v} {u = x} h k) =
+content_type_in (s_joined choice p q) u (contents.of_choice {t = v} {u = x} h k) =
     ap (λ a. type_of_choice a (content_type q)) (content_type_in p v h) ∙ ap (λ a. type_of_choice (Some v) a) (content_type_in q x k)
-content_type_in (s_joined choice p q) u (types.of_both none h k both) = elim none [ ]
-content_type_in (s_joined group p q) u (types.of_both {t = v} {u = x} none h k both) =
+content_type_in (s_joined choice p q) u (contents.of_both none h k both) = elim none [ ]
+content_type_in (s_joined group p q) u (contents.of_both {t = v} {u = x} none h k both) =
     ap (λ a. type_of_both a (content_type q)) (content_type_in p v h) ∙ ap (λ a. type_of_both (Some v) a) (content_type_in q x k) ∙ groupable_type v x both
-content_type_in (s_joined interleave p q) u (types.of_both {t = v} {u = x} none h k both) =
+content_type_in (s_joined interleave p q) u (contents.of_both {t = v} {u = x} none h k both) =
     ap (λ a. type_of_both a (content_type q)) (content_type_in p v h) ∙ ap (λ a. type_of_both (Some v) a) (content_type_in q x k) ∙ groupable_type v x both
 
 -- two types that combine are groupable
 groupable_by : (s u v : ContentType) → type_of_both (Some s) (Some u) ≡ Some v → AreGroupable s u × (greater s u ≡ v)
-groupable_by empty_content u v e = (types.empty_first, cc)
-groupable_by complex_content empty_content v e = (types.empty_second, cc)
-groupable_by complex_content complex_content v e = (types.both_complex, cc)
+groupable_by empty_content u v e = (contents.empty_first, cc)
+groupable_by complex_content empty_content v e = (contents.empty_second, cc)
+groupable_by complex_content complex_content v e = (contents.both_complex, cc)
 groupable_by complex_content simple_content v e = absurd (cc)
-groupable_by simple_content empty_content v e = (types.empty_second, cc)
+groupable_by simple_content empty_content v e = (contents.empty_second, cc)
 groupable_by simple_content complex_content v e = absurd (cc)
 groupable_by simple_content simple_content v e = absurd (cc)
 
@@ -237,45 +237,45 @@ choice_content : (p q : Simple ℕ) (a b : Option ContentType) (u : ContentType)
 choice_content p q None b u f h e = absurd (cc)
 choice_content p q (Some s) None u f h e = absurd (cc)
 choice_content p q (Some s) (Some v) u f h e =
-    let same : greater s v ≡ u = cc in subst (λ x. HasContent (s_joined choice p q) x) same (types.of_choice (f s refl) (h v refl))
+    let same : greater s v ≡ u = cc in subst (λ x. HasContent (s_joined choice p q) x) same (contents.of_choice (f s refl) (h v refl))
 
-both_content : (k : Connector) → types.IsNoChoice k → (p q : Simple ℕ) (a b : Option ContentType) (u : ContentType) →
+both_content : (k : Connector) → contents.IsNoChoice k → (p q : Simple ℕ) (a b : Option ContentType) (u : ContentType) →
     ((s : ContentType) → a ≡ Some s → HasContent p s) → ((s : ContentType) → b ≡ Some s → HasContent q s) → type_of_both a b ≡ Some u
     → HasContent (s_joined k p q) u
 both_content k none p q None b u f h e = absurd (cc)
 both_content k none p q (Some s) None u f h e = absurd (cc)
 both_content k none p q (Some s) (Some v) u f h e =
-    let g = groupable_by s v u e in subst (λ x. HasContent (s_joined k p q) x) g.1 (types.of_both none (f s refl) (h v refl) g.0)
+    let g = groupable_by s v u e in subst (λ x. HasContent (s_joined k p q) x) g.1 (contents.of_both none (f s refl) (h v refl) g.0)
 
 repeated_content : (p : Simple ℕ) (a : Option ContentType) (u : ContentType) → ((s : ContentType) → a ≡ Some s → HasContent p s) → type_of_both a a ≡ Some u
     → HasContent (s_one_or_more p) u
 repeated_content p None u f e = absurd (cc)
 repeated_content p (Some s) u f e =
-    let g = groupable_by s s u e in subst (λ x. HasContent (s_one_or_more p) x) (sym (greater_itself s) ∙ g.1) (types.of_one_or_more (f s refl) g.0)
+    let g = groupable_by s s u e in subst (λ x. HasContent (s_one_or_more p) x) (sym (greater_itself s) ∙ g.1) (contents.of_one_or_more (f s refl) g.0)
 
 attribute_content : (c : NameClass) (p : Simple ℕ) (a : Option ContentType) (u : ContentType) → ((s : ContentType) → a ≡ Some s → HasContent p s) →
     type_of_attribute a ≡ Some u → HasContent (s_attribute c p) u
 attribute_content c p None u f e = absurd (cc)
 attribute_content c p (Some s) u f e =
-    let same : empty_content ≡ u = cc in subst (λ x. HasContent (s_attribute c p) x) same (types.of_attribute (f s refl))
+    let same : empty_content ≡ u = cc in subst (λ x. HasContent (s_attribute c p) x) same (contents.of_attribute (f s refl))
 
 -- .. and the other way round
 pub content_type_out : (p : Simple ℕ) (u : ContentType) → content_type p ≡ Some u → HasContent p u
 content_type_out s_not_allowed u e = absurd (cc)
-content_type_out s_empty u e = subst (λ x. HasContent {L = ℕ} s_empty x) (same_Some empty_content u e) types.of_empty
-content_type_out s_text u e = subst (λ x. HasContent {L = ℕ} s_text x) (same_Some complex_content u e) types.of_text
-content_type_out (s_leaf k) u e = subst (λ x. HasContent (s_leaf k) x) (same_Some complex_content u e) types.of_ref
+content_type_out s_empty u e = subst (λ x. HasContent {L = ℕ} s_empty x) (same_Some empty_content u e) contents.of_empty
+content_type_out s_text u e = subst (λ x. HasContent {L = ℕ} s_text x) (same_Some complex_content u e) contents.of_text
+content_type_out (s_leaf k) u e = subst (λ x. HasContent (s_leaf k) x) (same_Some complex_content u e) contents.of_ref
 content_type_out (s_attribute c p) u e = attribute_content c p (content_type p) u (content_type_out p) e
-content_type_out (s_list p) u e = subst (λ x. HasContent (s_list p) x) (same_Some simple_content u e) types.of_list
-content_type_out (s_data d) u e = subst (λ x. HasContent {L = ℕ} (s_data d) x) (same_Some simple_content u e) types.of_data
-content_type_out (s_data_except d p) u e = subst (λ x. HasContent (s_data_except d p) x) (same_Some simple_content u e) types.of_data_except
-content_type_out (s_value d v) u e = subst (λ x. HasContent {L = ℕ} (s_value d v) x) (same_Some simple_content u e) types.of_value
+content_type_out (s_list p) u e = subst (λ x. HasContent (s_list p) x) (same_Some simple_content u e) contents.of_list
+content_type_out (s_data d) u e = subst (λ x. HasContent {L = ℕ} (s_data d) x) (same_Some simple_content u e) contents.of_data
+content_type_out (s_data_except d p) u e = subst (λ x. HasContent (s_data_except d p) x) (same_Some simple_content u e) contents.of_data_except
+content_type_out (s_value d v) u e = subst (λ x. HasContent {L = ℕ} (s_value d v) x) (same_Some simple_content u e) contents.of_value
 content_type_out (s_one_or_more p) u e = repeated_content p (content_type p) u (content_type_out p) e
 content_type_out (s_joined choice p q) u e = choice_content p q (content_type p) (content_type q) u (content_type_out p) (content_type_out q) e
 content_type_out (s_joined group p q) u e =
-    both_content group types.grouped p q (content_type p) (content_type q) u (content_type_out p) (content_type_out q) e
+    both_content group contents.grouped p q (content_type p) (content_type q) u (content_type_out p) (content_type_out q) e
 content_type_out (s_joined interleave p q) u e =
-    both_content interleave types.interleaved p q (content_type p) (content_type q) u (content_type_out p) (content_type_out q) e
+    both_content interleave contents.interleaved p q (content_type p) (content_type q) u (content_type_out p) (content_type_out q) e
 
 not_allowed_or_not : (p : Simple ℕ) → (p ≡ s_not_allowed) ⊎ (p ≡ s_not_allowed → ⊥)
 not_allowed_or_not s_not_allowed = inl refl

@@ -6,7 +6,7 @@ use Rattle.std.proofs.lemmas.List.{append-nil}
 use Rattle.rng_model.specs.simple.Tree.{Simple, choice, group, interleave, s_not_allowed, s_empty, s_one_or_more, s_joined}
 use Rattle.rng_model.specs.matching.Document.{Attribute, Item, Interleaves, done, left, right}
 use Rattle.rng_model.proofs.OneSidedInterleavings.{left_alone, right_alone, left_is_all, right_is_all}
-use Rattle.rng_model.specs.matching.Reading.{Reading}
+use Rattle.rng_model.specs.matching.GrammarMatching.{Reading}
 use Rattle.rng_deriv_laws.specs.plain.Taking.{Takes, Same}
 use Rattle.rng_deriv_laws.specs.plain.Taking as t
 use Rattle.rng_deriv_laws.specs.plain.Derivatives.{is_nullable, is_not_allowed, is_empty, choice_of, group_of, interleave_of, repeat_of}

@@ -1,10 +1,11 @@
 -- After a start tag: an element comes first exactly if the body of some leaf weakly takes its attributes and children.
 use Rattle.std.proofs.Common.{◌≡◌, ℕ, List, [], ◌∷◌, refl, Bool, true, false, cond, inl, inr, ◌⊎◌}
 use Rattle.rng_model.specs.names.Names.{Name}
-use Rattle.rng_model.specs.simple.Tree.{Simple, s_not_allowed, s_empty, s_text, s_leaf, s_attribute, s_list, s_data, s_data_except, s_value, s_one_or_more, s_joined}
+use Rattle.rng_model.specs.simple.Tree.{Simple, s_not_allowed, s_empty, s_text, s_leaf, s_attribute, s_list, s_data, s_data_except, s_value, s_one_or_more}
+use Rattle.rng_model.specs.simple.Tree.{s_joined}
 use Rattle.rng_model.specs.matching.Document.{Attribute, Item, an_element, Items, list_of}
 use Rattle.rng_model.specs.matching.Document as document
-use Rattle.rng_model.specs.matching.Reading.{Reading}
+use Rattle.rng_model.specs.matching.GrammarMatching.{Reading}
 use Rattle.rng_deriv_laws.specs.plain.Reading.{body_of, has_name}
 use Rattle.rng_deriv_laws.specs.plain.Taking.{Takes, WeaklyTakes, WeaklyMatches}
 use Rattle.rng_deriv_laws.specs.plain.Taking as t

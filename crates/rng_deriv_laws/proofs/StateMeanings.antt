@@ -5,7 +5,7 @@ use Rattle.rng_model.specs.names.Lists.{Among, here, there}
 use Rattle.rng_model.specs.names.Names.{Name}
 use Rattle.rng_model.specs.simple.Tree.{Simple}
 use Rattle.rng_model.specs.matching.Document.{Attribute, Item, an_element, list_of}
-use Rattle.rng_model.specs.matching.Reading.{Reading}
+use Rattle.rng_model.specs.matching.GrammarMatching.{Reading}
 use Rattle.rng_deriv_laws.specs.plain.Taking.{Same}
 use Rattle.rng_deriv_laws.specs.plain.Restricted.{IsRestricted, IsRestrictedBody}
 use Rattle.rng_deriv_laws.specs.plain.Blanks.{cons, no_blanks, without_blanks, has_element}
@@ -17,7 +17,8 @@ use Rattle.rng_deriv_laws.specs.plain.States.{Begins, HasRestrictedBodies, IsRes
 use Rattle.rng_model.specs.datatypes.Texts.{is_blank}
 use Rattle.rng_model.specs.documents.PyxTrees.{EventKind, a_start, a_string, an_end}
 use Rattle.rng_deriv_laws.specs.plain.Events.{Matcher, run}
-use Rattle.rng_deriv_laws.specs.plain.Meanings.{Meaning, IsEmpty, IsStart, IsAfterStart, IsAfterString, IsAfterEnd, IsAfterEndOfText, Settles, as_blank, as_text, Runs}
+use Rattle.rng_deriv_laws.specs.plain.Meanings.{Meaning, IsEmpty, IsStart, IsAfterStart, IsAfterString, IsAfterEnd, IsAfterEndOfText, Settles, as_blank}
+use Rattle.rng_deriv_laws.specs.plain.Meanings.{as_text, Runs}
 use Rattle.rng_deriv_laws.specs.plain.Meanings.{stays, at_start, at_string, at_end, at_end_of_text}
 use Rattle.rng_deriv_laws.proofs.Starts.{start_in, start_out}
 use Rattle.rng_deriv_laws.proofs.SamePatterns.{same_back}

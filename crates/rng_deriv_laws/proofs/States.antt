@@ -2,13 +2,14 @@
 use Rattle.std.proofs.Common.{◌≡◌, ℕ, List, [], ◌∷◌, refl, Bool, true, false, cond, inl, inr, ◌⊎◌}
 use Rattle.rng_model.specs.simple.Tree.{Simple, s_not_allowed}
 use Rattle.rng_model.specs.matching.Document.{Item}
-use Rattle.rng_model.specs.matching.Reading.{Reading}
+use Rattle.rng_model.specs.matching.GrammarMatching.{Reading}
 use Rattle.rng_deriv_laws.specs.plain.Taking.{Takes, WeaklyTakes}
 use Rattle.rng_deriv_laws.specs.plain.Taking as t
 use Rattle.rng_deriv_laws.specs.plain.Restricted.{IsRestricted}
 use Rattle.rng_deriv_laws.specs.plain.Blanks.{has_element, without_blanks}
 use Rattle.rng_deriv_laws.specs.plain.Derivatives.{is_not_allowed}
-use Rattle.rng_deriv_laws.specs.plain.States.{State, never, finished, after, either, is_never, after_of, either_of, if_so, Holds, Contains, Begins, IsRestrictedState}
+use Rattle.rng_deriv_laws.specs.plain.States.{State, never, finished, after, either, is_never, after_of, either_of, if_so, Holds, Contains, Begins}
+use Rattle.rng_deriv_laws.specs.plain.States.{IsRestrictedState}
 
 pub none_taken : (g : Reading) (p : Simple ℕ) (ns : List Item) → is_not_allowed p ≡ true → Takes g p [] ns → ⊥
 none_taken g s_not_allowed ns e d = elim d [ ]

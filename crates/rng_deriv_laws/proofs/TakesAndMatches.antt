@@ -2,16 +2,16 @@
 use Rattle.std.proofs.Common.{◌≡◌, ℕ, List, [], refl, sym, ap, ◌∙◌, subst, true, Option, Some, None, slice_get}
 use Rattle.std.proofs.lemmas.List.{append-nil}
 use Rattle.rng_model.specs.names.Names.{Name, NameClass, In}
-use Rattle.rng_model.specs.simple.Tree.{Simple, Tree, choice, group, interleave, as_tree, no_trees, tree_and, one_or_more, s_not_allowed, s_empty, s_text, s_leaf}
+use Rattle.rng_model.specs.simple.Tree.{Simple, Tree, choice, group, interleave, as_tree, no_trees, tree_and, one_or_more, s_not_allowed, s_empty, s_text}
+use Rattle.rng_model.specs.simple.Tree.{s_leaf}
 use Rattle.rng_model.specs.simple.Tree.{s_attribute, s_list, s_data, s_data_except, s_value, s_one_or_more, s_joined}
 use Rattle.rng_model.specs.matching.Document.{Attribute, Item, a_text, an_element, Items, list_of, Interleaves, Shares}
 use Rattle.rng_model.specs.matching.Document as document
 use Rattle.rng_model.specs.matching.Matching as m
-use Rattle.rng_model.specs.matching.GrammarMatching.{is_listed}
+use Rattle.rng_model.specs.matching.GrammarMatching.{is_listed, Reading}
 use Rattle.rng_model.specs.datatypes.Texts.{texts_of}
 use Rattle.rng_model.proofs.OneSidedInterleavings.{left_alone, left_is_all}
 use Rattle.rng_names.proofs.Holding.{holds-Decides}
-use Rattle.rng_model.specs.matching.Reading.{Reading}
 use Rattle.rng_deriv_laws.specs.plain.Reading.{body_of, body_in, named_in, leaves_of}
 use Rattle.rng_deriv_laws.specs.plain.Taking.{Matches, WeaklyMatches, Takes, WeaklyTakes}
 use Rattle.rng_deriv_laws.specs.plain.Taking as t

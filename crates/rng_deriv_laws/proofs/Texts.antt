@@ -6,12 +6,13 @@ use Rattle.rng_model.specs.simple.Tree.{Simple, choice, group, interleave, s_not
 use Rattle.rng_model.specs.simple.Tree.{s_value, s_one_or_more, s_joined}
 use Rattle.rng_model.specs.matching.Document.{Item, a_text, AllTexts, no_texts, text_and}
 use Rattle.rng_model.specs.datatypes.Texts.{is_blank}
-use Rattle.rng_model.specs.matching.Reading.{Reading}
+use Rattle.rng_model.specs.matching.GrammarMatching.{Reading}
 use Rattle.rng_deriv_laws.specs.plain.Taking.{Takes, WeaklyTakes}
 use Rattle.rng_deriv_laws.specs.plain.Taking as t
 use Rattle.rng_deriv_laws.specs.plain.Restricted.{MayBeListed, HasTexts}
 use Rattle.rng_deriv_laws.specs.plain.Blanks.{IsBare, strings_alone}
-use Rattle.rng_deriv_laws.specs.plain.Derivatives.{is_nullable, Way, item_ways, rests_of, in_turn, takes_text, after_string, no_list, after_piece, list_has, after_text}
+use Rattle.rng_deriv_laws.specs.plain.Derivatives.{is_nullable, Way, item_ways, rests_of, in_turn, takes_text, after_string, no_list, after_piece, list_has}
+use Rattle.rng_deriv_laws.specs.plain.Derivatives.{after_text}
 use Rattle.rng_deriv_laws.specs.plain.Derivatives.{has_text}
 use Rattle.rng_deriv_laws.specs.plain.Ways.{TakesItem, EachWay, IsItemLeaf}
 use Rattle.rng_deriv_laws.proofs.Nullable.{null_in, null_out, under_in, under_out}

@@ -4,7 +4,7 @@ use Rattle.std.proofs.lemmas.List.Elements.{All-map, All-tail}
 use Rattle.rng_deriv_laws.proofs.DropBlanks.{both_typed}
 use Rattle.rng_model.specs.simple.Tree.{Simple, choice, group, interleave, s_not_allowed, s_empty, s_text, s_leaf, s_attribute, s_list, s_data, s_data_except}
 use Rattle.rng_model.specs.simple.Tree.{s_value, s_one_or_more, s_joined}
-use Rattle.rng_model.specs.restrictions.ContentTypes.{ContentType, greater}
+use Rattle.rng_model.specs.restrictions.Contents.{ContentType, greater}
 use Rattle.rng_deriv_laws.specs.plain.Restricted.{IsRestricted, IsTyped, content_type, type_of_choice}
 use Rattle.rng_deriv_laws.proofs.KeptRestrictions.{IsRestricted-hereditary}
 use Rattle.rng_deriv_table.specs.views.Choices.{IsAlternativeOf}

@@ -2,7 +2,7 @@
 use Rattle.std.proofs.Common.{◌≡◌, Option, Some, None, refl, sym, ap, ◌∙◌}
 use Rattle.std.proofs.lemmas.Option.{same_Some}
 use Rattle.rng_deriv_laws.proofs.Restricted.{greater_itself}
-use Rattle.rng_model.specs.restrictions.ContentTypes.{ContentType, empty_content, complex_content, simple_content, greater}
+use Rattle.rng_model.specs.restrictions.Contents.{ContentType, empty_content, complex_content, simple_content, greater}
 use Rattle.rng_deriv_laws.specs.plain.Restricted.{type_of_both, type_of_choice}
 
 pub greater_simple : (u : ContentType) → greater u simple_content ≡ simple_content

@@ -3,10 +3,10 @@ use Rattle.std.proofs.Common.{◌≡◌, ◌⊎◌, ℕ, ◌+◌, ◌<◌, List,
 use Rattle.std.proofs.lemmas.Option.{same_Some}
 use Rattle.rng_deriv_laws.proofs.Restricted.{greater_itself}
 use Rattle.rng_model.specs.simple.Tree.{Simple, interleave, s_joined}
-use Rattle.rng_model.specs.restrictions.ContentTypes.{ContentType, greater}
+use Rattle.rng_model.specs.restrictions.Contents.{ContentType, greater}
 use Rattle.rng_model.specs.simple.Table.{Table}
 use Rattle.rng_deriv_laws.specs.plain.Derivatives.{joined_of}
-use Rattle.rng_model.specs.matching.Reading.{Reading}
+use Rattle.rng_model.specs.matching.GrammarMatching.{Reading}
 use Rattle.rng_deriv_laws.specs.plain.Restricted.{HasNoAttribute, HasTexts, MayBeListed, RepeatsWell, content_type, type_of_both}
 use Rattle.rng_deriv_laws.specs.plain.Taking.{Same}
 use Rattle.rng_deriv_laws.proofs.SamePatterns.{interleave_associative, interleave_commutative, same, same_back, same_interleave, same_through}

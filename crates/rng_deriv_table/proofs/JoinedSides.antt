@@ -1,7 +1,7 @@
 -- A choice of two groups or two interleaves that have a side in common.
 use Rattle.std.proofs.Common.{◌≡◌, ◌⊎◌, ◌↔◌, inl, inr, ⊎_elim, ◌∷◌, [], ℕ, List, arith, refl, sym, subst}
 use Rattle.rng_model.specs.matching.Document.{Attribute, Item}
-use Rattle.rng_model.specs.matching.Reading.{Reading}
+use Rattle.rng_model.specs.matching.GrammarMatching.{Reading}
 use Rattle.rng_model.specs.simple.Tree.{Simple, Connector, group, interleave, s_joined}
 use Rattle.rng_deriv_laws.specs.plain.Derivatives.{joined_of}
 use Rattle.rng_deriv_laws.specs.plain.Restricted.{HasTexts, IsRestricted, MayBeListed, RepeatsWell}

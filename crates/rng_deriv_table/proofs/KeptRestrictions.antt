@@ -9,19 +9,21 @@ use Rattle.std.proofs.lemmas.Option.{same_Some}
 use Rattle.rng_deriv_laws.proofs.Restricted.{greater_itself}
 use Rattle.rng_model.specs.simple.Tree.{Simple, Connector, choice, group, interleave, s_not_allowed, s_empty}
 use Rattle.rng_model.specs.simple.Tree.{s_one_or_more, s_joined}
-use Rattle.rng_model.specs.restrictions.ContentTypes.{ContentType, empty_content, greater}
+use Rattle.rng_model.specs.restrictions.Contents.{ContentType, empty_content, greater}
 use Rattle.rng_model.specs.simple.Table.{Table, tree_at, tree_over}
 use Rattle.rng_model.specs.simple.TableRules.{AreChildrenBelow}
 use Rattle.rng_model.specs.declared.simple.PatternId.{PatternId}
 use Rattle.rng_model.specs.declared.simple.Simple as rows
 use Rattle.rng_model.specs.declared.simple.Simple.TheVariants as simple
 use Rattle.rng_deriv_laws.specs.plain.Derivatives.{is_empty, is_not_allowed, joined_of, repeat_of}
-use Rattle.rng_deriv_laws.specs.plain.Restricted.{HasNoAttribute, HasNoneGrouped, RepeatsWell, HasTexts, MayBeListed, content_type, type_of_both, type_of_choice}
+use Rattle.rng_deriv_laws.specs.plain.Restricted.{HasNoAttribute, HasNoneGrouped, RepeatsWell, HasTexts, MayBeListed, content_type, type_of_both}
+use Rattle.rng_deriv_laws.specs.plain.Restricted.{type_of_choice}
 use Rattle.rng_deriv_laws.specs.plain.Restricted.{IsTyped}
 use Rattle.rng_deriv_laws.proofs.KeptRestrictions.{none_is_ungrouped}
 use Rattle.rng_deriv_table.specs.declared.uses.Use.{Use}
 use Rattle.rng_deriv_table.specs.plain.AskedFor.{HasNumber, HasPart, IsAskedFor, IsNoChoice, IsOwn}
-use Rattle.rng_deriv_table.specs.plain.Kept.{AreKeptAt, AreRestrictedAlike, HasContentWithin, HasNoLists, IsChoiceOf, IsChoiceTaken, IsInterleaveOf, IsMadeOver, IsRegrouped}
+use Rattle.rng_deriv_table.specs.plain.Kept.{AreKeptAt, AreRestrictedAlike, HasContentWithin, HasNoLists, IsChoiceOf, IsChoiceTaken, IsInterleaveOf, IsMadeOver}
+use Rattle.rng_deriv_table.specs.plain.Kept.{IsRegrouped}
 use Rattle.rng_deriv_table.specs.plain.Kept.{IsTakenAs, KeepsRestrictions, by_members, by_parts, unnumbered}
 use Rattle.rng_deriv_table.specs.views.Node.{Node}
 use Rattle.rng_deriv_table.specs.views.PatternTable.{Longer}

@@ -1,13 +1,14 @@
 -- Groups with copies of an option, nested in another way: they take the same, and obey the same restrictions.
-use Rattle.std.proofs.Common.{◌≡◌, ◌∙◌, ℕ, ◌<◌, ◌≤◌, inl, Bool, true, false, List, [], ◌∷◌, ◌++◌, Option, Some, None, cond, length, map, slice_get, slice_index_or, refl, sym, ap, subst, arith}
+use Rattle.std.proofs.Common.{◌≡◌, ◌∙◌, ℕ, ◌<◌, ◌≤◌, inl, Bool, true, false, List, [], ◌∷◌, ◌++◌, Option, Some, None, cond, length, map, slice_get}
+use Rattle.std.proofs.Common.{slice_index_or, refl, sym, ap, subst, arith}
 use Rattle.std.proofs.lemmas.List.{append-nil}
 use Rattle.std.specs.HashMap.{HashMap, IsEmpty, get}
 use Rattle.std.specs.Map.{lookup}
 use Rattle.std.proofs.lemmas.Option.{none-some, same_Some}
 use Rattle.rng_deriv_laws.proofs.Restricted.{greater_itself}
 use Rattle.rng_model.specs.matching.Document.{Attribute, Item, Interleaves, done}
-use Rattle.rng_model.specs.matching.Reading.{Reading}
-use Rattle.rng_model.specs.restrictions.ContentTypes.{ContentType, empty_content, complex_content, simple_content}
+use Rattle.rng_model.specs.matching.GrammarMatching.{Reading}
+use Rattle.rng_model.specs.restrictions.Contents.{ContentType, empty_content, complex_content, simple_content}
 use Rattle.rng_model.specs.simple.Table.{Table}
 use Rattle.rng_model.specs.simple.Tree.{Simple, choice, group, s_joined}
 use Rattle.rng_model.proofs.OneSidedInterleavings.{left_alone, right_alone}

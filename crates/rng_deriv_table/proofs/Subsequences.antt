@@ -8,7 +8,7 @@ use Rattle.rng_model.specs.matching.Document as document
 use Rattle.rng_model.specs.names.Names.{Name}
 use Rattle.rng_model.specs.datatypes.Texts.{is_blank}
 use Rattle.rng_model.proofs.OneSidedInterleavings.{left_is_all, right_is_all}
-use Rattle.rng_model.specs.matching.Reading.{Reading}
+use Rattle.rng_model.specs.matching.GrammarMatching.{Reading}
 use Rattle.rng_deriv_laws.specs.plain.Taking.{Takes}
 use Rattle.rng_deriv_laws.specs.plain.Taking as t
 use Rattle.rng_deriv_laws.specs.plain.Blanks.{IsBare, cons, strings_alone, no_blanks}

@@ -8,7 +8,7 @@ use Rattle.rng_model.specs.simple.Tree.{Simple, s_empty}
 use Rattle.rng_model.specs.matching.Document.{Attribute, Item}
 use Rattle.rng_model.specs.simple.Table.{Table}
 use Rattle.rng_model.proofs.OneSidedInterleavings.{left_alone, right_alone}
-use Rattle.rng_model.specs.matching.Reading.{Reading}
+use Rattle.rng_model.specs.matching.GrammarMatching.{Reading}
 use Rattle.rng_deriv_laws.specs.plain.Taking.{Takes}
 use Rattle.rng_deriv_laws.specs.plain.Taking as taking
 use Rattle.rng_deriv_laws.proofs.SamePatterns.{on_group, on_interleave}

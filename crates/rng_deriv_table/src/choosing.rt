@@ -7,7 +7,7 @@ ghost use Rattle.rng_model.specs.matching.Document.{Attribute, Item};
 ghost use Rattle.rng_model.specs.simple.Table.{Table};
 ghost use Rattle.rng_model.specs.simple.Tree.{Simple, s_not_allowed};
 ghost use Rattle.rng_deriv_laws.specs.plain.Restricted.{IsRestricted, IsTyped};
-ghost use Rattle.rng_model.specs.matching.Reading.{Reading};
+ghost use Rattle.rng_model.specs.matching.GrammarMatching.{Reading};
 ghost use Rattle.rng_deriv_laws.specs.plain.Taking.{Takes};
 ghost use Rattle.rng_deriv_table.specs.views.Choices.{IsAbsorbedBy, IsAllowed, IsAlternativeOf, IsOnlyMember, SomeTakes};
 ghost use Rattle.rng_deriv_table.specs.views.PatternTable.{Longer};

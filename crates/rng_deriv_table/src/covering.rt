@@ -3,7 +3,7 @@ ghost use Rattle.std.specs.Prelude.{◌≡◌, ◌⊎◌, ◌<◌, ◌++◌, ◌
 ghost use Rattle.std.specs.List.{Contains};
 ghost use Rattle.rng_model.specs.matching.Document.{Attribute, Item};
 ghost use Rattle.rng_model.specs.simple.Table.{Table};
-ghost use Rattle.rng_model.specs.matching.Reading.{Reading};
+ghost use Rattle.rng_model.specs.matching.GrammarMatching.{Reading};
 ghost use Rattle.rng_deriv_laws.specs.plain.Taking.{Takes};
 ghost use Rattle.rng_deriv_table.specs.views.Choices.{Covers, SomeTakes};
 ghost use Rattle.rng_deriv_table.specs.views.Trees.{tree_of};

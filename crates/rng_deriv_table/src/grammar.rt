@@ -2,7 +2,7 @@
 ghost use Rattle.std.specs.Prelude.{◌≡◌, ◌⊎◌, ◌<◌, ◌≤◌, All, IfOk, OnOk, Some, length, slice_get};
 ghost use Rattle.rng_model.specs.simple.Table.{Table};
 ghost use Rattle.rng_model.specs.simple.TableRules.{AreChildrenBelow};
-ghost use Rattle.rng_model.specs.matching.Reading.{Reading};
+ghost use Rattle.rng_model.specs.matching.GrammarMatching.{Reading};
 ghost use Rattle.rng_deriv_laws.specs.plain.Taking.{Same};
 ghost use Rattle.rng_deriv_table.specs.plain.Facts.{members_of};
 ghost use Rattle.rng_deriv_table.specs.plain.AskedFor.{IsNoChoice};

@@ -4,7 +4,7 @@ ghost use Rattle.rng_model.specs.simple.Table.{Table};
 ghost use Rattle.rng_model.specs.simple.Tree.{Connector, group, interleave, s_joined, s_leaf, s_one_or_more};
 ghost use Rattle.rng_deriv_laws.specs.plain.Derivatives as tree;
 ghost use Rattle.rng_deriv_laws.specs.plain.Derivatives.{joined_of, repeat_of};
-ghost use Rattle.rng_model.specs.matching.Reading.{Reading};
+ghost use Rattle.rng_model.specs.matching.GrammarMatching.{Reading};
 ghost use Rattle.rng_deriv_laws.specs.plain.Taking.{Same};
 ghost use Rattle.rng_deriv_table.specs.views.PatternTable.{Adds, Longer};
 ghost use Rattle.rng_deriv_table.specs.plain.Reduced.{MayBeSide};

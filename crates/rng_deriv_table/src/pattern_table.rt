@@ -3,7 +3,7 @@ ghost use Rattle.std.specs.Prelude.{◌≡◌, ◌↔◌, ◌++◌, ◌∷◌, [
 ghost use Rattle.std.specs.List.{list_any, list_all};
 ghost use Rattle.rng_model.specs.simple.Table.{Table};
 ghost use Rattle.rng_model.specs.simple.Tree.{s_not_allowed, s_empty};
-ghost use Rattle.rng_model.specs.matching.Reading.{Reading};
+ghost use Rattle.rng_model.specs.matching.GrammarMatching.{Reading};
 ghost use Rattle.rng_deriv_laws.specs.plain.Taking.{Takes};
 ghost use Rattle.rng_deriv_table.specs.plain.Copies.{AreCopies, IsKeptLast, IsUnit};
 ghost use Rattle.rng_deriv_table.specs.views.Node.{node_of};

@@ -6,8 +6,7 @@ use Rattle.std.proofs.lemmas.List.{get_or-map, length-map, take_more}
 use Rattle.std.proofs.lemmas.List.Elements.{All-contains, Contains-append_cases, Contains-append_left, Contains-push, Contains-push_cases}
 use Rattle.rng_model.specs.simple.Tree.{Simple, choice, s_joined}
 use Rattle.rng_model.specs.matching.Document.{Attribute, Item}
-use Rattle.rng_model.specs.matching.GrammarReading.{reading_of}
-use Rattle.rng_model.specs.matching.Reading.{Reading}
+use Rattle.rng_model.specs.matching.GrammarMatching.{reading_of, Reading}
 use Rattle.rng_model.specs.simple.Table.{Table}
 use Rattle.rng_model.specs.declared.document.Attr.{Attr}
 use Rattle.rng_deriv_laws.specs.plain.Restricted.{IsRestricted}

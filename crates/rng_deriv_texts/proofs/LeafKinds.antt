@@ -1,16 +1,17 @@
 -- Whether leaves take a string or an attribute, sort by sort.
 use Rattle.std.proofs.Common.{Bor, ◌≡◌, ◌∙◌, ℕ, ◌↔◌, List, [], ◌∷◌, map, refl, sym, ap, subst, Bool, true, false, not, ◌&&◌, Some}
-use Rattle.rng_model.specs.simple.Tree.{Simple, Datatype, s_not_allowed, s_empty, s_text, s_leaf, s_attribute, s_list, s_data, s_data_except, s_value, s_one_or_more}
+use Rattle.rng_model.specs.simple.Tree.{Simple, Datatype, s_not_allowed, s_empty, s_text, s_leaf, s_attribute, s_list, s_data, s_data_except, s_value}
+use Rattle.rng_model.specs.simple.Tree.{s_one_or_more}
 use Rattle.rng_model.specs.simple.Tree.{s_joined}
 use Rattle.rng_model.specs.names.Names.{NameClass, some_of}
 use Rattle.rng_model.specs.matching.Document.{Item, a_text, no_texts, text_and}
 use Rattle.rng_model.specs.simple.Table.{Table, tree_at}
-use Rattle.rng_model.specs.documents.DocumentViews.{attribute_of}
+use Rattle.rng_model.specs.documents.EventViews.{attribute_of}
 use Rattle.rng_model.specs.declared.document.Attr.{Attr}
 use Rattle.rng_model.specs.declared.simple.Simple as row
 use Rattle.rng_model.specs.declared.simple.Simple.TheVariants as simple
 use Rattle.rng_names.specs.plain.Holding.{holds}
-use Rattle.rng_model.specs.matching.Reading.{Reading}
+use Rattle.rng_model.specs.matching.GrammarMatching.{Reading}
 use Rattle.rng_deriv_laws.specs.plain.Taking.{Takes, WeaklyTakes}
 use Rattle.rng_deriv_laws.specs.plain.Taking as t
 use Rattle.rng_deriv_laws.specs.plain.Restricted.{IsRestricted, MayBeExcepted, MayBeListed}
@@ -27,7 +28,8 @@ use Rattle.rng_deriv_ways.specs.plain.Kinds.{Obeys}
 use Rattle.rng_deriv_texts.specs.declared.first.First.TheVariants as firsts
 use Rattle.rng_deriv_ways.specs.declared.way.Place.{Place}
 use Rattle.rng_deriv_ways.specs.declared.way.Place.TheVariants as places
-use Rattle.rng_deriv_ways.proofs.PatternNodes.{IsAttribute, IsNoLeaf, IsStringLeaf, a_datatype, a_list, a_value, an_attribute, an_except, compound_over, found_attribute}
+use Rattle.rng_deriv_ways.proofs.PatternNodes.{IsAttribute, IsNoLeaf, IsStringLeaf, a_datatype, a_list, a_value, an_attribute, an_except, compound_over}
+use Rattle.rng_deriv_ways.proofs.PatternNodes.{found_attribute}
 use Rattle.rng_deriv_ways.proofs.PatternNodes.{found_string}
 
 -- ---- strings

@@ -7,7 +7,7 @@ use Rattle.rng_model.specs.matching.Document.{a_text, no_texts, text_and}
 use Rattle.rng_model.specs.simple.Table.{Table, tree_at}
 use Rattle.rng_model.specs.datatypes.Texts.{is_blank}
 use Rattle.rng_model.specs.declared.simple.PatternId.{PatternId}
-use Rattle.rng_model.specs.matching.Reading.{Reading}
+use Rattle.rng_model.specs.matching.GrammarMatching.{Reading, reading_of}
 use Rattle.rng_deriv_laws.specs.plain.Taking.{Takes, WeaklyTakes, Same}
 use Rattle.rng_deriv_laws.specs.plain.Taking as t
 use Rattle.rng_deriv_laws.specs.plain.Restricted.{IsRestricted, MayBeListed}
@@ -20,7 +20,6 @@ use Rattle.rng_deriv_table.specs.views.Trees.{tree_of}
 use Rattle.rng_deriv_table.specs.declared.pattern.PatternNumber.{PatternNumber}
 use Rattle.rng_deriv_texts.specs.plain.After.{IsLeft}
 use Rattle.rng_deriv_ways.specs.plain.Kinds.{Obeys}
-use Rattle.rng_model.specs.matching.GrammarReading.{reading_of}
 use Rattle.rng_deriv_ways.specs.plain.Starting.{IsReady}
 use Rattle.rng_deriv_texts.specs.declared.first.First.TheVariants as firsts
 use Rattle.rng_deriv_ways.specs.declared.way.Place.TheVariants as places

@@ -1,23 +1,23 @@
 -- Ways by the texts of values: what an index leaves out takes nothing.
-use Rattle.std.proofs.Common.{◌≡◌, ◌∙◌, ◌↔◌, ◌⊎◌, inl, inr, ⊎_elim, ℕ, zero, suc, ◌<◌, List, [], ◌∷◌, ◌++◌, length, Bool, true, false, cond, Bor, Contains, Option, Some, None}
+use Rattle.std.proofs.Common.{◌≡◌, ◌∙◌, ◌↔◌, ◌⊎◌, inl, inr, ⊎_elim, ℕ, zero, suc, ◌<◌, List, [], ◌∷◌, ◌++◌, length, Bool, true, false, cond, Bor, Contains}
+use Rattle.std.proofs.Common.{Option, Some, None}
 use Rattle.std.proofs.Common.{All, String, Global, string_bytes, refl, sym, ap, subst, arith, rules}
 use Rattle.std.specs.Prelude.{IfSome, unwrap_or}
 use Rattle.std.specs.HashMap.{HashMap, get_by_text}
 use Rattle.std.specs.Map.{lookup}
 use Rattle.std.specs.Str.{bytes_eq}
-use Rattle.std.proofs.lemmas.List.Elements.{All-contains, Contains-push, Contains-push_cases, Contains-append_cases, Contains-append_left, Contains-append_right, Contains-get_or}
+use Rattle.std.proofs.lemmas.List.Elements.{All-contains, Contains-push, Contains-push_cases, Contains-append_cases, Contains-append_left}
+use Rattle.std.proofs.lemmas.List.Elements.{Contains-append_right, Contains-get_or}
 use Rattle.std.proofs.lemmas.Slice.Eq.{bytes_eq-Decides}
 use Rattle.std.proofs.lemmas.Option.{same_Some, none-some}
 use Rattle.rng_model.proofs.Members.{not_in_none}
 use Rattle.smallvec.specs.SmallVec.{SmallVec}
-use Rattle.rng_model.specs.datatypes.Blanks.{collapse}
+use Rattle.rng_model.specs.datatypes.Texts.{collapse, are_equal, text_if}
 use Rattle.rng_model.specs.datatypes.Datatypes.{Meaning, plain_string, plain_token, xsd_string, xsd_token, xsd_ncname, xsd_nmtoken}
 use Rattle.rng_model.specs.datatypes.Facets.{Lengths, fits}
 use Rattle.rng_model.specs.datatypes.Datatypes.{known_equates, meaning_of}
-use Rattle.rng_model.specs.datatypes.Values.{are_equal, text_if}
 use Rattle.rng_model.specs.matching.Document.{Attribute, Item, a_text}
-use Rattle.rng_model.specs.matching.GrammarReading.{reading_of}
-use Rattle.rng_model.specs.matching.Reading.{Reading}
+use Rattle.rng_model.specs.matching.GrammarMatching.{reading_of, Reading}
 use Rattle.rng_model.specs.names.Lists.{Among, here, there}
 use Rattle.rng_model.specs.simple.Table.{Table}
 use Rattle.rng_model.specs.simple.Tree.{Simple, Datatype, s_value}

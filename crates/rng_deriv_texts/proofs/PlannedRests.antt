@@ -1,5 +1,6 @@
 -- What is left of a pattern by its plan.
-use Rattle.std.proofs.Common.{◌≡◌, ◌∙◌, ◌⊎◌, inl, inr, ⊎_elim, ℕ, zero, suc, ◌<◌, List, [], ◌∷◌, ◌++◌, length, All, Bool, true, false, Contains, Bor, Some, string_bytes}
+use Rattle.std.proofs.Common.{◌≡◌, ◌∙◌, ◌⊎◌, inl, inr, ⊎_elim, ℕ, zero, suc, ◌<◌, List, [], ◌∷◌, ◌++◌, length, All, Bool, true, false, Contains, Bor, Some}
+use Rattle.std.proofs.Common.{string_bytes}
 use Rattle.std.proofs.Common.{slice_get, refl, sym, ap, subst, arith}
 use Rattle.std.specs.Prelude.{IfSome}
 use Rattle.std.proofs.lemmas.List.Elements.{All-append}
@@ -7,7 +8,7 @@ use Rattle.std.proofs.lemmas.Option.{get_or_from_slice_get, slice_get_within, no
 use Rattle.smallvec.specs.SmallVec.{SmallVec}
 use Rattle.rng_names.specs.plain.Keys.{Keys, KeysServe, key_of}
 use Rattle.rng_names.specs.declared.name_keys.NameKey.{NameKey}
-use Rattle.rng_model.specs.matching.GrammarReading.{reading_of}
+use Rattle.rng_model.specs.matching.GrammarMatching.{reading_of}
 use Rattle.rng_model.specs.names.NameViews.{name_of}
 use Rattle.rng_model.specs.simple.Table.{Table}
 use Rattle.rng_model.specs.simple.Tree.{Simple}
@@ -21,7 +22,8 @@ use Rattle.rng_deriv_table.specs.declared.pattern.PatternNumber.{PatternNumber}
 use Rattle.rng_deriv_table.proofs.Trees.{Longer-length, Longer-refl, tree_stays}
 use Rattle.rng_deriv_ways.specs.plain.Kinds.{Obeys}
 use Rattle.rng_deriv_ways.specs.plain.Ways.{AreInside, AreWaysOf, Offers}
-use Rattle.rng_deriv_ways.specs.views.Plans.{AreRestsBy, IsChoiceOf, IsIndex, IsKindAsked, IsOutcome, IsPlan, IsPlanFor, no_ways, number_of, one_left_out, one_taken}
+use Rattle.rng_deriv_ways.specs.views.Plans.{AreRestsBy, IsChoiceOf, IsIndex, IsKindAsked, IsOutcome, IsPlan, IsPlanFor, no_ways, number_of, one_left_out}
+use Rattle.rng_deriv_ways.specs.views.Plans.{one_taken}
 use Rattle.rng_deriv_ways.specs.declared.plans.Asked.{Asked}
 use Rattle.rng_deriv_ways.specs.declared.plans.Asked.TheVariants as asked
 use Rattle.rng_deriv_ways.specs.declared.plans.Outcome.{Outcome}

@@ -7,11 +7,11 @@ use Rattle.rng_model.specs.names.Lists.{Among, here, there}
 use Rattle.rng_model.specs.simple.Tree.{Simple, s_not_allowed}
 use Rattle.rng_model.specs.matching.Document.{Attribute, Item, a_text}
 use Rattle.rng_model.specs.simple.Table.{Table}
-use Rattle.rng_model.specs.documents.DocumentViews.{attribute_of}
+use Rattle.rng_model.specs.documents.EventViews.{attribute_of}
 use Rattle.rng_model.specs.names.NameViews.{name_of}
 use Rattle.rng_model.specs.declared.document.Attr.{Attr}
 use Rattle.rng_model.specs.declared.name.Name.{Name}
-use Rattle.rng_model.specs.matching.Reading.{Reading}
+use Rattle.rng_model.specs.matching.GrammarMatching.{Reading, reading_of}
 use Rattle.rng_deriv_laws.specs.plain.Taking.{Takes}
 use Rattle.rng_deriv_laws.specs.plain.Derivatives.{Way}
 use Rattle.rng_deriv_laws.specs.plain.Restricted.{IsRestricted}
@@ -29,7 +29,6 @@ use Rattle.rng_deriv_table.proofs.Choices.{only_one}
 use Rattle.rng_deriv_table.proofs.Trees.{Longer-length, Longer-trans, tree_stays}
 use Rattle.rng_deriv_texts.specs.plain.After.{AreFor, AreRests, AreThoseBehind, AreWaysFor, IsLeafFor, IsLeft, TellsTaken, attributes_of, items_of, place_of}
 use Rattle.rng_deriv_ways.specs.plain.Kinds.{Obeys, rest_of_leaf}
-use Rattle.rng_model.specs.matching.GrammarReading.{reading_of}
 use Rattle.rng_deriv_ways.specs.plain.Ways.{AreWaysOf, IsInside, Offers, way_by, ways_by}
 use Rattle.rng_deriv_texts.specs.declared.first.First.{First}
 use Rattle.rng_deriv_texts.specs.declared.first.First.TheVariants as firsts

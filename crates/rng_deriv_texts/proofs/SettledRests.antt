@@ -7,7 +7,7 @@ use Rattle.std.proofs.lemmas.Bool.{or_left, or_right, or_cases}
 use Rattle.rng_model.proofs.Members.{not_in_none}
 use Rattle.rng_model.specs.simple.Tree.{Simple, s_not_allowed}
 use Rattle.rng_model.specs.matching.Document.{Attribute, Item, a_text, no_texts, text_and}
-use Rattle.rng_model.specs.matching.GrammarReading.{reading_of}
+use Rattle.rng_model.specs.matching.GrammarMatching.{reading_of}
 use Rattle.rng_model.specs.simple.Table.{Table}
 use Rattle.rng_deriv_laws.specs.plain.Blanks.{strings_alone}
 use Rattle.rng_deriv_laws.specs.plain.Restricted.{IsRestricted}

@@ -3,10 +3,9 @@ use Rattle.std.proofs.Common.{◌≡◌, ℕ, ◌<◌, ◌≤◌, ◌+◌, ◌�
 use Rattle.std.proofs.lemmas.List.{drop_all, drop_more}
 use Rattle.rng_model.specs.simple.Tree.{Simple, s_not_allowed, s_empty, s_text, s_leaf, s_attribute, s_list, s_data, s_data_except}
 use Rattle.rng_model.specs.simple.Tree.{s_value, s_one_or_more, s_joined}
-use Rattle.rng_model.specs.matching.Document.{Attribute, Item}
-use Rattle.rng_model.specs.matching.WellFormed.{Distinct, one_more}
+use Rattle.rng_model.specs.matching.Document.{Attribute, Item, Distinct, one_more}
 use Rattle.rng_model.specs.simple.Table.{Table}
-use Rattle.rng_model.specs.documents.DocumentViews.{attribute_of}
+use Rattle.rng_model.specs.documents.EventViews.{attribute_of}
 use Rattle.rng_model.specs.declared.document.Attr.{Attr}
 use Rattle.rng_deriv_laws.specs.plain.Taking.{Takes}
 use Rattle.rng_deriv_laws.specs.plain.Restricted.{HasNoAttribute, IsRestricted, RepeatsWell}
@@ -19,7 +18,7 @@ use Rattle.rng_deriv_table.specs.declared.pattern.PatternNumber.{PatternNumber}
 use Rattle.rng_deriv_table.proofs.Trees.{Longer-refl, Longer-trans}
 use Rattle.rng_deriv_texts.specs.plain.After.{IsLeft, IsLeftOfTag}
 use Rattle.rng_deriv_ways.specs.plain.Closing.{IsBareOfAttributes, IsClosed}
-use Rattle.rng_model.specs.matching.GrammarReading.{reading_of}
+use Rattle.rng_model.specs.matching.GrammarMatching.{reading_of}
 use Rattle.rng_deriv_texts.specs.declared.first.First.TheVariants as firsts
 
 -- a pattern without attributes repeats none

@@ -1,10 +1,10 @@
 // What is left of a pattern after a string, and after attributes.
 ghost use Rattle.std.specs.Prelude.{◌≡◌, ◌↔◌, ◌<◌, true, [], ◌∷◌, All, IfOk, IfSome, OnOk, length, map, slice_get};
 ghost use Rattle.std.specs.List.{Contains};
-ghost use Rattle.rng_model.specs.datatypes.Blanks.{pieces};
-ghost use Rattle.rng_model.specs.documents.DocumentViews.{attribute_of};
+ghost use Rattle.rng_model.specs.datatypes.Texts.{pieces};
+ghost use Rattle.rng_model.specs.documents.EventViews.{attribute_of};
 ghost use Rattle.rng_model.specs.matching.Document.{a_text};
-ghost use Rattle.rng_model.specs.matching.GrammarReading.{reading_of};
+ghost use Rattle.rng_model.specs.matching.GrammarMatching.{reading_of};
 ghost use Rattle.rng_model.specs.simple.Table.{tree_at};
 ghost use Rattle.rng_deriv_laws.specs.plain.LevelStates.{IsAfterText};
 ghost use Rattle.rng_deriv_laws.specs.plain.Restricted.{IsRestricted, MayBeListed};

@@ -1,7 +1,7 @@
 // Alternatives that have sides in common.
 ghost use Rattle.std.specs.Prelude.{◌≡◌, ◌↔◌, ◌<◌, true, All, IfOk, List, OnOk, length};
 ghost use Rattle.rng_model.specs.matching.Document.{Attribute, Item};
-ghost use Rattle.rng_model.specs.matching.Reading.{Reading};
+ghost use Rattle.rng_model.specs.matching.GrammarMatching.{Reading};
 ghost use Rattle.rng_model.specs.simple.Table.{Table};
 ghost use Rattle.rng_deriv_laws.specs.plain.Restricted.{IsRestricted};
 ghost use Rattle.rng_deriv_laws.specs.plain.Taking.{Same, Takes};

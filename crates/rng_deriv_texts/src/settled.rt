@@ -1,7 +1,7 @@
 // What is left of a pattern where its ways are known and no more than two rests are left.
 ghost use Rattle.std.specs.Prelude.{◌≡◌, ◌↔◌, ◌<◌, true, [], ◌∷◌, IfSome, List, length, slice_get};
 ghost use Rattle.rng_model.specs.matching.Document.{a_text};
-ghost use Rattle.rng_model.specs.matching.GrammarReading.{reading_of};
+ghost use Rattle.rng_model.specs.matching.GrammarMatching.{reading_of};
 ghost use Rattle.rng_model.specs.names.NameViews.{name_of};
 ghost use Rattle.rng_names.specs.plain.Keys.{name_at};
 ghost use Rattle.rng_model.specs.simple.Table.{tree_at};

@@ -4,7 +4,7 @@ ghost use Rattle.rng_model.specs.simple.Table.{tree_at};
 ghost use Rattle.rng_deriv_laws.specs.plain.Derivatives.{is_excepted};
 ghost use Rattle.rng_deriv_ways.specs.views.Datatypes.{AreDatatypesOf};
 ghost use Rattle.rng_deriv_texts.specs.plain.Excepts.{AreWithout, IsChoiceAt};
-ghost use Rattle.rng_model.specs.matching.GrammarReading.{reading_of};
+ghost use Rattle.rng_model.specs.matching.GrammarMatching.{reading_of};
 
 use rng_deriv_ways::Datatypes;
 use rng_model::{OutOfMemory, PatternId, Simple, SimpleGrammar};

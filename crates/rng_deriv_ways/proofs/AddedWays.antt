@@ -11,7 +11,7 @@ use Rattle.rng_deriv_laws.proofs.SamePatterns.{none_is}
 use Rattle.rng_model.specs.simple.Tree.{Simple, choice}
 use Rattle.rng_model.specs.simple.Tree.{s_joined}
 use Rattle.rng_model.specs.simple.Table.{Table}
-use Rattle.rng_model.specs.matching.Reading.{Reading}
+use Rattle.rng_model.specs.matching.GrammarMatching.{Reading}
 use Rattle.rng_deriv_laws.specs.plain.Taking.{Same}
 use Rattle.rng_deriv_laws.specs.plain.Derivatives.{Way, behind, is_not_allowed, joined_of}
 use Rattle.rng_deriv_table.specs.views.Choices.{IsAlternativeOf}

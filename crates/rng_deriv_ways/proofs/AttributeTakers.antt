@@ -14,7 +14,7 @@ use Rattle.rng_model.specs.names.NameViews.{class_of, name_of}
 use Rattle.rng_model.specs.declared.simple.Simple as row
 use Rattle.rng_model.specs.declared.simple.Simple.TheVariants as simple
 use Rattle.rng_names.specs.plain.Holding.{holds}
-use Rattle.rng_model.specs.matching.Reading.{Reading}
+use Rattle.rng_model.specs.matching.GrammarMatching.{Reading, reading_of}
 use Rattle.rng_deriv_laws.specs.plain.Taking.{Takes}
 use Rattle.rng_deriv_laws.specs.plain.Taking as t
 use Rattle.rng_deriv_table.specs.plain.Facts.{IsWithin, joined_spans}
@@ -29,7 +29,6 @@ use Rattle.rng_deriv_table.proofs.KnownFacts.{joined_first, joined_second}
 use Rattle.rng_deriv_table.proofs.MemberSkips.{skips_longer}
 use Rattle.rng_deriv_table.proofs.Trees.{Longer-length, tree_stays}
 use Rattle.rng_deriv_ways.proofs.PatternNodes.{IsStringLeaf, a_datatype, a_list, a_value, an_except, found_string}
-use Rattle.rng_model.specs.matching.GrammarReading.{reading_of}
 use Rattle.rng_deriv_ways.specs.plain.Takers.{AreAttributes, AreAttributesTold, AreCandidates, AreSpansOf, HasAttribute, IsAttributeAt, IsSpanOf, IsTold}
 use Rattle.rng_deriv_ways.specs.plain.Ways.{AreWaysOf}
 use Rattle.rng_deriv_ways.specs.declared.takers.Takers.{Takers}

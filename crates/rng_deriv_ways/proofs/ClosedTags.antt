@@ -10,7 +10,7 @@ use Rattle.rng_model.specs.matching.Document.{Attribute, Item}
 use Rattle.rng_model.specs.simple.Table.{Table}
 use Rattle.rng_model.specs.simple.Tree.{Simple, s_not_allowed, s_empty, s_text, s_leaf, s_attribute, s_list, s_data, s_data_except}
 use Rattle.rng_model.specs.simple.Tree.{s_value, s_one_or_more, s_joined}
-use Rattle.rng_model.specs.matching.Reading.{Reading}
+use Rattle.rng_model.specs.matching.GrammarMatching.{Reading}
 use Rattle.rng_deriv_laws.specs.plain.Taking.{Same, Takes}
 use Rattle.rng_deriv_laws.specs.plain.Restricted.{HasTexts, MayBeListed}
 use Rattle.rng_deriv_laws.specs.plain.Derivatives.{closed, joined_of, repeat_of}
@@ -28,7 +28,8 @@ use Rattle.rng_deriv_ways.specs.plain.Closing.{IsBareOfAttributes, IsClosed}
 use Rattle.rng_deriv_ways.specs.plain.Kinds.{IsAlone, connector_of}
 use Rattle.rng_deriv_ways.specs.declared.way.Joint.{Joint}
 use Rattle.rng_deriv_ways.specs.declared.way.Joint.TheVariants as joints
-use Rattle.rng_deriv_ways.proofs.PatternsWithoutAttributes.{bare_hereditary, bare_repeat, closed_group, closed_interleave, closed_over, closed_repeat, member_has, some_more}
+use Rattle.rng_deriv_ways.proofs.PatternsWithoutAttributes.{bare_hereditary, bare_repeat, closed_group, closed_interleave, closed_over, closed_repeat}
+use Rattle.rng_deriv_ways.proofs.PatternsWithoutAttributes.{member_has, some_more}
 use Rattle.rng_deriv_ways.proofs.WaysOfSides.{map_numbers}
 use Rattle.rng_deriv_ways.proofs.KeptRestrictions.{choice_has}
 

@@ -8,7 +8,7 @@ use Rattle.rng_model.specs.matching.Document as document
 use Rattle.rng_deriv_laws.specs.plain.Blanks.{IsBare}
 use Rattle.rng_deriv_laws.specs.plain.Derivatives as tree
 use Rattle.rng_deriv_laws.specs.plain.Derivatives.{behind, item_ways}
-use Rattle.rng_model.specs.matching.Reading.{Reading}
+use Rattle.rng_model.specs.matching.GrammarMatching.{Reading}
 use Rattle.rng_deriv_laws.specs.plain.Taking.{Same, Takes}
 use Rattle.rng_deriv_laws.specs.plain.Taking as t
 use Rattle.rng_deriv_laws.specs.plain.Ways.{AreItemWays, TakesItem}

@@ -14,7 +14,7 @@ use Rattle.rng_model.specs.names.NameViews.{class_of, name_of}
 use Rattle.rng_model.specs.declared.name.NameClass.{NameClass}
 use Rattle.rng_model.specs.declared.simple.PatternId.{PatternId}
 use Rattle.rng_names.specs.plain.Holding.{holds}
-use Rattle.rng_model.specs.matching.Reading.{Reading}
+use Rattle.rng_model.specs.matching.GrammarMatching.{Reading, reading_of}
 use Rattle.rng_deriv_laws.specs.plain.Reading.{has_name}
 use Rattle.rng_deriv_laws.specs.plain.Taking.{Takes}
 use Rattle.rng_deriv_laws.specs.plain.Taking as t
@@ -23,7 +23,6 @@ use Rattle.rng_deriv_table.specs.views.Node.{Node}
 use Rattle.rng_deriv_table.specs.declared.pattern.Span.{Span}
 use Rattle.rng_deriv_table.proofs.KnownFacts.{joined_first, joined_second, one_within}
 use Rattle.rng_deriv_ways.specs.plain.Kinds.{IsElementNamed}
-use Rattle.rng_model.specs.matching.GrammarReading.{reading_of}
 use Rattle.rng_deriv_ways.specs.views.KnownWays.{IsElementKind}
 use Rattle.rng_deriv_ways.specs.plain.Takers.{AreAllTold, AreElements, AreOfKey, IsTold}
 use Rattle.rng_deriv_ways.specs.plain.Ways.{AreWaysOf}

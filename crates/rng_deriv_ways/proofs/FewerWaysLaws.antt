@@ -7,7 +7,7 @@ use Rattle.rng_model.specs.simple.Tree.{Simple, choice, group, s_empty, s_joined
 use Rattle.rng_model.specs.matching.Document.{Attribute, Item}
 use Rattle.rng_model.specs.simple.Table.{Table}
 use Rattle.rng_deriv_laws.specs.plain.Blanks.{IsBare}
-use Rattle.rng_model.specs.matching.Reading.{Reading}
+use Rattle.rng_model.specs.matching.GrammarMatching.{Reading, reading_of}
 use Rattle.rng_deriv_laws.specs.plain.Taking.{Same, Takes}
 use Rattle.rng_deriv_laws.specs.plain.Derivatives as tree
 use Rattle.rng_deriv_laws.specs.plain.Derivatives.{behind, group_of, more_of}
@@ -28,7 +28,6 @@ use Rattle.rng_deriv_table.proofs.Taking.{choice_of_two}
 use Rattle.rng_deriv_table.proofs.Trees.{tree_stays}
 use Rattle.rng_deriv_ways.specs.plain.FewerWays.{AreRepeated, AreUncovered, IsCovered}
 use Rattle.rng_deriv_ways.specs.plain.Kinds.{IsLeafOf, IsOfItems, Obeys}
-use Rattle.rng_model.specs.matching.GrammarReading.{reading_of}
 use Rattle.rng_deriv_ways.specs.plain.Ways.{AreInside, AreKept, AreWays, AreWaysOf, IsInside, StandFor, filled, way_by, ways_by}
 use Rattle.rng_deriv_ways.specs.declared.way.Hole.TheVariants as holes
 use Rattle.rng_deriv_ways.specs.declared.way.Joint.TheVariants as joints

@@ -11,7 +11,7 @@ use Rattle.rng_model.specs.declared.name.NameClass.{NameClass}
 use Rattle.rng_model.specs.declared.simple.PatternId.{PatternId}
 use Rattle.rng_names.specs.plain.Holding.{holds}
 use Rattle.rng_deriv_laws.specs.plain.Reading.{body_in, body_of, has_name, named_in}
-use Rattle.rng_model.specs.matching.GrammarReading.{reading_of}
+use Rattle.rng_model.specs.matching.GrammarMatching.{reading_of}
 
 module _ (t : Table) (k : ℕ) where
   seen : NameClass × PatternId → names.NameClass × Simple ℕ

@@ -1,11 +1,12 @@
 -- Plans of patterns stay right as a table grows.
-use Rattle.std.proofs.Common.{◌≡◌, ◌⊎◌, ◌<◌, ℕ, Bool, List, [], ◌∷◌, All, string_bytes, Box, Contains, Option, Some, None, length, true, false, cond, IfSome, inl, inr, ⊎_elim, refl, sym, subst, arith, rules}
+use Rattle.std.proofs.Common.{◌≡◌, ◌⊎◌, ◌<◌, ℕ, Bool, List, [], ◌∷◌, All, string_bytes, Box, Contains, Option, Some, None, length, true, false, cond, IfSome}
+use Rattle.std.proofs.Common.{inl, inr, ⊎_elim, refl, sym, subst, arith, rules}
 use Rattle.std.specs.HashMap.{HashMap, IsEmpty, get}
 use Rattle.std.specs.Map.{lookup}
 use Rattle.std.proofs.lemmas.Option.{same_Some, none-some}
 use Rattle.rng_names.specs.plain.Keys.{Keys}
 use Rattle.rng_model.specs.matching.Document.{a_text}
-use Rattle.rng_model.specs.matching.GrammarReading.{reading_of}
+use Rattle.rng_model.specs.matching.GrammarMatching.{reading_of}
 use Rattle.rng_model.specs.simple.Table.{Table}
 use Rattle.rng_deriv_laws.specs.plain.Taking.{Takes}
 use Rattle.rng_deriv_table.specs.plain.Reduced.{HasAlternative}

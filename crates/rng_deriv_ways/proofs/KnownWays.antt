@@ -22,8 +22,9 @@ use Rattle.rng_deriv_table.specs.contracts.pattern.PatternNumberPartialEq.TheImp
 use Rattle.rng_deriv_table.proofs.MemberSkips.{skips_longer}
 use Rattle.rng_deriv_table.proofs.Trees.{Longer-length, tree_stays}
 use Rattle.rng_deriv_ways.specs.plain.Kinds.{IsElementNamed, IsNamed, Obeys}
-use Rattle.rng_model.specs.matching.GrammarReading.{reading_of}
-use Rattle.rng_deriv_ways.specs.views.KnownWays.{AreAllKnown, AreKnown, AreKnownByKey, AreKnownFor, AreLast, AreThoseOf, HasForKey, HasKnown, HasLast, IsAttributeKind, IsElementKind}
+use Rattle.rng_model.specs.matching.GrammarMatching.{reading_of}
+use Rattle.rng_deriv_ways.specs.views.KnownWays.{AreAllKnown, AreKnown, AreKnownByKey, AreKnownFor, AreLast, AreThoseOf, HasForKey, HasKnown, HasLast}
+use Rattle.rng_deriv_ways.specs.views.KnownWays.{IsAttributeKind, IsElementKind}
 use Rattle.rng_deriv_ways.specs.views.KnownWays.{KeepsOtherKeys}
 use Rattle.rng_deriv_ways.specs.plain.Ways.{AreWaysOf, ways_by}
 use Rattle.rng_deriv_ways.specs.declared.known.Known.{Known}

@@ -9,21 +9,19 @@ use Rattle.std.proofs.lemmas.List.Elements.{All-append, All-cons, All-nil}
 use Rattle.rng_model.proofs.Truths.{same_truth}
 use Rattle.rng_names.specs.plain.Keys.{Keys, KeysServe, key_of, name_at}
 use Rattle.rng_names.specs.plain.Keys as keyed
-use Rattle.rng_model.specs.matching.Document.{Attribute, Item, Interleaves, SharesName}
+use Rattle.rng_model.specs.matching.Document.{Attribute, Item, Interleaves, SharesName, Distinct, HasNoName}
 use Rattle.rng_model.specs.matching.Document as document
 use Rattle.rng_model.specs.names.Names.{In, Name, NameClass}
 use Rattle.rng_model.specs.simple.Table.{Table}
 use Rattle.rng_model.specs.simple.Tree.{Simple, s_not_allowed, s_empty, s_text, s_leaf, s_attribute, s_list, s_data, s_data_except, s_value, s_one_or_more}
 use Rattle.rng_model.specs.simple.Tree.{s_joined}
 use Rattle.rng_model.specs.names.NameViews.{class_of, name_of}
-use Rattle.rng_model.specs.matching.WellFormed.{Distinct, HasNoName}
-use Rattle.rng_model.specs.matching.WellFormed as formed
 use Rattle.rng_model.specs.declared.name.Name as declared
 use Rattle.rng_model.specs.declared.simple.Simple as row
 use Rattle.rng_model.specs.declared.simple.Simple.TheVariants as simple
 use Rattle.rng_names.specs.plain.Holding.{holds, same_name}
 use Rattle.rng_names.proofs.Holding.{holds-Decides, same_name-Decides}
-use Rattle.rng_model.specs.matching.Reading.{Reading}
+use Rattle.rng_model.specs.matching.GrammarMatching.{Reading, reading_of}
 use Rattle.rng_deriv_laws.specs.plain.Taking.{Takes}
 use Rattle.rng_deriv_laws.specs.plain.Taking as t
 use Rattle.rng_deriv_laws.specs.plain.Ways.{AreAttributeWays, TakesAttribute}
@@ -32,7 +30,6 @@ use Rattle.rng_deriv_table.specs.views.Node.{Node}
 use Rattle.rng_deriv_table.specs.views.Node as node
 use Rattle.rng_deriv_table.specs.views.Trees.{attribute_found, choice_from, tree_in, tree_of, tree_over, trees, with_tree}
 use Rattle.rng_deriv_ways.specs.plain.Kinds.{IsNamed}
-use Rattle.rng_model.specs.matching.GrammarReading.{reading_of}
 use Rattle.rng_deriv_ways.specs.plain.Ways.{AreWaysOf, ways_by}
 use Rattle.rng_deriv_ways.specs.declared.way.Kind.TheVariants as kinds
 use Rattle.rng_deriv_ways.specs.declared.way.LeafWay as numbered
@@ -90,13 +87,13 @@ module _ (rename : Name → Name) (back : (n : Name) → rename (rename n) ≡ n
 
   no_name : (q : Name) (xs : List Attribute) → HasNoName q xs → HasNoName (rename q) (map renamed xs)
   unfolding renamed
-  no_name q [] formed.nothing_named = formed.nothing_named
-  no_name q (a ∷ xs) (formed.another_name apart h) = formed.another_name (λ e. apart (apart_names a.name q e)) (no_name q xs h)
+  no_name q [] document.nothing_named = document.nothing_named
+  no_name q (a ∷ xs) (document.another_name apart h) = document.another_name (λ e. apart (apart_names a.name q e)) (no_name q xs h)
 
   distinct : (xs : List Attribute) → Distinct xs → Distinct (map renamed xs)
   unfolding renamed
-  distinct [] formed.none = formed.none
-  distinct (a ∷ xs) (formed.one_more h d) = formed.one_more (no_name a.name xs h) (distinct xs d)
+  distinct [] document.none = document.none
+  distinct (a ∷ xs) (document.one_more h d) = document.one_more (no_name a.name xs h) (distinct xs d)
 
   module _ (g : Reading) where
     takes_renamed : {p : Simple ℕ} {xs : List Attribute} {ns : List Item} → Takes g p xs ns → Keeps p → Takes g p (map renamed xs) ns

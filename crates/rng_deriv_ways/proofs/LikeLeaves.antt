@@ -11,7 +11,7 @@ use Rattle.rng_deriv_laws.specs.plain.Ways.{TakesItem}
 use Rattle.rng_deriv_laws.proofs.ItemWays.{ways_that_take_the_same}
 use Rattle.rng_deriv_ways.specs.plain.Alike.{AreLikeLeaves, IsAlike}
 use Rattle.rng_deriv_ways.specs.plain.Kinds.{IsElementNamed, Obeys, rest_of_leaf, takes_kind}
-use Rattle.rng_model.specs.matching.GrammarReading.{reading_of}
+use Rattle.rng_model.specs.matching.GrammarMatching.{reading_of}
 use Rattle.rng_deriv_ways.specs.plain.Ways.{AreKept, AreWays}
 use Rattle.rng_deriv_ways.specs.declared.way.Kind.{Kind}
 use Rattle.rng_deriv_ways.specs.declared.way.Kind.TheVariants as kinds

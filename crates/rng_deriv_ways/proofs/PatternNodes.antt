@@ -6,7 +6,7 @@ use Rattle.rng_model.specs.names.Names.{NameClass}
 use Rattle.rng_model.specs.simple.Table.{Table}
 use Rattle.rng_model.specs.declared.simple.Simple as row
 use Rattle.rng_model.specs.declared.simple.Simple.TheVariants as simple
-use Rattle.rng_model.specs.matching.Reading.{Reading}
+use Rattle.rng_model.specs.matching.GrammarMatching.{Reading}
 use Rattle.rng_deriv_table.specs.views.Node.{Node, node_of}
 use Rattle.rng_deriv_table.specs.views.Node as node
 use Rattle.rng_deriv_table.specs.views.PatternTable.{ArePartsBelow, IsPatternTable}

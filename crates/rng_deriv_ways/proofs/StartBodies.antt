@@ -3,7 +3,8 @@ use Rattle.std.proofs.Common.{◌≡◌, ◌∙◌, ℕ, ◌<◌, ◌+◌, ◌�
 use Rattle.std.proofs.Common.{arith, Bool, true, false, cond, Some, None, slice_get}
 use Rattle.rng_model.specs.names.Names.{Name}
 use Rattle.rng_model.specs.matching.Document.{Attribute, Item}
-use Rattle.rng_model.specs.simple.Tree.{Simple, s_not_allowed, s_empty, s_text, s_leaf, s_attribute, s_list, s_data, s_data_except, s_value, s_one_or_more, s_joined}
+use Rattle.rng_model.specs.simple.Tree.{Simple, s_not_allowed, s_empty, s_text, s_leaf, s_attribute, s_list, s_data, s_data_except, s_value, s_one_or_more}
+use Rattle.rng_model.specs.simple.Tree.{s_joined}
 use Rattle.std.proofs.lemmas.Option.{get_or_from_slice_get, slice_get_within}
 use Rattle.rng_model.specs.simple.Table.{Table}
 use Rattle.rng_model.specs.simple.TableRules.{IsTable}
@@ -21,7 +22,7 @@ use Rattle.rng_deriv_table.specs.views.PatternTable.{Longer}
 use Rattle.rng_deriv_table.specs.declared.pattern.PatternNumber.{PatternNumber}
 use Rattle.rng_deriv_table.proofs.Trees.{Longer-length, tree_stays}
 use Rattle.rng_deriv_ways.specs.plain.Kinds.{IsElementNamed, Obeys}
-use Rattle.rng_model.specs.matching.GrammarReading.{reading_of}
+use Rattle.rng_model.specs.matching.GrammarMatching.{reading_of, Reading}
 use Rattle.rng_deriv_ways.specs.plain.Starting.{AreBodies, AreStarts, HasRestrictedBodies, IsBodyOf, IsReady, IsRestrictedBodyNamed}
 use Rattle.rng_deriv_ways.specs.plain.Ways.{AreInside, IsInside, way_by, ways_by}
 use Rattle.rng_deriv_ways.specs.declared.way.LeafWay as numbered
@@ -33,9 +34,9 @@ use Rattle.rng_deriv_table.specs.views.PatternTable.{ArePartsBelow, IsPatternTab
 use Rattle.rng_deriv_table.specs.views.Trees.{tree_of, tree_over}
 use Rattle.rng_deriv_table.specs.declared.pattern.Pattern.{Pattern}
 use Rattle.rng_deriv_table.specs.declared.pattern.Pattern.TheVariants as pattern
-use Rattle.rng_deriv_ways.proofs.PatternNodes.{IsAttribute, IsStringLeaf, a_datatype, a_list, a_value, an_attribute, an_except, found_attribute, found_string, is_over}
+use Rattle.rng_deriv_ways.proofs.PatternNodes.{IsAttribute, IsStringLeaf, a_datatype, a_list, a_value, an_attribute, an_except, found_attribute, found_string}
+use Rattle.rng_deriv_ways.proofs.PatternNodes.{is_over}
 use Rattle.rng_deriv_ways.proofs.PatternNodes.{parts_there}
-use Rattle.rng_model.specs.matching.Reading.{Reading}
 use Rattle.rng_deriv_laws.specs.plain.Reading.{body_of, has_name}
 use Rattle.rng_deriv_laws.specs.plain.Taking.{Takes, Same, WeaklyTakes}
 use Rattle.rng_deriv_laws.specs.plain.Taking as t

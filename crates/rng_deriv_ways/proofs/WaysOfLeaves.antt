@@ -7,7 +7,7 @@ use Rattle.rng_model.specs.simple.Tree.{s_value, s_one_or_more, s_joined}
 use Rattle.rng_model.specs.matching.Document.{Attribute, Item, a_text, an_element, AllTexts, no_texts, text_and, Padded}
 use Rattle.rng_model.specs.matching.Document as document
 use Rattle.rng_names.specs.plain.Holding.{holds}
-use Rattle.rng_model.specs.matching.Reading.{Reading}
+use Rattle.rng_model.specs.matching.GrammarMatching.{Reading}
 use Rattle.rng_deriv_laws.specs.plain.Reading.{has_name}
 use Rattle.rng_deriv_laws.specs.plain.Taking.{Takes}
 use Rattle.rng_deriv_laws.specs.plain.Taking as t

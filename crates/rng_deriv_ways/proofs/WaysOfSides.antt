@@ -4,7 +4,7 @@ use Rattle.std.proofs.lemmas.List.{append-nil}
 use Rattle.rng_model.specs.simple.Tree.{Simple, choice, group, s_not_allowed}
 use Rattle.rng_model.specs.simple.Tree.{s_one_or_more, s_joined}
 use Rattle.rng_model.specs.simple.Table.{Table}
-use Rattle.rng_model.specs.matching.Reading.{Reading}
+use Rattle.rng_model.specs.matching.GrammarMatching.{Reading, reading_of}
 use Rattle.rng_deriv_laws.specs.plain.Taking.{Same}
 use Rattle.rng_deriv_laws.specs.plain.Restricted.{RepeatsWell}
 use Rattle.rng_deriv_laws.specs.plain.Derivatives.{Way, behind, group_of, is_nullable, item_ways, joined_of, more_of}
@@ -19,7 +19,6 @@ use Rattle.rng_deriv_table.specs.views.PatternTable.{Longer}
 use Rattle.rng_deriv_table.specs.views.Trees.{choice_from, choice_over, tree_of}
 use Rattle.rng_deriv_table.specs.declared.pattern.PatternNumber.{PatternNumber}
 use Rattle.rng_deriv_ways.specs.plain.Kinds.{HasNoOrder, IsLeafOf, IsOfItems, Obeys, connector_of, takes_kind}
-use Rattle.rng_model.specs.matching.GrammarReading.{reading_of}
 use Rattle.rng_deriv_ways.specs.plain.Ways.{AreKept, AreWays, AreWaysOf, StandFor, filled, ways_by}
 use Rattle.rng_deriv_ways.specs.declared.way.LeafWay as numbered
 use Rattle.rng_deriv_ways.specs.declared.way.Hole.TheVariants as holes

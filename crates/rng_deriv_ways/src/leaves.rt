@@ -2,11 +2,10 @@
 ghost use Rattle.std.specs.Prelude.{◌≡◌, ◌<◌, IfOk, OnOk, length, slice_get, if◌then◌else◌};
 ghost use Rattle.rng_model.specs.simple.Table.{Table};
 ghost use Rattle.rng_model.specs.simple.Tree.{s_leaf, s_text};
-ghost use Rattle.rng_model.specs.matching.Reading.{Reading};
+ghost use Rattle.rng_model.specs.matching.GrammarMatching.{Reading, reading_of};
 ghost use Rattle.rng_deriv_table.specs.views.PatternTable.{Adds, Longer};
 ghost use Rattle.rng_deriv_table.specs.views.Trees.{attribute_found, tree_of};
 ghost use Rattle.rng_deriv_ways.specs.plain.Kinds.{IsAlone, rest_of_leaf, takes_kind};
-ghost use Rattle.rng_model.specs.matching.GrammarReading.{reading_of};
 ghost use Rattle.rng_deriv_ways.specs.plain.Alike.{IsLikeLeaf};
 ghost use Rattle.rng_deriv_ways.specs.plain.Takers.{AreCandidates};
 ghost use Rattle.rng_deriv_ways.specs.plain.Ways.{AreWaysOf};

@@ -10,12 +10,11 @@ use Rattle.std.specs.List.{AllByRecursion, IsDistinct, list_any}
 use Rattle.std.specs.Str.{bytes_eq}
 use Rattle.std.proofs.lemmas.Option.{same_Some}
 use Rattle.indexmap.specs.IndexSet.{insert_key}
-use Rattle.rng_model.specs.names.Names.{NameClass, any_name, any_except, ns_name, ns_except, name_is, one_of, NameClasses, no_classes, class_and}
-use Rattle.rng_model.specs.names.Names.{classes_of, some_of}
+use Rattle.rng_model.specs.names.Names.{NameClass, any_name, any_except, ns_name, ns_except, name_is, one_of, NameClasses, no_classes, class_and, class_list}
+use Rattle.rng_model.specs.names.Names.{some_of}
 use Rattle.rng_model.specs.schema.Patterns.{without_parameters}
 use Rattle.rng_model.specs.simple.Tree.{Datatype}
-use Rattle.rng_model.specs.names.NameViews.{class_of}
-use Rattle.rng_model.specs.names.NamespaceViews.{namespace_bytes}
+use Rattle.rng_model.specs.names.NameViews.{class_of, namespace_bytes}
 use Rattle.rng_model.specs.declared.namespace.Namespace.{Namespace}
 use Rattle.rng_model.specs.declared.name.NameClass as declared
 use Rattle.rng_model.specs.declared.name.NameClass.{the_lemmas}
@@ -206,26 +205,26 @@ unfolding class_code
 ns_except_code u b = ap (λ c. class_code c []) (sym (ns_except_of u b))
 
 -- a choice: its first member, followed by the others
-first_code : (c : NameClass) (cs : List NameClass) → class_code (some_of (c ∷ cs)) [] ≡ class_code c (more_code (classes_of cs) [])
+first_code : (c : NameClass) (cs : List NameClass) → class_code (some_of (c ∷ cs)) [] ≡ class_code c (more_code (class_list cs) [])
 unfolding class_code more_code
 first_code c [] = refl
 first_code c (d ∷ cs) = refl
 
 pub starts : (old new : List Part) (c : NameClass) (cs : List NameClass) → new ≡ old ++ class_code c []
-    → new ++ more_code (classes_of cs) [] ≡ old ++ class_code (some_of (c ∷ cs)) []
+    → new ++ more_code (class_list cs) [] ≡ old ++ class_code (some_of (c ∷ cs)) []
 starts old new c cs e =
-    ap (λ ps. ps ++ more_code (classes_of cs) []) e ∙ append_assoc old (class_code c []) (more_code (classes_of cs) [])
-    ∙ ap (λ ps. old ++ ps) (code_then c [] (more_code (classes_of cs) []) ∙ sym (first_code c cs))
+    ap (λ ps. ps ++ more_code (class_list cs) []) e ∙ append_assoc old (class_code c []) (more_code (class_list cs) [])
+    ∙ ap (λ ps. old ++ ps) (code_then c [] (more_code (class_list cs) []) ∙ sym (first_code c cs))
 
 pub goes_on : (code mid new : List Part) (c : NameClass) (cs : List NameClass) → mid ≡ code ++ class_code c [] → new ≡ mid ++ either ∷ []
-    → new ++ more_code (classes_of cs) [] ≡ code ++ more_code (classes_of (c ∷ cs)) []
+    → new ++ more_code (class_list cs) [] ≡ code ++ more_code (class_list (c ∷ cs)) []
 unfolding more_code
 goes_on code mid new c cs e f =
-    let more = more_code (classes_of cs) [] in
+    let more = more_code (class_list cs) [] in
     ap (λ ps. ps ++ more) (put_after code mid new c either e f) ∙ append_assoc code (class_code c (either ∷ [])) more
     ∙ ap (λ ps. code ++ ps) (code_then c (either ∷ []) more)
 
-pub ends : (new : List Part) → new ++ more_code (classes_of []) [] ≡ new
+pub ends : (new : List Part) → new ++ more_code (class_list []) [] ≡ new
 unfolding more_code
 ends new = append-nil new
 

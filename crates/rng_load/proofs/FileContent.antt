@@ -4,24 +4,22 @@ use Rattle.rnc_model.specs.declared.character.Character.{Character}
 use Rattle.rnc_text.specs.declared.fault.TextFault.{TextFault}
 use Rattle.rnc_text.specs.declared.fault.TextFault.TheVariants as texts
 use Rattle.rnc_text.specs.views.Answers.{GivesOk, GivesFault, IfBroken}
-use Rattle.rnc_model.specs.tokens.Cut.{Token, HasTokens, BreaksTokensAt}
+use Rattle.rnc_model.specs.tokens.Cut.{Token, HasTokens, BreaksTokensAt, Lexeme, lexemes}
 use Rattle.rnc_model.specs.characters.Decoding.{IsDecoded}
 use Rattle.rnc_model.specs.characters.BrokenTexts.{BreaksTextAt}
 use Rattle.rnc_grammar.specs.declared.fault.ParseFault.{ParseFault}
 use Rattle.rnc_grammar.specs.declared.fault.ParseFault.TheVariants as parses
 use Rattle.rnc_grammar.specs.declared.file_tree.FileTree as declared
 use Rattle.rnc_model.specs.declarations.FileTree.{FileTree}
-use Rattle.rnc_model.specs.tokens.Lexeme.{Lexeme, lexemes}
 use Rattle.rnc_model.specs.grammar.Sentence.{BreaksGrammarAt, BreaksNesting, NestsWithin, nesting_limit}
-use Rattle.rnc_model.specs.declarations.Parsing.{BreaksDeclarations, IsFileTree}
+use Rattle.rnc_model.specs.loading.SchemaFile.{BreaksDeclarations, IsFileTree, AreTokensOf, BreaksFileClause, not_utf8, bad_characters, bad_tokens, no_sentence}
+use Rattle.rnc_model.specs.loading.SchemaFile.{too_deep, bad_declarations, IsSchemaFile}
 use Rattle.rnc_grammar.specs.views.ParsingFaults.{IsFaultOf}
 use Rattle.rng_model.specs.plain.Answers as answers
 use Rattle.rnc_model.specs.grammar.Sentence as parsing_sentence
 use Rattle.rnc_grammar.specs.views.ParsingFaults as parsing_faults
 use Rattle.rnc_grammar.specs.views.View.{file_of}
 use Rattle.rng_load.specs.views.FileFaults.{fault_of_text, fault_of_parse, verdict_of}
-use Rattle.rnc_model.specs.loading.SchemaFile.{AreTokensOf, BreaksFileClause, not_utf8, bad_characters, bad_tokens, no_sentence, too_deep, bad_declarations}
-use Rattle.rnc_model.specs.loading.SchemaFile.{IsSchemaFile}
 use Rattle.rnc_model.specs.loading.FileVerdicts.{FileVerdict, breaks, has_tree, ContentHasVerdict, ContentHasOnlyVerdict}
 
 -- ---- characters

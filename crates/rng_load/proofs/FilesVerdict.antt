@@ -1,22 +1,22 @@
 -- The verdict on all files, from what is known once each is read.
 use Rattle.std.proofs.Common.{◌≡◌, refl, sym, subst, ap, ℕ, List}
-use Rattle.rnc_model.specs.loading.MentionPaths.{BreaksMentions}
+use Rattle.rnc_model.specs.loading.Mentions.{BreaksMentions}
 use Rattle.rnc_model.specs.loading.Loading.{TakenFiles, hrefs_in, BreaksIncludes, BreaksTogether, mentions_break, includes_break, FilesVerdict, file_breaks}
 use Rattle.rnc_model.specs.loading.Loading.{together_break, are_taken, FilesHaveVerdict, FilesHaveOnlyVerdict}
 use Rattle.rng_load.specs.views.LoadingFaults.{IsTheReading}
-use Rattle.rnc_model.specs.loading.SchemaFile.{Name, NamedFile}
+use Rattle.rnc_model.specs.loading.SchemaFile.{FileName, NamedFile}
 
 pub same_files : {r s : TakenFiles} → are_taken r ≡ are_taken s → r ≡ s
 same_files e = cc
 
-pub file_or_all : {f : Name} {k : ℕ} {r : TakenFiles} → file_breaks f k ≡ are_taken r → ⊥
+pub file_or_all : {f : FileName} {k : ℕ} {r : TakenFiles} → file_breaks f k ≡ are_taken r → ⊥
 file_or_all e = cc
 
-all_or_file : {f : Name} {k : ℕ} {r : TakenFiles} → are_taken r ≡ file_breaks f k → ⊥
+all_or_file : {f : FileName} {k : ℕ} {r : TakenFiles} → are_taken r ≡ file_breaks f k → ⊥
 all_or_file e = cc
 
-module _ (files : List NamedFile) (main : Name) where
-  pub file_first : (f : Name) (k : ℕ) → IsTheReading files main (file_breaks f k) → FilesHaveOnlyVerdict files main (file_breaks f k)
+module _ (files : List NamedFile) (main : FileName) where
+  pub file_first : (f : FileName) (k : ℕ) → IsTheReading files main (file_breaks f k) → FilesHaveOnlyVerdict files main (file_breaks f k)
   file_first f k r = record { is = r.is; only = only } where
     only : (other : FilesVerdict) → FilesHaveVerdict files main other → file_breaks f k ≡ other
     only (file_breaks g j) h = r.only (file_breaks g j) h

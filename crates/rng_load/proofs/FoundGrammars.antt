@@ -18,10 +18,11 @@ use Rattle.rnc_model.specs.grammar.Syntax.{applied}
 use Rattle.rnc_model.specs.declarations.FileTree.{FileTree}
 use Rattle.rng_load.specs.plain.FoundGrammars.{AreFound, AreLeft, CanBeRead, HasGathered, IsFound, IsGrammarAt, IsKnown, IsPut, gathered_at, grammar_with}
 use Rattle.rng_load.specs.plain.FoundGrammars.{left_by, nested_in, pending_in, places_left}
-use Rattle.rnc_model.specs.loading.MentionPaths.{path_limit}
+use Rattle.rnc_model.specs.loading.Mentions.{path_limit}
 use Rattle.rng_load.specs.views.PendingGrammars.{Pending}
 use Rattle.rng_load.specs.views.PlacedGrammars.{PlacedGrammar, PlacedGrammars, grammar_of, grammar_at, outer_if, schema_with}
-use Rattle.rnc_model.specs.loading.Places.{Gathered, Gathers, HasGrammar, main_is, nested_is, Nested, IsSchemaOf}
+use Rattle.rnc_model.specs.loading.Places.{Gathered, Nested}
+use Rattle.rnc_model.specs.loading.LoadedSchema.{Gathers, HasGrammar, main_is, nested_is, IsSchemaOf}
 use Rattle.rng_load.specs.declared.schema.Grammar.{Grammar}
 use Rattle.rng_load.proofs.NameLists.{false_true, in_cons, in_either, in_first, in_left, in_more, in_none, in_right}
 use Rattle.rng_load.proofs.OneGrammar.{one_grammar}

@@ -6,15 +6,14 @@ use Rattle.std.specs.Global.{Global}
 use Rattle.std.specs.Option.{is_some}
 use Rattle.std.specs.Prelude.{MatchOption}
 use Rattle.std.proofs.lemmas.List.{map_more, take-append-drop, map-append, take_all, length-map}
-use Rattle.rnc_model.specs.loading.Files.{named_files}
+use Rattle.rnc_model.specs.loading.SchemaFile.{named_files, FileName, NamedFile, IsMissing, IsHandedInTwice, IsHandedIn, BreaksLimit, BreaksOwn, missing}
+use Rattle.rnc_model.specs.loading.SchemaFile.{handed_in_twice, too_large, bad_content, BreaksFileClause}
 use Rattle.rnc_grammar.specs.declared.file_tree.FileTree as declared
 use Rattle.rng_load.specs.declared.fault.FileFault.{FileFault}
 use Rattle.rng_load.specs.declared.fault.FileFault.TheVariants as faults
 use Rattle.rng_load.specs.views.FileFaults.{verdict_of}
 use Rattle.rng_model.specs.names.Lists.{Among, here, there, HasTwo, first_and, both_later}
-use Rattle.rnc_model.specs.loading.SchemaFile.{Name, NamedFile, IsMissing, IsHandedInTwice, IsHandedIn, BreaksLimit, BreaksOwn}
 use Rattle.rnc_model.specs.loading.FileVerdicts.{FileVerdict, breaks, has_tree}
-use Rattle.rnc_model.specs.loading.SchemaFile.{missing, handed_in_twice, too_large, bad_content, BreaksFileClause}
 use Rattle.rnc_model.specs.loading.FileVerdicts.{FileHasVerdict, FileHasOnlyVerdict}
 use Rattle.rnc_model.specs.loading.FileVerdicts.{ContentHasVerdict, ContentHasOnlyVerdict}
 use Rattle.rng_load.proofs.NameLists.{in_none, in_cons, in_left, in_right, in_more}
@@ -47,10 +46,10 @@ module _ {A : Type 0} (P : A → A → Type 0) where
 
 -- ---- one file more
 
-abbrev IsOf : Name → NamedFile → NamedFile → Type 0
+abbrev IsOf : FileName → NamedFile → NamedFile → Type 0
 IsOf f a b = (a.name ≡ f) × (b.name ≡ f)
 
-module _ (files : List NamedFile) (f : Name) (x : NamedFile) where
+module _ (files : List NamedFile) (f : FileName) (x : NamedFile) where
   pub still_missing : IsMissing files f → x.name ≢ f → IsMissing (files ++ x ∷ []) f
   still_missing m other file a = elim (in_more files a) [ inl b ↦ m file b | inr e ↦ λ is. other (ap (λ y. y.name) (sym e) ∙ is) ]
 
@@ -74,12 +73,12 @@ module _ (files : List NamedFile) (f : Name) (x : NamedFile) where
   pub found_again : {bytes : List ℕ} → IsHandedIn files f bytes → x.name ≡ f → (rest : List NamedFile) → IsHandedInTwice (files ++ x ∷ rest) f
   found_again h is rest = two_of (IsOf f) h.there x rest (refl, is)
 
-pub none_missing : (f : Name) → IsMissing [] f
+pub none_missing : (f : FileName) → IsMissing [] f
 none_missing f file a = absurd (in_none a)
 
 -- ---- what a file is, uniquely
 
-module _ (files : List NamedFile) (main f : Name) where
+module _ (files : List NamedFile) (main f : FileName) where
   pub one_file : {bytes other : List ℕ} → IsHandedIn files f bytes → IsHandedIn files f other → bytes ≡ other
   one_file h i = elim (one_or_two (IsOf f) h.there i.there (refl, refl) (refl, refl)) [ inl e ↦ ap (λ x. x.bytes) e | inr two ↦ absurd (h.once two) ]
 
@@ -140,10 +139,10 @@ module _ (files : List NamedFile) (main f : Name) where
 abbrev NamedBytes : Type 0
 NamedBytes = String Global × Vec ℕ Global
 
-abbrev pub IsFound : List NamedFile → Name → Option (Bor (List ℕ)) → Type 0
+abbrev pub IsFound : List NamedFile → FileName → Option (Bor (List ℕ)) → Type 0
 IsFound files f found = MatchOption found (IsMissing files f) (λ bytes. IsHandedIn files f bytes.now)
 
-module _ (files : List NamedBytes) (i : ℕ) (l : i < length files) (d : NamedBytes) (f : Name) where
+module _ (files : List NamedBytes) (i : ℕ) (l : i < length files) (d : NamedBytes) (f : FileName) where
   abbrev next : NamedFile
   next = record { name = string_bytes (get_or files i d).0; bytes = (get_or files i d).1.items }
 
@@ -173,7 +172,7 @@ module _ (files : List NamedBytes) (i : ℕ) (l : i < length files) (d : NamedBy
       (i + 1) files)))
 
 -- after the last round
-pub all_seen : (files : List NamedBytes) (i : ℕ) → length files ≤ i → (f : Name) (found : Option (Bor (List ℕ))) → IsFound (named_files
+pub all_seen : (files : List NamedBytes) (i : ℕ) → length files ≤ i → (f : FileName) (found : Option (Bor (List ℕ))) → IsFound (named_files
     (take i files)) f found →
     MatchOption found (IsMissing (named_files files) f ⊎ IsHandedInTwice (named_files files) f) (λ bytes. IsHandedIn (named_files files) f bytes.now)
 all_seen files i l f None m = inl (subst (λ fs. IsMissing fs f) (ap named_files (take_all i files l)) m)

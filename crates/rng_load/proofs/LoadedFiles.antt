@@ -6,12 +6,12 @@ use Rattle.rnc_grammar.specs.declared.file_tree.FileTree as declared
 use Rattle.rnc_model.specs.declarations.FileTree.{FileTree}
 use Rattle.rng_load.specs.plain.FoundGrammars.{CanBeRead}
 use Rattle.rnc_model.specs.loading.Loading.{BreaksIncludes, FilesHaveOnlyVerdict, TakenFiles, are_taken, hrefs_in, includes_break, mentions_break, tree_in}
-use Rattle.rnc_model.specs.loading.MentionPaths.{BreaksMentions}
-use Rattle.rnc_model.specs.loading.SchemaFile.{Name, NamedFile}
+use Rattle.rnc_model.specs.loading.Mentions.{BreaksMentions}
+use Rattle.rnc_model.specs.loading.SchemaFile.{FileName, NamedFile}
 use Rattle.rng_load.proofs.ClosedFiles.{are_closed, main_there}
 use Rattle.rng_load.proofs.PlainReading.{main_readable}
 
-module _ (files : List NamedFile) (main : Name) (read : TakenFiles) (verdict : FilesHaveOnlyVerdict files main (are_taken read)) where
+module _ (files : List NamedFile) (main : FileName) (read : TakenFiles) (verdict : FilesHaveOnlyVerdict files main (are_taken read)) where
   no_mention : ¬ (BreaksMentions (hrefs_in read) main)
   no_mention b = verdict.is.1 9 (mentions_break b refl)
 

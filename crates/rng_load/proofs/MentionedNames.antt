@@ -11,10 +11,10 @@ use Rattle.rnc_model.specs.declarations.FileTree.{FileTree}
 use Rattle.rnc_model.specs.loading.Mentions.{mention_of, mentions_of}
 use Rattle.rnc_grammar.specs.views.View.{file_of, mentioned_file_of}
 use Rattle.rnc_model.specs.loading.Loading.{tree_in, hrefs_of, hrefs_if, hrefs_in}
-use Rattle.rnc_model.specs.loading.SchemaFile.{Name}
+use Rattle.rnc_model.specs.loading.SchemaFile.{FileName}
 
 -- the name of a mentioned file
-abbrev pub href_of : mentioned.MentionedFile → Name
+abbrev pub href_of : mentioned.MentionedFile → FileName
 href_of m = (mention_of (mentioned_file_of m)).href
 
 hrefs_are : (items : List mentioned.MentionedFile) → map href_of items ≡ map (λ m. (mention_of m).href) (map mentioned_file_of items)
@@ -33,12 +33,12 @@ found_first : (o : Option declared.FileTree) (p : Option FileTree) (t : declared
 found_first o p t true e = refl
 found_first o p t false e = e
 
-pub tree_found : (es : List (String Global × declared.FileTree)) (f : Name)
+pub tree_found : (es : List (String Global × declared.FileTree)) (f : FileName)
     → tree_in (map (λ e. (string_bytes e.0, file_of e.1)) es) f ≡ option_map file_of (lookup (λ k. bytes_eq f (string_bytes k)) es)
 tree_found [] f = refl
 tree_found (e ∷ es) f = found_first _ _ e.1 (bytes_eq f (string_bytes e.0)) (tree_found es f)
 
 -- what the file of a name mentions
-pub mentions_found : (es : List (String Global × declared.FileTree)) (f : Name) (o : Option declared.FileTree)
+pub mentions_found : (es : List (String Global × declared.FileTree)) (f : FileName) (o : Option declared.FileTree)
     → o ≡ lookup (λ k. bytes_eq f (string_bytes k)) es → hrefs_if (option_map file_of o) ≡ hrefs_in (map (λ e. (string_bytes e.0, file_of e.1)) es) f
 mentions_found es f o e = ap (λ p. hrefs_if (option_map file_of p)) e ∙ sym (ap hrefs_if (tree_found es f))

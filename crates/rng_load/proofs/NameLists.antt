@@ -6,7 +6,7 @@ use Rattle.std.specs.Str.{bytes_eq}
 use Rattle.std.proofs.lemmas.Slice.Eq.{bytes_eq-Decides}
 use Rattle.std.proofs.lemmas.Bool.{or_left, or_right}
 use Rattle.rng_model.specs.names.Lists.{Among, here, there, HasTwice, at_first, later}
-use Rattle.rnc_model.specs.loading.SchemaFile.{Name}
+use Rattle.rnc_model.specs.loading.SchemaFile.{FileName}
 
 pub false_true : false ≡ true → ⊥
 false_true h = cc
@@ -107,16 +107,16 @@ from_map f (x ∷ xs) p = elim (in_cons p) [ inl e ↦ (x, here, e) | inr q ↦ 
 
 -- ---- the test of names
 
-in_by : (n m : Name) (ns : List Name) (b : Bool) → bytes_eq n m ≡ b → (b || list_any (λ k. bytes_eq n k) ns) ≡ true → (list_any
+in_by : (n m : FileName) (ns : List FileName) (b : Bool) → bytes_eq n m ≡ b → (b || list_any (λ k. bytes_eq n k) ns) ≡ true → (list_any
     (λ k. bytes_eq n k) ns ≡ true → Among n ns)
     → Among n (m ∷ ns)
 in_by n m ns true e h ih = in_first ns ((bytes_eq-Decides n m).0 e)
 in_by n m ns false e h ih = there (ih h)
 
-pub any_in : (n : Name) (ns : List Name) → list_any (λ m. bytes_eq n m) ns ≡ true → Among n ns
+pub any_in : (n : FileName) (ns : List FileName) → list_any (λ m. bytes_eq n m) ns ≡ true → Among n ns
 any_in n [] h = absurd (false_true h)
 any_in n (m ∷ ns) h = in_by n m ns (bytes_eq n m) refl h (any_in n ns)
 
-pub in_any : {n : Name} {ns : List Name} → Among n ns → list_any (λ m. bytes_eq n m) ns ≡ true
+pub in_any : {n : FileName} {ns : List FileName} → Among n ns → list_any (λ m. bytes_eq n m) ns ≡ true
 in_any {n} (here {xs}) = or_left (bytes_eq n n) (list_any (λ k. bytes_eq n k) xs) ((bytes_eq-Decides n n).1 refl)
 in_any {n} (there {y} {xs} p) = or_right (bytes_eq n y) (list_any (λ k. bytes_eq n k) xs) (in_any p)

@@ -11,11 +11,11 @@ use Rattle.indexmap.specs.IndexMap.{insert_entry}
 use Rattle.indexmap.specs.IndexSet.{insert_key}
 use Rattle.rng_model.specs.names.Lists.{Among, there}
 use Rattle.rnc_model.specs.loading.Loading.{with_name}
-use Rattle.rnc_model.specs.loading.SchemaFile.{Name}
+use Rattle.rnc_model.specs.loading.SchemaFile.{FileName}
 use Rattle.rng_load.proofs.NameLists.{in_first}
 
 -- keys viewed as names; they are equal if their names are
-module _ {K : Type 0} (view : K → Name) (eq : K → K → Bool) (same : (k m : K) → eq k m ≡ bytes_eq (view k) (view m)) where
+module _ {K : Type 0} (view : K → FileName) (eq : K → K → Bool) (same : (k m : K) → eq k m ≡ bytes_eq (view k) (view m)) where
   pub any_seen : (k : K) (ks : List K) → list_any (λ m. bytes_eq (view k) m) (map view ks) ≡ list_any (eq k) ks
   any_seen k [] = refl
   any_seen k (m ∷ ks) = ap (λ b. bytes_eq (view k) (view m) || b) (any_seen k ks) ∙ ap (λ b. b || list_any (eq k) ks) (sym (same k m))
@@ -32,21 +32,21 @@ pub names_after_insert : (ks : List (String Global)) (k : String Global) → map
     (map string_bytes ks) (string_bytes k)
 names_after_insert ks k = seen_after_insert string_bytes string_eq (λ k m. refl) ks k
 
-pub borrowed_after_insert : (ks : List (Bor Name)) (k : Bor Name) → map (λ n. n.now) (insert_key (λ a b. bytes_eq a.now b.now) ks k) ≡ with_name (map
+pub borrowed_after_insert : (ks : List (Bor FileName)) (k : Bor FileName) → map (λ n. n.now) (insert_key (λ a b. bytes_eq a.now b.now) ks k) ≡ with_name (map
     (λ n. n.now) ks) k.now
 borrowed_after_insert ks k = seen_after_insert (λ n. n.now) (λ a b. bytes_eq a.now b.now) (λ k m. refl) ks k
 
-any_same : (k : Name) (ks : List (String Global)) → list_any (λ m. bytes_eq k m) (map string_bytes ks) ≡ list_any (λ m. bytes_eq k (string_bytes m)) ks
+any_same : (k : FileName) (ks : List (String Global)) → list_any (λ m. bytes_eq k m) (map string_bytes ks) ≡ list_any (λ m. bytes_eq k (string_bytes m)) ks
 any_same k [] = refl
 any_same k (m ∷ ks) = ap (λ b. bytes_eq k (string_bytes m) || b) (any_same k ks)
 
 -- inserting a name that is there changes nothing
-pub name_is_there : (ks : List (String Global)) (k : Name) → list_any (λ m. bytes_eq k (string_bytes m)) ks ≡ true → map string_bytes ks ≡ with_name
+pub name_is_there : (ks : List (String Global)) (k : FileName) → list_any (λ m. bytes_eq k (string_bytes m)) ks ≡ true → map string_bytes ks ≡ with_name
     (map string_bytes ks) k
 name_is_there ks k h = rw (any_same k ks ∙ h) refl
 
 -- one more of the names that are noted
-pub note_more : (ns : List Name) (names : List (Bor Name)) (i : ℕ) (d : Bor Name) → i < length names →
+pub note_more : (ns : List FileName) (names : List (Bor FileName)) (i : ℕ) (d : Bor FileName) → i < length names →
     fold with_name ns (map (λ n. n.now) (take (i + 1) names)) ≡ with_name (fold with_name ns (map (λ n. n.now) (take i names))) (get_or names i d).now
 note_more ns names i d l =
     ap (fold with_name ns) (map_more (λ n. n.now) names i d l) ∙ fold-append with_name ns (map (λ n. n.now) (take i names)) ((get_or names i d).now ∷ [])
@@ -54,7 +54,7 @@ note_more ns names i d l =
 -- ---- a map
 
 module _ {V : Type 0} where
-  abbrev key_bytes : (String Global × V) → Name
+  abbrev key_bytes : (String Global × V) → FileName
   key_bytes e = string_bytes e.0
 
   by_key : (e : String Global × V) (es : List (String Global × V)) (k : String Global) (v : V) (b : Bool) → string_eq k e.0 ≡ b → ¬ (Among

@@ -7,7 +7,8 @@ use Rattle.rng_model.specs.schema.Patterns.{Place}
 use Rattle.rnc_model.specs.grammar.Syntax as tree
 use Rattle.rnc_model.specs.grammar.Syntax.{applied}
 use Rattle.rnc_model.specs.declarations.FileTree.{FileTree}
-use Rattle.rnc_model.specs.loading.Places.{TreePath, Gathered, Gathers, main_grammar, HasGrammar, main_is, nested_is}
+use Rattle.rnc_model.specs.loading.Places.{TreePath, Gathered, main_grammar}
+use Rattle.rnc_model.specs.loading.LoadedSchema.{Gathers, HasGrammar, main_is, nested_is}
 use Rattle.rng_load.proofs.OneSchema.{one_gathering}
 use Rattle.rng_load.specs.plain.FoundGrammars.{nested_in}
 use Rattle.rng_load.proofs.PlacesApart.{longer, same_entry, in_nested, gathered_children}

@@ -1,15 +1,18 @@
 -- A set of files has at most one schema.
 use Rattle.std.proofs.Common.{◌≡◌, refl, sym, subst, ap, ap₂, ◌∙◌, ℕ, List, [], ◌∷◌, ◌++◌, Option, Some, None, map, filter, not}
-use Rattle.rng_model.specs.schema.Patterns.{Place, Pattern, members}
+use Rattle.rng_model.specs.schema.Patterns.{Place, Pattern, joined_members}
 use Rattle.rng_model.specs.schema.Patterns as pattern
 use Rattle.rng_model.specs.schema.Schema.{Schema, Component}
 use Rattle.rnc_model.specs.grammar.Syntax as tree
 use Rattle.rnc_model.specs.grammar.Syntax.{applied}
-use Rattle.rnc_model.specs.declarations.FileTree.{FileTree, grammar_file, pattern_file, grammar_of}
-use Rattle.rnc_model.specs.loading.Places.{TreePath, Nested, Gathered, is_overridden, uri_in, class_in, datatype_in, HasGrammar, IsSchemaOf}
-use Rattle.rnc_model.specs.loading.Places.{Reads, element_is, attribute_is, list_is, mixed_is, optional_is, zero_or_more_is, one_or_more_is, ref_is, parent_ref_is}
-use Rattle.rnc_model.specs.loading.Places.{empty_is, text_is, not_allowed_is, value_is, data_is, except_is, grammar_is, pattern_file_is, grammar_file_is, joined_is}
-use Rattle.rnc_model.specs.loading.Places.{ReadAll, none_are, more_are, Gathers, nothing, a_start, a_define, a_div, an_include}
+use Rattle.rnc_model.specs.declarations.FileTree.{FileTree, grammar_file, pattern_file, grammar_components}
+use Rattle.rnc_model.specs.loading.Places.{TreePath, Nested, Gathered, is_overridden, uri_in, class_in, datatype_in}
+use Rattle.rnc_model.specs.loading.LoadedSchema.{HasGrammar, IsSchemaOf, Gathers, nothing, a_start, a_define, a_div, an_include}
+use Rattle.rnc_model.specs.loading.Places.{Reads, element_is, attribute_is, list_is, mixed_is, optional_is, zero_or_more_is, one_or_more_is, ref_is}
+use Rattle.rnc_model.specs.loading.Places.{parent_ref_is}
+use Rattle.rnc_model.specs.loading.Places.{empty_is, text_is, not_allowed_is, value_is, data_is, except_is, grammar_is, pattern_file_is, grammar_file_is}
+use Rattle.rnc_model.specs.loading.Places.{joined_is}
+use Rattle.rnc_model.specs.loading.Places.{ReadAll, none_are, more_are}
 
 same_content : {o : Option FileTree} {a b : tree.Pattern applied} → o ≡ Some (pattern_file a) → o ≡ Some (pattern_file b) → b ≡ a
 same_content e f = cc
@@ -20,7 +23,7 @@ same_components e f = cc
 not_both : {o : Option FileTree} {a : tree.Pattern applied} {b : tree.Components applied} → o ≡ Some (pattern_file a) → o ≡ Some (grammar_file b) → ⊥
 not_both e f = cc
 
-same_included : {o : Option FileTree} {f g : FileTree} {a b : tree.Components applied} → o ≡ Some f → o ≡ Some g → grammar_of f ≡ Some a → grammar_of g ≡ Some b
+same_included : {o : Option FileTree} {f g : FileTree} {a b : tree.Components applied} → o ≡ Some f → o ≡ Some g → grammar_components f ≡ Some a → grammar_components g ≡ Some b
     → b ≡ a
 same_included e f i j = cc
 
@@ -52,7 +55,7 @@ module _ (files : List ℕ → Option FileTree) where
     one_pattern (grammar_file_is f) (pattern_file_is g e) = absurd (not_both g f)
     one_pattern (grammar_file_is {u} {x} {m} f) (grammar_file_is g) =
         (refl, ap (λ cs. record { place = x; uri = uri_in u m.inherit; components = cs } ∷ []) (same_components f g))
-    one_pattern (joined_is d) (joined_is {k = k} e) = let i = all_one d e in (ap (members k) i.0, i.1)
+    one_pattern (joined_is d) (joined_is {k = k} e) = let i = all_one d e in (ap (joined_members k) i.0, i.1)
 
     -- patterns are read in only one way
     pub all_one : {u : List ℕ} {x : TreePath} {n : ℕ} {all : tree.Patterns applied} {ps qs : List Pattern} {gs hs : List Nested} → ReadAll files u x n all ps gs

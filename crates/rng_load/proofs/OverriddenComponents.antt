@@ -2,7 +2,7 @@
 use Rattle.std.proofs.Common.{◌≡◌, ◌∙◌, refl, ap, Bool, true, false, List, [], ◌∷◌, ◌++◌, ◌||◌, map, filter, not}
 use Rattle.std.proofs.lemmas.List.{map-append}
 use Rattle.std.proofs.lemmas.List.Elements.{filter_agree}
-use Rattle.rng_model.specs.schema.Schema.{same_name}
+use Rattle.rng_model.specs.schema.Schema.{same_component_name}
 use Rattle.rnc_model.specs.loading.Places.{is_overridden}
 use Rattle.rng_load.specs.plain.PlainReading as plain
 use Rattle.rng_load.specs.views.GatheredComponents.{gathered_of}
@@ -25,7 +25,7 @@ module _ {E B : Type 0} (view : E → B) (test : B → Bool) where
 overrides_same : (os : List (GatheredComponent NestedGrammar)) (g : GatheredComponent NestedGrammar)
     → is_overridden (map without_grammars os) (without_grammars g) ≡ is_overridden (map gathered_of os) (gathered_of g)
 overrides_same [] g = refl
-overrides_same (o ∷ os) g = ap (λ b. same_name (gathered_of o).component.name (gathered_of g).component.name || b) (overrides_same os g)
+overrides_same (o ∷ os) g = ap (λ b. same_component_name (gathered_of o).component.name (gathered_of g).component.name || b) (overrides_same os g)
 
 abbrev is_kept : List (GatheredComponent NestedGrammar) → GatheredComponent NestedGrammar → Bool
 is_kept os g = not (is_overridden (map gathered_of os) (gathered_of g))

@@ -7,18 +7,18 @@ use Rattle.rnc_model.specs.grammar.Syntax.{applied, inherited}
 use Rattle.rnc_model.specs.declarations.FileTree.{FileTree, pattern_file}
 use Rattle.rng_load.specs.plain.Counting.{paths, paths_along, HasPaths, has, have_none, have_more}
 use Rattle.rnc_model.specs.loading.Loading.{TakenFiles, hrefs_in}
-use Rattle.rnc_model.specs.loading.MentionPaths.{IsCyclic, HasMorePathsThan, directly, through}
-use Rattle.rnc_model.specs.loading.SchemaFile.{Name}
+use Rattle.rnc_model.specs.loading.Mentions.{IsCyclic, HasMorePathsThan, directly, through}
+use Rattle.rnc_model.specs.loading.SchemaFile.{FileName}
 use Rattle.rng_load.proofs.CountedPaths.{at_most}
 use Rattle.rng_load.proofs.PathLists.{more_here, more_found}
 
-abbrev a : Name
+abbrev a : FileName
 a = codes "a.rnc"
 
-abbrev b : Name
+abbrev b : FileName
 b = codes "b.rnc"
 
-abbrev mention : Name → tree.Pattern applied
+abbrev mention : FileName → tree.Pattern applied
 mention f = tree.external (record { href = f; inherit = inherited; token = 0 })
 
 -- ---- cycles of mentions

@@ -4,8 +4,8 @@ use Rattle.std.proofs.Common.{List, [], ◌∷◌, length, map, slice_get}
 use Rattle.std.proofs.lemmas.Option.{same_Some}
 use Rattle.rng_model.proofs.Members.{among_mapped}
 use Rattle.rng_model.specs.names.Lists.{Among, there, HasTwice}
-use Rattle.rnc_model.specs.loading.MentionPaths.{Path, IsPath, path_ends, path_goes_on, HasMorePathsThan, BreaksMentions, path_limit}
-use Rattle.rnc_model.specs.loading.SchemaFile.{Name}
+use Rattle.rnc_model.specs.loading.Mentions.{Path, IsPath, path_ends, path_goes_on, HasMorePathsThan, BreaksMentions, path_limit}
+use Rattle.rnc_model.specs.loading.SchemaFile.{FileName}
 use Rattle.rng_load.specs.plain.Counting.{paths, paths_along, Breaks}
 use Rattle.rng_load.proofs.NameLists.{none_twice, in_cons, in_none, in_left, in_right, in_either, in_first, from_map, no_more}
 use Rattle.rng_load.proofs.DistinctLists.{differ_cons, differ_append, differ_map}
@@ -13,11 +13,11 @@ use Rattle.rng_load.proofs.DistinctLists.{differ_cons, differ_append, differ_map
 cons_nil : {i : ℕ} {p : Path} → ◌≡◌ {A = Path} [] (i ∷ p) → ⊥
 cons_nil e = cc
 
-none_some : {g : Name} → None ≡ Some g → ⊥
+none_some : {g : FileName} → None ≡ Some g → ⊥
 none_some e = cc
 
-module _ (from : Name → List Path) where
-  in_along : (at : ℕ) (gs : List Name) (i : ℕ) (g : Name) {p : Path} → slice_get gs i ≡ Some g → Among p (from g)
+module _ (from : FileName → List Path) where
+  in_along : (at : ℕ) (gs : List FileName) (i : ℕ) (g : FileName) {p : Path} → slice_get gs i ≡ Some g → Among p (from g)
       → Among ((at + i) ∷ p) (paths_along from at gs)
   unfolding paths_along
   in_along at [] i g e h = absurd (none_some e)
@@ -30,15 +30,15 @@ module _ (from : Name → List Path) where
       let next : at + 1 + i ≡ at + suc i = omega arith in
       in_right (map (λ q. at ∷ q) (from x)) (subst (λ j. Among (j ∷ p) (paths_along from (at + 1) gs)) next (in_along (at + 1) gs i g e h))
 
-  pub record IsAlong (at : ℕ) (gs : List Name) (q : Path) : Type 0 where
+  pub record IsAlong (at : ℕ) (gs : List FileName) (q : Path) : Type 0 where
     pub i : ℕ
-    pub g : Name
+    pub g : FileName
     pub p : Path
     pub mentioned : slice_get gs i ≡ Some g
     pub goes_on : Among p (from g)
     pub whole : q ≡ (at + i) ∷ p
 
-  from_along : (at : ℕ) (gs : List Name) {q : Path} → Among q (paths_along from at gs) → IsAlong at gs q
+  from_along : (at : ℕ) (gs : List FileName) {q : Path} → Among q (paths_along from at gs) → IsAlong at gs q
   unfolding paths_along
   from_along at [] h = absurd (in_none h)
   from_along at (x ∷ gs) h = elim (in_either (map (λ p. at ∷ p) (from x)) h) [
@@ -60,7 +60,7 @@ module _ (from : Name → List Path) where
   tail_is : (at : ℕ) (p q : Path) → at ∷ p ≡ at ∷ q → p ≡ q
   tail_is at p q e = cc
 
-  differ_along : ((g : Name) → ¬ (HasTwice (from g))) → (at : ℕ) (gs : List Name) → ¬ (HasTwice (paths_along from at gs))
+  differ_along : ((g : FileName) → ¬ (HasTwice (from g))) → (at : ℕ) (gs : List FileName) → ¬ (HasTwice (paths_along from at gs))
   unfolding paths_along
   differ_along d at [] = none_twice
   differ_along d at (g ∷ gs) =
@@ -68,8 +68,8 @@ module _ (from : Name → List Path) where
       (differ_map (λ p. at ∷ p) (tail_is at) (from g) (d g)) (differ_along d (at + 1) gs)
       (λ x a b. let r = from_map (λ p. at ∷ p) (from g) a in let s = from_along (at + 1) gs b in apart at s.i (sym r.2 ∙ s.whole))
 
-module _ (mentions : Name → List Name) where
-  in_paths : {f : Name} {p : Path} → IsPath mentions f p → (n : ℕ) → length p ≤ n → Among p (paths mentions n f)
+module _ (mentions : FileName → List FileName) where
+  in_paths : {f : FileName} {p : Path} → IsPath mentions f p → (n : ℕ) → length p ≤ n → Among p (paths mentions n f)
   unfolding paths
   in_paths (path_ends e) zero l = in_first [] e
   in_paths {f} (path_ends e) (suc n) l = in_first (paths_along (paths mentions n) 0 (mentions f)) e
@@ -80,7 +80,7 @@ module _ (mentions : Name → List Name) where
       let goes_on = in_along (paths mentions n) 0 (mentions f) i g m (in_paths w n (omega (arith, len, l))) in
       there (subst (λ x. Among x (paths_along (paths mentions n) 0 (mentions f))) (ap (λ j. j ∷ p) zeroth ∙ sym e) goes_on)
 
-  from_paths : (n : ℕ) (f : Name) {p : Path} → Among p (paths mentions n f) → IsPath mentions f p
+  from_paths : (n : ℕ) (f : FileName) {p : Path} → Among p (paths mentions n f) → IsPath mentions f p
   unfolding paths
   from_paths zero f h = elim (in_cons h) [ inl e ↦ path_ends e | inr k ↦ absurd (in_none k) ]
   from_paths (suc n) f h = elim (in_cons h) [
@@ -91,7 +91,7 @@ module _ (mentions : Name → List Name) where
         path_goes_on r.mentioned (from_paths n r.g r.goes_on) (r.whole ∙ ap (λ i. i ∷ r.p) zeroth)
   ]
 
-  differ_paths : (n : ℕ) (f : Name) → ¬ (HasTwice (paths mentions n f))
+  differ_paths : (n : ℕ) (f : FileName) → ¬ (HasTwice (paths mentions n f))
   unfolding paths
   differ_paths zero f = differ_cons in_none none_twice
   differ_paths (suc n) f =
@@ -107,20 +107,20 @@ module _ (mentions : Name → List Name) where
       )
 
   -- the lists of paths count the existing paths
-  pub more_here : {f : Name} (limit n : ℕ) → limit < length (paths mentions n f) → HasMorePathsThan mentions limit f
+  pub more_here : {f : FileName} (limit n : ℕ) → limit < length (paths mentions n f) → HasMorePathsThan mentions limit f
   more_here {f} limit n l = record { some = paths mentions n f; differ = differ_paths n f; are = λ p h. from_paths n f h; more = l }
 
-  pub more_found : {f : Name} (limit : ℕ) → HasMorePathsThan mentions limit f → (n : ℕ) × limit < length (paths mentions n f)
+  pub more_found : {f : FileName} (limit : ℕ) → HasMorePathsThan mentions limit f → (n : ℕ) × limit < length (paths mentions n f)
   more_found {f} limit m =
       let r = longest m.some in
       let few = no_more m.some (paths mentions r.0 f) m.differ (λ p h. in_paths (m.are p h) r.0 (r.1 p h)) in
       let more = m.more in
       (r.0, omega (arith, few, more))
 
-  pub breaks_here : {f : Name} → Breaks mentions f → BreaksMentions mentions f
+  pub breaks_here : {f : FileName} → Breaks mentions f → BreaksMentions mentions f
   breaks_here (inl c) = inl c
   breaks_here (inr w) = inr (more_here path_limit w.0 w.1)
 
-  pub breaks_found : {f : Name} → BreaksMentions mentions f → Breaks mentions f
+  pub breaks_found : {f : FileName} → BreaksMentions mentions f → Breaks mentions f
   breaks_found (inl c) = inl c
   breaks_found (inr m) = inr (more_found path_limit m)

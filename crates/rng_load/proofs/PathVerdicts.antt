@@ -3,8 +3,8 @@ use Rattle.std.proofs.Common.{◌≡◌, refl, sym, ℕ, List, Bool, true, false
 use Rattle.std.specs.Bool.{IsTrue}
 use Rattle.std.specs.Option.{is_some}
 use Rattle.std.specs.Prelude.{◌↔◌, MatchOption, not}
-use Rattle.rnc_model.specs.loading.MentionPaths.{BreaksMentions, path_limit}
-use Rattle.rnc_model.specs.loading.SchemaFile.{Name}
+use Rattle.rnc_model.specs.loading.Mentions.{BreaksMentions, path_limit}
+use Rattle.rnc_model.specs.loading.SchemaFile.{FileName}
 use Rattle.rng_load.proofs.PathLists.{breaks_found, breaks_here}
 use Rattle.rng_load.specs.plain.Counting.{HasFewPaths, StopsAt}
 use Rattle.rng_load.proofs.CountedPaths.{few_keep, long_breaks}
@@ -12,7 +12,7 @@ use Rattle.rng_load.proofs.CountedPaths.{few_keep, long_breaks}
 no_truth : IsTrue false → ⊥
 no_truth w = cc
 
-module _ (mentions : Name → List Name) (f : Name) where
+module _ (mentions : FileName → List FileName) (f : FileName) where
   stopped : StopsAt mentions path_limit f → BreaksMentions mentions f
   stopped (inl b) = breaks_here mentions b
   stopped (inr q) = breaks_here mentions (long_breaks mentions q)

@@ -10,8 +10,9 @@ use Rattle.rng_model.specs.declared.method.Method.TheVariants as methods
 use Rattle.rnc_model.specs.grammar.Syntax as tree
 use Rattle.rnc_model.specs.grammar.Syntax.{applied, Namespace, inherited, given}
 use Rattle.rnc_model.specs.declarations.FileTree.{FileTree, grammar_file, pattern_file}
-use Rattle.rnc_model.specs.loading.Places.{Gathered, Gathers, nothing, a_start, a_define, an_include, ref_is, element_is, empty_is, grammar_is}
-use Rattle.rnc_model.specs.loading.Places.{Reads, pattern_file_is, grammar_file_is, HasGrammar, main_is, nested_is, Nested, IsSchemaOf}
+use Rattle.rnc_model.specs.loading.Places.{Gathered, ref_is, element_is, empty_is, grammar_is}
+use Rattle.rnc_model.specs.loading.LoadedSchema.{Gathers, nothing, a_start, a_define, an_include, HasGrammar, main_is, nested_is, IsSchemaOf}
+use Rattle.rnc_model.specs.loading.Places.{Reads, pattern_file_is, grammar_file_is, Nested}
 use Rattle.rng_load.proofs.NameLists.{in_none}
 
 -- every mention is of this file

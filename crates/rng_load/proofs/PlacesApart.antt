@@ -9,9 +9,12 @@ use Rattle.rnc_model.specs.grammar.Syntax.{applied}
 use Rattle.rnc_model.specs.declarations.FileTree.{FileTree}
 use Rattle.rng_load.specs.plain.FoundGrammars.{nested_in}
 use Rattle.rnc_model.specs.loading.Places.{TreePath, Nested, Gathered, is_overridden}
-use Rattle.rnc_model.specs.loading.Places.{Reads, element_is, attribute_is, list_is, mixed_is, optional_is, zero_or_more_is, one_or_more_is, ref_is, parent_ref_is}
-use Rattle.rnc_model.specs.loading.Places.{empty_is, text_is, not_allowed_is, value_is, data_is, except_is, grammar_is, pattern_file_is, grammar_file_is, joined_is}
-use Rattle.rnc_model.specs.loading.Places.{ReadAll, none_are, more_are, Gathers, nothing, a_start, a_define, a_div, an_include}
+use Rattle.rnc_model.specs.loading.Places.{Reads, element_is, attribute_is, list_is, mixed_is, optional_is, zero_or_more_is, one_or_more_is, ref_is}
+use Rattle.rnc_model.specs.loading.Places.{parent_ref_is}
+use Rattle.rnc_model.specs.loading.Places.{empty_is, text_is, not_allowed_is, value_is, data_is, except_is, grammar_is, pattern_file_is, grammar_file_is}
+use Rattle.rnc_model.specs.loading.Places.{joined_is}
+use Rattle.rnc_model.specs.loading.Places.{ReadAll, none_are, more_are}
+use Rattle.rnc_model.specs.loading.LoadedSchema.{Gathers, nothing, a_start, a_define, a_div, an_include}
 use Rattle.rng_load.proofs.NameLists.{in_none, in_cons, in_either, in_left, in_right}
 
 -- ---- ways

@@ -8,20 +8,23 @@ use Rattle.rng_model.specs.names.Lists.{Among, here, there}
 use Rattle.rng_model.specs.schema.Patterns.{Place, Pattern}
 use Rattle.rnc_model.specs.grammar.Syntax as tree
 use Rattle.rnc_model.specs.grammar.Syntax.{applied}
-use Rattle.rnc_model.specs.declarations.FileTree.{FileTree, grammar_file, pattern_file, grammar_of, whole_grammar}
+use Rattle.rnc_model.specs.declarations.FileTree.{FileTree, grammar_file, pattern_file, grammar_components, whole_grammar}
 use Rattle.rnc_model.specs.loading.Mentions.{MentionedFile, external_file, included_file, mention_of, mentions_of, mentions_of_pattern, mentions_of_patterns}
-use Rattle.rnc_model.specs.loading.Mentions.{mentions_of_components}
-use Rattle.rnc_model.specs.loading.MentionPaths.{BreaksMentions, path_limit}
+use Rattle.rnc_model.specs.loading.Mentions.{mentions_of_components, BreaksMentions, path_limit}
 use Rattle.rnc_model.specs.loading.Loading.{hrefs_if, TakenFiles, tree_in, hrefs_in, BreaksIncludes, no_grammar}
 use Rattle.rnc_model.specs.loading.FileGrammars.{grammar_if}
-use Rattle.rnc_model.specs.loading.SchemaFile.{Name}
+use Rattle.rnc_model.specs.loading.SchemaFile.{FileName}
 use Rattle.rng_load.specs.plain.Counting.{IsLong, long_end, long_more}
-use Rattle.rnc_model.specs.loading.Places.{TreePath, Nested, Gathered, is_overridden, uri_in, grammar_or_start, main_grammar, HasGrammar, main_is, nested_is}
-use Rattle.rnc_model.specs.loading.Places.{Reads, element_is, attribute_is, list_is, mixed_is, optional_is, zero_or_more_is, one_or_more_is, ref_is, parent_ref_is}
-use Rattle.rnc_model.specs.loading.Places.{empty_is, text_is, not_allowed_is, value_is, data_is, except_is, grammar_is, pattern_file_is, grammar_file_is, joined_is}
-use Rattle.rnc_model.specs.loading.Places.{ReadAll, none_are, more_are, Gathers, nothing, a_start, a_define, a_div, an_include}
+use Rattle.rnc_model.specs.loading.Places.{TreePath, Nested, Gathered, is_overridden, uri_in, grammar_or_start, main_grammar}
+use Rattle.rnc_model.specs.loading.LoadedSchema.{HasGrammar, main_is, nested_is, Gathers, nothing, a_start, a_define, a_div, an_include}
+use Rattle.rnc_model.specs.loading.Places.{Reads, element_is, attribute_is, list_is, mixed_is, optional_is, zero_or_more_is, one_or_more_is, ref_is}
+use Rattle.rnc_model.specs.loading.Places.{parent_ref_is}
+use Rattle.rnc_model.specs.loading.Places.{empty_is, text_is, not_allowed_is, value_is, data_is, except_is, grammar_is, pattern_file_is, grammar_file_is}
+use Rattle.rnc_model.specs.loading.Places.{joined_is}
+use Rattle.rnc_model.specs.loading.Places.{ReadAll, none_are, more_are}
 use Rattle.rng_load.specs.plain.PlainReading.{PatternReader, Gatherer, external_with, included_with, read_with, read_all_with, gather_with, gather_one_with}
-use Rattle.rng_load.specs.plain.PlainReading.{read_below, read_at, read_all_at, gather_below, gather_at, IsFollowed, AreFollowed, IsReadable, AreReadable, Serves}
+use Rattle.rng_load.specs.plain.PlainReading.{read_below, read_at, read_all_at, gather_below, gather_at, IsFollowed, AreFollowed, IsReadable, AreReadable}
+use Rattle.rng_load.specs.plain.PlainReading.{Serves}
 use Rattle.rng_load.proofs.CountedPaths.{long_breaks}
 use Rattle.rng_load.proofs.PathLists.{breaks_here}
 use Rattle.rng_load.proofs.NameLists.{in_none, in_cons, in_first, in_either, in_left, in_right}
@@ -33,7 +36,7 @@ whole_mentions (tree.grammar ds) cs e = let s : ds ≡ cs = cc in ap mentions_of
 whole_mentions _ cs e = absurd cc
 
 -- a grammar mentions the same files as its file
-pub grammar_mentions : (t : FileTree) (cs : tree.Components applied) → grammar_of t ≡ Some cs → mentions_of_components cs ≡ mentions_of t
+pub grammar_mentions : (t : FileTree) (cs : tree.Components applied) → grammar_components t ≡ Some cs → mentions_of_components cs ≡ mentions_of t
 grammar_mentions (grammar_file ds) cs e = let s : ds ≡ cs = cc in ap mentions_of_components (sym s)
 grammar_mentions (pattern_file p) cs e = whole_mentions p cs e
 
@@ -64,7 +67,7 @@ module _ (files : List ℕ → Option FileTree) where
 
   -- the components of the included file
   abbrev IncludedAre : Gatherer → tree.Mention applied → Type 0
-  IncludedAre below m = (t : FileTree) × (is : tree.Components applied) × (files m.href ≡ Some t) × (grammar_of t ≡ Some is)
+  IncludedAre below m = (t : FileTree) × (is : tree.Components applied) × (files m.href ≡ Some t) × (grammar_components t ≡ Some is)
       × ((v : List ℕ) (x : TreePath) → Gathers files v (0 ∷ x) 0 is (included_with below v x (grammar_if (files m.href))))
 
   abbrev IncludeSound : ℕ → Gatherer → Type 0
@@ -154,7 +157,7 @@ module _ (files : List ℕ → Option FileTree) where
   read_all_sound n = read_all_with_sound n (read_below files n) (external_sound n)
 
   included_of : (n : ℕ) (below : Gatherer) → GathererSound n below → (m : tree.Mention applied) (t : FileTree) (is : tree.Components applied)
-      → files m.href ≡ Some t → grammar_of t ≡ Some is → AreReadable files n is → IncludedAre below m
+      → files m.href ≡ Some t → grammar_components t ≡ Some is → AreReadable files n is → IncludedAre below m
   unfolding included_with
   included_of n below sound m t is e g all =
       let found = ap grammar_if e ∙ g in
@@ -329,41 +332,41 @@ main_mentions (pattern_file p) m i = by_whole (whole_grammar p) refl i where
   by_whole None e i = only_that (mentions_of_pattern p) i
   by_whole (Some cs) e i = subst (Among m) (whole_mentions p cs e) i
 
-found_first : (f : Name) (t : FileTree) (x : Name × FileTree) (read : TakenFiles) (b : Bool) → cond b (Some x.1) (tree_in read f) ≡ Some t
-    → (tree_in read f ≡ Some t → (file : Name × FileTree) × Among file read × (file.1 ≡ t)) → (file : Name × FileTree) × Among file (x ∷ read) × (file.1 ≡ t)
+found_first : (f : FileName) (t : FileTree) (x : FileName × FileTree) (read : TakenFiles) (b : Bool) → cond b (Some x.1) (tree_in read f) ≡ Some t
+    → (tree_in read f ≡ Some t → (file : FileName × FileTree) × Among file read × (file.1 ≡ t)) → (file : FileName × FileTree) × Among file (x ∷ read) × (file.1 ≡ t)
 found_first f t x read true e ih = let s : x.1 ≡ t = cc in (x, here, s)
 found_first f t x read false e ih = let r = ih e in (r.0, there r.1, r.2)
 
 -- a file that is found is one of those that were read
-pub found_among : (read : TakenFiles) (f : Name) (t : FileTree) → tree_in read f ≡ Some t → (file : Name × FileTree) × Among file read × (file.1 ≡ t)
+pub found_among : (read : TakenFiles) (f : FileName) (t : FileTree) → tree_in read f ≡ Some t → (file : FileName × FileTree) × Among file read × (file.1 ≡ t)
 found_among [] f t e = absurd cc
 found_among (x ∷ read) f t e = found_first f t x read (bytes_eq f x.0) e (found_among read f t)
 
 module _ (read : TakenFiles) where
   -- each name that one of the files mentions is that of one of them
   abbrev pub AreClosed : Type 0
-  AreClosed = (f g : Name) → Among g (hrefs_in read f) → (t : FileTree) × (tree_in read g ≡ Some t)
+  AreClosed = (f g : FileName) → Among g (hrefs_in read f) → (t : FileTree) × (tree_in read g ≡ Some t)
 
   module _ (closed : AreClosed) (kept : ¬ (BreaksIncludes read)) where
-    in_mentions : (f : Name) (t : FileTree) (m : MentionedFile) → tree_in read f ≡ Some t → Among m (mentions_of t)
+    in_mentions : (f : FileName) (t : FileTree) (m : MentionedFile) → tree_in read f ≡ Some t → Among m (mentions_of t)
         → Among (mention_of m).href (hrefs_in read f)
     in_mentions f t m e i = subst (λ o. Among (mention_of m).href (hrefs_if o)) (sym e) (among_mapped (λ m. (mention_of m).href) i)
 
-    serves : (f : Name) (t s : FileTree) (m : MentionedFile) → tree_in read f ≡ Some t → Among m (mentions_of t) → tree_in read (mention_of m).href ≡ Some s
+    serves : (f : FileName) (t s : FileTree) (m : MentionedFile) → tree_in read f ≡ Some t → Among m (mentions_of t) → tree_in read (mention_of m).href ≡ Some s
         → Serves (tree_in read) s m
     serves f t s (external_file m) e i g = tt
-    serves f t s (included_file m over) e i g = by_grammar (grammar_of s) refl where
-      broken : grammar_of s ≡ None → BreaksIncludes read
+    serves f t s (included_file m over) e i g = by_grammar (grammar_components s) refl where
+      broken : grammar_components s ≡ None → BreaksIncludes read
       broken n =
           let file = found_among read f t e in
           (file.0, file.1, (included_file m over, subst (λ t. Among (included_file m over) (mentions_of t)) (sym file.2) i, no_grammar g n))
 
-      by_grammar : (o : Option (tree.Components applied)) → grammar_of s ≡ o → (is : tree.Components applied) × (grammar_of s ≡ Some is)
+      by_grammar : (o : Option (tree.Components applied)) → grammar_components s ≡ o → (is : tree.Components applied) × (grammar_components s ≡ Some is)
       by_grammar None n = absurd (kept (broken n))
       by_grammar (Some is) n = (is, n)
 
     -- if a file has no path of n steps, each of its mentions can be followed for n levels
-    pub all_followed : (n : ℕ) (f : Name) (t : FileTree) → tree_in read f ≡ Some t → ¬ (IsLong (hrefs_in read) n f)
+    pub all_followed : (n : ℕ) (f : FileName) (t : FileTree) → tree_in read f ≡ Some t → ¬ (IsLong (hrefs_in read) n f)
         → AreFollowed (tree_in read) n (mentions_of t)
     unfolding IsFollowed
     all_followed zero f t e short m i = absurd (short (long_end refl))
@@ -373,7 +376,7 @@ module _ (read : TakenFiles) where
         let rest = all_followed n (mention_of m).href file.0 file.1 (λ long. short (long_more mentioned long refl)) in
         (file.0, file.1, serves f t file.0 m e i file.1, rest)
 
-    module _ (main : Name) (t : FileTree) (there_is : tree_in read main ≡ Some t) (paths : ¬ (BreaksMentions (hrefs_in read) main)) where
+    module _ (main : FileName) (t : FileTree) (there_is : tree_in read main ≡ Some t) (paths : ¬ (BreaksMentions (hrefs_in read) main)) where
       -- the components of the main file are readable
       pub main_readable : AreReadable (tree_in read) path_limit (main_grammar t)
       main_readable m i =

@@ -13,7 +13,7 @@ use Rattle.rnc_model.specs.loading.Loading.{TakenFiles, with_name, hrefs_of, fil
 use Rattle.rng_load.specs.views.LoadingFaults.{IsNamedTree, IsTheReading, verdict_of_reading}
 use Rattle.rng_load.specs.declared.fault.ReadingFault.{ReadingFault}
 use Rattle.rng_load.specs.declared.fault.ReadingFault.TheVariants as readings
-use Rattle.rnc_model.specs.loading.SchemaFile.{Name, NamedFile}
+use Rattle.rnc_model.specs.loading.SchemaFile.{FileName, NamedFile}
 use Rattle.rnc_model.specs.loading.FileVerdicts.{breaks, has_tree, FileHasOnlyVerdict}
 use Rattle.rng_load.proofs.NameSets.{entry_goes_last}
 use Rattle.rng_load.proofs.TakenFiles.{IsFirm, more_firm, firm_taken, fresh, few_taken, first_broken, first_of}
@@ -36,7 +36,7 @@ name_at (m ∷ ks) (suc i) e = name_at ks i e
 pub no_name_left : (ks : List (String Global)) (i : ℕ) → None ≡ slice_get ks i → length (map string_bytes ks) ≤ i
 no_name_left ks i e = let l = ends_before ks i (sym e) in omega (arith, l, length-map ks string_bytes)
 
-module _ (files : List NamedFile) (main : Name) (es : Entries) (names : List Name) (firm : IsFirm files main (entries_of es) names)
+module _ (files : List NamedFile) (main : FileName) (es : Entries) (names : List FileName) (firm : IsFirm files main (entries_of es) names)
     (name : String Global) (next : slice_get names (length es) ≡ Some (string_bytes name)) where
   abbrev at : slice_get names (length (entries_of es)) ≡ Some (string_bytes name)
   at = ap (slice_get names) (length_entries es) ∙ next
@@ -49,12 +49,12 @@ module _ (files : List NamedFile) (main : Name) (es : Entries) (names : List Nam
       (first_broken files main (string_bytes name) clause (record { before = entries_of es; names = names; firm = firm; next = at; broken = v }))
 
   -- a file without a tree ends the walk
-  pub as_told : (f : Name) → f ≡ string_bytes name → (fault : ReadingFault) → IsNamedTree files main f (Err fault)
+  pub as_told : (f : FileName) → f ≡ string_bytes name → (fault : ReadingFault) → IsNamedTree files main f (Err fault)
       → IfSome (verdict_of_reading fault) (IsTheReading files main)
   as_told f e (readings.File clause told) t = breaks_here clause told (t.0 ∙ e) (subst (λ g. FileHasOnlyVerdict files main g (breaks clause)) e t.1)
   as_told f e readings.Memory t = tt
 
-  module _ (tree : declared.FileTree) (f : Name) (same : f ≡ string_bytes name) (told : FileHasOnlyVerdict files main f (has_tree (file_of tree))) where
+  module _ (tree : declared.FileTree) (f : FileName) (same : f ≡ string_bytes name) (told : FileHasOnlyVerdict files main f (has_tree (file_of tree))) where
     abbrev v : FileHasOnlyVerdict files main (string_bytes name) (has_tree (file_of tree))
     v = subst (λ g. FileHasOnlyVerdict files main g (has_tree (file_of tree))) same told
 
@@ -64,12 +64,12 @@ module _ (files : List NamedFile) (main : Name) (es : Entries) (names : List Nam
       keys_same [] = refl
       keys_same (e ∷ es) = ap (λ ns. string_bytes e.0 ∷ ns) (keys_same es)
 
-    pub goes_on : (new : Entries) (more : List Name) → new ≡ insert_entry string_eq es name tree → more ≡ fold with_name names (hrefs_of (file_of tree)) →
+    pub goes_on : (new : Entries) (more : List FileName) → new ≡ insert_entry string_eq es name tree → more ≡ fold with_name names (hrefs_of (file_of tree)) →
         IsFirm files main (entries_of new) more
     goes_on new more e m = more_firm firm at v
         (ap entries_of (e ∙ entry_goes_last es name tree new_name) ∙ map-append (λ e. (string_bytes e.0, file_of e.1)) es ((name, tree) ∷ [])) m
 
-    pub fewer_left : (new : Entries) (more : List Name) → new ≡ insert_entry string_eq es name tree → more ≡ fold with_name names (hrefs_of (file_of tree)) →
+    pub fewer_left : (new : Entries) (more : List FileName) → new ≡ insert_entry string_eq es name tree → more ≡ fold with_name names (hrefs_of (file_of tree)) →
         length files - length new < length files - length es
     fewer_left new more e m =
         let few = few_taken files main (firm_taken files main (goes_on new more e m)) in

@@ -13,10 +13,11 @@ use Rattle.rnc_model.specs.grammar.Syntax.{applied}
 use Rattle.rnc_model.specs.declarations.FileTree.{FileTree}
 use Rattle.rng_load.specs.plain.FoundGrammars.{AreFound, AreLeft, CanBeRead, HasGathered, IsPut, gathered_at, grammar_with, left_by, nested_in}
 use Rattle.rng_load.specs.plain.FoundGrammars.{pending_in, places_left}
-use Rattle.rnc_model.specs.loading.MentionPaths.{path_limit}
+use Rattle.rnc_model.specs.loading.Mentions.{path_limit}
 use Rattle.rng_load.specs.views.PendingGrammars.{Pending}
 use Rattle.rng_load.specs.views.PlacedGrammars.{PlacedGrammars, grammar_of, schema_with}
-use Rattle.rnc_model.specs.loading.Places.{Gathered, IsSchemaOf, Nested, main_grammar}
+use Rattle.rnc_model.specs.loading.Places.{Gathered, Nested, main_grammar}
+use Rattle.rnc_model.specs.loading.LoadedSchema.{IsSchemaOf}
 use Rattle.rng_load.specs.plain.PlainReading.{gather_one_with, gather_with, gathered_as, read_at}
 use Rattle.rng_load.specs.declared.schema.Grammar.{Grammar}
 use Rattle.rng_load.proofs.FoundGrammars.{Entries, goes_on, is_put, is_schema, left_last, left_there, main_left, view}

@@ -3,19 +3,22 @@ use Rattle.std.proofs.Common.{◌≡◌, inl, inr, refl, sym, subst, ap, ◌∙�
 use Rattle.std.proofs.Common.{Option, Some}
 use Rattle.rng_model.specs.names.Lists.{Among, here, there}
 use Rattle.rng_model.specs.simple.Tree.{Connector, choice, group, interleave}
-use Rattle.rng_model.specs.schema.Patterns.{Place, Pattern, Patterns, grammar, joined, pattern_and, patterns_of, members}
-use Rattle.rng_model.specs.schema.Patterns.{IsWrittenIn, itself, in_element, in_attribute, in_list, in_except, in_mixed, in_optional, in_zero_or_more}
-use Rattle.rng_model.specs.schema.Patterns.{in_one_or_more, in_first, in_second, in_another, in_external, IsWrittenAmong, in_this, in_later}
+use Rattle.rng_model.specs.schema.Patterns.{Place, Pattern, Patterns, grammar, joined, pattern_and, pattern_list, joined_members, IsWrittenIn, itself}
+use Rattle.rng_model.specs.schema.Patterns.{in_element, in_attribute, in_list, in_except, in_mixed, in_optional, in_zero_or_more, in_one_or_more, in_first}
+use Rattle.rng_model.specs.schema.Patterns.{in_second, in_another, in_external, IsWrittenAmong, in_this, in_later}
 use Rattle.rng_model.specs.schema.Schema.{Schema, Component, IsWrittenAt}
 use Rattle.rng_model.specs.plain.WellPlaced.{IsWellPlaced}
 use Rattle.rng_model.proofs.Unfolding.{some_is}
 use Rattle.rnc_model.specs.grammar.Syntax as tree
 use Rattle.rnc_model.specs.grammar.Syntax.{applied}
 use Rattle.rnc_model.specs.declarations.FileTree.{FileTree}
-use Rattle.rnc_model.specs.loading.Places.{TreePath, Nested, Gathered, is_overridden, HasGrammar, main_is, nested_is, IsSchemaOf}
-use Rattle.rnc_model.specs.loading.Places.{Reads, element_is, attribute_is, list_is, mixed_is, optional_is, zero_or_more_is, one_or_more_is, ref_is, parent_ref_is}
-use Rattle.rnc_model.specs.loading.Places.{empty_is, text_is, not_allowed_is, value_is, data_is, except_is, grammar_is, pattern_file_is, grammar_file_is, joined_is}
-use Rattle.rnc_model.specs.loading.Places.{ReadAll, none_are, more_are, Gathers, nothing, a_start, a_define, a_div, an_include}
+use Rattle.rnc_model.specs.loading.Places.{TreePath, Nested, Gathered, is_overridden}
+use Rattle.rnc_model.specs.loading.LoadedSchema.{HasGrammar, main_is, nested_is, IsSchemaOf, Gathers, nothing, a_start, a_define, a_div, an_include}
+use Rattle.rnc_model.specs.loading.Places.{Reads, element_is, attribute_is, list_is, mixed_is, optional_is, zero_or_more_is, one_or_more_is, ref_is}
+use Rattle.rnc_model.specs.loading.Places.{parent_ref_is}
+use Rattle.rnc_model.specs.loading.Places.{empty_is, text_is, not_allowed_is, value_is, data_is, except_is, grammar_is, pattern_file_is, grammar_file_is}
+use Rattle.rnc_model.specs.loading.Places.{joined_is}
+use Rattle.rnc_model.specs.loading.Places.{ReadAll, none_are, more_are}
 use Rattle.rng_load.proofs.NameLists as names
 use Rattle.rng_load.proofs.NameLists.{in_none, in_cons, in_either, in_left, in_right, from_map}
 
@@ -28,7 +31,7 @@ module _ {z : Place} where
   among_joined (in_second w) = in_later (in_this w)
   among_joined (in_another w) = in_later (in_later w)
 
-  among_members : (k : Connector) (ps : List Pattern) → IsWrittenIn (grammar z) (members k ps) → IsWrittenAmong (grammar z) (patterns_of ps)
+  among_members : (k : Connector) (ps : List Pattern) → IsWrittenIn (grammar z) (joined_members k ps) → IsWrittenAmong (grammar z) (pattern_list ps)
   among_members choice [] w = elim w [ ]
   among_members group [] w = elim w [ ]
   among_members interleave [] w = elim w [ ]
@@ -79,7 +82,7 @@ module _ (files : List ℕ → Option FileTree) {z : Place} where
     nested_read (joined_is {k = k} {ps = ps} d) w = nested_among d (among_members k ps w)
 
     nested_among : {u : List ℕ} {x : TreePath} {n : ℕ} {all : tree.Patterns applied} {ps : List Pattern} {gs : List Nested} → ReadAll files u x n all ps gs
-        → IsWrittenAmong (grammar z) (patterns_of ps) → IsNestedAt z gs
+        → IsWrittenAmong (grammar z) (pattern_list ps) → IsNestedAt z gs
     nested_among none_are w = elim w [ ]
     nested_among (more_are {gs = gs} {hs} d ds e) (in_this w) = let i = nested_read d w in (i.0, subst (Among i.0) (sym e) (in_left i.1 hs), i.2)
     nested_among (more_are {gs = gs} {hs} d ds e) (in_later w) = let i = nested_among ds w in (i.0, subst (Among i.0) (sym e) (in_right gs i.1), i.2)

@@ -6,7 +6,7 @@ ghost use Rattle.rng_load.specs.plain.ComponentNames.{HasIt, gather, gather_comp
 ghost use Rattle.rng_load.specs.views.FilesView.{taken_files_of};
 ghost use Rattle.rnc_model.specs.loading.Loading.{tree_in, with_name};
 ghost use Rattle.rnc_model.specs.loading.FileGrammars.{grammar_in};
-ghost use Rattle.rnc_model.specs.loading.GrammarNames.{HasName};
+ghost use Rattle.rnc_model.specs.loading.Mentions.{HasName};
 
 use indexmap::{IndexMap, IndexSet};
 use rnc_grammar::{Component, FileTree};

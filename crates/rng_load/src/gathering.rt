@@ -1,6 +1,6 @@
 // From the components of files to those of the grammars of a schema.
 ghost use Rattle.std.specs.Prelude.{◌≡◌, [], ◌∷◌, ◌++◌, false, IfOk, OnOk, map, option_map, reverse, string_bytes};
-ghost use Rattle.rng_model.specs.names.NamespaceViews.{namespace_bytes};
+ghost use Rattle.rng_model.specs.names.NameViews.{namespace_bytes};
 ghost use Rattle.rng_model.specs.views.SchemaView.{schema_component_of};
 ghost use Rattle.rnc_model.specs.grammar.Syntax.{components_of};
 ghost use Rattle.rnc_grammar.specs.views.View.{component_of, mention_of, pattern_of};

@@ -1,6 +1,6 @@
 // From the given files to their schema.
 ghost use Rattle.std.specs.Prelude.{IfSome};
-ghost use Rattle.rnc_model.specs.loading.Files.{named_files};
+ghost use Rattle.rnc_model.specs.loading.SchemaFile.{named_files};
 ghost use Rattle.rng_load.specs.views.Loaded.{IsLoaded};
 ghost use Rattle.rnc_model.specs.loading.Loading.{FilesHaveOnlyVerdict};
 ghost use Rattle.rng_load.specs.views.LoadingFaults.{reading_of};

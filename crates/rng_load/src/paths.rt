@@ -2,7 +2,7 @@
 ghost use Rattle.std.specs.Prelude.{◌≡◌, ◌↔◌, IfOk, IfSome, IsTrue, MatchOption};
 ghost use Rattle.rng_load.specs.plain.Counting.{marks_of, AreMore, HasFewPaths, IsMarked, StopsAt};
 ghost use Rattle.rng_load.specs.views.FilesView.{taken_files_of};
-ghost use Rattle.rnc_model.specs.loading.MentionPaths.{BreaksMentions};
+ghost use Rattle.rnc_model.specs.loading.Mentions.{BreaksMentions};
 ghost use Rattle.rnc_model.specs.loading.Loading.{hrefs_in};
 
 use crate::mentioned::hrefs_in;

@@ -1,8 +1,7 @@
 // From the given files to the tree of one of them.
 ghost use Rattle.std.specs.Prelude.{◌↔◌, ◌⊎◌, IfSome, IsTrue, MatchOption};
 ghost use Rattle.rng_load.specs.views.FileFaults.{verdict_of};
-ghost use Rattle.rnc_model.specs.loading.Files.{named_files};
-ghost use Rattle.rnc_model.specs.loading.SchemaFile.{IsHandedIn, IsHandedInTwice, IsMissing, BreaksLimit};
+ghost use Rattle.rnc_model.specs.loading.SchemaFile.{named_files, IsHandedIn, IsHandedInTwice, IsMissing, BreaksLimit};
 ghost use Rattle.rnc_model.specs.loading.FileVerdicts.{ContentHasOnlyVerdict, FileHasOnlyVerdict};
 
 use crate::fault::FileFault;

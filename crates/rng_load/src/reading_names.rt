@@ -1,7 +1,6 @@
 // Names of a file tree, in the namespace that their file inherits.
 ghost use Rattle.std.specs.Prelude.{◌≡◌, IfOk, map};
-ghost use Rattle.rng_model.specs.names.NameViews.{class_of, name_of};
-ghost use Rattle.rng_model.specs.names.NamespaceViews.{namespace_bytes};
+ghost use Rattle.rng_model.specs.names.NameViews.{class_of, name_of, namespace_bytes};
 ghost use Rattle.rnc_model.specs.grammar.Syntax.{classes_of};
 ghost use Rattle.rnc_grammar.specs.views.View as file;
 ghost use Rattle.rnc_model.specs.loading.Places.{class_in, classes_in, name_in, uri_in};

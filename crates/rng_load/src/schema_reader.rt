@@ -1,7 +1,7 @@
 // From the files of a schema to its grammars at their places.
 ghost use Rattle.std.specs.Prelude.{◌≡◌, ◌++◌, [], List, map, option_map, reverse, IfOk, OnOk, None};
 ghost use Rattle.rng_model.specs.views.SchemaView.{place_of};
-ghost use Rattle.rng_model.specs.names.NamespaceViews.{namespace_bytes};
+ghost use Rattle.rng_model.specs.names.NameViews.{namespace_bytes};
 ghost use Rattle.rnc_model.specs.grammar.Syntax.{components_of};
 ghost use Rattle.rnc_grammar.specs.views.View.{component_of, file_of, pattern_of};
 ghost use Rattle.rng_load.specs.views.FilesView.{taken_files_of};
@@ -10,7 +10,8 @@ ghost use Rattle.rng_load.specs.views.GrammarParts.{AreParts};
 ghost use Rattle.rnc_model.specs.loading.Loading.{tree_in};
 ghost use Rattle.rng_load.specs.views.PendingGrammars.{pending_of};
 ghost use Rattle.rng_load.specs.views.PlacedGrammars.{grammars_of, schema_of};
-ghost use Rattle.rnc_model.specs.loading.Places.{Gathered, IsSchemaOf, grammar_or_start, main_grammar};
+ghost use Rattle.rnc_model.specs.loading.Places.{Gathered, grammar_or_start, main_grammar};
+ghost use Rattle.rnc_model.specs.loading.LoadedSchema.{IsSchemaOf};
 ghost use Rattle.rng_load.specs.views.ReadPatterns.{files_in, nested_of};
 
 use crate::gathering::GrammarParts;

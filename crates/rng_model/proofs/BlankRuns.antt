@@ -10,8 +10,7 @@ use Rattle.std.proofs.lemmas.List.{take-append-drop}
 use Rattle.std.proofs.lemmas.Bool.{false≢true, and_parts, not-true}
 use Rattle.std.proofs.Math.Seq.{get_or-append_seam, take-append_seam, drop-append_seam}
 use Rattle.rng_model.proofs.TestedRuns.{run_passes, run_boundary}
-use Rattle.rng_model.specs.datatypes.Texts.{is_blank_byte, is_blank}
-use Rattle.rng_model.specs.datatypes.Blanks.{has_bytes, pieces, collapse}
+use Rattle.rng_model.specs.datatypes.Texts.{is_blank_byte, is_blank, has_bytes, pieces, collapse}
 use Rattle.rng_model.specs.plain.BlankRuns.{is_run_byte, is_run, ends_run, HasRuns, no_run, then_run}
 
 pieces-nil : pieces [] ≡ []

@@ -3,9 +3,9 @@ use Rattle.std.proofs.Common.{◌≡◌, ◌⊎◌, inl, inr, refl}
 use Rattle.rng_model.specs.names.Names.{NameClass}
 use Rattle.rng_model.specs.simple.Tree as tree
 use Rattle.rng_model.specs.simple.Tree.{Connector, Simple, s_attribute, s_list, s_data_except, s_one_or_more, s_joined}
-use Rattle.rng_model.specs.simple.Inside.{Kind, kind_of, kind_between, IsTransparent, IsChild, Through, StandsIn, Inside, StandsUnrepeated, OccursIn, itself, below}
-use Rattle.rng_model.specs.simple.Inside.{of_attribute, of_list, of_except, of_one_or_more, of_left, of_right}
-use Rattle.rng_model.specs.simple.Inside.{choice_is, group_is, interleave_is, one_or_more_is, one_or_more_kind}
+use Rattle.rng_model.specs.simple.Grammar.{Kind, kind_of, kind_between, IsTransparent, IsChild, Through, StandsIn, Inside, StandsUnrepeated, OccursIn, itself}
+use Rattle.rng_model.specs.simple.Grammar.{below, of_attribute, of_list, of_except, of_one_or_more, of_left, of_right, choice_is, group_is, interleave_is}
+use Rattle.rng_model.specs.simple.Grammar.{one_or_more_is, one_or_more_kind}
 
 between_is_transparent : (k : Connector) → IsTransparent (kind_between k)
 between_is_transparent tree.choice = choice_is

@@ -6,7 +6,7 @@ use Rattle.std.specs.declared.sync.Arc.{Arc}
 use Rattle.std.proofs.lemmas.Str.{IsUtf8-string_bytes}
 use Rattle.rng_model.specs.declared.hashed_text.HashedText.{HashedText}
 use Rattle.rng_model.specs.declared.namespace.Namespace.{Namespace}
-use Rattle.rng_model.specs.names.NamespaceViews.{bytes_if_any, namespace_bytes}
+use Rattle.rng_model.specs.names.NameViews.{bytes_if_any, namespace_bytes}
 
 is_text_if_any : (text : Option (Arc HashedText Global)) → IsUtf8 (bytes_if_any text)
 is_text_if_any None = search rules

@@ -1,8 +1,8 @@
 -- The clauses of the table of paths.
 use Rattle.std.proofs.Common.{ℕ, ◌≤◌, List, arith}
-use Rattle.rng_model.specs.simple.Inside.{Kind}
-use Rattle.rng_model.specs.restrictions.Paths as paths
-use Rattle.rng_model.specs.restrictions.Paths.{IsProhibited}
+use Rattle.rng_model.specs.simple.Grammar.{Kind}
+use Rattle.rng_model.specs.restrictions.Contents as paths
+use Rattle.rng_model.specs.restrictions.Contents.{IsProhibited}
 
 pub prohibits : {clause : ℕ} {path : List Kind} → IsProhibited clause path → (18 ≤ clause) × (clause ≤ 21)
 prohibits paths.attribute_ref = (omega arith, omega arith)

@@ -3,7 +3,7 @@ use Rattle.std.proofs.Common.{◌≡◌, ℕ, List, Bool, true, false, Option, S
 use Rattle.std.specs.Bool.{beq}
 use Rattle.std.proofs.lemmas.Slice.Eq.{bytes_eq-Decides}
 use Rattle.std.proofs.lemmas.Bool.Decides.{Decides-int_eq}
-use Rattle.rng_model.specs.datatypes.Values.{Value, text, truth, number, same_value, are_equal}
+use Rattle.rng_model.specs.datatypes.Texts.{Value, text, truth, number, same_value, are_equal}
 use Rattle.rng_model.specs.datatypes.Datatypes.{Meaning, is_allowed_by, are_equal_by, known_allows}
 
 -- what allows a text is known

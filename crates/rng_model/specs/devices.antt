@@ -1,3 +1,2 @@
 -- Devices.
 pub mod Device
-pub mod Written

@@ -1,8 +1,5 @@
 -- Schemas as they are written: places, components, unfolding, clauses 11 to 17.
-pub mod Depth
-pub mod Least
 pub mod Patterns
-pub mod Reached
 pub mod Schema
 pub mod SchemaClauses
 pub mod Unfolding

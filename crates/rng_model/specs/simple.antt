@@ -1,7 +1,5 @@
 -- Trees, rewriting steps, simple grammars.
-pub mod ClassSteps
 pub mod Grammar
-pub mod Inside
 pub mod Leaves
 pub mod SchemaForm
 pub mod Simplification

@@ -2,8 +2,7 @@
 ghost use Rattle.std.specs.Prelude.{◌≡◌, drop, map, IfOk, string_bytes};
 ghost use Rattle.std.specs.List.{prefix_len};
 ghost use Rattle.std.specs.Str.{IsCharBoundary};
-ghost use Rattle.rng_model.specs.datatypes.Texts.{is_blank_byte};
-ghost use Rattle.rng_model.specs.datatypes.Blanks.{pieces, collapse};
+ghost use Rattle.rng_model.specs.datatypes.Texts.{is_blank_byte, pieces, collapse};
 ghost use Rattle.rng_model.specs.plain.BlankRuns.{is_run_byte, HasRuns};
 ghost use Rattle.rng_model.specs.views.PiecesView.{pieces_left};
 

@@ -1,7 +1,7 @@
 // Characters, names without a colon, and the ranges that define them.
 ghost use Rattle.std.specs.Prelude.{◌≡◌, ◌&&◌, not};
 ghost use Rattle.std.specs.Str.{chars};
-ghost use Rattle.rng_model.specs.names.Characters.{is_xml_char, is_name_start, is_name_char, is_colon, is_ncname};
+ghost use Rattle.rng_model.specs.names.Names.{is_xml_char, is_name_start, is_name_char, is_colon, is_ncname};
 
 /// Returns whether the character may occur in an XML document.
 ///

@@ -1,8 +1,7 @@
 // Writing a whole slice to a device.
 ghost use Rattle.std.specs.Prelude.{◌≡◌, ◌+◌, ◌-◌, ◌^◌, ◌<◌, is_ok, OnOk, OnErr, if◌then◌else◌};
 ghost use Rattle.std.specs.Io.KnownBytes.{Appends};
-ghost use Rattle.rng_model.specs.devices.Device.{device_inner, device_failures, device_taken};
-ghost use Rattle.rng_model.specs.devices.Written.{AppendsBeginning};
+ghost use Rattle.rng_model.specs.devices.Device.{device_inner, device_failures, device_taken, AppendsBeginning};
 
 use crate::device::{Device, DeviceFault};
 use std::io::Write;

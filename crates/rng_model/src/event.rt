@@ -1,7 +1,7 @@
 // The events of a document.
 ghost use Rattle.std.specs.Prelude.{List, [], ◌∷◌, ◌++◌, OnOk};
 ghost use Rattle.rng_model.specs.documents.PyxTrees as trees;
-ghost use Rattle.rng_model.specs.documents.EventView.{event_of};
+ghost use Rattle.rng_model.specs.documents.EventViews.{event_of};
 
 use crate::document::Attr;
 use crate::fault::OutOfMemory;

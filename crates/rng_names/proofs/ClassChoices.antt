@@ -1,10 +1,11 @@
 -- A choice, in terms of its members.
-use Rattle.std.proofs.Common.{◌≡◌, ℕ, ◌<◌, ◌≤◌, max, List, [], ◌∷◌, length, map, take, fold, get_or, Bool, true, false, ◌||◌, refl, ap, ap₂, ◌+◌, sym, ◌∙◌, arith}
+use Rattle.std.proofs.Common.{◌≡◌, ℕ, ◌<◌, ◌≤◌, max, List, [], ◌∷◌, length, map, take, fold, get_or, Bool, true, false, ◌||◌, refl, ap, ap₂, ◌+◌, sym, ◌∙◌}
+use Rattle.std.proofs.Common.{arith}
 use Rattle.std.specs.List.{list_any}
 use Rattle.std.proofs.lemmas.List.{take_all}
 use Rattle.std.proofs.lemmas.List.Folds.{list_any_at, list_any_more}
 use Rattle.rng_model.proofs.Truths.{or_false_is}
-use Rattle.rng_model.specs.names.Names.{Name, NameClass, classes_of, some_of}
+use Rattle.rng_model.specs.names.Names.{Name, NameClass, class_list, some_of}
 use Rattle.rng_names.specs.plain.Holding.{holds, some_hold}
 use Rattle.rng_names.specs.plain.Written.{is_met, is_some_met, longest, longest_of}
 
@@ -26,7 +27,7 @@ module _ {A : Type 0} where
 
   -- ---- a choice holds what one of its members holds
 
-  some_hold-members : (f : A → NameClass) (xs : List A) (q : Name) → some_hold (classes_of (map f xs)) q ≡ list_any (λ x. holds (f x) q) xs
+  some_hold-members : (f : A → NameClass) (xs : List A) (q : Name) → some_hold (class_list (map f xs)) q ≡ list_any (λ x. holds (f x) q) xs
   some_hold-members f [] q = refl
   some_hold-members f (x ∷ xs) q = ap (λ b. holds (f x) q || b) (some_hold-members f xs q)
 
@@ -38,7 +39,7 @@ module _ {A : Type 0} where
   -- ---- a test passes for what is written in a choice if it does for a member
 
   some_met-members : (f : A → NameClass) (xs : List A) (test : Name → Bool) (fresh : List ℕ)
-      → is_some_met test fresh (classes_of (map f xs)) ≡ list_any (λ x. is_met test fresh (f x)) xs
+      → is_some_met test fresh (class_list (map f xs)) ≡ list_any (λ x. is_met test fresh (f x)) xs
   some_met-members f [] test fresh = refl
   some_met-members f (x ∷ xs) test fresh = ap (λ b. is_met test fresh (f x) || b) (some_met-members f xs test fresh)
 
@@ -53,10 +54,10 @@ module _ {A : Type 0} where
   abbrev pub longest_among : (A → NameClass) → ℕ → List A → ℕ
   longest_among f = fold (λ n x. max n (longest (f x)))
 
-  longest_of-members : (f : A → NameClass) (n : ℕ) (xs : List A) → max n (longest_of (classes_of (map f xs))) ≡ longest_among f n xs
+  longest_of-members : (f : A → NameClass) (n : ℕ) (xs : List A) → max n (longest_of (class_list (map f xs))) ≡ longest_among f n xs
   longest_of-members f n [] = omega arith
   longest_of-members f n (x ∷ xs) =
-      let grouped : max n (max (longest (f x)) (longest_of (classes_of (map f xs)))) ≡ max (max n (longest (f x))) (longest_of (classes_of (map f xs))) =
+      let grouped : max n (max (longest (f x)) (longest_of (class_list (map f xs)))) ≡ max (max n (longest (f x))) (longest_of (class_list (map f xs))) =
       omega arith in
       grouped ∙ longest_of-members f (max n (longest (f x))) xs
 
@@ -64,5 +65,5 @@ module _ {A : Type 0} where
   longest-members f [] = refl
   longest-members f (x ∷ []) = omega arith
   longest-members f (x ∷ (y ∷ xs)) =
-      let above : longest (some_of (map f (x ∷ (y ∷ xs)))) ≡ max 0 (longest_of (classes_of (map f (x ∷ (y ∷ xs))))) = omega arith in
+      let above : longest (some_of (map f (x ∷ (y ∷ xs)))) ≡ max 0 (longest_of (class_list (map f (x ∷ (y ∷ xs))))) = omega arith in
       above ∙ longest_of-members f 0 (x ∷ (y ∷ xs))

@@ -6,7 +6,7 @@ use Rattle.std.proofs.lemmas.Bool.{cases_lt, or_cases}
 use Rattle.std.proofs.lemmas.List.{length-map}
 use Rattle.std.proofs.lemmas.Option.{none-some, same_Some, slice_get-map, slice_get_read, slice_get_within}
 use Rattle.std.proofs.lemmas.Slice.Eq.{bytes_eq-Decides}
-use Rattle.rng_model.specs.names.Names.{Name, NameClass, NameClasses, any_name, any_except, ns_except, name_is, classes_of, some_of}
+use Rattle.rng_model.specs.names.Names.{Name, NameClass, NameClasses, any_name, any_except, ns_except, name_is, class_list, some_of}
 use Rattle.rng_names.specs.plain.Written.{some_write_name, some_write_ns, writes_name, writes_ns}
 use Rattle.rng_names.proofs.Holding.{same_name-Decides}
 use Rattle.rng_names.specs.plain.WrittenNames.{Grows, HasName, IsMeasured, Knows, Written}
@@ -74,14 +74,14 @@ module _ (w : Written) where
     names : (q : Name) → some_write_name cs q ≡ true → HasName w q
     namespaces : (u : List ℕ) → some_write_ns cs u ≡ true → IsMeasured w u 0
 
-  know_some : (cs : List NameClass) → AreKnown cs → KnowSome (classes_of cs)
+  know_some : (cs : List NameClass) → AreKnown cs → KnowSome (class_list cs)
   know_some [] known = record { names = λ q e. absurd (true≢false (sym e)); namespaces = λ u e. absurd (true≢false (sym e)) }
   know_some (c ∷ cs) known =
       let first = known 0 c refl in
       let rest = know_some cs (λ k. known (suc k)) in
       record {
-        names = λ q. from_either (writes_name c q) (some_write_name (classes_of cs) q) (first.names q) (rest.names q);
-        namespaces = λ u. from_either (writes_ns c u) (some_write_ns (classes_of cs) u) (first.namespaces u) (rest.namespaces u);
+        names = λ q. from_either (writes_name c q) (some_write_name (class_list cs) q) (first.names q) (rest.names q);
+        namespaces = λ u. from_either (writes_ns c u) (some_write_ns (class_list cs) u) (first.namespaces u) (rest.namespaces u);
       }
 
   pub knows_members : (cs : List NameClass) → AreKnown cs → Knows w (some_of cs)
@@ -91,8 +91,8 @@ module _ (w : Written) where
       let first = known 0 c refl in
       let rest = know_some (d ∷ cs) (λ k. known (suc k)) in
       record {
-        names = λ q. from_either (writes_name c q) (some_write_name (classes_of (d ∷ cs)) q) (first.names q) (rest.names q);
-        namespaces = λ u. from_either (writes_ns c u) (some_write_ns (classes_of (d ∷ cs)) u) (first.namespaces u) (rest.namespaces u);
+        names = λ q. from_either (writes_name c q) (some_write_name (class_list (d ∷ cs)) q) (first.names q) (rest.names q);
+        namespaces = λ u. from_either (writes_ns c u) (some_write_ns (class_list (d ∷ cs)) u) (first.namespaces u) (rest.namespaces u);
       }
 
 -- ---- a fact for each element in turn

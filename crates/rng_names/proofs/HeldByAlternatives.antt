@@ -4,10 +4,11 @@ use Rattle.std.proofs.Common.{bytes_eq, ◌++◌, Bor}
 use Rattle.std.specs.List.{list_any}
 use Rattle.std.proofs.Math.Bool.{or-false}
 use Rattle.rng_model.specs.names.Names.{Name, NameClass, NameClasses, any_name, any_except, ns_name, ns_except, name_is, one_of, no_classes, class_and}
-use Rattle.rng_model.specs.names.Names.{classes_of, some_of}
+use Rattle.rng_model.specs.names.Names.{class_list, some_of}
 use Rattle.std.proofs.lemmas.List.Folds.{list_any-append}
 use Rattle.rng_model.specs.names.NameViews.{class_of}
-use Rattle.rng_names.specs.views.Alternatives.{Adds, IsBare, Stands, excepted_hold, excepting, in_scope, has_alternative, some_has_alternative, is_any, is_written, is_excepted}
+use Rattle.rng_names.specs.views.Alternatives.{Adds, IsBare, Stands, excepted_hold, excepting, in_scope, has_alternative, some_has_alternative, is_any}
+use Rattle.rng_names.specs.views.Alternatives.{is_written, is_excepted}
 use Rattle.rng_names.specs.views.NameSets.{has, seen}
 use Rattle.rng_names.specs.declared.alternatives.Excepted.{Excepted}
 use Rattle.rng_names.specs.plain.Holding.{holds, some_hold}
@@ -28,7 +29,7 @@ module _ {A : Type 0} (f : A → NameClass) (test : NameClass → Bool) where
   abbrev pub among : List A → Bool
   among xs = list_any (λ x. has_alternative test (f x)) xs
 
-  some-members : (xs : List A) → some_has_alternative test (classes_of (map f xs)) ≡ among xs
+  some-members : (xs : List A) → some_has_alternative test (class_list (map f xs)) ≡ among xs
   some-members [] = refl
   some-members (x ∷ xs) = ap (λ b. has_alternative test (f x) || b) (some-members xs)
 

@@ -1,6 +1,7 @@
 -- Positions of names, and numbers of texts.
 use Rattle.std.proofs.Common.{◌≡◌, refl, sym, ap, ◌∙◌, ℕ, zero, suc, ◌+◌, Bool, true, false, not, cond, nat_lt}
-use Rattle.std.proofs.Common.{List, [], ◌∷◌, ◌++◌, Some, None, ◌⊎◌, inl, inr, option_map, map, length, position, slice_get, string_bytes, subst, Option, bytes_eq, arith}
+use Rattle.std.proofs.Common.{List, [], ◌∷◌, ◌++◌, Some, None, ◌⊎◌, inl, inr, option_map, map, length, position, slice_get, string_bytes, subst, Option}
+use Rattle.std.proofs.Common.{bytes_eq, arith}
 use Rattle.std.specs.List.{list_any, prefix_len, position_or_len}
 use Rattle.std.specs.Map.{lookup, AreApart, IsKeyTest, KeepsOthers}
 use Rattle.std.specs.HashMap.{HashMap, UpdatesBy}
@@ -12,8 +13,7 @@ use Rattle.std.proofs.lemmas.Option.{none-some, same_Some, slice_get-map}
 use Rattle.rng_model.proofs.Places.{in_front}
 use Rattle.indexmap.specs.IndexSet.{insert_key}
 use Rattle.rng_model.specs.names.Names as names
-use Rattle.rng_model.specs.names.NameViews.{name_of}
-use Rattle.rng_model.specs.names.NamespaceViews.{namespace_bytes}
+use Rattle.rng_model.specs.names.NameViews.{name_of, namespace_bytes}
 use Rattle.rng_model.specs.declared.name.Name.{Name}
 use Rattle.rng_model.specs.declared.namespace.Namespace.{Namespace}
 use Rattle.rng_model.specs.contracts.name.NamePartialEq.TheImpl as same

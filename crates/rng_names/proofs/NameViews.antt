@@ -2,9 +2,8 @@
 use Rattle.std.proofs.Common.{◌≡◌, ap, ◌∙◌, rules, Box, Global}
 use Rattle.std.proofs.lemmas.Str.{IsUtf8-string_bytes}
 use Rattle.rng_model.specs.names.Names.{name_is, any_except, ns_except, IsPairOfTexts}
-use Rattle.rng_model.specs.names.NameViews.{class_of, name_of}
+use Rattle.rng_model.specs.names.NameViews.{class_of, name_of, namespace_bytes}
 use Rattle.rng_model.specs.declared.name.NameClass.{NameClass, Name, AnyExcept, NsExcept, the_lemmas}
-use Rattle.rng_model.specs.names.NamespaceViews.{namespace_bytes}
 use Rattle.rng_model.specs.declared.namespace.Namespace.{Namespace}
 use Rattle.rng_model.specs.declared.name.Name as declared
 use Rattle.rng_model.proofs.NamespaceTexts.{IsUtf8-namespace_bytes}

@@ -6,7 +6,7 @@ use Rattle.std.specs.Option.{unwrap_or}
 use Rattle.std.proofs.lemmas.List.{length-map}
 use Rattle.std.proofs.lemmas.Option.{none-some, same_Some}
 use Rattle.std.proofs.lemmas.Slice.Eq.{bytes_eq-Decides}
-use Rattle.rng_model.specs.names.NamespaceViews.{namespace_bytes}
+use Rattle.rng_model.specs.names.NameViews.{namespace_bytes}
 use Rattle.rng_model.specs.declared.namespace.Namespace.{Namespace}
 use Rattle.rng_names.specs.plain.Holding.{pair}
 use Rattle.rng_names.specs.plain.Keys.{Places}

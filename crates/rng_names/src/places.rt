@@ -1,7 +1,6 @@
 // The places of names.
 ghost use Rattle.std.specs.Prelude.{◌≡◌, IfOk, OnOk};
-ghost use Rattle.rng_model.specs.names.NameViews.{name_of};
-ghost use Rattle.rng_model.specs.names.NamespaceViews.{namespace_bytes};
+ghost use Rattle.rng_model.specs.names.NameViews.{name_of, namespace_bytes};
 ghost use Rattle.rng_names.specs.plain.Keys.{place_of};
 ghost use Rattle.rng_names.specs.views.KeyTables.{AddsOthers, IsTold, places_in};
 ghost use Rattle.rng_names.specs.plain.WrittenNames.{written_as};

@@ -1,7 +1,6 @@
 // Keys that names share.
 ghost use Rattle.std.specs.Prelude.{◌≡◌, IfOk, IfSome, OnOk, map, slice_index_or};
-ghost use Rattle.rng_model.specs.names.NameViews.{name_of};
-ghost use Rattle.rng_model.specs.names.NamespaceViews.{namespace_bytes};
+ghost use Rattle.rng_model.specs.names.NameViews.{name_of, namespace_bytes};
 ghost use Rattle.rng_names.specs.plain.SharedKeys.{AddsPlace, AreLed, AreShared, IsKeyIn, following, leading, sharing_in};
 
 use crate::texts::{note, number_of};

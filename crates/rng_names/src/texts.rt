@@ -3,8 +3,7 @@ ghost use Rattle.std.specs.Prelude.{◌≡◌, ℕ, IfOk, List, OnOk, Option, So
 ghost use Rattle.std.specs.Map.{lookup, update};
 ghost use Rattle.std.specs.Str.{bytes_eq};
 ghost use Rattle.rng_model.specs.names.Names as names;
-ghost use Rattle.rng_model.specs.names.NameViews.{name_of};
-ghost use Rattle.rng_model.specs.names.NamespaceViews.{namespace_bytes};
+ghost use Rattle.rng_model.specs.names.NameViews.{name_of, namespace_bytes};
 ghost use Rattle.rng_names.specs.plain.Holding.{pair, same_name};
 ghost use Rattle.rng_names.specs.plain.Regions.{Puts};
 ghost use Rattle.rng_names.specs.plain.WrittenNames.{seen_numbers};

@@ -3,8 +3,7 @@ ghost use Rattle.std.specs.Prelude.{◌≡◌, ◌≤◌, ℕ, IfOk, OnOk, Optio
 ghost use Rattle.std.specs.Map.{lookup};
 ghost use Rattle.std.specs.Str.{bytes_eq};
 ghost use Rattle.rng_model.specs.names.Names as names;
-ghost use Rattle.rng_model.specs.names.NameViews.{class_of, name_of};
-ghost use Rattle.rng_model.specs.names.NamespaceViews.{namespace_bytes};
+ghost use Rattle.rng_model.specs.names.NameViews.{class_of, name_of, namespace_bytes};
 ghost use Rattle.rng_names.specs.views.GrammarClasses.{seen_class};
 ghost use Rattle.rng_names.specs.plain.Regions.{AddsPart, AreSorted, HasBegun, sorted_in};
 ghost use Rattle.rng_names.specs.plain.WrittenNames.{Grows, Knows, written_in};

@@ -1,6 +1,6 @@
 // The names that the components in the braces of an include have.
 ghost use Rattle.std.specs.Prelude.{◌≡◌, ◌||◌, ℕ, IfOk, List, OnOk, Option, map, option_map, string_bytes};
-ghost use Rattle.rng_model.specs.schema.Schema.{same_name};
+ghost use Rattle.rng_model.specs.schema.Schema.{same_component_name};
 ghost use Rattle.rnc_model.specs.loading.Places.{Gathered, is_overridden};
 ghost use Rattle.rng_overrides.specs.views.Gathered.{without_grammars};
 ghost use Rattle.rng_overrides.specs.views.OverridingNames.{has_name};
@@ -37,7 +37,7 @@ impl<'a> OverridingNames<'a> {
 
     /// Adds the name of a component, or a start if there is no name.
     fn add(&mut self, name: &'a Option<String>) -> Result<(), OutOfMemory>
-        ensures { OnOk result ((y : Option (List ℕ)) → has_name self.new y ≡ (has_name self.old y || same_name (option_map (λ n. string_bytes n) name.now) y)) }
+        ensures { OnOk result ((y : Option (List ℕ)) → has_name self.new y ≡ (has_name self.old y || same_component_name (option_map (λ n. string_bytes n) name.now) y)) }
     {
         match name {
             Some(name) => {

@@ -1,9 +1,9 @@
 -- What a pattern and a state are after the first attribute or way of a list, and after the others.
 use Rattle.std.proofs.Common.{◌≡◌, ◌∙◌, ℕ, Bool, true, ◌&&◌, List, ◌∷◌, map, sym, ap}
 use Rattle.rng_model.specs.declared.document.Attr.{Attr}
-use Rattle.rng_model.specs.documents.DocumentViews.{attribute_of}
+use Rattle.rng_model.specs.documents.EventViews.{attribute_of}
 use Rattle.rng_model.specs.matching.Document.{Attribute}
-use Rattle.rng_model.specs.matching.Reading.{Reading}
+use Rattle.rng_model.specs.matching.GrammarMatching.{Reading}
 use Rattle.rng_model.specs.names.Names.{NameClass}
 use Rattle.rng_model.specs.simple.Tree.{Simple, s_attribute}
 use Rattle.rng_names.specs.plain.Holding.{holds}

@@ -1,5 +1,6 @@
 -- Names and bodies of elements, in terms of the rows of a grammar, and the bodies that a start opens.
-use Rattle.std.proofs.Common.{◌≡◌, ◌∙◌, ℕ, List, ◌∷◌, Bool, true, false, Option, Some, None, cond, if◌then◌else◌, refl, sym, ap, slice_get, length, arith, ⊎_elim}
+use Rattle.std.proofs.Common.{◌≡◌, ◌∙◌, ℕ, List, ◌∷◌, Bool, true, false, Option, Some, None, cond, if◌then◌else◌, refl, sym, ap, slice_get, length, arith}
+use Rattle.std.proofs.Common.{⊎_elim}
 use Rattle.std.specs.Option.{option_map}
 use Rattle.std.proofs.lemmas.Bool.{cases_lt}
 use Rattle.std.proofs.lemmas.List.{get_or_past}
@@ -8,13 +9,13 @@ use Rattle.rng_model.proofs.Options.{some_is_none}
 use Rattle.rng_model.specs.names.Names as names
 use Rattle.rng_model.specs.names.Names.{Name}
 use Rattle.rng_model.specs.names.NameViews.{class_of}
-use Rattle.rng_model.specs.simple.Tree.{Simple, s_not_allowed, s_empty, s_text, s_leaf, s_attribute, s_list, s_data, s_data_except, s_value, s_one_or_more, s_joined}
+use Rattle.rng_model.specs.simple.Tree.{Simple, s_not_allowed, s_empty, s_text, s_leaf, s_attribute, s_list, s_data, s_data_except, s_value, s_one_or_more}
+use Rattle.rng_model.specs.simple.Tree.{s_joined}
 use Rattle.rng_model.specs.simple.Table.{Table, tree_at, tree_over, trees}
 use Rattle.rng_model.specs.declared.name.NameClass.{NameClass}
 use Rattle.rng_model.specs.declared.simple.PatternId.{PatternId}
 use Rattle.rng_model.specs.declared.simple.Simple as rows
-use Rattle.rng_model.specs.matching.Reading.{Reading}
-use Rattle.rng_model.specs.matching.GrammarReading.{reading_of}
+use Rattle.rng_model.specs.matching.GrammarMatching.{Reading, reading_of}
 use Rattle.rng_model.proofs.NumberedTrees as numbered
 use Rattle.rng_names.specs.plain.Holding.{holds}
 use Rattle.rng_deriv_laws.specs.plain.Reading.{body_in, body_of, has_name, named_in}

@@ -6,8 +6,7 @@ use Rattle.rng_model.specs.simple.Table.{grammar_of}
 use Rattle.rng_model.specs.datatypes.Texts.{TextTests}
 use Rattle.rng_model.specs.datatypes.Datatypes.{text_tests}
 use Rattle.rng_model.specs.documents.PyxTrees.{Event, EventKind, a_start, a_string, an_end, Placed, text_at, element_at, events_of, IsPyxDocument}
-use Rattle.rng_model.specs.matching.Reading.{Reading}
-use Rattle.rng_model.specs.matching.GrammarReading.{reading_of}
+use Rattle.rng_model.specs.matching.GrammarMatching.{Reading, reading_of}
 use Rattle.rng_model.specs.matching.Outcomes.{FailsAt, IsValidByReading, KnowsName}
 use Rattle.rng_model.specs.restrictions.Restrictions.{BreaksNone}
 use Rattle.rng_deriv_laws.specs.plain.Events.{Matcher, kinds, new, run, step, is_valid}

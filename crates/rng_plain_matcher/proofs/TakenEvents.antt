@@ -1,7 +1,7 @@
 -- What a matcher knows after an event, given whether it has failed before.
 use Rattle.std.proofs.Common.{◌≡◌, ◌∙◌, true, false, ap, sym}
 use Rattle.rng_model.specs.documents.PyxTrees.{Event}
-use Rattle.rng_model.specs.matching.GrammarReading.{reading_of}
+use Rattle.rng_model.specs.matching.GrammarMatching.{reading_of}
 use Rattle.rng_deriv_laws.specs.plain.Events.{Matcher, step}
 use Rattle.rng_deriv_laws.specs.plain.States.{is_never}
 use Rattle.rng_plain_matcher.specs.views.Matchers.{Matching, after_event, failing}

@@ -1,8 +1,8 @@
 // What is left of a pattern after a string or attributes.
 ghost use Rattle.std.specs.Prelude.{◌≡◌, cond, IfOk, map};
-ghost use Rattle.rng_model.specs.documents.DocumentViews.{attribute_of};
+ghost use Rattle.rng_model.specs.documents.EventViews.{attribute_of};
 ghost use Rattle.rng_model.specs.simple.Tree.{s_not_allowed};
-ghost use Rattle.rng_model.specs.matching.GrammarReading.{reading_of};
+ghost use Rattle.rng_model.specs.matching.GrammarMatching.{reading_of};
 ghost use Rattle.rng_deriv_laws.specs.plain.Derivatives.{after_attributes, choice_of, closed, has_text, list_has, rests_of};
 ghost use Rattle.rng_plain_matcher.specs.views.Trees.{connector_of, tree_of};
 ghost use Rattle.rng_plain_matcher.specs.views.Ways.{way_of};

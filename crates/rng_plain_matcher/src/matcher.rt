@@ -2,10 +2,10 @@
 ghost use Rattle.std.specs.Prelude.{◌≡◌, ℕ, List, [], ◌∷◌, ◌++◌, IfOk, OnErr, OnOk};
 ghost use Rattle.rng_model.specs.simple.Table.{grammar_of};
 ghost use Rattle.rng_model.specs.restrictions.Restrictions.{BreaksNone};
-ghost use Rattle.rng_model.specs.documents.EventView.{event_of};
+ghost use Rattle.rng_model.specs.documents.EventViews.{event_of};
 ghost use Rattle.rng_model.specs.documents.PyxTrees as trees;
 ghost use Rattle.rng_model.specs.documents.PyxTrees.{IsPyxDocument, Placed, events_of};
-ghost use Rattle.rng_model.specs.matching.GrammarReading.{reading_of};
+ghost use Rattle.rng_model.specs.matching.GrammarMatching.{reading_of};
 ghost use Rattle.rng_model.specs.matching.Outcomes.{IsOutcome};
 ghost use Rattle.rng_plain_matcher.specs.views.Matchers.{HasGoneOn, Knows, after_event, grammar_in, matching_of};
 

@@ -1,10 +1,9 @@
 // Where a matcher is in a document.
 ghost use Rattle.std.specs.Prelude.{◌≡◌, IfOk, map, ◌∷◌, [], string_bytes};
-ghost use Rattle.rng_model.specs.documents.EventView.{kind_of};
-ghost use Rattle.rng_model.specs.documents.DocumentViews.{attribute_of};
+ghost use Rattle.rng_model.specs.documents.EventViews.{event_kind_of, attribute_of};
 ghost use Rattle.rng_model.specs.names.NameViews.{name_of};
 ghost use Rattle.rng_model.specs.documents.PyxTrees as trees;
-ghost use Rattle.rng_model.specs.matching.GrammarReading.{reading_of};
+ghost use Rattle.rng_model.specs.matching.GrammarMatching.{reading_of};
 ghost use Rattle.rng_model.specs.simple.Table.{grammar_of};
 ghost use Rattle.rng_deriv_laws.specs.plain.Events.{new, settled, step};
 ghost use Rattle.rng_plain_matcher.specs.views.States.{position_of, state_of};
@@ -71,7 +70,7 @@ pub fn step<'a>(
     position: &Position<'a>,
     kind: EventKind<'_>,
 ) -> Result<Position<'a>, OutOfMemory>
-    ensures { IfOk result (λ next. position_of next ≡ step (reading_of context.now.grammar.now) (position_of position.now) (kind_of kind.entry)) }
+    ensures { IfOk result (λ next. position_of next ≡ step (reading_of context.now.grammar.now) (position_of position.now) (event_kind_of kind.entry)) }
 {
     match kind {
         EventKind::Start { name, attrs } => {

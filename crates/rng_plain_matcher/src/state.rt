@@ -1,8 +1,8 @@
 // Patterns inside open elements, and what each event does to them.
 ghost use Rattle.std.specs.Prelude.{◌≡◌, IfOk, map, option_map};
-ghost use Rattle.rng_model.specs.documents.DocumentViews.{attribute_of};
+ghost use Rattle.rng_model.specs.documents.EventViews.{attribute_of};
 ghost use Rattle.rng_model.specs.names.NameViews.{name_of};
-ghost use Rattle.rng_model.specs.matching.GrammarReading.{reading_of};
+ghost use Rattle.rng_model.specs.matching.GrammarMatching.{reading_of};
 ghost use Rattle.rng_deriv_laws.specs.plain.States.{accepts, after_of, either_of, end_tag, end_text, if_so, is_ended, is_never, start_tag, string};
 ghost use Rattle.rng_deriv_laws.specs.plain.Derivatives.{bodies_of, closed};
 ghost use Rattle.rng_deriv_laws.specs.plain.Derivatives as laws_of;

@@ -6,11 +6,10 @@ use Rattle.rng_model.specs.names.Lists.{Among}
 use Rattle.rng_model.specs.names.Names.{NameClass}
 use Rattle.rng_model.specs.simple.Grammar.{Grammar}
 use Rattle.rng_model.specs.simple.Tree.{Simple}
-use Rattle.rng_model.specs.restrictions.Paths.{HasProhibited, HasProhibitedInStart}
-use Rattle.rng_model.specs.restrictions.ContentTypes.{BreaksContent}
-use Rattle.rng_model.specs.restrictions.Occurrences.{BreaksWildcard, BreaksText, BreaksAttributeNames, BreaksElementNames}
+use Rattle.rng_model.specs.restrictions.Contents.{HasProhibited, HasProhibitedInStart, BreaksContent}
+use Rattle.rng_model.specs.restrictions.Restrictions.{BreaksWildcard, BreaksText, BreaksAttributeNames, BreaksElementNames, IsPart, BreaksRestriction}
+use Rattle.rng_model.specs.restrictions.Restrictions.{IsLeastRestriction, BreaksNone, ClassIn}
 use Rattle.rng_model.specs.restrictions.Restrictions as model
-use Rattle.rng_model.specs.restrictions.Restrictions.{IsPart, BreaksRestriction, IsLeastRestriction, BreaksNone, ClassIn}
 use Rattle.rng_model.proofs.ProhibitedPaths.{prohibits}
 use Rattle.rng_rules.specs.plain.Broken.{IsIntactBelow, grammar_broken}
 use Rattle.rng_rules.specs.declared.broken.Broken.{Broken}

@@ -5,10 +5,10 @@ use Rattle.rng_model.specs.names.Names.{NameClass}
 use Rattle.rng_model.specs.simple.Tree as tree
 use Rattle.rng_model.specs.simple.Tree.{Connector, Simple, s_not_allowed, s_empty, s_text, s_leaf, s_attribute, s_list, s_data, s_data_except, s_value}
 use Rattle.rng_model.specs.simple.Tree.{s_one_or_more, s_joined}
-use Rattle.rng_model.specs.restrictions.ContentTypes as model
-use Rattle.rng_model.specs.restrictions.ContentTypes.{HasContent, BreaksContent, AreGroupable, IsNoChoice, grouped, interleaved, empty_first, empty_second, both_complex}
-use Rattle.rng_model.specs.simple.Inside.{kind_of}
-use Rattle.rng_model.specs.restrictions.ContentTypes.{complex_content, simple_content, greater}
+use Rattle.rng_model.specs.restrictions.Contents as model
+use Rattle.rng_model.specs.restrictions.Contents.{HasContent, BreaksContent, AreGroupable, IsNoChoice, grouped, interleaved, empty_first, empty_second}
+use Rattle.rng_model.specs.restrictions.Contents.{both_complex, complex_content, simple_content, greater}
+use Rattle.rng_model.specs.simple.Grammar.{kind_of}
 use Rattle.rng_rules.specs.plain.Kinds.{is_not_allowed}
 use Rattle.rng_rules.specs.plain.Facts as facts
 use Rattle.rng_rules.specs.plain.Facts.{content_of, content_seen, groupable}

@@ -18,8 +18,8 @@ use Rattle.rng_model.specs.declared.name.NameClass.{NameClass}
 use Rattle.rng_model.specs.declared.simple.ElementId.{ElementId}
 use Rattle.rng_model.specs.declared.simple.Simple as simple
 use Rattle.rng_model.specs.declared.simple.Simple.TheVariants as variants
-use Rattle.rng_model.specs.simple.Inside.{kind_between, list_kind, data_kind}
-use Rattle.rng_model.specs.simple.Inside as model
+use Rattle.rng_model.specs.simple.Grammar.{kind_between, list_kind, data_kind}
+use Rattle.rng_model.specs.simple.Grammar as model
 use Rattle.rng_model.specs.simple.Tree as tree
 use Rattle.rng_model.specs.simple.Tree.{Connector, Simple, s_not_allowed, s_empty, s_text, s_leaf, s_attribute, s_list, s_data, s_data_except, s_value}
 use Rattle.rng_model.specs.simple.Tree.{s_one_or_more, s_joined}

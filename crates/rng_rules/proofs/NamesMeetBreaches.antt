@@ -6,12 +6,11 @@ use Rattle.std.proofs.lemmas.Option.{slice_get_cases, slice_get_within, slice_ge
 use Rattle.rng_model.proofs.Options.{one_value, none_is_some}
 use Rattle.rng_model.specs.names.Names as names
 use Rattle.rng_model.specs.names.Names.{Overlap}
-use Rattle.rng_model.specs.restrictions.ContentTypes.{IsNoChoice, grouped, interleaved}
+use Rattle.rng_model.specs.restrictions.Contents.{IsNoChoice, grouped, interleaved}
 use Rattle.rng_model.specs.restrictions.Restrictions.{IsPart, ClassIn}
-use Rattle.rng_model.specs.simple.Inside.{StandsIn, OccursIn}
+use Rattle.rng_model.specs.simple.Grammar.{StandsIn, OccursIn, Grammar}
 use Rattle.rng_model.specs.simple.Table.{Table, grammar_of, tree_at, tree_over}
 use Rattle.rng_model.specs.simple.TableRules.{IsTable}
-use Rattle.rng_model.specs.simple.Grammar.{Grammar}
 use Rattle.rng_model.specs.simple.Tree as tree
 use Rattle.rng_model.specs.names.NameViews.{class_of}
 use Rattle.rng_model.specs.declared.name.NameClass.{NameClass}

@@ -5,9 +5,9 @@ use Rattle.rng_model.specs.names.Names.{NameClass}
 use Rattle.rng_model.specs.simple.Tree as tree
 use Rattle.rng_model.specs.simple.Tree.{Connector, Simple, s_not_allowed, s_empty, s_text, s_leaf, s_attribute, s_list, s_data, s_data_except, s_value}
 use Rattle.rng_model.specs.simple.Tree.{s_one_or_more, s_joined}
-use Rattle.rng_model.specs.restrictions.Occurrences.{HasWildcard, BreaksWildcard, BreaksText}
-use Rattle.rng_model.specs.simple.Inside.{StandsIn, StandsUnrepeated, OccursIn, IsChild, IsTransparent, kind_of, itself, below}
-use Rattle.rng_model.specs.simple.Inside.{of_attribute, of_list, of_except, of_one_or_more, of_left, of_right}
+use Rattle.rng_model.specs.restrictions.Restrictions.{HasWildcard, BreaksWildcard, BreaksText}
+use Rattle.rng_model.specs.simple.Grammar.{StandsIn, StandsUnrepeated, OccursIn, IsChild, IsTransparent, kind_of, itself, below, of_attribute, of_list}
+use Rattle.rng_model.specs.simple.Grammar.{of_except, of_one_or_more, of_left, of_right}
 use Rattle.rng_model.proofs.Inside.{unrepeated_in_attribute, unrepeated_in_list, unrepeated_in_except, unrepeated_in_left, unrepeated_in_right}
 use Rattle.rng_model.proofs.Inside.{occurs_repeated, occurs_left, occurs_right, through_cases}
 use Rattle.rng_rules.specs.plain.Kinds.{is_interleave}

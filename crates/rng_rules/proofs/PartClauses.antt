@@ -5,10 +5,8 @@ use Rattle.rng_model.specs.names.Lists.{Among, here, there}
 use Rattle.rng_model.specs.names.Names.{NameClass}
 use Rattle.rng_model.specs.simple.Grammar.{Grammar}
 use Rattle.rng_model.specs.simple.Tree.{Simple}
-use Rattle.rng_model.specs.restrictions.Paths.{HasProhibited, HasProhibitedInStart}
-use Rattle.rng_model.specs.restrictions.ContentTypes.{BreaksContent}
-use Rattle.rng_model.specs.restrictions.Occurrences.{BreaksWildcard, BreaksText}
-use Rattle.rng_model.specs.restrictions.Restrictions.{IsPart, the_start, a_body}
+use Rattle.rng_model.specs.restrictions.Contents.{HasProhibited, HasProhibitedInStart, BreaksContent}
+use Rattle.rng_model.specs.restrictions.Restrictions.{BreaksWildcard, BreaksText, IsPart, the_start, a_body}
 use Rattle.rng_rules.specs.plain.Broken.{either_broken, body_broken, start_broken, grammar_broken}
 use Rattle.rng_rules.specs.plain.Facts.{facts_of}
 use Rattle.rng_rules.specs.declared.broken.Broken.{Broken}

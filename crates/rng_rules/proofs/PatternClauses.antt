@@ -2,11 +2,10 @@
 use Rattle.std.proofs.Common.{◌≡◌, ℕ, [], ◌∷◌, Bool, ◌⊎◌, inl, inr, refl, sym, subst, Decides, true≢false}
 use Rattle.std.proofs.lemmas.Bool.Decides.{Decides-and, Decides-like}
 use Rattle.rng_model.specs.simple.Tree.{Simple}
-use Rattle.rng_model.specs.simple.Inside.{Kind, kind_of, StandsIn, Inside}
-use Rattle.rng_model.specs.simple.Inside.{empty_kind, text_kind, ref_kind, attribute_kind, list_kind, data_kind, value_kind}
-use Rattle.rng_model.specs.simple.Inside.{one_or_more_kind, group_kind, interleave_kind}
-use Rattle.rng_model.specs.restrictions.Paths as paths
-use Rattle.rng_model.specs.restrictions.Paths.{IsProhibited, IsProhibitedInStart, HasPath, HasProhibited, HasProhibitedInStart}
+use Rattle.rng_model.specs.simple.Grammar.{Kind, kind_of, StandsIn, Inside, empty_kind, text_kind, ref_kind, attribute_kind, list_kind, data_kind, value_kind}
+use Rattle.rng_model.specs.simple.Grammar.{one_or_more_kind, group_kind, interleave_kind}
+use Rattle.rng_model.specs.restrictions.Contents as paths
+use Rattle.rng_model.specs.restrictions.Contents.{IsProhibited, IsProhibitedInStart, HasPath, HasProhibited, HasProhibitedInStart}
 use Rattle.rng_rules.specs.plain.Kinds as kinds
 use Rattle.rng_rules.specs.plain.Facts.{inside, somewhere, joins_attribute, barred_from_start}
 use Rattle.rng_rules.specs.plain.Facts.{bad_attribute, bad_one_or_more, bad_list, bad_except}

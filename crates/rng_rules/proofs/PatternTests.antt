@@ -3,7 +3,7 @@ use Rattle.std.proofs.Common.{Bool, false, ◌⊎◌, inl, inr, sym, Decides, tr
 use Rattle.std.proofs.lemmas.Bool.Decides.{Decides-or, Decides-like}
 use Rattle.rng_model.specs.simple.Tree.{Simple, s_not_allowed, s_empty, s_text, s_leaf, s_attribute, s_list, s_data, s_data_except, s_value}
 use Rattle.rng_model.specs.simple.Tree.{s_one_or_more, s_joined}
-use Rattle.rng_model.specs.simple.Inside.{StandsIn, Inside, itself, below, of_attribute, of_list, of_except, of_one_or_more, of_left, of_right}
+use Rattle.rng_model.specs.simple.Grammar.{StandsIn, Inside, itself, below, of_attribute, of_list, of_except, of_one_or_more, of_left, of_right}
 use Rattle.rng_model.proofs.Inside.{out_of_attribute, out_of_list, out_of_except, out_of_one_or_more, out_of_joined}
 use Rattle.rng_rules.specs.plain.Facts.{inside, somewhere}
 

@@ -13,8 +13,8 @@ use Rattle.rng_model.specs.simple.Tree as tree
 use Rattle.rng_model.specs.names.NameViews.{class_of}
 use Rattle.rng_model.specs.simple.Table.{Table, grammar_of, tree_at, tree_over}
 use Rattle.rng_model.specs.simple.TableRules.{IsTable, AreChildrenBelow}
-use Rattle.rng_model.specs.simple.Inside.{StandsIn, Inside, OccursIn, IsTransparent, kind_of, itself, of_attribute, of_list, of_except, of_one_or_more}
-use Rattle.rng_model.specs.simple.Inside.{of_left, of_right}
+use Rattle.rng_model.specs.simple.Grammar.{StandsIn, Inside, OccursIn, IsTransparent, kind_of, itself, of_attribute, of_list, of_except, of_one_or_more}
+use Rattle.rng_model.specs.simple.Grammar.{of_left, of_right}
 use Rattle.rng_model.specs.restrictions.Restrictions.{IsPart, the_start, a_body}
 use Rattle.rng_model.proofs.Inside.{in_attribute, in_list, in_except, in_one_or_more, in_left, in_right, deeper, stands_cases, through_cases, ThroughChild}
 use Rattle.rng_model.proofs.Inside.{occurs_repeated, occurs_left, occurs_right}

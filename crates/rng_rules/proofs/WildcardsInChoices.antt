@@ -6,12 +6,14 @@ use Rattle.std.specs.List.{list_any}
 use Rattle.std.proofs.lemmas.List.{take_all}
 use Rattle.std.proofs.lemmas.List.Folds.{list_any_at}
 use Rattle.rng_model.proofs.Truths.{no_truth, or_false_is}
-use Rattle.rng_model.specs.names.Names.{NameClass, NameClasses, classes_of, some_of, any_name, any_except, ns_name, ns_except, name_is, one_of, no_classes, class_and}
-use Rattle.rng_model.specs.restrictions.Occurrences.{HasWildcard, HaveWildcard, any, any_but, in_namespace, in_namespace_but, in_first, in_second, in_another, in_this, in_later}
+use Rattle.rng_model.specs.names.Names.{NameClass, NameClasses, class_list, some_of, any_name, any_except, ns_name, ns_except, name_is, one_of, no_classes}
+use Rattle.rng_model.specs.names.Names.{class_and}
+use Rattle.rng_model.specs.restrictions.Restrictions.{HasWildcard, HaveWildcard, any, any_but, in_namespace, in_namespace_but, in_first, in_second, in_another}
+use Rattle.rng_model.specs.restrictions.Restrictions.{in_this, in_later}
 use Rattle.rng_rules.specs.plain.Facts.{has_wildcard, have_wildcard}
 
 module _ {A : Type 0} where
-  have_wildcard-members : (f : A → NameClass) (xs : List A) → have_wildcard (classes_of (map f xs)) ≡ list_any (λ x. has_wildcard (f x)) xs
+  have_wildcard-members : (f : A → NameClass) (xs : List A) → have_wildcard (class_list (map f xs)) ≡ list_any (λ x. has_wildcard (f x)) xs
   have_wildcard-members f [] = refl
   have_wildcard-members f (x ∷ xs) = ap (λ b. has_wildcard (f x) || b) (have_wildcard-members f xs)
 

@@ -1,6 +1,6 @@
 // Kinds of pattern, and where each is not allowed.
 ghost use Rattle.std.specs.Prelude.{◌≡◌, ℕ};
-ghost use Rattle.rng_model.specs.simple.Inside.{kind_of};
+ghost use Rattle.rng_model.specs.simple.Grammar.{kind_of};
 ghost use Rattle.rng_model.specs.simple.Table.{tree_over};
 ghost use Rattle.rng_model.specs.simple.Tree as tree;
 ghost use Rattle.rng_model.specs.declared.simple.PatternId.{PatternId};

@@ -1,7 +1,6 @@
 // Names that must not meet: those of attributes in groups and interleaves, and those of elements in interleaves.
 ghost use Rattle.std.specs.Prelude.{◌≡◌, ℕ, option_copied, IfOk, IsTrue};
-ghost use Rattle.rng_model.specs.restrictions.Occurrences.{BreaksAttributeNames, BreaksElementNames};
-ghost use Rattle.rng_model.specs.restrictions.Restrictions.{ClassIn, IsPart};
+ghost use Rattle.rng_model.specs.restrictions.Restrictions.{BreaksAttributeNames, BreaksElementNames, ClassIn, IsPart};
 ghost use Rattle.rng_model.specs.simple.Table.{grammar_of};
 ghost use Rattle.rng_model.specs.simple.Tree as tree;
 ghost use Rattle.rng_rules.specs.views.NamesMeetRows.{class_at, sides_at};

@@ -1,8 +1,7 @@
 // The check of the restrictions.
 ghost use Rattle.std.specs.Prelude.{MatchOption, IfErr, IfOk, OnOk};
-ghost use Rattle.rng_model.specs.restrictions.Restrictions.{BreaksNone, IsLeastRestriction};
+ghost use Rattle.rng_model.specs.restrictions.Restrictions.{BreaksNone, IsLeastRestriction, IsRestrictionFault};
 ghost use Rattle.rng_model.specs.simple.Table.{grammar_of};
-ghost use Rattle.rng_model.specs.restrictions.Restricted.{IsRestrictionFault};
 
 use crate::broken::broken_in;
 use crate::names_meet::{attribute_names_meet, element_names_meet};

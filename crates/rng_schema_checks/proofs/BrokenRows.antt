@@ -5,7 +5,7 @@ use Rattle.std.specs.List.{list_any}
 use Rattle.std.proofs.Math.Bool.{or-false}
 use Rattle.std.proofs.lemmas.List.{length-drop, length-take-le, take-append-drop}
 use Rattle.rng_model.specs.simple.Tree.{Connector, choice, group, interleave}
-use Rattle.rng_model.specs.schema.Patterns.{Pattern, members, patterns_of}
+use Rattle.rng_model.specs.schema.Patterns.{Pattern, joined_members, pattern_list}
 use Rattle.rng_model.specs.views.SchemaView.{child, patterns_in, row_arity, row_pattern}
 use Rattle.rng_model.specs.declared.schema_pattern.SchemaRow.{SchemaRow}
 use Rattle.rng_model.specs.declared.schema_pattern.SchemaRow.TheVariants as row
@@ -60,11 +60,11 @@ module _ {A : Type 0} (test : A → Bool) where
 -- ---- rows
 
 module _ (t : PatternTest) where
-  some_in : (ps : List Pattern) → some_has_written t (patterns_of ps) ≡ list_any (has_written t) ps
+  some_in : (ps : List Pattern) → some_has_written t (pattern_list ps) ≡ list_any (has_written t) ps
   some_in [] = refl
   some_in (p ∷ ps) = ap (λ b. has_written t p || b) (some_in ps)
 
-  in_members : (k : Connector) (ps : List Pattern) → has_written t (members k ps) ≡ list_any (has_written t) ps
+  in_members : (k : Connector) (ps : List Pattern) → has_written t (joined_members k ps) ≡ list_any (has_written t) ps
   in_members choice [] = refl
   in_members group [] = refl
   in_members interleave [] = refl

@@ -7,7 +7,7 @@ use Rattle.std.proofs.lemmas.List.Folds.{list_any-append}
 use Rattle.std.specs.Cmp.Derive.{both_true}
 use Rattle.rng_model.proofs.Truths.{no_truth}
 use Rattle.rng_model.specs.names.Lists.{Among, here, there, HasTwo, first_and, both_later}
-use Rattle.rng_model.specs.schema.Schema.{Component, same_name, is_interleaved}
+use Rattle.rng_model.specs.schema.Schema.{Component, same_component_name, is_interleaved}
 use Rattle.rng_model.specs.declared.method.Method.{Method}
 use Rattle.rng_model.specs.declared.method.Method.TheVariants as methods
 use Rattle.rng_schema_checks.specs.plain.GrammarTests.{Name, has, is_plain, is_choice, is_interleaved_as, two_plain, both_methods}
@@ -40,8 +40,8 @@ AreBothPlain c d = (c.name ≡ d.name) × (c.method ≡ methods.Plain) × (d.met
 abbrev IsPlainAs : List Name → List Component → Type 0
 IsPlainAs names cs = (c : Component) × Among c cs × (c.method ≡ methods.Plain) × (has names c.name ≡ true)
 
-has_more : (names : List Name) (n y : Name) → has (names ++ n ∷ []) y ≡ (has names y || same_name y n)
-has_more names n y = list_any-append (same_name y) names (n ∷ []) ∙ ap (λ b. has names y || b) (or-false (same_name y n))
+has_more : (names : List Name) (n y : Name) → has (names ++ n ∷ []) y ≡ (has names y || same_component_name y n)
+has_more names n y = list_any-append (same_component_name y) names (n ∷ []) ∙ ap (λ b. has names y || b) (or-false (same_component_name y n))
 
 later_plain : (names : List Name) {c : Component} {cs : List Component} → IsPlainAs names cs ⊎ HasTwo AreBothPlain cs
     → IsPlainAs names (c ∷ cs) ⊎ HasTwo AreBothPlain (c ∷ cs)
@@ -51,7 +51,7 @@ later_plain names (inr h) = inr (both_later h)
 -- what is found once the name of the first component is among the names
 plain_after : (names : List Name) (c : Component) (cs : List Component) → c.method ≡ methods.Plain
     → IsPlainAs (names ++ c.name ∷ []) cs ⊎ HasTwo AreBothPlain cs → IsPlainAs names (c ∷ cs) ⊎ HasTwo AreBothPlain (c ∷ cs)
-plain_after names c cs plain (inl p) = elim (or_cases (has names p.0.name) (same_name p.0.name c.name) (sym (has_more names c.name p.0.name) ∙ p.3)) [
+plain_after names c cs plain (inl p) = elim (or_cases (has names p.0.name) (same_component_name p.0.name c.name) (sym (has_more names c.name p.0.name) ∙ p.3)) [
   | inl h ↦ inl (p.0, there p.1, p.2, h)
   | inr e ↦ inr (first_and p.1 (sym (same_name-found p.0.name c.name e), plain, p.2))
 ]
@@ -90,12 +90,12 @@ one_met : {d : Component} (names : List Name) {cs : List Component} → Among d 
     → two_plain names cs ≡ true
 one_met {d} names (here {xs}) plain h = step_plain names d xs plain ∙ or_left (has names d.name) (two_plain (names ++ d.name ∷ []) xs) h
 one_met {d} names (there {y} {xs} a) plain h =
-    step_met names y xs (one_met (names ++ y.name ∷ []) a plain (has_more names y.name d.name ∙ or_left (has names d.name) (same_name d.name y.name) h))
+    step_met names y xs (one_met (names ++ y.name ∷ []) a plain (has_more names y.name d.name ∙ or_left (has names d.name) (same_component_name d.name y.name) h))
     (one_met names a plain h)
 
 pub plain_met : (names : List Name) {cs : List Component} → HasTwo AreBothPlain cs → two_plain names cs ≡ true
 plain_met names (first_and {x} {y} {xs} a p) =
-    let there = has_more names x.name y.name ∙ or_right (has names y.name) (same_name y.name x.name) (same_name-met y.name x.name (sym p.0)) in
+    let there = has_more names x.name y.name ∙ or_right (has names y.name) (same_component_name y.name x.name) (same_name-met y.name x.name (sym p.0)) in
     step_plain names x xs p.1 ∙ or_right (has names x.name) (two_plain (names ++ x.name ∷ []) xs) (one_met (names ++ x.name ∷ []) a p.2 there)
 plain_met names (both_later {x} {xs} h) = step_met names x xs (plain_met (names ++ x.name ∷ []) h) (plain_met names h)
 
@@ -116,7 +116,7 @@ both_found cs e =
     let c = any_found (λ c. is_choice c.method && list_any (is_interleaved_as c.name) cs) cs e in
     let parts = and_parts (is_choice c.0.method) (list_any (is_interleaved_as c.0.name) cs) c.2 in
     let d = any_found (is_interleaved_as c.0.name) cs parts.1 in
-    let halves = and_parts (is_interleaved d.0.method) (same_name c.0.name d.0.name) d.2 in
+    let halves = and_parts (is_interleaved d.0.method) (same_component_name c.0.name d.0.name) d.2 in
     (c.0, d.0, c.1, d.1, same_name-found c.0.name d.0.name halves.1, choice_is c.0.method parts.0, interleaved_is d.0.method halves.0)
 
 pub both_met : {c d : Component} {cs : List Component} → Among c cs → Among d cs → c.name ≡ d.name → c.method ≡ methods.Choice

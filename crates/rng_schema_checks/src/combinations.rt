@@ -1,7 +1,7 @@
 // How components of one name are combined, and whether there is a start.
 ghost use Rattle.std.specs.Prelude.{◌≡◌, ◌∷◌, ◌++◌, ◌||◌, [], List, ℕ, IfOk, IsTrue, OnOk, Option, map, not, option_map};
 ghost use Rattle.std.specs.List.{list_any};
-ghost use Rattle.rng_model.specs.schema.Schema.{is_interleaved, same_name};
+ghost use Rattle.rng_model.specs.schema.Schema.{is_interleaved, same_component_name};
 ghost use Rattle.rng_model.specs.views.SchemaView.{schema_component_of};
 ghost use Rattle.rng_schema_checks.specs.plain.GrammarTests.{both_methods, breaks_combination, has, is_choice, is_interleaved_as, is_plain, lacks_start, names_in, seen_name, two_plain};
 
@@ -89,7 +89,7 @@ fn note<'a>(
 ) -> Result<bool, OutOfMemory>
     ensures new { IfOk result (λ new. new ≡ not (has (names_in names.old) (seen_name name.entry))) }
     ensures last { IfOk result (λ new. IsTrue new → names_in names.new ≡ names_in names.old ++ seen_name name.entry ∷ []) }
-    ensures there { OnOk result ((y : Option (List ℕ)) → has (names_in names.new) y ≡ (has (names_in names.old) y || same_name y (seen_name name.entry))) }
+    ensures there { OnOk result ((y : Option (List ℕ)) → has (names_in names.new) y ≡ (has (names_in names.old) y || same_component_name y (seen_name name.entry))) }
 {
     Ok(names.insert(name)?)
 }

@@ -13,7 +13,7 @@ use Rattle.std.proofs.lemmas.Option.{slice_get_within}
 use Rattle.std.proofs.lemmas.Slice.Eq.{bytes_eq-Decides}
 use Rattle.rng_model.specs.names.Lists.{Among, here, there, HasTwice, at_first, later}
 use Rattle.rng_model.specs.schema.Patterns.{Place}
-use Rattle.rng_model.specs.schema.Schema.{Schema, Component, Definition, same_name}
+use Rattle.rng_model.specs.schema.Schema.{Schema, Component, Definition, same_component_name}
 use Rattle.rng_model.specs.views.SchemaView.{schema_component_of}
 use Rattle.rng_model.specs.declared.component.Component as code
 use Rattle.rng_model.proofs.Unfolding.{some_is}
@@ -244,10 +244,10 @@ module _ (s : Schema) (d : Definition) where
   none_kept (c ∷ cs) = none_kept cs
 
   elsewhere_none : (x : Place) (cs : List Component) → bytes_eq d.place x ≡ false → those_at d x cs ≡ []
-  elsewhere_none x cs h = ap (λ b. filter (λ c. b && same_name d.name c.name) cs) h ∙ none_kept cs
+  elsewhere_none x cs h = ap (λ b. filter (λ c. b && same_component_name d.name c.name) cs) h ∙ none_kept cs
 
-  at_its_place : (cs : List Component) → those_at d d.place cs ≡ filter (λ c. same_name d.name c.name) cs
-  at_its_place cs = ap (λ b. filter (λ c. b && same_name d.name c.name) cs) ((bytes_eq-Decides d.place d.place).1 refl)
+  at_its_place : (cs : List Component) → those_at d d.place cs ≡ filter (λ c. same_component_name d.name c.name) cs
+  at_its_place cs = ap (λ b. filter (λ c. b && same_component_name d.name c.name) cs) ((bytes_eq-Decides d.place d.place).1 refl)
 
   is_elsewhere : (x : Place) → (d.place ≡ x → ⊥) → (b : Bool) → bytes_eq d.place x ≡ b → bytes_eq d.place x ≡ false
   is_elsewhere x n true e = absurd (n ((bytes_eq-Decides d.place x).0 e))
@@ -289,7 +289,7 @@ module _ (s : Schema) (d : Definition) where
           present (among_found places at.0 d.place at.1) are.once
       either_way None e =
           absent places (λ i. let there = are.there d.place (found_among i) in not_both there.1 e)
-          ∙ ap (λ o. filter (λ c. same_name d.name c.name) (given o)) (sym e)
+          ∙ ap (λ o. filter (λ c. same_component_name d.name c.name) (given o)) (sym e)
 
 -- one grammar more in the table, one place less to do
 pub one_grammar_more : {A : Type 0} (s : Schema) (view : A → Place) (places : List A) (i : ℕ) (x : A) (t u : Table) → i < length places → x ≡ get_or places i x

@@ -1,10 +1,11 @@
 -- Corresponding trees: they differ only in their leaves, which are paired.
 use Rattle.std.proofs.Common.{List, ℕ}
 use Rattle.rng_model.specs.names.Names.{NameClass}
-use Rattle.rng_model.specs.simple.Tree.{Datatype, Connector, choice, group, interleave, Tree, not_allowed, empty, text, leaf, attribute, list, data_of, data_except}
+use Rattle.rng_model.specs.simple.Tree.{Datatype, Connector, choice, group, interleave, Tree, not_allowed, empty, text, leaf, attribute, list, data_of}
+use Rattle.rng_model.specs.simple.Tree.{data_except}
 use Rattle.rng_model.specs.simple.Tree.{value, mixed, optional, zero_or_more, one_or_more, joined, Trees, no_trees, tree_and}
-use Rattle.rng_model.specs.matching.Matching.{Texts}
-use Rattle.rng_model.specs.matching.Lex.{Lex, LexOne, LexAll}
+use Rattle.rng_model.specs.datatypes.Texts.{Texts}
+use Rattle.rng_model.specs.matching.Matching.{Lex, LexOne, LexAll}
 use Rattle.rng_model.specs.simple.Leaves.{renamed, all_renamed, LeafIn, LeafAmong}
 use Rattle.rng_model.specs.simple.Leaves as f
 use Rattle.rng_simple.proofs.StepLex.{repeats}

@@ -6,7 +6,7 @@ use Rattle.std.specs.List.{list_any, position_or_len}
 use Rattle.std.specs.Option.{option_eq}
 use Rattle.std.specs.Str.{bytes_eq}
 use Rattle.indexmap.specs.IndexSet.{insert_key}
-use Rattle.rng_model.specs.schema.Schema.{same_name}
+use Rattle.rng_model.specs.schema.Schema.{same_component_name}
 use Rattle.rng_model.proofs.SamePlaces.{compares_numbers}
 use Rattle.rng_simple.specs.views.Definitions.{definition_of}
 use Rattle.rng_simple.specs.plain.Graph.{same_definition, number_of}
@@ -14,7 +14,7 @@ use Rattle.rng_simple.specs.plain.Resolving.{with_definition}
 use Rattle.rng_simple.specs.declared.graph.definitions.Definition.{Definition}
 use Rattle.rng_simple.specs.contracts.graph.definitions.DefinitionPartialEq.TheImpl as same
 
-same_names : (a b : Option (Bor (List ℕ))) → option_eq (λ x y. bytes_eq x.now y.now) a b ≡ same_name (option_map (λ y. y.now) a) (option_map (λ y. y.now) b)
+same_names : (a b : Option (Bor (List ℕ))) → option_eq (λ x y. bytes_eq x.now y.now) a b ≡ same_component_name (option_map (λ y. y.now) a) (option_map (λ y. y.now) b)
 same_names None None = refl
 same_names None (Some b) = refl
 same_names (Some a) None = refl

@@ -5,7 +5,7 @@ use Rattle.std.proofs.lemmas.Bool.{cases_lt}
 use Rattle.std.proofs.lemmas.List.{length-map, take_more, get_or-set_same, get_or-set_other}
 use Rattle.std.proofs.lemmas.Option.{slice_get-get_or, slice_get_within, get_or_from_slice_get}
 use Rattle.rng_model.specs.simple.Tree.{Tree}
-use Rattle.rng_model.specs.schema.Depth.{class_depth, depth_limit}
+use Rattle.rng_model.specs.simple.Leaves.{class_depth, depth_limit}
 use Rattle.rng_simple.specs.plain.InTwos.{nested}
 use Rattle.rng_model.specs.names.NameViews.{class_of}
 use Rattle.rng_model.proofs.Unfolding.{some_is}

@@ -2,10 +2,9 @@
 use Rattle.std.proofs.Common.{◌≡◌, refl, ℕ, arith}
 use Rattle.rng_model.specs.simple.Tree.{Connector, Tree, leaf, Trees, Simple, s_joined}
 use Rattle.rng_simple.specs.plain.InTwos.{in_twos, more_in_twos}
-use Rattle.rng_model.specs.schema.Depth.{depth}
+use Rattle.rng_model.specs.simple.Leaves.{depth, LeafIn, LeafAmong}
 use Rattle.rng_model.specs.schema.Patterns.{Place, Point}
 use Rattle.rng_model.specs.schema.Schema.{Schema}
-use Rattle.rng_model.specs.simple.Leaves.{LeafIn, LeafAmong}
 use Rattle.rng_model.specs.simple.Leaves as at
 use Rattle.rng_model.specs.schema.Unfolding.{Leaf, Unfolds, UnfoldAll}
 use Rattle.rng_model.specs.schema.Unfolding as u

@@ -12,7 +12,7 @@ use Rattle.rng_model.proofs.Places.{contains_at}
 use Rattle.rng_model.specs.names.Names.{NameClass}
 use Rattle.rng_model.specs.schema.Patterns.{Place, Position, Pattern, Patterns, no_patterns, pattern_and}
 use Rattle.rng_model.specs.schema.Patterns as pattern
-use Rattle.rng_model.specs.schema.Schema.{Schema, Component, Definition, same_name}
+use Rattle.rng_model.specs.schema.Schema.{Schema, Component, Definition, same_component_name}
 use Rattle.rng_model.specs.schema.Unfolding.{Leaf}
 use Rattle.rng_model.proofs.Unfolding.{some_is}
 use Rattle.rng_simple.specs.views.ComponentTable.{components_at}
@@ -187,7 +187,7 @@ module _ (x : Place) where
     index : ℕ
     component : Component
     there : slice_get cs index ≡ Some component
-    named : same_name y component.name ≡ true
+    named : same_component_name y component.name ≡ true
     front : Position
     position : m.position ≡ front ++ (k + index) ∷ []
 
@@ -203,7 +203,7 @@ module _ (x : Place) where
         position = i.position ∙ ap (λ j. i.front ++ j ∷ []) sum;
       }
 
-  first_named : {y : Option (List ℕ)} {k : ℕ} (c : Component) (cs : List Component) {m : Leaf} → same_name y c.name ≡ true → Inside (k ∷ []) m
+  first_named : {y : Option (List ℕ)} {k : ℕ} (c : Component) (cs : List Component) {m : Leaf} → same_component_name y c.name ≡ true → Inside (k ∷ []) m
       → InNamed y k (c ∷ cs) m
   first_named {k = k} c cs h i =
       let sum : k ≡ k + 0 = omega arith in record {
@@ -221,7 +221,7 @@ module _ (x : Place) where
       let same = one_child i.front c.front [] k ((k + 1) + c.index) (sym i.position ∙ q ∙ c.position) in
       omega (arith, same)
 
-  named_more : (y : Option (List ℕ)) (k : ℕ) (c : Component) (cs : List Component) {ls ms : List Leaf} (b : Bool) → same_name y c.name ≡ b
+  named_more : (y : Option (List ℕ)) (k : ℕ) (c : Component) (cs : List Component) {ls ms : List Leaf} (b : Bool) → same_component_name y c.name ≡ b
       → Brought (InNamed y (k + 1) cs) (if b then with_elements x (k ∷ []) c.pattern ls else ls) ms → Brought (InNamed y k (c ∷ cs)) ls ms
   named_more y k c cs {ls} true h r =
       brought_both (λ m. first_named c cs h) (λ m. later_named c) named_two (pattern_brings (k ∷ []) c.pattern ls) r
@@ -231,8 +231,8 @@ module _ (x : Place) where
   unfolding with_named_elements
   named_bring y k [] ls = none_brought
   named_bring y k (c ∷ cs) ls =
-      named_more y k c cs (same_name y c.name) refl
-      (named_bring y (k + 1) cs (if same_name y c.name then with_elements x (k ∷ []) c.pattern ls else ls))
+      named_more y k c cs (same_component_name y c.name) refl
+      (named_bring y (k + 1) cs (if same_component_name y c.name then with_elements x (k ∷ []) c.pattern ls else ls))
 
 -- ---- those of definitions
 
@@ -244,7 +244,7 @@ record InOneOf (s : Schema) (ds : List Definition) (m : Leaf) : Type 0 where
   among : Contains ds definition
   inside : InDefinition s definition m
 
-same_names : (y z w : Option (List ℕ)) → same_name y w ≡ true → same_name z w ≡ true → same_name y z ≡ true
+same_names : (y z w : Option (List ℕ)) → same_component_name y w ≡ true → same_component_name z w ≡ true → same_component_name y z ≡ true
 same_names None None w e f = refl
 same_names None (Some b) None e f = f
 same_names None (Some b) (Some c) e f = e
@@ -262,7 +262,7 @@ one_definition s d e l m a b p q =
     let there : slice_get (components_at s d.place) a.index ≡ Some b.component =
     ap (λ z. slice_get (components_at s z) a.index) places ∙ ap (slice_get (components_at s e.place)) (omega (arith, index)) ∙ b.there in
     let component : a.component ≡ b.component = some_is a.there there in
-    let names = same_names d.name e.name b.component.name (ap (λ c. same_name d.name c.name) (sym component) ∙ a.named) b.named in
+    let names = same_names d.name e.name b.component.name (ap (λ c. same_component_name d.name c.name) (sym component) ∙ a.named) b.named in
     rw ((bytes_eq-Decides d.place e.place).1 places, names) refl
 
 definitions_two : (s : Schema) (d : Definition) (ds : List Definition) → ArePairwiseApart same_definition (d ∷ ds) → (l m : Leaf) → InDefinition s d l

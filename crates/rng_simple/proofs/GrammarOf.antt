@@ -11,8 +11,8 @@ use Rattle.rng_simple.specs.plain.InTwos.{nested}
 use Rattle.rng_simple.specs.plain.SimpleOf.{simple_of}
 use Rattle.rng_model.specs.schema.Schema.{Schema, Definition, main_start}
 use Rattle.rng_model.specs.simple.Leaves.{LeafIn, AreLeavesBelow}
-use Rattle.rng_model.specs.schema.Unfolding.{Leaf, content_of, to_definition, aim, IsTreeOf, IsBodyOf}
-use Rattle.rng_model.specs.schema.Reached.{IsReachedByTrees, from_start, from_element, IsReachedBySimpleForms, from_simple_start, from_simple_body}
+use Rattle.rng_model.specs.schema.Unfolding.{Leaf, content_of, to_definition, aim, IsTreeOf, IsBodyOf, IsReachedByTrees, from_start, from_element}
+use Rattle.rng_model.specs.schema.Unfolding.{IsReachedBySimpleForms, from_simple_start, from_simple_body}
 use Rattle.rng_simple.specs.plain.Expansion.{KeepsExpansion}
 use Rattle.rng_simple.specs.plain.Met.{met_start, met_in_element}
 use Rattle.rng_simple.specs.plain.Renamed.{simple_renamed}

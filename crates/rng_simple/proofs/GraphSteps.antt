@@ -11,7 +11,8 @@ use Rattle.rng_model.proofs.Places.{before_or_at_end, front_stays, contains_at, 
 use Rattle.rng_model.specs.names.Lists.{here, HasTwice, at_first, later}
 use Rattle.rng_model.specs.simple.Tree.{Tree}
 use Rattle.rng_model.specs.schema.Patterns.{Point, pattern_tree}
-use Rattle.rng_model.specs.schema.Schema.{Schema, Component, Definition, main_start, body, body_among, combining_connector, nested, same_name, trees_named}
+use Rattle.rng_model.specs.schema.Schema.{Schema, Component, Definition, main_start, body, body_among, combining_connector, nested, same_component_name}
+use Rattle.rng_model.specs.schema.Schema.{trees_named}
 use Rattle.rng_model.specs.schema.Unfolding.{Leaf, content_of, to_definition}
 use Rattle.rng_model.proofs.Unfolding.{some_is}
 use Rattle.rng_simple.specs.views.ComponentTable.{given, IsTable, Table, components_of, schema_components}
@@ -150,12 +151,12 @@ none_twice (d ∷ ds) apart (at_first a) = let k = among_at a in let e = apart 0
 none_twice (d ∷ ds) apart (later t) =
     none_twice ds (λ i j x y e f q. let h = apart (suc i) (suc j) x y e f q in omega (arith, h)) t
 
-none_named : (y : Option (List ℕ)) (n : ℕ) (cs : List Component) → filter (λ c. same_name y c.name) cs ≡ [] → trees_named y n cs ≡ []
+none_named : (y : Option (List ℕ)) (n : ℕ) (cs : List Component) → filter (λ c. same_component_name y c.name) cs ≡ [] → trees_named y n cs ≡ []
 none_named y n [] e = refl
-none_named y n (c ∷ cs) e = by_name (same_name y c.name) e (none_named y (n + 1) cs)
+none_named y n (c ∷ cs) e = by_name (same_component_name y c.name) e (none_named y (n + 1) cs)
   where
-    by_name : (b : Bool) → cond b (c ∷ filter (λ c. same_name y c.name) cs) (filter (λ c. same_name y c.name) cs) ≡ []
-        → (filter (λ c. same_name y c.name) cs ≡ [] → trees_named y (n + 1) cs ≡ [])
+    by_name : (b : Bool) → cond b (c ∷ filter (λ c. same_component_name y c.name) cs) (filter (λ c. same_component_name y c.name) cs) ≡ []
+        → (filter (λ c. same_component_name y c.name) cs ≡ [] → trees_named y (n + 1) cs ≡ [])
         → (if b then pattern_tree (n ∷ []) c.pattern ∷ trees_named y (n + 1) cs else trees_named y (n + 1) cs) ≡ []
     by_name true e rest = absurd (one_or_none e)
     by_name false e rest = rest e
@@ -164,7 +165,7 @@ has_components : (s : Schema) (d : Definition) (a : Tree Point) → body s d ≡
 unfolding body
 has_components s d a e n = among (s.components d.place) e n
   where
-    among : (o : Option (List Component)) → body_among d.name o ≡ Some a → filter (λ c. same_name d.name c.name) (given o) ≡ [] → ⊥
+    among : (o : Option (List Component)) → body_among d.name o ≡ Some a → filter (λ c. same_component_name d.name c.name) (given o) ≡ [] → ⊥
     among None e n = none-some _ e
     among (Some cs) e n = none-some _ (ap (nested (combining_connector d.name cs)) (sym (none_named d.name 0 cs n)) ∙ e)
 

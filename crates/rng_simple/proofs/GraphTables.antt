@@ -10,13 +10,14 @@ use Rattle.rng_model.proofs.Members.{not_in_none, contains_mapped, all_from_memb
 use Rattle.rng_model.proofs.Places.{contains_at}
 use Rattle.rng_model.specs.simple.Tree.{Tree}
 use Rattle.rng_model.specs.schema.Patterns.{Place, Point}
-use Rattle.rng_model.specs.schema.Schema.{Schema, Definition, body, same_name}
+use Rattle.rng_model.specs.schema.Schema.{Schema, Definition, body, same_component_name}
 use Rattle.rng_model.specs.simple.Leaves.{LeafIn}
 use Rattle.rng_model.specs.schema.Unfolding.{Leaf, Aim, to_definition, aim}
 use Rattle.rng_simple.specs.plain.Met.{IsSettled, IsOrder, none_yet, and_then, Leads, directly, further}
 use Rattle.rng_simple.specs.plain.DepthWith.{depth_with, of_aim, depth_at, IsFilled}
 use Rattle.rng_simple.specs.plain.Graph.{Spot, at_element, at_definition, Graph, element_aim, definition_aim, aim_at, IsSpotBelow, IsResolved, same_definition}
-use Rattle.rng_simple.specs.plain.Graph.{same_leaf, ArePairwiseApart, IsGraphOf, Mentions, IsOrderBy, no_numbers, and_number, LeadsBy, by_one, by_more, of_spot, spot_depth}
+use Rattle.rng_simple.specs.plain.Graph.{same_leaf, ArePairwiseApart, IsGraphOf, Mentions, IsOrderBy, no_numbers, and_number, LeadsBy, by_one, by_more, of_spot}
+use Rattle.rng_simple.specs.plain.Graph.{spot_depth}
 use Rattle.rng_simple.specs.plain.Graph.{IsFilledBy, first_with, no_definition, definition_at, number_of, leaf_number}
 use Rattle.rng_model.proofs.Unfolding.{some_is}
 use Rattle.rng_simple.proofs.RenamedLeaves.{depth_same}
@@ -60,7 +61,7 @@ first_is test (y ∷ ys) (suc j) x e t u =
     (first_is test ys j x e t (λ i z f q. let h : suc i ≡ suc j = u (suc i) z f q in omega arith))
     (test y) refl (λ q. let h : 0 ≡ suc j = u 0 y refl q in omega arith)
 
-pub name_same : (y : Option (List ℕ)) → same_name y y ≡ true
+pub name_same : (y : Option (List ℕ)) → same_component_name y y ≡ true
 name_same None = refl
 name_same (Some y) = bytes_itself y
 

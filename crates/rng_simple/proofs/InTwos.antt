@@ -2,13 +2,13 @@
 use Rattle.std.proofs.Common.{◌≡◌, ◌↔◌, subst, refl, ap, ◌∙◌, sym}
 use Rattle.rng_model.specs.names.Names.{NameClass}
 use Rattle.rng_model.specs.simple.Tree.{Datatype, Connector, choice, interleave}
-use Rattle.rng_model.specs.simple.Tree.{Tree, not_allowed, empty, text, leaf, attribute, list, data_of, data_except, value, mixed, optional, zero_or_more, one_or_more}
+use Rattle.rng_model.specs.simple.Tree.{Tree, not_allowed, empty, text, leaf, attribute, list, data_of, data_except, value, mixed, optional, zero_or_more}
+use Rattle.rng_model.specs.simple.Tree.{one_or_more}
 use Rattle.rng_model.specs.simple.Tree.{joined, Trees, no_trees, tree_and}
-use Rattle.rng_model.specs.simple.Tree.{Simple, s_not_allowed, s_empty, s_text, s_leaf, s_attribute, s_list, s_data, s_data_except, s_value, s_one_or_more, s_joined}
+use Rattle.rng_model.specs.simple.Tree.{Simple, s_not_allowed, s_empty, s_text, s_leaf, s_attribute, s_list, s_data, s_data_except, s_value, s_one_or_more}
+use Rattle.rng_model.specs.simple.Tree.{s_joined}
 use Rattle.rng_model.specs.simple.Tree.{as_tree}
-use Rattle.rng_model.specs.simple.ClassSteps.{ClassStep, ClassSteps}
-use Rattle.rng_model.specs.simple.ClassSteps as classes
-use Rattle.rng_model.specs.simple.Simplification.{rewriting, Step, StepAmong, Steps, IsRewritten}
+use Rattle.rng_model.specs.simple.Simplification.{ClassStep, ClassSteps, rewriting, Step, StepAmong, Steps, IsRewritten}
 use Rattle.rng_model.specs.simple.Simplification as step
 use Rattle.rng_simple.specs.plain.InTwos.{nested, in_twos, more_in_twos}
 use Rattle.rng_simple.proofs.SimpleClass.{class_keeps, class_unchanged, class_normal, class_reached}
@@ -128,8 +128,8 @@ module _ {L : Type 0} where
   inside F f (step.step_and s d) = step.step_and (f _ _ s) (inside F f d)
 
   of_class : (a : Tree L) {c d : NameClass} → ClassSteps c d → Steps (Step rewriting) (attribute c a) (attribute d a)
-  of_class a classes.no_class_step = step.no_step
-  of_class a (classes.class_step_and s d) = step.step_and (step.in_class s) (of_class a d)
+  of_class a step.no_class_step = step.no_step
+  of_class a (step.class_step_and s d) = step.step_and (step.in_class s) (of_class a d)
 
   mutual
     reached : (a : Tree L) → Steps (Step rewriting) a (as_tree (in_twos a))

@@ -18,7 +18,7 @@ use Rattle.rng_simple.proofs.SortedDefinitions.{loop_breaks}
 use Rattle.rng_simple.proofs.TooDeep.{breaks_depth}
 use Rattle.rng_simple.proofs.Graphs.{found, found_contained, resolved_content, known, covers, has_body, closed}
 use Rattle.rng_simple.proofs.GraphTables.{number_is, order_of, leads_of, table_of, depth_resolved, filled_of}
-use Rattle.rng_model.specs.schema.Depth.{class_depth, depth_limit}
+use Rattle.rng_model.specs.simple.Leaves.{class_depth, depth_limit}
 use Rattle.rng_simple.specs.plain.InTwos.{nested}
 use Rattle.rng_model.proofs.Unfolding.{some_is}
 use Rattle.rng_simple.proofs.ListParts.{map_at}

@@ -17,16 +17,16 @@ use Rattle.rng_model.specs.schema.Patterns.{Place, Position, Pattern, Patterns, 
 use Rattle.rng_model.specs.schema.Patterns.{pattern_tree, pattern_trees, without_parameters, IsWrittenIn, itself, in_element, in_attribute, in_list, in_except}
 use Rattle.rng_model.specs.schema.Patterns.{in_mixed, in_optional, in_zero_or_more, in_one_or_more, in_first, in_second, in_another, in_external}
 use Rattle.rng_model.specs.schema.Patterns.{IsWrittenAmong, in_this, in_later}
-use Rattle.rng_model.specs.schema.Schema.{Schema, Component, Definition, main_start, body, body_among, combining_connector, nested, nested_from, same_name}
-use Rattle.rng_model.specs.schema.Schema.{trees_named, HasComponent, IsWrittenAt}
+use Rattle.rng_model.specs.schema.Schema.{Schema, Component, Definition, main_start, body, body_among, combining_connector, nested, nested_from}
+use Rattle.rng_model.specs.schema.Schema.{same_component_name, trees_named, HasComponent, IsWrittenAt}
 use Rattle.rng_model.specs.schema.SchemaClauses.{BreaksDatatype}
 use Rattle.rng_model.specs.simple.SchemaForm.{IsElementOf, IsSimpleFormOfSchema, IsSameUpToNumbering, IsSimpleGrammarOf, SimpleForm}
 use Rattle.rng_model.specs.simple.Leaves as at
 use Rattle.rng_model.specs.simple.Simplification as step
 use Rattle.rng_model.specs.simple.Simplification.{RuleGroup, Step, StepAmong, AnyStep, Steps}
 use Rattle.rng_model.specs.schema.Unfolding as unfolding_of
-use Rattle.rng_model.specs.schema.Unfolding.{Leaf, to_element, outside, aim, Unfolds, UnfoldAll, IsTreeOf, IsBodyOf}
-use Rattle.rng_model.specs.schema.Reached.{IsReachedBySimpleForms, from_simple_start, from_simple_body}
+use Rattle.rng_model.specs.schema.Unfolding.{Leaf, to_element, outside, aim, Unfolds, UnfoldAll, IsTreeOf, IsBodyOf, IsReachedBySimpleForms, from_simple_start}
+use Rattle.rng_model.specs.schema.Unfolding.{from_simple_body}
 use Rattle.rng_model.proofs.Unfolding.{some_is}
 use Rattle.rng_schema_checks.proofs.KeptDatatypes.{data_known, data_except_known, value_allowed}
 use Rattle.rng_simple.specs.plain.KnownDatatypes.{AreDatatypesKnown, AreGrammarDatatypesKnown, IsValueDatatype}
@@ -186,7 +186,7 @@ module _ (s : Schema) (kept : ¬ (BreaksDatatype s)) where
   trees_known : (x : Place) (y : Option (List ℕ)) (n : ℕ) (cs : List Component) → ((c : Component) → Among c cs → HasComponent s x c)
       → AreAllKnown (IsPointThere x) (trees_named y n cs)
   trees_known x y n [] has = tt
-  trees_known x y n (c ∷ cs) has = by_name (same_name y c.name) (trees_known x y (n + 1) cs (λ d m. has d (there m)))
+  trees_known x y n (c ∷ cs) has = by_name (same_component_name y c.name) (trees_known x y (n + 1) cs (λ d m. has d (there m)))
     where
       by_name : (b : Bool) → AreAllKnown (IsPointThere x) (trees_named y (n + 1) cs)
           → AreAllKnown (IsPointThere x) (if b then pattern_tree (n ∷ []) c.pattern ∷ trees_named y (n + 1) cs else trees_named y (n + 1) cs)

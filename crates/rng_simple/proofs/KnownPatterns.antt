@@ -5,11 +5,10 @@ use Rattle.std.proofs.lemmas.Option.{slice_get-get_or}
 use Rattle.rng_model.specs.simple.Tree.{Simple}
 use Rattle.rng_model.specs.names.Lists.{Among, here, there}
 use Rattle.rng_model.specs.restrictions.Restrictions.{IsPart, the_start, a_body}
-use Rattle.rng_model.specs.simple.Inside.{StandsIn, itself, below, of_attribute, of_list, of_except, of_one_or_more, of_left, of_right}
+use Rattle.rng_model.specs.simple.Grammar.{StandsIn, itself, below, of_attribute, of_list, of_except, of_one_or_more, of_left, of_right, Grammar}
 use Rattle.rng_model.specs.simple.SimplifiedSchema.{AreAllUsed}
 use Rattle.rng_model.specs.simple.Table.{Table, grammar_of, tree_at, tree_over}
 use Rattle.rng_model.specs.simple.TableRules.{Falls, IsDatatypeKnown}
-use Rattle.rng_model.specs.simple.Grammar.{Grammar}
 use Rattle.rng_model.specs.declared.simple.PatternId.{PatternId}
 use Rattle.rng_model.specs.declared.simple.Simple as declared
 use Rattle.rng_model.specs.declared.simple.Simple.TheVariants as simple

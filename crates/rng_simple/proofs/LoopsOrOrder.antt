@@ -8,10 +8,10 @@ use Rattle.rng_model.specs.schema.Patterns.{Place, Point}
 use Rattle.rng_model.specs.schema.Schema.{Schema, Definition, main_start, body}
 use Rattle.rng_model.specs.simple.Leaves.{LeafIn}
 use Rattle.rng_model.specs.simple.Leaves as at
-use Rattle.rng_model.specs.schema.Unfolding.{Leaf, content_of, Aim, to_element, to_definition, to_nothing, aim, Unfolds, IsTreeOf, IsBodyOf}
+use Rattle.rng_model.specs.schema.Unfolding.{Leaf, content_of, Aim, to_element, to_definition, to_nothing, aim, Unfolds, IsTreeOf, IsBodyOf, IsReachedByTrees}
+use Rattle.rng_model.specs.schema.Unfolding.{from_start, from_element}
 use Rattle.rng_simple.specs.plain.Expansion.{HasTree, KeepsExpansion}
 use Rattle.rng_model.specs.schema.Unfolding as u
-use Rattle.rng_model.specs.schema.Reached.{IsReachedByTrees, from_start, from_element}
 use Rattle.rng_model.specs.schema.SchemaClauses.{BreaksExpansion}
 use Rattle.rng_simple.specs.plain.Met.{Met, met_start, met_in_definition, met_in_element, IsSettled, IsOrder, none_yet, and_then, Leads, directly, further}
 use Rattle.rng_model.proofs.Unfolding.{IsStuck, some_is, none_of_stuck, no_tree}

@@ -1,9 +1,9 @@
 -- Depths member by member equal those of the nested forms.
 use Rattle.std.proofs.Common.{◌≡◌, refl, ap, sym, ◌∙◌, ℕ, ◌+◌, ◌-◌, ◌<◌, max, List, [], ◌∷◌, ◌++◌, length, map, take, drop, get_or, slice_index_or, arith}
-use Rattle.rng_model.specs.names.Names.{NameClass, NameClasses, no_classes, class_and, one_of, classes_of, some_of}
+use Rattle.rng_model.specs.names.Names.{NameClass, NameClasses, no_classes, class_and, one_of, class_list, some_of}
 use Rattle.rng_model.specs.simple.Tree.{Connector, choice, group, interleave, Tree, joined, no_trees, not_allowed}
 use Rattle.rng_model.specs.schema.Schema.{nested_from}
-use Rattle.rng_model.specs.schema.Depth.{class_depth}
+use Rattle.rng_model.specs.simple.Leaves.{class_depth}
 use Rattle.rng_model.specs.names.NameViews.{class_of}
 use Rattle.rng_simple.specs.plain.InTwos.{nested, nested_after}
 use Rattle.rng_simple.specs.plain.DepthWith.{cut_off, one_more, nested_depth, depth_with, deeper_with}
@@ -24,9 +24,9 @@ nested_after_depth c n (class_and d ds) e = nested_after_depth (one_of c (nested
 
 -- a choice of one member or more
 pub choice_depth : (c : NameClass) (cs : List NameClass)
-    → nested_class_depth (cut_off (class_depth (nested c))) (classes_of cs) ≡ cut_off (class_depth (nested (some_of (c ∷ cs))))
+    → nested_class_depth (cut_off (class_depth (nested c))) (class_list cs) ≡ cut_off (class_depth (nested (some_of (c ∷ cs))))
 choice_depth c [] = refl
-choice_depth c (d ∷ cs) = nested_after_depth (one_of (nested c) (nested d) no_classes) _ (classes_of cs) (omega arith)
+choice_depth c (d ∷ cs) = nested_after_depth (one_of (nested c) (nested d) no_classes) _ (class_list cs) (omega arith)
 
 -- ---- patterns
 

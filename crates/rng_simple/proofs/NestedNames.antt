@@ -1,8 +1,8 @@
 -- Nesting in twos keeps the names of a class.
 use Rattle.std.proofs.Common.{◌⊎◌, inl, inr}
 use Rattle.rng_model.specs.names.Names.{Name, NameClass, any_name, any_except, ns_name, ns_except, name_is, one_of, NameClasses, no_classes, class_and}
-use Rattle.rng_model.specs.simple.ClassSteps.{ClassStep, ClassesStep}
-use Rattle.rng_model.specs.simple.ClassSteps as step
+use Rattle.rng_model.specs.simple.Simplification.{ClassStep, ClassesStep}
+use Rattle.rng_model.specs.simple.Simplification as step
 use Rattle.rng_simple.specs.plain.InTwos.{nested, nested_after}
 use Rattle.rng_model.specs.names.Names.{In, InSome}
 

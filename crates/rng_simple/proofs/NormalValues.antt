@@ -2,11 +2,11 @@
 use Rattle.std.proofs.Common.{◌≡◌, refl, List, ℕ}
 use Rattle.rng_model.specs.names.Names.{NameClass}
 use Rattle.rng_model.specs.simple.Tree.{Datatype, Connector, choice, group, interleave}
-use Rattle.rng_model.specs.simple.Tree.{Tree, not_allowed, empty, text, leaf, attribute, list, data_of, data_except, value, mixed, optional, zero_or_more, one_or_more}
+use Rattle.rng_model.specs.simple.Tree.{Tree, not_allowed, empty, text, leaf, attribute, list, data_of, data_except, value, mixed, optional, zero_or_more}
+use Rattle.rng_model.specs.simple.Tree.{one_or_more}
 use Rattle.rng_model.specs.simple.Tree.{joined, Trees, no_trees, tree_and}
 use Rattle.rng_model.specs.simple.Tree.{Simple, s_empty, s_text, as_tree}
-use Rattle.rng_model.specs.simple.ClassSteps.{ClassStep}
-use Rattle.rng_model.specs.simple.Simplification.{RuleGroup, Step}
+use Rattle.rng_model.specs.simple.Simplification.{ClassStep, RuleGroup, Step}
 use Rattle.rng_model.specs.simple.Simplification as step
 use Rattle.rng_simple.specs.plain.SimpleOf.{Sort, attribute_by, list_by, except_by, one_or_more_by, choice_by, both_by, join, some_of, simple_of, join_all}
 use Rattle.rng_simple.specs.plain.InTwos.{nested}

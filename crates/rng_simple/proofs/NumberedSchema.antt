@@ -6,15 +6,13 @@ use Rattle.std.proofs.lemmas.Option.{slice_get_within}
 use Rattle.rng_model.proofs.Members.{contains_mapped}
 use Rattle.rng_model.specs.names.Names.{NameClass}
 use Rattle.rng_model.specs.simple.Tree.{Tree, Simple, as_tree}
-use Rattle.rng_model.specs.simple.ClassSteps.{IsSimpleClassOf}
-use Rattle.rng_model.specs.simple.Simplification.{IsSimpleFormOf}
+use Rattle.rng_model.specs.simple.Simplification.{IsSimpleClassOf, IsSimpleFormOf}
 use Rattle.rng_simple.specs.plain.InTwos.{nested}
 use Rattle.rng_simple.specs.plain.SimpleOf.{simple_of}
 use Rattle.rng_model.specs.schema.Schema.{Schema, Definition, main_start}
 use Rattle.rng_model.specs.simple.Leaves.{LeafIn, renamed, AreLeavesBelow}
-use Rattle.rng_model.specs.schema.Unfolding.{Leaf, Unfolds, IsTreeOf, IsBodyOf}
+use Rattle.rng_model.specs.schema.Unfolding.{Leaf, Unfolds, IsTreeOf, IsBodyOf, IsReachedBySimpleForms, from_simple_start, from_simple_body}
 use Rattle.rng_simple.specs.plain.Expansion.{KeepsExpansion}
-use Rattle.rng_model.specs.schema.Reached.{IsReachedBySimpleForms, from_simple_start, from_simple_body}
 use Rattle.rng_simple.specs.plain.Renamed.{simple_renamed}
 use Rattle.rng_model.specs.simple.SchemaForm.{Element, SimpleForm, IsElementOf, IsSimpleFormOfSchema, IsSameUpToNumbering, IsSimpleGrammarOf}
 use Rattle.rng_model.specs.simple.SchemaForm.{IsOnlySimpleGrammarOf}

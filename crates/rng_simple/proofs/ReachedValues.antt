@@ -2,12 +2,11 @@
 use Rattle.std.proofs.Common.{◌≡◌}
 use Rattle.rng_model.specs.names.Names.{NameClass}
 use Rattle.rng_model.specs.simple.Tree.{Datatype, Connector, choice, group, interleave}
-use Rattle.rng_model.specs.simple.Tree.{Tree, not_allowed, empty, text, leaf, attribute, list, data_of, data_except, value, mixed, optional, zero_or_more, one_or_more}
+use Rattle.rng_model.specs.simple.Tree.{Tree, not_allowed, empty, text, leaf, attribute, list, data_of, data_except, value, mixed, optional, zero_or_more}
+use Rattle.rng_model.specs.simple.Tree.{one_or_more}
 use Rattle.rng_model.specs.simple.Tree.{joined, Trees, no_trees, tree_and}
 use Rattle.rng_model.specs.simple.Tree.{Simple, s_empty, s_text, as_tree}
-use Rattle.rng_model.specs.simple.ClassSteps.{ClassSteps}
-use Rattle.rng_model.specs.simple.ClassSteps as class_step
-use Rattle.rng_model.specs.simple.Simplification.{RuleGroup, Step, AnyStep, Steps}
+use Rattle.rng_model.specs.simple.Simplification.{ClassSteps, RuleGroup, Step, AnyStep, Steps}
 use Rattle.rng_model.specs.simple.Simplification as step
 use Rattle.rng_simple.specs.plain.SimpleOf.{Sort, attribute_by, list_by, except_by, one_or_more_by, choice_by, both_by, join, some_of, simple_of, join_all}
 use Rattle.rng_simple.specs.plain.InTwos.{nested}
@@ -33,8 +32,8 @@ module _ {L : Type 0} where
 
   -- steps in the name class of an attribute
   class_inside : {c d : NameClass} {a : Tree L} → ClassSteps c d → Reaches (attribute c a) (attribute d a)
-  class_inside class_step.no_class_step = step.no_step
-  class_inside (class_step.class_step_and s d) = step.step_and (_, step.in_class s) (class_inside d)
+  class_inside step.no_class_step = step.no_step
+  class_inside (step.class_step_and s d) = step.step_and (_, step.in_class s) (class_inside d)
 
   attribute_reached : (c : NameClass) {s : Simple L} {x : Sort} → Sorted s x → Reaches (attribute c (as_tree s)) (as_tree (attribute_by x c s))
   attribute_reached c is_nothing = once step.attribute_not_allowed

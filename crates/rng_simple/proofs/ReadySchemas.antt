@@ -11,8 +11,8 @@ use Rattle.rng_model.specs.schema.Patterns.{mixed, optional, zero_or_more, one_o
 use Rattle.rng_model.specs.schema.Patterns.{pattern_and, Point, an_element, a_ref, a_parent_ref, a_grammar, pattern_tree, pattern_trees}
 use Rattle.rng_model.specs.schema.Patterns.{IsWrittenIn, itself, in_element, in_attribute, in_list, in_except, in_mixed, in_optional, in_zero_or_more}
 use Rattle.rng_model.specs.schema.Patterns.{in_one_or_more, in_first, in_second, in_another, in_external, IsWrittenAmong, in_this, in_later}
-use Rattle.rng_model.specs.schema.Schema.{Schema, Component, Definition, body, body_among, combining_connector, nested, nested_from, same_name, trees_named}
-use Rattle.rng_model.specs.schema.Schema.{HasComponent, IsWrittenAt}
+use Rattle.rng_model.specs.schema.Schema.{Schema, Component, Definition, body, body_among, combining_connector, nested, nested_from, same_component_name}
+use Rattle.rng_model.specs.schema.Schema.{trees_named, HasComponent, IsWrittenAt}
 use Rattle.rng_model.specs.plain.WellPlaced.{IsWellPlaced}
 use Rattle.rng_model.specs.schema.SchemaClauses.{HasNoStart, BreaksRef, of_ref, of_parent_ref}
 use Rattle.rng_model.specs.simple.Leaves.{LeafIn, LeafAmong}
@@ -97,13 +97,13 @@ HasNoneNamed y cs = (c : Component) → Among c cs → ¬ (c.name ≡ y)
 
 named_or_none : (y : Option (List ℕ)) (cs : List Component) → HasNamed y cs ⊎ HasNoneNamed y cs
 named_or_none y [] = inr (λ c i e. in_none i)
-named_or_none y (c ∷ cs) = by_name (same_name y c.name) refl (named_or_none y cs)
+named_or_none y (c ∷ cs) = by_name (same_component_name y c.name) refl (named_or_none y cs)
   where
-    by_name : (b : Bool) → same_name y c.name ≡ b → HasNamed y cs ⊎ HasNoneNamed y cs → HasNamed y (c ∷ cs) ⊎ HasNoneNamed y (c ∷ cs)
+    by_name : (b : Bool) → same_component_name y c.name ≡ b → HasNamed y cs ⊎ HasNoneNamed y cs → HasNamed y (c ∷ cs) ⊎ HasNoneNamed y (c ∷ cs)
     by_name true e rest = inl (c, here, sym (name_is y c.name e))
     by_name false e (inl h) = inl (h.0, there h.1, h.2)
     by_name false e (inr none) = inr (λ d i p. elim (in_cons i) [
-      | inl q ↦ true≢false (sym (name_same y) ∙ ap (λ z. same_name y z) (sym p ∙ ap (λ c. c.name) q) ∙ e)
+      | inl q ↦ true≢false (sym (name_same y) ∙ ap (λ z. same_component_name y z) (sym p ∙ ap (λ c. c.name) q) ∙ e)
       | inr j ↦ none d j p
     ])
 
@@ -132,13 +132,13 @@ HasFirst us = (t : Tree Point) × (ts : List (Tree Point)) × (us ≡ t ∷ ts)
 
 some_tree : (y : Option (List ℕ)) (n : ℕ) (cs : List Component) → HasNamed y cs → HasFirst (trees_named y n cs)
 some_tree y n [] h = absurd (in_none h.1)
-some_tree y n (c ∷ cs) h = by_name (same_name y c.name) refl (some_tree y (n + 1) cs)
+some_tree y n (c ∷ cs) h = by_name (same_component_name y c.name) refl (some_tree y (n + 1) cs)
   where
-    by_name : (b : Bool) → same_name y c.name ≡ b → (HasNamed y cs → HasFirst (trees_named y (n + 1) cs))
+    by_name : (b : Bool) → same_component_name y c.name ≡ b → (HasNamed y cs → HasFirst (trees_named y (n + 1) cs))
         → HasFirst (if b then pattern_tree (n ∷ []) c.pattern ∷ trees_named y (n + 1) cs else trees_named y (n + 1) cs)
     by_name true e rest = (_, _, refl)
     by_name false e rest = elim (in_cons h.1) [
-      | inl q ↦ absurd (true≢false (sym (name_same y) ∙ ap (λ z. same_name y z) (sym h.2 ∙ ap (λ c. c.name) q) ∙ e))
+      | inl q ↦ absurd (true≢false (sym (name_same y) ∙ ap (λ z. same_component_name y z) (sym h.2 ∙ ap (λ c. c.name) q) ∙ e))
       | inr j ↦ rest (h.0, j, h.2)
     ]
 
@@ -162,7 +162,7 @@ of_later l c cs p = (p.0, there p.1, p.2)
 point_of_trees : (l : Point) (y : Option (List ℕ)) (n : ℕ) (cs : List Component) (t : Tree Point) → Contains (trees_named y n cs) t → LeafIn l t
     → IsPointOf l cs
 point_of_trees l y n [] t m i = absurd (not_in_none m)
-point_of_trees l y n (c ∷ cs) t m i = by_name (same_name y c.name) (λ h. point_of_trees l y (n + 1) cs t h i) m
+point_of_trees l y n (c ∷ cs) t m i = by_name (same_component_name y c.name) (λ h. point_of_trees l y (n + 1) cs t h i) m
   where
     by_name : (b : Bool) → (Contains (trees_named y (n + 1) cs) t → IsPointOf l cs)
         → Contains (if b then pattern_tree (n ∷ []) c.pattern ∷ trees_named y (n + 1) cs else trees_named y (n + 1) cs) t → IsPointOf l (c ∷ cs)

@@ -3,8 +3,7 @@ use Rattle.std.proofs.Common.{◌≡◌, refl, ap, ap₂, ℕ, max}
 use Rattle.rng_model.specs.simple.Tree.{Tree, not_allowed, empty, text, leaf, attribute, list, data_of, data_except, value, mixed}
 use Rattle.rng_model.specs.simple.Tree.{optional, zero_or_more, one_or_more, joined, Trees, no_trees, tree_and}
 use Rattle.rng_simple.specs.plain.InTwos.{nested}
-use Rattle.rng_model.specs.schema.Depth.{class_depth}
-use Rattle.rng_model.specs.simple.Leaves.{LeafIn, LeafAmong, renamed, all_renamed}
+use Rattle.rng_model.specs.simple.Leaves.{class_depth, LeafIn, LeafAmong, renamed, all_renamed}
 use Rattle.rng_model.specs.simple.Leaves as at
 use Rattle.rng_simple.specs.plain.DepthWith.{cut_off, one_more, depth_with, deeper_with}
 

@@ -3,13 +3,13 @@
 use Rattle.std.proofs.Common.{◌≡◌, ℕ, List, [], ◌∷◌, refl, ap, sym, ◌∙◌, subst}
 use Rattle.rng_model.specs.names.Names.{NameClass}
 use Rattle.rng_model.specs.simple.Tree as tree
-use Rattle.rng_model.specs.simple.Tree.{Simple, s_not_allowed, s_empty, s_text, s_leaf, s_attribute, s_list, s_data, s_data_except, s_value, s_one_or_more, s_joined}
-use Rattle.rng_model.specs.simple.Inside as inside_of
-use Rattle.rng_model.specs.simple.Inside.{Kind, kind_of, IsChild, Through, StandsIn, StandsUnrepeated, OccursIn, itself, below}
-use Rattle.rng_model.specs.restrictions.Paths.{HasBelow, HasPath, HasProhibited, HasProhibitedInStart}
-use Rattle.rng_model.specs.restrictions.ContentTypes as types
-use Rattle.rng_model.specs.restrictions.ContentTypes.{ContentType, HasContent, BreaksContent}
-use Rattle.rng_model.specs.restrictions.Occurrences.{BreaksAttributeNames, BreaksWildcard, BreaksElementNames, BreaksText}
+use Rattle.rng_model.specs.simple.Tree.{Simple, s_not_allowed, s_empty, s_text, s_leaf, s_attribute, s_list, s_data, s_data_except, s_value, s_one_or_more}
+use Rattle.rng_model.specs.simple.Tree.{s_joined}
+use Rattle.rng_model.specs.simple.Grammar as inside_of
+use Rattle.rng_model.specs.simple.Grammar.{Kind, kind_of, IsChild, Through, StandsIn, StandsUnrepeated, OccursIn, itself, below}
+use Rattle.rng_model.specs.restrictions.Contents.{HasBelow, HasPath, HasProhibited, HasProhibitedInStart, ContentType, HasContent, BreaksContent}
+use Rattle.rng_model.specs.restrictions.Contents as types
+use Rattle.rng_model.specs.restrictions.Restrictions.{BreaksAttributeNames, BreaksWildcard, BreaksElementNames, BreaksText}
 use Rattle.rng_model.proofs.Inside.{deeper, stands_through, in_left, in_right}
 use Rattle.rng_simple.specs.plain.Renamed.{simple_renamed}
 

@@ -3,7 +3,8 @@ use Rattle.std.proofs.Common.{List, ℕ}
 use Rattle.rng_model.specs.names.Names.{Name, NameClass}
 use Rattle.rng_model.specs.simple.Tree.{Connector, Tree, Trees}
 use Rattle.rng_model.specs.matching.Document.{Attribute, Item}
-use Rattle.rng_model.specs.matching.Matching.{Texts, Leaves, Matches, MatchesOne, MatchesAll, Weakly}
+use Rattle.rng_model.specs.datatypes.Texts.{Texts}
+use Rattle.rng_model.specs.matching.Matching.{Leaves, Matches, MatchesOne, MatchesAll, Weakly}
 use Rattle.rng_model.specs.matching.Matching as m
 use Rattle.rng_simple.proofs.CorrespondingTrees.{Corresponds, AllCorrespond}
 use Rattle.rng_simple.proofs.CorrespondingTrees as s

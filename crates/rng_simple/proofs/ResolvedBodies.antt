@@ -7,7 +7,8 @@ use Rattle.std.proofs.lemmas.Option.{none-some}
 use Rattle.rng_model.proofs.Members.{not_in_none, one_or_none}
 use Rattle.rng_model.specs.simple.Tree.{Tree, Connector, choice, interleave, joined, no_trees}
 use Rattle.rng_model.specs.schema.Patterns.{Place, Point, pattern_tree}
-use Rattle.rng_model.specs.schema.Schema.{Schema, Component, Definition, body, body_among, same_name, is_interleaved, trees_named, combining_connector, nested, nested_from}
+use Rattle.rng_model.specs.schema.Schema.{Schema, Component, Definition, body, body_among, same_component_name, is_interleaved, trees_named}
+use Rattle.rng_model.specs.schema.Schema.{combining_connector, nested, nested_from}
 use Rattle.rng_model.specs.simple.Leaves.{LeafIn, renamed}
 use Rattle.rng_model.specs.simple.Leaves as at
 use Rattle.rng_model.specs.schema.Unfolding.{Leaf, to_definition, to_nothing, aim}
@@ -75,7 +76,7 @@ pub record AreEachAfter (s : Schema) (x : Place) (ls : List Leaf) (v : Numbering
 
 module _ (s : Schema) (found : Met s to_nothing → ⊥) (x : Place) (y : Option (List ℕ)) where
   abbrev those : List Component → List Component
-  those cs = filter (λ c. same_name y c.name) cs
+  those cs = filter (λ c. same_component_name y c.name) cs
 
   abbrev AreMet : List (Tree Point) → Type 0
   AreMet ts = (l : Point) (t : Tree Point) → Contains ts t → LeafIn l t → Met s (aim s x l)
@@ -114,7 +115,7 @@ module _ (s : Schema) (found : Met s to_nothing → ⊥) (x : Place) (y : Option
   pub each_resolves : (cs : List Component) (n : ℕ) → EachResolves cs n
   unfolding resolve_each with_named_elements
   each_resolves [] n ls v is met = record { more = no_more; numbering = is; same = refl; below = λ q t c i. absurd (not_in_none c) }
-  each_resolves (c ∷ cs) n ls v is met = either_way c cs n ls v is (each_resolves cs (n + 1)) (same_name y c.name) met
+  each_resolves (c ∷ cs) n ls v is met = either_way c cs n ls v is (each_resolves cs (n + 1)) (same_component_name y c.name) met
 
   -- ---- a whole body
 
@@ -149,9 +150,9 @@ connector_step c cs k e true = by_method (is_interleaved c.method)
     by_method false = e
 connector_step c cs k e false = e
 
-same_connector : (y : Option (List ℕ)) (cs : List Component) → combining_connector y cs ≡ joining (filter (λ c. same_name y c.name) cs)
+same_connector : (y : Option (List ℕ)) (cs : List Component) → combining_connector y cs ≡ joining (filter (λ c. same_component_name y c.name) cs)
 same_connector y [] = refl
-same_connector y (c ∷ cs) = connector_step c (filter (λ c. same_name y c.name) cs) (combining_connector y cs) (same_connector y cs) (same_name y c.name)
+same_connector y (c ∷ cs) = connector_step c (filter (λ c. same_component_name y c.name) cs) (combining_connector y cs) (same_connector y cs) (same_component_name y c.name)
 
 -- a leaf of one of the trees is a leaf of the body
 in_body : (k : Connector) (ts : List (Tree Point)) (a t : Tree Point) (l : Point) → nested k ts ≡ Some a → Contains ts t → LeafIn l t → LeafIn l a
@@ -167,12 +168,12 @@ in_body k (b ∷ ts) a t l e c i = subst (LeafIn l) (some_is refl e) (elim (Cont
 -- the body of a definition that is met
 among_resolves : (s : Schema) → (Met s to_nothing → ⊥) → (d : Definition) (a : Tree Point) (ls : List Leaf) (v : Numbering) → IsNumbering s ls v
     → Met s (to_definition d) → body s d ≡ Some a → (o : Option (List Component)) → body_among d.name o ≡ Some a
-    → let cs = filter (λ c. same_name d.name c.name) (given o) in
+    → let cs = filter (λ c. same_component_name d.name c.name) (given o) in
     let r = resolve_each d.place (s.outer d.place) (map (λ c. c.pattern) cs) v in
     IsAfter s d.place ls v a (with_named_elements d.place d.name 0 (given o) ls) (combined (joining cs) r.0, r.1)
 among_resolves s found d a ls v is met e None f = absurd (none-some _ f)
 among_resolves s found d a ls v is met e (Some cs) f =
-    let those = filter (λ c. same_name d.name c.name) cs in
+    let those = filter (λ c. same_component_name d.name c.name) cs in
     let k = joining those in
     let nests : nested k (trees_named d.name 0 cs) ≡ Some a = subst (λ k. nested k (trees_named d.name 0 cs) ≡ Some a) (same_connector d.name cs) f in
     let r = resolve_each d.place (s.outer d.place) (map (λ c. c.pattern) those) v in

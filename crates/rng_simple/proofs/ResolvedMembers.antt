@@ -1,9 +1,10 @@
 -- The members of a pattern resolved one by one.
-use Rattle.std.proofs.Common.{◌≡◌, ◌∙◌, refl, sym, ap, ℕ, ◌+◌, ◌<◌, ◌≤◌, List, [], ◌∷◌, ◌++◌, map, length, drop, get_or, Option, append_assoc, Bool, ◌||◌, arith}
+use Rattle.std.proofs.Common.{◌≡◌, ◌∙◌, refl, sym, ap, ℕ, ◌+◌, ◌<◌, ◌≤◌, List, [], ◌∷◌, ◌++◌, map, length, drop, get_or, Option, append_assoc, Bool, ◌||◌}
+use Rattle.std.proofs.Common.{arith}
 use Rattle.std.specs.List.{list_any}
 use Rattle.std.proofs.lemmas.List.{append-nil, drop_all, drop_more}
 use Rattle.rng_model.specs.simple.Tree.{Tree, Connector, choice, group, interleave, joined, tree_and}
-use Rattle.rng_model.specs.schema.Patterns.{Place, Pattern, Patterns, patterns_of}
+use Rattle.rng_model.specs.schema.Patterns.{Place, Pattern, Patterns, pattern_list}
 use Rattle.rng_model.specs.schema.Patterns as pattern
 use Rattle.rng_simple.specs.plain.Graph.{Spot}
 use Rattle.rng_simple.specs.views.GraphView.{members, trees_of}
@@ -11,12 +12,12 @@ use Rattle.rng_simple.specs.plain.Resolving.{Numbering, resolve, resolve_all, re
 
 module _ (x : Place) (outer : Option Place) where
   all_as_each : (ps : List Pattern) (v : Numbering)
-      → resolve_all x outer (patterns_of ps) v ≡ (trees_of (resolve_each x outer ps v).0, (resolve_each x outer ps v).1)
+      → resolve_all x outer (pattern_list ps) v ≡ (trees_of (resolve_each x outer ps v).0, (resolve_each x outer ps v).1)
   unfolding resolve resolve_each
   all_as_each [] v = refl
   all_as_each (p ∷ ps) v = ap (λ r. (tree_and (resolve x outer p v).0 r.0, r.1)) (all_as_each ps (resolve x outer p v).1)
 
-  joined_as_each : (k : Connector) (p q : Pattern) (ps : List Pattern) (v : Numbering) → resolve x outer (pattern.joined k p q (patterns_of ps)) v
+  joined_as_each : (k : Connector) (p q : Pattern) (ps : List Pattern) (v : Numbering) → resolve x outer (pattern.joined k p q (pattern_list ps)) v
       ≡ (members k (resolve_each x outer (p ∷ (q ∷ ps)) v).0, (resolve_each x outer (p ∷ (q ∷ ps)) v).1)
   unfolding resolve resolve_each
   joined_as_each choice p q ps v = ap (λ r. (joined choice (resolve x outer p v).0 (resolve x outer q (resolve x outer p v).1).0 r.0, r.1))
@@ -26,7 +27,7 @@ module _ (x : Place) (outer : Option Place) where
   joined_as_each interleave p q ps v = ap (λ r. (joined interleave (resolve x outer p v).0 (resolve x outer q (resolve x outer p v).1).0 r.0, r.1))
       (all_as_each ps (resolve x outer q (resolve x outer p v).1).1)
 
-  pub members_resolved : (k : Connector) (ps : List Pattern) (v : Numbering) → resolve x outer (pattern.members k ps) v
+  pub members_resolved : (k : Connector) (ps : List Pattern) (v : Numbering) → resolve x outer (pattern.joined_members k ps) v
       ≡ (members k (resolve_each x outer ps v).0, (resolve_each x outer ps v).1)
   unfolding resolve resolve_each
   members_resolved choice [] v = refl

@@ -13,10 +13,11 @@ use Rattle.rng_model.proofs.Places.{before_or_at_end, at_end, contains_at}
 use Rattle.rng_model.specs.names.Names.{NameClass}
 use Rattle.rng_model.specs.simple.Tree.{Tree, Trees, no_trees, tree_and, leaf, Connector}
 use Rattle.rng_model.specs.simple.Tree as tree
-use Rattle.rng_model.specs.schema.Patterns.{Place, Position, Pattern, Patterns, no_patterns, pattern_and, pattern_tree, pattern_trees, Point, a_ref, a_parent_ref}
+use Rattle.rng_model.specs.schema.Patterns.{Place, Position, Pattern, Patterns, no_patterns, pattern_and, pattern_tree, pattern_trees, Point, a_ref}
+use Rattle.rng_model.specs.schema.Patterns.{a_parent_ref}
 use Rattle.rng_model.specs.schema.Patterns.{a_grammar}
 use Rattle.rng_model.specs.schema.Patterns as pattern
-use Rattle.rng_model.specs.schema.Schema.{Schema, Definition, same_name}
+use Rattle.rng_model.specs.schema.Schema.{Schema, Definition, same_component_name}
 use Rattle.rng_model.specs.simple.Leaves.{LeafIn, LeafAmong, all_renamed}
 use Rattle.rng_model.specs.simple.Leaves as at
 use Rattle.rng_model.specs.schema.Unfolding.{Leaf, content_of, to_element, to_definition, to_nothing, aim, outside}
@@ -29,7 +30,7 @@ use Rattle.rng_simple.proofs.GrowingGraphs.{resolved_more}
 
 -- ---- definitions by number
 
-pub name_is : (a b : Option (List ℕ)) → same_name a b ≡ true → a ≡ b
+pub name_is : (a b : Option (List ℕ)) → same_component_name a b ≡ true → a ≡ b
 name_is None None e = refl
 name_is None (Some b) e = absurd (true≢false (sym e))
 name_is (Some a) None e = absurd (true≢false (sym e))
@@ -37,7 +38,7 @@ name_is (Some a) (Some b) e = ap Some ((bytes_eq-Decides a b).0 e)
 
 pub definition_is : (d e : Definition) → same_definition d e ≡ true → d ≡ e
 definition_is d e h =
-    let both = and_parts (bytes_eq d.place e.place) (same_name d.name e.name) h in
+    let both = and_parts (bytes_eq d.place e.place) (same_component_name d.name e.name) h in
     ap₂ (λ x y. record { place = x; name = y }) ((bytes_eq-Decides d.place e.place).0 both.0) (name_is d.name e.name both.1)
 
 one_more_apart : (ds : List Definition) (d : Definition) → ArePairwiseApart same_definition ds → ((e : Definition) → Contains ds e → same_definition d e ≡ true → ⊥)

@@ -4,18 +4,16 @@ use Rattle.std.proofs.lemmas.List.Elements.{All-contains}
 use Rattle.rng_model.proofs.Places.{among_at, at_among}
 use Rattle.rng_model.specs.names.Lists as lists
 use Rattle.rng_model.specs.names.Names.{NameClass}
-use Rattle.rng_model.specs.simple.Inside.{StandsIn, itself, below, of_attribute, of_list, of_except, of_one_or_more, of_left, of_right}
-use Rattle.rng_model.specs.restrictions.Paths.{HasProhibited, HasProhibitedInStart}
-use Rattle.rng_model.specs.restrictions.ContentTypes.{BreaksContent}
-use Rattle.rng_model.specs.restrictions.Occurrences.{BreaksAttributeNames, BreaksWildcard, BreaksElementNames, BreaksText}
+use Rattle.rng_model.specs.simple.Grammar.{StandsIn, itself, below, of_attribute, of_list, of_except, of_one_or_more, of_left, of_right, Grammar}
+use Rattle.rng_model.specs.restrictions.Contents.{HasProhibited, HasProhibitedInStart, BreaksContent}
+use Rattle.rng_model.specs.restrictions.Restrictions.{BreaksAttributeNames, BreaksWildcard, BreaksElementNames, BreaksText, BreaksRestriction, ClassIn, IsPart}
+use Rattle.rng_model.specs.restrictions.Restrictions.{the_start, a_body}
 use Rattle.rng_model.specs.restrictions.Restrictions as r
-use Rattle.rng_model.specs.restrictions.Restrictions.{BreaksRestriction, ClassIn, IsPart, the_start, a_body}
 use Rattle.rng_model.specs.schema.Schema.{Schema}
 use Rattle.rng_model.specs.simple.SchemaForm.{Element, SimpleForm, IsElementOf, IsSimpleFormOfSchema, IsSameUpToNumbering, IsSimpleGrammarOf}
 use Rattle.rng_model.specs.simple.Leaves.{LeafIn, AreLeavesBelow, renamed}
 use Rattle.rng_model.specs.simple.Leaves as at
-use Rattle.rng_model.specs.simple.ClassSteps.{IsSimpleClassOf}
-use Rattle.rng_model.specs.simple.Grammar.{Grammar}
+use Rattle.rng_model.specs.simple.Simplification.{IsSimpleClassOf}
 use Rattle.rng_model.specs.simple.Tree.{Simple, s_leaf, as_tree}
 use Rattle.rng_model.specs.schema.Unfolding.{Leaf, IsBodyOf}
 use Rattle.rng_model.proofs.SimpleTrees.{same_simple}
@@ -24,7 +22,8 @@ use Rattle.rng_simple.proofs.Graphs.{found}
 use Rattle.rng_simple.specs.plain.Renamed.{simple_renamed}
 use Rattle.rng_simple.proofs.NumberedSchema.{same_element, same_class, same_form, only_simple_grammar}
 use Rattle.rng_simple.proofs.Renamed.{as_tree_renamed}
-use Rattle.rng_simple.proofs.RenamedRestrictions.{prohibited_forth, start_forth, content_forth, attribute_names_forth, wildcard_forth, element_names_forth, text_forth}
+use Rattle.rng_simple.proofs.RenamedRestrictions.{prohibited_forth, start_forth, content_forth, attribute_names_forth, wildcard_forth, element_names_forth}
+use Rattle.rng_simple.proofs.RenamedRestrictions.{text_forth}
 use Rattle.rng_simple.proofs.RenamedRestrictions.{prohibited_from, start_from, content_from, attribute_names_from, wildcard_from, element_names_from, text_from}
 
 -- a leaf inside a pattern is a leaf of its tree

@@ -6,17 +6,15 @@ use Rattle.std.proofs.lemmas.Option.{slice_get-get_or}
 use Rattle.rng_model.specs.names.Names.{NameClass, In}
 use Rattle.rng_model.specs.simple.Tree.{Tree, Simple, s_empty, as_tree}
 use Rattle.rng_model.specs.matching.Document.{Item}
-use Rattle.rng_model.specs.matching.Matching.{Texts}
-use Rattle.rng_model.specs.matching.Lex.{HasText}
+use Rattle.rng_model.specs.datatypes.Texts.{Texts, texts_of}
+use Rattle.rng_model.specs.matching.Matching.{HasText}
 use Rattle.rng_model.specs.matching.GrammarMatching.{Nothing, IsListed, is_listed, grammar_leaves, IsValidBy}
 use Rattle.rng_model.specs.simple.Grammar.{Grammar}
-use Rattle.rng_model.specs.datatypes.Texts.{texts_of}
 use Rattle.rng_model.specs.datatypes.Datatypes.{text_tests}
 use Rattle.rng_model.specs.simple.Leaves.{renamed}
 use Rattle.rng_model.specs.schema.Patterns.{Point}
 use Rattle.rng_model.specs.schema.Schema.{Schema, main_start, body}
-use Rattle.rng_model.specs.schema.Unfolding.{Leaf, Unfolds, IsBodyOf}
-use Rattle.rng_model.specs.schema.Reached.{IsReachedBySimpleForms, from_simple_start, from_simple_body}
+use Rattle.rng_model.specs.schema.Unfolding.{Leaf, Unfolds, IsBodyOf, IsReachedBySimpleForms, from_simple_start, from_simple_body}
 use Rattle.rng_model.specs.simple.SchemaForm.{SimpleForm, IsElementOf, IsSimpleFormOfSchema, IsSameUpToNumbering, IsSimpleGrammarOf}
 use Rattle.rng_model.specs.matching.SchemaMatching.{IsValidOver}
 use Rattle.rng_model.specs.simple.SimplifiedSchema.{AreSameDocuments}

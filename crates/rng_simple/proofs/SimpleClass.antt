@@ -1,8 +1,8 @@
 -- Each name class has one simple form: its members nested in twos.
 use Rattle.std.proofs.Common.{◌≡◌, ◌↔◌, subst, refl, ap, ◌∙◌, sym}
 use Rattle.rng_model.specs.names.Names.{NameClass, any_name, any_except, ns_name, ns_except, name_is, one_of, NameClasses, no_classes, class_and}
-use Rattle.rng_model.specs.simple.ClassSteps.{ClassStep, ClassesStep, ClassSteps, IsSimpleClassOf}
-use Rattle.rng_model.specs.simple.ClassSteps as step
+use Rattle.rng_model.specs.simple.Simplification.{ClassStep, ClassesStep, ClassSteps, IsSimpleClassOf}
+use Rattle.rng_model.specs.simple.Simplification as step
 use Rattle.rng_simple.specs.plain.InTwos.{nested, nested_after}
 
 -- a step keeps the nested class

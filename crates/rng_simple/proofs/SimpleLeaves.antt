@@ -11,8 +11,7 @@ use Rattle.rng_model.specs.simple.Simplification.{IsSimpleFormOf}
 use Rattle.rng_model.specs.schema.Schema.{Schema}
 use Rattle.rng_model.specs.simple.Leaves.{LeafIn, LeafAmong, renamed, all_renamed}
 use Rattle.rng_model.specs.simple.Leaves as at
-use Rattle.rng_model.specs.schema.Unfolding.{Leaf}
-use Rattle.rng_model.specs.schema.Reached.{IsReachedByTrees, from_start, from_element, IsReachedBySimpleForms, from_simple_start, from_simple_body}
+use Rattle.rng_model.specs.schema.Unfolding.{Leaf, IsReachedByTrees, from_start, from_element, IsReachedBySimpleForms, from_simple_start, from_simple_body}
 use Rattle.rng_simple.specs.plain.SimpleWith.{simple_with, join_all_with}
 use Rattle.rng_simple.specs.plain.Renamed.{simple_renamed}
 use Rattle.rng_simple.proofs.TreeSplits.{Sorted, is_nothing, is_blank, is_proper, sorted}

@@ -1,7 +1,7 @@
 -- The parts of the simplification of a schema, put together.
 use Rattle.std.proofs.Common.{inl, inr, sym, subst, arith, ℕ, ◌≤◌}
 use Rattle.std.proofs.lemmas.Bool.{cases_lt}
-use Rattle.rng_model.specs.schema.Least.{IsLeast}
+use Rattle.rng_model.specs.names.Lists.{IsLeast}
 use Rattle.rng_model.specs.schema.Schema.{Schema}
 use Rattle.rng_model.specs.schema.SchemaClauses.{BreaksSchemaClause, BreaksExpansion, BreaksDepth}
 use Rattle.rng_model.specs.schema.SchemaClauses as clauses

@@ -4,15 +4,15 @@ use Rattle.rng_model.specs.simple.Tree.{Connector, choice, group, interleave, Tr
 use Rattle.rng_model.specs.simple.Simplification.{RuleGroup, HasNotAllowed, Step, StepAmong}
 use Rattle.rng_model.specs.simple.Simplification as step
 use Rattle.rng_model.specs.matching.Document.{Interleaves, Shares, in_any_order}
-use Rattle.rng_model.specs.matching.Matching.{Texts}
-use Rattle.rng_model.specs.matching.Lex.{Lex, LexOne, LexAll, Repeats, once, again}
+use Rattle.rng_model.specs.datatypes.Texts.{Texts}
+use Rattle.rng_model.specs.matching.Matching.{Lex, LexOne, LexAll, Repeats, one_list, more_lists}
 use Rattle.rng_simple.proofs.ThreeParts.{shares_left, shares_right, nothing_right, nothing_left, with_nothing, after_nothing}
 use Rattle.rng_simple.proofs.NestedNames.{shift, unshift, either}
 
 -- each of the lists may be replaced
 pub repeats : (P Q : List (List ℕ) → Type 0) → ((ws : List (List ℕ)) → P ws → Q ws) → {ws : List (List ℕ)} → Repeats P ws → Repeats Q ws
-repeats P Q f (once d) = once (f _ d)
-repeats P Q f (again d e h) = again (f _ d) (repeats P Q f e) h
+repeats P Q f (one_list d) = one_list (f _ d)
+repeats P Q f (more_lists d e h) = more_lists (f _ d) (repeats P Q f e) h
 
 not_choice_group : group ≡ choice → ⊥
 not_choice_group e = cc
@@ -88,8 +88,8 @@ module _ (L : Type 0) (texts : Texts) where
 
   -- each rule
   nothing_repeats : {A : Type 0} {ws : List (List ℕ)} → Repeats (λ us. Has not_allowed us) ws → A
-  nothing_repeats (once d) = absurd d
-  nothing_repeats (again d e h) = absurd d
+  nothing_repeats (one_list d) = absurd d
+  nothing_repeats (more_lists d e h) = absurd d
 
   no_first : (k : Connector) (b : Tree L) (ts : Trees L) → (k ≡ choice → ⊥) → Under (joined k not_allowed b ts) not_allowed
   no_first choice b ts n ws h = n refl
@@ -162,8 +162,8 @@ module _ (L : Type 0) (texts : Texts) where
   mixed_out a ws h = let p = unpair interleave not_choice_interleave a text ws h in (p.0, p.1, p.2, as_interleaved p.4)
 
   empty_repeats : {ws : List (List ℕ)} → Repeats (λ us. us ≡ []) ws → ws ≡ []
-  empty_repeats (once d) = d
-  empty_repeats (again d e h) = let f = empty_repeats e in sym h ∙ (rw (d, f) refl)
+  empty_repeats (one_list d) = d
+  empty_repeats (more_lists d e h) = let f = empty_repeats e in sym h ∙ (rw (d, f) refl)
 
   mutual
     pub lex_in : {g : RuleGroup} {a b : Tree L} → Step g a b → Under a b
@@ -223,7 +223,7 @@ module _ (L : Type 0) (texts : Texts) where
     lex_out (step.first_empty {k} {b} n) ws h = pair k n empty b [] ws ws refl h (after_nothing k n ws)
     lex_out (step.second_empty {k} {a} n) ws h = pair k n a empty ws [] ws h refl (with_nothing k n ws)
     lex_out (step.sides_change n) ws h = swapped h
-    lex_out step.one_or_more_empty ws h = once h
+    lex_out step.one_or_more_empty ws h = one_list h
     lex_out (step.in_class s) ws h = h
     lex_out (step.in_attribute s) ws h = h
     lex_out (step.in_list s) ws h = (h.0, h.1, lex_out s _ h.2)

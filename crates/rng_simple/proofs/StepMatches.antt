@@ -1,13 +1,14 @@
 -- A step does not change what a tree matches, however its leaves are read.
 use Rattle.std.proofs.Common.{◌≡◌, refl, subst, List, ◌++◌, ℕ}
 use Rattle.rng_model.specs.names.Names.{Name, NameClass}
-use Rattle.rng_model.specs.simple.Tree.{Datatype, Connector, choice, group, interleave, Tree, not_allowed, empty, text, attribute, list, data_of, data_except, mixed}
+use Rattle.rng_model.specs.simple.Tree.{Datatype, Connector, choice, group, interleave, Tree, not_allowed, empty, text, attribute, list, data_of, data_except}
+use Rattle.rng_model.specs.simple.Tree.{mixed}
 use Rattle.rng_model.specs.simple.Tree.{optional, zero_or_more, one_or_more, joined, Trees, no_trees, tree_and}
-use Rattle.rng_model.specs.simple.ClassSteps.{ClassStep}
-use Rattle.rng_model.specs.simple.Simplification.{RuleGroup, HasNotAllowed, Step, StepAmong, AnyStep, Steps}
+use Rattle.rng_model.specs.simple.Simplification.{ClassStep, RuleGroup, HasNotAllowed, Step, StepAmong, AnyStep, Steps}
 use Rattle.rng_model.specs.simple.Simplification as step
 use Rattle.rng_model.specs.matching.Document.{Attribute, Item, Interleaves, done, Shares, in_order, in_any_order}
-use Rattle.rng_model.specs.matching.Matching.{Texts, Leaves, Matches, MatchesOne, MatchesAll, Weakly}
+use Rattle.rng_model.specs.datatypes.Texts.{Texts}
+use Rattle.rng_model.specs.matching.Matching.{Leaves, Matches, MatchesOne, MatchesAll, Weakly}
 use Rattle.rng_model.specs.matching.Matching as m
 use Rattle.rng_model.proofs.OneSidedInterleavings.{left_alone, right_alone, left_is_all, right_is_all}
 use Rattle.rng_simple.proofs.ThreeParts.{to_left, to_right, shares_left, shares_right, nothing_right, nothing_left, with_nothing, after_nothing, not_by_choice}

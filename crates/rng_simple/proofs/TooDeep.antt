@@ -3,16 +3,14 @@ use Rattle.std.proofs.Common.{◌≡◌, ◌↔◌, refl, ap, subst, ℕ, ◌<�
 use Rattle.rng_model.specs.simple.Tree.{Tree}
 use Rattle.rng_model.specs.schema.Patterns.{Place, Point}
 use Rattle.rng_model.specs.schema.Schema.{Schema, Definition, main_start}
-use Rattle.rng_model.specs.simple.Leaves.{LeafIn}
-use Rattle.rng_model.specs.schema.Unfolding.{Leaf, to_element, to_definition, content_of, aim, Unfolds, IsTreeOf}
-use Rattle.rng_model.specs.schema.Reached.{of_start, of_body}
+use Rattle.rng_model.specs.simple.Leaves.{LeafIn, depth, class_depth, depth_limit}
+use Rattle.rng_model.specs.schema.Unfolding.{Leaf, to_element, to_definition, content_of, aim, Unfolds, IsTreeOf, of_start, of_body}
 use Rattle.rng_model.specs.schema.SchemaClauses.{BreaksDepth}
 use Rattle.rng_simple.specs.plain.Met.{Met, met_start, met_in_element, IsSettled, IsOrder}
 use Rattle.rng_simple.specs.plain.DepthWith.{of_aim, depth_at, IsFilled, IsRight, tree_depth, IsFoundDeep, deep_start, deep_body, deep_name}
 use Rattle.rng_simple.proofs.Depths.{depth_is}
 use Rattle.rng_simple.proofs.TablesInOrder.{body_right, filled_right}
 use Rattle.rng_simple.proofs.LoopsOrOrder.{Covers, keeps, reached_is_met, met_is_reached}
-use Rattle.rng_model.specs.schema.Depth.{depth, class_depth, depth_limit}
 use Rattle.rng_model.specs.schema.SchemaClauses as clauses
 use Rattle.rng_simple.specs.plain.InTwos.{in_twos}
 use Rattle.rng_simple.proofs.SimpleClass.{has_simple_class, is_only_simple_class}

@@ -6,7 +6,7 @@ use Rattle.rng_model.specs.names.Lists.{Among}
 use Rattle.rng_model.specs.names.Lists as lists
 use Rattle.rng_model.specs.names.Names as names
 use Rattle.rng_model.specs.restrictions.Restrictions.{IsPart, the_start, a_body}
-use Rattle.rng_model.specs.simple.Inside.{StandsIn, itself}
+use Rattle.rng_model.specs.simple.Grammar.{StandsIn, itself}
 use Rattle.rng_model.proofs.Inside.{deeper, in_attribute, in_list, in_except, in_one_or_more, in_left, in_right}
 use Rattle.rng_model.specs.simple.Table.{Table, grammar_of}
 use Rattle.rng_model.specs.simple.Tree.{Simple}

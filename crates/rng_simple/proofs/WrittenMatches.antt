@@ -5,16 +5,15 @@ use Rattle.std.proofs.Common.{◌≡◌, refl, sym, ap, subst, List, [], ℕ, �
 use Rattle.rng_model.specs.names.Names.{NameClass, In}
 use Rattle.rng_model.specs.simple.Tree.{Connector, choice, Tree, not_allowed, leaf, Trees}
 use Rattle.rng_model.specs.matching.Document.{Attribute, Item}
-use Rattle.rng_model.specs.matching.Matching.{Texts, Leaves, Matches, MatchesOne, MatchesAll, Weakly}
+use Rattle.rng_model.specs.datatypes.Texts.{Texts}
+use Rattle.rng_model.specs.matching.Matching.{Leaves, Matches, MatchesOne, MatchesAll, Weakly, HasText}
 use Rattle.rng_model.specs.matching.Matching as m
-use Rattle.rng_model.specs.matching.Lex.{HasText}
 use Rattle.rng_model.specs.matching.GrammarMatching.{Nothing}
 use Rattle.rng_model.specs.schema.Patterns.{Place, Point, an_element, a_ref, a_parent_ref, a_grammar}
 use Rattle.rng_model.specs.schema.Schema.{Schema, Definition, body}
 use Rattle.rng_model.specs.schema.Unfolding.{Leaf, content_of, Aim, to_element, to_definition, outside, aim, Unfolds, UnfoldAll, IsBodyOf}
 use Rattle.rng_model.specs.schema.Unfolding as u
-use Rattle.rng_model.specs.simple.Simplification.{AnyStep, IsSimpleFormOf}
-use Rattle.rng_model.specs.simple.ClassSteps.{IsSimpleClassOf}
+use Rattle.rng_model.specs.simple.Simplification.{AnyStep, IsSimpleFormOf, IsSimpleClassOf}
 use Rattle.rng_model.specs.matching.SchemaMatching.{IsFound, is_found, IsWrittenElement, is_written, schema_leaves}
 use Rattle.rng_model.proofs.Unfolding.{one_element, one_definition, not_both, moved, one_tree}
 use Rattle.rng_simple.proofs.SimpleClass.{has_simple_class}

@@ -1,16 +1,15 @@
 -- What is read of collapsed texts byte by byte.
-use Rattle.std.proofs.Common.{◌≡◌, ℕ, List, [], ◌∷◌, ◌++◌, length, Bool, true, false, cond, ◌==◌, refl, ap, sym, ◌∙◌, subst, rules, arith, append-nil, drop, one-add, tests, nat_lt, nat_le, ◌&&◌, Option, Some, None, is_some, ℤ}
+use Rattle.std.proofs.Common.{◌≡◌, ℕ, List, [], ◌∷◌, ◌++◌, length, Bool, true, false, cond, ◌==◌, refl, ap, sym, ◌∙◌, subst, rules, arith, append-nil, drop}
+use Rattle.std.proofs.Common.{one-add, tests, nat_lt, nat_le, ◌&&◌, Option, Some, None, is_some, ℤ}
 use Rattle.std.specs.Char.{is_ascii_digit}
 use Rattle.std.specs.List.{list_all, join_with_byte, prefix_len}
 use Rattle.std.specs.Str.Parse.{without_leading_sign, signed_digits_value}
 use Rattle.std.proofs.lemmas.List.Folds.{list_all-append}
 use Rattle.std.proofs.lemmas.Bool.{and_left, and_right, and_parts, not-true, true≢false}
 use Rattle.std.proofs.Math.Bool.{and-true}
-use Rattle.rng_model.specs.datatypes.Texts.{is_blank_byte, is_blank}
-use Rattle.rng_model.specs.datatypes.Blanks.{pieces, collapse, has_bytes}
+use Rattle.rng_model.specs.datatypes.Texts.{is_blank_byte, is_blank, pieces, collapse, has_bytes}
 use Rattle.rng_model.specs.plain.BlankRuns.{is_run_byte, is_run, ends_run, HasRuns, no_run, then_run}
-use Rattle.rng_model.specs.datatypes.Facets.{Bounds, is_inside, number_inside}
-use Rattle.rng_model.specs.datatypes.Numerals.{is_decimal, integer_of, most_digits}
+use Rattle.rng_model.specs.datatypes.Facets.{Bounds, is_inside, number_inside, is_decimal, integer_of, most_digits}
 use Rattle.rng_model.proofs.BlankRuns.{pieces-blank, HasRuns-pieces, pieces-from_HasRuns}
 use Rattle.rng_types.specs.plain.Runs.{past_blanks, from_run}
 

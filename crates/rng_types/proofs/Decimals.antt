@@ -11,9 +11,9 @@ use Rattle.std.specs.Str.Parse.{IsNumeral, ParsesSigned, ParsesUnsigned, without
 use Rattle.std.proofs.lemmas.Str.Parse.{parse_gives}
 use Rattle.std.proofs.lemmas.Str.Parse.{IsNumeralModel, IsDigitsTest, numerals_by_value, digits_value_short}
 use Rattle.std.proofs.lemmas.Bool.{and_parts, leb-true, and_left, and_right}
-use Rattle.rng_model.specs.datatypes.Blanks.{has_bytes}
+use Rattle.rng_model.specs.datatypes.Texts.{has_bytes}
 use Rattle.rng_model.specs.plain.BlankRuns.{is_run_byte}
-use Rattle.rng_model.specs.datatypes.Numerals.{is_decimal, most_digits, most_length_digits, integer_of, length_of, truth_of}
+use Rattle.rng_model.specs.datatypes.Facets.{is_decimal, most_digits, most_length_digits, integer_of, length_of, truth_of}
 use Rattle.rng_types.proofs.OnePiece.{all_fails, differs}
 
 digits_test : IsDigitsTest (λ ds. list_all is_ascii_digit ds ≡ true)

@@ -4,7 +4,7 @@ use Rattle.std.specs.Option.{option_and_then}
 use Rattle.std.proofs.lemmas.Bool.{true≢false}
 use Rattle.std.proofs.lemmas.Option.{none-some, same_Some}
 use Rattle.rng_model.specs.simple.Tree.{Datatype}
-use Rattle.rng_model.specs.datatypes.Parameters.{Parameter, named}
+use Rattle.rng_model.specs.datatypes.Facets.{Parameter, named}
 use Rattle.rng_model.specs.datatypes.Datatypes.{Meaning, Maker, libraries, type_named, meaning_of}
 use Rattle.rng_types.specs.declared.builtin.TypeFault.{TypeFault}
 use Rattle.rng_types.specs.declared.builtin.TypeFault.TheVariants as faults

@@ -8,7 +8,7 @@ use Rattle.std.proofs.lemmas.List.Folds.{list_all-append}
 use Rattle.std.proofs.lemmas.Slice.Eq.{bytes_eq-Decides}
 use Rattle.std.proofs.lemmas.Option.{same_Some}
 use Rattle.std.proofs.lemmas.Bool.{true≢false, and_right, and_left}
-use Rattle.rng_model.specs.datatypes.Blanks.{pieces, collapse}
+use Rattle.rng_model.specs.datatypes.Texts.{pieces, collapse}
 use Rattle.rng_model.proofs.BlankRuns.{pieces_fit, spaced_length, IsUtf8-pieces}
 use Rattle.rng_types.specs.plain.Pieces.{only}
 

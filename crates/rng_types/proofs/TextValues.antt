@@ -7,11 +7,10 @@ use Rattle.std.proofs.lemmas.Str.{encodes-chars}
 use Rattle.std.proofs.lemmas.Bool.{and_left, and_right, true≢false}
 use Rattle.std.proofs.lemmas.Slice.Eq.{bytes_eq-Decides}
 use Rattle.rng_model.proofs.Texts.{no_bytes}
-use Rattle.rng_model.specs.datatypes.Blanks.{pieces, collapse}
-use Rattle.rng_model.specs.names.Characters.{is_name_char, is_colon, is_ncname}
+use Rattle.rng_model.specs.datatypes.Texts.{pieces, collapse, Value, text_if, are_equal}
+use Rattle.rng_model.specs.names.Names.{is_name_char, is_colon, is_ncname}
 use Rattle.rng_model.specs.datatypes.Facets.{Lengths, fits}
 use Rattle.rng_model.specs.datatypes.Datatypes.{is_nmtoken}
-use Rattle.rng_model.specs.datatypes.Values.{Value, text_if, are_equal}
 use Rattle.rng_types.specs.plain.Pieces.{only}
 use Rattle.rng_types.proofs.OnePiece.{collapse-only, collapse-other, all_fails, chars-spaced}
 

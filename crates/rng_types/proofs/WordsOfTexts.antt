@@ -1,16 +1,15 @@
 -- Words of ASCII characters as values of datatypes.
-use Rattle.std.proofs.Common.{◌≡◌, ◌==◌, ◌<◌, ℕ, List, [], ◌∷◌, Bool, true, false, not, ◌&&◌, ◌||◌, is_some, length, take, drop, refl, sym, ap, ◌∙◌, rules, arith, tests, one-add, true≢false, nat_le}
+use Rattle.std.proofs.Common.{◌≡◌, ◌==◌, ◌<◌, ℕ, List, [], ◌∷◌, Bool, true, false, not, ◌&&◌, ◌||◌, is_some, length, take, drop, refl, sym, ap, ◌∙◌, rules}
+use Rattle.std.proofs.Common.{arith, tests, one-add, true≢false, nat_le}
 use Rattle.std.specs.List.{list_all, prefix_len}
 use Rattle.std.specs.Str.{chars, IsAscii}
 use Rattle.std.proofs.lemmas.Str.{chars-IsAscii}
 use Rattle.std.proofs.lemmas.Str.Ascii.{IsAscii-nil, IsAscii-cons}
 use Rattle.std.proofs.lemmas.Bool.{and_parts, and_from}
-use Rattle.rng_model.specs.names.Characters.{is_name_char, is_name_start, is_colon, is_ncname, is_in_ranges, name_start_ranges, more_name_ranges}
-use Rattle.rng_model.specs.datatypes.Texts.{is_blank_byte, is_blank}
-use Rattle.rng_model.specs.datatypes.Blanks.{collapse}
+use Rattle.rng_model.specs.names.Names.{is_name_char, is_name_start, is_colon, is_ncname, is_in_ranges, name_start_ranges, more_name_ranges}
+use Rattle.rng_model.specs.datatypes.Texts.{is_blank_byte, is_blank, collapse, text_if}
 use Rattle.rng_model.specs.datatypes.Facets.{Lengths, fits, is_within}
 use Rattle.rng_model.specs.datatypes.Datatypes.{is_nmtoken}
-use Rattle.rng_model.specs.datatypes.Values.{text_if}
 use Rattle.rng_types.specs.plain.Runs.{from_run}
 use Rattle.rng_types.specs.plain.Words.{IsWordOf, is_start_byte, is_word_byte, starts_name}
 use Rattle.rng_types.proofs.TextValues.{is_some-text_if}

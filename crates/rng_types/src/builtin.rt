@@ -2,7 +2,7 @@
 ghost use Rattle.std.specs.Prelude.{◌≡◌, ◌↔◌, Some, map};
 ghost use Rattle.rng_model.specs.datatypes.DatatypeViews.{parameter_of};
 ghost use Rattle.rng_model.specs.datatypes.Datatypes.{Meaning, meaning_of, plain_types, xsd_types, without, is_allowed_by, are_equal_by};
-ghost use Rattle.rng_model.specs.datatypes.Parameters.{named};
+ghost use Rattle.rng_model.specs.datatypes.Facets.{named};
 ghost use Rattle.rng_model.proofs.ValueLaws as laws;
 ghost use Rattle.rng_types.specs.views.View.{meaning_by, datatype_at, seen};
 ghost use Rattle.rng_types.specs.views.Fault.{HasFault};

@@ -1,7 +1,7 @@
 // Texts compared and counted in their collapsed forms, which are never built.
 ghost use Rattle.std.specs.Prelude.{◌≡◌, length, option_copied};
 ghost use Rattle.std.specs.Str.{chars};
-ghost use Rattle.rng_model.specs.datatypes.Blanks.{pieces, collapse};
+ghost use Rattle.rng_model.specs.datatypes.Texts.{pieces, collapse};
 ghost use Rattle.rng_types.specs.plain.Pieces.{only};
 
 use rng_model::Pieces;

@@ -3,9 +3,8 @@ ghost use Rattle.std.specs.Prelude.{◌≡◌, ◌&&◌, ℤ, int_le, is_some, n
 ghost use Rattle.std.specs.Char.{is_ascii_digit};
 ghost use Rattle.std.specs.List.{list_all, prefix_len};
 ghost use Rattle.std.specs.Str.Parse.{without_leading_sign};
-ghost use Rattle.rng_model.specs.datatypes.Blanks.{collapse};
-ghost use Rattle.rng_model.specs.datatypes.Facets.{is_inside, passes};
-ghost use Rattle.rng_model.specs.datatypes.Numerals.{is_decimal, most_digits, truth_of, integer_of, length_of};
+ghost use Rattle.rng_model.specs.datatypes.Texts.{collapse};
+ghost use Rattle.rng_model.specs.datatypes.Facets.{is_inside, passes, is_decimal, most_digits, truth_of, integer_of, length_of};
 ghost use Rattle.rng_types.specs.plain.Runs.{from_run};
 ghost use Rattle.rng_types.specs.views.View.{bounds_of};
 
@@ -72,7 +71,7 @@ pub(crate) fn truth(text: &str) -> Option<bool>
 }
 
 // the truth value that the text writes
-#[tactic(auto, unfolding(rng_model::specs::datatypes::Numerals::truth_of))]
+#[tactic(auto, unfolding(rng_model::specs::datatypes::Facets::truth_of))]
 fn truth_in(text: &str) -> Option<bool>
     ensures { result ≡ truth_of text.now }
 {
@@ -94,7 +93,7 @@ pub(crate) fn integer(text: &str) -> Option<i128>
 }
 
 // the number that the text writes
-#[tactic(auto, unfolding(rng_model::specs::datatypes::Numerals::integer_of))]
+#[tactic(auto, unfolding(rng_model::specs::datatypes::Facets::integer_of))]
 fn integer_in(numeral: &str) -> Option<i128>
     ensures { result ≡ integer_of numeral.now }
 {
@@ -106,7 +105,7 @@ fn integer_in(numeral: &str) -> Option<i128>
 }
 
 // the length that the text writes
-#[tactic(auto, unfolding(rng_model::specs::datatypes::Numerals::length_of))]
+#[tactic(auto, unfolding(rng_model::specs::datatypes::Facets::length_of))]
 pub(crate) fn length(numeral: &str) -> Option<usize>
     ensures { result ≡ length_of numeral.now }
 {

@@ -3,8 +3,7 @@ ghost use Rattle.std.specs.Prelude.{◌≡◌, codes, map, option_copied};
 ghost use Rattle.std.specs.List.{list_all};
 ghost use Rattle.std.specs.Option.{option_and_then};
 ghost use Rattle.rng_model.specs.datatypes.DatatypeViews.{parameter_of};
-ghost use Rattle.rng_model.specs.datatypes.Numerals.{length_of, bound_of};
-ghost use Rattle.rng_model.specs.datatypes.Parameters.{named, is_named, is_once, is_facet, are_facets, written_range};
+ghost use Rattle.rng_model.specs.datatypes.Facets.{length_of, bound_of, named, is_named, is_once, is_facet, are_facets, written_range};
 ghost use Rattle.rng_types.specs.views.View.{lengths_of, bounds_of, seen};
 ghost use Rattle.rng_types.specs.views.Finding.{or_bad};
 
@@ -13,7 +12,7 @@ use crate::lengths::Lengths;
 use crate::numerals::{Bounds, integer, length};
 
 // the bounds on lengths that the parameters write
-#[tactic(auto, unfolding(rng_model::specs::datatypes::Parameters::written_range))]
+#[tactic(auto, unfolding(rng_model::specs::datatypes::Facets::written_range))]
 pub(crate) fn lengths(params: &[(String, String)]) -> Result<Lengths, TypeFault>
     ensures { seen lengths_of result ≡ or_bad (written_range length_of (codes "minLength") (codes "maxLength") (map parameter_of params.now)) }
 {
@@ -28,7 +27,7 @@ pub(crate) fn lengths(params: &[(String, String)]) -> Result<Lengths, TypeFault>
 }
 
 // the bounds on numbers that the parameters write
-#[tactic(auto, unfolding(rng_model::specs::datatypes::Parameters::written_range))]
+#[tactic(auto, unfolding(rng_model::specs::datatypes::Facets::written_range))]
 pub(crate) fn bounds(params: &[(String, String)]) -> Result<Bounds, TypeFault>
     ensures { seen bounds_of result ≡ or_bad (written_range bound_of (codes "minInclusive") (codes "maxInclusive") (map parameter_of params.now)) }
 {

@@ -1,8 +1,7 @@
 // Collapsed texts, read byte by byte.
 ghost use Rattle.std.specs.Prelude.{◌≡◌, ◌∷◌, [], ◌<◌, ◌≤◌, MatchOption, length, true, false};
 ghost use Rattle.std.specs.Str.{bytes_eq};
-ghost use Rattle.rng_model.specs.datatypes.Texts.{is_blank_byte, is_blank};
-ghost use Rattle.rng_model.specs.datatypes.Blanks.{collapse};
+ghost use Rattle.rng_model.specs.datatypes.Texts.{is_blank_byte, is_blank, collapse};
 ghost use Rattle.rng_types.specs.plain.Runs.{past_blanks, from_run};
 
 // whether the byte is a space, a tab, a line feed or a carriage return

@@ -6,13 +6,13 @@ use Rattle.rng_model.specs.simple.SimplifiedSchema.{AreSameDocuments}
 use Rattle.rng_model.specs.simple.SchemaForm.{IsOnlySimpleGrammarOf, IsSimpleGrammarOf}
 use Rattle.rng_model.specs.simple.SimplifiedSchema.{IsSchemaFault}
 use Rattle.rng_model.specs.simple.Table.{Table, grammar_of}
-use Rattle.rnc_model.specs.loading.SchemaFile.{Name, NamedFile}
+use Rattle.rnc_model.specs.loading.SchemaFile.{FileName, NamedFile}
 use Rattle.rng_load.specs.declared.schema.Schema.{Schema}
 use Rattle.rng_load.specs.views.Loaded.{IsLoaded}
 use Rattle.rng_load.specs.views.PlacedGrammars.{schema_of}
 use Rattle.simple_forms.specs.views.FormOfFiles.{AreFilesOf, IsFaultOf, IsFormOf, of_schema}
 
-module _ (files : List NamedFile) (main : Name) (s : Schema) (loaded : IsLoaded files main (Ok s)) where
+module _ (files : List NamedFile) (main : FileName) (s : Schema) (loaded : IsLoaded files main (Ok s)) where
   are_files : AreFilesOf files main (schema_of s)
   are_files = record { read = loaded.0; taken = loaded.1; are = loaded.2 }
 

@@ -1,7 +1,7 @@
 // From files to the simple form of their schema.
 ghost use Rattle.std.specs.Prelude.{IfErr, IfOk};
 ghost use Rattle.rng_model.specs.simple.Table.{grammar_of};
-ghost use Rattle.rnc_model.specs.loading.Files.{named_files};
+ghost use Rattle.rnc_model.specs.loading.SchemaFile.{named_files};
 ghost use Rattle.simple_forms.specs.views.FormOfFiles.{IsFaultOf, IsFormOf};
 
 use rng_load::load;

@@ -14,8 +14,8 @@ The closure starts from the names in these clauses, and follows the imports file
 one, else to the types of its fields.
 
 It fails if a file or a type of the closure is outside the crates rng_model, rnc_model and rncv_model, unless dev/check/believed/exceptions.txt has it with
-a reason. It also fails if the tour in docs/DEFINITIONS.md (the tables whose first column is `File`) does not list exactly the files of the closure. The
-kit's own crates are left out. An exception that `stays` is followed like the rest. An exception that is `carried` is a predicate or a view that
+a reason. It also fails if the tour in docs/DEFINITIONS.md (the tables whose first column is `File`) does not list exactly the files of the closure, or
+lists one before a file that it uses. The kit's own crates are left out. An exception that `stays` is followed like the rest. An exception that is `carried` is a predicate or a view that
 contracts only pass from one call to the next. Nothing depends on what it says, so the closure stops there, and the tour does not list it. That it is so
 is checked too (carried.py): what one call takes as a premise another call concludes, and each call that changes the value concludes it again.
 """
@@ -202,6 +202,18 @@ def faults(top, closure, exceptions):
     for name in sorted(set(listed)):
         if listed.count(name) > 1:
             yield f"{TOUR}: the tour lists {name} twice"
+    yield from order_faults(closure.crates, listed)
+
+
+def order_faults(crates, listed):
+    """A file of the tour comes after those that it uses."""
+    place = {name: number for number, name in enumerate(listed)}
+    for name in place:
+        if (crates.top / name).is_file():
+            for module, _ in imports(crates.text(name)):
+                used = node_of_module(crates, module)
+                if place.get(used, 0) > place[name]:
+                    yield f"{TOUR}: {name} comes before {used}, which it uses"
 
 
 def print_by_folder(closure, whole):

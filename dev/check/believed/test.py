@@ -110,6 +110,12 @@ impl Takes for Taker {
         self.assertEqual(self.judged()[1], [f"{TOUR}: the tour lacks crates/rng_model/specs/names/Names.antt",
                                             f"{TOUR}: the tour lists crates/rng_model/specs/names/Other.antt, which is not in the closure"])
 
+    def test_order_of_the_tour(self):
+        names, other = "crates/rng_model/specs/names/Names.antt", "crates/rng_model/specs/names/Other.antt"
+        self.add(names, "use Rattle.rng_model.specs.names.Other.{IsOther}\n")
+        self.add(TOUR, "| `rng_model/specs/names/Other.antt` | others |\n")
+        self.assertEqual(self.judged()[1], [f"{TOUR}: {names} comes before {other}, which it uses"])
+
     def test_exceptions(self):
         self.add("crates/rng_model/specs/names/Names.antt", "use Rattle.high.specs.plain.Steps.{step}\n")
         self.write("exceptions.txt", "crates/high/specs/plain/Steps.antt carried because it is handed on\n")

@@ -2,13 +2,12 @@
 use Rattle.std.proofs.Common.{◌≡◌, ℕ, Bool, true, false, cond, ◌||◌, List, [], ◌∷◌, map, Option, Some, None, Result, Ok, Err, refl, sym, ◌∙◌, ◌⊎◌, inl, inr}
 use Rattle.std.specs.Prelude.{is_some}
 use Rattle.std.specs.List.{AllByRecursion}
-use Rattle.rng_model.specs.matching.Document.{Attribute}
+use Rattle.rng_model.specs.matching.Document.{Attribute, Distinct}
 use Rattle.rng_model.specs.names.Lists.{Among, here, there}
 use Rattle.rng_model.specs.names.Names.{Name}
 use Rattle.rng_model.specs.documents.PyxLines.{WrittenName}
 use Rattle.rng_model.specs.documents.PyxNamespaces.{WrittenAttribute, NamespaceDeclaration, IsForbidden, NamesElement, AreExpanded, none_left, expanded_and}
 use Rattle.rng_model.specs.documents.PyxClauses.{BreaksNamespaces, forbidden, element_prefix, attribute_prefix, RepeatsName, written_twice, expanded_twice}
-use Rattle.rng_model.specs.matching.WellFormed.{Distinct}
 use Rattle.pyx.specs.plain.TagReader as read
 use Rattle.pyx.specs.plain.Declarations.{Declared, declared_by, forbidden_by, is_forbidden, any_forbidden, is_written_twice}
 use Rattle.pyx.specs.plain.TagReader.{Element, attribute_name, expanded, and_more}

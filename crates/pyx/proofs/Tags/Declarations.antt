@@ -6,7 +6,8 @@ use Rattle.std.specs.Str.{bytes_eq}
 use Rattle.std.proofs.lemmas.Option.{none-some, same_Some}
 use Rattle.rng_model.proofs.Texts.{bytes_same, bytes_itself, no_bytes}
 use Rattle.rng_model.specs.documents.PyxLines.{WrittenName}
-use Rattle.rng_model.specs.documents.PyxNamespaces.{WrittenAttribute, NamespaceDeclaration, xmlns, xml_uri, xmlns_uri, Declares, default_namespace, prefix_declared}
+use Rattle.rng_model.specs.documents.PyxNamespaces.{WrittenAttribute, NamespaceDeclaration, xmlns, xmlns_uri, Declares, default_namespace, prefix_declared}
+use Rattle.rng_model.specs.names.Names.{xml_uri}
 use Rattle.rng_model.specs.documents.PyxNamespaces.{DeclaresNothing, AreParted, nothing, declaration, other, IsForbidden, of_xmlns_uri, of_xmlns, of_nothing}
 use Rattle.rng_model.specs.documents.PyxNamespaces.{xml_as_another, another_as_xml}
 use Rattle.pyx.specs.plain.Declarations.{declared_prefix, declared_by, forbidden_prefix, forbidden_by}

@@ -8,18 +8,19 @@ use Rattle.std.proofs.lemmas.List.Elements.{All-from_recursion, recursion_from_A
 use Rattle.std.proofs.lemmas.Option.{same_Some, none-some}
 use Rattle.std.proofs.Math.Bool.{or-true}
 use Rattle.rng_model.proofs.Members.{same_first, same_rest}
-use Rattle.rng_model.specs.matching.Document.{Attribute}
+use Rattle.rng_model.specs.matching.Document.{Attribute, Distinct}
 use Rattle.rng_model.specs.names.Lists.{Among, here, there, HasTwice, at_first, later}
 use Rattle.rng_model.specs.names.Names.{Name}
 use Rattle.rng_model.specs.documents.Lines.{attribute_limit}
 use Rattle.rng_model.specs.documents.PyxLines.{Said, WrittenName}
-use Rattle.rng_model.specs.documents.PyxNamespaces.{WrittenAttribute, AreWritten, NamespaceDeclaration, Declares, default_namespace, prefix_declared, AreParted, nothing}
+use Rattle.rng_model.specs.documents.PyxNamespaces.{WrittenAttribute, AreWritten, NamespaceDeclaration, Declares, default_namespace, prefix_declared, AreParted}
+use Rattle.rng_model.specs.documents.PyxNamespaces.{nothing}
 use Rattle.rng_model.specs.documents.PyxNamespaces.{declaration}
-use Rattle.rng_model.specs.documents.PyxNamespaces.{other, NamespaceScope, IsForbidden, HasNamespace, NamesElement, element_name, NamesAttribute, without_prefix, with_prefix}
+use Rattle.rng_model.specs.documents.PyxNamespaces.{other, NamespaceScope, IsForbidden, HasNamespace, NamesElement, element_name, NamesAttribute}
+use Rattle.rng_model.specs.documents.PyxNamespaces.{without_prefix, with_prefix}
 use Rattle.rng_model.specs.documents.PyxNamespaces.{AreExpanded, none_left, expanded_and}
 use Rattle.rng_model.specs.documents.PyxClauses.{BreaksNamespaces, forbidden, element_prefix, attribute_prefix, RepeatsName, written_twice, expanded_twice}
 use Rattle.rng_model.specs.documents.PyxTrees.{IsTag}
-use Rattle.rng_model.specs.matching.WellFormed.{Distinct}
 use Rattle.pyx.specs.plain.Declarations.{Declared, declared_by, is_written_in, is_written_twice}
 use Rattle.pyx.specs.plain.TagReader.{Element, attribute_name, expanded, and_more, is_named_in}
 use Rattle.pyx.specs.plain.TagReader.{is_named_twice}

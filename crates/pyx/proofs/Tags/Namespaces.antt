@@ -7,10 +7,12 @@ use Rattle.std.proofs.lemmas.List.Elements.{All-from_recursion}
 use Rattle.std.proofs.lemmas.Option.{none-some, same_Some}
 use Rattle.rng_model.proofs.Texts.{bytes_same, bytes_itself}
 use Rattle.rng_model.specs.names.Lists.{Among, here, there}
-use Rattle.rng_model.specs.names.Names.{Name}
+use Rattle.rng_model.specs.names.Names.{Name, xml_uri}
 use Rattle.rng_model.specs.documents.PyxLines.{WrittenName}
-use Rattle.rng_model.specs.documents.PyxNamespaces.{WrittenAttribute, NamespaceDeclaration, xml_uri, NamespaceScope, IsDeclared, HasNamespace, declared_here, declared_outside}
-use Rattle.rng_model.specs.documents.PyxNamespaces.{xml_beforehand, no_default, NamesElement, element_name, NamesAttribute, without_prefix, with_prefix, HasNoNamespace}
+use Rattle.rng_model.specs.documents.PyxNamespaces.{WrittenAttribute, NamespaceDeclaration, NamespaceScope, IsDeclared, HasNamespace, declared_here}
+use Rattle.rng_model.specs.documents.PyxNamespaces.{declared_outside}
+use Rattle.rng_model.specs.documents.PyxNamespaces.{xml_beforehand, no_default, NamesElement, element_name, NamesAttribute, without_prefix, with_prefix}
+use Rattle.rng_model.specs.documents.PyxNamespaces.{HasNoNamespace}
 use Rattle.pyx.specs.plain.TagReader as read
 use Rattle.pyx.specs.plain.Declarations.{Declared, declared_by, same_prefix, declares, found_in, beforehand, or_else, namespace_of}
 use Rattle.pyx.specs.plain.TagReader.{in_namespace, attribute_in}

@@ -3,12 +3,11 @@ use Rattle.std.proofs.Common.{◌≡◌, ℕ, Bool, true, false, ◌||◌, List,
 use Rattle.std.specs.Str.{bytes_eq}
 use Rattle.std.proofs.lemmas.Bool.{or_cases, and_parts}
 use Rattle.rng_model.proofs.Texts.{bytes_same, bytes_itself}
-use Rattle.rng_model.specs.matching.Document.{Attribute}
+use Rattle.rng_model.specs.matching.Document.{Attribute, HasNoName, nothing_named, another_name, Distinct, none, one_more}
 use Rattle.rng_model.specs.names.Lists.{Among, here, there, HasTwice, at_first, later}
 use Rattle.rng_model.specs.names.Names.{Name}
 use Rattle.rng_model.specs.documents.PyxLines.{WrittenName}
 use Rattle.rng_model.specs.documents.PyxNamespaces.{WrittenAttribute}
-use Rattle.rng_model.specs.matching.WellFormed.{HasNoName, nothing_named, another_name, Distinct, none, one_more}
 use Rattle.pyx.specs.plain.Declarations.{same_written, is_written_in, is_written_twice}
 use Rattle.pyx.specs.plain.TagReader.{same_name, is_named_in, is_named_twice}
 use Rattle.pyx.proofs.WrittenNames.{written_same}

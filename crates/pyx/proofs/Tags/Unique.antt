@@ -6,10 +6,12 @@ use Rattle.std.proofs.lemmas.List.Elements.{recursion_from_All}
 use Rattle.std.proofs.lemmas.Option.{same_Some}
 use Rattle.rng_model.specs.matching.Document.{Attribute}
 use Rattle.rng_model.specs.names.Lists.{Among, here, there, HasTwice, at_first, later}
-use Rattle.rng_model.specs.names.Names.{Name}
+use Rattle.rng_model.specs.names.Names.{Name, xml_uri}
 use Rattle.rng_model.specs.documents.PyxLines.{WrittenName}
-use Rattle.rng_model.specs.documents.PyxNamespaces.{WrittenAttribute, NamespaceDeclaration, Declares, AreParted, nothing, declaration, other, NamespaceScope, IsDeclared, xml_uri}
-use Rattle.rng_model.specs.documents.PyxNamespaces.{HasNamespace, declared_here, declared_outside, xml_beforehand, no_default, NamesElement, element_name, NamesAttribute}
+use Rattle.rng_model.specs.documents.PyxNamespaces.{WrittenAttribute, NamespaceDeclaration, Declares, AreParted, nothing, declaration, other, NamespaceScope}
+use Rattle.rng_model.specs.documents.PyxNamespaces.{IsDeclared}
+use Rattle.rng_model.specs.documents.PyxNamespaces.{HasNamespace, declared_here, declared_outside, xml_beforehand, no_default, NamesElement, element_name}
+use Rattle.rng_model.specs.documents.PyxNamespaces.{NamesAttribute}
 use Rattle.rng_model.specs.documents.PyxNamespaces.{without_prefix, with_prefix, AreExpanded, none_left, expanded_and}
 use Rattle.pyx.proofs.Tags.Declarations.{is_declared}
 

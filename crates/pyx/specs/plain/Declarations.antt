@@ -2,7 +2,8 @@
 use Rattle.std.specs.Prelude.{ℕ, ◌==◌, Bool, true, false, not, ◌&&◌, ◌||◌, List, [], ◌∷◌, length, codes, Option, Some, None, if◌then◌else◌}
 use Rattle.std.specs.Str.{bytes_eq}
 use Rattle.rng_model.specs.documents.PyxLines.{WrittenName}
-use Rattle.rng_model.specs.documents.PyxNamespaces.{WrittenAttribute, xmlns, xml_uri, xmlns_uri}
+use Rattle.rng_model.specs.documents.PyxNamespaces.{WrittenAttribute, xmlns, xmlns_uri}
+use Rattle.rng_model.specs.names.Names.{xml_uri}
 
 -- what the open tags declare, the innermost first
 abbrev pub Declared : Type 0

@@ -1,8 +1,7 @@
 -- A document line by line: the state after a line or its fault, and the events that are handed out at it.
 use Rattle.std.specs.Prelude.{ℕ, ◌+◌, ◌==◌, nat_le, Bool, true, false, ◌&&◌, List, [], ◌∷◌, ◌++◌, length, map, Option, Some, None, Result, Ok, Err}
 use Rattle.std.specs.Prelude.{if◌then◌else◌, is_some}
-use Rattle.rng_model.specs.documents.Lines.{Line, attribute_limit, open_limit, text_limit}
-use Rattle.rng_model.specs.documents.PyxFaults.{Fault}
+use Rattle.rng_model.specs.documents.Lines.{Line, attribute_limit, open_limit, text_limit, Fault}
 use Rattle.rng_model.specs.documents.PyxLines as lines
 use Rattle.rng_model.specs.documents.PyxLines.{Said, WrittenName}
 use Rattle.rng_model.specs.documents.PyxNamespaces.{WrittenAttribute}

@@ -3,7 +3,7 @@
 use Rattle.std.specs.Prelude.{ℕ, nat_le, Bool, ◌&&◌, List, Option, Some, None, length, Result, Ok, Err, if◌then◌else◌}
 use Rattle.std.specs.List.{list_all}
 use Rattle.std.specs.Str.{chars, is_utf8}
-use Rattle.rng_model.specs.names.Characters.{is_ncname, is_xml_char}
+use Rattle.rng_model.specs.names.Names.{is_ncname, is_xml_char}
 use Rattle.rng_model.specs.documents.Lines.{Line, line_limit}
 use Rattle.rng_model.specs.documents.PyxLines.{Said, WrittenName, start, attribute, text, end, instruction}
 use Rattle.pyx.specs.plain.Cuts.{behind, either_way, at_byte}

@@ -1,7 +1,7 @@
 -- Bytes that show without decoding that a text or a name is good.
 use Rattle.std.specs.Prelude.{ℕ, List, [], ◌∷◌, Bool, false, not, ◌&&◌, ◌||◌, ◌==◌, nat_le, if◌then◌else◌}
 use Rattle.std.specs.List.{list_all}
-use Rattle.rng_model.specs.names.Characters.{is_in_ranges}
+use Rattle.rng_model.specs.names.Names.{is_in_ranges}
 
 -- a byte that is only in characters that XML has
 abbrev pub is_plain : ℕ → Bool

@@ -2,7 +2,7 @@
 use Rattle.std.specs.Prelude.{◌≡◌, ℕ, Bool, true, List, [], ◌∷◌, length, Option, Some, None, if◌then◌else◌, string_bytes}
 use Rattle.std.specs.BTreeMap.{get_by_text}
 use Rattle.rng_model.specs.documents.PyxNamespaces.{WrittenAttribute}
-use Rattle.rng_model.specs.names.NamespaceViews.{namespace_bytes}
+use Rattle.rng_model.specs.names.NameViews.{namespace_bytes}
 use Rattle.pyx.specs.declared.namespaces.places.Declaration.{Declaration}
 use Rattle.pyx.specs.declared.namespaces.places.Places.{Places}
 use Rattle.pyx.specs.plain.Declarations.{declared_by, declares}

@@ -1,6 +1,6 @@
 -- The view of a namespace that was looked up.
 use Rattle.std.specs.Prelude.{ℕ, List}
-use Rattle.rng_model.specs.names.NamespaceViews.{namespace_bytes}
+use Rattle.rng_model.specs.names.NameViews.{namespace_bytes}
 use Rattle.pyx.specs.declared.namespaces.found.FoundNamespace.{FoundNamespace}
 use Rattle.pyx.specs.declared.namespaces.found.FoundNamespace.TheVariants as found
 

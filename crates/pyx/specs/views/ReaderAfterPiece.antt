@@ -1,6 +1,6 @@
 -- The view of a reader, and the bytes and events that it represents.
 use Rattle.std.specs.Prelude.{◌≡◌, ℕ, List, Option, Some, None, Result, Ok, Err}
-use Rattle.rng_model.specs.documents.PyxFaults.{Fault}
+use Rattle.rng_model.specs.documents.Lines.{Fault}
 use Rattle.rng_model.specs.documents.PyxTrees.{Event}
 use Rattle.rng_model.specs.declared.pyx_fault.PyxFault.{PyxFault}
 use Rattle.rng_model.specs.declared.pyx_fault.PyxFault.TheVariants as pyx

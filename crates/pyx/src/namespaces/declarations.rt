@@ -1,7 +1,7 @@
 // The declarations of the open elements.
 ghost use Rattle.std.specs.Prelude.{◌≡◌, ◌++◌, [], ◌∷◌, IfOk, OnOk, MatchOption, MatchResult, List, length, map, reverse, drop, string_bytes};
 ghost use Rattle.std.specs.Option.{option_map};
-ghost use Rattle.rng_model.specs.names.NamespaceViews.{namespace_bytes};
+ghost use Rattle.rng_model.specs.names.NameViews.{namespace_bytes};
 ghost use Rattle.pyx.specs.declared.namespaces.places.Declaration.{Declaration};
 ghost use Rattle.pyx.specs.plain.Declarations.{beforehand, namespace_of};
 ghost use Rattle.pyx.specs.views.DeclarationView.{AreFound, declaration_of};

@@ -6,9 +6,9 @@ use Rattle.rnc_model.specs.grammar.Syntax.{File}
 use Rattle.rnc_model.specs.declarations.FileTree.{FileTree}
 use Rattle.rnc_grammar.specs.declared.fault.ParseFault.{ParseFault}
 use Rattle.rnc_grammar.specs.declared.fault.ParseFault.TheVariants as faults
-use Rattle.rnc_model.specs.tokens.Lexeme.{Lexeme}
+use Rattle.rnc_model.specs.tokens.Cut.{Lexeme}
 use Rattle.rnc_model.specs.grammar.Sentence.{BreaksNesting, BreaksGrammarAt}
-use Rattle.rnc_model.specs.declarations.Parsing.{BreaksDeclarations}
+use Rattle.rnc_model.specs.loading.SchemaFile.{BreaksDeclarations}
 
 -- ---- a syntax tree
 

@@ -1,6 +1,6 @@
 -- Views of the file trees of the code, without their place in memory.
 use Rattle.std.specs.Prelude.{ℕ, List, map, Option, Some, None, option_map, string_bytes}
-use Rattle.rng_model.specs.names.NamespaceViews.{namespace_bytes}
+use Rattle.rng_model.specs.names.NameViews.{namespace_bytes}
 use Rattle.rng_model.specs.simple.Tree.{choice, group, interleave}
 use Rattle.rnc_grammar.specs.declared.file_tree.Namespace.{Namespace}
 use Rattle.rnc_grammar.specs.declared.file_tree.Namespace.TheVariants as namespaces

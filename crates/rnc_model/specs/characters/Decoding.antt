@@ -1,13 +1,29 @@
 -- From the bytes of a file to characters (RELAX NG Compact Syntax, "Lexical structure"). The bytes are UTF-8. A CR LF,
 -- a CR and an LF are one line end each. An escape `\x{H}` represents the character with the number H. A CR or LF that
 -- an escape writes does not end a line.
-use Rattle.std.specs.Prelude.{◌≡◌, ◌==◌, ◌≢◌, ℕ, ◌+◌, ◌*◌, ◌<◌, ◌≤◌, true, List, [], ◌∷◌, ◌++◌, length, Some}
-use Rattle.std.specs.List.{fold, list_all, slice_get}
-use Rattle.std.specs.Char.{is_digit, digit_value}
-use Rattle.std.specs.Str.{IsUtf8, IsValidUpTo, encode_utf8_all, all_scalars}
-use Rattle.rng_model.specs.names.Characters.{is_xml_char}
+use Rattle.std.specs.Prelude.{ℕ, List, map, length, ◌≡◌, ◌==◌, ◌≢◌, ◌+◌, ◌*◌, ◌<◌, ◌≤◌, true, [], ◌∷◌, ◌++◌, Some}
+use Rattle.std.specs.Str.{encode_utf8_all, IsUtf8, IsValidUpTo, all_scalars}
 use Rattle.rnc_model.specs.declared.character.Character.{Character}
 use Rattle.rnc_model.specs.declared.character.Character.TheVariants.{LineEnd, Ordinary}
+use Rattle.std.specs.List.{fold, list_all, slice_get}
+use Rattle.std.specs.Char.{is_digit, digit_value}
+use Rattle.rng_model.specs.names.Names.{is_xml_char}
+
+-- the Unicode number of a character in the decoded text, in which a line end is an LF
+abbrev pub number_of : Character → ℕ
+number_of LineEnd = 10
+number_of (Ordinary c) = c
+
+abbrev pub numbers_of : List Character → List ℕ
+numbers_of cs = map number_of cs
+
+-- the decoded text of some characters, in UTF-8
+abbrev pub bytes_of : List Character → List ℕ
+bytes_of cs = encode_utf8_all (numbers_of cs)
+
+-- the number of bytes of the decoded text of some characters
+abbrev pub byte_length : List Character → ℕ
+byte_length cs = length (bytes_of cs)
 
 -- one to six hexadecimal digits, of either case
 pub record AreDigits (digits : List ℕ) : Type 0 where

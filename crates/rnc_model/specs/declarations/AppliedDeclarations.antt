@@ -4,7 +4,7 @@
 use Rattle.std.specs.Prelude.{ℕ, List, [], ◌∷◌, Option, Some, None, if◌then◌else◌, codes}
 use Rattle.std.specs.Str.{bytes_eq}
 use Rattle.rng_model.specs.datatypes.Datatypes.{xsd_uri}
-use Rattle.rng_model.specs.documents.PyxNamespaces.{xml_uri}
+use Rattle.rng_model.specs.names.Names.{xml_uri}
 use Rattle.rnc_model.specs.grammar.Syntax as syntax
 use Rattle.rnc_model.specs.grammar.Syntax.{applied, written, Declaration, Namespace, inherited, given}
 use Rattle.rnc_model.specs.declarations.FileTree as tree

@@ -4,7 +4,7 @@
 use Rattle.std.specs.Prelude.{◌≢◌, ℕ, List, [], ◌∷◌, ◌++◌, Option, Some, None, codes, flat_map}
 use Rattle.rng_model.specs.datatypes.Datatypes.{xsd_uri}
 use Rattle.rng_model.specs.names.Lists.{Among}
-use Rattle.rng_model.specs.documents.PyxNamespaces.{xml_uri}
+use Rattle.rng_model.specs.names.Names.{xml_uri}
 use Rattle.rnc_model.specs.grammar.Syntax as syntax
 use Rattle.rnc_model.specs.grammar.Syntax.{written}
 

@@ -1,15 +1,16 @@
 -- The token at which a file breaks a rule about declarations: the first declaration that breaks one, or otherwise the
 -- first prefix that is not declared (RELAX NG Compact Syntax, "Declarations" and "Syntax").
-use Rattle.std.specs.Prelude.{◌≡◌, ◌≢◌, ◌⊎◌, ℕ, suc, ◌+◌, ◌<◌, List, [], ◌∷◌, ◌++◌, length, map, take, slice_get, Option, Some, None, codes}
+use Rattle.std.specs.Prelude.{◌≡◌, ◌≢◌, ℕ, suc, ◌+◌, ◌<◌, List, [], ◌∷◌, ◌++◌, length, map, take, slice_get, Option, Some, None, codes}
 use Rattle.rnc_model.specs.declared.token.Sign.{Sign}
 use Rattle.rnc_model.specs.declarations.DeclarationRules.{Declarable, namespace_prefix, datatype_prefix, IsUndeclared, BreaksDeclarationRule}
-use Rattle.rnc_model.specs.declarations.Parsing.{BreaksDeclarations}
 use Rattle.rnc_model.specs.grammar.Grammar as grammar
-use Rattle.rnc_model.specs.grammar.Grammar.{MayInherit, IsClass, AreMoreClasses, IsBasic, IsBareBasic, IsPattern, AreMore, IsParticle, IsPrimary, IsBarePrimary}
-use Rattle.rnc_model.specs.grammar.Grammar.{IsBraced, Setting, AreComponents, IsComponent, IsBareComponent, MayOverride, AreDeclarations, IsBody, IsFile}
+use Rattle.rnc_model.specs.grammar.NameClasses as name_classes
+use Rattle.rnc_model.specs.grammar.NameClasses.{MayInherit, IsClass, AreMoreClasses, IsBasic, IsBareBasic}
+use Rattle.rnc_model.specs.grammar.Grammar.{IsPattern, AreMore, IsParticle, IsPrimary, IsBarePrimary}
+use Rattle.rnc_model.specs.grammar.Grammar.{IsBraced, Setting, AreComponents, IsComponent, IsBareComponent, MayOverride, AreDeclarations, IsBody}
 use Rattle.rnc_model.specs.grammar.Syntax as syntax
-use Rattle.rnc_model.specs.grammar.Syntax.{written, File}
-use Rattle.rnc_model.specs.tokens.Lexeme.{Lexeme}
+use Rattle.rnc_model.specs.grammar.Syntax.{written}
+use Rattle.rnc_model.specs.tokens.Cut.{Lexeme}
 
 -- ---- the prefix of each token of a body, if it has one that the file uses
 
@@ -24,29 +25,29 @@ prefix_of_type syntax.token_type = None
 prefix_of_type (syntax.prefixed_type p l) = Some (datatype_prefix p)
 
 abbrev pub in_inherit : {ts : List Lexeme} {p : Option (List ℕ)} → MayInherit ts p → List (Option Declarable)
-in_inherit (grammar.without_inherit e) = []
-in_inherit (grammar.with_inherit {w = w} is e) = None ∷ None ∷ Some (namespace_prefix w) ∷ []
+in_inherit (name_classes.without_inherit e) = []
+in_inherit (name_classes.with_inherit {w = w} is e) = None ∷ None ∷ Some (namespace_prefix w) ∷ []
 
 abbrev mutual
   pub in_class : {ts : List Lexeme} {c : syntax.NameClass written} → IsClass ts c → List (Option Declarable)
-  in_class (grammar.basic_class b) = in_basic b
-  in_class (grammar.choice_class b more e f) = in_basic b ++ in_more_classes more
-  in_class (grammar.any_except {n = n} may b e) = no_prefixes n ++ None ∷ None ∷ in_basic b
-  in_class (grammar.ns_except {n = n} {p = p} may b e) = no_prefixes n ++ Some (namespace_prefix p) ∷ None ∷ in_basic b
+  in_class (name_classes.basic_class b) = in_basic b
+  in_class (name_classes.choice_class b more e f) = in_basic b ++ in_more_classes more
+  in_class (name_classes.any_except {n = n} may b e) = no_prefixes n ++ None ∷ None ∷ in_basic b
+  in_class (name_classes.ns_except {n = n} {p = p} may b e) = no_prefixes n ++ Some (namespace_prefix p) ∷ None ∷ in_basic b
 
   pub in_more_classes : {ts : List Lexeme} {cs : List (syntax.NameClass written)} → AreMoreClasses ts cs → List (Option Declarable)
-  in_more_classes (grammar.last_class b e) = None ∷ in_basic b
-  in_more_classes (grammar.more_classes b more e) = None ∷ (in_basic b ++ in_more_classes more)
+  in_more_classes (name_classes.last_class b e) = None ∷ in_basic b
+  in_more_classes (name_classes.more_classes b more e) = None ∷ (in_basic b ++ in_more_classes more)
 
   pub in_basic : {ts : List Lexeme} {c : syntax.NameClass written} → IsBasic ts c → List (Option Declarable)
-  in_basic (grammar.annotated_basic {n = n} may b e) = no_prefixes n ++ in_bare_basic b
+  in_basic (name_classes.annotated_basic {n = n} may b e) = no_prefixes n ++ in_bare_basic b
 
   pub in_bare_basic : {ts : List Lexeme} {c : syntax.NameClass written} → IsBareBasic ts c → List (Option Declarable)
-  in_bare_basic (grammar.word_class is e) = None ∷ []
-  in_bare_basic (grammar.cname_class {p = p} e) = Some (namespace_prefix p) ∷ []
-  in_bare_basic (grammar.ns_class {p = p} e) = Some (namespace_prefix p) ∷ []
-  in_bare_basic (grammar.any_class e) = None ∷ []
-  in_bare_basic (grammar.class_in_parens c e) = None ∷ (in_class c ++ None ∷ [])
+  in_bare_basic (name_classes.word_class is e) = None ∷ []
+  in_bare_basic (name_classes.cname_class {p = p} e) = Some (namespace_prefix p) ∷ []
+  in_bare_basic (name_classes.ns_class {p = p} e) = Some (namespace_prefix p) ∷ []
+  in_bare_basic (name_classes.any_class e) = None ∷ []
+  in_bare_basic (name_classes.class_in_parens c e) = None ∷ (in_class c ++ None ∷ [])
 
 abbrev mutual
   pub in_pattern : {ts : List Lexeme} {t : syntax.Pattern written} → IsPattern ts t → List (Option Declarable)
@@ -142,14 +143,3 @@ pub record HasUndeclaredPrefix (ds : List syntax.Declaration) (before : ℕ) (pr
   pub prefix_is : slice_get prefixes index ≡ Some (Some prefix)
   pub undeclared : IsUndeclaredPrefix ds prefix
   pub first : (k : ℕ) (other : Declarable) → k < index → slice_get prefixes k ≡ Some (Some other) → ¬ (IsUndeclaredPrefix ds other)
-
--- the first declaration that breaks a rule begins at the token with this number; or the declarations break none, and it
--- is the first token whose prefix is not declared
-abbrev pub IsFaultyToken : {ts : List Lexeme} {f : File} → IsFile ts f → ℕ → Type 0
-IsFaultyToken (grammar.file {f = f} {a = a} ds body e) number = IsBrokenDeclaration (declaration_numbers 1 ds) f.declarations number
-    ⊎ ((¬ (BreakDeclarationRule f.declarations)) × HasUndeclaredPrefix f.declarations (length a) (in_body body) number)
-
--- the tokens break a rule about declarations, and the first fault is at the token with this number
-pub record BreaksDeclarationsAt (ts : List Lexeme) (number : ℕ) : Type 0 where
-  pub broken : BreaksDeclarations ts
-  pub at : (f : File) (sentence : IsFile ts f) → IsFaultyToken sentence number

@@ -13,10 +13,10 @@ whole_grammar (grammar cs) = Some cs
 whole_grammar _ = None
 
 -- the components of the grammar that a file is, also where its whole pattern is `grammar { .. }`
-abbrev pub grammar_of : FileTree → Option (Components applied)
-grammar_of (grammar_file cs) = Some cs
-grammar_of (pattern_file p) = whole_grammar p
+abbrev pub grammar_components : FileTree → Option (Components applied)
+grammar_components (grammar_file cs) = Some cs
+grammar_components (pattern_file p) = whole_grammar p
 
 -- the file is a grammar, also where its whole pattern is `grammar { .. }`
 abbrev pub is_grammar : FileTree → Bool
-is_grammar t = is_some (grammar_of t)
+is_grammar t = is_some (grammar_components t)

@@ -2,7 +2,7 @@
 use Rattle.std.specs.Prelude.{◌≡◌, ℕ, ◌+◌, ◌-◌, ◌<◌, ◌≤◌, Bool, true, false, List, length, take}
 use Rattle.std.specs.List.{count_by}
 use Rattle.rnc_model.specs.declared.token.Sign.TheVariants.{OpenBrace, CloseBrace, OpenParenthesis, CloseParenthesis}
-use Rattle.rnc_model.specs.tokens.Lexeme.{Lexeme, sign}
+use Rattle.rnc_model.specs.tokens.Cut.{Lexeme, sign}
 use Rattle.rnc_model.specs.grammar.Syntax.{File}
 use Rattle.rnc_model.specs.grammar.Grammar.{IsFile}
 

@@ -1,6 +1,6 @@
 -- The syntax tree of a schema file (RELAX NG Compact Syntax, "Syntax"): as it is written, with prefixes for namespaces, or
 -- with its declarations applied, with the namespaces themselves.
-use Rattle.std.specs.Prelude.{ℕ, List, [], ◌∷◌, ◌++◌, Option}
+use Rattle.std.specs.Prelude.{ℕ, List, [], ◌∷◌, Option}
 use Rattle.rng_model.specs.simple.Tree.{Connector}
 use Rattle.rng_model.specs.declared.method.Method.{Method}
 
@@ -8,11 +8,6 @@ use Rattle.rng_model.specs.declared.method.Method.{Method}
 pub data Stage : Type 0 where
   written : Stage
   applied : Stage
-
--- the text of a literal: the texts of its segments, joined
-abbrev pub joined_text : List (List ℕ) → List ℕ
-joined_text [] = []
-joined_text (w ∷ ws) = w ++ joined_text ws
 
 -- the namespace that the file inherits, or a given one
 pub data Namespace : Type 0 where

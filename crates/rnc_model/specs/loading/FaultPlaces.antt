@@ -1,15 +1,27 @@
 -- The place where a file breaks a clause from 3 to 8.
-use Rattle.std.specs.Prelude.{◌≡◌, ℕ, ◌+◌, ◌-◌, ◌<◌, ◌≤◌, List, [], take, slice_get, Some, None}
+use Rattle.std.specs.Prelude.{◌≡◌, ℕ, ◌+◌, ◌-◌, ◌<◌, ◌≤◌, List, [], take, slice_get, Some, None, ◌⊎◌, length}
 use Rattle.rnc_model.specs.declared.character.Character.{Character}
 use Rattle.rnc_model.specs.declared.file_place.FilePlace.{FilePlace}
-use Rattle.rnc_model.specs.characters.Characters.{byte_length}
-use Rattle.rnc_model.specs.characters.Decoding.{IsDecoded, IsSpelling, BreaksUtf8At, BreaksCharactersAt}
+use Rattle.rnc_model.specs.characters.Decoding.{byte_length, IsDecoded, IsSpelling, BreaksUtf8At, BreaksCharactersAt}
 use Rattle.rnc_model.specs.characters.FilePlaces.{IsPlaceBetween, IsPlaceBehind}
-use Rattle.rnc_model.specs.declarations.FaultyTokens.{BreaksDeclarationsAt}
+use Rattle.rnc_model.specs.loading.SchemaFile.{BreaksDeclarations, AreTokensOf}
+use Rattle.rnc_model.specs.grammar.Grammar as grammar
+use Rattle.rnc_model.specs.grammar.Grammar.{IsFile}
+use Rattle.rnc_model.specs.grammar.Syntax.{File}
+use Rattle.rnc_model.specs.tokens.Cut.{Lexeme, lexemes, Token, BreaksTokensAt}
+use Rattle.rnc_model.specs.declarations.FaultyTokens.{BreakDeclarationRule, IsBrokenDeclaration, HasUndeclaredPrefix, declaration_numbers, in_body}
 use Rattle.rnc_model.specs.grammar.Sentence.{BreaksGrammarAt, nesting_limit, openings, closings}
-use Rattle.rnc_model.specs.loading.SchemaFile.{AreTokensOf}
-use Rattle.rnc_model.specs.tokens.Cut.{Token, BreaksTokensAt}
-use Rattle.rnc_model.specs.tokens.Lexeme.{Lexeme, lexemes}
+
+-- the first declaration that breaks a rule begins at the token with this number; or the declarations break none, and it
+-- is the first token whose prefix is not declared
+abbrev pub IsFaultyToken : {ts : List Lexeme} {f : File} → IsFile ts f → ℕ → Type 0
+IsFaultyToken (grammar.file {f = f} {a = a} ds body e) number = IsBrokenDeclaration (declaration_numbers 1 ds) f.declarations number
+    ⊎ ((¬ (BreakDeclarationRule f.declarations)) × HasUndeclaredPrefix f.declarations (length a) (in_body body) number)
+
+-- the tokens break a rule about declarations, and the first fault is at the token with this number
+pub record BreaksDeclarationsAt (ts : List Lexeme) (number : ℕ) : Type 0 where
+  pub broken : BreaksDeclarations ts
+  pub at : (f : File) (sentence : IsFile ts f) → IsFaultyToken sentence number
 
 -- the place where the token with this number begins, counted from 1; if the number is one more than the number of
 -- tokens, the end of the file

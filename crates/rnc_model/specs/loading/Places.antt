@@ -6,19 +6,17 @@
 -- each level, the innermost first. The file of an include is its child 0, and its braces are its child 1. The pattern
 -- of an external is its child 0. If the file of an external has grammar content, that is a grammar at the place of the
 -- external itself.
-use Rattle.std.specs.Prelude.{◌≡◌, ℕ, ◌+◌, List, [], ◌∷◌, ◌++◌, filter, map, not, Option, Some, None, Bool}
+use Rattle.std.specs.Prelude.{◌≡◌, ℕ, ◌+◌, List, [], ◌∷◌, ◌++◌, Option, Some, None, Bool}
 use Rattle.std.specs.List.{list_any}
-use Rattle.rng_model.specs.names.Lists.{Among}
 use Rattle.rng_model.specs.names.Names as names
 use Rattle.rng_model.specs.simple.Tree.{Datatype, Connector}
-use Rattle.rng_model.specs.schema.Patterns.{Place, Pattern, members}
+use Rattle.rng_model.specs.schema.Patterns.{Place, Pattern, joined_members}
 use Rattle.rng_model.specs.schema.Patterns as pattern
-use Rattle.rng_model.specs.schema.Schema.{Schema, Component, same_name}
-use Rattle.rng_model.specs.declared.method.Method.{Method}
+use Rattle.rng_model.specs.schema.Schema.{Component, same_component_name}
 use Rattle.rng_model.specs.declared.method.Method.TheVariants as methods
 use Rattle.rnc_model.specs.grammar.Syntax as tree
 use Rattle.rnc_model.specs.grammar.Syntax.{applied, Namespace, inherited, given, DatatypeName}
-use Rattle.rnc_model.specs.declarations.FileTree.{FileTree, grammar_file, pattern_file, grammar_of, whole_grammar}
+use Rattle.rnc_model.specs.declarations.FileTree.{FileTree, grammar_file, pattern_file, whole_grammar}
 
 -- ---- names, in a file that inherits a namespace
 
@@ -64,7 +62,7 @@ pub record Gathered : Type 0 where
 
 -- a component is overridden by one of its name, a start by a start
 abbrev pub is_overridden : List Gathered → Gathered → Bool
-is_overridden os g = list_any (λ o. same_name o.component.name g.component.name) os
+is_overridden os g = list_any (λ o. same_component_name o.component.name g.component.name) os
 
 -- the components of the grammar of the main file; any other pattern is the start of a grammar
 abbrev pub grammar_or_start : tree.Pattern applied → Option (tree.Components applied) → tree.Components applied
@@ -122,7 +120,7 @@ module _ (files : List ℕ → Option FileTree) where
       grammar_file_is : {u : List ℕ} {x : TreePath} {m : tree.Mention applied} {cs : tree.Components applied} → files m.href ≡ Some (grammar_file cs) →
           Reads u x (tree.external m) (pattern.external (pattern.grammar x)) (record { place = x; uri = uri_in u m.inherit; components = cs } ∷ [])
       joined_is : {u : List ℕ} {x : TreePath} {k : Connector} {all : tree.Patterns applied} {ps : List Pattern} {gs : List Nested} → ReadAll u x 0 all ps gs
-          → Reads u x (tree.joined k all) (members k ps) gs
+          → Reads u x (tree.joined k all) (joined_members k ps) gs
 
     -- the first of these patterns is the child with this number
     pub data ReadAll : List ℕ → TreePath → ℕ → tree.Patterns applied → List Pattern → List Nested → Type 0 where
@@ -130,40 +128,3 @@ module _ (files : List ℕ → Option FileTree) where
       more_are : {u : List ℕ} {x : TreePath} {n : ℕ} {a : tree.Pattern applied} {all : tree.Patterns applied} {p : Pattern} {ps : List Pattern}
           {gs hs : List Nested}
           {both : List Nested} → Reads u (n ∷ x) a p gs → ReadAll u x (n + 1) all ps hs → both ≡ gs ++ hs → ReadAll u x n (tree.pattern_and a all) (p ∷ ps) both
-
-  -- the components that these give to their grammar, in order; the first of them is the child with this number
-  pub data Gathers : List ℕ → TreePath → ℕ → tree.Components applied → List Gathered → Type 0 where
-    nothing : {u : List ℕ} {x : TreePath} {n : ℕ} → Gathers u x n tree.no_components []
-    a_start : {u : List ℕ} {x : TreePath} {n : ℕ} {m : Method} {a : tree.Pattern applied} {cs : tree.Components applied} {p : Pattern} {gs : List Nested}
-        {rest : List Gathered} → Reads u (n ∷ x) a p gs → Gathers u x (n + 1) cs rest →
-        Gathers u x n (tree.component_and (tree.start m a) cs) (record { component = record { name = None; method = m; pattern = p }; nested = gs } ∷ rest)
-    a_define : {u : List ℕ} {x : TreePath} {n : ℕ} {y : List ℕ} {m : Method} {a : tree.Pattern applied} {cs : tree.Components applied} {p : Pattern}
-        {gs : List Nested}
-        {rest : List Gathered} → Reads u (n ∷ x) a p gs → Gathers u x (n + 1) cs rest →
-        Gathers u x n (tree.component_and (tree.define y m a) cs) (record { component = record { name = Some y; method = m; pattern = p }; nested = gs } ∷ rest)
-    a_div : {u : List ℕ} {x : TreePath} {n : ℕ} {is cs : tree.Components applied} {inner rest all : List Gathered} →
-        Gathers u (n ∷ x) 0 is inner → Gathers u x (n + 1) cs rest → all ≡ inner ++ rest → Gathers u x n (tree.component_and (tree.div is) cs) all
-    -- an include gives the components of its file that are not overridden, and then those in its braces
-    an_include : {u : List ℕ} {x : TreePath} {n : ℕ} {m : tree.Mention applied} {over cs is : tree.Components applied} {f : FileTree}
-        {included overriding rest all : List Gathered} →
-        files m.href ≡ Some f → grammar_of f ≡ Some is → Gathers (uri_in u m.inherit) (0 ∷ n ∷ x) 0 is included →
-        Gathers u (1 ∷ n ∷ x) 0 over overriding → Gathers u x (n + 1) cs rest →
-        all ≡ (filter (λ g. not (is_overridden overriding g)) included ++ overriding) ++ rest →
-        Gathers u x n (tree.component_and (tree.include m over) cs) all
-
-  -- At the place there is a grammar with these components, in a file that inherits this namespace; the main file
-  -- inherits the empty one. The grammar around it is the one at the other place, if there is one.
-  pub data HasGrammar (main : FileTree) : Place → Option Place → List ℕ → tree.Components applied → Type 0 where
-    main_is : {cs : tree.Components applied} → cs ≡ main_grammar main → HasGrammar main [] None [] cs
-    nested_is : {x : Place} {o : Option Place} {u : List ℕ} {cs : tree.Components applied} {gathered : List Gathered} {g : Gathered} {n : Nested} →
-        HasGrammar main x o u cs → Gathers u x 0 cs gathered → Among g gathered → Among n g.nested → HasGrammar main n.place (Some x) n.uri n.components
-
-  -- The schema of these files, if they break none of S1 to S10: at each place of a grammar, its components and the
-  -- place of the grammar around it; at any other place nothing.
-  pub record IsSchemaOf (main : FileTree) (s : Schema) : Type 0 where
-    pub main_place : s.main ≡ []
-    pub there : (x : Place) (o : Option Place) (u : List ℕ) (cs : tree.Components applied) → HasGrammar main x o u cs →
-        (gathered : List Gathered) × Gathers u x 0 cs gathered × (s.components x ≡ Some (map (λ g. g.component) gathered)) × (s.outer x ≡ o)
-    pub only_there : (x : Place) (all : List Component) → s.components x ≡ Some all →
-        (o : Option Place) × (u : List ℕ) × (cs : tree.Components applied) × HasGrammar main x o u cs
-    pub none_around : (x : Place) → s.components x ≡ None → s.outer x ≡ None

@@ -1,14 +1,34 @@
 -- What a file of a schema is by itself: it breaks a clause, or it has a tree (RELAX NG Compact Syntax, "Syntax"; sizes
 -- and numbers of files: profile).
-use Rattle.std.specs.Prelude.{◌≡◌, ◌≢◌, ◌⊎◌, ℕ, ◌<◌, List, length}
+use Rattle.std.specs.Prelude.{◌≡◌, List, ◌≢◌, ◌⊎◌, ℕ, ◌<◌, length, map, string_bytes, String, Vec}
+use Rattle.rnc_model.specs.declarations.AppliedDeclarations.{tree_of_file}
+use Rattle.rnc_model.specs.declarations.DeclarationRules.{BreaksDeclarationRule}
+use Rattle.rnc_model.specs.grammar.Syntax.{File}
+use Rattle.rnc_model.specs.declarations.FileTree.{FileTree}
+use Rattle.rnc_model.specs.grammar.Grammar.{IsFile}
+use Rattle.rnc_model.specs.tokens.Cut.{Lexeme, lexemes, Token, HasTokens, BreaksTokensAt}
+use Rattle.rnc_model.specs.grammar.Sentence.{NestsWithin, nesting_limit, BreaksGrammarAt, BreaksNesting}
 use Rattle.rng_model.specs.names.Lists.{Among, HasTwo}
 use Rattle.rnc_model.specs.declared.character.Character.{Character}
 use Rattle.rnc_model.specs.characters.Decoding.{IsDecoded, BreaksUtf8At, BreaksCharactersAt}
-use Rattle.rnc_model.specs.tokens.Cut.{Token, HasTokens, BreaksTokensAt}
-use Rattle.rnc_model.specs.tokens.Lexeme.{lexemes}
-use Rattle.rnc_model.specs.declarations.FileTree.{FileTree}
-use Rattle.rnc_model.specs.grammar.Sentence.{BreaksGrammarAt, BreaksNesting}
-use Rattle.rnc_model.specs.declarations.Parsing.{BreaksDeclarations, IsFileTree}
+use Rattle.std.specs.Global.{Global}
+
+-- ---- the tree of a list of tokens
+
+-- the tokens are a sentence that nests within the limit, and it breaks a rule about declarations (clause 8)
+pub record BreaksDeclarations (ts : List Lexeme) : Type 0 where
+  pub nesting : NestsWithin nesting_limit ts
+  pub file : File
+  pub sentence : IsFile ts file
+  pub broken : BreaksDeclarationRule file
+
+-- the tokens break no clause, and their file tree is the tree of their sentence with its declarations applied
+pub record IsFileTree (ts : List Lexeme) (t : FileTree) : Type 0 where
+  pub nesting : NestsWithin nesting_limit ts
+  pub file : File
+  pub sentence : IsFile ts file
+  pub kept : ¬ (BreaksDeclarationRule file)
+  pub tree : tree_of_file file ≡ t
 
 -- ---- what is in a file
 
@@ -55,43 +75,46 @@ abbrev pub file_limit : ℕ
 file_limit = 64
 
 -- a file's name, as its bytes
-abbrev pub Name : Type 0
-Name = List ℕ
+abbrev pub FileName : Type 0
+FileName = List ℕ
 
 -- a file that is given
 pub record NamedFile : Type 0 where
-  pub name : Name
+  pub name : FileName
   pub bytes : List ℕ
 
 module _ (files : List NamedFile) where
   -- there is no file of this name
-  abbrev pub IsMissing : Name → Type 0
+  abbrev pub IsMissing : FileName → Type 0
   IsMissing f = (file : NamedFile) → Among file files → file.name ≢ f
 
   -- there are two files of this name
-  abbrev pub IsHandedInTwice : Name → Type 0
+  abbrev pub IsHandedInTwice : FileName → Type 0
   IsHandedInTwice f = HasTwo (λ a b. (a.name ≡ f) × (b.name ≡ f)) files
 
   -- there is one file of this name, with these bytes
-  pub record IsHandedIn (f : Name) (bytes : List ℕ) : Type 0 where
+  pub record IsHandedIn (f : FileName) (bytes : List ℕ) : Type 0 where
     pub there : Among (record { name = f; bytes = bytes }) files
     pub once : ¬ (IsHandedInTwice f)
 
-  module _ (main : Name) where
+  module _ (main : FileName) where
     -- the file is the main one and there are too many files, or it has too many bytes (S2)
-    abbrev pub BreaksLimit : Name → List ℕ → Type 0
+    abbrev pub BreaksLimit : FileName → List ℕ → Type 0
     BreaksLimit f bytes = ((f ≡ main) × (file_limit < length files)) ⊎ (size_limit < length bytes)
 
     -- The file of this name breaks this clause first. The clauses on its bytes apply only if it does not break S2.
-    pub data BreaksOwn (f : Name) (k : ℕ) : Type 0 where
+    pub data BreaksOwn (f : FileName) (k : ℕ) : Type 0 where
       missing : IsMissing f → k ≡ 1 → BreaksOwn f k
       handed_in_twice : IsHandedInTwice f → k ≡ 1 → BreaksOwn f k
       too_large : {bytes : List ℕ} → IsHandedIn f bytes → BreaksLimit f bytes → k ≡ 2 → BreaksOwn f k
       bad_content : {bytes : List ℕ} → IsHandedIn f bytes → ¬ (BreaksLimit f bytes) → BreaksFileClause bytes k → BreaksOwn f k
 
     -- the file of this name breaks no clause by itself, and has this tree
-    pub record HasTree (f : Name) (t : FileTree) : Type 0 where
+    pub record HasTree (f : FileName) (t : FileTree) : Type 0 where
       pub bytes : List ℕ
       pub handed_in : IsHandedIn f bytes
       pub small : ¬ (BreaksLimit f bytes)
       pub is : IsSchemaFile bytes t
+
+abbrev pub named_files : List (String Global × Vec ℕ Global) → List NamedFile
+named_files files = map (λ f. record { name = string_bytes f.0; bytes = f.1.items }) files

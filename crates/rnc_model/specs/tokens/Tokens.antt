@@ -3,8 +3,8 @@
 use Rattle.std.specs.Prelude.{◌≡◌, ℕ, Bool, true, false, not, ◌||◌, ◌==◌, if◌then◌else◌, List, [], ◌∷◌, ◌++◌, Option, Some, None, codes}
 use Rattle.std.specs.List.{list_all}
 use Rattle.std.specs.Str.{bytes_eq}
-use Rattle.rng_model.specs.names.Characters.{is_ncname}
-use Rattle.rnc_model.specs.characters.Characters.{numbers_of, bytes_of}
+use Rattle.rng_model.specs.names.Names.{is_ncname}
+use Rattle.rnc_model.specs.characters.Decoding.{numbers_of, bytes_of}
 use Rattle.rnc_model.specs.declared.character.Character.{Character}
 use Rattle.rnc_model.specs.declared.character.Character.TheVariants.{LineEnd, Ordinary}
 use Rattle.rnc_model.specs.declared.token.Keyword.{Keyword}

@@ -4,9 +4,9 @@ use Rattle.rnc_model.specs.declarations.DeclarationRules.{Declarable, namespace_
 use Rattle.rnc_model.specs.declarations.Declarations.{Scope, declare, library_in, namespace_in}
 use Rattle.rnc_model.specs.declared.token.Keyword.TheVariants as keywords
 use Rattle.rnc_model.specs.declared.token.Sign.TheVariants.{CloseBracket, Equal, OpenBrace, OpenBracket, Tilde}
-use Rattle.rnc_model.specs.grammar.Grammar.{word_of}
+use Rattle.rnc_model.specs.grammar.NameClasses.{word_of}
 use Rattle.rnc_model.specs.grammar.Syntax.{Declaration}
-use Rattle.rnc_model.specs.tokens.Lexeme.{Lexeme, cname, keyword, ns_name, sign}
+use Rattle.rnc_model.specs.tokens.Cut.{Lexeme, cname, keyword, ns_name, sign}
 use Rattle.rnc_places.specs.declared.prefixes.Part.{Part}
 use Rattle.rnc_places.specs.declared.prefixes.Part.TheVariants.{Body, Class, Inherit, Prefix}
 

@@ -3,12 +3,11 @@ use Rattle.std.specs.Prelude.{◌≡◌, ℕ, List, Option, Some, None}
 use Rattle.rnc_grammar.specs.declared.fault.ParseFault.{ParseFault}
 use Rattle.rnc_grammar.specs.declared.fault.ParseFault.TheVariants as faults
 use Rattle.rnc_model.specs.declarations.FileTree.{FileTree}
-use Rattle.rnc_model.specs.declarations.FaultyTokens.{BreaksDeclarationsAt}
+use Rattle.rnc_model.specs.loading.FaultPlaces.{BreaksDeclarationsAt, BreaksClauseAt, IsTooDeepAt}
 use Rattle.rnc_model.specs.declared.file_place.FilePlace.{FilePlace}
 use Rattle.rnc_model.specs.grammar.Sentence.{BreaksGrammarAt}
-use Rattle.rnc_model.specs.loading.FaultPlaces.{BreaksClauseAt, IsTooDeepAt}
 use Rattle.rnc_model.specs.loading.FileVerdicts.{ContentHasOnlyVerdict, breaks, has_tree}
-use Rattle.rnc_model.specs.tokens.Lexeme.{Lexeme}
+use Rattle.rnc_model.specs.tokens.Cut.{Lexeme}
 
 -- the only clause that the file breaks, with its place, or nothing if it breaks none
 abbrev pub IsTold : List ℕ → Option (ℕ × FilePlace) → Type 0

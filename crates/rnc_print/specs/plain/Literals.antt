@@ -1,6 +1,6 @@
 -- A literal, byte by byte.
 use Rattle.std.specs.Prelude.{ℕ, ◌==◌, if◌then◌else◌, List, [], ◌∷◌, ◌++◌, codes}
-use Rattle.rncv_model.specs.printed.PrintedText.{delimiter, escaped}
+use Rattle.rncv_model.specs.printed.Words.{delimiter, escaped}
 
 -- what is written for a character if a run with this delimiter is open
 abbrev pub byte_text : ℕ → ℕ → List ℕ

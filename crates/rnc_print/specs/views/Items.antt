@@ -4,8 +4,8 @@ use Rattle.std.specs.List.{AllByRecursion, filter_map, position_or_len}
 use Rattle.rng_model.specs.simple.Table.{Table, tree_at}
 use Rattle.rng_model.specs.simple.TableRules.{IsTable}
 use Rattle.rng_model.specs.declared.simple.ElementId.{ElementId}
-use Rattle.rncv_model.specs.printed.Numbering.{with_new}
-use Rattle.rncv_model.specs.printed.PrintedText as text
+use Rattle.rncv_model.specs.printed.Items.{with_new}
+use Rattle.rncv_model.specs.printed.Items as text
 use Rattle.rnc_print.specs.plain.PatternCodes.{number_at}
 use Rattle.rnc_print.specs.views.TreeNumbers.{AreTreeNumbers}
 use Rattle.rnc_print.specs.declared.items.Item.{Item}
@@ -13,7 +13,7 @@ use Rattle.rnc_print.specs.declared.items.Item.TheVariants as variants
 use Rattle.rnc_print.specs.declared.items.Items.{Items}
 
 -- the view of the item
-abbrev pub item_at : Table → Item → text.Item
+abbrev pub item_at : Table → Item → text.PrintedItem
 item_at t (variants.Element e) = text.element e.0
 item_at t (variants.Pattern p) = text.pattern (tree_at t.patterns p)
 
@@ -44,7 +44,7 @@ pub record AreItems (t : Table) (items : Items) : Type 0 where
   pub indexed : AreIndexed items
 
 -- the views of the items, in the order in which they are first written
-abbrev pub items_seen : Table → Items → List text.Item
+abbrev pub items_seen : Table → Items → List text.PrintedItem
 items_seen t items = map (item_at t) items.all.items
 
 -- they are the same element, or their patterns have the same number

@@ -9,19 +9,19 @@ use Rattle.rng_model.specs.declared.fault.SchemaFault.TheVariants as faults
 use Rattle.rnc_model.specs.loading.LoadedSchema.{AreSchema}
 use Rattle.rnc_model.specs.loading.Loading.{TakenFiles, are_taken, FilesHaveVerdict, FilesHaveOnlyVerdict}
 use Rattle.rng_load.specs.views.PlacedGrammars.{schema_of}
-use Rattle.rnc_model.specs.loading.SchemaFile.{Name, NamedFile, HasTree, IsSchemaFile, size_limit}
+use Rattle.rnc_model.specs.loading.SchemaFile.{FileName, NamedFile, HasTree, IsSchemaFile, size_limit}
 use Rattle.rng_load.specs.declared.schema.Schema as loaded
-use Rattle.rncv_model.specs.printed.PrintedText.{Item}
+use Rattle.rncv_model.specs.printed.Items.{PrintedItem}
 use Rattle.rncv_model.specs.printed.SchemaText.{IsPrintedForm}
 use Rattle.rnc_print_laws.specs.plain.LinesTree.{lines_tree}
 
 -- the main file alone, with the tree of the lines
-abbrev pub lines_alone : Name → Grammar → List Item → TakenFiles
+abbrev pub lines_alone : FileName → Grammar → List PrintedItem → TakenFiles
 lines_alone main g items = (main, lines_tree g items) ∷ []
 
 -- The main file has the tree of the lines of the text that is printed for the schema. The schema breaks no clause. The
 -- number of bytes is below 2^64.
-pub record IsHandedInAgain (s : Schema) (text : List ℕ) (files : List NamedFile) (main : Name) : Type 0 where
+pub record IsHandedInAgain (s : Schema) (text : List ℕ) (files : List NamedFile) (main : FileName) : Type 0 where
   pub kept : BreaksNoClause s
   pub printed : IsPrintedForm s text
   pub few : length text < 2 ^ 64
@@ -36,7 +36,7 @@ pub record IsPrintedFile (s : Schema) (text : List ℕ) : Type 0 where
   pub is : IsSchemaFile text (lines_tree printed.grammar printed.is_printed.items)
 
 -- the text alone, as the file of this name
-abbrev pub text_alone : Name → List ℕ → List NamedFile
+abbrev pub text_alone : FileName → List ℕ → List NamedFile
 text_alone main text = record { name = main; bytes = text } ∷ []
 
 -- the schema that is returned breaks no clause, and this text is printed for it, unless memory ran out
@@ -46,7 +46,7 @@ IsAgain text result = MatchResult result (λ r. BreaksNoClause (schema_of r) × 
 -- ---- the schema of files, and its simple form
 
 -- the schema of the files is this one: the only verdict on the files is that they are taken
-pub record AreFilesOf (s : Schema) (files : List NamedFile) (main : Name) : Type 0 where
+pub record AreFilesOf (s : Schema) (files : List NamedFile) (main : FileName) : Type 0 where
   pub read : TakenFiles
   pub taken : FilesHaveOnlyVerdict files main (are_taken read)
   pub are : AreSchema read main s
@@ -56,7 +56,7 @@ abbrev pub HaveSameForm : Schema → Schema → Type 0
 HaveSameForm s r = (g : Grammar) → IsSimpleGrammarOf s g ↔ IsSimpleGrammarOf r g
 
 -- The files are taken and have one schema. It breaks no clause, and its simple form is that of the first schema.
-pub record AreOfSameForm (s : Schema) (files : List NamedFile) (main : Name) : Type 0 where
+pub record AreOfSameForm (s : Schema) (files : List NamedFile) (main : FileName) : Type 0 where
   pub read : TakenFiles
   pub taken : FilesHaveVerdict files main (are_taken read)
   pub schema : Schema

@@ -3,7 +3,8 @@
 -- 4.18).
 use Rattle.std.specs.Prelude.{◌≡◌, ℕ, ◌<◌, ◌^◌, List, [], ◌∷◌, ◌++◌, length, map, Option, Some, None}
 use Rattle.rng_model.specs.names.Names.{NameClass, any_name, any_except, ns_name, ns_except, name_is, one_of, NameClasses, no_classes, class_and, some_of}
-use Rattle.rng_model.specs.simple.Tree.{Simple, s_not_allowed, s_empty, s_text, s_leaf, s_attribute, s_list, s_data, s_data_except, s_value, s_one_or_more, s_joined}
+use Rattle.rng_model.specs.simple.Tree.{Simple, s_not_allowed, s_empty, s_text, s_leaf, s_attribute, s_list, s_data, s_data_except, s_value, s_one_or_more}
+use Rattle.rng_model.specs.simple.Tree.{s_joined}
 use Rattle.rng_model.specs.simple.Grammar.{Grammar}
 use Rattle.rng_model.specs.schema.Patterns as written
 use Rattle.rng_model.specs.schema.Patterns.{Place, Pattern, no_patterns}
@@ -11,7 +12,8 @@ use Rattle.rng_model.specs.schema.Schema.{Schema, Component}
 use Rattle.rng_model.specs.simple.SchemaForm.{IsSimpleGrammarOf}
 use Rattle.rng_model.specs.schema.SchemaClauses.{BreaksNoClause}
 use Rattle.rng_model.specs.declared.method.Method.TheVariants as methods
-use Rattle.rncv_model.specs.printed.PrintedText.{Item, element, pattern, element_at, item_name, IsItemsOf}
+use Rattle.rncv_model.specs.printed.Items.{PrintedItem, element, pattern, element_at, IsItemsOf}
+use Rattle.rncv_model.specs.printed.PrintedText.{item_name}
 use Rattle.rncv_model.specs.printed.SchemaText.{IsPrintedForm}
 
 -- ---- name classes: a choice at the front of a choice is written without parentheses, so its members are members
@@ -45,7 +47,7 @@ abbrev mutual
 -- ---- lines
 
 -- what is written for a pattern within a line
-abbrev pub reference_pattern : List Item → Simple ℕ → Pattern
+abbrev pub reference_pattern : List PrintedItem → Simple ℕ → Pattern
 reference_pattern items s_not_allowed = written.not_allowed
 reference_pattern items s_empty = written.empty
 reference_pattern items s_text = written.text
@@ -55,7 +57,7 @@ reference_pattern items (s_value d v) = written.value d.library d.name v
 reference_pattern items s = written.ref (item_name items (pattern s))
 
 -- what is after `=` in the line of a pattern
-abbrev pub line_pattern : List Item → Simple ℕ → Pattern
+abbrev pub line_pattern : List PrintedItem → Simple ℕ → Pattern
 line_pattern items (s_joined k a b) = written.joined k (reference_pattern items a) (reference_pattern items b) no_patterns
 line_pattern items (s_one_or_more a) = written.one_or_more (reference_pattern items a)
 line_pattern items (s_list a) = written.list (reference_pattern items a)
@@ -63,36 +65,36 @@ line_pattern items (s_attribute c a) = written.attribute (flattened c) (referenc
 line_pattern items (s_data_except d a) = written.data_except d (reference_pattern items a)
 line_pattern items s = reference_pattern items s
 
-abbrev pub item_pattern : Grammar → List Item → Item → Pattern
+abbrev pub item_pattern : Grammar → List PrintedItem → PrintedItem → Pattern
 item_pattern g items (element k) = written.element (flattened (element_at g k).0) (reference_pattern items (element_at g k).1)
 item_pattern g items (pattern s) = line_pattern items s
 
-abbrev pub start_line : Grammar → List Item → Component
+abbrev pub start_line : Grammar → List PrintedItem → Component
 start_line g items = record { name = None; method = methods.Plain; pattern = reference_pattern items g.start }
 
-abbrev pub item_line : Grammar → List Item → Item → Component
+abbrev pub item_line : Grammar → List PrintedItem → PrintedItem → Component
 item_line g items i = record { name = Some (item_name items i); method = methods.Plain; pattern = item_pattern g items i }
 
-abbrev pub lines_components : Grammar → List Item → List Component
+abbrev pub lines_components : Grammar → List PrintedItem → List Component
 lines_components g items = start_line g items ∷ map (item_line g items) items
 
 -- the schema has one grammar, that of these lines
-pub record IsSchemaOfLines (g : Grammar) (items : List Item) (s : Schema) : Type 0 where
+pub record IsSchemaOfLines (g : Grammar) (items : List PrintedItem) (s : Schema) : Type 0 where
   pub main : s.main ≡ []
   pub components : s.components [] ≡ Some (lines_components g items)
   pub only : (x : Place) (cs : List Component) → s.components x ≡ Some cs → x ≡ []
 
 -- such a schema
-abbrev pub components_at : Grammar → List Item → Place → Option (List Component)
+abbrev pub components_at : Grammar → List PrintedItem → Place → Option (List Component)
 components_at g items [] = Some (lines_components g items)
 components_at g items (n ∷ x) = None
 
-abbrev pub schema_of_lines : Grammar → List Item → Schema
+abbrev pub schema_of_lines : Grammar → List PrintedItem → Schema
 schema_of_lines g items = record { main = []; components = components_at g items; outer = λ x. None }
 
 -- The second schema is that of the lines in which a simple grammar of the first is printed. The first schema breaks no
 -- clause. The number of lines is below 2^64.
-pub record IsReprinted (s r : Schema) (g : Grammar) (items : List Item) : Type 0 where
+pub record IsReprinted (s r : Schema) (g : Grammar) (items : List PrintedItem) : Type 0 where
   pub kept : BreaksNoClause s
   pub form : IsSimpleGrammarOf s g
   pub numbered : IsItemsOf g items

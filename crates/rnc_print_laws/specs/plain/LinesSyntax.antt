@@ -2,14 +2,17 @@
 use Rattle.std.specs.Prelude.{ℕ, if◌then◌else◌, List, [], ◌∷◌, ◌++◌, map, codes}
 use Rattle.std.specs.Str.{bytes_eq}
 use Rattle.rng_model.specs.names.Names as names
-use Rattle.rng_model.specs.simple.Tree.{Simple, s_not_allowed, s_empty, s_text, s_leaf, s_attribute, s_list, s_data, s_data_except, s_value, s_one_or_more, s_joined}
+use Rattle.rng_model.specs.simple.Tree.{Simple, s_not_allowed, s_empty, s_text, s_leaf, s_attribute, s_list, s_data, s_data_except, s_value, s_one_or_more}
+use Rattle.rng_model.specs.simple.Tree.{s_joined}
 use Rattle.rng_model.specs.simple.Grammar.{Grammar}
 use Rattle.rng_model.specs.declared.method.Method.TheVariants as methods
 use Rattle.rnc_model.specs.grammar.Syntax as syntax
 use Rattle.rnc_model.specs.grammar.Syntax.{written, Name, unprefixed, prefixed, NameClass, NameClasses, no_classes, class_and, any_name, any_except, ns_name}
 use Rattle.rnc_model.specs.grammar.Syntax.{ns_except, name_is, one_of, choice_of, DatatypeName, string_type, token_type, prefixed_type, Pattern, Component}
 use Rattle.rnc_model.specs.grammar.Syntax.{Declaration, File}
-use Rattle.rncv_model.specs.printed.PrintedText.{Item, element, pattern, element_at, item_name, prefix_of}
+use Rattle.rncv_model.specs.printed.Items.{PrintedItem, element, pattern, element_at}
+use Rattle.rncv_model.specs.printed.PrintedText.{item_name}
+use Rattle.rncv_model.specs.printed.Words.{prefix_of}
 
 abbrev pub list_of : NameClasses written → List (NameClass written)
 list_of no_classes = []
@@ -45,7 +48,7 @@ abbrev mutual
 abbrev pub type_of : List ℕ → List ℕ → DatatypeName written
 type_of library name = if bytes_eq library [] then (if bytes_eq name (codes "string") then string_type else token_type) else prefixed_type (codes "xsd") name
 
-abbrev pub reference_of : List Item → Simple ℕ → Pattern written
+abbrev pub reference_of : List PrintedItem → Simple ℕ → Pattern written
 reference_of items s_not_allowed = syntax.not_allowed
 reference_of items s_empty = syntax.empty
 reference_of items s_text = syntax.text
@@ -54,7 +57,7 @@ reference_of items (s_data d) = syntax.data_of (type_of d.library d.name) d.para
 reference_of items (s_value d v) = syntax.value (type_of d.library d.name) v
 reference_of items s = syntax.ref (item_name items (pattern s))
 
-abbrev pub pattern_of : List (List ℕ) → List Item → Simple ℕ → Pattern written
+abbrev pub pattern_of : List (List ℕ) → List PrintedItem → Simple ℕ → Pattern written
 pattern_of ns items (s_joined k a b) = syntax.members k (reference_of items a ∷ reference_of items b ∷ [])
 pattern_of ns items (s_one_or_more a) = syntax.one_or_more (reference_of items a)
 pattern_of ns items (s_list a) = syntax.list (reference_of items a)
@@ -62,17 +65,17 @@ pattern_of ns items (s_attribute c a) = syntax.attribute (class_of ns c) (refere
 pattern_of ns items (s_data_except d a) = syntax.data_except (type_of d.library d.name) d.parameters (reference_of items a)
 pattern_of ns items s = reference_of items s
 
-abbrev pub item_pattern : Grammar → List (List ℕ) → List Item → Item → Pattern written
+abbrev pub item_pattern : Grammar → List (List ℕ) → List PrintedItem → PrintedItem → Pattern written
 item_pattern g ns items (element k) = syntax.element (class_of ns (element_at g k).0) (reference_of items (element_at g k).1)
 item_pattern g ns items (pattern s) = pattern_of ns items s
 
 -- a plain start, and a plain define for each item
-abbrev pub components : Grammar → List (List ℕ) → List Item → List (Component written)
+abbrev pub components : Grammar → List (List ℕ) → List PrintedItem → List (Component written)
 components g ns items =
     syntax.start methods.Plain (reference_of items g.start) ∷ map (λ i. syntax.define (item_name items i) methods.Plain (item_pattern g ns items i)) items
 
 abbrev pub declarations : List (List ℕ) → List Declaration
 declarations ns = map (λ u. syntax.namespace (prefix_of ns u) (syntax.literal u)) ns
 
-abbrev pub file : Grammar → List (List ℕ) → List Item → File
+abbrev pub file : Grammar → List (List ℕ) → List PrintedItem → File
 file g ns items = record { declarations = declarations ns; body = syntax.grammar_body (syntax.components_of (components g ns items)) }

@@ -3,7 +3,8 @@
 -- "Syntax").
 use Rattle.std.specs.Prelude.{ℕ, List, [], ◌∷◌, ◌++◌, map}
 use Rattle.rng_model.specs.names.Names as names
-use Rattle.rng_model.specs.simple.Tree.{Datatype, Simple, s_not_allowed, s_empty, s_text, s_leaf, s_attribute, s_list, s_data, s_data_except, s_value, s_one_or_more}
+use Rattle.rng_model.specs.simple.Tree.{Datatype, Simple, s_not_allowed, s_empty, s_text, s_leaf, s_attribute, s_list, s_data, s_data_except, s_value}
+use Rattle.rng_model.specs.simple.Tree.{s_one_or_more}
 use Rattle.rng_model.specs.simple.Tree.{s_joined}
 use Rattle.rng_model.specs.simple.Grammar.{Grammar}
 use Rattle.rng_model.specs.declared.method.Method.TheVariants as methods
@@ -11,7 +12,8 @@ use Rattle.rnc_model.specs.grammar.Syntax as tree
 use Rattle.rnc_model.specs.grammar.Syntax.{applied, Namespace, inherited, given, Name, NameClass, NameClasses, no_classes, class_and, any_name, any_except}
 use Rattle.rnc_model.specs.grammar.Syntax.{ns_name, ns_except, name_is, one_of, choice_of, DatatypeName, Pattern, Component}
 use Rattle.rnc_model.specs.declarations.FileTree.{FileTree, grammar_file}
-use Rattle.rncv_model.specs.printed.PrintedText.{Item, element, pattern, element_at, item_name}
+use Rattle.rncv_model.specs.printed.Items.{PrintedItem, element, pattern, element_at}
+use Rattle.rncv_model.specs.printed.PrintedText.{item_name}
 
 abbrev pub list_of : NameClasses applied → List (NameClass applied)
 list_of no_classes = []
@@ -50,7 +52,7 @@ abbrev pub type_of : Datatype → DatatypeName applied
 type_of d = record { library = d.library; name = d.name }
 
 -- what a line shows for a pattern inside another: its own word, or the name of its line
-abbrev pub reference_of : List Item → Simple ℕ → Pattern applied
+abbrev pub reference_of : List PrintedItem → Simple ℕ → Pattern applied
 reference_of items s_not_allowed = tree.not_allowed
 reference_of items s_empty = tree.empty
 reference_of items s_text = tree.text
@@ -60,7 +62,7 @@ reference_of items (s_value d v) = tree.value (type_of d) v
 reference_of items s = tree.ref (item_name items (pattern s))
 
 -- what its own line shows; an unprefixed name in an attribute's class has no namespace
-abbrev pub pattern_of : List Item → Simple ℕ → Pattern applied
+abbrev pub pattern_of : List PrintedItem → Simple ℕ → Pattern applied
 pattern_of items (s_joined k a b) = tree.members k (reference_of items a ∷ reference_of items b ∷ [])
 pattern_of items (s_one_or_more a) = tree.one_or_more (reference_of items a)
 pattern_of items (s_list a) = tree.list (reference_of items a)
@@ -69,13 +71,13 @@ pattern_of items (s_data_except d a) = tree.data_except (type_of d) d.parameters
 pattern_of items s = reference_of items s
 
 -- an unprefixed name in an element's class has the namespace that the file inherits
-abbrev pub item_pattern : Grammar → List Item → Item → Pattern applied
+abbrev pub item_pattern : Grammar → List PrintedItem → PrintedItem → Pattern applied
 item_pattern g items (element k) = tree.element (class_of inherited (element_at g k).0) (reference_of items (element_at g k).1)
 item_pattern g items (pattern s) = pattern_of items s
 
-abbrev pub define_of : Grammar → List Item → Item → Component applied
+abbrev pub define_of : Grammar → List PrintedItem → PrintedItem → Component applied
 define_of g items i = tree.define (item_name items i) methods.Plain (item_pattern g items i)
 
 -- all lines; the main file of a schema inherits the empty namespace, so an unprefixed name has no namespace
-abbrev pub lines_tree : Grammar → List Item → FileTree
+abbrev pub lines_tree : Grammar → List PrintedItem → FileTree
 lines_tree g items = grammar_file (tree.components_of (tree.start methods.Plain (reference_of items g.start) ∷ map (define_of g items) items))

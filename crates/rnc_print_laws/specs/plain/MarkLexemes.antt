@@ -1,8 +1,8 @@
 -- The tokens of marks, each word with its number (RELAX NG Compact Syntax, "Lexical structure").
 use Rattle.std.specs.Prelude.{ℕ, suc, List, [], ◌∷◌}
 use Rattle.rnc_model.specs.tokens.Tokens.{keyword_of, keyword_or_identifier}
-use Rattle.rnc_model.specs.tokens.Lexeme.{Lexeme, lexeme_at}
-use Rattle.rnc_model.specs.tokens.Lexeme as lexeme
+use Rattle.rnc_model.specs.tokens.Cut.{Lexeme, lexeme_at}
+use Rattle.rnc_model.specs.tokens.Cut as lexeme
 use Rattle.rnc_text.specs.plain.Marks.{Mark, space, line_end, word, cname, ns_name, segment, sign}
 
 -- a word that is the token with this number

@@ -3,14 +3,15 @@
 -- (RELAX NG Compact Syntax, "Lexical structure" and "Syntax").
 use Rattle.std.specs.Prelude.{◌≡◌, ◌⊎◌, ℕ, suc, ◌≤◌, max, Bool, true, ◌||◌, if◌then◌else◌, List, [], codes, IsUtf8, chars}
 use Rattle.std.specs.List.{list_all, AllByRecursion}
-use Rattle.rng_model.specs.names.Characters.{is_xml_char, is_ncname}
-use Rattle.rng_model.specs.names.Names.{NameClass, any_name, any_except, ns_name, ns_except, name_is, one_of, NameClasses, no_classes, class_and}
-use Rattle.rng_model.specs.simple.Tree.{Datatype, Simple, s_not_allowed, s_empty, s_text, s_leaf, s_attribute, s_list, s_data, s_data_except, s_value, s_one_or_more}
+use Rattle.rng_model.specs.names.Names.{is_xml_char, is_ncname, NameClass, any_name, any_except, ns_name, ns_except, name_is, one_of, NameClasses, no_classes}
+use Rattle.rng_model.specs.names.Names.{class_and}
+use Rattle.rng_model.specs.simple.Tree.{Datatype, Simple, s_not_allowed, s_empty, s_text, s_leaf, s_attribute, s_list, s_data, s_data_except, s_value}
+use Rattle.rng_model.specs.simple.Tree.{s_one_or_more}
 use Rattle.rng_model.specs.simple.Tree.{s_joined}
 use Rattle.rng_model.specs.simple.Grammar.{Grammar}
 use Rattle.rng_model.specs.datatypes.Datatypes.{xsd_uri}
 use Rattle.rnc_model.specs.grammar.Sentence.{nesting_limit}
-use Rattle.rncv_model.specs.printed.PrintedText.{is_choice, is_except}
+use Rattle.rncv_model.specs.printed.Words.{is_choice, is_except}
 
 -- UTF-8 of Chars (XML 1.0 Fifth Edition, section 2.2)
 abbrev pub IsText : List ℕ → Type 0

@@ -2,12 +2,15 @@
 use Rattle.std.specs.Prelude.{ℕ, Bool, true, false, ◌||◌, if◌then◌else◌, List, [], ◌∷◌, ◌++◌, flat_map, codes}
 use Rattle.std.specs.Str.{bytes_eq}
 use Rattle.rng_model.specs.names.Names.{NameClass, any_name, any_except, ns_name, ns_except, name_is, one_of, NameClasses, no_classes, class_and}
-use Rattle.rng_model.specs.simple.Tree.{Datatype, Connector, choice, group, interleave, Simple, s_not_allowed, s_empty, s_text, s_leaf, s_attribute, s_list, s_data}
+use Rattle.rng_model.specs.simple.Tree.{Datatype, Connector, choice, group, interleave, Simple, s_not_allowed, s_empty, s_text, s_leaf, s_attribute, s_list}
+use Rattle.rng_model.specs.simple.Tree.{s_data}
 use Rattle.rng_model.specs.simple.Tree.{s_data_except, s_value, s_one_or_more, s_joined}
 use Rattle.rng_model.specs.simple.Grammar.{Grammar}
 use Rattle.rnc_model.specs.declared.token.Sign.TheVariants.{Equal, Comma, Bar, And, Star, Plus, Minus, OpenBrace, CloseBrace, OpenParenthesis, CloseParenthesis}
 use Rattle.rnc_model.specs.declared.token.Sign.TheVariants.{Tilde}
-use Rattle.rncv_model.specs.printed.PrintedText.{Item, element, pattern, element_at, item_name, prefix_of, runs_of, is_choice, is_except, namespaces}
+use Rattle.rncv_model.specs.printed.Items.{PrintedItem, element, pattern, element_at}
+use Rattle.rncv_model.specs.printed.PrintedText.{item_name, namespaces}
+use Rattle.rncv_model.specs.printed.Words.{prefix_of, runs_of, is_choice, is_except}
 use Rattle.rnc_text.specs.plain.Marks.{Mark, space, line_end, word, cname, segment, sign}
 use Rattle.rnc_text.specs.plain.Marks as marks
 
@@ -67,7 +70,7 @@ parameters_marks (p ∷ ps) = space ∷ sign OpenBrace ∷ space ∷ (flat_map p
 abbrev pub datatype_marks : Datatype → List Mark
 datatype_marks d = type_mark d ∷ parameters_marks d.parameters
 
-abbrev pub reference_marks : List Item → Simple ℕ → List Mark
+abbrev pub reference_marks : List PrintedItem → Simple ℕ → List Mark
 reference_marks items s_not_allowed = word (codes "notAllowed") ∷ []
 reference_marks items s_empty = word (codes "empty") ∷ []
 reference_marks items s_text = word (codes "text") ∷ []
@@ -84,7 +87,7 @@ connector_marks interleave = space ∷ sign And ∷ space ∷ []
 abbrev pub braced_marks : List Mark → List Mark
 braced_marks ms = sign OpenBrace ∷ space ∷ (ms ++ space ∷ sign CloseBrace ∷ [])
 
-abbrev pub pattern_marks : List (List ℕ) → List Item → Simple ℕ → List Mark
+abbrev pub pattern_marks : List (List ℕ) → List PrintedItem → Simple ℕ → List Mark
 pattern_marks ns items (s_joined k a b) = reference_marks items a ++ (connector_marks k ++ reference_marks items b)
 pattern_marks ns items (s_one_or_more a) = reference_marks items a ++ sign Plus ∷ []
 pattern_marks ns items (s_list a) = word (codes "list") ∷ space ∷ braced_marks (reference_marks items a)
@@ -92,10 +95,10 @@ pattern_marks ns items (s_attribute c a) = word (codes "attribute") ∷ space �
 pattern_marks ns items (s_data_except d a) = datatype_marks d ++ space ∷ sign Minus ∷ space ∷ reference_marks items a
 pattern_marks ns items s = reference_marks items s
 
-abbrev pub element_marks : List (List ℕ) → List Item → NameClass × Simple ℕ → List Mark
+abbrev pub element_marks : List (List ℕ) → List PrintedItem → NameClass × Simple ℕ → List Mark
 element_marks ns items e = word (codes "element") ∷ space ∷ (class_marks ns e.0 ++ space ∷ braced_marks (reference_marks items e.1))
 
-abbrev pub item_marks : Grammar → List (List ℕ) → List Item → Item → List Mark
+abbrev pub item_marks : Grammar → List (List ℕ) → List PrintedItem → PrintedItem → List Mark
 item_marks g ns items (element k) = element_marks ns items (element_at g k)
 item_marks g ns items (pattern s) = pattern_marks ns items s
 
@@ -105,12 +108,12 @@ line_marks name ms = word name ∷ space ∷ sign Equal ∷ space ∷ (ms ++ lin
 abbrev pub namespace_marks : List (List ℕ) → List ℕ → List Mark
 namespace_marks ns u = word (codes "namespace") ∷ space ∷ line_marks (prefix_of ns u) (literal_marks u)
 
-abbrev pub item_line_marks : Grammar → List (List ℕ) → List Item → Item → List Mark
+abbrev pub item_line_marks : Grammar → List (List ℕ) → List PrintedItem → PrintedItem → List Mark
 item_line_marks g ns items i = line_marks (item_name items i) (item_marks g ns items i)
 
-abbrev pub lines_marks : Grammar → List (List ℕ) → List Item → List Mark
+abbrev pub lines_marks : Grammar → List (List ℕ) → List PrintedItem → List Mark
 lines_marks g ns items =
     flat_map (namespace_marks ns) ns ++ (line_marks (codes "start") (reference_marks items g.start) ++ flat_map (item_line_marks g ns items) items)
 
-abbrev pub marks_of : Grammar → List Item → List Mark
+abbrev pub marks_of : Grammar → List PrintedItem → List Mark
 marks_of g items = lines_marks g (namespaces g items) items

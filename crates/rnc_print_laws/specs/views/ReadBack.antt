@@ -2,10 +2,9 @@
 use Rattle.std.specs.Prelude.{ℕ, List}
 use Rattle.rnc_model.specs.declared.character.Character.{Character}
 use Rattle.rnc_model.specs.characters.Decoding.{IsDecoded}
-use Rattle.rnc_model.specs.tokens.Cut.{Token, HasTokens}
-use Rattle.rnc_model.specs.tokens.Lexeme.{lexemes}
+use Rattle.rnc_model.specs.tokens.Cut.{Token, HasTokens, lexemes}
 use Rattle.rnc_model.specs.declarations.FileTree.{FileTree}
-use Rattle.rnc_model.specs.declarations.Parsing.{IsFileTree}
+use Rattle.rnc_model.specs.loading.SchemaFile.{IsFileTree}
 
 -- The bytes decode to characters, which are cut into tokens. The tokens are a sentence that nests within the limit and
 -- breaks no rule about declarations, and it has this file tree. So no clause from S3 to S8 is broken.

@@ -2,12 +2,13 @@
 use Rattle.std.proofs.Common.{◌≡◌, ℕ, List, [], ◌∷◌, Some, None, Ok, refl, if◌then◌else◌}
 use Rattle.rnc_model.specs.declared.token.Keyword.TheVariants as keywords
 use Rattle.rnc_model.specs.declared.token.Sign.TheVariants.{Equal, BarEqual, AndEqual, OpenBracket}
-use Rattle.rnc_model.specs.tokens.Lexeme.{Lexeme, keyword, identifier, sign}
+use Rattle.rnc_model.specs.tokens.Cut.{Lexeme, keyword, identifier, sign}
 use Rattle.rnc_model.specs.grammar.Syntax as syntax
 use Rattle.rnc_model.specs.grammar.Syntax.{written, Component, Uri, Declaration, Body}
 use Rattle.rnc_model.specs.grammar.Grammar.{content}
 use Rattle.rnc_syntax.specs.plain.Combinators.{Outcome, ◌>>=◌, follow, follow_keyword, after, after_keyword, word_at}
-use Rattle.rnc_syntax.specs.plain.Productions.{annotation_end, literal_at, parameter_at, Inside, bare_pattern_with, bare_component_with, components_with, uri_at}
+use Rattle.rnc_syntax.specs.plain.Productions.{annotation_end, literal_at, parameter_at, Inside, bare_pattern_with, bare_component_with, components_with}
+use Rattle.rnc_syntax.specs.plain.Productions.{uri_at}
 use Rattle.rnc_syntax.specs.plain.Productions.{prefix_at, default_at, declaration_at, declaration_front, begins_method, pattern_body_with, bare_body_with}
 use Rattle.rnc_syntax.specs.plain.Productions.{annotated_body_with, body_with, declarations_at}
 use Rattle.rnc_syntax.proofs.Locality.{IsLocal, ok_local, stuck_end, stuck_front, cons_local, bind_local, after_local, word_local}

@@ -3,7 +3,7 @@ use Rattle.std.proofs.Common.{◌≡◌, ◌≤◌, Bool, true, false, List, [],
 use Rattle.std.proofs.lemmas.List.{length-append}
 use Rattle.rnc_model.specs.declared.token.Keyword.{Keyword}
 use Rattle.rnc_model.specs.declared.token.Sign.{Sign}
-use Rattle.rnc_model.specs.tokens.Lexeme.{Lexeme, keyword, sign}
+use Rattle.rnc_model.specs.tokens.Cut.{Lexeme, keyword, sign}
 use Rattle.rnc_syntax.specs.plain.Combinators.{Outcome, same_sign, follow, same_keyword, follow_keyword, either_way}
 use Rattle.rnc_syntax.proofs.Locality.{SameHead, SameHead-behind, LocalAt, reads, stuck, deep, IsLocal, ok_local, cons_local, none_local}
 

@@ -1,7 +1,7 @@
 -- The result for a list of items depends only on the tokens read and on the next one, if this is so for each item.
 use Rattle.std.proofs.Common.{◌≡◌, ℕ, zero, suc, ◌<◌, ◌≤◌, List, [], ◌∷◌, length, Option, Some, None, Result, Ok, Err, refl, sym, ap, ◌∙◌, arith}
 use Rattle.rnc_syntax.specs.declared.fault.Stop.{Stop}
-use Rattle.rnc_model.specs.tokens.Lexeme.{Lexeme}
+use Rattle.rnc_model.specs.tokens.Cut.{Lexeme}
 use Rattle.rnc_syntax.specs.plain.Combinators.{Outcome, ◌>>=◌, many_with, many}
 use Rattle.rnc_syntax.proofs.ReadItems.{opened, closed}
 use Rattle.rnc_syntax.proofs.Locality.{LocalAt, reads, IsLocal, ok_local, cons_local, bind_local}

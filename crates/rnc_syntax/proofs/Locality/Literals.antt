@@ -3,11 +3,11 @@ use Rattle.std.proofs.Common.{ℕ, List, [], ◌∷◌, Some, None, Ok, refl}
 use Rattle.rnc_model.specs.declared.token.Keyword.TheVariants as keywords
 use Rattle.rnc_model.specs.declared.token.Sign.{Sign}
 use Rattle.rnc_model.specs.declared.token.Sign.TheVariants.{Equal, OpenBrace, CloseBrace, OpenBracket, Tilde}
-use Rattle.rnc_model.specs.tokens.Lexeme.{Lexeme, keyword, identifier, sign}
+use Rattle.rnc_model.specs.tokens.Cut.{Lexeme, keyword, identifier, sign}
 use Rattle.rnc_syntax.specs.plain.Combinators.{Outcome, ◌>>=◌, follow, follow_keyword, after, word_at, segment_at, many}
 use Rattle.rnc_syntax.specs.plain.Productions.{annotation_at, literal_at, parameter_at, parameter_front, annotated_parameter_at, in_braces_at, parameters_at}
 use Rattle.rnc_syntax.specs.plain.Productions.{word_after_equal, inherit_at, mention_at}
-use Rattle.rnc_model.specs.grammar.Syntax.{joined_text}
+use Rattle.rnc_model.specs.grammar.SyntaxTrees.{joined_text}
 use Rattle.rnc_syntax.proofs.Locality.{IsLocal, ok_local, bind_local, after_local, word_local, segment_local}
 use Rattle.rnc_syntax.proofs.Locality.Fronts.{FrontAt, closes, opens, either_local, follow_front, follow_keyword_front}
 use Rattle.rnc_syntax.proofs.Locality.Items.{many_local}

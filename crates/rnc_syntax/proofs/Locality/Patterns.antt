@@ -3,7 +3,7 @@ use Rattle.std.proofs.Common.{◌≡◌, ℕ, Bool, true, false, List, [], ◌�
 use Rattle.rnc_model.specs.declared.token.Keyword.TheVariants as keywords
 use Rattle.rnc_model.specs.declared.token.Sign.{Sign}
 use Rattle.rnc_model.specs.declared.token.Sign.TheVariants.{Comma, Bar, And, Question, Star, Plus, Minus}
-use Rattle.rnc_model.specs.tokens.Lexeme.{Lexeme, keyword, identifier, cname, sign}
+use Rattle.rnc_model.specs.tokens.Cut.{Lexeme, keyword, identifier, cname, sign}
 use Rattle.rnc_model.specs.grammar.Syntax as syntax
 use Rattle.rnc_model.specs.grammar.Syntax.{written, DatatypeName, Pattern}
 use Rattle.rnc_syntax.specs.plain.Combinators.{Outcome, ◌>>=◌, follow, either_way, many}

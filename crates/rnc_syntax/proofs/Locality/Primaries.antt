@@ -4,7 +4,7 @@ use Rattle.rnc_model.specs.declared.token.Keyword.TheVariants as keywords
 use Rattle.rnc_model.specs.declared.token.Sign.TheVariants.{OpenBrace, OpenParenthesis, CloseParenthesis}
 use Rattle.rnc_syntax.specs.declared.atoms.Opening.{Opening}
 use Rattle.rnc_syntax.specs.declared.atoms.Opening.TheVariants as openings
-use Rattle.rnc_model.specs.tokens.Lexeme.{Lexeme, keyword, identifier, cname, segment, sign}
+use Rattle.rnc_model.specs.tokens.Cut.{Lexeme, keyword, identifier, cname, segment, sign}
 use Rattle.rnc_model.specs.grammar.Syntax as syntax
 use Rattle.rnc_model.specs.grammar.Syntax.{written, NameClass, DatatypeName, Pattern}
 use Rattle.rnc_model.specs.grammar.Grammar.{Setting, content}

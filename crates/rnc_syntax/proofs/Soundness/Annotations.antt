@@ -3,9 +3,9 @@ use Rattle.std.proofs.Common.{◌≡◌, ℕ, zero, suc, false, List, [], ◌∷
 use Rattle.rnc_model.specs.declared.token.Sign.TheVariants.{OpenBracket, CloseBracket, OpenBrace, CloseBrace, OpenParenthesis, CloseParenthesis}
 use Rattle.rnc_syntax.specs.declared.annotations.Role.{Role}
 use Rattle.rnc_syntax.specs.declared.annotations.Role.TheVariants as roles
-use Rattle.rnc_model.specs.tokens.Lexeme.{Lexeme, sign}
-use Rattle.rnc_model.specs.grammar.Grammar as grammar
-use Rattle.rnc_model.specs.grammar.Grammar.{is_bracket, IsAnnotationContent, MayBeAnnotation}
+use Rattle.rnc_model.specs.tokens.Cut.{Lexeme, sign}
+use Rattle.rnc_model.specs.grammar.NameClasses as grammar
+use Rattle.rnc_model.specs.grammar.NameClasses.{is_bracket, IsAnnotationContent, MayBeAnnotation}
 use Rattle.rnc_syntax.specs.plain.Combinators.{Outcome, ◌>>=◌, follow, either_way}
 use Rattle.rnc_syntax.specs.plain.Productions.{role_of, annotation_end, annotation_at, annotated}
 use Rattle.rnc_syntax.proofs.AnnotationSteps.{onwards}

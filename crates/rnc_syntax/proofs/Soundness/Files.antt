@@ -5,13 +5,16 @@ use Rattle.std.proofs.lemmas.Option.{same_Some}
 use Rattle.rng_model.proofs.Truths.{chosen}
 use Rattle.rnc_model.specs.declared.token.Keyword.TheVariants as keywords
 use Rattle.rnc_model.specs.declared.token.Sign.TheVariants.{Equal, OpenBracket}
-use Rattle.rnc_model.specs.tokens.Lexeme.{Lexeme, Spelling, keyword, sign}
+use Rattle.rnc_model.specs.tokens.Cut.{Lexeme, Spelling, keyword, sign}
 use Rattle.rnc_model.specs.grammar.Syntax as syntax
 use Rattle.rnc_model.specs.grammar.Syntax.{written, Pattern, Component, Uri, Declaration, Body, File}
 use Rattle.rnc_model.specs.grammar.Grammar as grammar
-use Rattle.rnc_model.specs.grammar.Grammar.{content, IsLiteral, AreComponents, IsComponent, IsUri, IsDeclaration, AreDeclarations, IsBody, IsFile}
+use Rattle.rnc_model.specs.grammar.NameClasses as name_classes
+use Rattle.rnc_model.specs.grammar.Grammar.{content, AreComponents, IsComponent, IsUri, IsDeclaration, AreDeclarations, IsBody, IsFile}
+use Rattle.rnc_model.specs.grammar.NameClasses.{IsLiteral}
 use Rattle.rnc_syntax.specs.plain.Combinators.{Outcome, ◌>>=◌, follow, after_keyword, either_way, many}
-use Rattle.rnc_syntax.specs.plain.Productions.{annotation_end, literal_at, parameter_at, Inside, bare_pattern_with, bare_component_with, components_with, inside_at}
+use Rattle.rnc_syntax.specs.plain.Productions.{annotation_end, literal_at, parameter_at, Inside, bare_pattern_with, bare_component_with, components_with}
+use Rattle.rnc_syntax.specs.plain.Productions.{inside_at}
 use Rattle.rnc_syntax.specs.plain.Productions.{uri_at, prefix_at, default_at}
 use Rattle.rnc_syntax.specs.plain.Productions.{declaration_at, begins_declaration, declaration_front, is_grammar_body, pattern_body_with, bare_body_with}
 use Rattle.rnc_syntax.specs.plain.Productions.{annotated_body_with, body_with, if_ended, declarations_at}
@@ -105,7 +108,7 @@ module _ (inside : Inside) (sound : InsideSound inside) where
       (pattern_body_with inside ts) (Ok x) e) [
         | inl h ↦ mapped_sound (AreComponents content) IsBody (λ (cs : List (Component written)). syntax.grammar_body (syntax.components_of cs))
             (components_with inside content) (components_sound inside sound content) (λ ts a p. grammar.grammar_body p refl) ts x h.1
-        | inr h ↦ pattern_body_behind [] (grammar.without_annotation refl) ts x h.1
+        | inr h ↦ pattern_body_behind [] (name_classes.without_annotation refl) ts x h.1
       ]
 
   -- a component, and those after it

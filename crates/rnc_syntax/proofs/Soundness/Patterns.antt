@@ -10,13 +10,13 @@ use Rattle.rnc_model.specs.declared.token.Sign.TheVariants.{Equal, BarEqual, And
 use Rattle.rnc_model.specs.declared.token.Sign.TheVariants.{OpenParenthesis, CloseParenthesis}
 use Rattle.rng_model.specs.declared.method.Method.{Method}
 use Rattle.rng_model.specs.declared.method.Method.TheVariants as methods
-use Rattle.rnc_model.specs.tokens.Lexeme.{Lexeme, Spelling, keyword, identifier, cname, segment, sign}
+use Rattle.rnc_model.specs.tokens.Cut.{Lexeme, Spelling, keyword, identifier, cname, segment, sign}
 use Rattle.rnc_model.specs.grammar.Syntax as syntax
 use Rattle.rnc_model.specs.grammar.Syntax.{written, NameClass, DatatypeName, Mention, Pattern, Component}
 use Rattle.rnc_model.specs.grammar.Grammar as grammar
-use Rattle.rnc_model.specs.grammar.Grammar.{Setting, content, override, type_of, method_of, connector_of, IsLiteral, MayBeParameters, IsClass, IsBasic, IsPattern}
+use Rattle.rnc_model.specs.grammar.Grammar.{Setting, content, override, IsPattern}
+use Rattle.rnc_model.specs.grammar.NameClasses.{type_of, method_of, connector_of, IsLiteral, MayBeParameters, IsClass, IsBasic, MayBeAnnotation}
 use Rattle.rnc_model.specs.grammar.Grammar.{AreMore, IsParticle, IsPrimary, IsBarePrimary, IsBraced, AreComponents, IsComponent, IsBareComponent, MayOverride}
-use Rattle.rnc_model.specs.grammar.Grammar.{MayBeAnnotation}
 use Rattle.rnc_syntax.specs.plain.Combinators.{Outcome, ◌>>=◌, follow, identifier_at, either_way, many}
 use Rattle.rnc_syntax.specs.plain.Productions.{in_braces_at, literal_at, parameters_at, mention_at, class_with, Inside, braced_with, contents_with}
 use Rattle.rnc_syntax.specs.plain.Productions.{named_with, begins_segment, typed_at, type_front, other_at, atom_at, parens_with, opened_with, bare_primary_with}

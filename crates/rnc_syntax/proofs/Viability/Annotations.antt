@@ -4,14 +4,15 @@ use Rattle.rnc_model.specs.declared.token.Sign.TheVariants.{OpenBracket, CloseBr
 use Rattle.rnc_syntax.specs.declared.annotations.Role.{Role}
 use Rattle.rnc_syntax.specs.declared.annotations.Role.TheVariants as roles
 use Rattle.rnc_syntax.specs.declared.fault.Stop.TheVariants.{Unexpected}
-use Rattle.rnc_model.specs.tokens.Lexeme.{Lexeme, sign}
-use Rattle.rnc_model.specs.grammar.Grammar as grammar
-use Rattle.rnc_model.specs.grammar.Grammar.{MayBeAnnotation}
+use Rattle.rnc_model.specs.tokens.Cut.{Lexeme, sign}
+use Rattle.rnc_model.specs.grammar.NameClasses as grammar
+use Rattle.rnc_model.specs.grammar.NameClasses.{MayBeAnnotation}
 use Rattle.rnc_syntax.specs.plain.Combinators.{Outcome, ◌>>=◌, follow, either_way}
 use Rattle.rnc_syntax.specs.plain.Productions.{role_of, annotation_end, annotation_at, annotated}
 use Rattle.rnc_syntax.proofs.AnnotationSteps.{onwards}
 use Rattle.rnc_syntax.proofs.Soundness.{follow_is, Behind}
-use Rattle.rnc_syntax.proofs.Soundness.Annotations.{Ends, ends_last, ends_inner, IsEnd, opened_at, closed_at, content_at, end_sound, IsSkipped, whole_annotation}
+use Rattle.rnc_syntax.proofs.Soundness.Annotations.{Ends, ends_last, ends_inner, IsEnd, opened_at, closed_at, content_at, end_sound, IsSkipped}
+use Rattle.rnc_syntax.proofs.Soundness.Annotations.{whole_annotation}
 use Rattle.rnc_syntax.proofs.Soundness.Annotations.{annotation_sound}
 use Rattle.rnc_syntax.proofs.Viability.{bind_err, Begins, Viable, IsViable, Completes, Behinds, exactly, nothing_taken, moved, behind_token, behind_tokens}
 use Rattle.rnc_syntax.proofs.Viability.{completed, left_is}

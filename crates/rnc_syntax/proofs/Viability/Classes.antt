@@ -3,11 +3,11 @@ use Rattle.std.proofs.Common.{◌≡◌, ℕ, List, [], ◌∷◌, ◌++◌, Opt
 use Rattle.std.proofs.lemmas.List.{append-nil}
 use Rattle.rnc_model.specs.declared.token.Sign.TheVariants.{Bar, Star, Minus, OpenParenthesis, CloseParenthesis}
 use Rattle.rnc_syntax.specs.declared.fault.Stop.TheVariants.{Unexpected}
-use Rattle.rnc_model.specs.tokens.Lexeme.{Lexeme, keyword, identifier, cname, ns_name, sign}
+use Rattle.rnc_model.specs.tokens.Cut.{Lexeme, keyword, identifier, cname, ns_name, sign}
 use Rattle.rnc_model.specs.grammar.Syntax as syntax
 use Rattle.rnc_model.specs.grammar.Syntax.{written, NameClass}
-use Rattle.rnc_model.specs.grammar.Grammar as grammar
-use Rattle.rnc_model.specs.grammar.Grammar.{MayBeAnnotation, IsClass, IsBasic, IsBareBasic}
+use Rattle.rnc_model.specs.grammar.NameClasses as grammar
+use Rattle.rnc_model.specs.grammar.NameClasses.{MayBeAnnotation, IsClass, IsBasic, IsBareBasic}
 use Rattle.rnc_syntax.specs.plain.Combinators.{Outcome, ◌>>=◌, follow, either_way, many}
 use Rattle.rnc_syntax.specs.plain.Productions.{class_in_parens, bare_basic_with, basic_with, choice_with, except_front, excepted, bare_class_with, class_with}
 use Rattle.rnc_syntax.proofs.Soundness.{Sound, Closed, Preceded, Each, preceded_sound, nothing_left, Behind}

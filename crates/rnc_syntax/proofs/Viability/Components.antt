@@ -5,7 +5,7 @@ use Rattle.rnc_model.specs.declared.token.Sign.TheVariants.{Equal, BarEqual, And
 use Rattle.rnc_syntax.specs.declared.fault.Stop.TheVariants.{Unexpected}
 use Rattle.rng_model.specs.declared.method.Method.{Method}
 use Rattle.rng_model.specs.declared.method.Method.TheVariants as methods
-use Rattle.rnc_model.specs.tokens.Lexeme.{Lexeme, Spelling, keyword, identifier, sign}
+use Rattle.rnc_model.specs.tokens.Cut.{Lexeme, Spelling, keyword, identifier, sign}
 use Rattle.rnc_model.specs.grammar.Syntax as syntax
 use Rattle.rnc_model.specs.grammar.Syntax.{written, Pattern, Component}
 use Rattle.rnc_model.specs.grammar.Grammar as grammar

@@ -6,14 +6,17 @@ use Rattle.rng_model.proofs.Truths.{chosen}
 use Rattle.rnc_model.specs.declared.token.Keyword.TheVariants as keywords
 use Rattle.rnc_model.specs.declared.token.Sign.TheVariants.{Equal, OpenBracket}
 use Rattle.rnc_syntax.specs.declared.fault.Stop.TheVariants.{Unexpected}
-use Rattle.rnc_model.specs.tokens.Lexeme.{Lexeme, Spelling, keyword, sign}
+use Rattle.rnc_model.specs.tokens.Cut.{Lexeme, Spelling, keyword, sign}
 use Rattle.rnc_model.specs.grammar.Syntax as syntax
 use Rattle.rnc_model.specs.grammar.Syntax.{written, Component, Uri, Declaration, Body, File}
 use Rattle.rnc_model.specs.grammar.Grammar as grammar
-use Rattle.rnc_model.specs.grammar.Grammar.{content, IsLiteral, IsPattern, AreComponents, IsComponent, IsUri, IsDeclaration, IsBody, IsFile}
+use Rattle.rnc_model.specs.grammar.NameClasses as name_classes
+use Rattle.rnc_model.specs.grammar.Grammar.{content, IsPattern, AreComponents, IsComponent, IsUri, IsDeclaration, IsBody, IsFile}
+use Rattle.rnc_model.specs.grammar.NameClasses.{IsLiteral}
 use Rattle.rnc_model.specs.grammar.Sentence.{IsSentence}
 use Rattle.rnc_syntax.specs.plain.Combinators.{Outcome, ◌>>=◌, follow, follow_keyword, after_keyword, either_way, many}
-use Rattle.rnc_syntax.specs.plain.Productions.{annotation_end, literal_at, parameter_at, Inside, bare_pattern_with, bare_component_with, components_with, inside_at}
+use Rattle.rnc_syntax.specs.plain.Productions.{annotation_end, literal_at, parameter_at, Inside, bare_pattern_with, bare_component_with, components_with}
+use Rattle.rnc_syntax.specs.plain.Productions.{inside_at}
 use Rattle.rnc_syntax.specs.plain.Productions.{uri_at, prefix_at, default_at, declaration_at, declaration_front, is_grammar_body, pattern_body_with}
 use Rattle.rnc_syntax.specs.plain.Productions.{bare_body_with, annotated_body_with, body_with, if_ended, declarations_at, file_with}
 use Rattle.rnc_syntax.proofs.Soundness.{same_namespace, after_keyword_is, TakesFront, Each, many_sound, Behind, IsSetting}
@@ -172,7 +175,7 @@ module _ (inside : Inside) (sound : InsideSound inside) (viable : InsideViable i
         | inl h ↦ made_viable (AreComponents content) IsBody (components_with inside content)
             (λ (cs : List (Component written)). syntax.grammar_body (syntax.components_of cs)) (components_viable inside sound viable content)
             (λ us cs p. exactly IsBody us (syntax.grammar_body (syntax.components_of cs)) (grammar.grammar_body p refl)) ts left h.1
-        | inr h ↦ pattern_body_stuck [] (grammar.without_annotation refl) ts left h.1
+        | inr h ↦ pattern_body_stuck [] (name_classes.without_annotation refl) ts left h.1
       ]
 
   one_component : Completes (IsComponent content) IsBody

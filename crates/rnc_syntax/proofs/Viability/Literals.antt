@@ -3,13 +3,13 @@ use Rattle.std.proofs.Common.{◌≡◌, ℕ, List, [], ◌∷◌, ◌++◌, Opt
 use Rattle.rnc_model.specs.declared.token.Keyword.TheVariants as keywords
 use Rattle.rnc_model.specs.declared.token.Sign.TheVariants.{Equal, OpenBrace, CloseBrace, Tilde}
 use Rattle.rnc_syntax.specs.declared.fault.Stop.TheVariants.{Unexpected}
-use Rattle.rnc_model.specs.tokens.Lexeme.{Lexeme, Spelling, keyword, identifier, segment, sign}
-use Rattle.rnc_model.specs.grammar.Grammar as grammar
-use Rattle.rnc_model.specs.grammar.Grammar.{IsLiteral, MayBeParameters, MayInherit}
+use Rattle.rnc_model.specs.tokens.Cut.{Lexeme, Spelling, keyword, identifier, segment, sign}
+use Rattle.rnc_model.specs.grammar.NameClasses as grammar
+use Rattle.rnc_model.specs.grammar.NameClasses.{IsLiteral, MayBeParameters, MayInherit}
 use Rattle.rnc_syntax.specs.plain.Combinators.{Outcome, ◌>>=◌, follow, follow_keyword, after, word_at, identifier_at, segment_at, either_way, many}
 use Rattle.rnc_syntax.specs.plain.Productions.{literal_at, parameter_at, parameter_front, annotated_parameter_at, in_braces_at, parameters_at, word_after_equal}
 use Rattle.rnc_syntax.specs.plain.Productions.{inherit_at, mention_at}
-use Rattle.rnc_model.specs.grammar.Syntax.{joined_text}
+use Rattle.rnc_model.specs.grammar.SyntaxTrees.{joined_text}
 use Rattle.rnc_syntax.proofs.Soundness.{same_inherit, keyword_follows, IsWord, word_sound, IsSegment, segment_sound, Closed, Preceded, Each, many_sound}
 use Rattle.rnc_syntax.proofs.Soundness.{preceded_sound, Behind, bracketed, IsSetting}
 use Rattle.rnc_syntax.proofs.Soundness.Literals.{literal_is, literal_sound, IsParameter, parameter_is, parameters_are, parameter_front_is, parameter_item}

@@ -5,11 +5,12 @@ use Rattle.rng_model.specs.simple.Tree.{Connector}
 use Rattle.rnc_model.specs.declared.token.Sign.{Sign}
 use Rattle.rnc_model.specs.declared.token.Sign.TheVariants.{Minus}
 use Rattle.rnc_syntax.specs.declared.fault.Stop.TheVariants.{Unexpected}
-use Rattle.rnc_model.specs.tokens.Lexeme.{Lexeme, sign}
+use Rattle.rnc_model.specs.tokens.Cut.{Lexeme, sign}
 use Rattle.rnc_model.specs.grammar.Syntax as syntax
 use Rattle.rnc_model.specs.grammar.Syntax.{written, DatatypeName, Pattern}
 use Rattle.rnc_model.specs.grammar.Grammar as grammar
-use Rattle.rnc_model.specs.grammar.Grammar.{type_of, connector_of, MayBeAnnotation, IsBarePrimary, MayBeParameters, IsPattern, IsParticle, IsPrimary}
+use Rattle.rnc_model.specs.grammar.NameClasses.{type_of, connector_of, MayBeAnnotation, MayBeParameters}
+use Rattle.rnc_model.specs.grammar.Grammar.{IsBarePrimary, IsPattern, IsParticle, IsPrimary}
 use Rattle.rnc_syntax.specs.plain.Combinators.{Outcome, ◌>>=◌, follow, either_way, many}
 use Rattle.rnc_syntax.specs.plain.Productions.{parameters_at, Inside, bare_primary_with, primary_with, repeated, particle_with, separator_of, joined, rest_with}
 use Rattle.rnc_syntax.specs.plain.Productions.{pattern_from, data_front, data_with, bare_pattern_with, pattern_with}

@@ -4,15 +4,18 @@ use Rattle.rng_model.proofs.Truths.{chosen}
 use Rattle.rnc_model.specs.declared.token.Keyword.TheVariants as keywords
 use Rattle.rnc_model.specs.declared.token.Sign.TheVariants.{OpenBrace, CloseBrace, OpenParenthesis, CloseParenthesis}
 use Rattle.rnc_syntax.specs.declared.fault.Stop.TheVariants.{Unexpected}
-use Rattle.rnc_model.specs.tokens.Lexeme.{Lexeme, keyword, identifier, cname, segment, sign}
+use Rattle.rnc_model.specs.tokens.Cut.{Lexeme, keyword, identifier, cname, segment, sign}
 use Rattle.rnc_model.specs.grammar.Syntax as syntax
 use Rattle.rnc_model.specs.grammar.Syntax.{written, NameClass, DatatypeName, Pattern, Component}
 use Rattle.rnc_model.specs.grammar.Grammar as grammar
-use Rattle.rnc_model.specs.grammar.Grammar.{Setting, content, type_of, MayBeAnnotation, IsLiteral, MayBeParameters, IsClass, IsPattern, IsParticle, IsPrimary}
+use Rattle.rnc_model.specs.grammar.NameClasses as name_classes
+use Rattle.rnc_model.specs.grammar.Grammar.{Setting, content, IsPattern, IsParticle, IsPrimary}
+use Rattle.rnc_model.specs.grammar.NameClasses.{type_of, MayBeAnnotation, IsLiteral, MayBeParameters, IsClass}
 use Rattle.rnc_model.specs.grammar.Grammar.{IsBarePrimary, IsBraced, AreComponents}
 use Rattle.rnc_syntax.specs.plain.Combinators.{Outcome, ◌>>=◌, identifier_at}
 use Rattle.rnc_syntax.specs.plain.Productions.{in_braces_at, literal_at, parameters_at, mention_at, class_with, Inside, braced_with, contents_with}
-use Rattle.rnc_syntax.specs.plain.Productions.{named_with, begins_segment, typed_at, other_at, atom_at, parens_with, opened_with, bare_primary_with, primary_with}
+use Rattle.rnc_syntax.specs.plain.Productions.{named_with, begins_segment, typed_at, other_at, atom_at, parens_with, opened_with, bare_primary_with}
+use Rattle.rnc_syntax.specs.plain.Productions.{primary_with}
 use Rattle.rnc_syntax.specs.plain.Productions.{repeated, particle_with}
 use Rattle.rnc_syntax.proofs.Soundness.{Closed, Preceded, Behind, Bracketed, bracketed}
 use Rattle.rnc_syntax.proofs.Soundness.Literals.{IsMention}
@@ -40,7 +43,7 @@ pub pattern_some : Begins IsPattern []
 pattern_some = record {
   behind = primary_some.behind;
   value = primary_some.value;
-  is = pattern_is [] primary_some.behind primary_some.value (grammar.without_annotation refl) primary_some.is;
+  is = pattern_is [] primary_some.behind primary_some.value (name_classes.without_annotation refl) primary_some.is;
 }
 
 -- after a token, what is made of a value

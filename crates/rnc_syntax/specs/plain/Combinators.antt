@@ -7,7 +7,7 @@ use Rattle.rnc_model.specs.declared.token.Sign.TheVariants.{Equal, BarEqual, And
 use Rattle.rnc_model.specs.declared.token.Sign.TheVariants.{OpenParenthesis, CloseParenthesis, OpenBracket, CloseBracket, Tilde}
 use Rattle.rnc_syntax.specs.declared.fault.Stop.{Stop}
 use Rattle.rnc_syntax.specs.declared.fault.Stop.TheVariants.{Unexpected}
-use Rattle.rnc_model.specs.tokens.Lexeme.{Lexeme, keyword, identifier, segment, sign}
+use Rattle.rnc_model.specs.tokens.Cut.{Lexeme, keyword, identifier, segment, sign}
 
 -- what a reader returns: a value and the tokens after it, or why it stopped
 abbrev pub Outcome : Type 0 → Type 0

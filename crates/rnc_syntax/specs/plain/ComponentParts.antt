@@ -3,7 +3,7 @@ use Rattle.std.specs.Prelude.{ℕ, List, Ok}
 use Rattle.rnc_model.specs.grammar.Syntax as syntax
 use Rattle.rnc_model.specs.grammar.Syntax.{written, Component}
 use Rattle.rnc_model.specs.grammar.Grammar.{Setting}
-use Rattle.rnc_model.specs.tokens.Lexeme.{Lexeme}
+use Rattle.rnc_model.specs.tokens.Cut.{Lexeme}
 use Rattle.rnc_syntax.specs.plain.Combinators.{Outcome, ◌>>=◌}
 use Rattle.rnc_syntax.specs.plain.Productions.{Inside, contents_with, mention_at, overrides_with}
 

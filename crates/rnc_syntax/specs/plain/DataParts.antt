@@ -3,7 +3,7 @@ use Rattle.std.specs.Prelude.{List, Option, None, Ok}
 use Rattle.rnc_model.specs.declared.token.Sign.TheVariants.{Minus}
 use Rattle.rnc_model.specs.grammar.Syntax as syntax
 use Rattle.rnc_model.specs.grammar.Syntax.{written, Pattern}
-use Rattle.rnc_model.specs.tokens.Lexeme.{Lexeme}
+use Rattle.rnc_model.specs.tokens.Cut.{Lexeme}
 use Rattle.rnc_syntax.specs.plain.Combinators.{Outcome, ◌>>=◌, either_way, follow}
 use Rattle.rnc_syntax.specs.plain.Productions.{Inside, data_front, primary_with}
 

@@ -15,9 +15,10 @@ use Rattle.rnc_syntax.specs.declared.atoms.Repetition.{Repetition}
 use Rattle.rnc_syntax.specs.declared.atoms.Repetition.TheVariants as repetitions
 use Rattle.rng_model.specs.declared.method.Method.{Method}
 use Rattle.rng_model.specs.declared.method.Method.TheVariants as methods
-use Rattle.rnc_model.specs.tokens.Lexeme.{Lexeme, keyword, identifier, cname, ns_name, segment, sign}
+use Rattle.rnc_model.specs.tokens.Cut.{Lexeme, keyword, identifier, cname, ns_name, segment, sign}
 use Rattle.rnc_model.specs.grammar.Syntax as syntax
-use Rattle.rnc_model.specs.grammar.Syntax.{written, joined_text, NameClass, DatatypeName, Mention, Pattern, Component, Uri, Declaration, Body, File}
+use Rattle.rnc_model.specs.grammar.Syntax.{written, NameClass, DatatypeName, Mention, Pattern, Component, Uri, Declaration, Body, File}
+use Rattle.rnc_model.specs.grammar.SyntaxTrees.{joined_text}
 use Rattle.rnc_model.specs.grammar.Grammar.{Setting, content, override}
 use Rattle.rnc_syntax.specs.plain.Combinators.{Outcome, ◌>>=◌, unexpected, follow, follow_keyword, after, after_keyword, word_at, identifier_at, segment_at}
 use Rattle.rnc_syntax.specs.plain.Combinators.{either_way, many}

@@ -2,7 +2,7 @@
 use Rattle.std.specs.Prelude.{List}
 use Rattle.rnc_syntax.specs.declared.fault.SyntaxFault.{SyntaxFault}
 use Rattle.rnc_syntax.specs.declared.fault.SyntaxFault.TheVariants as faults
-use Rattle.rnc_model.specs.tokens.Lexeme.{Lexeme}
+use Rattle.rnc_model.specs.tokens.Cut.{Lexeme}
 use Rattle.rnc_model.specs.grammar.Sentence.{BreaksNesting, BreaksGrammarAt}
 
 -- the tokens have this fault, unless memory ran out

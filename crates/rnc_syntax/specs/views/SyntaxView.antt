@@ -24,7 +24,8 @@ use Rattle.rnc_syntax.specs.declared.atoms.Setting.{Setting}
 use Rattle.rnc_syntax.specs.declared.atoms.Setting.TheVariants as settings
 use Rattle.rnc_model.specs.grammar.Grammar as grammar
 use Rattle.rnc_model.specs.grammar.Syntax as syntax
-use Rattle.rnc_model.specs.grammar.Syntax.{written, joined_text}
+use Rattle.rnc_model.specs.grammar.Syntax.{written}
+use Rattle.rnc_model.specs.grammar.SyntaxTrees.{joined_text}
 
 -- the text of a literal
 abbrev pub text_of : Literal → List ℕ

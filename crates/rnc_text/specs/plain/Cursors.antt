@@ -6,7 +6,7 @@ use Rattle.rnc_text.specs.declared.cursor.Cursor.{Cursor}
 use Rattle.rnc_text.specs.declared.scanning.Part.{Part}
 use Rattle.rnc_text.specs.declared.scanning.Part.TheVariants as parts
 use Rattle.rnc_model.specs.declared.token.TokenKind.{TokenKind}
-use Rattle.rnc_model.specs.characters.Characters.{bytes_of}
+use Rattle.rnc_model.specs.characters.Decoding.{bytes_of}
 use Rattle.rnc_text.specs.views.Held.{marked}
 use Rattle.rnc_model.specs.tokens.Tokens.{Piece, gap, token, characters_in, three}
 use Rattle.rnc_text.specs.plain.CutSteps.{Found, front, after}

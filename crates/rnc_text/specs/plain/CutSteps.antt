@@ -1,13 +1,13 @@
 -- The cut step by step: what each function of `src/scanning.rt` returns.
 use Rattle.std.specs.Prelude.{ℕ, Bool, false, not, ◌&&◌, ◌||◌, ◌==◌, if◌then◌else◌, List, [], ◌∷◌, ◌++◌, Option, Some, None}
-use Rattle.rng_model.specs.names.Characters.{is_in_ranges, is_name_start, is_name_char, is_colon}
+use Rattle.rng_model.specs.names.Names.{is_in_ranges, is_name_start, is_name_char, is_colon}
 use Rattle.rnc_model.specs.declared.character.Character.{Character}
 use Rattle.rnc_model.specs.declared.character.Character.TheVariants.{LineEnd, Ordinary}
 use Rattle.rnc_model.specs.declared.token.Sign.{Sign}
 use Rattle.rnc_model.specs.declared.token.TokenKind.TheVariants as kinds
 use Rattle.rnc_text.specs.declared.scanning.Class.{Class}
 use Rattle.rnc_text.specs.declared.scanning.Class.TheVariants as classes
-use Rattle.rnc_model.specs.characters.Characters.{numbers_of}
+use Rattle.rnc_model.specs.characters.Decoding.{numbers_of}
 use Rattle.rnc_model.specs.tokens.Tokens.{Piece, gap, token, is_blank_character, is_in_line, is_in_segment, is_quote, word_kind, sign_of, three}
 
 -- the characters that begin an NCName, and those that may follow in it

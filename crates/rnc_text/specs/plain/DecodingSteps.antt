@@ -1,7 +1,7 @@
 -- Decoding step by step: what each function of `src/decoding.rt` and `src/hexadecimal.rt` returns.
 use Rattle.std.specs.Prelude.{ℕ, zero, suc, ◌+◌, ◌*◌, Bool, true, false, ◌&&◌, nat_lt, ◌==◌, if◌then◌else◌, List, [], ◌∷◌, Option, Some, None}
 use Rattle.std.specs.Char.{is_digit, digit_value}
-use Rattle.rng_model.specs.names.Characters.{is_in_ranges, is_xml_char}
+use Rattle.rng_model.specs.names.Names.{is_in_ranges, is_xml_char}
 use Rattle.rnc_model.specs.declared.character.Character.{Character}
 use Rattle.rnc_model.specs.declared.character.Character.TheVariants.{LineEnd, Ordinary}
 

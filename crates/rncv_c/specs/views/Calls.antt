@@ -2,9 +2,8 @@
 use Rattle.std.specs.Prelude.{◌≡◌, ◌⊎◌, ℕ, ℤ, List, [], ◌++◌, Some, None, Result, Ok, Err, IfErr, IfOk, IfSome, OnOk, unwrap_or}
 use Rattle.rng_model.specs.schema.Schema.{Schema}
 use Rattle.rng_model.specs.declared.fault.OutOfMemory.{OutOfMemory}
-use Rattle.rncv_model.specs.answers.Compiled.{IsUnknownIn, IsVerdictOn}
+use Rattle.rncv_model.specs.answers.Verdict.{IsUnknownIn, IsVerdictOn, IsMalformed}
 use Rattle.rng_model.specs.matching.SchemaMatching.{IsValidBySchema}
-use Rattle.rncv_model.specs.answers.Verdict.{IsMalformed}
 use Rattle.rncv_model.specs.declared.verdict.Verdict.{Verdict}
 use Rattle.rncv_model.specs.declared.verdict.Verdict.TheVariants.{Invalid}
 use Rattle.rncv_validator.specs.views.Documents.{HaveEnded, IsFaultOfFed, IsHopelessFrom, KnowsStarts, UnlessMemory, failed_since, told_by}

@@ -1,6 +1,6 @@
 -- The files of a schema as C passes them.
 use Rattle.std.specs.Prelude.{ℕ, ◌<◌, ℤ, pos, negsuc, List, [], ◌∷◌, All, IsUtf8, Option, Some, None, bytes_eq, length, map, position, slice_get}
-use Rattle.rnc_model.specs.loading.SchemaFile.{Name, NamedFile}
+use Rattle.rnc_model.specs.loading.SchemaFile.{FileName, NamedFile}
 use Rattle.rncv_c.specs.declared.files.SchemaFile.{SchemaFile}
 
 -- there is a file, and the name of each is a text
@@ -13,7 +13,7 @@ abbrev pub files_of : List SchemaFile → List NamedFile
 files_of files = map (λ f. record { name = f.name.now; bytes = f.bytes.now }) files
 
 -- the name of the first file, which is the main one
-abbrev pub main_of : List SchemaFile → Name
+abbrev pub main_of : List SchemaFile → FileName
 main_of [] = []
 main_of (file ∷ files) = file.name.now
 
@@ -23,7 +23,7 @@ index_for_c None = negsuc 0
 index_for_c (Some index) = pos index
 
 -- the index of the first file of this name
-abbrev pub index_of : Name → List SchemaFile → ℤ
+abbrev pub index_of : FileName → List SchemaFile → ℤ
 index_of name files = index_for_c (position (λ f. bytes_eq f.name.now name) files)
 
 -- the file at an index
@@ -32,5 +32,5 @@ file_at None files = None
 file_at (Some index) files = slice_get files index
 
 -- the first file of this name
-abbrev pub first_file : Name → List SchemaFile → Option SchemaFile
+abbrev pub first_file : FileName → List SchemaFile → Option SchemaFile
 first_file name files = file_at (position (λ f. bytes_eq f.name.now name) files) files

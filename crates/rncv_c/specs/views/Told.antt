@@ -5,8 +5,8 @@ use Rattle.rng_model.specs.declared.fault.SchemaFault.TheVariants as faults
 use Rattle.rnc_model.specs.declared.file_place.FilePlace.{FilePlace}
 use Rattle.rnc_model.specs.loading.FaultPlaces.{BreaksClauseAt}
 use Rattle.rnc_model.specs.loading.Loading.{FilesHaveOnlyVerdict, file_breaks}
-use Rattle.rnc_model.specs.loading.SchemaFile.{BreaksFileClause, Name}
-use Rattle.rncv_model.specs.answers.Compiled.{IsRefusal}
+use Rattle.rnc_model.specs.loading.SchemaFile.{BreaksFileClause, FileName}
+use Rattle.rncv_model.specs.answers.Verdict.{IsRefusal}
 use Rattle.rncv_model.specs.declared.verdict.Verdict.{Verdict}
 use Rattle.rncv_model.specs.declared.verdict.Verdict.TheVariants as verdicts
 use Rattle.rncv_c.specs.views.Files.{files_of, first_file, index_of, main_of}
@@ -50,7 +50,7 @@ pub record AreRefused (files : List SchemaFile) (told : Refusal) : Type 0 where
   pub told_is : IsToldOf files fault told
 
 -- in load order the file of this name is the first that breaks a clause by itself, whether or not it was handed in
-abbrev pub IsRefusedName : List SchemaFile → Name → Type 0
+abbrev pub IsRefusedName : List SchemaFile → FileName → Type 0
 IsRefusedName files name = (clause : ℕ) × FilesHaveOnlyVerdict (files_of files) (main_of files) (file_breaks name clause)
 
 -- a verdict in numbers: 0 for valid, 1 for invalid, 2 for malformed

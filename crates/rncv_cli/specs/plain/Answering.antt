@@ -7,7 +7,7 @@ use Rattle.std.specs.Io.KnownBytes.{Keeps}
 use Rattle.std.specs.declared.io.Error.{Error}
 use Rattle.std.specs.declared.io.ErrorKind.TheVariants.{OutOfMemory}
 use Rattle.std.proofs.Common.{Bor, String, Vec, Global}
-use Rattle.rnc_model.specs.loading.Files.{named_files}
+use Rattle.rnc_model.specs.loading.SchemaFile.{named_files}
 use Rattle.rncv_model.specs.answers.Answer.{Answer}
 use Rattle.rncv_model.specs.answers.Run.{IsAnswer, WritesBeginning, main_name}
 use Rattle.rncv_model.specs.declared.command.Command.{Command}

@@ -3,12 +3,11 @@ use Rattle.std.specs.Prelude.{◌≡◌, ℕ, List, [], ◌∷◌, Option, strin
 use Rattle.std.specs.Io.KnownBytes.{Appends, Keeps}
 use Rattle.rng_model.specs.schema.Schema.{Schema}
 use Rattle.rng_model.specs.matching.SchemaMatching.{IsValidBySchema}
-use Rattle.rng_model.specs.devices.Written.{AppendsBeginning}
+use Rattle.rng_model.specs.devices.Device.{AppendsBeginning}
 use Rattle.rnc_model.specs.loading.Loading.{file_breaks, together_break, FilesHaveOnlyVerdict}
-use Rattle.rnc_model.specs.loading.SchemaFile.{Name, NamedFile}
+use Rattle.rnc_model.specs.loading.SchemaFile.{FileName, NamedFile}
 use Rattle.rncv_model.specs.answers.Answer.{Answer, refused, refused_file, schema_ok, printed, judged, output_of, status_of}
-use Rattle.rncv_model.specs.answers.Compiled.{AreGoodSchema, HaveLeastClause, IsUnknownIn}
-use Rattle.rncv_model.specs.answers.Verdict.{IsJudgedBy}
+use Rattle.rncv_model.specs.answers.Verdict.{AreGoodSchema, HaveLeastClause, IsUnknownIn, IsJudgedBy}
 use Rattle.rncv_model.specs.printed.SchemaText.{IsPrintedForm}
 use Rattle.rncv_model.specs.declared.status.Status.{Status}
 use Rattle.rncv_model.specs.declared.verdict.Verdict.{Verdict}
@@ -19,7 +18,7 @@ use Rattle.rncv_model.specs.declared.run_fault.RunFault.TheVariants.{Memory, Rea
 use Rattle.std.proofs.Common.{String, Vec, Global}
 
 -- the name of the first file, which is the main one
-abbrev pub main_name : List (String Global × Vec ℕ Global) → Name
+abbrev pub main_name : List (String Global × Vec ℕ Global) → FileName
 main_name [] = []
 main_name (file ∷ files) = string_bytes file.0
 
@@ -28,7 +27,7 @@ abbrev pub IsJudged : Schema → Verdict → Option (List ℕ) → Option (List 
 IsJudged s = IsJudgedBy (IsValidBySchema s) (IsUnknownIn s)
 
 -- the command judges a document, and the files are a schema that breaks no clause
-pub record JudgesDocument (command : Command) (files : List NamedFile) (main : Name) : Type 0 where
+pub record JudgesDocument (command : Command) (files : List NamedFile) (main : FileName) : Type 0 where
   pub command_is : command ≡ Valid
   pub schema : Schema
   pub good : AreGoodSchema files main schema
@@ -36,8 +35,8 @@ pub record JudgesDocument (command : Command) (files : List NamedFile) (main : N
 -- The answer: the clause that a file breaks by itself, with the name of the file; otherwise the clause that the files
 -- break together; otherwise the least clause that their schema breaks. If it breaks none: that it is good, its printed
 -- simple form, or the verdict on the document.
-pub data IsAnswer (command : Command) (files : List NamedFile) (main : Name) (input_old input_new : Option (List ℕ)) : Answer → Type 0 where
-  file_refused : {f : Name} {clause : ℕ} → FilesHaveOnlyVerdict files main (file_breaks f clause)
+pub data IsAnswer (command : Command) (files : List NamedFile) (main : FileName) (input_old input_new : Option (List ℕ)) : Answer → Type 0 where
+  file_refused : {f : FileName} {clause : ℕ} → FilesHaveOnlyVerdict files main (file_breaks f clause)
       → IsAnswer command files main input_old input_new (refused_file clause f)
   files_refused : {clause : ℕ} → FilesHaveOnlyVerdict files main (together_break clause) → IsAnswer command files main input_old input_new (refused clause)
   schema_refused : {clause : ℕ} → HaveLeastClause files main clause → IsAnswer command files main input_old input_new (refused clause)

@@ -1,6 +1,6 @@
 -- A numbering step by step, as it is computed.
 use Rattle.std.specs.Prelude.{ℕ, zero, suc, ◌+◌, Bool, List, slice_get, Option, Some, None}
-use Rattle.rncv_model.specs.printed.Numbering.{and_new, first_times}
+use Rattle.rncv_model.specs.printed.Items.{and_new, first_times}
 
 module _ {A : Type 0} (same : A → A → Bool) where
   -- As long as something is written and has no line, the first such thing

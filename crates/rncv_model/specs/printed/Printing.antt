@@ -2,7 +2,7 @@
 use Rattle.std.specs.Prelude.{ℕ, List, Option}
 use Rattle.std.specs.Io.KnownBytes.{Appends}
 use Rattle.rng_model.specs.simple.Grammar.{Grammar}
-use Rattle.rng_model.specs.devices.Written.{AppendsBeginning}
+use Rattle.rng_model.specs.devices.Device.{AppendsBeginning}
 use Rattle.rncv_model.specs.printed.PrintedText.{IsPrinted}
 
 -- the printed text of the grammar is appended to the known bytes

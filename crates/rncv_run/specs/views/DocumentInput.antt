@@ -2,7 +2,7 @@
 use Rattle.std.specs.Prelude.{ℕ, List, [], Option, Result, Ok, Err}
 use Rattle.rng_model.specs.documents.Lines.{lines}
 use Rattle.rng_model.specs.documents.PyxClauses.{IsFirstFault}
-use Rattle.rncv_model.specs.answers.Input.{IsRead}
+use Rattle.rncv_model.specs.answers.Verdict.{IsRead}
 use Rattle.rncv_model.specs.declared.run_fault.RunFault.{RunFault}
 use Rattle.rncv_model.specs.declared.run_fault.RunFault.TheVariants as running
 use Rattle.rncv_model.specs.declared.verdict.Verdict.{Verdict}

@@ -1,5 +1,5 @@
 -- What calls of a document answer.
-use Rattle.std.specs.Prelude.{◌≡◌, ◌≤◌, ◌<◌, ℕ, true, List, ◌++◌, All, length, take, Option, Result, Ok, Err}
+use Rattle.std.specs.Prelude.{⊤, ◌≡◌, ◌≤◌, ◌<◌, ℕ, true, List, ◌++◌, All, length, take, Option, Result, Ok, Err}
 use Rattle.rng_model.specs.matching.Document.{Item}
 use Rattle.rng_model.specs.names.Names.{Name}
 use Rattle.rng_model.specs.documents.Lines.{lines}
@@ -38,12 +38,12 @@ failed_since d = failed_line d.matching.progress
 -- a claim that holds unless the call ran out of memory
 abbrev pub UnlessMemory : {A : Type 0} → Result A DocumentFault → Type 0 → Type 0
 UnlessMemory (Ok x) P = P
-UnlessMemory (Err faults.Memory) P = Unit {0}
+UnlessMemory (Err faults.Memory) P = ⊤
 UnlessMemory (Err (faults.Malformed clause line)) P = P
 
 -- the fault is the first fault of all bytes that begin with those that were fed; out of memory claims nothing
 abbrev pub IsFaultOfFed : Judging → DocumentFault → Type 0
-IsFaultOfFed d faults.Memory = Unit {0}
+IsFaultOfFed d faults.Memory = ⊤
 IsFaultOfFed d (faults.Malformed clause line) = (bytes rest : List ℕ) → HasBeenFed d bytes
     → IsFirstFault (lines (bytes ++ rest)) (record { clause = clause; line = line })
 

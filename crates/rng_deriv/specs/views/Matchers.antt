@@ -2,8 +2,7 @@
 use Rattle.std.specs.Prelude.{◌≡◌, ℕ, List, ◌++◌, Option, Some, None}
 use Rattle.rng_model.specs.simple.Table.{Table}
 use Rattle.rng_model.specs.documents.PyxTrees.{Event}
-use Rattle.rng_model.specs.matching.Reading.{Reading}
-use Rattle.rng_model.specs.matching.GrammarReading.{reading_of}
+use Rattle.rng_model.specs.matching.GrammarMatching.{Reading, reading_of}
 use Rattle.rng_deriv_table.specs.views.Node.{Node}
 use Rattle.rng_deriv_table.specs.views.Trees.{trees}
 use Rattle.rng_deriv_events.specs.views.Basis.{Basis}

@@ -10,7 +10,7 @@ use Rattle.rng_deriv_events.specs.views.Numbers.{way_of}
 use Rattle.rng_deriv_events.specs.declared.derivatives.StartWay.{StartWay}
 use Rattle.rng_deriv_table.specs.views.Node.{Node}
 use Rattle.rng_deriv_table.specs.views.Trees.{trees, tree_of}
-use Rattle.rng_model.specs.matching.GrammarReading.{reading_of}
+use Rattle.rng_model.specs.matching.GrammarMatching.{reading_of}
 use Rattle.rng_deriv_ways.specs.plain.Starting.{IsRestrictedBodyNamed}
 use Rattle.rng_deriv_ways.specs.plain.Ways.{way_by}
 use Rattle.rng_deriv_ways.specs.declared.way.LeafWay as numbered

@@ -1,10 +1,11 @@
 -- What is kept of levels, and when it is right: it is what the call that it replaces may return, for each name of a key.
-use Rattle.std.specs.Prelude.{◌≡◌, ◌↔◌, ◌⊎◌, ℕ, ◌<◌, List, [], ◌∷◌, ◌++◌, ◌&&◌, ◌||◌, length, map, All, Bool, true, false, Option, Some, None, IfSome, slice_get}
+use Rattle.std.specs.Prelude.{◌≡◌, ◌↔◌, ◌⊎◌, ℕ, ◌<◌, List, [], ◌∷◌, ◌++◌, ◌&&◌, ◌||◌, length, map, All, Bool, true, false, Option, Some, None, IfSome}
+use Rattle.std.specs.Prelude.{slice_get}
 use Rattle.std.specs.List.{AllZip, list_all, list_any}
 use Rattle.rng_names.specs.plain.Keys.{Keys, key_of}
 use Rattle.rng_model.specs.names.Names.{Name}
 use Rattle.rng_model.specs.simple.Tree.{Simple}
-use Rattle.rng_model.specs.matching.Reading.{Reading}
+use Rattle.rng_model.specs.matching.GrammarMatching.{Reading}
 use Rattle.rng_deriv_laws.specs.plain.Derivatives.{has_data, is_not_allowed, is_nullable}
 use Rattle.rng_deriv_laws.specs.plain.LevelStates.{IsAfterTag, IsAfterText}
 use Rattle.rng_deriv_table.specs.declared.pattern.PatternNumber.{PatternNumber}

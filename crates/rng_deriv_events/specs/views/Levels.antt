@@ -4,7 +4,7 @@ use Rattle.std.specs.List.{AllZip}
 use Rattle.rng_model.specs.names.Names.{Name}
 use Rattle.rng_model.specs.simple.Tree.{Simple}
 use Rattle.rng_model.specs.datatypes.Texts.{is_blank}
-use Rattle.rng_model.specs.matching.Reading.{Reading}
+use Rattle.rng_model.specs.matching.GrammarMatching.{Reading}
 use Rattle.rng_deriv_laws.specs.plain.LevelStates as level
 use Rattle.rng_deriv_laws.specs.plain.LevelStates.{AreOpened, AreEnded, IsAfterText, EndsWith}
 use Rattle.rng_deriv_table.specs.declared.pattern.PatternNumber.{PatternNumber}

@@ -2,7 +2,7 @@
 use Rattle.std.specs.Prelude.{◌≡◌, ⊤, ℕ, ◌<◌, List, [], ◌++◌, length, map, All, Bool, Option, Some, None, slice_get}
 use Rattle.rng_names.specs.plain.Keys.{Keys}
 use Rattle.rng_model.specs.simple.Tree.{Simple}
-use Rattle.rng_model.specs.matching.Reading.{Reading}
+use Rattle.rng_model.specs.matching.GrammarMatching.{Reading}
 use Rattle.rng_deriv_events.specs.views.LevelTable.{levels_in, numbers_in, steps_in}
 use Rattle.rng_deriv_events.specs.declared.level_table.level.LevelNumber.{LevelNumber}
 use Rattle.rng_deriv_events.specs.declared.level_table.table.LevelTable.{LevelTable}

@@ -4,7 +4,7 @@ use Rattle.std.specs.List.{Contains}
 use Rattle.rng_names.specs.plain.Keys.{Keys}
 use Rattle.rng_model.specs.simple.Tree.{Simple}
 use Rattle.rng_model.specs.documents.PyxTrees.{Event, EventKind}
-use Rattle.rng_model.specs.matching.Reading.{Reading}
+use Rattle.rng_model.specs.matching.GrammarMatching.{Reading}
 use Rattle.rng_deriv_laws.specs.plain.Derivatives.{is_not_allowed}
 use Rattle.rng_deriv_laws.specs.plain.Events.{kinds}
 use Rattle.rng_deriv_laws.specs.plain.LevelEvents.{LevelMatcher, StepsTo, StandsFor}

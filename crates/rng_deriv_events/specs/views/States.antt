@@ -1,7 +1,7 @@
 -- What a matcher knows of the open elements, as lists of numbers, and the level state that it represents.
 use Rattle.std.specs.Prelude.{◌≡◌, ◌⊎◌, ℕ, List, [], ◌∷◌, All, fold, map, Bool}
 use Rattle.rng_model.specs.simple.Tree.{Simple}
-use Rattle.rng_model.specs.matching.Reading.{Reading}
+use Rattle.rng_model.specs.matching.GrammarMatching.{Reading}
 use Rattle.rng_deriv_laws.specs.plain.LevelStates as level
 use Rattle.rng_deriv_laws.specs.plain.LevelStates.{LevelState, AreEnded, EndsLevel}
 use Rattle.rng_deriv_events.specs.views.Numbers.{Longer, IsInside, tree_of}

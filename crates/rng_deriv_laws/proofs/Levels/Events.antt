@@ -3,7 +3,7 @@ use Rattle.std.proofs.Common.{◌≡◌, ◌↔◌, ℕ, suc, List, [], ◌∷�
 use Rattle.rng_model.specs.simple.Tree.{Simple}
 use Rattle.rng_model.specs.matching.Document.{Item}
 use Rattle.rng_model.specs.documents.PyxTrees.{EventKind, a_start, a_string, an_end, events_of}
-use Rattle.rng_model.specs.matching.Reading.{Reading}
+use Rattle.rng_model.specs.matching.GrammarMatching.{Reading}
 use Rattle.rng_deriv_laws.specs.plain.Taking.{Takes}
 use Rattle.rng_deriv_laws.specs.plain.Derivatives.{is_nullable}
 use Rattle.rng_deriv_laws.specs.plain.Events.{kinds, open_after}
@@ -11,7 +11,8 @@ use Rattle.rng_deriv_laws.specs.plain.Laws.{reading}
 use Rattle.rng_deriv_laws.specs.plain.Meanings.{IsStart, Settles, Runs, stays}
 use Rattle.rng_deriv_laws.specs.plain.Meanings as meanings
 use Rattle.rng_deriv_laws.specs.plain.LevelStates.{Link, LevelState, HoldsInLevels, level_meaning}
-use Rattle.rng_deriv_laws.specs.plain.LevelEvents.{LevelMatcher, SettlesLevels, StepsTo, StandsFor, as_blank, as_text, at_start, at_string, at_end, at_end_of_text}
+use Rattle.rng_deriv_laws.specs.plain.LevelEvents.{LevelMatcher, SettlesLevels, StepsTo, StandsFor, as_blank, as_text, at_start, at_string, at_end}
+use Rattle.rng_deriv_laws.specs.plain.LevelEvents.{at_end_of_text}
 use Rattle.rng_deriv_laws.specs.plain.LevelEvents.{at_stray_end, LevelsAnswer, NoLevelsAreInvalid, NoEndIsInvalid, UnknownNameLeavesNone}
 use Rattle.rng_deriv_laws.proofs.Meanings.{run_on, runs_answer, empty_stays_invalid}
 use Rattle.rng_deriv_laws.proofs.Events.{kinds_append}

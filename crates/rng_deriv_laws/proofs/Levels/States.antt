@@ -8,11 +8,10 @@ use Rattle.std.proofs.lemmas.Bool.{and_from, or_left, or_right, and_parts, or_ca
 use Rattle.rng_model.proofs.Places.{contains_at}
 use Rattle.rng_model.specs.names.Names.{Name}
 use Rattle.rng_model.specs.simple.Tree.{Simple}
-use Rattle.rng_model.specs.matching.Document.{Attribute, Item, a_text, an_element, Items, list_of, no_texts, text_and}
-use Rattle.rng_model.specs.matching.WellFormed.{Distinct}
+use Rattle.rng_model.specs.matching.Document.{Attribute, Item, a_text, an_element, Items, list_of, no_texts, text_and, Distinct}
 use Rattle.rng_model.specs.plain.WellFormed.{Separate}
 use Rattle.rng_model.specs.datatypes.Texts.{is_blank}
-use Rattle.rng_model.specs.matching.Reading.{Reading}
+use Rattle.rng_model.specs.matching.GrammarMatching.{Reading}
 use Rattle.rng_deriv_laws.specs.plain.Reading.{has_name}
 use Rattle.rng_deriv_laws.specs.plain.Taking.{Takes}
 use Rattle.rng_deriv_laws.specs.plain.Taking as t

@@ -2,12 +2,11 @@
 use Rattle.std.specs.Prelude.{◌≡◌, ◌↔◌, ℕ, List, ◌++◌, true}
 use Rattle.rng_model.specs.names.Names.{Name, NameClass, In}
 use Rattle.rng_model.specs.matching.Document.{Attribute}
-use Rattle.rng_model.specs.matching.GrammarMatching.{IsValidBy}
+use Rattle.rng_model.specs.matching.GrammarMatching.{IsValidBy, Reading}
 use Rattle.rng_model.specs.simple.Grammar.{Grammar}
 use Rattle.rng_model.specs.restrictions.Restrictions.{ClassIn}
 use Rattle.rng_model.specs.datatypes.Texts.{TextTests, texts_of}
 use Rattle.rng_model.specs.documents.PyxTrees.{Event, Placed, item_of, events_of, IsPyxDocument, a_start}
-use Rattle.rng_model.specs.matching.Reading.{Reading}
 use Rattle.rng_deriv_laws.specs.plain.States.{is_never}
 use Rattle.rng_deriv_laws.specs.plain.Events.{kinds, Matcher, new, step, run, is_valid}
 use Rattle.rng_model.specs.restrictions.Restrictions.{BreaksNone}

@@ -3,10 +3,9 @@ use Rattle.std.specs.Prelude.{ℕ, Bool, false, Option, Some, None, slice_get}
 use Rattle.rng_model.specs.names.Names.{Name, NameClass}
 use Rattle.rng_model.specs.simple.Tree.{Simple, s_not_allowed}
 use Rattle.rng_model.specs.matching.Matching.{Leaves}
-use Rattle.rng_model.specs.matching.GrammarMatching.{grammar_leaves}
+use Rattle.rng_model.specs.matching.GrammarMatching.{grammar_leaves, Reading}
 use Rattle.rng_model.specs.datatypes.Texts.{texts_of}
 use Rattle.rng_names.specs.plain.Holding.{holds}
-use Rattle.rng_model.specs.matching.Reading.{Reading}
 
 -- an element that is not listed has no names, and the body notAllowed
 abbrev pub body_in : Option (NameClass × Simple ℕ) → Simple ℕ

@@ -3,14 +3,15 @@
 -- exactly what it matches by the one definition of matching. The rule for an element uses that definition for its body.
 use Rattle.std.specs.Prelude.{◌≡◌, ℕ, List, [], ◌∷◌, ◌++◌, map, true}
 use Rattle.rng_model.specs.names.Names.{Name, NameClass, In}
-use Rattle.rng_model.specs.simple.Tree.{Simple, Datatype, choice, group, interleave, as_tree, s_empty, s_text, s_leaf, s_attribute, s_list, s_data, s_data_except}
+use Rattle.rng_model.specs.simple.Tree.{Simple, Datatype, choice, group, interleave, as_tree, s_empty, s_text, s_leaf, s_attribute, s_list, s_data}
+use Rattle.rng_model.specs.simple.Tree.{s_data_except}
 use Rattle.rng_model.specs.simple.Tree.{s_value, s_one_or_more, s_joined}
 use Rattle.rng_model.specs.matching.Document.{Attribute, Item, a_text, an_element, Items, list_of, Interleaves, AllTexts, SharesName, Padded}
 use Rattle.rng_model.specs.matching.Matching as matching
-use Rattle.rng_model.specs.matching.Lex.{HasText}
+use Rattle.rng_model.specs.matching.Matching.{HasText}
 use Rattle.rng_model.specs.datatypes.Texts.{is_blank, texts_of}
 use Rattle.rng_names.specs.plain.Holding.{holds}
-use Rattle.rng_model.specs.matching.Reading.{Reading}
+use Rattle.rng_model.specs.matching.GrammarMatching.{Reading}
 use Rattle.rng_deriv_laws.specs.plain.Reading.{body_of, has_name, leaves_of}
 
 module _ (g : Reading) where

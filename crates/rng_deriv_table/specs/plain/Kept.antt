@@ -1,15 +1,16 @@
 -- What the restrictions of section 7 say of the patterns of a grammar in a table.
 use Rattle.std.specs.Prelude.{◌≡◌, ◌⊎◌, ◌↔◌, ℕ, ◌<◌, List, [], length, Some}
 use Rattle.rng_model.specs.simple.Tree as tree
-use Rattle.rng_model.specs.restrictions.ContentTypes.{ContentType, greater}
+use Rattle.rng_model.specs.restrictions.Contents.{ContentType, greater}
 use Rattle.rng_model.specs.simple.Table.{Table, tree_at}
 use Rattle.rng_model.specs.declared.simple.PatternId.{PatternId}
 use Rattle.rng_model.specs.declared.simple.Simple.{Simple}
 use Rattle.rng_model.specs.declared.simple.Simple.TheVariants as simple
 use Rattle.rng_deriv_laws.specs.plain.Derivatives.{joined_of, repeat_of}
-use Rattle.rng_deriv_laws.specs.plain.Restricted.{HasNoAttribute, HasNoneGrouped, RepeatsWell, HasTexts, MayBeListed, IsRestricted, IsTyped, content_type, type_of_both}
+use Rattle.rng_deriv_laws.specs.plain.Restricted.{HasNoAttribute, HasNoneGrouped, RepeatsWell, HasTexts, MayBeListed, IsRestricted, IsTyped, content_type}
+use Rattle.rng_deriv_laws.specs.plain.Restricted.{type_of_both}
 use Rattle.rng_model.specs.matching.Document.{Attribute, Item}
-use Rattle.rng_model.specs.matching.Reading.{Reading}
+use Rattle.rng_model.specs.matching.GrammarMatching.{Reading}
 use Rattle.rng_deriv_laws.specs.plain.Taking.{Same, Takes}
 use Rattle.rng_deriv_table.specs.declared.uses.Use.{Use}
 use Rattle.rng_deriv_table.specs.plain.AskedFor.{AreOpened, IsAskedFor, IsNoChoice, IsOwn}

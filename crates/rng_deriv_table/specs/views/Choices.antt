@@ -4,7 +4,7 @@ use Rattle.std.specs.List.{Contains}
 use Rattle.rng_model.specs.simple.Tree.{Simple, s_not_allowed}
 use Rattle.rng_model.specs.matching.Document.{Attribute, Item}
 use Rattle.rng_model.specs.simple.Table.{Table}
-use Rattle.rng_model.specs.matching.Reading.{Reading}
+use Rattle.rng_model.specs.matching.GrammarMatching.{Reading}
 use Rattle.rng_deriv_laws.specs.plain.Taking.{Takes}
 use Rattle.rng_deriv_table.specs.views.Node.{Node}
 use Rattle.rng_deriv_table.specs.plain.Reduced.{HasAlternative, HasAllowedMembers, IsReducedChoice}

@@ -5,7 +5,7 @@ use Rattle.rng_model.specs.simple.Table.{Table, tree_at}
 use Rattle.rng_model.specs.declared.simple.PatternId.{PatternId}
 use Rattle.rng_model.specs.declared.simple.Simple.{Simple}
 use Rattle.rng_model.specs.declared.simple.Simple.TheVariants as simple
-use Rattle.rng_model.specs.matching.Reading.{Reading}
+use Rattle.rng_model.specs.matching.GrammarMatching.{Reading}
 use Rattle.rng_deriv_laws.specs.plain.Taking.{Same}
 use Rattle.rng_deriv_table.specs.plain.AskedFor.{IsAskedFor}
 use Rattle.rng_deriv_table.specs.views.Node.{Node}

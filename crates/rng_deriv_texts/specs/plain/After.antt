@@ -1,14 +1,13 @@
 -- What is left of a pattern after a string or an attribute.
 use Rattle.std.specs.Prelude.{◌≡◌, ◌↔◌, ℕ, ◌<◌, List, [], ◌∷◌, Bool, true, All, Option, Some, length}
 use Rattle.rng_model.specs.simple.Tree.{Simple}
-use Rattle.rng_model.specs.matching.Document.{Attribute, Item, a_text}
-use Rattle.rng_model.specs.matching.WellFormed.{Distinct}
+use Rattle.rng_model.specs.matching.Document.{Attribute, Item, a_text, Distinct}
 use Rattle.rng_model.specs.simple.Table.{Table}
-use Rattle.rng_model.specs.documents.DocumentViews.{attribute_of}
+use Rattle.rng_model.specs.documents.EventViews.{attribute_of}
 use Rattle.rng_model.specs.declared.simple.PatternId.{PatternId}
 use Rattle.rng_model.specs.declared.simple.Simple as rows
 use Rattle.rng_model.specs.declared.simple.Simple.TheVariants as kinds_of_rows
-use Rattle.rng_model.specs.matching.Reading.{Reading}
+use Rattle.rng_model.specs.matching.GrammarMatching.{Reading, reading_of}
 use Rattle.rng_deriv_laws.specs.plain.Taking.{Takes}
 use Rattle.rng_deriv_laws.specs.plain.Blanks.{IsBare}
 use Rattle.rng_deriv_laws.specs.plain.LevelStates.{IsAfterTag}
@@ -20,7 +19,6 @@ use Rattle.rng_deriv_table.specs.views.Node.{Node}
 use Rattle.rng_deriv_table.specs.views.Trees.{tree_of}
 use Rattle.rng_deriv_table.specs.declared.pattern.PatternNumber.{PatternNumber}
 use Rattle.rng_deriv_ways.specs.plain.Kinds.{Obeys}
-use Rattle.rng_model.specs.matching.GrammarReading.{reading_of}
 use Rattle.rng_deriv_ways.specs.plain.Ways.{AreInside, Offers, ways_by}
 use Rattle.rng_deriv_ways.specs.declared.way.Place.{Place}
 use Rattle.rng_deriv_ways.specs.declared.way.Place.TheVariants as places

@@ -2,7 +2,7 @@
 use Rattle.std.specs.Prelude.{◌≡◌, List, Bool}
 use Rattle.rng_names.specs.plain.Keys.{Keys, key_of}
 use Rattle.rng_names.specs.declared.name_keys.NameKey.{NameKey}
-use Rattle.rng_model.specs.matching.GrammarReading.{reading_of}
+use Rattle.rng_model.specs.matching.GrammarMatching.{reading_of}
 use Rattle.rng_model.specs.names.NameViews.{name_of}
 use Rattle.rng_model.specs.simple.Table.{Table}
 use Rattle.rng_deriv_table.specs.views.Node.{Node}

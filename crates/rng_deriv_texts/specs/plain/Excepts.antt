@@ -5,7 +5,7 @@ use Rattle.rng_model.specs.simple.Table.{Table, tree_at}
 use Rattle.rng_model.specs.declared.simple.PatternId.{PatternId}
 use Rattle.rng_model.specs.declared.simple.Simple.TheVariants as rows
 use Rattle.rng_deriv_laws.specs.plain.Derivatives.{is_excepted}
-use Rattle.rng_model.specs.matching.GrammarReading.{reading_of}
+use Rattle.rng_model.specs.matching.GrammarMatching.{reading_of}
 
 -- the patterns at these positions of the grammar do not have the text (RELAX NG Specification, section 6.2.8)
 abbrev pub AreWithout : {Z : Type 0} → Table → List ℕ → HashSet ℕ Z → Type 0

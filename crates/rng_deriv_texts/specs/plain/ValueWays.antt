@@ -3,10 +3,10 @@ use Rattle.std.specs.Prelude.{◌≡◌, ◌⊎◌, ℕ, List, [], ◌∷◌, St
 use Rattle.std.specs.HashMap.{HashMap}
 use Rattle.std.specs.List.{Contains}
 use Rattle.smallvec.specs.SmallVec.{SmallVec}
-use Rattle.rng_model.specs.datatypes.Blanks.{collapse}
+use Rattle.rng_model.specs.datatypes.Texts.{collapse}
 use Rattle.rng_model.specs.datatypes.Datatypes.{Meaning, are_equal_by}
 use Rattle.rng_model.specs.matching.Document.{Attribute, Item, a_text}
-use Rattle.rng_model.specs.matching.GrammarReading.{reading_of}
+use Rattle.rng_model.specs.matching.GrammarMatching.{reading_of}
 use Rattle.rng_model.specs.simple.Table.{Table}
 use Rattle.rng_deriv_laws.specs.plain.Taking.{Takes}
 use Rattle.rng_deriv_table.specs.views.Node.{Node}

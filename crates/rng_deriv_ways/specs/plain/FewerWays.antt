@@ -2,7 +2,7 @@
 use Rattle.std.specs.Prelude.{◌≡◌, ◌⊎◌, List, []}
 use Rattle.std.specs.List.{Contains}
 use Rattle.rng_model.specs.simple.Table.{Table}
-use Rattle.rng_model.specs.matching.Reading.{Reading}
+use Rattle.rng_model.specs.matching.GrammarMatching.{Reading}
 use Rattle.rng_deriv_laws.specs.plain.Taking.{Takes}
 use Rattle.rng_deriv_table.specs.plain.Facts.{LosesFirst}
 use Rattle.rng_deriv_table.specs.views.Node.{Node}

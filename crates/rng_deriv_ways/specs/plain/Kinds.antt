@@ -7,7 +7,7 @@ use Rattle.rng_model.specs.simple.Tree.{s_one_or_more, s_joined}
 use Rattle.rng_model.specs.matching.Document.{Attribute, Item, a_text, an_element}
 use Rattle.rng_model.specs.names.NameViews.{name_of}
 use Rattle.rng_names.specs.plain.Holding.{holds}
-use Rattle.rng_model.specs.matching.Reading.{Reading}
+use Rattle.rng_model.specs.matching.GrammarMatching.{Reading}
 use Rattle.rng_deriv_laws.specs.plain.Reading.{has_name}
 use Rattle.rng_deriv_laws.specs.plain.Restricted.{IsRestricted, HasTexts}
 use Rattle.rng_deriv_laws.specs.plain.Ways.{IsItemLeaf, IsAttributeLeaf}

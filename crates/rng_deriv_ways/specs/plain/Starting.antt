@@ -10,7 +10,7 @@ use Rattle.rng_deriv_laws.specs.plain.Taking.{Takes, Same}
 use Rattle.rng_deriv_laws.specs.plain.Restricted.{IsRestricted, IsRestrictedBody}
 use Rattle.rng_deriv_laws.specs.plain.Blanks.{IsBare}
 use Rattle.rng_deriv_laws.specs.plain.LevelStates.{IsBodyNamed}
-use Rattle.rng_model.specs.matching.Reading.{Reading}
+use Rattle.rng_model.specs.matching.GrammarMatching.{Reading, reading_of}
 use Rattle.rng_deriv_laws.specs.plain.Reading.{body_of}
 use Rattle.rng_deriv_laws.specs.plain.Derivatives as tree
 use Rattle.rng_deriv_laws.specs.plain.Derivatives.{bodies_of, started}
@@ -21,7 +21,6 @@ use Rattle.rng_deriv_table.specs.views.Taking.{AreTaken, tree_by}
 use Rattle.rng_deriv_table.specs.views.Trees.{tree_of}
 use Rattle.rng_deriv_table.specs.declared.pattern.PatternNumber.{PatternNumber}
 use Rattle.rng_deriv_ways.specs.plain.Kinds.{Obeys}
-use Rattle.rng_model.specs.matching.GrammarReading.{reading_of}
 use Rattle.rng_deriv_ways.specs.plain.Ways.{AreInside, ways_by}
 use Rattle.rng_deriv_ways.specs.declared.way.Place.{Place}
 use Rattle.rng_deriv_ways.specs.declared.way.LeafWay.{LeafWay}

@@ -14,7 +14,7 @@ use Rattle.rng_deriv_table.specs.views.Skips.{AreSkips}
 use Rattle.rng_deriv_table.specs.views.Trees.{attribute_found, tree_of}
 use Rattle.rng_deriv_table.specs.declared.pattern.Span.{Span}
 use Rattle.rng_deriv_ways.specs.plain.Alike.{AreAlike}
-use Rattle.rng_model.specs.matching.GrammarReading.{reading_of}
+use Rattle.rng_model.specs.matching.GrammarMatching.{reading_of}
 use Rattle.rng_deriv_ways.specs.plain.Kinds.{takes_kind}
 use Rattle.rng_deriv_ways.specs.declared.takers.Takers.{Takers}
 use Rattle.rng_deriv_ways.specs.declared.way.Candidates.{Candidates}

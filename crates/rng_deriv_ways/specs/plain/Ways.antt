@@ -6,7 +6,7 @@ use Rattle.rng_model.specs.simple.Tree.{Simple}
 use Rattle.rng_model.specs.matching.Document.{Attribute, Item}
 use Rattle.rng_model.specs.simple.Table.{Table}
 use Rattle.rng_model.specs.names.NameViews.{name_of}
-use Rattle.rng_model.specs.matching.Reading.{Reading}
+use Rattle.rng_model.specs.matching.GrammarMatching.{Reading, reading_of}
 use Rattle.rng_deriv_laws.specs.plain.Taking.{Takes}
 use Rattle.rng_deriv_laws.specs.plain.Restricted.{RepeatsWell}
 use Rattle.rng_deriv_laws.specs.plain.Derivatives as tree
@@ -16,7 +16,6 @@ use Rattle.rng_deriv_table.specs.views.Node.{Node}
 use Rattle.rng_deriv_table.specs.declared.pattern.PatternNumber.{PatternNumber}
 use Rattle.rng_deriv_table.specs.views.Trees.{tree_of}
 use Rattle.rng_deriv_ways.specs.plain.Kinds.{IsElementNamed, IsNamed, IsText, IsLeafOf, Obeys, connector_of}
-use Rattle.rng_model.specs.matching.GrammarReading.{reading_of}
 use Rattle.rng_deriv_ways.specs.declared.way.LeafWay.{LeafWay}
 use Rattle.rng_deriv_ways.specs.declared.way.Kind.{Kind}
 use Rattle.rng_deriv_ways.specs.declared.way.Kind.TheVariants as kinds

@@ -5,10 +5,9 @@ use Rattle.std.specs.HashMap.{HashMap, get, get_by_text}
 use Rattle.std.specs.List.{Contains}
 use Rattle.smallvec.specs.SmallVec.{SmallVec}
 use Rattle.rng_names.specs.plain.Keys.{Keys, key_of}
-use Rattle.rng_model.specs.datatypes.Blanks.{collapse}
+use Rattle.rng_model.specs.datatypes.Texts.{collapse}
 use Rattle.rng_model.specs.matching.Document.{Attribute, Item, a_text}
-use Rattle.rng_model.specs.matching.GrammarReading.{reading_of}
-use Rattle.rng_model.specs.matching.Reading.{Reading}
+use Rattle.rng_model.specs.matching.GrammarMatching.{reading_of, Reading}
 use Rattle.rng_model.specs.names.NameViews.{name_of}
 use Rattle.rng_model.specs.simple.Table.{Table}
 use Rattle.rng_model.specs.simple.Tree.{Simple}

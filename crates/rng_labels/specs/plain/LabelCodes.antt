@@ -2,7 +2,7 @@
 use Rattle.std.specs.Prelude.{◌≡◌, ℕ, List, [], ◌∷◌, ◌++◌, map, slice_get, Option, Some, None, Vec}
 use Rattle.indexmap.specs.IndexSet.{IndexSet}
 use Rattle.rng_model.specs.names.Names.{NameClass, any_name, any_except, ns_name, ns_except, name_is, one_of, NameClasses, no_classes, class_and}
-use Rattle.rng_model.specs.names.NamespaceViews.{namespace_bytes}
+use Rattle.rng_model.specs.names.NameViews.{namespace_bytes}
 use Rattle.rng_model.specs.simple.Tree.{Datatype}
 use Rattle.rng_labels.specs.declared.label_codes.LabelPart.{LabelPart}
 use Rattle.rng_labels.specs.declared.label_codes.LabelPart.TheVariants as parts

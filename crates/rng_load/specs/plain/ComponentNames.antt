@@ -5,14 +5,14 @@ use Rattle.rng_model.specs.names.Lists.{Among}
 use Rattle.rnc_model.specs.grammar.Syntax as tree
 use Rattle.rnc_model.specs.grammar.Syntax.{applied}
 use Rattle.rnc_model.specs.loading.Loading.{with_name}
-use Rattle.rnc_model.specs.loading.SchemaFile.{Name}
+use Rattle.rnc_model.specs.loading.SchemaFile.{FileName}
 use Rattle.rng_load.specs.declared.component_names.ComponentNames as declared
 
 -- the names of defines, whether there is a start, and the names of included files
 pub record Names : Type 0 where
-  pub defines : List Name
+  pub defines : List FileName
   pub has_start : Bool
-  pub included : List Name
+  pub included : List FileName
 
 abbrev pub no_names : Names
 no_names = record { defines = []; has_start = false; included = [] }
@@ -37,7 +37,7 @@ gather_if ns None = ns
 gather_if ns (Some cs) = gather ns cs
 
 -- some component has this name, or is a start
-abbrev pub HasIt : Names → Option Name → Type 0
+abbrev pub HasIt : Names → Option FileName → Type 0
 HasIt ns None = ns.has_start ≡ true
 HasIt ns (Some n) = Among n ns.defines
 

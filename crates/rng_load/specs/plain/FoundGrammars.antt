@@ -5,10 +5,11 @@ use Rattle.rng_model.specs.schema.Patterns.{Place}
 use Rattle.rnc_model.specs.grammar.Syntax as tree
 use Rattle.rnc_model.specs.grammar.Syntax.{applied}
 use Rattle.rnc_model.specs.declarations.FileTree.{FileTree}
-use Rattle.rnc_model.specs.loading.MentionPaths.{path_limit}
+use Rattle.rnc_model.specs.loading.Mentions.{path_limit}
 use Rattle.rng_load.specs.views.PendingGrammars.{Pending}
 use Rattle.rng_load.specs.views.PlacedGrammars.{PlacedGrammar, PlacedGrammars}
-use Rattle.rnc_model.specs.loading.Places.{Gathered, HasGrammar, Nested, main_grammar}
+use Rattle.rnc_model.specs.loading.Places.{Gathered, Nested, main_grammar}
+use Rattle.rnc_model.specs.loading.LoadedSchema.{HasGrammar}
 use Rattle.rng_load.specs.plain.PlainReading.{AreReadable, gather_at}
 
 -- all grammars that are nested in some components, in order

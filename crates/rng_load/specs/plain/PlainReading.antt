@@ -2,12 +2,12 @@
 -- one of the levels. If no level is left, or a file does not exist or is no grammar, the mention is left out; this does
 -- not happen in files that keep their rules. proofs/PlainReading.antt compares the result with `Reads` and `Gathers`.
 use Rattle.std.specs.Prelude.{◌≡◌, ℕ, zero, suc, ◌+◌, List, [], ◌∷◌, ◌++◌, filter, not, Option, Some, None}
-use Rattle.rng_model.specs.schema.Patterns.{Pattern, members}
+use Rattle.rng_model.specs.schema.Patterns.{Pattern, joined_members}
 use Rattle.rng_model.specs.schema.Patterns as pattern
 use Rattle.rng_model.specs.declared.method.Method.{Method}
 use Rattle.rnc_model.specs.grammar.Syntax as tree
 use Rattle.rnc_model.specs.grammar.Syntax.{applied}
-use Rattle.rnc_model.specs.declarations.FileTree.{FileTree, grammar_file, pattern_file, grammar_of}
+use Rattle.rnc_model.specs.declarations.FileTree.{FileTree, grammar_file, pattern_file, grammar_components}
 use Rattle.rnc_model.specs.loading.Mentions.{MentionedFile, external_file, included_file, mention_of, mentions_of, mentions_of_pattern}
 use Rattle.rnc_model.specs.loading.Mentions.{mentions_of_components}
 use Rattle.rng_model.specs.names.Lists.{Among}
@@ -73,7 +73,7 @@ module _ (files : List ℕ → Option FileTree) where
       read_with u x (tree.data_except d ps a) = within (pattern.data_except (datatype_in d ps)) (read_with u (0 ∷ x) a)
       read_with u x (tree.external m) = external_with below (uri_in u m.inherit) x (files m.href)
       read_with u x (tree.grammar cs) = (pattern.grammar x, nested_here x u cs)
-      read_with u x (tree.joined k all) = let r = read_all_with u x 0 all in (members k r.0, r.1)
+      read_with u x (tree.joined k all) = let r = read_all_with u x 0 all in (joined_members k r.0, r.1)
 
       pub read_all_with : List ℕ → TreePath → ℕ → tree.Patterns applied → List Pattern × List Nested
       read_all_with u x n tree.no_patterns = ([], [])
@@ -131,7 +131,7 @@ module _ (files : List ℕ → Option FileTree) where
   -- the file suits the mention: an included file is a grammar
   abbrev pub Serves : FileTree → MentionedFile → Type 0
   Serves t (external_file m) = Unit {0}
-  Serves t (included_file m over) = (is : tree.Components applied) × (grammar_of t ≡ Some is)
+  Serves t (included_file m over) = (is : tree.Components applied) × (grammar_components t ≡ Some is)
 
   -- the mention can be followed for n levels: its file exists and suits it, and what the file mentions can be followed
   -- for one level less

@@ -7,7 +7,7 @@ use Rattle.rng_load.specs.declared.open_components.AtEnd.{AtEnd}
 use Rattle.rng_load.specs.declared.open_components.AtEnd.TheVariants as ends
 use Rattle.rng_load.specs.declared.open_components.GatheredComponents as declared
 use Rattle.rng_load.specs.declared.open_components.OpenComponents.{OpenComponents}
-use Rattle.rng_model.specs.names.NamespaceViews.{namespace_bytes}
+use Rattle.rng_model.specs.names.NameViews.{namespace_bytes}
 use Rattle.rnc_grammar.specs.views.View.{component_of}
 use Rattle.rnc_model.specs.loading.Places.{Gathered}
 use Rattle.rng_load.specs.plain.OpenComponents as plain

@@ -6,12 +6,11 @@ use Rattle.rng_model.specs.declared.fault.SchemaFault.{SchemaFault}
 use Rattle.rnc_grammar.specs.declared.file_tree.FileTree as declared
 use Rattle.rnc_grammar.specs.views.View.{file_of}
 use Rattle.rng_load.specs.views.FilesView.{taken_files_of}
-use Rattle.rnc_model.specs.loading.Loading.{FilesVerdict, file_breaks, together_break, are_taken, AreTaken, IsFirstBroken}
+use Rattle.rnc_model.specs.loading.Loading.{FilesVerdict, file_breaks, together_break, are_taken, AreTaken, IsFirstBroken, verdict_of_fault}
 use Rattle.rng_load.specs.declared.fault.ReadingFault.{ReadingFault}
 use Rattle.rng_load.specs.declared.fault.ReadingFault.TheVariants as readings
-use Rattle.rnc_model.specs.loading.SchemaFile.{Name, NamedFile}
+use Rattle.rnc_model.specs.loading.SchemaFile.{FileName, NamedFile}
 use Rattle.rnc_model.specs.loading.FileVerdicts.{breaks, has_tree, FileHasOnlyVerdict}
-use Rattle.rnc_model.specs.loading.FaultVerdicts.{verdict_of_fault}
 
 -- the verdict that is reported if not all files can be read
 abbrev pub verdict_of_reading : ReadingFault → Option FilesVerdict
@@ -31,19 +30,19 @@ module _ {S : Type 0} where
 
 -- the part of the verdict that is known once each file is read: the files, or the first one that breaks a clause by
 -- itself
-abbrev pub IsReading : List NamedFile → Name → FilesVerdict → Type 0
+abbrev pub IsReading : List NamedFile → FileName → FilesVerdict → Type 0
 IsReading files main (file_breaks f k) = IsFirstBroken files main f k
 IsReading files main (together_break k) = ⊥
 IsReading files main (are_taken read) = AreTaken files main read
 
 -- this is known, and it is unique
-pub record IsTheReading (files : List NamedFile) (main : Name) (v : FilesVerdict) : Type 0 where
+pub record IsTheReading (files : List NamedFile) (main : FileName) (v : FilesVerdict) : Type 0 where
   pub is : IsReading files main v
   pub only : (other : FilesVerdict) → IsReading files main other → v ≡ other
 
 -- the result for the file of this name, unless memory ran out: its tree, or the clause that it breaks first, with its
 -- name
-abbrev pub IsNamedTree : List NamedFile → Name → Name → Result declared.FileTree ReadingFault → Type 0
+abbrev pub IsNamedTree : List NamedFile → FileName → FileName → Result declared.FileTree ReadingFault → Type 0
 IsNamedTree files main f (Ok tree) = FileHasOnlyVerdict files main f (has_tree (file_of tree))
 IsNamedTree files main f (Err (readings.File clause name)) = (string_bytes name ≡ f) × FileHasOnlyVerdict files main f (breaks clause)
 IsNamedTree files main f (Err readings.Memory) = Unit {0}

@@ -1,6 +1,6 @@
 -- Views of patterns that are being read, without their place in memory.
 use Rattle.std.specs.Prelude.{◌≡◌, List, [], ◌∷◌, map, reverse, drop, length}
-use Rattle.rng_model.specs.names.NamespaceViews.{namespace_bytes}
+use Rattle.rng_model.specs.names.NameViews.{namespace_bytes}
 use Rattle.rng_model.specs.schema.Patterns as pattern
 use Rattle.rng_model.specs.views.SchemaView.{patterns_in, row_arity, row_pattern}
 use Rattle.rnc_model.specs.grammar.Syntax as tree

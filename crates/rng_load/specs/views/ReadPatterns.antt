@@ -1,6 +1,6 @@
 -- Views of what the code reads from the patterns of files, without its place in memory.
 use Rattle.std.specs.Prelude.{ℕ, List, map, Option}
-use Rattle.rng_model.specs.names.NamespaceViews.{namespace_bytes}
+use Rattle.rng_model.specs.names.NameViews.{namespace_bytes}
 use Rattle.rng_model.specs.views.SchemaView.{place_of}
 use Rattle.rnc_model.specs.grammar.Syntax.{components_of}
 use Rattle.rnc_model.specs.declarations.FileTree.{FileTree}

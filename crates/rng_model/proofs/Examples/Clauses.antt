@@ -5,16 +5,16 @@ use Rattle.rng_model.specs.names.Names.{any_except}
 use Rattle.rng_model.specs.simple.Tree as tree
 use Rattle.rng_model.specs.simple.Tree.{Datatype, Tree, choice, Simple, s_text, s_list, as_tree}
 use Rattle.rng_model.specs.datatypes.Datatypes.{IsKnownDatatype, type_named}
-use Rattle.rng_model.specs.schema.Patterns.{Place, Position, Point, Pattern, text, element, attribute, list, data_of, ref, parent_ref, grammar, joined, no_patterns}
+use Rattle.rng_model.specs.schema.Patterns.{Place, Position, Point, Pattern, text, element, attribute, list, data_of, ref, parent_ref, grammar, joined}
+use Rattle.rng_model.specs.schema.Patterns.{no_patterns}
 use Rattle.rng_model.specs.schema.Patterns.{pattern_tree}
 use Rattle.rng_model.specs.schema.Patterns as in_pattern
 use Rattle.rng_model.specs.schema.Schema.{Schema, Component, body, main_start, IsWrittenAt}
 use Rattle.rng_model.specs.simple.Leaves as at
 use Rattle.rng_model.specs.simple.Simplification as steps
-use Rattle.rng_model.specs.schema.Unfolding.{Leaf, to_definition, aim, Unfolds, IsTreeOf}
+use Rattle.rng_model.specs.schema.Unfolding.{Leaf, to_definition, aim, Unfolds, IsTreeOf, of_body, IsReachedByTrees, from_start}
 use Rattle.rng_model.specs.schema.Unfolding as u
-use Rattle.rng_model.specs.schema.Reached.{of_body, IsReachedByTrees, from_start}
-use Rattle.rng_model.specs.schema.Depth.{depth}
+use Rattle.rng_model.specs.simple.Leaves.{depth}
 use Rattle.rng_model.specs.schema.SchemaClauses as clauses
 use Rattle.rng_model.specs.schema.SchemaClauses.{BreaksClause, any_in_any, any_but_is, itself}
 use Rattle.rng_model.specs.declared.method.Method.TheVariants.{Choice, Interleave}

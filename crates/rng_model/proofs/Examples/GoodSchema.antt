@@ -11,26 +11,24 @@ use Rattle.rng_model.specs.simple.Tree as tree
 use Rattle.rng_model.specs.simple.Tree.{Tree, group, interleave, choice, Simple, s_not_allowed, s_empty, s_text, s_leaf, s_attribute, s_list}
 use Rattle.rng_model.specs.simple.Tree.{s_data, s_data_except, s_value, s_one_or_more, s_joined, as_tree}
 use Rattle.rng_model.specs.simple.Grammar.{Grammar}
-use Rattle.rng_model.specs.simple.Leaves.{renamed, LeafIn}
-use Rattle.rng_model.specs.simple.ClassSteps.{ClassStep, ClassSteps, IsSimpleClassOf}
-use Rattle.rng_model.specs.simple.ClassSteps as class_steps
+use Rattle.rng_model.specs.simple.Leaves.{renamed, LeafIn, depth, class_depth}
+use Rattle.rng_model.specs.simple.Simplification.{ClassStep, ClassSteps, IsSimpleClassOf, RuleGroup, rewriting, propagation, Step, AnyStep, Steps, no_step}
+use Rattle.rng_model.specs.simple.Simplification.{step_and, IsLast, IsRewritten, IsSimpleFormOf}
+use Rattle.rng_model.specs.simple.Simplification as steps
 use Rattle.rng_model.specs.simple.Leaves as at
-use Rattle.rng_model.specs.schema.Patterns.{Place, Pattern, text, not_allowed, element, attribute, data_of, data_except, value, ref, parent_ref, joined, no_patterns}
+use Rattle.rng_model.specs.schema.Patterns.{Place, Pattern, text, not_allowed, element, attribute, data_of, data_except, value, ref, parent_ref, joined}
+use Rattle.rng_model.specs.schema.Patterns.{no_patterns}
 use Rattle.rng_model.specs.schema.Patterns.{IsWrittenIn}
 use Rattle.rng_model.specs.schema.Patterns as in_pattern
 use Rattle.rng_model.specs.schema.Schema.{Schema, Component, body, main_start, IsWrittenAt}
-use Rattle.rng_model.specs.schema.Unfolding.{Leaf, Unfolds, IsTreeOf, IsBodyOf}
+use Rattle.rng_model.specs.schema.Unfolding.{Leaf, Unfolds, IsTreeOf, IsBodyOf, IsReachedByTrees, from_start, from_element, IsReachedTree, of_start, of_body}
+use Rattle.rng_model.specs.schema.Unfolding.{IsReachedBySimpleForms, from_simple_start, from_simple_body}
 use Rattle.rng_model.specs.schema.Unfolding as u
-use Rattle.rng_model.specs.simple.Simplification.{RuleGroup, rewriting, propagation, Step, AnyStep, Steps, no_step, step_and, IsLast, IsRewritten, IsSimpleFormOf}
-use Rattle.rng_model.specs.simple.Simplification as steps
-use Rattle.rng_model.specs.schema.Reached.{IsReachedByTrees, from_start, from_element, IsReachedTree, of_start, of_body, IsReachedBySimpleForms, from_simple_start}
-use Rattle.rng_model.specs.schema.Reached.{from_simple_body}
-use Rattle.rng_model.specs.schema.Depth.{depth, class_depth}
 use Rattle.rng_model.specs.simple.SchemaForm.{Element, IsElementOf, SimpleForm, IsSimpleFormOfSchema, IsSimpleGrammarOf}
 use Rattle.rng_model.specs.schema.SchemaClauses as clauses
 use Rattle.rng_model.specs.schema.SchemaClauses.{BreaksClause, BreaksNoClause}
-use Rattle.rng_model.specs.simple.Inside as inside_of
-use Rattle.rng_model.specs.restrictions.Paths as paths
+use Rattle.rng_model.specs.simple.Grammar as inside_of
+use Rattle.rng_model.specs.restrictions.Contents as paths
 use Rattle.rng_model.specs.restrictions.Restrictions as restrictions
 use Rattle.rng_model.specs.declared.method.Method.TheVariants.{Choice}
 use Rattle.rng_model.proofs.SimpleTrees.{same_simple}
@@ -227,8 +225,8 @@ not_deep p (of_start t) r d = let e = depth_is p (s_leaf the_element) (one_start
 not_deep p (of_body l t) r d = let e = depth_is p simple_inside (one_body (reached l) t) not_rewritten_inside r in omega (arith, e, d)
 
 name_stays : {n : Name} {c : NameClass} → ClassSteps (name_is n) c → c ≡ name_is n
-name_stays class_steps.no_class_step = refl
-name_stays (class_steps.class_step_and d ds) = elim d [ ]
+name_stays steps.no_class_step = refl
+name_stays (steps.class_step_and d ds) = elim d [ ]
 
 not_deep_name : {l : Leaf} {c : NameClass} → l ≡ the_element → IsSimpleClassOf l.class c → ¬ (1000 < class_depth c)
 not_deep_name {c = c} e s d =
@@ -417,7 +415,7 @@ is_reached = from_simple_start start_tree start_stays at.here
 is_element : IsElementOf good element_of_form
 is_element = record {
   reached = is_reached;
-  class = record { reached = class_steps.no_class_step; simple = λ c d. elim d [ ] };
+  class = record { reached = steps.no_class_step; simple = λ c d. elim d [ ] };
   tree = as_tree simple_inside;
   is_tree = body_tree;
   body = record { reached = step_and (propagation, steps.second_not_allowed (λ e. cc)) no_step; last = λ c s. nothing_stays s.1 };

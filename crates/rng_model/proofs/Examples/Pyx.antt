@@ -8,21 +8,23 @@ use Rattle.std.proofs.lemmas.Bool.{and_parts, leb-true}
 use Rattle.std.proofs.lemmas.List.Elements.{All-from_recursion, All-cons, All-nil}
 use Rattle.std.proofs.lemmas.Str.{IsUtf8-from_is_utf8}
 use Rattle.rng_model.specs.names.Lists.{HasTwice, at_first, here, later, there}
-use Rattle.rng_model.specs.names.Characters.{is_ncname, is_xml_char}
-use Rattle.rng_model.specs.matching.Document.{Attribute}
-use Rattle.rng_model.specs.documents.Lines.{Line, lines, line_limit}
-use Rattle.rng_model.specs.matching.WellFormed.{Distinct, none, one_more, another_name, nothing_named}
-use Rattle.rng_model.specs.documents.PyxLines.{IsNcnameText, IsName, alone, prefixed, StandsFor, at_end, itself, Said, WrittenName, start, attribute, text, end, instruction}
-use Rattle.rng_model.specs.documents.PyxLines.{Says, says_start, says_attribute, says_text, says_end, says_instruction, IsGoodLine, AreGoodLines, no_lines, line_and}
+use Rattle.rng_model.specs.names.Names.{is_ncname, is_xml_char, xml_uri}
+use Rattle.rng_model.specs.matching.Document.{Attribute, Distinct, none, one_more, another_name, nothing_named}
+use Rattle.rng_model.specs.documents.Lines.{Line, lines, line_limit, HasKind, nothing}
+use Rattle.rng_model.specs.documents.PyxLines.{IsNcnameText, IsName, alone, prefixed, StandsFor, at_end, itself, Said, WrittenName, start, attribute, text, end}
+use Rattle.rng_model.specs.documents.PyxLines.{instruction}
+use Rattle.rng_model.specs.documents.PyxLines.{Says, says_start, says_attribute, says_text, says_end, says_instruction, IsGoodLine, AreGoodLines, no_lines}
+use Rattle.rng_model.specs.documents.PyxLines.{line_and}
 use Rattle.rng_model.specs.documents.PyxNamespaces.{none_written, written_and, WrittenAttribute, nothing as parted_nothing, declaration, other, Declares}
 use Rattle.rng_model.specs.documents.PyxNamespaces.{default_namespace}
-use Rattle.rng_model.specs.documents.PyxNamespaces.{prefix_declared, DeclaresNothing, NamespaceDeclaration, IsForbidden, of_xmlns_uri, of_xmlns, of_nothing, xml_as_another}
-use Rattle.rng_model.specs.documents.PyxNamespaces.{another_as_xml, xml_uri, xmlns_uri, xmlns, HasNamespace, declared_here, xml_beforehand, no_default}
+use Rattle.rng_model.specs.documents.PyxNamespaces.{prefix_declared, DeclaresNothing, NamespaceDeclaration, IsForbidden, of_xmlns_uri, of_xmlns, of_nothing}
+use Rattle.rng_model.specs.documents.PyxNamespaces.{xml_as_another}
+use Rattle.rng_model.specs.documents.PyxNamespaces.{another_as_xml, xmlns_uri, xmlns, HasNamespace, declared_here, xml_beforehand, no_default}
 use Rattle.rng_model.specs.documents.PyxNamespaces.{declared_outside, HasNoNamespace, NamespaceScope}
 use Rattle.rng_model.specs.documents.PyxNamespaces.{element_name, with_prefix, none_left, expanded_and}
-use Rattle.rng_model.specs.documents.PyxFaults.{HasKind, nothing}
 use Rattle.rng_model.specs.documents.PyxClauses.{BreaksHere, too_long, within as within_limit}
-use Rattle.rng_model.specs.documents.PyxClauses.{BeginsOtherwise, none_open, SaysTag, no_tags, EndsWithTag, element_prefix, namespaces, expanded_twice, repeated_name}
+use Rattle.rng_model.specs.documents.PyxClauses.{BeginsOtherwise, none_open, SaysTag, no_tags, EndsWithTag, element_prefix, namespaces, expanded_twice}
+use Rattle.rng_model.specs.documents.PyxClauses.{repeated_name}
 use Rattle.rng_model.specs.documents.PyxClauses.{Breaks, at_line}
 use Rattle.rng_model.specs.documents.PyxTrees as trees
 use Rattle.rng_model.specs.documents.PyxTrees.{Placed, text_at, element_at, none_placed, placed_and, IsTag, IsElement, IsContent, IsRun, no_run, IsPyxDocument}

@@ -4,18 +4,18 @@ use Rattle.std.proofs.Common.{sym, ap, subst, arith, ◌∙◌}
 use Rattle.std.proofs.lemmas.List.{length-append}
 use Rattle.std.specs.Str.{is_utf8, chars}
 use Rattle.rng_model.specs.names.Lists.{Among}
-use Rattle.rng_model.specs.matching.Document.{Attribute}
-use Rattle.rng_model.specs.documents.Lines.{Line}
-use Rattle.rng_model.specs.matching.WellFormed.{Distinct, none}
-use Rattle.rng_model.specs.documents.PyxFaults.{HasKind}
+use Rattle.rng_model.specs.matching.Document.{Attribute, Distinct, none}
+use Rattle.rng_model.specs.documents.Lines.{Line, HasKind}
 use Rattle.rng_model.specs.documents.PyxLines as lines
 use Rattle.rng_model.specs.documents.PyxLines.{WrittenName, IsName, Said, start, says_start, Says, IsGoodLine, AreGoodLines, BreaksAlone}
-use Rattle.rng_model.specs.documents.PyxNamespaces.{WrittenAttribute, AreWritten, none_written, AreParted, NamespaceDeclaration, NamespaceScope, AreExpanded, none_left}
+use Rattle.rng_model.specs.documents.PyxNamespaces.{WrittenAttribute, AreWritten, none_written, AreParted, NamespaceDeclaration, NamespaceScope, AreExpanded}
+use Rattle.rng_model.specs.documents.PyxNamespaces.{none_left}
 use Rattle.rng_model.specs.documents.PyxNamespaces as namespaces
 use Rattle.rng_model.specs.documents.PyxTrees.{IsRun, no_run}
 use Rattle.rng_model.specs.documents.PyxTrees as trees
 use Rattle.rng_model.specs.documents.PyxClauses as clauses
-use Rattle.rng_model.specs.documents.PyxClauses.{BreaksBetween, BreaksHere, BreaksNamespaces, RepeatsName, EndsInText, EndsWithTag, AreOpenTags, Tag, Breaks, IsFront}
+use Rattle.rng_model.specs.documents.PyxClauses.{BreaksBetween, BreaksHere, BreaksNamespaces, RepeatsName, EndsInText, EndsWithTag, AreOpenTags, Tag, Breaks}
+use Rattle.rng_model.specs.documents.PyxClauses.{IsFront}
 use Rattle.rng_model.proofs.Examples.Pyx.{whole, good, a_is_a_name, first_of}
 
 abbrev the_line : Line

@@ -1,8 +1,7 @@
 -- What has to be kept of documents that have not ended.
 use Rattle.std.proofs.Common.{◌≡◌, refl, inr, true, codes, ℕ, List, [], ◌∷◌, ◌++◌}
 use Rattle.std.proofs.lemmas.List.Elements.{All-nil, All-cons}
-use Rattle.rng_model.specs.documents.Lines.{Line, lines}
-use Rattle.rng_model.specs.documents.PyxFaults.{HasKind, nothing}
+use Rattle.rng_model.specs.documents.Lines.{Line, lines, HasKind, nothing}
 use Rattle.rng_model.specs.documents.PyxClauses.{none_open}
 use Rattle.rng_model.specs.documents.PyxHeld.{KeptOf, in_tag, of_none}
 use Rattle.rng_model.proofs.Examples.Pyx.{whole}

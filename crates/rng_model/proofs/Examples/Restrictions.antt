@@ -6,14 +6,11 @@ use Rattle.rng_model.specs.names.Lists.{here}
 use Rattle.rng_model.specs.names.Names.{Name, NameClass, any_name, name_is, Overlap}
 use Rattle.rng_model.specs.simple.Tree as tree
 use Rattle.rng_model.specs.simple.Tree.{Datatype, Simple, s_empty, s_text, s_leaf, s_attribute, s_list, s_data, s_data_except, s_value, s_one_or_more, s_joined}
-use Rattle.rng_model.specs.simple.Grammar.{Grammar}
-use Rattle.rng_model.specs.simple.Inside.{itself, of_list, of_attribute, of_except, of_one_or_more, of_left}
-use Rattle.rng_model.specs.restrictions.Paths.{attribute_attribute, repeated_group_attribute, list_text, data_empty, start_text}
-use Rattle.rng_model.specs.restrictions.ContentTypes.{HasContent, of_both, of_text, of_value, ContentType}
-use Rattle.rng_model.specs.restrictions.ContentTypes.{grouped}
-use Rattle.rng_model.specs.restrictions.Occurrences.{any}
+use Rattle.rng_model.specs.simple.Grammar.{Grammar, itself, of_list, of_attribute, of_except, of_one_or_more, of_left}
+use Rattle.rng_model.specs.restrictions.Contents.{attribute_attribute, repeated_group_attribute, list_text, data_empty, start_text, HasContent, of_both}
+use Rattle.rng_model.specs.restrictions.Contents.{of_text, of_value, ContentType, grouped}
+use Rattle.rng_model.specs.restrictions.Restrictions.{any, BreaksRestriction}
 use Rattle.rng_model.specs.restrictions.Restrictions as restrictions
-use Rattle.rng_model.specs.restrictions.Restrictions.{BreaksRestriction}
 
 abbrev plain : List ℕ → Name
 plain local = record { ns = []; local = local }

@@ -6,13 +6,9 @@ use Rattle.std.specs.List.{list_all}
 use Rattle.std.specs.Option.{option_map, option_and_then}
 use Rattle.std.specs.Str.{chars}
 use Rattle.rng_model.specs.simple.Tree.{Datatype}
-use Rattle.rng_model.specs.names.Characters.{is_name_char, is_ncname}
-use Rattle.rng_model.specs.datatypes.Texts.{TextTests}
-use Rattle.rng_model.specs.datatypes.Blanks.{collapse, pieces}
-use Rattle.rng_model.specs.datatypes.Values.{Value, text, truth, are_equal, text_if}
-use Rattle.rng_model.specs.datatypes.Facets.{Lengths, Bounds, fits, number_inside}
-use Rattle.rng_model.specs.datatypes.Numerals.{truth_of, integer_of, length_of, bound_of}
-use Rattle.rng_model.specs.datatypes.Parameters.{Parameter, named, written_range}
+use Rattle.rng_model.specs.names.Names.{is_name_char, is_ncname}
+use Rattle.rng_model.specs.datatypes.Texts.{TextTests, collapse, pieces, Value, text, truth, are_equal, text_if}
+use Rattle.rng_model.specs.datatypes.Facets.{Lengths, Bounds, fits, number_inside, truth_of, integer_of, length_of, bound_of, Parameter, named, written_range}
 
 -- ---- which value a text has, in each type: all types except `string` collapse the text first (XML Schema Part 2,
 -- section 4.3.6)

@@ -1,7 +1,6 @@
 -- What the bytes of a document are, and which events are reported of bytes that are no document.
 use Rattle.std.specs.Prelude.{◌≡◌, ◌≤◌, ℕ, List, ◌++◌, All}
-use Rattle.rng_model.specs.documents.Lines.{Line, lines}
-use Rattle.rng_model.specs.documents.PyxFaults.{Fault}
+use Rattle.rng_model.specs.documents.Lines.{Line, lines, Fault}
 use Rattle.rng_model.specs.documents.PyxTrees.{Placed, Event, events_of, IsPyxDocument}
 use Rattle.rng_model.specs.documents.PyxClauses.{IsFirstFault, HasLongestFront}
 
@@ -35,5 +34,5 @@ pub record IsTheDocument (bytes : List ℕ) (events : List Event) : Type 0 where
 -- events were reported
 pub record IsTheFault (bytes : List ℕ) (f : Fault) (sent : List Event) : Type 0 where
   pub first : IsFirstFault (lines bytes) f
-  pub no_document : (tree : Placed) → IsPyxDocument bytes tree → ⊥
+  pub no_document : (tree : Placed) → ¬ (IsPyxDocument bytes tree)
   pub events : AreEventsBefore (lines bytes) f.line sent

@@ -3,19 +3,18 @@
 -- (docs/LANGUAGE.md; Namespaces in XML 1.0, sections 3 to 6; XML 1.0, section 3.1)
 use Rattle.std.specs.Prelude.{◌≡◌, ◌≢◌, ℕ, ◌+◌, ◌<◌, ◌≤◌, List, [], ◌∷◌, ◌++◌, Some, length, map, All}
 use Rattle.rng_model.specs.names.Lists.{Among, HasTwice}
-use Rattle.rng_model.specs.matching.Document.{Attribute}
-use Rattle.rng_model.specs.documents.Lines.{Line, line_limit, attribute_limit, open_limit, text_limit}
-use Rattle.rng_model.specs.matching.WellFormed.{Distinct}
-use Rattle.rng_model.specs.documents.PyxFaults.{Fault, HasKind, IsBalanced, IsBefore, EndsInTag}
+use Rattle.rng_model.specs.matching.Document.{Attribute, Distinct}
+use Rattle.rng_model.specs.documents.Lines.{Line, line_limit, attribute_limit, open_limit, text_limit, Fault, HasKind, IsBalanced, IsBefore, EndsInTag}
 use Rattle.rng_model.specs.documents.PyxLines.{Said, WrittenName, start, IsGoodLine, AreGoodLines, BreaksAlone}
-use Rattle.rng_model.specs.documents.PyxNamespaces.{WrittenAttribute, AreWritten, AreParted, NamespaceDeclaration, IsForbidden, NamespaceScope, HasNoNamespace, AreExpanded}
+use Rattle.rng_model.specs.documents.PyxNamespaces.{WrittenAttribute, AreWritten, AreParted, NamespaceDeclaration, IsForbidden, NamespaceScope, HasNoNamespace}
+use Rattle.rng_model.specs.documents.PyxNamespaces.{AreExpanded}
 use Rattle.rng_model.specs.documents.PyxTrees.{IsRun}
 
 -- ---- open tags, by first bytes
 
 -- there are no lines, or the first line is of another kind
 abbrev pub BeginsOtherwise : ℕ → List Line → Type 0
-BeginsOtherwise k ls = (l : Line) (rest : List Line) → ls ≡ l ∷ rest → HasKind k l → ⊥
+BeginsOtherwise k ls = (l : Line) (rest : List Line) → ls ≡ l ∷ rest → ¬ (HasKind k l)
 
 -- a tag: its `(` line, and the `A` lines directly after it
 pub record Tag : Type 0 where
@@ -57,7 +56,7 @@ pub data BreaksNamespaces (outer : NamespaceScope) (name : WrittenName) (written
 pub data RepeatsName (outer : NamespaceScope) (written : List WrittenAttribute) : Type 0 where
   written_twice : HasTwice (map (λ a. a.name) written) → RepeatsName outer written
   expanded_twice : {ds : List NamespaceDeclaration} {others : List WrittenAttribute} {attrs : List Attribute} → AreParted written ds others
-      → AreExpanded (ds ∷ outer) others attrs → (Distinct attrs → ⊥) → RepeatsName outer written
+      → AreExpanded (ds ∷ outer) others attrs → ¬ (Distinct attrs) → RepeatsName outer written
 
 -- these lines end with a tag with this meaning, inside tags with these declarations
 pub record EndsWithTag (ls : List Line) (outer : NamespaceScope) (name : WrittenName) (written : List WrittenAttribute) : Type 0 where
@@ -83,7 +82,7 @@ pub data BreaksBetween (before : List Line) (l : Line) (behind : List Line) : �
   -- P1 to P6: by itself
   alone : {clause : ℕ} → BreaksAlone l clause → BreaksBetween before l behind clause
   -- P7: an attribute that is in no tag
-  no_tag : HasKind 65 l → (EndsInTag before → ⊥) → BreaksBetween before l behind 7
+  no_tag : HasKind 65 l → ¬ (EndsInTag before) → BreaksBetween before l behind 7
   -- P8: an end tag where no element is open, or with a name that is not the name of the open element
   none_to_end : HasKind 41 l → AreOpenTags before [] → BreaksBetween before l behind 8
   other_name : {name opened_name : List ℕ} {tag : Tag} {outer : List Tag} → l.bytes ≡ 41 ∷ name → AreOpenTags before (tag ∷ outer)
@@ -113,7 +112,7 @@ pub data Breaks (all : List Line) : Fault → Type 0 where
       → Breaks all (record { clause = clause; line = n })
   -- P13: an element is open at the end, or there is no root. The line is the last line, or 0 if there is none.
   unfinished : {tag : Tag} {outer : List Tag} → AreOpenTags all (tag ∷ outer) → Breaks all (record { clause = 13; line = length all })
-  rootless : All (λ l. HasKind 40 l → ⊥) all → Breaks all (record { clause = 13; line = length all })
+  rootless : All (λ l. ¬ (HasKind 40 l)) all → Breaks all (record { clause = 13; line = length all })
 
 -- the broken clause of the least line, and of the least number there
 pub record IsFirstFault (all : List Line) (f : Fault) : Type 0 where

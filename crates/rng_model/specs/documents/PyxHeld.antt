@@ -2,8 +2,7 @@
 -- the tag that is being read, the name and the declarations of each element that is open after its tag, and the text
 -- that is joined so far. (docs/LANGUAGE.md)
 use Rattle.std.specs.Prelude.{◌≡◌, ◌⊎◌, ℕ, ◌+◌, List, [], ◌∷◌, ◌++◌, Option, Some, None, true, false, length, sum_by, All}
-use Rattle.rng_model.specs.documents.Lines.{Line, lines}
-use Rattle.rng_model.specs.documents.PyxFaults.{HasKind, EndsInTag}
+use Rattle.rng_model.specs.documents.Lines.{Line, lines, HasKind, EndsInTag}
 use Rattle.rng_model.specs.documents.PyxLines.{WrittenName}
 use Rattle.rng_model.specs.documents.PyxNamespaces.{WrittenAttribute, AreParted, NamespaceDeclaration}
 use Rattle.rng_model.specs.documents.PyxClauses.{Tag, AreOpenTags, SaysTag, EndsInText}
@@ -40,13 +39,13 @@ pub record IsCutAtLine (bytes : List ℕ) (whole : List Line) (begun : List ℕ)
 -- neither
 pub record JoinsText (whole : List Line) (joined : List ℕ) : Type 0 where
   pub ends : EndsInText whole joined
-  pub no_text : (l : Line) (rest : List Line) → ends.front ≡ rest ++ l ∷ [] → HasKind 45 l → ⊥
-  pub no_instruction : (l : Line) (rest : List Line) → ends.front ≡ rest ++ l ∷ [] → HasKind 63 l → ⊥
+  pub no_text : (l : Line) (rest : List Line) → ends.front ≡ rest ++ l ∷ [] → ¬ (HasKind 45 l)
+  pub no_instruction : (l : Line) (rest : List Line) → ends.front ≡ rest ++ l ∷ [] → ¬ (HasKind 63 l)
 
 -- this many bytes are kept after these
 pub data KeptOf (bytes : List ℕ) : ℕ → Type 0 where
   in_tag : {whole : List Line} {begun : List ℕ} {outer : List Tag} {n m : ℕ} → IsCutAtLine bytes whole begun → (tag : EndsInTag whole)
       → AreOpenTags tag.front outer → KeptOfTags outer m
       → n ≡ length begun + length tag.tag.bytes + sum_by (λ l. length l.bytes) tag.others + m → KeptOf bytes n
-  in_no_tag : {whole : List Line} {begun joined : List ℕ} {opened : List Tag} {n m : ℕ} → IsCutAtLine bytes whole begun → (EndsInTag whole → ⊥)
+  in_no_tag : {whole : List Line} {begun joined : List ℕ} {opened : List Tag} {n m : ℕ} → IsCutAtLine bytes whole begun → ¬ (EndsInTag whole)
       → AreOpenTags whole opened → KeptOfTags opened m → JoinsText whole joined → n ≡ length begun + m + length joined → KeptOf bytes n

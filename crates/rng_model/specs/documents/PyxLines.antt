@@ -2,9 +2,8 @@
 -- section 2.2)
 use Rattle.std.specs.Prelude.{◌≡◌, ◌≢◌, ℕ, ◌≤◌, true, false, List, [], ◌∷◌, ◌++◌, Option, Some, None, length, All}
 use Rattle.std.specs.Str.{IsUtf8, chars}
-use Rattle.rng_model.specs.names.Characters.{is_ncname, is_xml_char}
-use Rattle.rng_model.specs.documents.Lines.{Line, line_limit}
-use Rattle.rng_model.specs.documents.PyxFaults.{HasKind}
+use Rattle.rng_model.specs.names.Names.{is_ncname, is_xml_char}
+use Rattle.rng_model.specs.documents.Lines.{Line, line_limit, HasKind}
 
 -- ---- names and values
 
@@ -69,11 +68,11 @@ pub data AreGoodLines : List Line → List Said → Type 0 where
 
 -- the line has no kind: it is empty, or begins with another byte than the five
 pub record HasNoKind (l : Line) : Type 0 where
-  pub no_start : HasKind 40 l → ⊥
-  pub no_attribute : HasKind 65 l → ⊥
-  pub no_text : HasKind 45 l → ⊥
-  pub no_end : HasKind 41 l → ⊥
-  pub no_instruction : HasKind 63 l → ⊥
+  pub no_start : ¬ (HasKind 40 l)
+  pub no_attribute : ¬ (HasKind 65 l)
+  pub no_text : ¬ (HasKind 45 l)
+  pub no_end : ¬ (HasKind 41 l)
+  pub no_instruction : ¬ (HasKind 63 l)
 
 -- `before` is before the first space, and `after` is after it
 pub record IsCutAtSpace (bytes before after : List ℕ) : Type 0 where
@@ -81,19 +80,19 @@ pub record IsCutAtSpace (bytes before after : List ℕ) : Type 0 where
   pub first : All (λ c. c ≢ 32) before
 
 abbrev pub StandsForNothing : List ℕ → Type 0
-StandsForNothing written = (value : List ℕ) → StandsFor written value → ⊥
+StandsForNothing written = (value : List ℕ) → ¬ (StandsFor written value)
 
 abbrev pub IsNoName : List ℕ → Type 0
-IsNoName written = (name : WrittenName) → IsName written name → ⊥
+IsNoName written = (name : WrittenName) → ¬ (IsName written name)
 
 -- a line that is not too long breaks this clause by itself
 pub data BreaksAlone (l : Line) : ℕ → Type 0 where
   -- P1: no line feed ends it
   unended : l.ended ≡ false → BreaksAlone l 1
   -- P2: it is not UTF-8
-  no_utf8 : (IsUtf8 l.bytes → ⊥) → BreaksAlone l 2
+  no_utf8 : ¬ (IsUtf8 l.bytes) → BreaksAlone l 2
   -- P3: it has a character that XML does not have
-  no_xml_char : IsUtf8 l.bytes → (All (λ c. is_xml_char c ≡ true) (chars l.bytes) → ⊥) → BreaksAlone l 3
+  no_xml_char : IsUtf8 l.bytes → ¬ (All (λ c. is_xml_char c ≡ true) (chars l.bytes)) → BreaksAlone l 3
   -- P4: it has no kind
   no_kind : HasNoKind l → BreaksAlone l 4
   -- P5: a text or a value has another escape, or ends with a single backslash

@@ -1,7 +1,7 @@
 -- Declarations of namespaces in the tags of a document in PYX, and which names they expand (Namespaces in XML 1.0, sections 3 to 6).
 use Rattle.std.specs.Prelude.{◌≡◌, ◌≢◌, ℕ, List, [], ◌∷◌, Option, Some, None, codes, All}
 use Rattle.rng_model.specs.names.Lists.{Among}
-use Rattle.rng_model.specs.names.Names.{Name}
+use Rattle.rng_model.specs.names.Names.{xml_uri, Name}
 use Rattle.rng_model.specs.matching.Document.{Attribute}
 use Rattle.rng_model.specs.documents.PyxLines.{Said, WrittenName, attribute}
 
@@ -32,7 +32,7 @@ pub data Declares : WrittenName → Option (List ℕ) → Type 0 where
 
 -- the name declares nothing, so it is the name of an attribute
 abbrev pub DeclaresNothing : WrittenName → Type 0
-DeclaresNothing name = (p : Option (List ℕ)) → Declares name p → ⊥
+DeclaresNothing name = (p : Option (List ℕ)) → ¬ (Declares name p)
 
 -- which of the `A` lines of a tag are declarations and which are attributes, in order
 pub data AreParted : List WrittenAttribute → List NamespaceDeclaration → List WrittenAttribute → Type 0 where
@@ -47,9 +47,6 @@ pub data AreParted : List WrittenAttribute → List NamespaceDeclaration → Lis
 -- the declarations of the open tags, those of the innermost first
 abbrev pub NamespaceScope : Type 0
 NamespaceScope = List (List NamespaceDeclaration)
-
-abbrev pub xml_uri : List ℕ
-xml_uri = codes "http://www.w3.org/XML/1998/namespace"
 
 abbrev pub xmlns_uri : List ℕ
 xmlns_uri = codes "http://www.w3.org/2000/xmlns/"
@@ -104,4 +101,4 @@ pub data IsForbidden : NamespaceDeclaration → Type 0 where
 
 -- the prefix has no namespace
 abbrev pub HasNoNamespace : NamespaceScope → List ℕ → Type 0
-HasNoNamespace scope p = (uri : List ℕ) → HasNamespace scope (Some p) uri → ⊥
+HasNoNamespace scope p = (uri : List ℕ) → ¬ (HasNamespace scope (Some p) uri)

@@ -3,11 +3,11 @@
 use Rattle.std.specs.Prelude.{◌≡◌, ℕ, suc, ◌+◌, ◌≤◌, List, [], ◌∷◌, ◌++◌, length, map, All}
 use Rattle.rng_model.specs.names.Lists.{HasTwice}
 use Rattle.rng_model.specs.names.Names.{Name}
-use Rattle.rng_model.specs.matching.Document.{Attribute, Item, a_text, an_element, Items, no_items, item_and}
+use Rattle.rng_model.specs.matching.Document.{Attribute, Item, a_text, an_element, Items, no_items, item_and, Distinct}
 use Rattle.rng_model.specs.documents.Lines.{lines, attribute_limit, open_limit, text_limit}
-use Rattle.rng_model.specs.matching.WellFormed.{Distinct}
 use Rattle.rng_model.specs.documents.PyxLines.{Said, WrittenName, start, text, end, instruction, AreGoodLines}
-use Rattle.rng_model.specs.documents.PyxNamespaces.{WrittenAttribute, AreWritten, AreParted, NamespaceDeclaration, IsForbidden, NamespaceScope, NamesElement, AreExpanded}
+use Rattle.rng_model.specs.documents.PyxNamespaces.{WrittenAttribute, AreWritten, AreParted, NamespaceDeclaration, IsForbidden, NamespaceScope, NamesElement}
+use Rattle.rng_model.specs.documents.PyxNamespaces.{AreExpanded}
 
 -- ---- trees with lines, and events
 
@@ -72,11 +72,11 @@ pub record IsTag (outer : NamespaceScope) (name : WrittenName) (attributes : Lis
   pub written : List WrittenAttribute
   pub are_written : AreWritten attributes written
   pub within : length written ≤ attribute_limit
-  pub once : HasTwice (map (λ a. a.name) written) → ⊥
+  pub once : ¬ (HasTwice (map (λ a. a.name) written))
   pub declarations : List NamespaceDeclaration
   pub others : List WrittenAttribute
   pub are_parted : AreParted written declarations others
-  pub allowed : All (λ d. IsForbidden d → ⊥) declarations
+  pub allowed : All (λ d. ¬ (IsForbidden d)) declarations
   pub scope_is : scope ≡ declarations ∷ outer
   pub is_named : NamesElement scope name q
   pub are_expanded : AreExpanded scope others attrs

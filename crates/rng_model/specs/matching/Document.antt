@@ -1,6 +1,6 @@
--- Documents: element trees with expanded names (RELAX NG Specification, section 2), and how members of a pattern
--- share out attributes and items.
-use Rattle.std.specs.Prelude.{◌≡◌, ℕ, List, [], ◌∷◌, ◌++◌, Bool, true}
+-- Documents: element trees with expanded names (RELAX NG Specification, section 2), the names of their attributes, and
+-- how members of a pattern share out attributes and items.
+use Rattle.std.specs.Prelude.{◌≡◌, ℕ, List, [], ◌∷◌, ◌++◌, Bool, true, ◌≢◌}
 use Rattle.rng_model.specs.names.Names.{Name}
 use Rattle.rng_model.specs.simple.Tree.{Connector, group, interleave}
 
@@ -50,3 +50,15 @@ pub data Padded (blank : List ℕ → Bool) : Item → List Item → Type 0 wher
   before : {n : Item} {s : List ℕ} → blank s ≡ true → Padded blank n (a_text s ∷ n ∷ [])
   after : {n : Item} {s : List ℕ} → blank s ≡ true → Padded blank n (n ∷ a_text s ∷ [])
   both_sides : {n : Item} {s t : List ℕ} → blank s ≡ true → blank t ≡ true → Padded blank n (a_text s ∷ n ∷ a_text t ∷ [])
+
+-- ---- the attributes of one element
+
+-- no attribute has this name
+pub data HasNoName (name : Name) : List Attribute → Type 0 where
+  nothing_named : HasNoName name []
+  another_name : {a : Attribute} {attrs : List Attribute} → a.name ≢ name → HasNoName name attrs → HasNoName name (a ∷ attrs)
+
+-- no two attributes have the same name (Namespaces in XML 1.0, section 6.3)
+pub data Distinct : List Attribute → Type 0 where
+  none : Distinct []
+  one_more : {a : Attribute} {attrs : List Attribute} → HasNoName a.name attrs → Distinct attrs → Distinct (a ∷ attrs)

@@ -1,12 +1,11 @@
 -- The outcome of a document, and its line (RELAX NG Specification, sections 6.2 and 6.3).
 use Rattle.std.specs.Prelude.{◌≡◌, ⊤, ℕ, List, [], ◌∷◌, ◌++◌, All}
 use Rattle.rng_model.specs.names.Names.{NameClass, In}
-use Rattle.rng_model.specs.matching.GrammarMatching.{IsValidBy}
+use Rattle.rng_model.specs.matching.GrammarMatching.{IsValidBy, Reading}
 use Rattle.rng_model.specs.simple.Grammar.{Grammar}
 use Rattle.rng_model.specs.restrictions.Restrictions.{ClassIn}
 use Rattle.rng_model.specs.datatypes.Texts.{texts_of}
 use Rattle.rng_model.specs.documents.PyxTrees.{Event, EventKind, a_start, a_string, an_end, Placed, item_of, events_of, IsPyxDocument}
-use Rattle.rng_model.specs.matching.Reading.{Reading}
 use Rattle.rng_model.specs.declared.outcome.Outcome.{Outcome}
 use Rattle.rng_model.specs.declared.outcome.Outcome.TheVariants as outcome
 

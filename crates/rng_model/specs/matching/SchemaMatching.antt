@@ -4,12 +4,9 @@ use Rattle.std.specs.Prelude.{◌≡◌, ℕ, List, Some, ◌∷◌}
 use Rattle.rng_model.specs.names.Names.{NameClass, In}
 use Rattle.rng_model.specs.simple.Tree.{Tree}
 use Rattle.rng_model.specs.matching.Document.{Item}
-use Rattle.rng_model.specs.matching.Matching.{Leaves, Texts, IsValid}
-use Rattle.rng_model.specs.matching.Lex.{HasText}
-use Rattle.rng_model.specs.datatypes.Texts.{texts_of}
+use Rattle.rng_model.specs.matching.Matching.{Leaves, IsValid, HasText}
+use Rattle.rng_model.specs.datatypes.Texts.{Texts, texts_of}
 use Rattle.rng_model.specs.datatypes.Datatypes.{text_tests}
-use Rattle.rng_model.specs.simple.Grammar.{Grammar}
-use Rattle.rng_model.specs.matching.GrammarMatching.{IsValidBy}
 use Rattle.rng_model.specs.schema.Patterns.{Place, Position, Pattern, Point, an_element, pattern_tree}
 use Rattle.rng_model.specs.schema.Schema.{Schema, Definition, main_start, body}
 use Rattle.rng_model.specs.schema.Unfolding.{Leaf, to_definition, aim, Unfolds}

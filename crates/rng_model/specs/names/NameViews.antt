@@ -1,10 +1,22 @@
--- What a name and a name class of the code are, without their place in memory.
-use Rattle.std.specs.Prelude.{string_bytes}
+-- What a namespace, a name and a name class of the code are, without their place in memory.
+use Rattle.std.specs.Prelude.{ℕ, List, [], Option, Some, None, string_bytes}
+use Rattle.std.specs.Arc.{arc_value}
+use Rattle.std.specs.declared.sync.Arc.{Arc}
+use Rattle.std.specs.Global.{Global}
+use Rattle.rng_model.specs.declared.hashed_text.HashedText.{HashedText}
+use Rattle.rng_model.specs.declared.namespace.Namespace.{Namespace}
 use Rattle.rng_model.specs.declared.name.Name.{Name}
 use Rattle.rng_model.specs.declared.name.NameClass.{NameClass, fold-NameClass}
 use Rattle.rng_model.specs.declared.name.NameClass.TheOpen.{NameClass-F}
-use Rattle.rng_model.specs.names.NamespaceViews.{namespace_bytes}
 use Rattle.rng_model.specs.names.Names as names
+
+-- the bytes of a text; none if there is no text
+abbrev pub bytes_if_any : Option (Arc HashedText Global) → List ℕ
+bytes_if_any None = []
+bytes_if_any (Some text) = string_bytes (arc_value text).text
+
+abbrev pub namespace_bytes : Namespace → List ℕ
+namespace_bytes n = bytes_if_any n.text
 
 abbrev pub name_of : Name → names.Name
 name_of n = record { ns = namespace_bytes n.ns; local = string_bytes n.local }

@@ -1,8 +1,7 @@
 -- A text as blanks and runs of other bytes: what the code that splits it is proved against.
 use Rattle.std.specs.Prelude.{◌≡◌, ℕ, List, [], ◌∷◌, ◌++◌, Bool, true, not, ◌&&◌, IsTrue}
 use Rattle.std.specs.List.{list_all}
-use Rattle.rng_model.specs.datatypes.Texts.{is_blank_byte, is_blank}
-use Rattle.rng_model.specs.datatypes.Blanks.{has_bytes}
+use Rattle.rng_model.specs.datatypes.Texts.{is_blank_byte, is_blank, has_bytes}
 
 -- not a blank
 abbrev pub is_run_byte : ℕ → Bool

@@ -1,8 +1,7 @@
 -- Items as they are in documents.
-use Rattle.std.specs.Prelude.{◌≢◌, ℕ, List, [], ◌∷◌}
+use Rattle.std.specs.Prelude.{⊤, ◌≢◌, ℕ, List, [], ◌∷◌}
 use Rattle.rng_model.specs.names.Names.{Name}
-use Rattle.rng_model.specs.matching.Document.{Attribute, Item, a_text, an_element, Items, no_items, item_and, list_of}
-use Rattle.rng_model.specs.matching.WellFormed.{Distinct}
+use Rattle.rng_model.specs.matching.Document.{Attribute, Item, a_text, an_element, Items, no_items, item_and, list_of, Distinct}
 
 -- no two strings are adjacent
 pub data Separate : List Item → Type 0 where
@@ -20,5 +19,5 @@ abbrev mutual
   IsWellFormed (an_element q xs kids) = Distinct xs × Separate (list_of kids) × AreWellFormed kids
 
   pub AreWellFormed : Items → Type 0
-  AreWellFormed no_items = Unit {0}
+  AreWellFormed no_items = ⊤
   AreWellFormed (item_and n ns) = IsWellFormed n × AreWellFormed ns

@@ -45,18 +45,18 @@ mutual
     no_patterns : Patterns
     pattern_and : Pattern → Patterns → Patterns
 
-abbrev pub patterns_of : List Pattern → Patterns
-patterns_of [] = no_patterns
-patterns_of (p ∷ ps) = pattern_and p (patterns_of ps)
+abbrev pub pattern_list : List Pattern → Patterns
+pattern_list [] = no_patterns
+pattern_list (p ∷ ps) = pattern_and p (pattern_list ps)
 
 -- A list of members with a connector. One member alone is itself (section 4.12). No file has an empty list; it changes
 -- nothing beside other members.
-abbrev pub members : Connector → List Pattern → Pattern
-members choice [] = not_allowed
-members group [] = empty
-members interleave [] = empty
-members k (p ∷ []) = p
-members k (p ∷ (q ∷ ps)) = joined k p q (patterns_of ps)
+abbrev pub joined_members : Connector → List Pattern → Pattern
+joined_members choice [] = not_allowed
+joined_members group [] = empty
+joined_members interleave [] = empty
+joined_members k (p ∷ []) = p
+joined_members k (p ∷ (q ∷ ps)) = joined k p q (pattern_list ps)
 
 -- the datatype of this name in this library, with no parameters
 abbrev pub without_parameters : List ℕ → List ℕ → Datatype

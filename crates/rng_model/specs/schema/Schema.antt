@@ -32,18 +32,18 @@ pub record Definition : Type 0 where
 abbrev pub main_start : Schema → Definition
 main_start s = record { place = s.main; name = None }
 
-abbrev pub same_name : Option (List ℕ) → Option (List ℕ) → Bool
-same_name None None = true
-same_name None (Some b) = false
-same_name (Some a) None = false
-same_name (Some a) (Some b) = bytes_eq a b
+abbrev pub same_component_name : Option (List ℕ) → Option (List ℕ) → Bool
+same_component_name None None = true
+same_component_name None (Some b) = false
+same_component_name (Some a) None = false
+same_component_name (Some a) (Some b) = bytes_eq a b
 
 -- the trees of the components of this name, in order, each at the position that is its component's number; the first of
 -- the components has the number n
 abbrev pub trees_named : Option (List ℕ) → ℕ → List Component → List (Tree Point)
 trees_named y n [] = []
 trees_named y n (c ∷ cs) =
-    if same_name y c.name then pattern_tree (n ∷ []) c.pattern ∷ trees_named y (n + 1) cs else trees_named y (n + 1) cs
+    if same_component_name y c.name then pattern_tree (n ∷ []) c.pattern ∷ trees_named y (n + 1) cs else trees_named y (n + 1) cs
 
 abbrev pub is_interleaved : Method → Bool
 is_interleaved methods.Plain = false
@@ -54,7 +54,7 @@ is_interleaved methods.Interleave = true
 abbrev pub combining_connector : Option (List ℕ) → List Component → Connector
 combining_connector y [] = choice
 combining_connector y (c ∷ cs) =
-    if same_name y c.name then (if is_interleaved c.method then interleave else combining_connector y cs) else combining_connector y cs
+    if same_component_name y c.name then (if is_interleaved c.method then interleave else combining_connector y cs) else combining_connector y cs
 
 -- trees joined by a connector, nested in twos from the left
 abbrev pub nested_from : {L : Type 0} → Connector → Tree L → List (Tree L) → Tree L

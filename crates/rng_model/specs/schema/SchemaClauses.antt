@@ -2,19 +2,16 @@
 -- not; S16 and S17 over the trees that are reached; S18 to S27 over its simple form. (RELAX NG Specification, sections
 -- 4.16 to 4.19 and 7; S17 is profile)
 use Rattle.std.specs.Prelude.{◌≡◌, codes, ℕ, ◌<◌, List, [], Some, None}
-use Rattle.rng_model.specs.schema.Least.{IsLeast}
-use Rattle.rng_model.specs.names.Lists.{Among, HasTwo}
+use Rattle.rng_model.specs.names.Lists.{IsLeast, Among, HasTwo}
 use Rattle.rng_model.specs.names.Names.{Name, NameClass, NameClasses, any_name, any_except, ns_name, ns_except, name_is, one_of, class_and}
 use Rattle.rng_model.specs.simple.Tree.{Tree, Datatype, Simple, as_tree}
 use Rattle.rng_model.specs.simple.Grammar.{Grammar}
 use Rattle.rng_model.specs.datatypes.Datatypes.{IsKnownDatatype, IsAllowed}
-use Rattle.rng_model.specs.simple.ClassSteps.{IsSimpleClassOf}
+use Rattle.rng_model.specs.simple.Simplification.{IsSimpleClassOf, IsRewritten}
 use Rattle.rng_model.specs.schema.Patterns.{Place, Pattern, element, attribute, data_of, data_except, value, without_parameters, ref, parent_ref}
 use Rattle.rng_model.specs.schema.Schema.{Schema, Component, main_start, HasComponent, IsWrittenAt}
-use Rattle.rng_model.specs.schema.Unfolding.{Leaf, IsTreeOf, IsBodyOf}
-use Rattle.rng_model.specs.simple.Simplification.{IsRewritten}
-use Rattle.rng_model.specs.schema.Reached.{IsReachedByTrees, IsReachedTree}
-use Rattle.rng_model.specs.schema.Depth.{depth, class_depth, depth_limit}
+use Rattle.rng_model.specs.schema.Unfolding.{Leaf, IsTreeOf, IsBodyOf, IsReachedByTrees, IsReachedTree}
+use Rattle.rng_model.specs.simple.Leaves.{depth, class_depth, depth_limit}
 use Rattle.rng_model.specs.simple.SchemaForm.{IsSimpleGrammarOf}
 use Rattle.rng_model.specs.restrictions.Restrictions.{BreaksRestriction}
 use Rattle.rng_model.specs.declared.method.Method.TheVariants as methods

@@ -1,12 +1,14 @@
 -- Unfolding: which tree a pattern represents. Refs, parent refs and nested grammars are followed down to the elements,
--- which are leaves, named by their place and their position there (RELAX NG Specification, sections 4.18 and 4.19).
+-- which are leaves, named by their place and their position there (RELAX NG Specification, sections 4.18 and 4.19). Then
+-- which elements a schema reaches from its start.
 use Rattle.std.specs.Prelude.{◌≡◌, ℕ, List, ◌∷◌, Option, Some, None}
 use Rattle.rng_model.specs.names.Names.{NameClass}
-use Rattle.rng_model.specs.simple.Tree.{Datatype, Connector}
-use Rattle.rng_model.specs.simple.Tree.{Tree, not_allowed, empty, text, leaf, attribute, list, data_of, data_except, value, mixed, optional, zero_or_more, one_or_more}
-use Rattle.rng_model.specs.simple.Tree.{joined, Trees, no_trees, tree_and}
+use Rattle.rng_model.specs.simple.Tree.{Datatype, Connector, Tree, not_allowed, empty, text, leaf, attribute, list, data_of, data_except, value, mixed}
+use Rattle.rng_model.specs.simple.Tree.{optional, zero_or_more, one_or_more, joined, Trees, no_trees, tree_and}
 use Rattle.rng_model.specs.schema.Patterns.{Place, Position, Pattern, Point, an_element, a_ref, a_parent_ref, a_grammar, pattern_tree}
-use Rattle.rng_model.specs.schema.Schema.{Schema, Definition, body}
+use Rattle.rng_model.specs.schema.Schema.{Schema, Definition, body, main_start}
+use Rattle.rng_model.specs.simple.Leaves.{LeafIn}
+use Rattle.rng_model.specs.simple.Simplification.{IsSimpleFormOf}
 
 -- an element by its place and its position there, with its class and its body as they are written
 pub record Leaf : Type 0 where
@@ -76,3 +78,20 @@ IsTreeOf s d t = (a : Tree Point) × (body s d ≡ Some a) × Unfolds s d.place 
 -- the tree of an element's body
 abbrev pub IsBodyOf : Schema → Leaf → Tree Leaf → Type 0
 IsBodyOf s l t = Unfolds s l.place (content_of l) t
+
+-- ---- by unfolded trees, without the rules of notAllowed, and by simple forms (sections 4.18 to 4.20)
+
+-- an element that is a leaf of the start's tree, or of the tree of the body of an element that is reached
+pub data IsReachedByTrees (s : Schema) : Leaf → Type 0 where
+  from_start : {t : Tree Leaf} {l : Leaf} → IsTreeOf s (main_start s) t → LeafIn l t → IsReachedByTrees s l
+  from_element : {m l : Leaf} {t : Tree Leaf} → IsReachedByTrees s m → IsBodyOf s m t → LeafIn l t → IsReachedByTrees s l
+
+-- the start's tree, or that of the body of an element that is reached
+pub data IsReachedTree (s : Schema) : Tree Leaf → Type 0 where
+  of_start : {t : Tree Leaf} → IsTreeOf s (main_start s) t → IsReachedTree s t
+  of_body : {l : Leaf} {t : Tree Leaf} → IsReachedByTrees s l → IsBodyOf s l t → IsReachedTree s t
+
+-- an element that is a leaf of the start's simple form, or of the simple form of the body of an element that is reached
+pub data IsReachedBySimpleForms (s : Schema) : Leaf → Type 0 where
+  from_simple_start : {t b : Tree Leaf} {l : Leaf} → IsTreeOf s (main_start s) t → IsSimpleFormOf t b → LeafIn l b → IsReachedBySimpleForms s l
+  from_simple_body : {m l : Leaf} {t b : Tree Leaf} → IsReachedBySimpleForms s m → IsBodyOf s m t → IsSimpleFormOf t b → LeafIn l b → IsReachedBySimpleForms s l

@@ -1,9 +1,10 @@
--- The leaves of trees, and trees with their leaves under other names.
-use Rattle.std.specs.Prelude.{ℕ, ◌<◌}
-use Rattle.rng_model.specs.names.Names.{NameClass}
-use Rattle.rng_model.specs.simple.Tree.{Datatype, Connector}
-use Rattle.rng_model.specs.simple.Tree.{Tree, not_allowed, empty, text, leaf, attribute, list, data_of, data_except, value, mixed, optional, zero_or_more, one_or_more}
-use Rattle.rng_model.specs.simple.Tree.{joined, Trees, no_trees, tree_and}
+-- The leaves of trees, trees with their leaves under other names, and the depth of a tree in the simple syntax and of a
+-- name class (profile: clause S17).
+use Rattle.std.specs.Prelude.{ℕ, ◌<◌, ◌+◌, max}
+use Rattle.rng_model.specs.names.Names.{NameClass, any_except, ns_except, one_of, NameClasses, no_classes, class_and}
+use Rattle.rng_model.specs.simple.Tree.{Datatype, Connector, Tree, not_allowed, empty, text, leaf, attribute, list, data_of, data_except, value, mixed}
+use Rattle.rng_model.specs.simple.Tree.{optional, zero_or_more, one_or_more, joined, Trees, no_trees, tree_and, Simple}
+use Rattle.rng_model.specs.simple.Tree.{s_attribute, s_list, s_data_except, s_one_or_more, s_joined}
 
 -- a leaf of a tree
 mutual
@@ -50,3 +51,31 @@ abbrev mutual
   pub all_renamed : {K L : Type 0} → (K → L) → Trees K → Trees L
   all_renamed f no_trees = no_trees
   all_renamed f (tree_and a ts) = tree_and (renamed f a) (all_renamed f ts)
+
+-- ---- depth
+
+-- A class or a tree without a child has depth 1. Every other one has one more than its deepest child. The child of `* -
+-- c` and of `p:* - c` is c.
+abbrev mutual
+  pub class_depth : NameClass → ℕ
+  class_depth (any_except c) = class_depth c + 1
+  class_depth (ns_except u c) = class_depth c + 1
+  class_depth (one_of c d cs) = max (max (class_depth c) (class_depth d)) (classes_depth cs) + 1
+  class_depth _ = 1
+
+  pub classes_depth : NameClasses → ℕ
+  classes_depth no_classes = 0
+  classes_depth (class_and c cs) = max (class_depth c) (classes_depth cs)
+
+-- the children of an attribute are its name class and its body, the child of a data is its except; an element is a leaf
+abbrev pub depth : {L : Type 0} → Simple L → ℕ
+depth (s_attribute c s) = max (class_depth c) (depth s) + 1
+depth (s_list s) = depth s + 1
+depth (s_data_except d s) = depth s + 1
+depth (s_one_or_more s) = depth s + 1
+depth (s_joined k s u) = max (depth s) (depth u) + 1
+depth _ = 1
+
+-- how deep a tree may be
+abbrev pub depth_limit : ℕ
+depth_limit = 1000

@@ -5,11 +5,9 @@ use Rattle.rng_model.specs.names.Names.{NameClass}
 use Rattle.rng_model.specs.simple.Tree.{Tree, Simple, as_tree}
 use Rattle.rng_model.specs.simple.Grammar.{Grammar}
 use Rattle.rng_model.specs.simple.Leaves.{renamed, AreLeavesBelow}
-use Rattle.rng_model.specs.simple.ClassSteps.{IsSimpleClassOf}
+use Rattle.rng_model.specs.simple.Simplification.{IsSimpleClassOf, IsSimpleFormOf}
 use Rattle.rng_model.specs.schema.Schema.{Schema, main_start}
-use Rattle.rng_model.specs.schema.Unfolding.{Leaf, IsTreeOf, IsBodyOf}
-use Rattle.rng_model.specs.simple.Simplification.{IsSimpleFormOf}
-use Rattle.rng_model.specs.schema.Reached.{IsReachedBySimpleForms}
+use Rattle.rng_model.specs.schema.Unfolding.{Leaf, IsTreeOf, IsBodyOf, IsReachedBySimpleForms}
 
 -- an element of a simple form: which one it is, its name class, and its body
 pub record Element : Type 0 where

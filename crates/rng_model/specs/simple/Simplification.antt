@@ -1,12 +1,39 @@
 -- Simplification steps: one application of one rule, anywhere in a tree, and what is reached when no step applies.
 -- There are two groups of rules: those that write one kind of pattern by others (RELAX NG Specification, sections 4.12
 -- to 4.15), and those that propagate notAllowed and empty (sections 4.20 and 4.21).
-use Rattle.std.specs.Prelude.{◌≡◌}
-use Rattle.rng_model.specs.names.Names.{NameClass}
-use Rattle.rng_model.specs.simple.ClassSteps.{ClassStep}
-use Rattle.rng_model.specs.simple.Tree.{Datatype, Connector, choice, interleave}
-use Rattle.rng_model.specs.simple.Tree.{Tree, not_allowed, empty, text, attribute, list, data_of, data_except, mixed, optional, zero_or_more, one_or_more, joined}
-use Rattle.rng_model.specs.simple.Tree.{Trees, no_trees, tree_and}
+use Rattle.std.specs.Prelude.{◌≢◌, ℕ, List}
+use Rattle.rng_model.specs.names.Names.{NameClass, any_except, ns_except, one_of, NameClasses, no_classes, class_and}
+use Rattle.rng_model.specs.simple.Tree.{Datatype, Connector, choice, interleave, Tree, not_allowed, empty, text, attribute, list, data_of, data_except, mixed}
+use Rattle.rng_model.specs.simple.Tree.{optional, zero_or_more, one_or_more, joined, Trees, no_trees, tree_and}
+
+-- ---- name classes: steps anywhere in one, and what is reached when no step applies (section 4.12)
+
+-- one step: three members or more are nested in twos from the left
+mutual
+  pub data ClassStep : NameClass → NameClass → Type 0 where
+    nest_class : {c d e : NameClass} {cs : NameClasses} → ClassStep (one_of c d (class_and e cs)) (one_of (one_of c d no_classes) e cs)
+    in_any_except : {c d : NameClass} → ClassStep c d → ClassStep (any_except c) (any_except d)
+    in_ns_except : {u : List ℕ} {c d : NameClass} → ClassStep c d → ClassStep (ns_except u c) (ns_except u d)
+    in_first_class : {c d e : NameClass} {cs : NameClasses} → ClassStep c d → ClassStep (one_of c e cs) (one_of d e cs)
+    in_second_class : {c d e : NameClass} {cs : NameClasses} → ClassStep c d → ClassStep (one_of e c cs) (one_of e d cs)
+    in_other_classes : {c d : NameClass} {cs ds : NameClasses} → ClassesStep cs ds → ClassStep (one_of c d cs) (one_of c d ds)
+
+  -- one step in one of the members
+  pub data ClassesStep : NameClasses → NameClasses → Type 0 where
+    this_class : {c d : NameClass} {cs : NameClasses} → ClassStep c d → ClassesStep (class_and c cs) (class_and d cs)
+    later_class : {c : NameClass} {cs ds : NameClasses} → ClassesStep cs ds → ClassesStep (class_and c cs) (class_and c ds)
+
+-- any number of steps
+pub data ClassSteps : NameClass → NameClass → Type 0 where
+  no_class_step : {c : NameClass} → ClassSteps c c
+  class_step_and : {c d e : NameClass} → ClassStep c d → ClassSteps d e → ClassSteps c e
+
+-- d is reached from c by steps, and no step applies to d
+pub record IsSimpleClassOf (c d : NameClass) : Type 0 where
+  pub reached : ClassSteps c d
+  pub simple : (e : NameClass) → ¬ (ClassStep d e)
+
+-- ---- patterns
 
 pub data RuleGroup : Type 0 where
   -- 4.12 to 4.15
@@ -35,9 +62,9 @@ mutual
     attribute_not_allowed : {c : NameClass} → Step propagation (attribute c not_allowed) not_allowed
     list_not_allowed : Step propagation (list not_allowed) not_allowed
     one_or_more_not_allowed : Step propagation (one_or_more not_allowed) not_allowed
-    first_not_allowed : {k : Connector} {b : Tree L} {ts : Trees L} → (k ≡ choice → ⊥) → Step propagation (joined k not_allowed b ts) not_allowed
-    second_not_allowed : {k : Connector} {a : Tree L} {ts : Trees L} → (k ≡ choice → ⊥) → Step propagation (joined k a not_allowed ts) not_allowed
-    other_not_allowed : {k : Connector} {a b : Tree L} {ts : Trees L} → (k ≡ choice → ⊥) → HasNotAllowed ts
+    first_not_allowed : {k : Connector} {b : Tree L} {ts : Trees L} → k ≢ choice → Step propagation (joined k not_allowed b ts) not_allowed
+    second_not_allowed : {k : Connector} {a : Tree L} {ts : Trees L} → k ≢ choice → Step propagation (joined k a not_allowed ts) not_allowed
+    other_not_allowed : {k : Connector} {a b : Tree L} {ts : Trees L} → k ≢ choice → HasNotAllowed ts
         → Step propagation (joined k a b ts) not_allowed
     -- 4.20: a choice with one notAllowed side is the other side; with two, it is notAllowed; a notAllowed except is
     -- removed
@@ -47,10 +74,10 @@ mutual
     -- 4.21: two empties are empty
     two_empties : {k : Connector} → Step propagation (joined k empty empty no_trees) empty
     -- 4.21: a group or interleave with one empty side is the other side
-    first_empty : {k : Connector} {b : Tree L} → (k ≡ choice → ⊥) → Step propagation (joined k empty b no_trees) b
-    second_empty : {k : Connector} {a : Tree L} → (k ≡ choice → ⊥) → Step propagation (joined k a empty no_trees) a
+    first_empty : {k : Connector} {b : Tree L} → k ≢ choice → Step propagation (joined k empty b no_trees) b
+    second_empty : {k : Connector} {a : Tree L} → k ≢ choice → Step propagation (joined k a empty no_trees) a
     -- 4.21: a choice with empty as its second side, and not as its first, swaps its sides
-    sides_change : {a : Tree L} → (a ≡ empty → ⊥) → Step propagation (joined choice a empty no_trees) (joined choice empty a no_trees)
+    sides_change : {a : Tree L} → a ≢ empty → Step propagation (joined choice a empty no_trees) (joined choice empty a no_trees)
     -- 4.21: oneOrMore of empty is empty
     one_or_more_empty : Step propagation (one_or_more empty) empty
     -- a step inside the tree
@@ -82,7 +109,7 @@ pub data Steps {L : Type 0} (IsStep : Tree L → Tree L → Type 0) : Tree L →
 -- b is reached from a by these steps, and none applies to b
 pub record IsLast {L : Type 0} (IsStep : Tree L → Tree L → Type 0) (a b : Tree L) : Type 0 where
   pub reached : Steps IsStep a b
-  pub last : (c : Tree L) → IsStep b c → ⊥
+  pub last : (c : Tree L) → ¬ (IsStep b c)
 
 -- 4.12 to 4.15 are applied to a, and no other rule
 abbrev pub IsRewritten : {L : Type 0} → Tree L → Tree L → Type 0

@@ -1,11 +1,10 @@
 -- What the simplification of a schema has to return.
-use Rattle.std.specs.Prelude.{◌↔◌, ℕ, ◌<◌, length}
-use Rattle.rng_model.specs.schema.Least.{IsLeast}
+use Rattle.std.specs.Prelude.{⊤, ◌↔◌, ℕ, ◌<◌, length}
+use Rattle.rng_model.specs.names.Lists.{IsLeast}
 use Rattle.rng_model.specs.restrictions.Restrictions.{IsPart}
-use Rattle.rng_model.specs.simple.Inside.{StandsIn}
+use Rattle.rng_model.specs.simple.Grammar.{StandsIn, Grammar}
 use Rattle.rng_model.specs.schema.Schema.{Schema}
 use Rattle.rng_model.specs.schema.SchemaClauses.{BreaksSchemaClause}
-use Rattle.rng_model.specs.simple.Grammar.{Grammar}
 use Rattle.rng_model.specs.simple.Table.{Table, grammar_of, tree_at}
 use Rattle.rng_model.specs.simple.Tree.{Simple}
 use Rattle.rng_model.specs.matching.Document.{Item}
@@ -20,7 +19,7 @@ use Rattle.rng_model.specs.declared.fault.SchemaFault.TheVariants as faults
 abbrev pub IsSchemaFault : Schema → SchemaFault → Type 0
 IsSchemaFault s (faults.Clause clause) = IsLeast (BreaksSchemaClause s) clause
 IsSchemaFault s (faults.File clause name) = ⊥
-IsSchemaFault s faults.Memory = Unit {0}
+IsSchemaFault s faults.Memory = ⊤
 
 -- the tables hold no more than the grammar: each pattern is in the start, or in the body of an element
 abbrev pub AreAllUsed : Table → Type 0

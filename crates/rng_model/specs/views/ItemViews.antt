@@ -4,7 +4,7 @@ use Rattle.rng_model.specs.declared.document.Item.{Item, fold-Item}
 use Rattle.rng_model.specs.declared.document.Item.TheOpen.{Item-F}
 use Rattle.rng_model.specs.matching.Document as document
 use Rattle.rng_model.specs.names.NameViews.{name_of}
-use Rattle.rng_model.specs.documents.DocumentViews.{attribute_of}
+use Rattle.rng_model.specs.documents.EventViews.{attribute_of}
 
 abbrev pub items_of : List document.Item → document.Items
 items_of [] = document.no_items

@@ -3,8 +3,7 @@ use Rattle.std.specs.Prelude.{◌≡◌, ◌≤◌, ℕ, List, true, length, map
 use Rattle.std.specs.Map.{lookup}
 use Rattle.std.specs.Str.{bytes_eq}
 use Rattle.rng_model.specs.names.Names.{Name, NameClass}
-use Rattle.rng_model.specs.names.NameViews.{name_of}
-use Rattle.rng_model.specs.names.NamespaceViews.{namespace_bytes}
+use Rattle.rng_model.specs.names.NameViews.{name_of, namespace_bytes}
 use Rattle.rng_model.specs.declared.namespace.Namespace.{Namespace}
 use Rattle.rng_model.specs.declared.name.Name as declared
 use Rattle.rng_names.specs.plain.Written.{writes_name, writes_ns}

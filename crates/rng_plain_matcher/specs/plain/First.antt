@@ -1,8 +1,8 @@
 -- What a pattern takes first: a string or an attribute.
 use Rattle.std.specs.Prelude.{ℕ, List, Bool}
 use Rattle.rng_model.specs.simple.Tree.{Simple}
-use Rattle.rng_model.specs.documents.DocumentViews.{attribute_of}
-use Rattle.rng_model.specs.matching.Reading.{Reading}
+use Rattle.rng_model.specs.documents.EventViews.{attribute_of}
+use Rattle.rng_model.specs.matching.GrammarMatching.{Reading}
 use Rattle.rng_deriv_laws.specs.plain.Derivatives.{Way, attribute_ways, item_ways, list_has, no_list, rests_of, takes_attribute, takes_text}
 use Rattle.rng_plain_matcher.specs.declared.first.First.{First}
 use Rattle.rng_plain_matcher.specs.declared.first.First.TheVariants as firsts

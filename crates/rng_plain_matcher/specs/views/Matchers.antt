@@ -2,7 +2,7 @@
 use Rattle.std.specs.Prelude.{◌≡◌, ◌⊎◌, ℕ, List, [], ◌++◌, All, Bool, true, false}
 use Rattle.rng_model.specs.simple.Table.{Table, grammar_of}
 use Rattle.rng_model.specs.documents.PyxTrees.{Event}
-use Rattle.rng_model.specs.matching.GrammarReading.{reading_of}
+use Rattle.rng_model.specs.matching.GrammarMatching.{reading_of}
 use Rattle.rng_model.specs.matching.Outcomes.{FailsAt, KnowsName}
 use Rattle.rng_model.specs.restrictions.Restrictions.{BreaksNone}
 use Rattle.rng_deriv_laws.specs.plain.Events as laws

@@ -1,9 +1,9 @@
 -- What is known of a pattern without looking into it again.
 use Rattle.std.specs.Prelude.{◌≡◌, ℕ, List, Option, Some, None, Bool, true, false, ◌&&◌, ◌||◌, slice_get}
 use Rattle.rng_model.specs.names.Names.{NameClass, NameClasses, any_name, any_except, ns_name, ns_except, name_is, one_of, no_classes, class_and}
-use Rattle.rng_model.specs.restrictions.ContentTypes as model
-use Rattle.rng_model.specs.restrictions.ContentTypes.{empty_content, complex_content, simple_content}
-use Rattle.rng_model.specs.simple.Inside.{kind_of}
+use Rattle.rng_model.specs.restrictions.Contents as model
+use Rattle.rng_model.specs.restrictions.Contents.{empty_content, complex_content, simple_content}
+use Rattle.rng_model.specs.simple.Grammar.{kind_of}
 use Rattle.rng_model.specs.simple.Tree as tree
 use Rattle.rng_model.specs.simple.Tree.{Simple, s_not_allowed, s_empty, s_text, s_leaf, s_attribute, s_list, s_data, s_data_except, s_value}
 use Rattle.rng_model.specs.simple.Tree.{s_one_or_more, s_joined}

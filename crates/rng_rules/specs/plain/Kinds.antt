@@ -1,8 +1,8 @@
 -- Which kinds of pattern are not allowed where, as tests.
 use Rattle.std.specs.Prelude.{Bool, true, false}
-use Rattle.rng_model.specs.simple.Inside as model
-use Rattle.rng_model.specs.simple.Inside.{not_allowed_kind, empty_kind, text_kind, ref_kind, attribute_kind, list_kind, data_kind, value_kind}
-use Rattle.rng_model.specs.simple.Inside.{one_or_more_kind, choice_kind, group_kind, interleave_kind}
+use Rattle.rng_model.specs.simple.Grammar as model
+use Rattle.rng_model.specs.simple.Grammar.{not_allowed_kind, empty_kind, text_kind, ref_kind, attribute_kind, list_kind, data_kind, value_kind}
+use Rattle.rng_model.specs.simple.Grammar.{one_or_more_kind, choice_kind, group_kind, interleave_kind}
 use Rattle.rng_rules.specs.declared.kind.Kind.{Kind}
 use Rattle.rng_rules.specs.declared.kind.Kind.TheVariants as kind
 

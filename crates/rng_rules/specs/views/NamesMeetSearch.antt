@@ -1,8 +1,7 @@
 -- Two rows with name classes that have a name in common, on the two sides of a row. Private contracts cite it.
 use Rattle.std.specs.Prelude.{◌≡◌, ℕ, List, [], ◌∷◌, length, slice_get, Some, true, Contains}
 use Rattle.rng_model.specs.names.Names.{Overlap}
-use Rattle.rng_model.specs.restrictions.Occurrences.{BreaksAttributeNames, BreaksElementNames}
-use Rattle.rng_model.specs.restrictions.Restrictions.{ClassIn}
+use Rattle.rng_model.specs.restrictions.Restrictions.{BreaksAttributeNames, BreaksElementNames, ClassIn}
 use Rattle.rng_model.specs.simple.Table.{Table}
 use Rattle.rng_model.specs.simple.Grammar.{Grammar}
 use Rattle.rng_model.specs.simple.Tree.{Simple}

@@ -4,7 +4,7 @@ use Rattle.std.specs.Borrow.{Bor}
 use Rattle.std.specs.List.{list_any}
 use Rattle.indexmap.specs.IndexSet.{IndexSet}
 use Rattle.rng_model.specs.schema.Patterns.{Place}
-use Rattle.rng_model.specs.schema.Schema.{Component, Schema, same_name, is_interleaved}
+use Rattle.rng_model.specs.schema.Schema.{Component, Schema, same_component_name, is_interleaved}
 use Rattle.rng_model.specs.declared.method.Method.{Method}
 use Rattle.rng_model.specs.declared.method.Method.TheVariants as methods
 use Rattle.rng_schema_checks.specs.plain.PatternTests.{PatternTest, has_written}
@@ -33,7 +33,7 @@ module _ {S : Type 0} where
   names_in names = map seen_name names.keys
 
 abbrev pub has : List Name → Name → Bool
-has names y = list_any (same_name y) names
+has names y = list_any (same_component_name y) names
 
 -- ---- components of one name
 
@@ -44,7 +44,7 @@ two_plain names (c ∷ cs) =
     if is_plain c.method then has names c.name || two_plain (names ++ c.name ∷ []) cs else two_plain names cs
 
 abbrev pub is_interleaved_as : Name → Component → Bool
-is_interleaved_as y c = is_interleaved c.method && same_name y c.name
+is_interleaved_as y c = is_interleaved c.method && same_component_name y c.name
 
 -- one has `|=`, and one of the same name has `&=`
 abbrev pub both_methods : List Component → Bool
@@ -56,7 +56,7 @@ breaks_combination cs = two_plain [] cs || both_methods cs
 -- ---- starts and definitions
 
 abbrev pub is_named : Name → Component → Bool
-is_named y c = same_name y c.name
+is_named y c = same_component_name y c.name
 
 abbrev pub lacks_start : List Component → Bool
 lacks_start cs = not (list_any (is_named None) cs)

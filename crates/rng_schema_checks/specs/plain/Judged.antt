@@ -1,6 +1,6 @@
 -- The result of checking the components of a schema.
 use Rattle.std.specs.Prelude.{ℕ, ◌≤◌, Result, Ok, Err}
-use Rattle.rng_model.specs.schema.Least.{IsLeast}
+use Rattle.rng_model.specs.names.Lists.{IsLeast}
 use Rattle.rng_model.specs.schema.Schema.{Schema}
 use Rattle.rng_model.specs.schema.SchemaClauses.{BreaksSchemaClause}
 use Rattle.rng_model.specs.declared.fault.SchemaFault.{SchemaFault}

@@ -1,9 +1,10 @@
 -- The plain function that fills a table of depths: the depth of a pattern, given those of its points. Private contracts
 -- cite it.
 use Rattle.std.specs.Prelude.{◌≡◌, ℕ, ◌+◌, ◌<◌, max, min, List, [], ◌∷◌, Some, Contains}
-use Rattle.rng_model.specs.simple.Tree.{Tree, not_allowed, empty, text, leaf, attribute, list, data_of, data_except, value, mixed, optional, zero_or_more, one_or_more}
+use Rattle.rng_model.specs.simple.Tree.{Tree, not_allowed, empty, text, leaf, attribute, list, data_of, data_except, value, mixed, optional, zero_or_more}
+use Rattle.rng_model.specs.simple.Tree.{one_or_more}
 use Rattle.rng_model.specs.simple.Tree.{joined, Trees, no_trees, tree_and}
-use Rattle.rng_model.specs.schema.Depth.{class_depth, depth, depth_limit}
+use Rattle.rng_model.specs.simple.Leaves.{class_depth, depth, depth_limit}
 use Rattle.rng_simple.specs.plain.InTwos.{nested, in_twos}
 use Rattle.rng_model.specs.schema.Patterns.{Place, Point}
 use Rattle.rng_model.specs.schema.Schema.{Schema, Definition, main_start, body}

@@ -2,8 +2,7 @@
 use Rattle.rng_model.specs.simple.Tree.{Tree}
 use Rattle.rng_model.specs.schema.Patterns.{Place, Point}
 use Rattle.rng_model.specs.schema.Schema.{Schema, main_start}
-use Rattle.rng_model.specs.schema.Unfolding.{Leaf, Unfolds, IsTreeOf, IsBodyOf}
-use Rattle.rng_model.specs.schema.Reached.{IsReachedByTrees}
+use Rattle.rng_model.specs.schema.Unfolding.{Leaf, Unfolds, IsTreeOf, IsBodyOf, IsReachedByTrees}
 
 -- the pattern at the place has a tree
 abbrev pub HasTree : Schema → Place → Tree Point → Type 0

@@ -5,11 +5,10 @@ use Rattle.std.specs.Prelude.{if◌then◌else◌, Contains}
 use Rattle.std.specs.Str.{bytes_eq}
 use Rattle.rng_model.specs.names.Names.{NameClass}
 use Rattle.rng_model.specs.simple.Tree.{Tree}
-use Rattle.rng_model.specs.simple.Leaves.{renamed, LeafIn}
-use Rattle.rng_model.specs.schema.Depth.{class_depth, depth_limit}
+use Rattle.rng_model.specs.simple.Leaves.{renamed, LeafIn, class_depth, depth_limit}
 use Rattle.rng_simple.specs.plain.InTwos.{nested}
 use Rattle.rng_model.specs.schema.Patterns.{Place, Point}
-use Rattle.rng_model.specs.schema.Schema.{Schema, Definition, main_start, body, same_name}
+use Rattle.rng_model.specs.schema.Schema.{Schema, Definition, main_start, body, same_component_name}
 use Rattle.rng_model.specs.schema.Unfolding.{Leaf, content_of, Aim, to_element, to_definition, to_nothing, aim}
 use Rattle.rng_simple.specs.plain.Met.{Met}
 use Rattle.rng_simple.specs.plain.DepthWith.{depth_with}
@@ -50,7 +49,7 @@ pub record IsResolved (s : Schema) (ds : List Definition) (ls : List Leaf) (x : 
 -- Definitions are the same if they have the same name and place; elements are the same if they have the same position
 -- and place.
 abbrev pub same_definition : Definition → Definition → Bool
-same_definition d e = bytes_eq d.place e.place && same_name d.name e.name
+same_definition d e = bytes_eq d.place e.place && same_component_name d.name e.name
 
 abbrev pub same_leaf : Leaf → Leaf → Bool
 same_leaf l m = bytes_eq l.place m.place && bytes_eq l.position m.position

@@ -1,7 +1,7 @@
 -- Depths member by member, without building the nested form. Private contracts cite them.
 use Rattle.std.specs.Prelude.{◌⊎◌, ℕ, ◌<◌, max, List, [], ◌∷◌, slice_index_or}
 use Rattle.rng_model.specs.names.Names.{NameClasses, no_classes, class_and}
-use Rattle.rng_model.specs.schema.Depth.{class_depth, depth_limit}
+use Rattle.rng_model.specs.simple.Leaves.{class_depth, depth_limit}
 use Rattle.rng_model.specs.names.NameViews.{class_of}
 use Rattle.rng_simple.specs.plain.InTwos.{nested}
 use Rattle.rng_simple.specs.plain.DepthWith.{cut_off, one_more, nested_depth, depth_with}

@@ -7,8 +7,7 @@ use Rattle.rng_model.specs.simple.Grammar.{Grammar}
 use Rattle.rng_model.specs.simple.Leaves.{AreLeavesBelow}
 use Rattle.rng_model.specs.schema.Patterns as patterns
 use Rattle.rng_model.specs.schema.Schema.{Schema}
-use Rattle.rng_model.specs.schema.Unfolding.{Leaf, IsBodyOf}
-use Rattle.rng_model.specs.schema.Reached.{IsReachedBySimpleForms}
+use Rattle.rng_model.specs.schema.Unfolding.{Leaf, IsBodyOf, IsReachedBySimpleForms}
 use Rattle.rng_simple.specs.plain.InTwos.{nested}
 use Rattle.rng_simple.specs.plain.SimpleOf.{simple_of}
 use Rattle.rng_simple.specs.plain.Renamed.{simple_renamed}

@@ -2,7 +2,7 @@
 use Rattle.std.specs.Prelude.{ℕ, ◌+◌, List, [], ◌∷◌, ◌++◌, fold, Option, if◌then◌else◌}
 use Rattle.rng_model.specs.schema.Patterns.{Place, Position, Pattern, Patterns, no_patterns, pattern_and, not_allowed, empty, text, element, attribute, list}
 use Rattle.rng_model.specs.schema.Patterns.{data_of, data_except, value, mixed, optional, zero_or_more, one_or_more, joined, ref, parent_ref, grammar, external}
-use Rattle.rng_model.specs.schema.Schema.{Schema, Component, Definition, same_name}
+use Rattle.rng_model.specs.schema.Schema.{Schema, Component, Definition, same_component_name}
 use Rattle.rng_model.specs.schema.Unfolding.{Leaf}
 use Rattle.rng_simple.specs.views.ComponentTable.{components_at}
 
@@ -39,7 +39,7 @@ module _ (x : Place) where
 unfoldable pub with_named_elements : Place → Option (List ℕ) → ℕ → List Component → List Leaf → List Leaf
 with_named_elements x y n [] ls = ls
 with_named_elements x y n (c ∷ cs) ls =
-    with_named_elements x y (n + 1) cs (if same_name y c.name then with_elements x (n ∷ []) c.pattern ls else ls)
+    with_named_elements x y (n + 1) cs (if same_component_name y c.name then with_elements x (n ∷ []) c.pattern ls else ls)
 
 -- these elements, and those of a definition
 abbrev pub with_elements_of : Schema → List Leaf → Definition → List Leaf

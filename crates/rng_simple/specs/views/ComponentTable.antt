@@ -3,7 +3,7 @@ use Rattle.std.specs.Prelude.{◌≡◌, List, [], ◌++◌, map, filter, length
 use Rattle.std.specs.List.{list_any}
 use Rattle.std.specs.Str.{bytes_eq}
 use Rattle.rng_model.specs.schema.Patterns.{Place}
-use Rattle.rng_model.specs.schema.Schema.{Schema, Component, Definition, same_name, is_interleaved}
+use Rattle.rng_model.specs.schema.Schema.{Schema, Component, Definition, same_component_name, is_interleaved}
 use Rattle.rng_model.specs.simple.Tree.{Connector, choice, interleave}
 use Rattle.rng_model.specs.views.SchemaView.{schema_component_of}
 use Rattle.rng_simple.specs.views.Definitions.{definition_of}
@@ -31,7 +31,7 @@ IsTable t = length t.components ≡ length t.definitions
 
 -- the component, in the grammar at this place, is one of the definition
 abbrev pub is_of : Definition → Place → Component → Bool
-is_of d x c = bytes_eq d.place x && same_name d.name c.name
+is_of d x c = bytes_eq d.place x && same_component_name d.name c.name
 
 -- the components of the definition among those of the grammar at a place
 abbrev pub those_at : Definition → Place → List Component → List Component
@@ -52,7 +52,7 @@ those_among s d (x ∷ xs) = those_at d x (components_at s x) ++ those_among s d
 
 -- the components of the definition in its grammar
 abbrev pub schema_components : Schema → Definition → List Component
-schema_components s d = filter (λ c. same_name d.name c.name) (components_at s d.place)
+schema_components s d = filter (λ c. same_component_name d.name c.name) (components_at s d.place)
 
 -- an interleave if one of the components has `&=`, otherwise a choice
 abbrev pub joining : List Component → Connector

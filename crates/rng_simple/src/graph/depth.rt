@@ -1,7 +1,7 @@
 // Depths of patterns and name classes whose members are nested in twos. Depths stop at the limit plus one.
 ghost use Rattle.std.specs.Prelude.{◌≡◌, map, slice_index_or, IfOk, OnOk};
 ghost use Rattle.rng_model.specs.names.Names.{some_of};
-ghost use Rattle.rng_model.specs.schema.Depth.{class_depth as depth_of_class};
+ghost use Rattle.rng_model.specs.simple.Leaves.{class_depth as depth_of_class};
 ghost use Rattle.rng_model.specs.names.NameViews.{class_of};
 ghost use Rattle.rng_simple.specs.plain.InTwos.{nested};
 ghost use Rattle.rng_simple.specs.plain.DepthWith.{cut_off, one_more, depth_with};

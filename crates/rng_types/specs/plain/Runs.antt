@@ -1,7 +1,6 @@
 -- Collapsed texts, read byte by byte from the bytes that are still to come.
 use Rattle.std.specs.Prelude.{ℕ, List, [], ◌∷◌, if◌then◌else◌}
-use Rattle.rng_model.specs.datatypes.Texts.{is_blank_byte, is_blank}
-use Rattle.rng_model.specs.datatypes.Blanks.{collapse}
+use Rattle.rng_model.specs.datatypes.Texts.{is_blank_byte, is_blank, collapse}
 
 -- a text without the blanks that it begins with
 abbrev pub past_blanks : List ℕ → List ℕ

@@ -1,8 +1,8 @@
 -- Words of ASCII letters, digits, `_`, `-` and `.`.
 use Rattle.std.specs.Prelude.{◌≡◌, ◌==◌, ℕ, List, [], ◌∷◌, Bool, true, false, ◌||◌, length}
 use Rattle.std.specs.List.{list_all}
-use Rattle.rng_model.specs.names.Characters.{is_in_ranges}
-use Rattle.rng_model.specs.datatypes.Blanks.{collapse}
+use Rattle.rng_model.specs.names.Names.{is_in_ranges}
+use Rattle.rng_model.specs.datatypes.Texts.{collapse}
 
 -- a letter or `_`
 abbrev pub is_start_byte : ℕ → Bool

@@ -1,7 +1,7 @@
 -- What each fault says of a datatype.
 use Rattle.std.specs.Prelude.{is_some, IsTrue}
 use Rattle.rng_model.specs.simple.Tree.{Datatype}
-use Rattle.rng_model.specs.datatypes.Parameters.{named}
+use Rattle.rng_model.specs.datatypes.Facets.{named}
 use Rattle.rng_model.specs.datatypes.Datatypes.{libraries, type_named, IsKnownDatatype}
 use Rattle.rng_types.specs.declared.builtin.TypeFault.{TypeFault}
 use Rattle.rng_types.specs.declared.builtin.TypeFault.TheVariants as faults

@@ -1,6 +1,6 @@
 -- The lookup of a datatype: the library, then the name in it, then the parameters.
 use Rattle.std.specs.Prelude.{ℕ, List, Option, Some, None, Result, Ok, Err}
-use Rattle.rng_model.specs.datatypes.Parameters.{Parameter, named}
+use Rattle.rng_model.specs.datatypes.Facets.{Parameter, named}
 use Rattle.rng_model.specs.datatypes.Datatypes.{Meaning, Maker, libraries}
 use Rattle.rng_types.specs.declared.builtin.TypeFault.{TypeFault}
 use Rattle.rng_types.specs.declared.builtin.TypeFault.TheVariants as faults

@@ -6,12 +6,11 @@ use Rattle.rng_model.specs.schema.Schema.{Schema}
 use Rattle.rng_model.specs.simple.SchemaForm.{IsOnlySimpleGrammarOf, IsSimpleGrammarOf}
 use Rattle.rng_model.specs.simple.SimplifiedSchema.{IsSchemaFault}
 use Rattle.rng_model.specs.simple.Grammar.{Grammar}
-use Rattle.rnc_model.specs.loading.FaultVerdicts.{verdict_of_fault}
+use Rattle.rnc_model.specs.loading.Loading.{verdict_of_fault, TakenFiles, are_taken, FilesHaveOnlyVerdict}
 use Rattle.rnc_model.specs.loading.LoadedSchema.{AreSchema}
-use Rattle.rnc_model.specs.loading.Loading.{TakenFiles, are_taken, FilesHaveOnlyVerdict}
-use Rattle.rnc_model.specs.loading.SchemaFile.{Name, NamedFile}
+use Rattle.rnc_model.specs.loading.SchemaFile.{FileName, NamedFile}
 
-module _ (files : List NamedFile) (main : Name) where
+module _ (files : List NamedFile) (main : FileName) where
   -- the files break none of S1 to S10, and are this schema
   pub record AreFilesOf (s : Schema) : Type 0 where
     pub read : TakenFiles

@@ -1,6 +1,6 @@
 use Rattle.std.proofs.Common.{◌≡◌, ◌++◌, Some, map}
 use Rattle.std.specs.Vec.Iter.{drain_items}
-use Rattle.rng_model.specs.documents.DocumentViews.{attribute_of}
+use Rattle.rng_model.specs.documents.EventViews.{attribute_of}
 use Rattle.pyx.specs.plain.DocumentReader.{declared_in}
 use Rattle.pyx.specs.plain.TagReader.{expanded}
 use Rattle.pyx.specs.views.WrittenAttributes.{written_attribute}

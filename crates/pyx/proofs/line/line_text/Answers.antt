@@ -1,7 +1,7 @@
 use Rattle.std.proofs.Common.{◌≡◌, ◌≤◌, ◌∙◌, arith, refl, sym, ap, length}
 use Rattle.std.specs.List.{list_all}
 use Rattle.std.specs.Str.{chars}
-use Rattle.rng_model.specs.names.Characters.{is_xml_char}
+use Rattle.rng_model.specs.names.Names.{is_xml_char}
 use Rattle.pyx.specs.plain.LineReader.{said_of, kind_of}
 use Rattle.pyx.specs.plain.Pieces.{ended_line}
 use Rattle.pyx.specs.views.View.{line_of}

@@ -1,5 +1,5 @@
 use Rattle.std.proofs.Common.{◌-◌, ◌∙◌, length, take, drop, map, ap, sym}
-use Rattle.rng_model.specs.documents.DocumentViews.{attribute_of}
+use Rattle.rng_model.specs.documents.EventViews.{attribute_of}
 use Rattle.pyx.specs.plain.NamespacesSlots.{is_met}
 use Rattle.pyx.specs.plain.TagReader.{is_named_twice}
 use Rattle.pyx.proofs.Tags.Slots.{all_kept, first_and_rest, unmet}

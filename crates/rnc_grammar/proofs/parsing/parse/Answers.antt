@@ -1,5 +1,5 @@
 use Rattle.std.proofs.lemmas.Result.{err_from_is_err_and}
-use Rattle.rnc_model.specs.tokens.Lexeme.{lexemes}
+use Rattle.rnc_model.specs.tokens.Cut.{lexemes}
 use Rattle.rnc_model.specs.tokens.CutTokens.{tokens_of}
 use Rattle.rnc_grammar.proofs.ParsingAnswers.{fault_given, fault_told, grammar_told, mentions_given, nesting_told, no_fault, no_tree, one_tree}
 use Rattle.rnc_grammar.proofs.ParsingAnswers.{only_declarations, only_tree, tree_given}

@@ -1,5 +1,5 @@
 use Rattle.std.proofs.Common.{◌≡◌, ◌++◌, map, drop, string_bytes}
-use Rattle.rnc_model.specs.grammar.Syntax.{joined_text}
+use Rattle.rnc_model.specs.grammar.SyntaxTrees.{joined_text}
 use Rattle.rnc_syntax.specs.views.SyntaxView as syntax
 use Rattle.rnc_grammar.proofs.scope.literal_text.Given as goal
 

@@ -2,7 +2,7 @@ use Rattle.std.proofs.Common.{◌+◌, List, suc, arith, subst, sym}
 use Rattle.rnc_model.specs.grammar.Sentence.{nesting_limit, NestsWithin}
 use Rattle.rnc_model.specs.loading.FaultPlaces.{IsTooDeepAt}
 use Rattle.rnc_model.specs.tokens.CutTokens.{tokens_of}
-use Rattle.rnc_model.specs.tokens.Lexeme.{Lexeme, lexemes}
+use Rattle.rnc_model.specs.tokens.Cut.{Lexeme, lexemes}
 use Rattle.rnc_syntax.proofs.Lexemes.{all_lexemes}
 use Rattle.rnc_syntax.proofs.NestingSteps.{began, first_back, first_here, keeps_back, stays_few}
 use Rattle.rnc_places.proofs.NestingNumber.{leads_from}

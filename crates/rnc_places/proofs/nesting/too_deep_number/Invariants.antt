@@ -1,7 +1,7 @@
 use Rattle.std.proofs.Common.{◌+◌, ◌≤◌, drop, length}
 use Rattle.rnc_model.specs.grammar.Sentence.{nesting_limit, NestsWithin}
 use Rattle.rnc_model.specs.tokens.CutTokens.{tokens_of}
-use Rattle.rnc_model.specs.tokens.Lexeme.{lexemes}
+use Rattle.rnc_model.specs.tokens.Cut.{lexemes}
 use Rattle.rnc_syntax.specs.plain.Reading.{lexemes_in}
 use Rattle.rnc_syntax.proofs.NestingSteps.{Within}
 use Rattle.rnc_places.proofs.NestingNumber.{Leads}

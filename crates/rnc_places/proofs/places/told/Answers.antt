@@ -2,11 +2,11 @@ use Rattle.std.proofs.Common.{Vec, Global, Ok, Err, Some, ap, subst, sym, length
 use Rattle.rnc_grammar.specs.views.ParsingFaults.{IsFaultOf, unless_memory}
 use Rattle.rnc_grammar.specs.views.View.{file_of}
 use Rattle.rnc_model.specs.declarations.FileTree.{FileTree}
-use Rattle.rnc_model.specs.declarations.Parsing.{IsFileTree}
+use Rattle.rnc_model.specs.loading.SchemaFile.{IsFileTree}
 use Rattle.rnc_model.specs.declared.token.Token.{Token}
 use Rattle.rnc_model.specs.loading.FaultPlaces.{IsPlaceOfToken}
 use Rattle.rnc_model.specs.tokens.CutTokens.{tokens_of}
-use Rattle.rnc_model.specs.tokens.Lexeme.{lexemes}
+use Rattle.rnc_model.specs.tokens.Cut.{lexemes}
 use Rattle.rng_model.specs.plain.Answers.{Gives}
 use Rattle.rnc_places.specs.views.Told.{IsNumberOf, IsTold}
 use Rattle.rng_load.proofs.FileContent.{Lexed, decoded, lexed, parsed, tokenized}

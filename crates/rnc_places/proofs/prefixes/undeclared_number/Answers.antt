@@ -1,6 +1,6 @@
 use Rattle.std.proofs.Common.{◌∙◌, ap, arith, length, sym}
 use Rattle.rnc_grammar.specs.views.Resolved.{scope_view}
-use Rattle.rnc_model.specs.tokens.Lexeme.{lexeme_at}
+use Rattle.rnc_model.specs.tokens.Cut.{lexeme_at}
 use Rattle.rnc_syntax.specs.plain.Reading.{lexemes_in}
 use Rattle.rnc_places.proofs.FaultSteps.{depth_grows, fault_later, none_left}
 use Rattle.rnc_places.proofs.prefixes.undeclared_number.Goals as goal

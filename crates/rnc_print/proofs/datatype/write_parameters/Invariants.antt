@@ -1,6 +1,6 @@
 use Rattle.std.proofs.Common.{◌≡◌, ◌++◌, flat_map, map, take, codes}
 use Rattle.rng_model.specs.datatypes.DatatypeViews.{parameter_of}
-use Rattle.rncv_model.specs.printed.PrintedText.{parameter_text}
+use Rattle.rncv_model.specs.printed.Words.{parameter_text}
 use Rattle.rnc_print.proofs.datatype.write_parameters.Given as goal
 
 -- the parameters so far are written

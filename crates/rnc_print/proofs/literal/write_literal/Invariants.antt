@@ -1,5 +1,5 @@
 use Rattle.std.proofs.Common.{◌≡◌, ◌++◌, drop}
-use Rattle.rncv_model.specs.printed.PrintedText.{literal}
+use Rattle.rncv_model.specs.printed.Words.{literal}
 use Rattle.rnc_print.specs.plain.Literals.{open_text}
 use Rattle.rnc_print.proofs.literal.write_literal.Given as goal
 

@@ -1,7 +1,7 @@
 use Rattle.std.proofs.Common.{ℕ, ◌≤◌, List, length}
 use Rattle.rnc_model.specs.loading.LoadedSchema.{AreSchema}
 use Rattle.rnc_model.specs.loading.Loading.{TakenFiles, are_taken, FilesHaveOnlyVerdict}
-use Rattle.rnc_model.specs.loading.SchemaFile.{Name, NamedFile, IsSchemaFile, size_limit}
+use Rattle.rnc_model.specs.loading.SchemaFile.{FileName, NamedFile, IsSchemaFile, size_limit}
 use Rattle.rng_model.specs.schema.Schema.{Schema}
 use Rattle.rng_model.specs.schema.SchemaClauses.{BreaksNoClause}
 use Rattle.rng_model.specs.simple.SchemaForm.{IsSimpleGrammarOf}
@@ -18,9 +18,9 @@ use Rattle.rnc_print_laws.proofs.printed_again.printed_again_laws.Goals as goal
 -- what is printed for a good schema of files is a file with the tree of its lines: printable texts are read back, and
 -- its simple grammars are printable
 printed_file : ((g : Grammar) (text : List ℕ) → IsPrintable g → (p : IsPrinted g text) → length text ≤ 1048576 → IsReadAs text (lines_tree g p.items))
-    → ((files : List NamedFile) (main : Name) (read : TakenFiles) (s : Schema) → FilesHaveOnlyVerdict files main (are_taken read) → AreSchema read main s
+    → ((files : List NamedFile) (main : FileName) (read : TakenFiles) (s : Schema) → FilesHaveOnlyVerdict files main (are_taken read) → AreSchema read main s
     → BreaksNoClause s → (g : Grammar) → IsSimpleGrammarOf s g → IsPrintable g)
-    → (files : List NamedFile) (main : Name) (text : List ℕ) → length text ≤ size_limit
+    → (files : List NamedFile) (main : FileName) (text : List ℕ) → length text ≤ size_limit
     → (read : TakenFiles) (s : Schema) → FilesHaveOnlyVerdict files main (are_taken read) → AreSchema read main s → BreaksNoClause s
     → (p : IsPrintedForm s text) → IsSchemaFile text (lines_tree p.grammar p.is_printed.items)
 printed_file reads are_printable files main text small read s v is kept p =

@@ -1,6 +1,6 @@
 use Rattle.std.proofs.Common.{◌+◌, ◌≤◌, drop, length}
 use Rattle.rnc_model.specs.tokens.CutTokens.{tokens_of}
-use Rattle.rnc_model.specs.tokens.Lexeme.{lexemes}
+use Rattle.rnc_model.specs.tokens.Cut.{lexemes}
 use Rattle.rnc_syntax.specs.plain.Reading.{lexemes_in}
 use Rattle.rnc_model.specs.grammar.Sentence.{nesting_limit, BreaksNesting, NestsWithin}
 use Rattle.rnc_syntax.proofs.NestingSteps.{Exceeds, Within}

@@ -1,7 +1,7 @@
 use Rattle.std.proofs.Common.{◌≡◌, ◌-◌, length, ap, ◌∙◌}
 use Rattle.rnc_model.specs.grammar.Sentence.{nesting_limit}
 use Rattle.rnc_model.specs.tokens.CutTokens.{tokens_of}
-use Rattle.rnc_model.specs.tokens.Lexeme.{lexemes}
+use Rattle.rnc_model.specs.tokens.Cut.{lexemes}
 use Rattle.rnc_syntax.specs.plain.Productions.{file_with, inside_at}
 use Rattle.rnc_syntax.specs.views.Fault.{told}
 use Rattle.rnc_syntax.proofs.Lexemes.{all_lexemes, count_of_lexemes}

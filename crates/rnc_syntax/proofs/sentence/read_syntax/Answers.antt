@@ -2,7 +2,7 @@ use Rattle.std.proofs.Common.{subst}
 use Rattle.rnc_model.specs.tokens.CutTokens.{tokens_of}
 use Rattle.rng_model.specs.plain.Answers.{Gives}
 use Rattle.rnc_syntax.specs.views.Fault.{unless_memory}
-use Rattle.rnc_model.specs.tokens.Lexeme.{lexemes}
+use Rattle.rnc_model.specs.tokens.Cut.{lexemes}
 use Rattle.rnc_model.specs.grammar.Sentence.{nesting_limit}
 use Rattle.rnc_syntax.specs.views.SyntaxView.{file_of}
 use Rattle.rnc_syntax.proofs.FaultNumberFiles.{stuck}

@@ -1,5 +1,5 @@
 use Rattle.std.proofs.Common.{◌≡◌, take}
-use Rattle.rnc_model.specs.loading.Files.{named_files}
+use Rattle.rnc_model.specs.loading.SchemaFile.{named_files}
 use Rattle.rncv_c.specs.views.Files.{files_of}
 use Rattle.rncv_c.proofs.files.copied_files.Given as goal
 

@@ -1,6 +1,6 @@
 -- Files are refused by one fault, which has the name of a file or has none.
 use Rattle.std.proofs.Common.{subst}
-use Rattle.rncv_model.specs.answers.Compiled.{IsRefusal}
+use Rattle.rncv_model.specs.answers.Verdict.{IsRefusal}
 use Rattle.rncv_c.specs.views.Files.{files_of, main_of}
 use Rattle.rncv_c.proofs.RefusedNames.{none_alone, none_good}
 use Rattle.rncv_c.proofs.schemas.name_of_refused.Goals as goal

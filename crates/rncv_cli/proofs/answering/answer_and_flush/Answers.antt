@@ -1,4 +1,4 @@
-use Rattle.rnc_model.specs.loading.Files.{named_files}
+use Rattle.rnc_model.specs.loading.SchemaFile.{named_files}
 use Rattle.rncv_model.specs.answers.Run.{IsAnswer, main_name}
 use Rattle.rncv_cli.proofs.ProgramEnds.{flush_failed}
 use Rattle.rncv_cli.proofs.answering.answer_and_flush.Goals as goal

@@ -1,4 +1,4 @@
-use Rattle.rnc_model.specs.loading.Files.{named_files}
+use Rattle.rnc_model.specs.loading.SchemaFile.{named_files}
 use Rattle.rncv_model.specs.answers.Run.{main_name}
 use Rattle.std.proofs.lemmas.Result.{IfOk-weaker}
 use Rattle.rncv_run.proofs.LoadedSchemas.{judges_none}

@@ -2,7 +2,7 @@ use Rattle.std.proofs.Common.{◌≡◌, ◌∙◌, ◌++◌, ◌∷◌, [], Lis
 use Rattle.rng_deriv_laws.specs.plain.Restricted.{IsRestricted, IsTyped}
 use Rattle.rng_deriv_table.proofs.Taking.{choice_of_two}
 use Rattle.rng_deriv_table.specs.views.Trees.{tree_of}
-use Rattle.rng_model.specs.matching.GrammarReading.{reading_of}
+use Rattle.rng_model.specs.matching.GrammarMatching.{reading_of}
 use Rattle.rng_deriv_ways.proofs.AddedWays.{two_below}
 use Rattle.rng_deriv_events.specs.declared.derivatives.StartWay.{StartWay}
 use Rattle.rng_deriv.specs.views.Starts.{IsWayInside, OpensLike, with_way}

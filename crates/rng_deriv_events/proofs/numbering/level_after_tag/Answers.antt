@@ -1,5 +1,5 @@
 use Rattle.std.proofs.Common.{All, map, subst, sym}
-use Rattle.rng_model.specs.documents.DocumentViews.{attribute_of}
+use Rattle.rng_model.specs.documents.EventViews.{attribute_of}
 use Rattle.rng_deriv_laws.specs.plain.LevelStates.{IsAfterTag}
 use Rattle.rng_deriv_events.specs.views.Basis.{reading_by}
 use Rattle.rng_deriv_events.specs.views.LevelTable.{levels_in, numbers_in}

@@ -1,7 +1,7 @@
 use Rattle.std.proofs.Common.{◌≡◌, ◌∙◌, [], IfOk, length, map, subst, sym}
 use Rattle.std.proofs.lemmas.Bool.Decides.{Decides-eqb}
 use Rattle.std.proofs.lemmas.List.{nil_from_length}
-use Rattle.rng_model.specs.documents.DocumentViews.{attribute_of}
+use Rattle.rng_model.specs.documents.EventViews.{attribute_of}
 use Rattle.rng_deriv_laws.specs.plain.LevelStates.{IsAfterTag}
 use Rattle.rng_deriv_events.specs.views.Basis.{reading_by}
 use Rattle.rng_deriv_events.specs.views.LevelTable.{levels_in, numbers_in}

@@ -1,5 +1,5 @@
 use Rattle.std.proofs.Common.{true, false, ◌++◌, ◌∷◌, [], ◌∙◌}
-use Rattle.rng_model.specs.documents.EventView.{event_of}
+use Rattle.rng_model.specs.documents.EventViews.{event_of}
 use Rattle.rng_deriv_events.specs.views.Basis.{reading_by}
 use Rattle.rng_deriv_events.specs.views.LevelTable.{levels_in}
 use Rattle.rng_deriv_events.specs.views.OpenPositions.{open_position}

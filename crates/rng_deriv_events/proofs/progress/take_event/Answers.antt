@@ -1,5 +1,5 @@
 use Rattle.std.proofs.Common.{subst, sym}
-use Rattle.rng_model.specs.documents.EventView.{event_of}
+use Rattle.rng_model.specs.documents.EventViews.{event_of}
 use Rattle.rng_deriv_events.specs.views.Basis.{reading_by}
 use Rattle.rng_deriv_events.specs.views.Positions.{AddsProgress, IsKnown}
 use Rattle.rng_deriv_events.proofs.KnownDocuments.{fails_on}

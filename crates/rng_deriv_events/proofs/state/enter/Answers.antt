@@ -1,6 +1,6 @@
 use Rattle.std.proofs.Common.{◌≡◌, ◌∙◌, map, refl, subst, sym, ap}
 use Rattle.std.proofs.lemmas.Option.{same_Some, slice_get_within}
-use Rattle.rng_model.specs.documents.DocumentViews.{attribute_of}
+use Rattle.rng_model.specs.documents.EventViews.{attribute_of}
 use Rattle.rng_model.specs.names.NameViews.{name_of}
 use Rattle.rng_deriv_laws.specs.plain.LevelStates.{IsAfterTag}
 use Rattle.rng_deriv_events.specs.views.Basis.{reading_by}

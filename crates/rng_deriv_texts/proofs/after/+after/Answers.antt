@@ -5,8 +5,7 @@ use Rattle.std.proofs.lemmas.Option.{slice_get-get_or, slice_get_within}
 use Rattle.std.proofs.Math.Seq.{take-suc}
 use Rattle.rng_names.proofs.Holding.{decides_holds}
 use Rattle.rng_model.specs.simple.Table.{Table, tree_at}
-use Rattle.rng_model.specs.datatypes.Blanks.{pieces}
-use Rattle.rng_model.specs.datatypes.Texts.{is_blank}
+use Rattle.rng_model.specs.datatypes.Texts.{pieces, is_blank}
 use Rattle.rng_model.specs.names.NameViews.{class_of, name_of}
 use Rattle.rng_names.specs.plain.Holding.{holds}
 use Rattle.rng_model.specs.views.PiecesView.{pieces_left}
@@ -23,7 +22,7 @@ use Rattle.rng_deriv_texts.specs.plain.After.{AreRests, IsLeft, TellsTaken}
 use Rattle.rng_deriv_texts.specs.plain.Settling.{AreLeft}
 use Rattle.rng_deriv_texts.proofs.SettledRests.{rest_inside, told}
 use Rattle.rng_deriv_ways.specs.plain.Kinds.{Obeys, rest_of_leaf}
-use Rattle.rng_model.specs.matching.GrammarReading.{reading_of}
+use Rattle.rng_model.specs.matching.GrammarMatching.{reading_of}
 use Rattle.rng_deriv_ways.specs.plain.Ways.{AreInside}
 use Rattle.rng_deriv_texts.specs.declared.first.First.TheVariants as firsts
 use Rattle.rng_deriv_ways.specs.declared.way.Place.TheVariants as places
@@ -42,7 +41,8 @@ use Rattle.rng_deriv_ways.proofs.WayLists.{inside_longer}
 use Rattle.rng_deriv_ways.proofs.WaysOfSides.{side_law}
 use Rattle.rng_deriv_texts.proofs.NarrowedWays.{few_inside, rests_of_all}
 use Rattle.rng_deriv_texts.specs.plain.Asking.{AreTests, IsAskedBy}
-use Rattle.rng_deriv_texts.proofs.PlannedRests.{asked_inside, new_settled, new_plan_right, left_earlier, no_tests, number_asked, one_more_test, outcome_left, plan_again, planned_ways, tests_later, ways_for_later}
+use Rattle.rng_deriv_texts.proofs.PlannedRests.{asked_inside, new_settled, new_plan_right, left_earlier, no_tests, number_asked, one_more_test, outcome_left}
+use Rattle.rng_deriv_texts.proofs.PlannedRests.{plan_again, planned_ways, tests_later, ways_for_later}
 use Rattle.rng_deriv_texts.proofs.after.+after.Goals as goal
 use Rattle.rng_deriv_texts.proofs.after.+after.Goals.{rests-then-branch+in_ok-push, rests-else-branch}
 

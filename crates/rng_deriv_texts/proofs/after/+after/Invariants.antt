@@ -1,5 +1,5 @@
 use Rattle.std.proofs.Common.{◌≡◌, ◌+◌, ◌↔◌, ◌<◌, [], length, map, take}
-use Rattle.rng_model.specs.datatypes.Blanks.{pieces}
+use Rattle.rng_model.specs.datatypes.Texts.{pieces}
 use Rattle.rng_model.specs.matching.Document.{a_text}
 use Rattle.rng_model.specs.views.PiecesView.{pieces_left}
 use Rattle.rng_deriv_laws.specs.plain.Taking.{Takes}
@@ -10,7 +10,7 @@ use Rattle.rng_deriv_texts.specs.plain.After.{AreRests}
 use Rattle.rng_deriv_texts.specs.plain.Asking.{AreTests}
 use Rattle.rng_deriv_ways.specs.views.KnownWays.{AreAllKnown}
 use Rattle.rng_deriv_ways.specs.plain.Kinds.{Obeys}
-use Rattle.rng_model.specs.matching.GrammarReading.{reading_of}
+use Rattle.rng_model.specs.matching.GrammarMatching.{reading_of}
 use Rattle.rng_deriv_ways.specs.declared.way.Place.TheVariants as places
 use Rattle.rng_deriv_texts.proofs.RestsOfWays.{rank}
 use Rattle.rng_deriv_texts.proofs.after.+after.Given as goal

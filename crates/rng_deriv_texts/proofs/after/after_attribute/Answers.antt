@@ -1,4 +1,4 @@
-use Rattle.rng_model.specs.matching.GrammarReading.{reading_of}
+use Rattle.rng_model.specs.matching.GrammarMatching.{reading_of}
 use Rattle.rng_deriv_ways.proofs.ClosedTags.{both_ok}
 use Rattle.rng_deriv_ways.proofs.KnownWays.{all_longer}
 use Rattle.rng_deriv_table.proofs.Choices.{if_ok}

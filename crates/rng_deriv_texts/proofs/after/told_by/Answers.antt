@@ -1,5 +1,5 @@
 use Rattle.std.proofs.Common.{subst}
-use Rattle.rng_model.specs.matching.GrammarReading.{reading_of}
+use Rattle.rng_model.specs.matching.GrammarMatching.{reading_of}
 use Rattle.rng_deriv_table.specs.views.Trees.{tree_of}
 use Rattle.rng_deriv_texts.specs.plain.Settling.{IsRestInside, IsSettled}
 use Rattle.rng_deriv_texts.proofs.SettledRests.{nothing_left, only_left, two_left}

@@ -3,7 +3,7 @@ use Rattle.std.specs.String.{string_bytes}
 use Rattle.rng_model.specs.datatypes.Datatypes.{known_equates}
 use Rattle.rng_model.specs.datatypes.DatatypeViews.{datatype_of}
 use Rattle.rng_model.specs.declared.datatype.DatatypeValue.{DatatypeValue}
-use Rattle.rng_model.specs.matching.GrammarReading.{reading_of}
+use Rattle.rng_model.specs.matching.GrammarMatching.{reading_of}
 use Rattle.rng_model.specs.schema.Patterns.{without_parameters}
 use Rattle.rng_model.specs.simple.Table.{tree_at}
 use Rattle.rng_deriv_laws.specs.plain.Derivatives.{is_excepted}

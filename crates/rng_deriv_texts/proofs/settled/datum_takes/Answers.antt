@@ -3,7 +3,7 @@ use Rattle.std.specs.String.{string_bytes}
 use Rattle.rng_model.specs.datatypes.Datatypes.{known_equates}
 use Rattle.rng_model.specs.datatypes.DatatypeViews.{datatype_of}
 use Rattle.rng_model.specs.declared.datatype.DatatypeValue.{DatatypeValue}
-use Rattle.rng_model.specs.matching.GrammarReading.{reading_of}
+use Rattle.rng_model.specs.matching.GrammarMatching.{reading_of}
 use Rattle.rng_model.specs.schema.Patterns.{without_parameters}
 use Rattle.rng_deriv_table.specs.views.Trees.{data_found}
 use Rattle.rng_deriv_ways.specs.views.Datatypes.{meaning_at}

@@ -5,7 +5,7 @@ use Rattle.rng_model.specs.simple.Table.{tree_at, tree_over}
 use Rattle.rng_model.specs.declared.datatype.DatatypeValue.{DatatypeValue}
 use Rattle.rng_deriv_laws.specs.plain.Derivatives.{is_excepted}
 use Rattle.rng_deriv_ways.specs.views.Datatypes.{meaning_at}
-use Rattle.rng_model.specs.matching.GrammarReading.{reading_of}
+use Rattle.rng_model.specs.matching.GrammarMatching.{reading_of}
 use Rattle.rng_deriv_ways.proofs.KnownDatatypes.{allowed_there, equal_there}
 use Rattle.rng_deriv_texts.proofs.texts.+has_text.Goals as goal
 

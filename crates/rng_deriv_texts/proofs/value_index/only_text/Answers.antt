@@ -1,6 +1,6 @@
 use Rattle.std.proofs.Common.{◌≡◌, ◌∙◌, Some, ap, rules, slice_get, string_bytes, subst, sym}
 use Rattle.rng_model.specs.declared.simple.Simple.TheVariants as rows
-use Rattle.rng_model.specs.datatypes.Blanks.{collapse}
+use Rattle.rng_model.specs.datatypes.Texts.{collapse}
 use Rattle.rng_model.specs.schema.Patterns.{without_parameters}
 use Rattle.rng_deriv_table.specs.views.Trees.{data_found}
 use Rattle.rng_deriv_ways.specs.views.Plans.{TakesOnly}

@@ -3,7 +3,7 @@ use Rattle.rng_names.proofs.Holding.{decides_holds}
 use Rattle.rng_model.specs.names.NameViews.{class_of, name_of}
 use Rattle.rng_names.specs.plain.Holding.{holds}
 use Rattle.rng_deriv_table.specs.views.Trees.{attribute_found}
-use Rattle.rng_model.specs.matching.GrammarReading.{reading_of}
+use Rattle.rng_model.specs.matching.GrammarMatching.{reading_of}
 use Rattle.rng_deriv_ways.specs.plain.Kinds.{takes_kind}
 use Rattle.rng_deriv_ways.specs.declared.way.Kind.TheVariants as kinds
 use Rattle.rng_deriv_ways.proofs.leaves.attribute_takes.Goals as goal

@@ -2,7 +2,7 @@ use Rattle.std.proofs.Common.{◌∙◌, ap, sym}
 use Rattle.rng_names.proofs.Holding.{decides_holds}
 use Rattle.rng_model.specs.simple.Tree.{s_leaf}
 use Rattle.rng_model.specs.names.NameViews.{class_of, name_of}
-use Rattle.rng_model.specs.matching.GrammarReading.{reading_of}
+use Rattle.rng_model.specs.matching.GrammarMatching.{reading_of}
 use Rattle.rng_deriv_ways.specs.plain.Kinds.{takes_kind}
 use Rattle.rng_deriv_ways.proofs.GrammarRows.{class_there, no_class_there}
 use Rattle.rng_deriv_ways.proofs.leaves.element_takes.Goals as goal

@@ -1,5 +1,5 @@
 use Rattle.std.proofs.Common.{refl, ◌∙◌, sym, ap, slice_get}
-use Rattle.rng_model.specs.matching.GrammarReading.{reading_of}
+use Rattle.rng_model.specs.matching.GrammarMatching.{reading_of}
 use Rattle.rng_deriv_ways.specs.plain.Kinds.{takes_kind}
 use Rattle.rng_deriv_ways.proofs.PatternNodes.{found_string, is_over, other_compound, string_kind, takes_nothing}
 use Rattle.rng_deriv_ways.proofs.leaves.takes_kind.Goals as goal

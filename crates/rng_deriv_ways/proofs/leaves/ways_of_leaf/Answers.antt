@@ -2,7 +2,7 @@ use Rattle.std.proofs.Common.{◌≡◌, ◌∙◌, ◌∷◌, ◌++◌, [], ap,
 use Rattle.rng_deriv_table.specs.views.Trees.{tree_of}
 use Rattle.rng_deriv_table.proofs.Trees.{Longer-length, tree_stays}
 use Rattle.rng_deriv_ways.specs.plain.Alike.{AreLikeLeaves}
-use Rattle.rng_model.specs.matching.GrammarReading.{reading_of}
+use Rattle.rng_model.specs.matching.GrammarMatching.{reading_of}
 use Rattle.rng_deriv_ways.specs.plain.Ways.{AreKept, AreWays, AreWaysOf, ways_by}
 use Rattle.rng_deriv_ways.specs.declared.way.LeafWay as numbered
 use Rattle.rng_deriv_ways.proofs.AttributeTakers.{candidates_longer}

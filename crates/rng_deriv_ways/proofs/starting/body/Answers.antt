@@ -6,7 +6,7 @@ use Rattle.rng_deriv_table.specs.plain.AskedFor.{as_body}
 use Rattle.rng_deriv_table.specs.views.Taking.{tree_by}
 use Rattle.rng_deriv_table.specs.views.Trees.{tree_of}
 use Rattle.rng_deriv_table.specs.declared.pattern.PatternNumber.{PatternNumber}
-use Rattle.rng_model.specs.matching.GrammarReading.{reading_of}
+use Rattle.rng_model.specs.matching.GrammarMatching.{reading_of}
 use Rattle.rng_deriv_ways.specs.plain.Starting.{IsRestrictedBodyNamed}
 use Rattle.rng_deriv_ways.proofs.PatternNodes.{is_over}
 use Rattle.rng_deriv_ways.proofs.GrammarRows.{body_there, no_class_there}

@@ -13,7 +13,7 @@ use Rattle.rng_deriv_table.specs.declared.pattern.PatternNumber.{PatternNumber}
 use Rattle.rng_deriv_table.proofs.Choices.{if_ok}
 use Rattle.rng_deriv_table.proofs.Trees.{Longer-length, Longer-refl, Longer-trans, tree_stays}
 use Rattle.rng_deriv_ways.specs.plain.Kinds.{connector_of, weight}
-use Rattle.rng_model.specs.matching.GrammarReading.{reading_of}
+use Rattle.rng_model.specs.matching.GrammarMatching.{reading_of}
 use Rattle.rng_deriv_ways.specs.views.KnownWays.{AreKnown}
 use Rattle.rng_deriv_ways.specs.plain.FewerWays.{AreRepeated, AreUncovered}
 use Rattle.rng_deriv_ways.specs.plain.Ways.{AreInside, AreWaysOf, StandFor, filled, ways_by}

@@ -1,9 +1,8 @@
 use Rattle.std.proofs.Common.{◌≡◌, ◌∷◌, ◌++◌, [], ap, sym, ◌∙◌, map, drop, take, length, ◌-◌, ◌+◌, arith}
 use Rattle.std.proofs.lemmas.List.{drop_all, drop_more}
 use Rattle.std.proofs.lemmas.Slice.{first_rest}
-use Rattle.rng_model.specs.names.Names.{classes_of, some_of}
-use Rattle.rng_model.specs.names.NameViews.{class_of}
-use Rattle.rng_model.specs.names.NamespaceViews.{namespace_bytes}
+use Rattle.rng_model.specs.names.Names.{class_list, some_of}
+use Rattle.rng_model.specs.names.NameViews.{class_of, namespace_bytes}
 use Rattle.rng_labels.specs.plain.LabelCodes.{any_but, class_code, more_code, ns_but, part_of}
 use Rattle.rng_labels.proofs.LabelCodes.{any_except_code, ends, goes_on, ns_except_code, put_after, starts}
 use Rattle.rng_labels.proofs.label_codes.+codes.Goals as goal
@@ -24,13 +23,13 @@ put_members-loop-member-preserved t c =
     drop_more rest i c.member-item.result c.loop-member-test.true ∙ ap (λ y. y ∷ drop (i + 1) rest) (sym c.member-item.is) in
     goes_on (map part_of c.loop-member.code.items) (map part_of c.put_member-in-loop-member.new.code.items) (map part_of c.put_either.new.code.items)
     (class_of c.member-item.result) (map class_of (drop (i + 1) rest)) c.in_ok-put_member-2.ensures c.in_ok-put_either.ensures
-    ∙ ap (λ es. map part_of c.loop-member.code.items ++ more_code (classes_of (map class_of es)) []) (sym next) ∙ c.loop-member.invariant
+    ∙ ap (λ es. map part_of c.loop-member.code.items ++ more_code (class_list (map class_of es)) []) (sym next) ∙ c.loop-member.invariant
 
 pub put_members-returns : goal.put_members-returns
 put_members-returns t c =
     let rest = take (length c.args.members.now - 1) (drop 1 c.args.members.now) in
     let now = map part_of c.loop-member.code.items in
-    sym (ends now) ∙ ap (λ es. now ++ more_code (classes_of (map class_of es)) []) (sym (drop_all c.loop-member.member-index rest c.loop-member-test.false))
+    sym (ends now) ∙ ap (λ es. now ++ more_code (class_list (map class_of es)) []) (sym (drop_all c.loop-member.member-index rest c.loop-member-test.false))
     ∙ c.loop-member.invariant
 
 pub put_class-returns-in_ok-put-in-AnyExcept : goal.put_class-returns-in_ok-put-in-AnyExcept

@@ -1,4 +1,4 @@
-use Rattle.rnc_model.specs.loading.Files.{named_files}
+use Rattle.rnc_model.specs.loading.SchemaFile.{named_files}
 use Rattle.rng_load.specs.views.FilesView.{taken_files_of}
 use Rattle.rng_load.proofs.FilesVerdict.{file_first, mentions_first, includes_next, none_broken}
 use Rattle.rng_load.proofs.HandedIn.{is_not}

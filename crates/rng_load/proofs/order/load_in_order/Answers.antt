@@ -1,7 +1,7 @@
 use Rattle.std.proofs.Common.{rules, ◌≡◌, sym, ap, ◌∙◌, map, string_bytes, [], ◌∷◌, length, slice_get, Some, arith}
 use Rattle.std.proofs.lemmas.Result.{err_from_is_err_and}
 use Rattle.rng_load.specs.views.FilesView.{names_of, taken_files_of}
-use Rattle.rnc_model.specs.loading.Files.{named_files}
+use Rattle.rnc_model.specs.loading.SchemaFile.{named_files}
 use Rattle.rnc_model.specs.loading.Loading.{with_name}
 use Rattle.rng_load.proofs.NameSets.{names_after_insert}
 use Rattle.rng_load.proofs.TakenFiles.{none_firm, all_read}

@@ -1,7 +1,6 @@
 use Rattle.std.proofs.Common.{take}
 use Rattle.std.specs.Prelude.{MatchOption}
-use Rattle.rnc_model.specs.loading.Files.{named_files}
-use Rattle.rnc_model.specs.loading.SchemaFile.{IsHandedIn, IsMissing}
+use Rattle.rnc_model.specs.loading.SchemaFile.{named_files, IsHandedIn, IsMissing}
 use Rattle.rng_load.proofs.reading.bytes_of.Given as goal
 
 abbrev pub invariant-loop-other : goal.invariant-loop-other

@@ -1,7 +1,7 @@
 use Rattle.std.proofs.Common.{Vec, Global, Ok, Err}
 use Rattle.std.proofs.lemmas.Result.{err_from_is_err_and}
 use Rattle.rnc_model.specs.tokens.CutTokens.{tokens_of}
-use Rattle.rnc_model.specs.tokens.Lexeme.{lexemes}
+use Rattle.rnc_model.specs.tokens.Cut.{lexemes}
 use Rattle.rnc_model.specs.declared.token.Token.{Token}
 use Rattle.rnc_grammar.specs.views.Fault.{fault_of}
 use Rattle.rnc_grammar.proofs.ParsingAnswers.{fault_given, fault_told, no_tree, only_declarations, only_tree, tree_given}

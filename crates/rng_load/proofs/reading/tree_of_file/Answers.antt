@@ -1,5 +1,5 @@
 use Rattle.rng_load.proofs.HandedIn.{is_too_large, is_not, all_small}
-use Rattle.rnc_model.specs.loading.Files.{named_files}
+use Rattle.rnc_model.specs.loading.SchemaFile.{named_files}
 use Rattle.rng_load.proofs.reading.tree_of_file.Goals as goal
 
 pub returns-then-is_too_large : goal.returns-then-is_too_large

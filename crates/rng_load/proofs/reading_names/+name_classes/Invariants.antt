@@ -1,6 +1,5 @@
 use Rattle.std.proofs.Common.{◌≡◌, ◌++◌, map, drop}
-use Rattle.rng_model.specs.names.NamespaceViews.{namespace_bytes}
-use Rattle.rng_model.specs.names.NameViews.{class_of}
+use Rattle.rng_model.specs.names.NameViews.{namespace_bytes, class_of}
 use Rattle.rnc_model.specs.grammar.Syntax.{classes_of}
 use Rattle.rnc_grammar.specs.views.View as file
 use Rattle.rnc_model.specs.loading.Places.{classes_in}

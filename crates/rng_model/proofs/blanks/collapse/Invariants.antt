@@ -1,5 +1,5 @@
 use Rattle.std.proofs.Common.{◌≡◌, string_bytes}
-use Rattle.rng_model.specs.datatypes.Blanks.{collapse}
+use Rattle.rng_model.specs.datatypes.Texts.{collapse}
 use Rattle.rng_model.specs.views.PiecesView.{pieces_left}
 use Rattle.rng_model.proofs.BlankRuns.{join_onto}
 use Rattle.rng_model.proofs.blanks.collapse.Given as goal

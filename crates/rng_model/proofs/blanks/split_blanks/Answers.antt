@@ -1,6 +1,6 @@
 use Rattle.std.proofs.Common.{◌≡◌, map, subst, IfOk}
 use Rattle.std.proofs.lemmas.Iterator.Consumers.{map_from_collect, YieldsList-from_first}
-use Rattle.rng_model.specs.datatypes.Blanks.{pieces}
+use Rattle.rng_model.specs.datatypes.Texts.{pieces}
 use Rattle.rng_model.specs.views.PiecesView.{pieces_left}
 use Rattle.rng_model.proofs.BlankRuns.{runs_are}
 use Rattle.rng_model.proofs.blanks.split_blanks.Goals as goal

@@ -4,7 +4,7 @@ use Rattle.std.specs.List.{list_all}
 use Rattle.std.proofs.lemmas.Str.{chars_past_char, IsUtf8-past_char}
 use Rattle.std.proofs.lemmas.Iterator.{YieldsList-from_chars}
 use Rattle.std.proofs.lemmas.Iterator.Search.{all_from_yields_List}
-use Rattle.rng_model.specs.names.Characters.{is_name_char, is_colon, is_ncname}
+use Rattle.rng_model.specs.names.Names.{is_name_char, is_colon, is_ncname}
 use Rattle.rng_model.proofs.character.is_ncname.Goals as goal
 
 pub returns-then-is_ncname_start : goal.returns-then-is_ncname_start

@@ -1,6 +1,6 @@
 use Rattle.std.proofs.Common.{ap, sym, ◌∙◌, Some, bytes_eq}
 use Rattle.std.specs.Map.{update}
-use Rattle.rng_model.specs.names.NamespaceViews.{namespace_bytes}
+use Rattle.rng_model.specs.names.NameViews.{namespace_bytes}
 use Rattle.rng_names.proofs.KeyLookups.{number_found, updates_at}
 use Rattle.rng_names.proofs.texts.note.Goals as goal
 

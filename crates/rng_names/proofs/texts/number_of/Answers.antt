@@ -1,5 +1,5 @@
 use Rattle.std.proofs.Common.{◌∙◌}
-use Rattle.rng_model.specs.names.NamespaceViews.{namespace_bytes}
+use Rattle.rng_model.specs.names.NameViews.{namespace_bytes}
 use Rattle.rng_names.proofs.KeyLookups.{number_found}
 use Rattle.rng_names.proofs.texts.number_of.Goals as goal
 

@@ -1,6 +1,6 @@
 use Rattle.std.proofs.Common.{◌-◌, length, take, drop}
 use Rattle.rng_model.proofs.Places.{first_and_rest}
-use Rattle.rng_model.specs.matching.GrammarReading.{reading_of}
+use Rattle.rng_model.specs.matching.GrammarMatching.{reading_of}
 use Rattle.rng_plain_matcher.specs.views.Trees.{tree_of}
 use Rattle.rng_plain_matcher.proofs.FirstItems.{one_attribute}
 use Rattle.rng_plain_matcher.proofs.derivatives.+after_attributes.Goals as goal

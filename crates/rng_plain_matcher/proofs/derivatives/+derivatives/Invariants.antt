@@ -1,7 +1,7 @@
 use Rattle.std.proofs.Common.{◌≡◌, ◌+◌, length, map}
-use Rattle.rng_model.specs.datatypes.Blanks.{pieces}
+use Rattle.rng_model.specs.datatypes.Texts.{pieces}
 use Rattle.rng_model.specs.views.PiecesView.{pieces_left}
-use Rattle.rng_model.specs.matching.GrammarReading.{reading_of}
+use Rattle.rng_model.specs.matching.GrammarMatching.{reading_of}
 use Rattle.rng_deriv_laws.specs.plain.Derivatives.{after_piece, in_turn, rests_of}
 use Rattle.rng_plain_matcher.specs.plain.First.{takes_first}
 use Rattle.rng_plain_matcher.specs.views.Trees.{tree_of}

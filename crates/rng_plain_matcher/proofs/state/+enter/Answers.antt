@@ -1,7 +1,7 @@
 use Rattle.std.proofs.Common.{◌≡◌, ◌∙◌, ◌-◌, ◌∷◌, length, take, drop, map, ap}
 use Rattle.rng_model.proofs.Places.{first_and_rest}
-use Rattle.rng_model.specs.documents.DocumentViews.{attribute_of}
-use Rattle.rng_model.specs.matching.GrammarReading.{reading_of}
+use Rattle.rng_model.specs.documents.EventViews.{attribute_of}
+use Rattle.rng_model.specs.matching.GrammarMatching.{reading_of}
 use Rattle.rng_model.specs.names.NameViews.{name_of}
 use Rattle.rng_model.specs.simple.Table.{tree_at}
 use Rattle.rng_deriv_laws.specs.plain.Derivatives.{bodies_of}

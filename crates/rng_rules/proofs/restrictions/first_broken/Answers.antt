@@ -1,5 +1,4 @@
-use Rattle.rng_model.specs.restrictions.Occurrences.{BreaksAttributeNames, BreaksElementNames}
-use Rattle.rng_model.specs.restrictions.Restrictions.{ClassIn}
+use Rattle.rng_model.specs.restrictions.Restrictions.{BreaksAttributeNames, BreaksElementNames, ClassIn}
 use Rattle.rng_model.specs.simple.Table.{grammar_of}
 use Rattle.rng_rules.specs.plain.Broken.{IsIntactBelow}
 use Rattle.rng_rules.proofs.BrokenClauses as clauses

@@ -1,6 +1,6 @@
 use Rattle.std.proofs.Common.{◌≡◌, ◌+◌, ◌≤◌, length}
 use Rattle.std.specs.Str.{chars}
-use Rattle.rng_model.specs.datatypes.Blanks.{collapse}
+use Rattle.rng_model.specs.datatypes.Texts.{collapse}
 use Rattle.rng_model.specs.views.PiecesView.{pieces_left}
 use Rattle.rng_types.proofs.OnePiece.{spaced_count}
 use Rattle.rng_types.proofs.collapsed.collapsed_char_count.Given as goal

@@ -1,5 +1,5 @@
 use Rattle.std.proofs.Common.{ap, sym, ◌∙◌, None}
-use Rattle.rng_model.specs.datatypes.Numerals.{integer_of}
+use Rattle.rng_model.specs.datatypes.Facets.{integer_of}
 use Rattle.rng_types.proofs.OnePiece.{collapse-only, collapse-other}
 use Rattle.rng_types.proofs.Decimals.{integer-spaced, integer-empty}
 use Rattle.rng_types.proofs.numerals.integer.Goals as goal

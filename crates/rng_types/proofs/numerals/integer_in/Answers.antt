@@ -1,6 +1,6 @@
 use Rattle.std.proofs.Common.{◌∙◌, sym, ap}
 use Rattle.std.specs.Str.Parse.{without_leading_sign}
-use Rattle.rng_model.specs.datatypes.Numerals.{is_decimal, most_digits}
+use Rattle.rng_model.specs.datatypes.Facets.{is_decimal, most_digits}
 use Rattle.rng_types.proofs.Decimals.{integer-parsed}
 use Rattle.rng_types.proofs.numerals.integer_in.Goals as goal
 

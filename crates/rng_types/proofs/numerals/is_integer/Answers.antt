@@ -1,7 +1,7 @@
 use Rattle.std.proofs.Common.{ap, sym, ◌∙◌}
 use Rattle.std.specs.Str.Parse.{without_leading_sign}
-use Rattle.rng_model.specs.datatypes.Blanks.{collapse}
-use Rattle.rng_model.specs.datatypes.Numerals.{is_decimal, most_digits}
+use Rattle.rng_model.specs.datatypes.Texts.{collapse}
+use Rattle.rng_model.specs.datatypes.Facets.{is_decimal, most_digits}
 use Rattle.rng_types.specs.plain.Runs.{past_blanks, from_run}
 use Rattle.rng_types.proofs.CollapsedBytes.{collapse-past, unsigned-run, some-integer}
 use Rattle.rng_types.proofs.numerals.is_integer.Goals as goal

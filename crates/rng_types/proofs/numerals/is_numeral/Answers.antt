@@ -3,7 +3,7 @@ use Rattle.std.specs.Char.{is_ascii_digit}
 use Rattle.std.proofs.lemmas.List.Sums.{prefix_len-le-length}
 use Rattle.std.proofs.lemmas.Bool.{and_left}
 use Rattle.rng_model.specs.datatypes.Texts.{is_blank}
-use Rattle.rng_model.specs.datatypes.Numerals.{most_digits}
+use Rattle.rng_model.specs.datatypes.Facets.{most_digits}
 use Rattle.rng_types.proofs.CollapsedBytes.{decimal-run}
 use Rattle.rng_types.proofs.numerals.is_numeral.Goals as goal
 

@@ -1,5 +1,5 @@
 use Rattle.std.proofs.Common.{◌∙◌, sym, ap}
-use Rattle.rng_model.specs.datatypes.Numerals.{is_decimal, most_length_digits}
+use Rattle.rng_model.specs.datatypes.Facets.{is_decimal, most_length_digits}
 use Rattle.rng_types.proofs.Decimals.{length-parsed}
 use Rattle.rng_types.proofs.numerals.length.Goals as goal
 

@@ -1,5 +1,5 @@
 use Rattle.std.proofs.Common.{ap, sym, ◌∙◌, None}
-use Rattle.rng_model.specs.datatypes.Numerals.{truth_of}
+use Rattle.rng_model.specs.datatypes.Facets.{truth_of}
 use Rattle.rng_types.proofs.OnePiece.{collapse-only, collapse-other}
 use Rattle.rng_types.proofs.Decimals.{truth-spaced, truth-empty}
 use Rattle.rng_types.proofs.numerals.truth.Goals as goal

@@ -3,8 +3,7 @@ use Rattle.std.proofs.lemmas.Iterator.{YieldsList-from_slice}
 use Rattle.std.proofs.lemmas.Iterator.Search.{all_from_yields_List}
 use Rattle.std.proofs.lemmas.List.Folds.{list_all-map}
 use Rattle.rng_model.specs.datatypes.DatatypeViews.{parameter_of}
-use Rattle.rng_model.specs.datatypes.Numerals.{length_of}
-use Rattle.rng_model.specs.datatypes.Parameters.{is_facet}
+use Rattle.rng_model.specs.datatypes.Facets.{length_of, is_facet}
 use Rattle.rng_types.proofs.parameters.are_lengths.Goals as goal
 
 pub returns : goal.returns

@@ -1,6 +1,6 @@
 use Rattle.std.proofs.Common.{◌≡◌, map, drop}
 use Rattle.rng_model.specs.datatypes.DatatypeViews.{parameter_of}
-use Rattle.rng_model.specs.datatypes.Parameters.{named}
+use Rattle.rng_model.specs.datatypes.Facets.{named}
 use Rattle.rng_types.proofs.parameters.value_named.Given as goal
 
 -- none of the parameters so far has the name

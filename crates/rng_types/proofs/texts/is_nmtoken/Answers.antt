@@ -1,7 +1,7 @@
 use Rattle.std.proofs.Common.{ap, not, ◌≡◌, ◌==◌, length, false, true, sym, ◌∙◌, rules, tests}
 use Rattle.std.proofs.lemmas.Iterator.{YieldsList-from_chars}
 use Rattle.std.proofs.lemmas.Iterator.Search.{all_from_yields_List}
-use Rattle.rng_model.specs.names.Characters.{is_name_char}
+use Rattle.rng_model.specs.names.Names.{is_name_char}
 use Rattle.rng_types.proofs.TextValues.{nmtoken-some, nmtoken-none}
 use Rattle.rng_types.proofs.texts.is_nmtoken.Goals as goal
 

@@ -1,5 +1,5 @@
 use Rattle.std.proofs.lemmas.Result.{err_from_is_err_and}
-use Rattle.rnc_model.specs.loading.Files.{named_files}
+use Rattle.rnc_model.specs.loading.SchemaFile.{named_files}
 use Rattle.simple_forms.specs.views.FormOfFiles.{of_files}
 use Rattle.simple_forms.proofs.FormsOfFiles.{is_fault, is_form}
 use Rattle.simple_forms.proofs.simplifying.simplified.Goals as goal

@@ -2,7 +2,7 @@ use Rattle.std.proofs.Common.{rules, refl}
 use Rattle.std.proofs.lemmas.Result.{err_from_is_err_and}
 use Rattle.pyx.specs.plain.DocumentReader.{silent, line_read}
 use Rattle.pyx.specs.plain.Pieces.{open_line}
-use Rattle.rng_model.specs.documents.Handing.{Hands}
+use Rattle.rng_model.specs.documents.EventViews.{Hands}
 use Rattle.pyx.specs.views.View.{progress_of, state_of}
 use Rattle.pyx.proofs.DocumentEnds.{concludes, refused, finished_none, finished_some}
 use Rattle.pyx.proofs.LineTurns.{hands_nothing}

@@ -1,6 +1,6 @@
 use Rattle.std.proofs.Common.{◌+◌, ◌<◌, ◌≤◌, ◌^◌, length}
 use Rattle.pyx.specs.views.View.{progress_of}
-use Rattle.rng_model.specs.documents.Handing.{Hands}
+use Rattle.rng_model.specs.documents.EventViews.{Hands}
 use Rattle.pyx.specs.plain.Pieces.{read, weight}
 use Rattle.pyx.proofs.LineTurns.{Goes}
 use Rattle.pyx.proofs.pieces.Pieces.read_bytes.Given as goal

@@ -3,7 +3,7 @@ use Rattle.std.specs.List.{list_all}
 use Rattle.pyx.specs.plain.PlainBytes.{is_plain}
 use Rattle.std.proofs.lemmas.Result.{err_from_is_err_and}
 use Rattle.pyx.specs.plain.Pieces.{line_taken, rest_taken}
-use Rattle.rng_model.specs.documents.Handing.{Hands}
+use Rattle.rng_model.specs.documents.EventViews.{Hands}
 use Rattle.pyx.specs.plain.Cuts.{at_byte}
 use Rattle.pyx.specs.views.View.{progress_of, state_of}
 use Rattle.pyx.proofs.FirstLines.{halves}

@@ -4,7 +4,7 @@ use denote.Text.{Utf8}
 use Rattle.std.specs.List.{list_all}
 use Rattle.pyx.specs.plain.PlainBytes.{is_plain}
 use Rattle.pyx.specs.views.View.{progress_of}
-use Rattle.rng_model.specs.documents.Handing.{Hands}
+use Rattle.rng_model.specs.documents.EventViews.{Hands}
 use Rattle.pyx.specs.plain.Pieces.{read, weight}
 use Rattle.pyx.proofs.LineTurns.{Goes}
 use Rattle.pyx.proofs.pieces.Pieces.read_text.Given as goal

@@ -2,7 +2,7 @@ use Rattle.std.proofs.Common.{◌≤◌, length, ap, refl, arith, rules}
 use Rattle.pyx.specs.plain.Pieces.{weight}
 use Rattle.pyx.specs.views.ReaderAfterPiece.{Kept}
 use Rattle.pyx.specs.views.View.{progress_of}
-use Rattle.rng_model.specs.documents.Handing.{Hands}
+use Rattle.rng_model.specs.documents.EventViews.{Hands}
 use Rattle.pyx.proofs.ReaderAfterPiece.{fed_ok, fed_err, fed_stuck}
 use Rattle.pyx.proofs.ReaderOutcome.{is_fault_after}
 use Rattle.pyx.proofs.PieceCounts.{read_counts}

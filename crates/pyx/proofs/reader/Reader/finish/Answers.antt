@@ -1,7 +1,7 @@
 use Rattle.std.proofs.Common.{ap, rules}
 use Rattle.pyx.specs.views.ReaderAfterPiece.{Kept}
 use Rattle.pyx.specs.views.View.{progress_of}
-use Rattle.rng_model.specs.documents.Handing.{Hands}
+use Rattle.rng_model.specs.documents.EventViews.{Hands}
 use Rattle.pyx.proofs.ReaderOutcome.{finishes, finishes_stuck}
 use Rattle.pyx.proofs.reader.Reader.finish.Goals as goal
 

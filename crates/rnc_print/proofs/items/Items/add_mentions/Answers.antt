@@ -1,8 +1,7 @@
 use Rattle.std.proofs.Common.{◌≡◌, ◌∙◌, sym, ap, subst}
 use Rattle.std.specs.Prelude.{OnOk}
 use Rattle.rng_model.specs.simple.Table.{grammar_of}
-use Rattle.rncv_model.specs.printed.Numbering.{and_new}
-use Rattle.rncv_model.specs.printed.PrintedText.{item_of, mentions, same_item}
+use Rattle.rncv_model.specs.printed.Items.{and_new, named_item, mentions, same_item}
 use Rattle.rnc_print.specs.views.Items.{item_at, items_seen}
 use Rattle.rnc_print.proofs.ItemTables.{body_inside, element_is, element_none}
 use Rattle.rnc_print.proofs.items.Items.add_mentions.Goals as goal
@@ -12,7 +11,7 @@ add_written-requires-clause-inside c = body_inside c.args.grammar.now c.requires
 
 pub returns-in-Some-clause-added : goal.returns-in-Some-clause-added
 returns-in-Some-clause-added c =
-    let body = ap (λ e. item_of e.1) (element_is c.args.grammar.now c.in-Element.id.0 c.in-Some.field-0.now (sym c.in-Some.ensures)) in
+    let body = ap (λ e. named_item e.1) (element_is c.args.grammar.now c.in-Element.id.0 c.in-Some.field-0.now (sym c.in-Some.ensures)) in
     let line = ap (λ i. mentions (grammar_of c.args.grammar.now) (item_at c.args.grammar.now i)) c.in-Element.is ∙ body in
     subst (λ is. OnOk c.add_written.result
     (items_seen c.args.grammar.now c.add_written.new.self ≡ and_new same_item (items_seen c.args.grammar.now c.args.self.now) is))
@@ -20,6 +19,6 @@ returns-in-Some-clause-added c =
 
 pub returns-in-None-clause-added : goal.returns-in-None-clause-added
 returns-in-None-clause-added c =
-    let body = ap (λ e. item_of e.1) (element_none c.args.grammar.now c.in-Element.id.0 (sym c.in-None.ensures)) in
+    let body = ap (λ e. named_item e.1) (element_none c.args.grammar.now c.in-Element.id.0 (sym c.in-None.ensures)) in
     let line = ap (λ i. mentions (grammar_of c.args.grammar.now) (item_at c.args.grammar.now i)) c.in-Element.is ∙ body in
     ap (and_new same_item (items_seen c.args.grammar.now c.args.self.now)) (sym line)

@@ -1,7 +1,6 @@
 use Rattle.std.proofs.Common.{◌≡◌, ◌∙◌, ◌<◌, [], length, map, ap, get_or, rules}
 use Rattle.rng_model.specs.simple.Table.{tree_at}
-use Rattle.rncv_model.specs.printed.Numbering.{and_new}
-use Rattle.rncv_model.specs.printed.PrintedText.{item_of, same_item}
+use Rattle.rncv_model.specs.printed.Items.{and_new, named_item, same_item}
 use Rattle.rnc_print.specs.views.Items.{item_at}
 use Rattle.rnc_print.proofs.ItemLines.{none_yet, one_line}
 use Rattle.rnc_print.proofs.items.Items.of_grammar.Goals as goal
@@ -11,8 +10,8 @@ lines-init c =
     let t = c.args.grammar.now in
     none_yet t c.add_written.new.self c.in_ok-add_written.ensures.items
     (c.in_ok-add_written.ensures.added
-    ∙ ap (λ xs. and_new same_item (map (item_at t) xs) (item_of (tree_at t.patterns c.start-start.result))) c.new.ensures.items
-    ∙ ap (λ id. and_new same_item [] (item_of (tree_at t.patterns id))) c.start-start.ensures.start)
+    ∙ ap (λ xs. and_new same_item (map (item_at t) xs) (named_item (tree_at t.patterns c.start-start.result))) c.new.ensures.items
+    ∙ ap (λ id. and_new same_item [] (named_item (tree_at t.patterns id))) c.start-start.ensures.start)
 
 pub lines-preserved : goal.lines-preserved
 lines-preserved c =

@@ -2,7 +2,7 @@ use Rattle.std.proofs.Common.{◌≡◌, ◌∙◌, ◌++◌, sym, subst, Some, 
 use Rattle.std.specs.Prelude.{OnOk}
 use Rattle.rng_model.specs.simple.Table.{tree_at}
 use Rattle.rng_model.specs.declared.simple.Simple.TheVariants as simple
-use Rattle.rncv_model.specs.printed.PrintedText as text
+use Rattle.rncv_model.specs.printed.Items as text
 use Rattle.rncv_model.specs.printed.PrintedText.{item_name, reference}
 use Rattle.rnc_print.specs.views.Items.{items_seen}
 use Rattle.rnc_print.specs.declared.items.Item.TheVariants as variants

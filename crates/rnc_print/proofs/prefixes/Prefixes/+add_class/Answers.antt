@@ -4,7 +4,7 @@ use Rattle.std.proofs.lemmas.List.{take_all}
 use Rattle.rng_model.proofs.ChoiceViews.{choice_is}
 use Rattle.rng_model.specs.names.Names.{some_of}
 use Rattle.rng_model.specs.names.NameViews.{class_of}
-use Rattle.rncv_model.specs.printed.Numbering.{and_new}
+use Rattle.rncv_model.specs.printed.Items.{and_new}
 use Rattle.rncv_model.specs.printed.PrintedText.{namespaces_in}
 use Rattle.rnc_print.specs.views.Prefixes.{namespaces_seen}
 use Rattle.rnc_print.proofs.Namespaces.{member_added, namespaces_of_members}

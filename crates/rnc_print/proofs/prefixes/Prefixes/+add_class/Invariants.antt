@@ -1,7 +1,7 @@
 use Rattle.std.proofs.Common.{◌≡◌, take, flat_map}
 use Rattle.std.specs.Str.{bytes_eq}
 use Rattle.rng_model.specs.names.NameViews.{class_of}
-use Rattle.rncv_model.specs.printed.Numbering.{and_new}
+use Rattle.rncv_model.specs.printed.Items.{and_new}
 use Rattle.rncv_model.specs.printed.PrintedText.{namespaces_in}
 use Rattle.rnc_print.specs.views.Prefixes.{namespaces_seen}
 use Rattle.rnc_print.proofs.prefixes.Prefixes.+add_class.Given as goal

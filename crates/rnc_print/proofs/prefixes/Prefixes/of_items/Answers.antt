@@ -3,7 +3,7 @@ use Rattle.std.specs.Str.{bytes_eq}
 use Rattle.std.proofs.lemmas.List.{take_all}
 use Rattle.std.proofs.lemmas.List.Folds.{flat_map-map}
 use Rattle.rng_model.specs.simple.Table.{grammar_of}
-use Rattle.rncv_model.specs.printed.Numbering.{and_new}
+use Rattle.rncv_model.specs.printed.Items.{and_new}
 use Rattle.rnc_print.specs.views.Items.{item_at}
 use Rattle.rncv_model.specs.printed.PrintedText.{namespaces_of}
 use Rattle.rnc_print.proofs.Namespaces.{one_added}

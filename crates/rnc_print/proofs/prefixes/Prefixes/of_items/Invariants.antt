@@ -2,7 +2,7 @@ use Rattle.std.proofs.Common.{◌≡◌, [], take, flat_map}
 use Rattle.std.specs.Str.{bytes_eq}
 use Rattle.rng_model.specs.simple.Table.{grammar_of}
 use Rattle.rnc_print.specs.views.Items.{item_at}
-use Rattle.rncv_model.specs.printed.Numbering.{and_new}
+use Rattle.rncv_model.specs.printed.Items.{and_new}
 use Rattle.rncv_model.specs.printed.PrintedText.{namespaces_of}
 use Rattle.rnc_print.specs.views.Prefixes.{namespaces_seen}
 use Rattle.rnc_print.proofs.prefixes.Prefixes.of_items.Given as goal

@@ -1,6 +1,6 @@
 use Rattle.std.proofs.Common.{ap, ◌∙◌}
 use Rattle.std.proofs.lemmas.Str.{IsUtf8-string_bytes}
-use Rattle.rnc_model.specs.characters.Characters.{bytes_of}
+use Rattle.rnc_model.specs.characters.Decoding.{bytes_of}
 use Rattle.rnc_text.proofs.Held.{bytes_kept}
 use Rattle.rnc_text.proofs.text.Text.as_str.Goals as goal
 

@@ -2,7 +2,7 @@ use Rattle.std.proofs.Common.{Some, Err, refl, rules, subst}
 use Rattle.pyx.specs.views.Calls.{Extends}
 use Rattle.rncv_validator.specs.declared.fault.DocumentFault.{DocumentFault}
 use Rattle.rncv_validator.specs.declared.fault.DocumentFault.TheVariants as faults
-use Rattle.rng_model.specs.documents.Handing.{Hands}
+use Rattle.rng_model.specs.documents.EventViews.{Hands}
 use Rattle.rng_deriv.specs.views.Matchers.{HasGoneOn}
 use Rattle.rncv_validator.specs.views.Documents.{UnlessMemory}
 use Rattle.rncv_validator.specs.views.FedDocuments.{HasNotRunOut, IsFaultOfReader, Judging, matching_of}

@@ -1,10 +1,9 @@
 use Rattle.std.proofs.Common.{◌≡◌, ◌⊎◌, ◌∙◌, ℕ, List, Result, IfOk, IfSome, subst, sym}
-use Rattle.pyx.specs.views.Calls.{Ends, UnlessMemory}
+use Rattle.pyx.specs.views.Calls.{Ends, UnlessOutOfMemory}
 use Rattle.rng_model.specs.declared.fault.OutOfMemory.{OutOfMemory}
-use Rattle.rng_model.specs.documents.Handing.{Hands}
+use Rattle.rng_model.specs.documents.EventViews.{Hands}
 use Rattle.rng_model.specs.schema.Schema.{Schema}
-use Rattle.rncv_model.specs.answers.Compiled.{IsVerdictOn}
-use Rattle.rncv_model.specs.answers.Verdict.{IsMalformed}
+use Rattle.rncv_model.specs.answers.Verdict.{IsVerdictOn, IsMalformed}
 use Rattle.rncv_model.specs.declared.verdict.Verdict.{Verdict}
 use Rattle.rncv_model.specs.declared.verdict.Verdict.TheVariants.{Invalid}
 use Rattle.rng_deriv.specs.views.Matchers.{HasGoneOn}
@@ -32,7 +31,7 @@ returns-in-Ok-clause-verdict c =
     let new = c.finish-ended.new.events in
     let there = resumed d.grammar.value c.deref.result.now d.state c.in-Some.state old d.reader d.fault c.args.self c.self.view_is c.in-Some.is c.deref.ensures
     c.resume-matcher.ensures in
-    let ends = subst (λ (j : Judging). UnlessMemory c.finish-ended.result (Ends (Hands HasGoneOn old new) j.reader c.finish-ended.result)) c.self.view_is
+    let ends = subst (λ (j : Judging). UnlessOutOfMemory c.finish-ended.result (Ends (Hands HasGoneOn old new) j.reader c.finish-ended.result)) c.self.view_is
     c.finish-ended.ensures.document in
     subst (λ (r : Result Verdict OutOfMemory). IfOk r (λ v. (s : Schema) (bytes : List ℕ) → Judges c.args.self.grammar s → HasBeenFed c.args.self bytes → IsVerdictOn s bytes v))
     (sym c.verdict.ensures ∙ c.in-Ok.is)
@@ -45,7 +44,7 @@ returns-in-Ok-clause-since c =
     let new = c.finish-ended.new.events in
     let there = resumed d.grammar.value c.deref.result.now d.state c.in-Some.state old d.reader d.fault c.args.self c.self.view_is c.in-Some.is c.deref.ensures
     c.resume-matcher.ensures in
-    let ends = subst (λ (j : Judging). UnlessMemory c.finish-ended.result (Ends (Hands HasGoneOn old new) j.reader c.finish-ended.result)) c.self.view_is
+    let ends = subst (λ (j : Judging). UnlessOutOfMemory c.finish-ended.result (Ends (Hands HasGoneOn old new) j.reader c.finish-ended.result)) c.self.view_is
     c.finish-ended.ensures.document in
     subst (λ (r : Result Verdict OutOfMemory). IfSome (failed_since c.args.self) (λ line. IfOk r (λ v. IsMalformed v ⊎ (v ≡ Invalid line))))
     (sym c.verdict.ensures ∙ c.in-Ok.is)

@@ -1,5 +1,5 @@
 use Rattle.std.proofs.Common.{map, ap}
-use Rattle.rng_model.specs.documents.DocumentViews.{attribute_of}
+use Rattle.rng_model.specs.documents.EventViews.{attribute_of}
 use Rattle.rng_deriv.specs.views.Serving.{seen_of}
 use Rattle.rng_deriv.proofs.KeptStarts.{serves_longer}
 use Rattle.rng_deriv.proofs.ServedTables.{below_there, seen_there, tag_added, there_served}

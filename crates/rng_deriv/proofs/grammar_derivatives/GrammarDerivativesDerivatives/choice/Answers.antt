@@ -1,5 +1,5 @@
 use Rattle.std.proofs.Common.{ap}
-use Rattle.rng_model.specs.matching.GrammarReading.{reading_of}
+use Rattle.rng_model.specs.matching.GrammarMatching.{reading_of}
 use Rattle.rng_deriv_ways.proofs.KnownWays.{all_longer}
 use Rattle.rng_deriv.specs.views.Serving.{seen_of}
 use Rattle.rng_deriv.proofs.KeptStarts.{serves_longer}

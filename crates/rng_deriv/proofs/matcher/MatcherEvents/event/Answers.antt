@@ -1,5 +1,5 @@
 use Rattle.std.proofs.Common.{List, [], ◌∷◌, ◌++◌, IsErr, OnOk, subst}
-use Rattle.rng_model.specs.documents.EventView.{event_of}
+use Rattle.rng_model.specs.documents.EventViews.{event_of}
 use Rattle.rng_model.specs.documents.PyxTrees.{Event}
 use Rattle.rng_deriv.specs.views.Matchers.{HasRunOut, Knows, Matching, matching_of}
 use Rattle.rng_deriv.proofs.Matchers.{goes_on, same_grammar, same_judge, stays_failed}

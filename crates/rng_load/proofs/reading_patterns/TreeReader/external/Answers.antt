@@ -1,5 +1,5 @@
 use Rattle.std.proofs.Common.{◌∙◌, ◌<◌, ◌++◌, rules, sym, ap, map, reverse, Some}
-use Rattle.rng_model.specs.names.NamespaceViews.{namespace_bytes}
+use Rattle.rng_model.specs.names.NameViews.{namespace_bytes}
 use Rattle.rnc_grammar.specs.views.View.{file_of, pattern_of}
 use Rattle.rng_load.specs.views.PatternRows.{read_head}
 use Rattle.rng_load.specs.views.ReadPatterns.{files_in, nested_of}

@@ -1,5 +1,5 @@
 use Rattle.std.proofs.Common.{◌≡◌, ◌∙◌, ◌++◌, sym, ap, map, option_map, reverse}
-use Rattle.rng_model.specs.names.NamespaceViews.{namespace_bytes}
+use Rattle.rng_model.specs.names.NameViews.{namespace_bytes}
 use Rattle.rnc_grammar.specs.views.View.{data_of, pattern_of}
 use Rattle.rng_load.specs.plain.PlainReading.{read_at}
 use Rattle.rng_load.specs.views.ReadPatterns.{files_in, nested_of}

@@ -1,5 +1,5 @@
 use Rattle.std.proofs.Common.{◌∙◌, ◌<◌, rules, arith, sym, ap, map}
-use Rattle.rng_model.specs.names.NamespaceViews.{namespace_bytes}
+use Rattle.rng_model.specs.names.NameViews.{namespace_bytes}
 use Rattle.rnc_model.specs.grammar.Syntax.{components_of}
 use Rattle.rnc_model.specs.loading.FileGrammars.{grammar_if}
 use Rattle.rnc_model.specs.loading.Places.{uri_in}

@@ -1,5 +1,5 @@
 use Rattle.std.proofs.Common.{◌≡◌, ◌∷◌, [], reverse}
-use Rattle.rng_model.specs.names.NamespaceViews.{namespace_bytes}
+use Rattle.rng_model.specs.names.NameViews.{namespace_bytes}
 use Rattle.rnc_grammar.specs.views.View.{pattern_of}
 use Rattle.rng_load.specs.plain.OpenPatterns.{finished}
 use Rattle.rng_load.specs.plain.PlainReading.{read_at}

@@ -1,10 +1,10 @@
 use Rattle.std.proofs.Common.{◌≡◌, ◌∙◌, rules, ap, sym, map, reverse, [], ◌∷◌, ◌++◌, None}
-use Rattle.rng_model.specs.names.NamespaceViews.{namespace_bytes}
+use Rattle.rng_model.specs.names.NameViews.{namespace_bytes}
 use Rattle.rng_model.specs.views.SchemaView.{schema_component_of}
 use Rattle.rng_model.specs.declared.method.Method.TheVariants as methods
 use Rattle.rnc_grammar.specs.views.View.{pattern_of}
 use Rattle.rng_load.specs.views.GatheredComponents.{gathered_of}
-use Rattle.rnc_model.specs.loading.MentionPaths.{path_limit}
+use Rattle.rnc_model.specs.loading.Mentions.{path_limit}
 use Rattle.rnc_model.specs.loading.Places.{grammar_or_start}
 use Rattle.rng_load.specs.plain.FoundGrammars.{gathered_at, nested_in}
 use Rattle.rng_load.specs.plain.PlainReading.{gathered_as, read_at}

@@ -1,7 +1,7 @@
 use Rattle.std.proofs.Common.{◌≡◌, ap, refl, subst, map, length, arith, rules}
 use Rattle.std.specs.Map.{keys_of, lookup}
 use Rattle.std.specs.Str.{bytes_eq}
-use Rattle.rng_model.specs.names.NamespaceViews.{namespace_bytes}
+use Rattle.rng_model.specs.names.NameViews.{namespace_bytes}
 use Rattle.rng_names.specs.views.KeyTables.{AddsOthers, places_in}
 use Rattle.rng_names.specs.plain.WrittenNames.{written_as}
 use Rattle.rng_names.proofs.CollectedNames.{seen_at}

@@ -1,5 +1,5 @@
 use Rattle.std.proofs.Common.{map}
-use Rattle.rng_model.specs.names.NamespaceViews.{namespace_bytes}
+use Rattle.rng_model.specs.names.NameViews.{namespace_bytes}
 use Rattle.rng_names.specs.views.KeyTables.{places_in}
 use Rattle.rng_names.specs.plain.WrittenNames.{written_as}
 use Rattle.rng_names.proofs.NamespaceKeys.{IsToldOf}

@@ -1,8 +1,7 @@
 use Rattle.std.proofs.Common.{◌≡◌, ◌<◌, refl, ap₂, ◌∙◌, slice_index_or, length, Some, bytes_eq, arith, rules}
 use Rattle.std.specs.Map.{lookup, update}
 use Rattle.std.proofs.lemmas.Result.{on_ok_weaker}
-use Rattle.rng_model.specs.names.NameViews.{name_of}
-use Rattle.rng_model.specs.names.NamespaceViews.{namespace_bytes}
+use Rattle.rng_model.specs.names.NameViews.{name_of, namespace_bytes}
 use Rattle.rng_names.specs.plain.SharedKeys.{IsKeyIn, sharing_in}
 use Rattle.rng_names.proofs.SharedKeys.{adds_alone, adds_following, adds_noted}
 use Rattle.rng_names.proofs.shared_keys.Sharing.add.Goals as goal

@@ -2,9 +2,8 @@ use Rattle.std.proofs.Common.{◌≡◌, ◌∙◌, ap, refl, sym, subst, map, S
 use Rattle.std.proofs.lemmas.List.{length-map}
 use Rattle.std.proofs.lemmas.Result.{on_ok_weaker}
 use Rattle.rng_model.proofs.ChoiceViews.{choice_is}
-use Rattle.rng_model.specs.names.NamespaceViews.{namespace_bytes}
+use Rattle.rng_model.specs.names.NameViews.{namespace_bytes, class_of}
 use Rattle.rng_model.specs.names.Names.{any_except, ns_except, some_of}
-use Rattle.rng_model.specs.names.NameViews.{class_of}
 use Rattle.rng_names.proofs.NameViews.{any_except_is, ns_except_is}
 use Rattle.rng_names.specs.plain.Regions.{AddsPart, HasBegun, sorted_in}
 use Rattle.rng_names.specs.declared.written_names.WrittenNames.{WrittenNames}

@@ -1,4 +1,4 @@
-use Rattle.rng_model.specs.documents.EventView.{event_of}
+use Rattle.rng_model.specs.documents.EventViews.{event_of}
 use Rattle.rng_plain_matcher.proofs.KnownDocuments.{goes_on, knows_next, same_grammar}
 use Rattle.rng_plain_matcher.proofs.matcher.PlainMatcherEvents.event.Goals as goal
 

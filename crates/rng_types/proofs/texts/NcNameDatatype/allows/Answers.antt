@@ -1,5 +1,5 @@
 use Rattle.std.proofs.Common.{◌≡◌, ap, sym, ◌∙◌, refl, true}
-use Rattle.rng_model.specs.names.Characters.{is_ncname}
+use Rattle.rng_model.specs.names.Names.{is_ncname}
 use Rattle.rng_model.specs.datatypes.Facets.{is_within}
 use Rattle.rng_types.specs.views.View.{lengths_of}
 use Rattle.rng_types.proofs.TextValues.{word_passes, word_fails, no_word, ncname_space}

@@ -1,6 +1,6 @@
 use Rattle.std.proofs.Common.{sym, ◌∙◌}
-use Rattle.rng_model.specs.datatypes.Blanks.{collapse}
-use Rattle.rng_model.specs.names.Characters.{is_ncname}
+use Rattle.rng_model.specs.datatypes.Texts.{collapse}
+use Rattle.rng_model.specs.names.Names.{is_ncname}
 use Rattle.rng_model.specs.datatypes.Datatypes.{xsd_ncname}
 use Rattle.rng_types.specs.views.View.{lengths_of}
 use Rattle.rng_types.proofs.TextValues.{texts_equal, never_equal, passes}

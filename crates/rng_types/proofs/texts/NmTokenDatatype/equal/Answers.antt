@@ -1,5 +1,5 @@
 use Rattle.std.proofs.Common.{sym, ◌∙◌}
-use Rattle.rng_model.specs.datatypes.Blanks.{collapse}
+use Rattle.rng_model.specs.datatypes.Texts.{collapse}
 use Rattle.rng_model.specs.datatypes.Datatypes.{is_nmtoken, xsd_nmtoken}
 use Rattle.rng_types.specs.views.View.{lengths_of}
 use Rattle.rng_types.proofs.TextValues.{texts_equal, never_equal, passes}
