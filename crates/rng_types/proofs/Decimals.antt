@@ -19,7 +19,8 @@ use Rattle.rng_types.proofs.OnePiece.{all_fails, differs}
 digits_test : IsDigitsTest (λ ds. list_all is_ascii_digit ds ≡ true)
 digits_test = search rules
 
-own : IsNumeralModel (λ ds. list_all is_ascii_digit ds ≡ true) (digits_value 10)
+-- the digits of the kit, as they are tested here
+pub own : IsNumeralModel (λ ds. list_all is_ascii_digit ds ≡ true) (digits_value 10)
 own = numerals_by_value _ digits_test
 
 some_digits : (ds : List ℕ) → has_bytes ds ≡ true → 0 < length ds
@@ -91,7 +92,7 @@ unfolding truth_of
 truth-empty = refl
 
 -- and not a number
-sign_spaced : (v w : List ℕ) → list_all is_ascii_digit (without_leading_sign (v ++ 32 ∷ w)) ≡ false
+pub sign_spaced : (v w : List ℕ) → list_all is_ascii_digit (without_leading_sign (v ++ 32 ∷ w)) ≡ false
 sign_spaced [] w = refl
 sign_spaced (c ∷ v) w = by_sign (c == 45) (c == 43) refl refl
   where
@@ -100,7 +101,7 @@ sign_spaced (c ∷ v) w = by_sign (c == 45) (c == 43) refl refl
     by_sign false true e f = rw (e, f) (all_fails is_ascii_digit v w refl)
     by_sign false false e f = rw (e, f) (all_fails is_ascii_digit (c ∷ v) w refl)
 
-none_if : {A : Type 0} (b : Bool) (x : A) → b ≡ false → cond b (Some x) None ≡ None
+pub none_if : {A : Type 0} (b : Bool) (x : A) → b ≡ false → cond b (Some x) None ≡ None
 none_if b x e = rw e refl
 
 pub integer-spaced : (v w : List ℕ) → integer_of (v ++ 32 ∷ w) ≡ None

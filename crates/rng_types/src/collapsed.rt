@@ -6,8 +6,8 @@ ghost use Rattle.rng_types.specs.plain.Pieces.{only};
 
 use rng_model::Pieces;
 
-// the piece between the blanks of the text, if there is only one
-pub(crate) fn only_piece(text: &str) -> Option<&str>
+/// Returns the piece between the blanks of the text, if there is only one. One pass over the text. Allocates nothing.
+pub fn only_piece(text: &str) -> Option<&str>
     ensures { option_copied result ≡ only (pieces text.now) }
 {
     let mut pieces = Pieces::new(text);
@@ -18,8 +18,8 @@ pub(crate) fn only_piece(text: &str) -> Option<&str>
     }
 }
 
-// the number of characters in the text
-pub(crate) fn char_count(text: &str) -> usize
+/// Returns the number of characters in the text. One pass over it. Allocates nothing.
+pub fn char_count(text: &str) -> usize
     ensures { result ≡ length (chars text.now) }
 {
     text.chars().count()

@@ -17,9 +17,12 @@ mod values;
 mod words;
 
 pub use builtin::{Builtin, TypeFault};
+pub use collapsed::{char_count, only_piece};
 pub use datatype::{Datatype, are_all_equal};
 pub use lengths::Lengths;
-pub use numerals::Bounds;
+pub use numerals::{Bounds, are_digits, without_sign};
+pub use parameters::{is_once, value_named};
 pub use plain::{PlainString, PlainToken};
-pub use texts::{NcName, NmToken, XsdString, XsdToken};
+pub use runs::is_same_collapsed;
+pub use texts::{NcName, NmToken, XsdString, XsdToken, is_nmtoken};
 pub use values::{Boolean, Integer};

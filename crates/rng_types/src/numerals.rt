@@ -149,7 +149,8 @@ fn digits_len(bytes: &[u8]) -> usize
         .count()
 }
 
-fn without_sign(numeral: &[u8]) -> &[u8]
+/// Returns the numeral without a sign in front. Allocates nothing.
+pub fn without_sign(numeral: &[u8]) -> &[u8]
     ensures { result.now ≡ without_leading_sign numeral.now }
 {
     match numeral {
@@ -164,7 +165,8 @@ fn is_decimal(digits: &[u8], most: usize) -> bool
     !digits.is_empty() && are_digits(digits) && digits.len() <= most
 }
 
-fn are_digits(bytes: &[u8]) -> bool
+/// Returns whether all bytes are digits. One pass over them. Allocates nothing.
+pub fn are_digits(bytes: &[u8]) -> bool
     ensures { result ≡ list_all is_ascii_digit bytes.now }
 {
     bytes.iter().all(|b| b.is_ascii_digit())

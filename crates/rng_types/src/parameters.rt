@@ -89,8 +89,8 @@ fn is_named(param: &(String, String), name: &str) -> bool
     name == param.0.as_str()
 }
 
-// at most one parameter has the name
-fn is_once(params: &[(String, String)], name: &str) -> bool
+/// Returns whether at most one parameter has the name. One pass over the parameters. Allocates nothing.
+pub fn is_once(params: &[(String, String)], name: &str) -> bool
     ensures { result ≡ is_once name.now (map parameter_of params.now) }
 {
     params.iter().filter(|param| is_named(param, name)).count() <= 1
@@ -116,8 +116,8 @@ fn bound_named(params: &[(String, String)], name: &str) -> Option<i128>
     }
 }
 
-// the value of the parameter of that name
-fn value_named<'a>(params: &'a [(String, String)], name: &str) -> Option<&'a str>
+/// Returns the value of the first parameter of that name. One pass over the parameters. Allocates nothing.
+pub fn value_named<'a>(params: &'a [(String, String)], name: &str) -> Option<&'a str>
     ensures { option_copied result ≡ named name.now (map parameter_of params.now) }
 {
     for param in params {

@@ -78,8 +78,10 @@ fn is_same_run(a: &[u8], b: &[u8]) -> bool
     next_byte(right).is_none()
 }
 
-// whether the two texts collapse to one
-pub(crate) fn is_same_collapsed(a: &str, b: &str) -> bool
+/// Returns whether the two texts collapse to the same text. One pass over both. Allocates nothing.
+///
+/// XML Schema Part 2, section 4.3.6, `collapse`.
+pub fn is_same_collapsed(a: &str, b: &str) -> bool
     ensures { result ≡ bytes_eq (collapse a.now) (collapse b.now) }
 {
     is_same_run(past_blanks(a.as_bytes()), past_blanks(b.as_bytes()))

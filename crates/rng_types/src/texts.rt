@@ -149,8 +149,10 @@ impl Datatype for NmToken {
     }
 }
 
-// whether the text is one or more name characters
-fn is_nmtoken(text: &str) -> bool
+/// Returns whether the text is one or more name characters. One pass over it. Allocates nothing.
+///
+/// XML 1.0 Fifth Edition, section 2.3, Nmtoken.
+pub fn is_nmtoken(text: &str) -> bool
     ensures { result ≡ is_nmtoken (chars text.now) }
 {
     !text.is_empty() && text.chars().all(|c| is_name_char(c))
