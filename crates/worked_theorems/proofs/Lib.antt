@@ -1,0 +1,10 @@
+mod Matching
+mod Datatypes
+mod Restrictions
+mod Simplification
+mod Documents
+mod Characters
+mod Tokens
+mod Sentences
+mod Printing
+mod Answers
