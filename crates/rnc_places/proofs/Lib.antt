@@ -1,6 +1,7 @@
 mod FaultSteps
 mod FilePieces
 mod FirstFault
+mod MentionedNames
 mod NestingNumber
 mod PrefixMarks
 mod ToldPlaces

@@ -1,5 +1,5 @@
 -- The places that are returned are those of the clauses.
-use Rattle.std.proofs.Common.{◌≡◌, ◌⊎◌, ℕ, ◌-◌, List, [], ◌++◌, Option, Some, None, Ok, Err, IfSome, take, inl, inr, refl, sym, ap, subst, ◌∙◌}
+use Rattle.std.proofs.Common.{◌≡◌, ◌⊎◌, ℕ, ◌-◌, List, [], ◌++◌, Some, None, Ok, Err, IfSome, take, inl, inr, refl, sym, subst, ◌∙◌}
 use Rattle.std.proofs.lemmas.Option.{none-some}
 use Rattle.std.specs.List.{slice_get}
 use Rattle.rnc_grammar.specs.declared.fault.ParseFault.{ParseFault}
@@ -17,7 +17,9 @@ use Rattle.rnc_model.specs.loading.FaultPlaces.{BreaksClauseAt, IsPlaceOfToken}
 use Rattle.rnc_model.specs.loading.FaultPlaces as places
 use Rattle.rnc_model.specs.loading.FileVerdicts.{ContentHasOnlyVerdict, breaks, has_tree}
 use Rattle.rnc_model.specs.tokens.Cut.{BreaksTokensAt, HasTokens, Token, lexemes}
-use Rattle.rnc_places.specs.views.Told.{BreaksAtToken, IsNumberOf, IsTold, clause_of, unexpected, too_deep, unruly}
+use Rattle.rnc_places.specs.declared.fault.FileFault.{FileFault}
+use Rattle.rnc_places.specs.declared.fault.FileFault.TheVariants as files
+use Rattle.rnc_places.specs.views.Told.{BreaksAtToken, BreaksOnlyAt, IsFaultOfFile, IsNumberOf, clause_of, unexpected, too_deep, unruly}
 use Rattle.rnc_text.specs.declared.fault.TextFault.{TextFault}
 use Rattle.rnc_text.specs.declared.fault.TextFault.TheVariants as texts
 use Rattle.rnc_text.specs.views.Answers.{GivesFault, GivesOk, IfBroken}
@@ -90,7 +92,7 @@ pub told_of_text : (bytes : List ℕ) (x : TextFault) (k offset : ℕ) (p : File
     → ((k offset : ℕ) → BreaksTextAt bytes k offset → GivesFault {X = List Character} (Err x) k offset)
     → (BreaksUtf8At bytes o → (front : List ℕ) × IsSpelling (take o bytes) front × IsPlaceBetween front [] p)
     → (BreaksCharactersAt bytes o → (front : List Character) × IsPlaceBehind bytes front p)
-    → (BreaksUtf8At bytes o ⊎ BreaksCharactersAt bytes o → p.offset ≡ o) → IsTold bytes (Some (k, p))
+    → (BreaksUtf8At bytes o ⊎ BreaksCharactersAt bytes o → p.offset ≡ o) → BreaksOnlyAt bytes k p
 told_of_text bytes texts.Memory k offset p o o-is e fault only broken utf8 characters at = absurd (cc)
 told_of_text bytes (texts.At j at) k offset p o o-is e fault only broken utf8 characters same =
     let g : at ≡ o = (let h : at ≡ offset = cc in h ∙ o-is) in
@@ -104,7 +106,7 @@ pub told_of_cut : {X : Type 0} (view : X → List Token) (bytes : List ℕ) (cs 
     → ((ts : List Token) → HasTokens cs ts → GivesOk view (Err x) ts)
     → ((front : List Character) (numbers after : List ℕ) → IsSpelling bytes numbers → Decodes numbers front after → byte_length front ≡ o
     → IsPlaceBehind bytes front p)
-    → IsTold bytes (Some (k, p))
+    → BreaksOnlyAt bytes k p
 told_of_cut view bytes cs texts.Memory k offset p o o-is e d fault only told = absurd (cc)
 told_of_cut view bytes cs (texts.At j at) k offset p o o-is e d fault only told =
     let k-is : j ≡ k = cc in
@@ -121,28 +123,28 @@ verdict_at bytes (faults.Clause c) k e v = let same : c ≡ k = cc in subst (λ 
 
 pub told_of_tokens : (bytes : List ℕ) (ts : List Token) (x : ParseFault) (k number : ℕ) (p : FilePlace) → Lexed bytes ts → IsFaultOf (lexemes ts) x
     → ((t : FileTree) → IsFileTree (lexemes ts) t → Gives unless_memory file_of (Err x) (Ok t)) → IsNumberOf (lexemes ts) x (k, number)
-    → IsPlaceOfToken bytes ts number p → IsTold bytes (Some (k, p))
+    → IsPlaceOfToken bytes ts number p → BreaksOnlyAt bytes k p
 told_of_tokens bytes ts x k number p l fault only n at =
     (place_of_fault bytes ts k number p l.is n.1 at, verdict_at bytes x k n.0 (parse_fault bytes ts x l fault only))
 
 -- ---- a clause that is asked for
 
-pub is_asked : (bytes : List ℕ) (o : Option (ℕ × FilePlace)) (k j : ℕ) (p : FilePlace) → o ≡ Some (j, p) → j ≡ k → IsTold bytes o → BreaksClauseAt bytes k p
-is_asked bytes None k j p e f told = absurd (none-some _ e)
-is_asked bytes (Some x) k j p e f told =
-    let y : x ≡ (j, p) = cc in
-    subst (λ n. BreaksClauseAt bytes n p) f (subst (λ (x : ℕ × FilePlace). BreaksClauseAt bytes x.0 x.1) y told.0)
+pub is_asked : (bytes : List ℕ) (x : FileFault) (k j : ℕ) (p : FilePlace) → x ≡ files.Broken j p → j ≡ k → IsFaultOfFile bytes x → BreaksClauseAt bytes k p
+is_asked bytes files.Memory k j p e f told = absurd (cc)
+is_asked bytes (files.Broken i q) k j p e f told =
+    let same : i ≡ k = cc in
+    let there : q ≡ p = cc in
+    subst (λ n. BreaksClauseAt bytes n p) same (subst (BreaksClauseAt bytes i) there told.0)
 
-pub is_another : (bytes : List ℕ) (o : Option (ℕ × FilePlace)) (k j : ℕ) (p : FilePlace) → o ≡ Some (j, p) → (j ≡ k → ⊥) → IsTold bytes o → BreaksFileClause bytes k → ⊥
-is_another bytes None k j p e f told broken = none-some _ e
-is_another bytes (Some x) k j p e f told broken =
-    let y : x ≡ (j, p) = cc in
-    let same : breaks x.0 ≡ breaks k = told.1.only (breaks k) broken in
-    f (let n : x.0 ≡ k = cc in ap (λ (x : ℕ × FilePlace). x.0) (sym y) ∙ n)
+pub is_another : (bytes : List ℕ) (x : FileFault) (k j : ℕ) (p : FilePlace) → x ≡ files.Broken j p → (j ≡ k → ⊥) → IsFaultOfFile bytes x
+    → BreaksFileClause bytes k → ⊥
+is_another bytes files.Memory k j p e f told broken = cc
+is_another bytes (files.Broken i q) k j p e f told broken =
+    let same : breaks i ≡ breaks k = told.1.only (breaks k) broken in
+    f (let n : i ≡ k = cc in let m : i ≡ j = cc in sym m ∙ n)
 
-pub is_none : (bytes : List ℕ) (o : Option (ℕ × FilePlace)) (k : ℕ) → o ≡ None → IsTold bytes o → BreaksFileClause bytes k → ⊥
-is_none bytes None k e told broken = let same : has_tree told.0 ≡ breaks k = told.1.only (breaks k) broken in tree_breaks told.0 k same
+pub is_none : (bytes : List ℕ) (t : FileTree) (k : ℕ) → ContentHasOnlyVerdict bytes (has_tree t) → BreaksFileClause bytes k → ⊥
+is_none bytes t k only broken = tree_breaks t k (only.only (breaks k) broken)
   where
     tree_breaks : (t : FileTree) (k : ℕ) → has_tree t ≡ breaks k → ⊥
     tree_breaks t k e = cc
-is_none bytes (Some x) k e told broken = none-some _ (sym e)

@@ -1,13 +1,19 @@
-//! Where a schema file breaks a clause.
+//! What a schema file says by itself: where it breaks a clause, and which other files it mentions.
 //!
 //! `place_of` reads a file again that breaks a clause from 3 to 8. It returns the offset, the line and the column where
-//! the file breaks it. RELAX NG Compact Syntax, "Lexical structure" and "Syntax".
+//! the file breaks it. `mentioned_names` reads a file, and returns the names of the files that it mentions, or the
+//! clause that it breaks with its place. RELAX NG Compact Syntax, "Lexical structure" and "Syntax"; RELAX NG
+//! Specification, sections 4.6 and 4.7.
 #![tactic(auto)]
 
 mod declarations;
+mod fault;
+mod mentions;
 mod nesting;
 mod places;
 mod prefixes;
 
+pub use fault::FileFault;
+pub use mentions::mentioned_names;
 pub use places::place_of;
 pub use rnc_model::FilePlace;

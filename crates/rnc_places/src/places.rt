@@ -1,17 +1,20 @@
-// The place at which a file breaks a clause.
-ghost use Rattle.std.specs.Prelude.{◌≡◌, List, IfOk, IfSome, IsSome};
+// The tree of a file, or the place at which it breaks a clause.
+ghost use Rattle.std.specs.Prelude.{◌≡◌, List, IfErr, IfOk, IfSome, IsSome};
 ghost use Rattle.rnc_grammar.specs.views.ParsingFaults.{IsFaultOf};
+ghost use Rattle.rnc_grammar.specs.views.View.{file_of};
 ghost use Rattle.rnc_model.specs.characters.Decoding.{byte_length, IsDecoded};
 ghost use Rattle.rnc_model.specs.declared.character.Character.{Character};
 ghost use Rattle.rnc_model.specs.loading.FaultPlaces.{BreaksClauseAt, IsPlaceOfToken};
+ghost use Rattle.rnc_model.specs.loading.FileVerdicts.{ContentHasOnlyVerdict, has_tree};
 ghost use Rattle.rnc_model.specs.loading.SchemaFile.{BreaksFileClause};
 ghost use Rattle.rnc_model.specs.tokens.Cut.{HasTokens, lexemes};
 ghost use Rattle.rnc_model.specs.tokens.CutTokens.{tokens_of};
-ghost use Rattle.rnc_places.specs.views.Told.{IsNumberOf, IsTold};
+ghost use Rattle.rnc_places.specs.views.Told.{IsFaultOfFile, IsNumberOf};
 
 use crate::declarations::unruly_number;
+use crate::fault::FileFault;
 use crate::nesting::too_deep_number;
-use rnc_grammar::{ParseFault, parse};
+use rnc_grammar::{FileTree, ParseFault, parse};
 use rnc_model::{FilePlace, Token};
 use rnc_text::{TextFault, place_at, place_of_decoded, read_text, tokens};
 use rng_model::OutOfMemory;
@@ -38,41 +41,52 @@ pub fn place_of(alloc: Global, file: &[u8], clause: u8) -> Result<Option<FilePla
     // If the file breaks the clause, a place is returned.
     ensures found { BreaksFileClause file.now clause → IfOk result IsSome }
 {
-    match told(alloc, file)? {
-        Some((broken, place)) if broken == clause => Ok(Some(place)),
-        Some(_) => Ok(None),
-        None => Ok(None),
-    }
-}
-
-/// The clause from 3 to 8 that a file breaks, with its place, or `None` if it breaks none.
-fn told(alloc: Global, file: &[u8]) -> Result<Option<(u8, FilePlace)>, OutOfMemory>
-    ensures { IfOk result (IsTold file.now) }
-{
-    let text = match read_text(alloc, file) {
-        Ok(text) => text,
-        Err(TextFault::At { clause, offset }) => {
-            return Ok(Some((clause, place_at(file, offset))));
-        }
-        Err(TextFault::Memory) => return Err(OutOfMemory),
-    };
-    let tokens = match tokens(alloc, &text) {
-        Ok(tokens) => tokens,
-        Err(TextFault::At { clause, offset }) => {
-            return Ok(Some((clause, place_of_decoded(file, offset as usize))));
-        }
-        Err(TextFault::Memory) => return Err(OutOfMemory),
-    };
-    let fault = match parse(alloc, tokens.as_slice()) {
+    let fault = match tree_of(alloc, file) {
         Ok(tree) => {
             drop(tree);
             return Ok(None);
         }
+        Err(cause) => cause,
+    };
+    match fault {
+        FileFault::Broken {
+            clause: broken,
+            place,
+        } if broken == clause => Ok(Some(place)),
+        FileFault::Broken { .. } => Ok(None),
+        FileFault::Memory => Err(OutOfMemory),
+    }
+}
+
+/// Reads the tree of a file.
+pub fn tree_of(alloc: Global, file: &[u8]) -> Result<FileTree, FileFault>
+    ensures tree { IfOk result (λ t. ContentHasOnlyVerdict file.now (has_tree (file_of t))) }
+    ensures fault { IfErr result (IsFaultOfFile file.now) }
+{
+    let text = match read_text(alloc, file) {
+        Ok(text) => text,
+        Err(TextFault::At { clause, offset }) => {
+            let place = place_at(file, offset);
+            return Err(FileFault::Broken { clause, place });
+        }
+        Err(TextFault::Memory) => return Err(FileFault::Memory),
+    };
+    let tokens = match tokens(alloc, &text) {
+        Ok(tokens) => tokens,
+        Err(TextFault::At { clause, offset }) => {
+            let place = place_of_decoded(file, offset as usize);
+            return Err(FileFault::Broken { clause, place });
+        }
+        Err(TextFault::Memory) => return Err(FileFault::Memory),
+    };
+    let fault = match parse(alloc, tokens.as_slice()) {
+        Ok(tree) => return Ok(tree),
         Err(fault) => fault,
     };
     let (clause, number) = numbered(alloc, tokens.as_slice(), fault)?;
     let end = text.as_str().len();
-    Ok(Some((clause, place_of_token(file, end, tokens.as_slice(), number))))
+    let place = place_of_token(file, end, tokens.as_slice(), number);
+    Err(FileFault::Broken { clause, place })
 }
 
 /// The clause of a fault of tokens, and the number of the token at which they break it.

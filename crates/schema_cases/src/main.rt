@@ -1,5 +1,6 @@
-//! Compares what the calls on schemas return, for the rows of five files: what files load to, where a file breaks a clause,
-//! the simple form of files, the restriction that a simple grammar breaks, and the printed text of a simple grammar.
+//! Compares what the calls on schemas return, for the rows of six files: what files load to, where a file breaks a clause,
+//! which names it mentions, the simple form of files, the restriction that a simple grammar breaks, and the printed text of
+//! a simple grammar.
 //!
 //! The module that compares the rows of a file describes them.
 #![tactic(auto)]
@@ -10,6 +11,7 @@ mod faults;
 mod forms;
 mod grammars;
 mod load_rows;
+mod mention_rows;
 mod nested;
 mod patterns;
 mod place_rows;
@@ -24,6 +26,7 @@ use std::io;
 fn main(rt: HostRuntime) -> io::Result<()> {
     load_rows::compare(&rt)?;
     place_rows::compare(&rt)?;
+    mention_rows::compare(&rt)?;
     simple_rows::compare(&rt)?;
     rule_rows::compare(&rt)?;
     print_rows::compare(&rt)

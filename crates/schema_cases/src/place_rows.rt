@@ -6,6 +6,7 @@ use crate::load_rows::times_of;
 use case_rows::{Row, compare_rows};
 use rnc_places::place_of;
 use rng_model::OutOfMemory;
+use std::alloc::Global;
 use std::io;
 use std::rt::Files;
 
@@ -16,12 +17,7 @@ pub fn compare(rt: &(impl Files + Print + AllocGlobal)) -> io::Result<()> {
 
 /// Prints where the file of a row breaks a clause.
 fn print_place(rt: &(impl Print + AllocGlobal), row: &Row) -> io::Result<()> {
-    let mut file = Vec::new(rt.alloc());
-    for field in (0..row.field_count()).step_by(2) {
-        for _ in 0..times_of(row, field.wrapping_add(1)) {
-            file.extend_from_slice(row.bytes(field)?)?;
-        }
-    }
+    let file = file_of(rt.alloc(), row)?;
     for clause in 0..=9 {
         match place_of(rt.alloc(), file.as_slice(), clause) {
             Ok(None) => {}
@@ -35,4 +31,15 @@ fn print_place(rt: &(impl Print + AllocGlobal), row: &Row) -> io::Result<()> {
         }
     }
     println!(rt; "none")
+}
+
+/// Returns the file of a row of pieces, each with a number after it.
+pub fn file_of(alloc: Global, row: &Row) -> io::Result<Vec<u8>> {
+    let mut file = Vec::new(alloc);
+    for field in (0..row.field_count()).step_by(2) {
+        for _ in 0..times_of(row, field.wrapping_add(1)) {
+            file.extend_from_slice(row.bytes(field)?)?;
+        }
+    }
+    Ok(file)
 }

@@ -1,4 +1,4 @@
-use Rattle.std.proofs.Common.{Vec, Global, Ok, Err, Some, ap, subst, sym, length}
+use Rattle.std.proofs.Common.{Vec, Global, Ok, Err, ap, subst, sym, length}
 use Rattle.rnc_grammar.specs.views.ParsingFaults.{IsFaultOf, unless_memory}
 use Rattle.rnc_grammar.specs.views.View.{file_of}
 use Rattle.rnc_model.specs.declarations.FileTree.{FileTree}
@@ -8,40 +8,40 @@ use Rattle.rnc_model.specs.loading.FaultPlaces.{IsPlaceOfToken}
 use Rattle.rnc_model.specs.tokens.CutTokens.{tokens_of}
 use Rattle.rnc_model.specs.tokens.Cut.{lexemes}
 use Rattle.rng_model.specs.plain.Answers.{Gives}
-use Rattle.rnc_places.specs.views.Told.{IsNumberOf, IsTold}
+use Rattle.rnc_places.specs.views.Told.{BreaksOnlyAt, IsNumberOf}
 use Rattle.rng_load.proofs.FileContent.{Lexed, decoded, lexed, parsed, tokenized}
 use Rattle.rnc_places.proofs.ToldPlaces.{told_of_cut, told_of_text, told_of_tokens}
-use Rattle.rnc_places.proofs.places.told.Goals as goal
+use Rattle.rnc_places.proofs.places.tree_of.Goals as goal
 
-pub returns-in-Err-At : goal.returns-in-Err-At
-returns-in-Err-At c =
+pub returns-in-Err-At-clause-fault : goal.returns-in-Err-At-clause-fault
+returns-in-Err-At-clause-fault c =
     let e = c.in-Err-At.ensures in
-    let p = c.place_at.ensures in
-    subst (λ k. IsTold c.args.file.now (Some (k, c.place_at.result))) (sym c.in-Err-At.clause-is)
-    (told_of_text c.args.file.now c.in-Err-At.field-0 c.in-Err-At.clause c.in-Err-At.offset c.place_at.result _ (sym c.in-Err-At.offset-is)
+    let p = c.place_at-place.ensures in
+    subst (λ k. BreaksOnlyAt c.args.file.now k c.place_at-place.result) (sym c.in-Err-At.clause-is)
+    (told_of_text c.args.file.now c.in-Err-At.field-0 c.in-Err-At.clause c.in-Err-At.offset c.place_at-place.result _ (sym c.in-Err-At.offset-is)
     c.in-Err-At.field-0-is e.fault e.only e.broken p.utf8 p.characters p.offset)
 
-pub returns-in-Err-At-tokens : goal.returns-in-Err-At-tokens
-returns-in-Err-At-tokens c =
+pub returns-in-Err-At-tokens-clause-fault : goal.returns-in-Err-At-tokens-clause-fault
+returns-in-Err-At-tokens-clause-fault c =
     let t = c.in-Ok.ensures in
     let e = c.in-Err-At-tokens.ensures in
-    subst (λ k. IsTold c.args.file.now (Some (k, c.place_of_decoded.result))) (sym c.in-Err-At-tokens.clause-is)
+    subst (λ k. BreaksOnlyAt c.args.file.now k c.place_of_decoded-place.result) (sym c.in-Err-At-tokens.clause-is)
     (told_of_cut (λ (v : Vec Token Global). tokens_of v.items) c.args.file.now c.in-Ok.text c.in-Err-At-tokens.field-0 c.in-Err-At-tokens.clause
-    c.in-Err-At-tokens.offset c.place_of_decoded.result _ (sym c.in-Err-At-tokens.offset-is) c.in-Err-At-tokens.field-0-is (decoded c.args.file.now c.in-Ok.text t.found t.only t.broken)
-    e.fault e.only c.place_of_decoded.ensures)
+    c.in-Err-At-tokens.offset c.place_of_decoded-place.result _ (sym c.in-Err-At-tokens.offset-is) c.in-Err-At-tokens.field-0-is
+    (decoded c.args.file.now c.in-Ok.text t.found t.only t.broken) e.fault e.only c.place_of_decoded-place.ensures)
 
-pub returns-in-Ok-parse : goal.returns-in-Ok-parse
-returns-in-Ok-parse c =
+pub returns-in-Ok-parse-clause-tree : goal.returns-in-Ok-parse-clause-tree
+returns-in-Ok-parse-clause-tree c =
     let t = c.in-Ok.ensures in
     let k = c.in-Ok-tokens.ensures in
     let known : Lexed c.args.file.now (tokens_of c.as_slice.result.now) = rw (c.as_slice.ensures.value) (
     lexed c.args.file.now c.in-Ok.text (tokens_of c.in-Ok-tokens.tokens.items) (decoded c.args.file.now c.in-Ok.text t.found t.only t.broken)
     (tokenized (λ (v : Vec Token Global). tokens_of v.items) c.in-Ok.text c.in-Ok-tokens.tokens k.found k.only k.broken)) in
     let e = c.in-Ok-parse.ensures in
-    (file_of c.in-Ok-parse.tree, parsed c.args.file.now (tokens_of c.as_slice.result.now) c.in-Ok-parse.tree known e.tree e.only e.declarations)
+    parsed c.args.file.now (tokens_of c.as_slice.result.now) c.in-Ok-parse.tree known e.tree e.only e.declarations
 
-pub returns : goal.returns
-returns c =
+pub returns-clause-fault : goal.returns-clause-fault
+returns-clause-fault c =
     let t = c.in-Ok.ensures in
     let k = c.in-Ok-tokens.ensures in
     let known : Lexed c.args.file.now (tokens_of c.in-Ok-tokens.tokens.items) =
@@ -55,7 +55,8 @@ returns c =
     rw (sym same) e.only in
     let number : IsNumberOf (lexemes (tokens_of c.in-Ok-tokens.tokens.items)) c.in-Err.fault (c.in_ok-clause.clause, c.in_ok-clause.number) =
     rw (sym again) (c.in_ok-clause.ensures (rw again fault)) in
-    let at : IsPlaceOfToken c.args.file.now (tokens_of c.in-Ok-tokens.tokens.items) c.in_ok-clause.number c.place_of_token.result =
-    rw (sym c.as_slice-3.ensures.value) (c.place_of_token.ensures c.in-Ok.text t.found (rw c.as_slice-3.ensures.value k.found) (ap length (sym c.as_str-end.ensures))) in
-    told_of_tokens c.args.file.now (tokens_of c.in-Ok-tokens.tokens.items) c.in-Err.fault c.in_ok-clause.clause c.in_ok-clause.number c.place_of_token.result
-    known fault only number at
+    let at : IsPlaceOfToken c.args.file.now (tokens_of c.in-Ok-tokens.tokens.items) c.in_ok-clause.number c.place_of_token-place.result =
+    rw (sym c.as_slice-3.ensures.value) (c.place_of_token-place.ensures c.in-Ok.text t.found (rw c.as_slice-3.ensures.value k.found)
+    (ap length (sym c.as_str-end.ensures))) in
+    told_of_tokens c.args.file.now (tokens_of c.in-Ok-tokens.tokens.items) c.in-Err.fault c.in_ok-clause.clause c.in_ok-clause.number
+    c.place_of_token-place.result known fault only number at
