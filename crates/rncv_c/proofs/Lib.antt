@@ -1,4 +1,5 @@
 mod AsBox
 mod Crossing
+mod JoinedNames
 mod RefusedNames
 mod Values

@@ -3,5 +3,6 @@ pub mod Calls
 pub mod Files
 pub mod Handles
 pub mod Held
+pub mod Mentions
 pub mod Texts
 pub mod Told

@@ -12,14 +12,17 @@ ghost use Rattle.rncv_validator.specs.views.Validators.{IsOneFor};
 ghost use Rattle.rncv_c.specs.views.Calls.{HasBegun, HasEnded, HasTaken, IsInvalidSince};
 ghost use Rattle.rncv_c.specs.views.Files.{AreNamed, files_of, main_of};
 ghost use Rattle.rncv_c.specs.views.Held.{document_in, grammar_in, schema_in};
+ghost use Rattle.rncv_c.specs.views.Mentions.{AreMentionsOf, IsRefusedAlone};
 ghost use Rattle.rncv_c.specs.views.Texts.{IsTextOf, IsTooLong, IsWritten};
 ghost use Rattle.rncv_c.specs.views.Told.{AreRefused, IsRefusedName};
 
 mod documents;
 mod files;
 mod handle;
+mod mentions;
 mod schemas;
 mod status;
+mod texts;
 mod told;
 
 use files::SchemaFile;
@@ -73,6 +76,31 @@ pub extern "C" fn rncv_refused_name(
     ensures untold { result ≢ pos 0 → result ≢ pos 5 → count.new ≡ count.old }
 {
     schemas::refused_name(alloc, files, buffer, count).code()
+}
+
+/// Writes the names of the files that a schema file mentions by `include` and `external` to the buffer if they fit, each
+/// with a zero after it, in the order of the file. Reports their length, with the zeros, in `count`.
+///
+/// Returns 0 on success; 1 if the file breaks a clause from 3 to 8, which `fault` reports; 3 when out of memory; 5 if the
+/// names do not fit, and then nothing is written to the buffer. Costs what `mentioned_names` costs, and two copies of
+/// the names.
+#[unsafe(no_mangle)]
+pub extern "C" fn rncv_mentions(
+    alloc: Global,
+    file: &[u8],
+    buffer: &mut [u8],
+    count: &mut usize,
+    fault: &mut Refusal,
+) -> i32
+    ensures done { result ≡ pos 0 → IsWritten (AreMentionsOf file.now) count.new buffer.old buffer.new }
+    ensures refused { result ≡ pos 1 → IsRefusedAlone file.now fault.new }
+    ensures space { result ≡ pos 5 → IsTooLong (AreMentionsOf file.now) count.new buffer.old }
+    ensures others { result ≢ pos 0 → result ≢ pos 1 → result ≢ pos 5 → result ≡ pos 3 }
+    ensures failed { result ≢ pos 0 → buffer.new ≡ buffer.old }
+    ensures uncounted { result ≢ pos 0 → result ≢ pos 5 → count.new ≡ count.old }
+    ensures untold { result ≢ pos 1 → fault.new ≡ fault.old }
+{
+    mentions::mentions(alloc, file, buffer, count, fault).code()
 }
 
 /// Makes `other` a second handle on the same schema, for another thread. What `other` held is freed.

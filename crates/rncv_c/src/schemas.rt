@@ -1,5 +1,5 @@
 // Calls on a handle with a schema.
-ghost use Rattle.std.specs.Prelude.{◌≡◌, ◌≢◌, ◌↔◌, ◌<◌, ◌++◌, length, drop, IfErr, IfOk, IfSome, IsErrOf, IsSomeAnd, string_bytes};
+ghost use Rattle.std.specs.Prelude.{◌≡◌, ◌≢◌, ◌↔◌, IfErr, IfOk, IfSome, IsErrOf, IsSomeAnd, string_bytes};
 ghost use Rattle.std.specs.declared.option.Option.TheVariants.{None, Some};
 ghost use Rattle.rnc_model.specs.loading.SchemaFile.{FileName};
 ghost use Rattle.rncv_model.specs.answers.Verdict.{IsRefusal};
@@ -12,6 +12,7 @@ ghost use Rattle.rncv_c.specs.views.Told.{AreRefused, IsRefusedName};
 use crate::files::{SchemaFile, are_named, copied_files};
 use crate::handle::{Handle, Held};
 use crate::status::Status;
+use crate::texts::copied;
 use crate::told::{Refusal, refusal_to_tell};
 use rncv_validator::Validator;
 use rng_model::SchemaFault;
@@ -175,21 +176,6 @@ fn simple_text(alloc: Global, schema: &mut Handle) -> Result<Vec<u8>, Status>
     };
     schema.put(held);
     text
-}
-
-/// Copies the text to the front of the buffer if it fits, and reports its length.
-fn copied(text: &[u8], buffer: &mut [u8], count: &mut usize) -> Status
-    ensures done { result ≡ Status.Done → buffer.new ≡ text.now ++ drop (length text.now) buffer.old }
-    ensures space { result ≢ Status.Done → (result ≡ Status.Space) × (length buffer.old < length text.now) × (buffer.new ≡ buffer.old) }
-    ensures count { count.new ≡ length text.now }
-{
-    *count = text.len();
-    if buffer.len() < text.len() {
-        return Status::Space;
-    }
-    let (front, _) = buffer.split_at_mut(text.len());
-    front.copy_from_slice(text);
-    Status::Done
 }
 
 /// Puts a schema into the handle. What it held is freed.

@@ -76,8 +76,8 @@ fn number_to_tell(number: u64) -> i64
     if number < 1 << 63 { number as i64 } else { -1 }
 }
 
-/// Returns the refusal by this clause, in the file of this index, at this place.
-fn refusal_at(index: Option<usize>, clause: u8, place: Option<FilePlace>) -> Refusal
+/// Returns the refusal by this clause, in the file of this index, at this place. Allocates nothing.
+pub fn refusal_at(index: Option<usize>, clause: u8, place: Option<FilePlace>) -> Refusal
     requires { IfSome index (λ i. i < 2 ^ 63) }
     ensures { result ≡ told.refusal_at (index_for_c index) clause place }
 {

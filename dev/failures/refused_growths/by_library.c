@@ -1,5 +1,6 @@
 /* The program `rncv` by the C library:   by_library valid|check|simple FILES..
- * It allocates nothing itself, so each growth is one of the library. It answers as `rncv` does for files of at most 4,096 bytes (docs/LANGUAGE.md). */
+ * It allocates nothing itself, so each growth is one of the library. With `check` it asks what the files mention too. It answers as `rncv` does for files
+ * of at most 4,096 bytes (docs/LANGUAGE.md). */
 #include "rncv.h"
 
 #include <fcntl.h>
@@ -78,10 +79,24 @@ static int judged(rncv_schema *schema) {
     return say(1, answer, 2);
 }
 
+/* Asks what each file mentions. A file that breaks a clause is refused later. */
+static bool are_read(const rncv_file *files, size_t count) {
+    rncv_fault fault;
+    size_t length = 0;
+    int32_t status = RNCV_DONE;
+    for (size_t at = 0; at < count && status != RNCV_MEMORY; at++) {
+        status = rncv_mentions(files[at].bytes, files[at].length, (uint8_t *)answer, sizeof answer, &length, &fault);
+    }
+    return status != RNCV_MEMORY;
+}
+
 static int answered(const char *command, const rncv_file *files, size_t count) {
     rncv_schema schema = RNCV_NOTHING;
     rncv_fault fault = {0, 0, 0, 0, 0};
     int status;
+    if (strcmp(command, "check") == 0 && !are_read(files, count)) {
+        return fails("rncv: out of memory\n");
+    }
     switch (rncv_compile(files, count, &schema, &fault)) {
     case RNCV_DONE:
         status = strcmp(command, "check") == 0    ? say(1, "schema ok\n", 0)

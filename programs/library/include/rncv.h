@@ -117,6 +117,19 @@ int32_t rncv_compile(const rncv_file *files, size_t count, rncv_schema *schema, 
  * call this at the same time, each with a buffer and a length of its own. */
 int32_t rncv_refused_name(const rncv_file *files, size_t count, uint8_t *buffer, size_t size, size_t *length);
 
+/* Writes the names of the files that a schema file mentions by `include` and `external` to `names`, which has `size` bytes, each with a zero after it, and
+ * their length with the zeros to `needed`: 0 if it mentions none. They come in the order of the file, as another file would be passed to rncv_compile, and
+ * those in the braces of an `include` after the name of that `include`. A name that is mentioned twice is written twice. What is in an annotation or in a
+ * comment is not mentioned. No name has a zero in it, since XML has no such character (S4). The names with their zeros are never longer than the file.
+ * `bytes` may be NULL if `length` is 0, and `names` if `size` is 0. The size of the file is not limited, nor how many names there are: that is S2 of
+ * rncv_compile. Each call reads the file again.
+ *
+ * RNCV_REFUSED: the file by itself breaks a clause, S3 to S8, and `fault` says which and where, as rncv_compile would; `file` is 0. RNCV_SPACE: the names
+ * do not fit; nothing is written to `names`, and `needed` is the number of bytes that they need. RNCV_MEMORY: out of memory. `needed` is unchanged unless the
+ * status is RNCV_DONE or RNCV_SPACE, and `fault` unless it is RNCV_REFUSED. The caller keeps `bytes` and `names`. Several threads may call this at the same
+ * time, each with `names`, `needed` and `fault` of its own. */
+int32_t rncv_mentions(const uint8_t *bytes, size_t length, uint8_t *names, size_t size, size_t *needed, rncv_fault *fault);
+
 /* Makes `other` a second handle on the same schema, for example for another thread. What `other` held is freed. Free each of the two by itself.
  * The schema is shared and not copied.
  *

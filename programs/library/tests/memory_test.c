@@ -79,22 +79,46 @@ static int name_once(void) {
     return status == RNCV_DONE;
 }
 
-/* Refuses each growth of that call in turn. */
-static void names(void) {
+/* Asks for what a file mentions: returns 1 if it is written, 0 if the call ran out of memory. */
+static int mentions_once(void) {
+    const char *text = "namespace p = \"u\" include \"parts.rnc\" { x = element p:x { external 'a' ~ 'b.rnc' } }";
+    rncv_fault fault = {7, 7, 7, 7, 7};
+    uint8_t buffer[32] = {'.'};
+    size_t length = 99;
+    int32_t status = rncv_mentions((const uint8_t *)text, strlen(text), buffer, sizeof buffer, &length, &fault);
+    CHECK(status == RNCV_MEMORY ? length == 99 && buffer[0] == '.' : status == RNCV_DONE);
+    CHECK(status == RNCV_MEMORY || (length == 17 && memcmp(buffer, "parts.rnc\0ab.rnc", 17) == 0));
+    CHECK(fault.clause == 7 && fault.file == 7 && fault.offset == 7 && fault.line == 7 && fault.column == 7);
+    return status == RNCV_DONE;
+}
+
+/* The same for a file that breaks a clause. */
+static int refusal_once(void) {
+    const char *text = "include \"b.rnc\" { x = element p:x { empty } }";
+    rncv_fault fault = {7, 7, 7, 7, 7};
+    size_t length = 99;
+    int32_t status = rncv_mentions((const uint8_t *)text, strlen(text), NULL, 0, &length, &fault);
+    CHECK(length == 99 && (status == RNCV_MEMORY ? fault.clause == 7 && fault.column == 7 : status == RNCV_REFUSED));
+    CHECK(status == RNCV_MEMORY || (fault.clause == 8 && fault.file == 0 && fault.offset == 30 && fault.line == 1 && fault.column == 31));
+    return status == RNCV_REFUSED;
+}
+
+/* Refuses each growth of one call in turn. */
+static void each_growth_of(int (*once)(void)) {
     growth = 0;
     first = last = -1;
-    CHECK(name_once());
+    CHECK(once());
     long count = growth;
     CHECK(count > 2);
     for (long refused = 0; refused < count; refused++) {
         growth = 0;
         first = last = refused;
-        name_once();
+        once();
     }
     growth = 0;
     first = 0;
     last = 1000000;
-    CHECK(!name_once());
+    CHECK(!once());
     first = last = -1;
 }
 
@@ -145,7 +169,9 @@ int main(void) {
     first = last = -1;
     CHECK(run_once());
     recovers();
-    names();
+    each_growth_of(name_once);
+    each_growth_of(mentions_once);
+    each_growth_of(refusal_once);
     printf("growths: %ld\n", count);
     return outcome("memory");
 }

@@ -1,4 +1,5 @@
--- A text that is written to a buffer of C: the simple form of a schema, or the name of a refused file.
+-- A text that is written to a buffer of C: the simple form of a schema, the name of a refused file, or the names that a file
+-- mentions.
 use Rattle.std.specs.Prelude.{◌≡◌, ℕ, ◌<◌, List, ◌++◌, drop, length}
 use Rattle.rng_model.specs.schema.Schema.{Schema}
 use Rattle.rng_model.specs.simple.Table.{Table}
