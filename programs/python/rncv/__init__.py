@@ -36,7 +36,7 @@ from typing import Any, BinaryIO, NoReturn, Optional, Type, Union, overload
 from . import _schema_files, _xml
 from ._xml import XmlVerdict
 
-__all__ = ["Document", "LibraryError", "SchemaError", "Validator", "Verdict", "XmlVerdict", "clause_title", "compile"]
+__all__ = ["Document", "LibraryError", "SchemaError", "Validator", "Verdict", "XmlVerdict", "clause_title", "compile", "mentions"]
 __version__ = "0.9.0"
 
 Bytes = Union[bytes, bytearray, memoryview]
@@ -446,6 +446,18 @@ def compile(*files: Any, annotations: bool = False) -> Validator:
     return Validator(handle, tuple(sources.texts))
 
 
+def mentions(file: Bytes) -> list[str]:
+    """Returns the names of the files that a schema file mentions by `include` and `external`, as they are written, in the order of the file.
+
+    Those in the braces of an `include` come after its own name, and a name that is mentioned twice is there twice. The call looks for no file. The file may
+    have any size.
+
+    SchemaError: the file by itself breaks a clause, S3 to S8. The error has its place, and `file` and `index` are None. MemoryError: out of memory.
+    LibraryError: there is no library.
+    """
+    return [name.decode("utf-8") for name in _mentioned(_whole(file))]
+
+
 def clause_title(group: str, clause: int) -> Optional[str]:
     """Returns the title of a clause, in English: group "S" with 1 to 27, or group "P" with 1 to 13. None for any other."""
     if group not in ("S", "P") or not 0 < clause < 100:
@@ -471,16 +483,39 @@ def _sources_of(files: Mapping[Any, Any], annotations: bool) -> _Sources:
     written = [_whole(text) for text in files.values()]
     texts = [_blanked(text) for text in written] if annotations else written
     shown = list(files)
-    return _Sources([_utf8_of(name) for name in shown], shown, written, texts, lambda: _schema_files.missing_in(dict(zip(shown, written))))
+    names = [_utf8_of(name) for name in shown]
+    handed = [_schema_files.SchemaFile(*file) for file in zip(names, shown, written, texts)]
+    return _Sources(names, shown, written, texts, lambda: _schema_files.missing_in(handed, _mentioned_if_read))
 
 
 def _sources_found(paths: Iterable[Any]) -> _Sources:
     """The files at these paths, and those that are found beside them."""
     shown = [_name_of(path) for path in paths]
-    finder = _schema_files.Finder([(_utf8_of(path), path) for path in shown], _blanked)
+    finder = _schema_files.Finder([(_utf8_of(path), path) for path in shown], _mentioned_if_read, _blanked)
     files = finder.files[:_schema_files.MOST_FILES + 1]
     names, texts = [file.name for file in files], [file.content for file in files]
     return _Sources(names, [file.path for file in files], [file.written for file in files], texts, lambda: finder.missing)
+
+
+def _mentioned(text: bytes) -> list[bytes]:
+    """The names that a file mentions."""
+    library, fault = _library(), _Fault()
+
+    def write(names: Any, size: int, needed: Any) -> int:
+        status: int = library.rncv_mentions(text, len(text), names, size, needed, fault)
+        if status == _REFUSED:
+            raise SchemaError(fault.clause, clause_title("S", fault.clause) or "", None, None, _known(fault.offset), _known(fault.line), _known(fault.column))
+        return status
+
+    return _written_by(write).split(b"\0")[:-1]
+
+
+def _mentioned_if_read(text: bytes) -> list[bytes]:
+    """The same; none of a file that breaks a clause, since the library refuses it."""
+    try:
+        return _mentioned(text)
+    except SchemaError:
+        return []
 
 
 def _blanked(written: bytes) -> bytes:
@@ -712,6 +747,7 @@ def _typed(library: ctypes.CDLL) -> ctypes.CDLL:
     for name, kinds, kind in [
         ("rncv_compile", [ctypes.POINTER(_File), size, schema, ctypes.POINTER(_Fault)], status),
         ("rncv_refused_name", [ctypes.POINTER(_File), size, ctypes.c_char_p, size, ctypes.POINTER(size)], status),
+        ("rncv_mentions", [ctypes.c_char_p, size, ctypes.c_char_p, size, ctypes.POINTER(size), ctypes.POINTER(_Fault)], status),
         ("rncv_schema_share", [schema, schema], status),
         ("rncv_schema_free", [schema], None),
         ("rncv_document_begin", [schema], status),

@@ -1,4 +1,5 @@
-"""Finds the files of a schema: what a file mentions is beside it, as for the program `rncv-xml` (programs/xml/src/schema_files.c). Nothing here is proved."""
+"""Finds the files of a schema: what a file mentions is beside it, as for the program `rncv-xml` (programs/xml/src/schema_files.c). Nothing here is proved.
+What a file mentions, the library says. Where in the file, which only messages have, is found here."""
 
 from __future__ import annotations
 
@@ -6,7 +7,7 @@ import bisect
 import os
 import re
 import stat
-from collections.abc import Callable, Iterator, Mapping, Sequence
+from collections.abc import Callable, Iterator, Sequence
 from typing import NamedTuple, Optional
 
 # With one more file, or one more byte in a file, the library refuses the schema by S2.
@@ -37,6 +38,10 @@ _QUOTED = re.compile(rb"%([0-9A-Fa-f]{2})")
 _LINE_END = re.compile(rb"\r\n|\r|\n")
 
 
+# The names that a file mentions, in its order; none if the file breaks a clause by itself.
+Mentions = Callable[[bytes], Sequence[bytes]]
+
+
 class Mention(NamedTuple):
     """What an `include` or an `external` names, and where its literal begins in the file."""
 
@@ -56,9 +61,8 @@ class Missing(NamedTuple):
 class SchemaFile:
     """A file of a schema: the name under which the library gets it, the path where it is, its bytes as they are written, and as the library gets them."""
 
-    def __init__(self, name: bytes, path: str, written: bytes = b"") -> None:
-        self.name, self.path = name, path
-        self.written = self.content = written
+    def __init__(self, name: bytes, path: str, written: bytes = b"", content: bytes = b"") -> None:
+        self.name, self.path, self.written, self.content = name, path, written, content
 
     def read(self, blanked: Callable[[bytes], bytes]) -> None:
         """Reads at most one byte more than a file may have. `blanked` writes blanks over annotations."""
@@ -66,9 +70,10 @@ class SchemaFile:
             self.written = file.read(_MOST_BYTES + 1)
         self.content = blanked(self.written)
 
-    def missing(self, mention: Mention, what: str) -> Missing:
-        """Says that what is mentioned is not there."""
-        return Missing(what, self.path, *place_of(self.written, mention.at))
+    def missing(self, words: bytes, what: str) -> Missing:
+        """Says that what is mentioned by these words is not there."""
+        at = next((mention.at for mention in _places_in(self.content) if mention.words == words), 0)
+        return Missing(what, self.path, *place_of(self.written, at))
 
 
 def place_of(written: bytes, at: int) -> tuple[int, int]:
@@ -78,10 +83,8 @@ def place_of(written: bytes, at: int) -> tuple[int, int]:
     return len(ends) + 1, len(before[ends[-1] if ends else 0:].decode("utf-8", "replace")) + 1
 
 
-def mentions_of(content: bytes) -> Iterator[Mention]:
-    """What a file mentions, in the order of its tokens. In annotations nothing is a mention. A file that is too long is refused, and mentions nothing."""
-    if len(content) > _MOST_BYTES or not (b"include" in content or b"external" in content or b"\\" in content):
-        return
+def _places_in(content: bytes) -> Iterator[Mention]:
+    """The mentions of a file with their places, in the order of its tokens. In annotations nothing is a mention."""
     text, origins = _without_escapes(content)
     depth, at, is_mention = 0, 0, False
     while True:
@@ -122,30 +125,29 @@ def _origin_of(at: int, origins: list[tuple[int, int]]) -> int:
     return at if index < 0 else origins[index][1] + at - origins[index][0]
 
 
-def missing_in(files: Mapping[str, bytes]) -> Optional[Missing]:
+def missing_in(files: Sequence[SchemaFile], mentions: Mentions) -> Optional[Missing]:
     """The first mention of a file that was not handed in, in the order in which the main file leads to the others."""
-    names = list(files)
-    waiting, reached = names[:1], set(names[:1])
-    for name in waiting:
-        file = SchemaFile(b"", name, files[name])
-        for mention in mentions_of(file.content):
-            words = mention.words.decode("utf-8", "replace")
-            if words not in files:
-                return file.missing(mention, words)
+    named = {file.name: file for file in files}
+    waiting = [files[0]]
+    reached = {files[0].name}
+    for file in waiting:
+        for words in mentions(file.content):
+            if words not in named:
+                return file.missing(words, words.decode("utf-8"))
             if words not in reached:
                 reached.add(words)
-                waiting.append(words)
+                waiting.append(named[words])
     return None
 
 
 class Finder:
     """Finds the files that a schema needs, beginning with those that are given. `files` are those that were found, and `missing` is the first mention of one
-    that is not there. `blanked` writes blanks over the annotations of a file.
+    that is not there. `mentions` says what a file mentions, and `blanked` writes blanks over the annotations of a file.
 
     ValueError: a mention may mean several files. OSError: a file cannot be read.
     """
 
-    def __init__(self, given: Sequence[tuple[bytes, str]], blanked: Callable[[bytes], bytes] = bytes) -> None:
+    def __init__(self, given: Sequence[tuple[bytes, str]], mentions: Mentions, blanked: Callable[[bytes], bytes] = bytes) -> None:
         self.files = [SchemaFile(name, path) for name, path in given]
         self.missing: Optional[Missing] = None
         self._given = {name for name, _ in given[1:]}
@@ -154,14 +156,12 @@ class Finder:
             if index > MOST_FILES:
                 break
             file.read(blanked)
-            for mention in mentions_of(file.content):
-                self._take(file, mention)
+            # a file that is too long is refused
+            for words in mentions(file.content) if len(file.content) <= _MOST_BYTES else ():
+                self._take(file, words)
 
-    def _take(self, file: SchemaFile, mention: Mention) -> None:
+    def _take(self, file: SchemaFile, words: bytes) -> None:
         """Takes one mention."""
-        words = mention.words
-        if not _is_utf_8(words):
-            return  # the library refuses the file
         path = self._meaning(file, words)
         if words in self._meant:
             self._want_one(file, words, path)
@@ -171,7 +171,7 @@ class Finder:
             self._add(words, path)
         elif self.missing is None:
             ways = _ways(words, os.fsencode(file.path))
-            self.missing = file.missing(mention, os.fsdecode(_normal(ways[-1])) if ways else words.decode("utf-8"))
+            self.missing = file.missing(words, os.fsdecode(_normal(ways[-1])) if ways else words.decode("utf-8"))
 
     def _meaning(self, file: SchemaFile, words: bytes) -> Optional[str]:
         """The path of the file that the words mean, if there is one."""
@@ -209,14 +209,6 @@ class Finder:
 
 def _shown(words: bytes) -> str:
     return "'" + words.decode("utf-8", "replace") + "'"
-
-
-def _is_utf_8(words: bytes) -> bool:
-    try:
-        words.decode("utf-8")
-    except UnicodeDecodeError:
-        return False
-    return True
 
 
 def _is_file(path: bytes) -> bool:

@@ -313,6 +313,23 @@ class Schemas(unittest.TestCase):
             expected = f"start = e0\ne0 = element {wide} {{ e1 }}\ne1 = element {wide} {{ empty }}\n"
             self.assertEqual(validator.simple_text(), expected.encode())
 
+    def test_mentions(self):
+        text = b'include "a.rnc" { x = external "b" ~ ".rnc" } include "a.rnc"'
+        for file in (text, bytearray(text), memoryview(text)):
+            self.assertEqual(rncv.mentions(file), ["a.rnc", "b.rnc", "a.rnc"])
+        for file, names in ((b"", []), (b"element a { text }", []), (b'external ""', [""]), ('include "é"'.encode(), ["é"])):
+            self.assertEqual(rncv.mentions(file), names)
+        # more than the first buffer takes
+        names = [f"part{number}.rnc" for number in range(20_000)]
+        self.assertEqual(rncv.mentions("".join(f"include '{name}' " for name in names).encode()), names)
+        with self.assertRaises(rncv.SchemaError) as caught:
+            rncv.mentions(b'include "a.rnc"\nx = ')
+        error = caught.exception
+        self.assertEqual((error.clause, error.file, error.index, error.offset, error.line, error.column), (6, None, None, 20, 2, 5))
+        self.assertEqual(str(error), "refused S6: " + rncv.clause_title("S", 6))
+        for file in ('include "a.rnc"', None, [b"empty"]):
+            self.assertRaises(TypeError, rncv.mentions, file)
+
     def test_titles(self):
         self.assertEqual(rncv.clause_title("P", 13), "a document has a root, and its elements are closed (XML 2.1)")
         for group, clause in [("S", 0), ("S", 28), ("P", 14), ("Q", 1), ("", 1), ("S", -1), ("S", 2 ** 40)]:

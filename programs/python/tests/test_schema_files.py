@@ -125,7 +125,7 @@ class Found(unittest.TestCase):
     def test_what_is_no_mention(self):
         self.write("m.rnc", b'# include "x.rnc"\n[ b:c [ include "x.rnc" ] ] \\include = "include" include.x = "y"\nstart = element a { empty }\n'
                             b"namespace b = 'external'\n")
-        self.assertEqual([], list(_schema_files.mentions_of((self.room / "m.rnc").read_bytes())))
+        self.assertEqual([], list(_schema_files._places_in((self.room / "m.rnc").read_bytes())))
         long = b'include "x.rnc" #' + b"x" * 1_048_576
         self.write("m.rnc", long)
         self.assertEqual(self.refused("m.rnc").clause, 2)
@@ -135,7 +135,7 @@ class Found(unittest.TestCase):
         begun = time.process_time()
         for text in (b"include #" + b" " * 1_000_000, b"include " + b"# #\n" * 250_000, b'include "" ~ # "\n' * 60_000, (b"include #\n" + b" " * 100) * 9_000,
                      b"\'\'\'" + b'"' * 1_000_000, b"include " * 130_000, b"a:" * 500_000, b"\\x{23}" * 150_000):
-            list(_schema_files.mentions_of(text))
+            list(_schema_files._places_in(text))
         self.assertLess(time.process_time() - begun, 20)
 
     def test_many_files(self):

@@ -388,30 +388,84 @@ bool hand_in(struct collecting *collecting, struct meaning *meaning) {
     return add_file(files, &meaning->words, path);
 }
 
+/* Reads the literal that begins with the token, with its joined segments. `token` is then the token after it. */
+static void read_literal(struct tokens *tokens, struct token *token, struct bytes *literal) {
+    for (;;) {
+        add_literal(literal, token);
+        *token = tokens_next(tokens);
+        if (!is_sign(token, '~')) {
+            return;
+        }
+        *token = tokens_next(tokens);
+        if (token->kind != TOKEN_LITERAL) {
+            return;
+        }
+    }
+}
+
+/* Where the tokens mention these words first; 0 if that is not found. In annotations nothing is a mention. False: out of memory. */
+static bool find_words(struct tokens *tokens, const struct bytes *words, size_t *at) {
+    long depth = 0;
+    bool is_mention = false;
+    bool is_good = true;
+    bool is_found = false;
+    for (struct token token = tokens_next(tokens); token.kind != TOKEN_NONE && is_good && !is_found;) {
+        struct bytes literal = NO_BYTES;
+        size_t here = token.at;
+        if (token.kind == TOKEN_LITERAL) {
+            read_literal(tokens, &token, &literal);
+            is_good = !literal.failed;
+            is_found = is_mention && is_equal(&literal, words);
+            *at = is_found ? here : 0;
+            is_mention = false;
+        } else {
+            depth += is_sign(&token, '[') - is_sign(&token, ']');
+            is_mention = depth == 0 && (is_word(&token, "include") || is_word(&token, "external"));
+            token = tokens_next(tokens);
+        }
+        bytes_free(&literal);
+    }
+    return is_good;
+}
+
+/* The place of a mention, for a message. The library says what a file mentions, and not where. False: out of memory. */
+static bool mention_place(struct schema_files *files, const struct meaning *meaning, struct place *place) {
+    const struct schema_file *by = &files->list[meaning->by];
+    const struct bytes *written = schema_file_written(by);
+    struct tokens tokens;
+    size_t at = 0;
+    bool is_good = tokens_open(&tokens, by->content.data, by->content.length) && find_words(&tokens, &meaning->words, &at);
+    tokens_close(&tokens);
+    *place = place_at(written->data, written->length, NULL, at);
+    return is_good || files_without_memory(files);
+}
+
 /* Notes that a file in the compact syntax mentions others, which get no plain names. */
-static bool refuse_mention(struct collecting *collecting, const struct meaning *meaning, size_t at) {
+static bool refuse_mention(struct collecting *collecting, const struct meaning *meaning) {
     struct schema_files *files = collecting->files;
-    const struct bytes *content = schema_file_written(&files->list[meaning->by]);
     struct bytes line = NO_BYTES;
+    if (!mention_place(files, meaning, &files->problem_place)) {
+        return false;
+    }
     bytes_add_text(&line, "this file is in the compact syntax, and mentions others: it is not copied");
     add_path(&files->problem_path, bytes_text(&files->list[meaning->by].path));
-    files->problem_place = place_at(content->data, content->length, NULL, at);
     line.failed |= files->problem_path.failed;
     files_problem(files, STATUS_REFUSED, &line);
     bytes_free(&line);
     return false;
 }
 
-/* Takes one mention, which is at this offset in the file. */
-static bool take_mention(struct collecting *collecting, struct meaning *meaning, size_t at) {
+/* Takes one mention. */
+static bool take_mention(struct collecting *collecting, struct meaning *meaning) {
+    struct place place;
     if (meaning->words.failed) {
         return files_without_memory(collecting->files);
     }
     if (collecting->request->is_flat) {
-        return refuse_mention(collecting, meaning, at);
+        return refuse_mention(collecting, meaning);
     }
-    if (!is_utf_8(meaning->words.data, meaning->words.length) || files_are_too_many(collecting)) {
-        return true; /* the library refuses the file, or the files */
+    if (files_are_too_many(collecting)) {
+        return true; /* the library refuses the files */
     }
     if (!count_mention(collecting, meaning->by) || !find_meaning(collecting, meaning)) {
         return false;
@@ -430,23 +484,37 @@ static bool take_mention(struct collecting *collecting, struct meaning *meaning,
     if (collecting->files->missing.is_there) {
         return true; /* its place would be looked for in vain */
     }
-    const struct bytes *content = schema_file_written(&collecting->files->list[meaning->by]);
-    return keep_missing(collecting, meaning, place_at(content->data, content->length, NULL, at));
+    return mention_place(collecting->files, meaning, &place) && keep_missing(collecting, meaning, place);
 }
 
-/* Reads the literal that begins with the token, with its joined segments. `token` is then the token after it. */
-static void read_literal(struct tokens *tokens, struct token *token, struct bytes *literal) {
-    for (;;) {
-        add_literal(literal, token);
-        *token = tokens_next(tokens);
-        if (!is_sign(token, '~')) {
-            return;
-        }
-        *token = tokens_next(tokens);
-        if (token->kind != TOKEN_LITERAL) {
-            return;
-        }
+/* Asks the library for the names that a file mentions. Each has a zero after it, and all are never longer than the file. */
+static int32_t ask_mentions(const struct bytes *content, struct bytes *names) {
+    const uint8_t *bytes = (const uint8_t *)(content->data == NULL ? "" : content->data);
+    rncv_fault fault;
+    if (!bytes_reserve(names, content->length + 1)) {
+        return RNCV_MEMORY;
     }
+    int32_t status = rncv_mentions(bytes, content->length, (uint8_t *)names->data, content->length, &names->length, &fault);
+    names->length = status == RNCV_DONE ? names->length : 0;
+    return status;
+}
+
+/* Takes what the file mentions. One that breaks a clause by itself mentions nothing, since the library refuses it. */
+static bool take_mentions(struct collecting *collecting, size_t index) {
+    struct bytes names = NO_BYTES;
+    int32_t status = ask_mentions(&collecting->files->list[index].content, &names);
+    bool is_good = status == RNCV_DONE || status == RNCV_REFUSED || files_without_memory(collecting->files);
+    for (size_t at = 0; at < names.length && is_good;) {
+        struct meaning meaning = {NO_BYTES, NO_BYTES, index};
+        size_t length = strlen(names.data + at);
+        bytes_add(&meaning.words, names.data + at, length);
+        is_good = take_mention(collecting, &meaning);
+        bytes_free(&meaning.words);
+        bytes_free(&meaning.file);
+        at += length + 1;
+    }
+    bytes_free(&names);
+    return is_good;
 }
 
 /* Whether the name with a prefix may be that of a datatype of IDs. */
@@ -454,34 +522,23 @@ static bool is_id_name(struct span name) {
     return ends_in(name, ":ID") || ends_in(name, ":IDREF") || ends_in(name, ":IDREFS");
 }
 
-/* Takes what the file mentions. In annotations nothing is a mention. */
-static bool take_mentions(struct collecting *collecting, size_t index, struct tokens *tokens) {
-    long depth = 0;
-    bool is_mention = false;
-    bool is_good = true;
-    for (struct token token = tokens_next(tokens); token.kind != TOKEN_NONE && is_good;) {
-        struct meaning meaning = {NO_BYTES, NO_BYTES, index};
-        size_t at = token.at;
+/* Keeps the literals of a text, and whether it names a datatype of IDs. False: out of memory. */
+static bool take_literals(struct schema_files *files, const char *text, size_t length) {
+    struct tokens tokens;
+    bool is_good = tokens_open(&tokens, text, length) || files_without_memory(files);
+    for (struct token token = is_good ? tokens_next(&tokens) : (struct token){.kind = TOKEN_NONE}; token.kind != TOKEN_NONE && is_good;) {
+        struct bytes literal = NO_BYTES;
         if (token.kind == TOKEN_LITERAL) {
-            read_literal(tokens, &token, &meaning.words);
-            is_good = keep_value(collecting->files, &meaning.words) && (!is_mention || take_mention(collecting, &meaning, at));
-            is_mention = false;
+            read_literal(&tokens, &token, &literal);
+            is_good = keep_value(files, &literal);
         } else {
-            depth += is_sign(&token, '[') - is_sign(&token, ']');
-            collecting->files->names_ids |= token.kind == TOKEN_NAME && is_id_name(token.text);
-            is_mention = depth == 0 && (is_word(&token, "include") || is_word(&token, "external"));
-            token = tokens_next(tokens);
+            files->names_ids |= token.kind == TOKEN_NAME && is_id_name(token.text);
+            token = tokens_next(&tokens);
         }
-        bytes_free(&meaning.words);
-        bytes_free(&meaning.file);
+        bytes_free(&literal);
     }
+    tokens_close(&tokens);
     return is_good;
-}
-
-/* Keeps the literals of a file that was written. */
-static bool take_literals(struct schema_files *files, size_t index) {
-    const struct bytes *content = &files->list[index].content;
-    return schema_files_add_values(files, content->data, content->length) || files_without_memory(files);
 }
 
 /* Says that the file is XML and no schema, and if it is the main file, that the schema comes first. */
@@ -535,19 +592,19 @@ static bool is_in_xml(struct schema_file *file, enum writing writing) {
 
 /* Takes what a file in the compact syntax mentions. From a file that is too large it takes nothing: the library refuses it. */
 static bool take_compact(struct collecting *collecting, size_t index) {
-    struct tokens tokens;
-    struct schema_file *file = &collecting->files->list[index];
+    struct schema_files *files = collecting->files;
+    struct schema_file *file = &files->list[index];
     if (file->content.length > MOST_BYTES) {
         return true;
     }
-    take_changes(collecting->files, (struct span){file->content.data, file->content.length});
-    if (!blank_annotations(collecting->files, file)) {
-        return false;
-    }
-    bool is_good = tokens_open(&tokens, file->content.data, file->content.length) || files_without_memory(collecting->files);
-    is_good = is_good && take_mentions(collecting, index, &tokens);
-    tokens_close(&tokens);
-    return is_good;
+    take_changes(files, (struct span){file->content.data, file->content.length});
+    return blank_annotations(files, file) && take_literals(files, file->content.data, file->content.length) && take_mentions(collecting, index);
+}
+
+/* Keeps the literals of a file that was written, and what rncv-profile says in it. */
+static bool take_written(struct schema_files *files, size_t index) {
+    const struct bytes *content = &files->list[index].content;
+    return schema_files_add_values(files, content->data, content->length);
 }
 
 /* Reads a file, and takes what it mentions. */
@@ -561,7 +618,7 @@ static bool take_file(struct collecting *collecting, size_t index) {
         return files_without_memory(collecting->files);
     }
     if (is_in_xml(file, writing)) {
-        return take_xml(collecting, index) && take_literals(collecting->files, index);
+        return take_xml(collecting, index) && take_written(collecting->files, index);
     }
     return writing == WRITING_COMPACT ? take_compact(collecting, index) : refuse_writing(collecting, index, writing);
 }
@@ -626,22 +683,8 @@ bool schema_files_collect(struct schema_files *files, const struct schema_reques
 }
 
 bool schema_files_add_values(struct schema_files *files, const char *text, size_t length) {
-    struct tokens tokens;
-    bool is_good = tokens_open(&tokens, text, length);
     take_changes(files, (struct span){text, length});
-    for (struct token token = is_good ? tokens_next(&tokens) : (struct token){.kind = TOKEN_NONE}; token.kind != TOKEN_NONE;) {
-        struct bytes literal = NO_BYTES;
-        if (token.kind == TOKEN_LITERAL) {
-            read_literal(&tokens, &token, &literal);
-            keep_value(files, &literal);
-        } else {
-            files->names_ids |= token.kind == TOKEN_NAME && is_id_name(token.text);
-            token = tokens_next(&tokens);
-        }
-        bytes_free(&literal);
-    }
-    tokens_close(&tokens);
-    return is_good;
+    return take_literals(files, text, length);
 }
 
 int64_t schema_files_column(const struct schema_files *files, const rncv_fault *fault) {

@@ -61,58 +61,19 @@ struct plan {
     bool failed;
 };
 
-/* Writes two quotes in the place of each name of a file that is mentioned, and blanks, so that all offsets stay. */
-static void blank_mentions(char *text, size_t length, struct tokens *tokens) {
-    long depth = 0;
-    bool is_mention = false;
-    struct token token = tokens_next(tokens);
-    while (token.kind != TOKEN_NONE) {
-        size_t begin = token.at;
-        size_t end = token.end;
-        bool is_named = is_mention && token.kind == TOKEN_LITERAL;
-        depth += is_sign(&token, '[') - is_sign(&token, ']');
-        is_mention = depth == 0 && (is_word(&token, "include") || is_word(&token, "external"));
-        token = tokens_next(tokens);
-        while (is_named && is_sign(&token, '~')) {
-            token = tokens_next(tokens);
-            if (token.kind == TOKEN_LITERAL) {
-                end = token.end;
-                token = tokens_next(tokens);
-            }
-        }
-        for (size_t at = begin; is_named && at < end && at < length; at++) {
-            text[at] = at < begin + 2 ? '"' : text[at] == '\n' || text[at] == '\r' ? text[at] : ' ';
-        }
-    }
-}
-
-/* Asks the library whether the file breaks a clause from 2 to 8 by itself. What it mentions is an empty file. False: out of memory. */
+/* Asks the library whether the file breaks a clause from 3 to 8 by itself. One that is too large breaks S2. False: out of memory. */
 static bool judge_file(struct plan *plan, size_t index) {
     const struct bytes *content = &plan->files->list[index].content;
-    struct bytes text = NO_BYTES;
-    struct tokens tokens = {NO_BYTES, NULL, 0};
-    bytes_add(&text, content->data, content->length);
-    bool is_good = !text.failed;
-    if (is_good && text.length <= MOST_BYTES && is_text(text.data, text.length)) {
-        is_good = tokens_open(&tokens, text.data, text.length);
-        if (is_good) {
-            blank_mentions(text.data, text.length, &tokens);
-        }
-        tokens_close(&tokens);
-    }
-    const uint8_t *bytes = (const uint8_t *)(text.data == NULL ? "" : text.data);
-    const rncv_file list[] = {{(const uint8_t *)"s", 1, bytes, text.length}, {(const uint8_t *)"", 0, (const uint8_t *)"", 0}};
-    rncv_schema schema = RNCV_NOTHING;
-    rncv_fault fault;
-    int32_t status = is_good ? rncv_compile(list, 2, &schema, &fault) : RNCV_MEMORY;
-    if (status == RNCV_REFUSED && fault.clause >= 2 && fault.clause <= 8) {
+    const uint8_t *bytes = (const uint8_t *)(content->data == NULL ? "" : content->data);
+    rncv_fault fault = {2, 0, -1, -1, -1};
+    size_t needed;
+    int32_t status = content->length > MOST_BYTES ? RNCV_REFUSED : rncv_mentions(bytes, content->length, NULL, 0, &needed, &fault);
+    if (status == RNCV_REFUSED) {
         fault.file = (int64_t)index;
         plan->files->judged = fault;
         plan->files->is_judged = true;
     }
-    rncv_schema_free(&schema);
-    bytes_free(&text);
-    return status == RNCV_DONE || status == RNCV_REFUSED;
+    return status != RNCV_MEMORY;
 }
 
 static bool keep_name(struct plan *plan, struct part *part, struct span name, bool has_mention) {

@@ -255,11 +255,11 @@ class Found(InLibrary):
             self.calls.rncv_xml_fault_free(ctypes.byref(fault))
 
     def by_python(self, main):
-        from rncv import _xml
+        from rncv import _mentioned_if_read, _xml
         from rncv._schema_files import MOST_FILES, Finder
 
         try:
-            finder = Finder([(main.encode(), main)], functools.partial(_xml.blanked, _xml.typed(self.calls)))
+            finder = Finder([(main.encode(), main)], _mentioned_if_read, functools.partial(_xml.blanked, _xml.typed(self.calls)))
         except ValueError as error:
             return REFUSED, str(error)
         except OSError as error:
@@ -298,8 +298,8 @@ class Found(InLibrary):
         names = ["a.rnc", "b.rnc", "s/a.rnc", "s/b.rnc", "s/t/a.rnc", "s/t/c d.rnc", "é.rnc"]
         mentions = [*names, "./a.rnc", "../a.rnc", "../b.rnc", "t/a.rnc", "c%20d.rnc", "t/c d.rnc", "%C3%A9.rnc", f"file://{self.folder}/b.rnc",
                     "http://x.org/a.rnc", "./../s//a.rnc", "file:a.rnc", "s", "", "none.rnc", "a%2Ernc", "FILE:///none?x"]
-        forms = ['include "{}"', "external '{}'", 'x = external """{}"""', "# include \"{}\"", '[ a:b [ include "{}" ] ]', "\\include '{}'",
-                 "include.x '{}'", "y = '{}'", 'include # c\n\t"{}"', 'inclu\\x{{64}}e "{}"', "é = 'é' \r include '{}'", 'include inherit = b "{}"',
+        forms = ['include "{}"', "div {{ include '{}' }}", 'x = external """{}"""', "external '{}'", "# include \"{}\"", '[ a:b [ include "{}" ] ]',
+                 "\\include '{}'", "include.x '{}'", "y = '{}'", 'include # c\n\t"{}"', 'inclu\\x{{64}}e "{}"', "é = 'é' \r include '{}'", 'include inherit = b "{}"',
                  'external "" ~ "{}" ~ ""', "@ include '{}'", 'include """x"y""" include "{}"', "include:x '{}'", "a:* '{}'", 'include "\\x{{0}}{}"',
                  "'\n' include '{}'", "include [ a:b [ ] ] '{}'", '\\x{{A}}include "{}"', 'include """""" include "{}"', 'include "" "{}"',
                  "include \\x{{27}}{}'", 'a:b [ include [ "{}" ] \u00e9 [ "\u20ac" ] ]', 'x = empty >> a:b [ "]" include [ ] "{}" ]', 'b [ ] include "{}"']

@@ -123,6 +123,17 @@ class SchemaFiles(InFolder):
         self.assertEqual(self.failure("sch/none.rnc"), ("rncv-xml: cannot read file sch/none.rnc: No such file or directory\n", 4))
         self.assertEqual(self.failure("sch"), ("rncv-xml: cannot read file sch: Is a directory\n", 4))
 
+    def test_a_file_that_breaks_a_clause_mentions_nothing(self):
+        self.schema("b.rnc", ELEMENT)
+        for text, clause, place in (
+                ('include "b.rnc" start =', "S6", "2:1"), ('include "b.rnc" start = a %', "S5", "1:27"), ('include "b.rnc" start = p:a', "S8", "1:25"),
+                ('include "b.rnc" include "none.rnc', "S5", "1:25"), ('include "b.rnc" start = "\\x{0}"', "S4", "1:26")):
+            self.schema("sch/main.rnc", text)
+            # it does not matter that the mention may be one of two files
+            out, status = self.judge("--all", "sch/main.rnc", "b.rnc", "--", "good.xml")
+            self.assertRegex(out, f"^sch/main.rnc:{place}: {clause} ")
+            self.assertEqual(status, 3)
+
     def test_maps(self):
         self.schema("elsewhere/b.rnc", ELEMENT)
         self.schema("sch/b.rnc", "a = element z { empty }")
