@@ -19,7 +19,8 @@ use Rattle.rnc_model.specs.loading.FileVerdicts.{ContentHasOnlyVerdict, breaks, 
 use Rattle.rnc_model.specs.tokens.Cut.{BreaksTokensAt, HasTokens, Token, lexemes}
 use Rattle.rnc_places.specs.declared.fault.FileFault.{FileFault}
 use Rattle.rnc_places.specs.declared.fault.FileFault.TheVariants as files
-use Rattle.rnc_places.specs.views.Told.{BreaksAtToken, BreaksOnlyAt, IsFaultOfFile, IsNumberOf, clause_of, unexpected, too_deep, unruly}
+use Rattle.rnc_places.specs.views.Mentions.{BreaksOnlyAt, IsFaultOfFile}
+use Rattle.rnc_places.specs.views.Told.{BreaksAtToken, IsNumberOf, clause_of, unexpected, too_deep, unruly}
 use Rattle.rnc_text.specs.declared.fault.TextFault.{TextFault}
 use Rattle.rnc_text.specs.declared.fault.TextFault.TheVariants as texts
 use Rattle.rnc_text.specs.views.Answers.{GivesFault, GivesOk, IfBroken}

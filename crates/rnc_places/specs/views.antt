@@ -1,3 +1,4 @@
--- What is reported for a file, and prefixes.
+-- What a file mentions, what is reported for its tokens, and prefixes.
+pub mod Mentions
 pub mod Prefixes
 pub mod Told

@@ -3,7 +3,7 @@ ghost use Rattle.std.specs.Prelude.{◌≡◌, IfErr, IfOk, map, string_bytes};
 ghost use Rattle.rnc_grammar.specs.views.View.{file_of, mentioned_file_of};
 ghost use Rattle.rnc_model.specs.loading.Loading.{hrefs_of};
 ghost use Rattle.rnc_model.specs.loading.Mentions.{mention_of};
-ghost use Rattle.rnc_places.specs.views.Told.{AreMentionedIn, IsFaultOfFile};
+ghost use Rattle.rnc_places.specs.views.Mentions.{AreMentionedIn, IsFaultOfFile};
 
 use crate::fault::FileFault;
 use crate::places::tree_of;

@@ -9,7 +9,8 @@ ghost use Rattle.rnc_model.specs.loading.FileVerdicts.{ContentHasOnlyVerdict, ha
 ghost use Rattle.rnc_model.specs.loading.SchemaFile.{BreaksFileClause};
 ghost use Rattle.rnc_model.specs.tokens.Cut.{HasTokens, lexemes};
 ghost use Rattle.rnc_model.specs.tokens.CutTokens.{tokens_of};
-ghost use Rattle.rnc_places.specs.views.Told.{IsFaultOfFile, IsNumberOf};
+ghost use Rattle.rnc_places.specs.views.Mentions.{IsFaultOfFile};
+ghost use Rattle.rnc_places.specs.views.Told.{IsNumberOf};
 
 use crate::declarations::unruly_number;
 use crate::fault::FileFault;

@@ -8,7 +8,8 @@ use Rattle.rnc_model.specs.loading.FaultPlaces.{IsPlaceOfToken}
 use Rattle.rnc_model.specs.tokens.CutTokens.{tokens_of}
 use Rattle.rnc_model.specs.tokens.Cut.{lexemes}
 use Rattle.rng_model.specs.plain.Answers.{Gives}
-use Rattle.rnc_places.specs.views.Told.{BreaksOnlyAt, IsNumberOf}
+use Rattle.rnc_places.specs.views.Mentions.{BreaksOnlyAt}
+use Rattle.rnc_places.specs.views.Told.{IsNumberOf}
 use Rattle.rng_load.proofs.FileContent.{Lexed, decoded, lexed, parsed, tokenized}
 use Rattle.rnc_places.proofs.ToldPlaces.{told_of_cut, told_of_text, told_of_tokens}
 use Rattle.rnc_places.proofs.places.tree_of.Goals as goal

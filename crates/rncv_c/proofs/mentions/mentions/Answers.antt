@@ -1,5 +1,5 @@
 use Rattle.std.proofs.Common.{subst}
-use Rattle.rnc_places.specs.views.Told.{BreaksOnlyAt, IsFaultOfFile}
+use Rattle.rnc_places.specs.views.Mentions.{BreaksOnlyAt, IsFaultOfFile}
 use Rattle.rncv_c.proofs.mentions.mentions.Goals as goal
 
 pub returns-in-Err-Broken-clause-refused : goal.returns-in-Err-Broken-clause-refused
