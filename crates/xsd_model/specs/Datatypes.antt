@@ -1,0 +1,114 @@
+-- The complete set of datatypes: a table of the types of XML Schema, each with the parameters that it takes and the value
+-- of each text (XML Schema Part 2, Second Edition, section 3; RELAX NG Specification, sections 4.16, 6.2.8 and 6.2.9).
+--
+-- A type that is not in the table is not served yet: decimal, the floats, dates, durations and octets. Nor is the
+-- parameter `pattern`, which each type is to take besides its own (section 4.3.4).
+use Rattle.std.specs.Prelude.{codes, ℕ, List, [], ◌∷◌, ◌++◌, Bool, Option, None, Some, is_some, not, IsTrue, ◌||◌}
+use Rattle.std.specs.Option.{option_map, option_and_then}
+use Rattle.std.specs.Str.{bytes_eq}
+use Rattle.rng_model.specs.simple.Tree.{Datatype}
+use Rattle.rng_model.specs.datatypes.Texts.{TextTests, pieces}
+use Rattle.rng_model.specs.datatypes.Facets.{Lengths, Bounds, Parameter, named}
+use Rattle.rng_model.specs.datatypes.Datatypes.{Meaning, Maker, without, plain_types, xsd_uri, known_allows, known_equates}
+use Rattle.rng_model.specs.datatypes.Datatypes.{xsd_string, xsd_token, xsd_ncname, xsd_nmtoken, xsd_boolean}
+use Rattle.xsd_model.specs.Numbers.{written_integer}
+use Rattle.xsd_model.specs.Facets.{written_lengths, written_facets}
+use Rattle.xsd_model.specs.Types.{xsd_normalized, xsd_language, xsd_name, xsd_qname, xsd_nmtokens, xsd_ncnames, xsd_number}
+
+-- ---- which parameters a type takes
+
+abbrev pub with_lengths : (Lengths → Meaning) → List Parameter → Option Meaning
+with_lengths meaning ps = option_map meaning (written_lengths ps)
+
+abbrev pub with_number_facets : Bounds → List Parameter → Option Meaning
+with_number_facets b ps = option_map (xsd_number b) (written_facets b ps)
+
+-- ---- the bounds of an integer type, as they are written
+
+abbrev pub from_to : List ℕ → List ℕ → List Parameter → Option Meaning
+from_to least greatest = with_number_facets (record { least = written_integer least; greatest = written_integer greatest })
+
+abbrev pub from : List ℕ → List Parameter → Option Meaning
+from least = with_number_facets (record { least = written_integer least; greatest = None })
+
+abbrev pub up_to : List ℕ → List Parameter → Option Meaning
+up_to greatest = with_number_facets (record { least = None; greatest = written_integer greatest })
+
+abbrev pub unbounded : List Parameter → Option Meaning
+unbounded = with_number_facets (record { least = None; greatest = None })
+
+-- ---- the table
+
+-- the types whose values are no numbers
+abbrev pub text_types : List (List ℕ × Maker)
+text_types =
+    (codes "string", with_lengths xsd_string) ∷  -- section 3.2.1
+    (codes "boolean", without xsd_boolean) ∷  -- 3.2.2
+    (codes "anyURI", with_lengths xsd_token) ∷  -- 3.2.17, by its white space alone
+    (codes "QName", without xsd_qname) ∷  -- 3.2.18, by its spelling
+    (codes "NOTATION", without xsd_qname) ∷  -- 3.2.19, by its spelling
+    (codes "normalizedString", with_lengths xsd_normalized) ∷  -- 3.3.1
+    (codes "token", with_lengths xsd_token) ∷  -- 3.3.2
+    (codes "language", with_lengths xsd_language) ∷  -- 3.3.3
+    (codes "NMTOKEN", with_lengths xsd_nmtoken) ∷  -- 3.3.4
+    (codes "NMTOKENS", with_lengths xsd_nmtokens) ∷  -- 3.3.5
+    (codes "Name", with_lengths xsd_name) ∷  -- 3.3.6
+    (codes "NCName", with_lengths xsd_ncname) ∷  -- 3.3.7
+    (codes "ID", with_lengths xsd_ncname) ∷  -- 3.3.8; a document's IDs are compared elsewhere
+    (codes "IDREF", with_lengths xsd_ncname) ∷  -- 3.3.9
+    (codes "IDREFS", with_lengths xsd_ncnames) ∷  -- 3.3.10
+    (codes "ENTITY", with_lengths xsd_ncname) ∷  -- 3.3.11, whether or not it is declared
+    (codes "ENTITIES", with_lengths xsd_ncnames) ∷ []  -- 3.3.12
+
+-- the types of integers
+abbrev pub number_types : List (List ℕ × Maker)
+number_types =
+    (codes "integer", unbounded) ∷  -- 3.3.13
+    (codes "nonPositiveInteger", up_to (codes "0")) ∷  -- 3.3.14
+    (codes "negativeInteger", up_to (codes "-1")) ∷  -- 3.3.15
+    (codes "long", from_to (codes "-9223372036854775808") (codes "9223372036854775807")) ∷
+    (codes "int", from_to (codes "-2147483648") (codes "2147483647")) ∷
+    (codes "short", from_to (codes "-32768") (codes "32767")) ∷
+    (codes "byte", from_to (codes "-128") (codes "127")) ∷  -- 3.3.16 to 3.3.19
+    (codes "nonNegativeInteger", from (codes "0")) ∷  -- 3.3.20
+    (codes "unsignedLong", from_to (codes "0") (codes "18446744073709551615")) ∷
+    (codes "unsignedInt", from_to (codes "0") (codes "4294967295")) ∷
+    (codes "unsignedShort", from_to (codes "0") (codes "65535")) ∷
+    (codes "unsignedByte", from_to (codes "0") (codes "255")) ∷  -- 3.3.21 to 3.3.24
+    (codes "positiveInteger", from (codes "1")) ∷ []  -- 3.3.25
+
+abbrev pub complete_types : List (List ℕ × Maker)
+complete_types = text_types ++ number_types
+
+-- The value of a text in QName or NOTATION depends on what its prefix is declared as, so that no text may be given as a
+-- value of these types.
+abbrev pub depends_on_context : List ℕ → Bool
+depends_on_context name = bytes_eq name (codes "QName") || bytes_eq name (codes "NOTATION")
+
+-- ---- datatypes
+
+-- the values of texts in the type of that name with these parameters, if there is one and it takes them
+abbrev pub meaning_named : List ℕ → List Parameter → Option Meaning
+meaning_named name ps = option_and_then (λ make. make ps) (named name complete_types)
+
+abbrev pub complete_libraries : List (List ℕ × List (List ℕ × Maker))
+complete_libraries = ([], plain_types) ∷ (xsd_uri, complete_types) ∷ []
+
+abbrev pub complete_meaning_of : Datatype → Option Meaning
+complete_meaning_of d = option_and_then (λ make. make d.parameters) (option_and_then (named d.name) (named d.library complete_libraries))
+
+-- the datatype is one of the set, with parameters that it takes
+abbrev pub IsCompleteDatatype : Datatype → Type 0
+IsCompleteDatatype d = IsTrue (is_some (complete_meaning_of d))
+
+-- texts may be given as values of the datatype
+abbrev pub takes_values : Datatype → Bool
+takes_values d = not (bytes_eq d.library xsd_uri) || not (depends_on_context d.name)
+
+-- what the datatypes of the set say of texts
+abbrev pub complete_tests : TextTests
+complete_tests = record {
+  allows = λ d s. known_allows (complete_meaning_of d) s;
+  equals = λ d v w. known_equates (complete_meaning_of d) v w;
+  pieces = pieces;
+}

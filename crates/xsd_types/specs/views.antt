@@ -1,0 +1,4 @@
+-- Views of types, and what a search returns.
+pub mod View
+pub mod Finding
+pub mod Kinds

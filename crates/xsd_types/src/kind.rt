@@ -1,0 +1,129 @@
+// The table of types, by their names.
+ghost use Rattle.std.specs.Prelude.{◌≡◌, not};
+ghost use Rattle.std.specs.Option.{option_map};
+ghost use Rattle.rng_model.specs.datatypes.Facets.{named};
+ghost use Rattle.xsd_model.specs.Datatypes.{depends_on_context, from_to, from, up_to, unbounded, text_types, number_types, complete_types};
+ghost use Rattle.xsd_types.specs.views.Kinds.{maker_of};
+
+use crate::lists::ItemKind;
+use crate::range::Range;
+use crate::words::WordKind;
+
+/// The kind of a type: what its values are, and which parameters it takes.
+#[derive(Clone, Copy)]
+pub(crate) enum Kind {
+    Text(TextKind),
+    Boolean,
+    QName,
+    Integer(Range),
+}
+
+/// The kind of a type whose values are texts of a number of characters, or lists of a number of items.
+#[derive(Clone, Copy)]
+pub(crate) enum TextKind {
+    String,
+    NormalizedString,
+    Token,
+    NcName,
+    NmToken,
+    Word(WordKind),
+    List(ItemKind),
+}
+
+// the kind of the type of that name
+pub(crate) fn find_kind(name: &str) -> Option<Kind>
+    ensures { option_map maker_of result ≡ named name.now complete_types }
+{
+    match find_text(name) {
+        Some(kind) => Some(kind),
+        None => find_number(name),
+    }
+}
+
+// the kind of the type of that name whose values are no numbers
+fn find_text(name: &str) -> Option<Kind>
+    ensures { option_map maker_of result ≡ named name.now text_types }
+{
+    match name {
+        "string" => Some(Kind::Text(TextKind::String)),
+        "boolean" => Some(Kind::Boolean),
+        "anyURI" | "token" => Some(Kind::Text(TextKind::Token)),
+        "QName" | "NOTATION" => Some(Kind::QName),
+        "normalizedString" => Some(Kind::Text(TextKind::NormalizedString)),
+        "language" => Some(Kind::Text(TextKind::Word(WordKind::Language))),
+        "NMTOKEN" => Some(Kind::Text(TextKind::NmToken)),
+        "NMTOKENS" => Some(Kind::Text(TextKind::List(ItemKind::NmToken))),
+        "Name" => Some(Kind::Text(TextKind::Word(WordKind::Name))),
+        "NCName" | "ID" | "IDREF" | "ENTITY" => Some(Kind::Text(TextKind::NcName)),
+        "IDREFS" | "ENTITIES" => Some(Kind::Text(TextKind::List(ItemKind::NcName))),
+        _ => None,
+    }
+}
+
+// the kind of the type of that name whose values are numbers
+fn find_number(name: &str) -> Option<Kind>
+    ensures { option_map maker_of result ≡ named name.now number_types }
+{
+    match name {
+        "integer" => Some(unbounded()),
+        "nonPositiveInteger" => Some(up_to("0")),
+        "negativeInteger" => Some(up_to("-1")),
+        "long" => Some(from_to("-9223372036854775808", "9223372036854775807")),
+        "int" => Some(from_to("-2147483648", "2147483647")),
+        "short" => Some(from_to("-32768", "32767")),
+        "byte" => Some(from_to("-128", "127")),
+        "nonNegativeInteger" => Some(from("0")),
+        "unsignedLong" => Some(from_to("0", "18446744073709551615")),
+        "unsignedInt" => Some(from_to("0", "4294967295")),
+        "unsignedShort" => Some(from_to("0", "65535")),
+        "unsignedByte" => Some(from_to("0", "255")),
+        "positiveInteger" => Some(from("1")),
+        _ => None,
+    }
+}
+
+/// Returns whether texts may be given as values of the type of that name.
+///
+/// The value of a text in `QName` and `NOTATION` depends on what its prefix is declared as. XML Schema Part 2, sections
+/// 3.2.18 and 3.2.19. Allocates nothing.
+pub fn takes_values(name: &str) -> bool
+    ensures { result ≡ not (depends_on_context name.now) }
+{
+    !matches!(name, "QName" | "NOTATION")
+}
+
+fn from_to(least: &'static str, greatest: &'static str) -> Kind
+    ensures { maker_of result ≡ from_to least.now greatest.now }
+{
+    Kind::Integer(Range {
+        least: Some(least),
+        greatest: Some(greatest),
+    })
+}
+
+fn from(least: &'static str) -> Kind
+    ensures { maker_of result ≡ from least.now }
+{
+    Kind::Integer(Range {
+        least: Some(least),
+        greatest: None,
+    })
+}
+
+fn up_to(greatest: &'static str) -> Kind
+    ensures { maker_of result ≡ up_to greatest.now }
+{
+    Kind::Integer(Range {
+        least: None,
+        greatest: Some(greatest),
+    })
+}
+
+fn unbounded() -> Kind
+    ensures { maker_of result ≡ unbounded }
+{
+    Kind::Integer(Range {
+        least: None,
+        greatest: None,
+    })
+}
