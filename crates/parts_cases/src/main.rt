@@ -11,6 +11,7 @@ mod name_classes;
 mod name_rows;
 mod text_rows;
 mod type_rows;
+mod xsd_type_rows;
 
 use std::io;
 
@@ -18,5 +19,6 @@ fn main(rt: HostRuntime) -> io::Result<()> {
     text_rows::compare(&rt)?;
     name_rows::compare(&rt)?;
     type_rows::compare(&rt)?;
+    xsd_type_rows::compare(&rt)?;
     model_rows::compare(&rt)
 }

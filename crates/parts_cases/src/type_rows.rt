@@ -32,7 +32,7 @@ fn found(alloc: Global, row: &Row) -> io::Result<Result<Builtin, TypeFault>> {
 }
 
 /// Returns the number of texts that a call takes.
-fn text_count(call: &str) -> usize {
+pub fn text_count(call: &str) -> usize {
     match call {
         "allows" => 1,
         "equal" => 2,
@@ -42,7 +42,7 @@ fn text_count(call: &str) -> usize {
 }
 
 /// Returns the parameters of a row, which are the fields from this one on.
-fn parameters(alloc: Global, row: &Row, first: usize) -> io::Result<Vec<(String, String)>> {
+pub fn parameters(alloc: Global, row: &Row, first: usize) -> io::Result<Vec<(String, String)>> {
     let mut all = Vec::new(alloc);
     for field in (first..row.field_count()).step_by(2) {
         all.push(parameter(alloc, row.text(field)?, row.text(field.saturating_add(1))?)?)?;
