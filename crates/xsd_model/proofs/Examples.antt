@@ -1,8 +1,8 @@
 -- Worked cases of the complete set, which the checker computes.
-use Rattle.std.proofs.Common.{codes, ◌≡◌, ℕ, List, [], ◌∷◌, refl, true, false, Bool, Option, Some, None, is_some, pos}
+use Rattle.std.proofs.Common.{codes, ◌≡◌, ℕ, List, [], ◌∷◌, refl, true, false, Bool, Some, is_some}
 use Rattle.std.specs.Str.{chars}
 use Rattle.rng_model.specs.datatypes.Texts.{collapse, pieces}
-use Rattle.rng_model.specs.datatypes.Facets.{Parameter, written_range}
+use Rattle.rng_model.specs.datatypes.Facets.{Parameter}
 use Rattle.rng_model.specs.datatypes.Datatypes.{known_allows, known_equates}
 use Rattle.xsd_model.specs.Names.{is_language, is_qname}
 use Rattle.xsd_model.specs.Numbers.{integer_of, count_of}

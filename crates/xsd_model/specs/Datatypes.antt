@@ -3,7 +3,7 @@
 --
 -- A type that is not in the table is not served yet: decimal, the floats, dates, durations and octets. Nor is the
 -- parameter `pattern`, which each type is to take besides its own (section 4.3.4).
-use Rattle.std.specs.Prelude.{codes, ℕ, List, [], ◌∷◌, ◌++◌, Bool, Option, None, Some, is_some, not, IsTrue, ◌||◌}
+use Rattle.std.specs.Prelude.{codes, ℕ, List, [], ◌∷◌, ◌++◌, Bool, Option, None, is_some, not, IsTrue, ◌||◌}
 use Rattle.std.specs.Option.{option_map, option_and_then}
 use Rattle.std.specs.Str.{bytes_eq}
 use Rattle.rng_model.specs.simple.Tree.{Datatype}
