@@ -9,57 +9,50 @@ ghost use Rattle.rng_deriv_ways.specs.plain.Ways.{AreWaysOf};
 
 use crate::idle::is_idle;
 use crate::known::{KnownWays, known_ways};
-use crate::way::{Candidates, Kind, Ways};
+use crate::way::{Kind, Search, Ways};
 use crate::ways::ways;
 use rng_deriv_table::{Pattern, PatternNumber, PatternTable, Step};
-use rng_model::{OutOfMemory, SimpleGrammar};
-use std::alloc::Global;
+use rng_model::OutOfMemory;
 
 /// Returns the ways of a pattern to take something of this kind first, each leaf once. Those of its deep parts are worked
 /// out and kept first, so that recursion is only as deep as a pattern that is not deep.
 pub fn ways_of(
-    alloc: Global,
-    grammar: &SimpleGrammar,
+    search: &Search,
     table: &mut PatternTable,
     known: &mut KnownWays,
-    candidates: Candidates,
-    kind: Kind,
     number: PatternNumber,
 ) -> Result<Ways, OutOfMemory>
     requires inside { number.0 < length table.old }
-    requires known { AreKnown grammar.now table.old kind known.old }
-    requires candidates { AreCandidates grammar.now table.old kind candidates }
+    requires known { AreKnown search.now.grammar.now table.old search.now.kind known.old }
+    requires candidates { AreCandidates search.now.grammar.now table.old search.now.kind search.now.candidates }
     ensures longer { OnOk result (Longer table.old table.new) }
-    ensures known { OnOk result (AreKnown grammar.now table.new kind.entry known.new) }
-    ensures ways { IfOk result (λ ws. AreWaysOf grammar.now table.new kind.entry (tree_of grammar.now table.old number.0) ws.items) }
+    ensures known { OnOk result (AreKnown search.now.grammar.now table.new search.now.kind known.new) }
+    ensures ways { IfOk result (λ ws. AreWaysOf search.now.grammar.now table.new search.now.kind (tree_of search.now.grammar.now table.old number.0) ws.items) }
 {
-    keep_deep_ways(alloc, grammar, table, known, candidates, kind, number)?;
-    ways(alloc, grammar, table, known, candidates, kind, number)
+    keep_deep_ways(search, table, known, number)?;
+    ways(search, table, known, number)
 }
 
 /// Keeps the ways of the deep parts of a pattern, and its own if it is deep.
 fn keep_deep_ways(
-    alloc: Global,
-    grammar: &SimpleGrammar,
+    search: &Search,
     table: &mut PatternTable,
     known: &mut KnownWays,
-    candidates: Candidates,
-    kind: Kind,
     number: PatternNumber,
 ) -> Result<(), OutOfMemory>
     requires inside { number.0 < length table.old }
-    requires known { AreKnown grammar.now table.old kind known.old }
-    requires candidates { AreCandidates grammar.now table.old kind candidates }
+    requires known { AreKnown search.now.grammar.now table.old search.now.kind known.old }
+    requires candidates { AreCandidates search.now.grammar.now table.old search.now.kind search.now.candidates }
     ensures longer { OnOk result (Longer table.old table.new) }
-    ensures known { OnOk result (AreKnown grammar.now table.new kind.entry known.new) }
+    ensures known { OnOk result (AreKnown search.now.grammar.now table.new search.now.kind known.new) }
 {
     if !table.is_deep(number) {
         return Ok(());
     }
-    let mut steps = Vec::new(alloc);
+    let mut steps = Vec::new(search.alloc);
     steps.push(Step::Parts(number))?;
     'steps: for _ in 0..usize::MAX {
-        if !take_step(alloc, grammar, table, known, candidates, kind, &mut steps)? {
+        if !take_step(search, table, known, &mut steps)? {
             return Ok(());
         }
     }
@@ -69,33 +62,30 @@ fn keep_deep_ways(
 /// Takes the last of some steps, and returns whether there was one. A pattern without ways, or with known ones, needs
 /// nothing. For any other one, those by which it begins come first.
 fn take_step(
-    alloc: Global,
-    grammar: &SimpleGrammar,
+    search: &Search,
     table: &mut PatternTable,
     known: &mut KnownWays,
-    candidates: Candidates,
-    kind: Kind,
     steps: &mut Vec<Step>,
 ) -> Result<bool, OutOfMemory>
-    requires known { AreKnown grammar.now table.old kind known.old }
-    requires candidates { AreCandidates grammar.now table.old kind candidates }
+    requires known { AreKnown search.now.grammar.now table.old search.now.kind known.old }
+    requires candidates { AreCandidates search.now.grammar.now table.old search.now.kind search.now.candidates }
     requires steps { AreStepsInside table.old steps.old.items }
     ensures longer { OnOk result (Longer table.old table.new) }
-    ensures known { OnOk result (AreKnown grammar.now table.new kind.entry known.new) }
+    ensures known { OnOk result (AreKnown search.now.grammar.now table.new search.now.kind known.new) }
     ensures steps { OnOk result (AreStepsInside table.new steps.new.items) }
 {
     match steps.pop() {
         None => Ok(false),
         Some(Step::Whole(part)) => {
-            ways(alloc, grammar, table, known, candidates, kind, part)?;
+            ways(search, table, known, part)?;
             Ok(true)
         }
         Some(Step::Parts(part)) => {
-            if is_idle(table, candidates, part) || known_ways(known, part).is_some() {
+            if is_idle(table, search.candidates, part) || known_ways(known, part).is_some() {
                 return Ok(true);
             }
             steps.push(Step::Whole(part))?;
-            add_beginnings(table, kind, part, steps)?;
+            add_beginnings(table, search.kind, part, steps)?;
             Ok(true)
         }
     }

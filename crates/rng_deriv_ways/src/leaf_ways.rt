@@ -10,7 +10,7 @@ use crate::by_key::ways_by_key;
 use crate::deep_ways::ways_of;
 use crate::known::{Known, KnownWays, keep_last};
 use crate::spans::add_spans;
-use crate::way::{Candidates, Kind, Ways};
+use crate::way::{Candidates, Kind, Search, Ways};
 use crate::ways::is_kept;
 use rng_deriv_table::{PatternNumber, PatternTable};
 use rng_model::{Name, OutOfMemory, SimpleGrammar};
@@ -31,15 +31,13 @@ pub fn text_ways(
     ensures known { OnOk result (AreKnown grammar.now table.new kinds.Text known.new) }
     ensures ways { IfOk result (λ ws. AreWaysOf grammar.now table.new kinds.Text (tree_of grammar.now table.old number.0) ws.items) }
 {
-    ways_of(
+    let search = Search {
         alloc,
         grammar,
-        table,
-        known,
-        Candidates::Any,
-        Kind::Text,
-        number,
-    )
+        candidates: Candidates::Any,
+        kind: Kind::Text,
+    };
+    ways_of(&search, table, known, number)
 }
 
 /// Returns the ways of a pattern to take an attribute with this name first. They are those for the representative of
@@ -63,17 +61,13 @@ pub fn attribute_ways(
     add_spans(table, &mut known.spans)?;
     let key = keys.key(name);
     let takers = known.attribute_takers.of(key);
-    let candidates = Candidates::Attributes(takers, known.spans.as_slice());
-    let ways = ways_by_key(
+    let search = Search {
         alloc,
         grammar,
-        table,
-        &mut known.attributes,
-        key,
-        candidates,
-        Kind::Attribute(keys.name(key)),
-        number,
-    )?;
+        candidates: Candidates::Attributes(takers, known.spans.as_slice()),
+        kind: Kind::Attribute(keys.name(key)),
+    };
+    let ways = ways_by_key(&search, table, &mut known.attributes, key, number)?;
     if !is_kept(table, number) {
         return Ok(ways);
     }

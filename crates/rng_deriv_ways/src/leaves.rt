@@ -11,12 +11,11 @@ ghost use Rattle.rng_deriv_ways.specs.plain.Takers.{AreCandidates};
 ghost use Rattle.rng_deriv_ways.specs.plain.Ways.{AreWaysOf};
 ghost use Rattle.rng_deriv_ways.specs.declared.way.Kind as kinds;
 
-use crate::way::{Candidates, Kind, LeafWay, Ways};
+use crate::way::{Candidates, Kind, LeafWay, Search, Ways};
 use rng_deriv_table::{Pattern, PatternNumber, PatternTable};
 use rng_model::{ElementId, OutOfMemory, PatternId, Simple, SimpleGrammar};
 use rng_names::contains;
 use smallvec::SmallVec;
-use std::alloc::Global;
 
 /// Returns whether a text comes first.
 fn is_text(kind: Kind) -> bool
@@ -88,25 +87,22 @@ pub fn rest_of_leaf(
 /// Returns the ways of a pattern that is not joined and not a repetition. Elements that take the same have
 /// one leaf.
 pub fn ways_of_leaf(
-    alloc: Global,
-    grammar: &SimpleGrammar,
+    search: &Search,
     table: &mut PatternTable,
-    candidates: Candidates,
-    kind: Kind,
     number: PatternNumber,
 ) -> Result<Ways, OutOfMemory>
     requires inside { number.0 < length table.old }
-    requires leaf { IsAlone (tree_of grammar.now table.old number.0) }
-    requires candidates { AreCandidates grammar.now table.old kind candidates }
+    requires leaf { IsAlone (tree_of search.now.grammar.now table.old number.0) }
+    requires candidates { AreCandidates search.now.grammar.now table.old search.now.kind search.now.candidates }
     ensures longer { OnOk result (Longer table.old table.new) }
-    ensures ways { IfOk result (λ ws. AreWaysOf grammar.now table.new kind.entry (tree_of grammar.now table.old number.0) ws.items) }
+    ensures ways { IfOk result (λ ws. AreWaysOf search.now.grammar.now table.new search.now.kind (tree_of search.now.grammar.now table.old number.0) ws.items) }
 {
-    let mut ways = SmallVec::new(alloc);
-    if !takes_kind(grammar, table, kind, number) {
+    let mut ways = SmallVec::new(search.alloc);
+    if !takes_kind(search.grammar, table, search.kind, number) {
         return Ok(ways);
     }
     let rest = rest_of_leaf(table, number)?;
-    let leaf = like_leaf(table, candidates, number)?;
+    let leaf = like_leaf(table, search.candidates, number)?;
     ways.push(LeafWay { leaf, rest })?;
     Ok(ways)
 }

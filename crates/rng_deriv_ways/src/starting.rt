@@ -4,16 +4,14 @@ ghost use Rattle.rng_names.specs.plain.Keys.{name_at};
 ghost use Rattle.rng_model.specs.names.NameViews.{name_of};
 ghost use Rattle.rng_deriv_table.specs.views.PatternTable.{Longer};
 ghost use Rattle.rng_deriv_table.specs.views.Trees.{tree_of};
-ghost use Rattle.rng_deriv_ways.specs.views.KnownWays.{AreAllKnown, AreKnownByKey, IsElementKind};
-ghost use Rattle.rng_deriv_ways.specs.declared.way.Kind.{Kind};
-ghost use Rattle.rng_deriv_ways.specs.plain.Ways.{AreInside, AreWaysOf};
+ghost use Rattle.rng_deriv_ways.specs.views.KnownWays.{AreAllKnown};
+ghost use Rattle.rng_deriv_ways.specs.plain.Ways.{AreInside};
 ghost use Rattle.rng_deriv_ways.specs.plain.Starting.{AreBodies, AreStarts, IsBodyOf, IsReady};
-ghost use Rattle.rng_deriv_ways.specs.plain.Takers.{AreCandidates};
 
 use crate::by_key::ways_by_key;
-use crate::known::{Known, KnownByKey};
+use crate::known::Known;
 use crate::leaves::element_takes;
-use crate::way::{Candidates, Kind, LeafWay, Ways};
+use crate::way::{Candidates, Kind, LeafWay, Search, Ways};
 use rng_deriv_table::{Pattern, PatternNumber, PatternTable};
 use rng_model::{Name, OutOfMemory, PatternId, SimpleGrammar};
 use rng_names::{NameKey, NameKeys};
@@ -47,53 +45,16 @@ pub fn start(
     known.skips.add(alloc, table)?;
     let name = keys.name(key);
     let takers = known.takers.of(key);
-    let candidates = Candidates::Elements(takers, known.alike.as_slice(), &known.skips);
-    let ways = element_ways(
+    let search = Search {
         alloc,
         grammar,
-        keys,
-        table,
-        &mut known.elements,
-        candidates,
-        key,
-        number,
-    )?;
+        candidates: Candidates::Elements(takers, known.alike.as_slice(), &known.skips),
+        kind: Kind::Element(name),
+    };
+    let ways = ways_by_key(&search, table, &mut known.elements, key, number)?;
     let mut starts = SmallVec::new(alloc);
     add_starts(grammar, table, numbers, name, ways.as_slice(), &mut starts)?;
     Ok(starts)
-}
-
-/// Returns the ways of a pattern to take an element with the representative name of a key.
-fn element_ways(
-    alloc: Global,
-    grammar: &SimpleGrammar,
-    keys: &NameKeys,
-    table: &mut PatternTable,
-    known: &mut KnownByKey,
-    candidates: Candidates,
-    key: NameKey,
-    number: PatternNumber,
-) -> Result<Ways, OutOfMemory>
-    requires inside { number.0 < length table.old }
-    requires key { key.0 < length keys.now.names }
-    requires known { AreKnownByKey IsElementKind grammar.now keys.now table.old known.old }
-    requires candidates { (kind : Kind) → IsElementKind (name_at keys.now key.0) kind → AreCandidates grammar.now table.old kind candidates }
-    ensures longer { OnOk result (Longer table.old table.new) }
-    ensures known { OnOk result (AreKnownByKey IsElementKind grammar.now keys.now table.new known.new) }
-    ensures ways { IfOk result (λ ws. (kind : Kind) × IsElementKind (name_at keys.now key.0) kind
-        × AreWaysOf grammar.now table.new kind (tree_of grammar.now table.old number.0) ws.items) }
-{
-    let name = keys.name(key);
-    ways_by_key(
-        alloc,
-        grammar,
-        table,
-        known,
-        key,
-        candidates,
-        Kind::Element(name),
-        number,
-    )
 }
 
 /// Returns the body of a leaf that takes an element with this name.

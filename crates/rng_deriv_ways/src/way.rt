@@ -1,7 +1,8 @@
 // Ways to begin.
 use rng_deriv_table::{PatternNumber, Skips, Span};
-use rng_model::{ElementId, Name};
+use rng_model::{ElementId, Name, SimpleGrammar};
 use smallvec::SmallVec;
+use std::alloc::Global;
 
 /// A leaf of a pattern that may take what comes first, and the pattern of what may follow then.
 #[derive(Clone, Copy, PartialEq, Eq)]
@@ -49,6 +50,15 @@ pub enum Candidates<'a> {
     Attributes(Span, &'a [Span]),
 }
 
+/// A search for the ways of patterns of a grammar: what comes first, and the parts that may take it.
+#[derive(Clone, Copy)]
+pub struct Search<'g, 'c, 'k> {
+    pub alloc: Global,
+    pub grammar: &'g SimpleGrammar,
+    pub candidates: Candidates<'c>,
+    pub kind: Kind<'k>,
+}
+
 /// Where a pattern is tried: among the children of an element or the values of attributes, or in a list. A list
 /// contains no list (RELAX NG Specification, section 7.1.3).
 #[derive(Clone, Copy)]
@@ -62,6 +72,14 @@ pub enum Place {
 pub enum Joint {
     Group,
     Interleave,
+}
+
+/// Two patterns that are joined, and how.
+#[derive(Clone, Copy)]
+pub struct Sides {
+    pub joint: Joint,
+    pub first: PatternNumber,
+    pub second: PatternNumber,
 }
 
 /// Where the rest of a side is in the rest of the whole.

@@ -14,11 +14,10 @@ use crate::filling::{add_filled, joined_ways};
 use crate::idle::{is_idle, next_member};
 use crate::known::{KnownWays, copied_ways, keep, known_ways};
 use crate::leaves::ways_of_leaf;
-use crate::way::{Candidates, Hole, Joint, Kind, Ways};
+use crate::way::{Hole, Joint, Kind, Search, Sides, Ways};
 use rng_deriv_table::{Pattern, PatternNumber, PatternTable};
-use rng_model::{OutOfMemory, SimpleGrammar};
+use rng_model::OutOfMemory;
 use smallvec::SmallVec;
-use std::alloc::Global;
 
 /// Returns the ways of a pattern to take something of this kind first, each leaf once.
 ///
@@ -30,32 +29,29 @@ use std::alloc::Global;
 /// of many members leads to too many other patterns for that, unless it is deep.
 #[cycle(ways)]
 pub fn ways(
-    alloc: Global,
-    grammar: &SimpleGrammar,
+    search: &Search,
     table: &mut PatternTable,
     known: &mut KnownWays,
-    candidates: Candidates,
-    kind: Kind,
     number: PatternNumber,
 ) -> Result<Ways, OutOfMemory>
     requires inside { number.0 < length table.old }
-    requires known { AreKnown grammar.now table.old kind known.old }
-    requires candidates { AreCandidates grammar.now table.old kind candidates }
+    requires known { AreKnown search.now.grammar.now table.old search.now.kind known.old }
+    requires candidates { AreCandidates search.now.grammar.now table.old search.now.kind search.now.candidates }
     ensures longer { OnOk result (Longer table.old table.new) }
-    ensures known { OnOk result (AreKnown grammar.now table.new kind.entry known.new) }
-    ensures ways { IfOk result (λ ws. AreWaysOf grammar.now table.new kind.entry (tree_of grammar.now table.old number.0) ws.items) }
+    ensures known { OnOk result (AreKnown search.now.grammar.now table.new search.now.kind known.new) }
+    ensures ways { IfOk result (λ ws. AreWaysOf search.now.grammar.now table.new search.now.kind (tree_of search.now.grammar.now table.old number.0) ws.items) }
 {
-    if is_idle(table, candidates, number) {
-        return Ok(SmallVec::new(alloc));
+    if is_idle(table, search.candidates, number) {
+        return Ok(SmallVec::new(search.alloc));
     }
     if !is_kept(table, number) {
-        return new_ways(alloc, grammar, table, known, candidates, kind, number);
+        return new_ways(search, table, known, number);
     }
     if let Some(ways) = known_ways(known, number) {
-        return copied_ways(alloc, ways);
+        return copied_ways(search.alloc, ways);
     }
-    let ways = new_ways(alloc, grammar, table, known, candidates, kind, number)?;
-    keep(alloc, known, number, ways.as_slice())?;
+    let ways = new_ways(search, table, known, number)?;
+    keep(search.alloc, known, number, ways.as_slice())?;
     Ok(ways)
 }
 
@@ -78,120 +74,102 @@ pub fn is_kept(table: &PatternTable, number: PatternNumber) -> bool
 /// Computes the ways of a pattern.
 #[cycle(ways)]
 fn new_ways(
-    alloc: Global,
-    grammar: &SimpleGrammar,
+    search: &Search,
     table: &mut PatternTable,
     known: &mut KnownWays,
-    candidates: Candidates,
-    kind: Kind,
     number: PatternNumber,
 ) -> Result<Ways, OutOfMemory>
     requires inside { number.0 < length table.old }
-    requires known { AreKnown grammar.now table.old kind known.old }
-    requires candidates { AreCandidates grammar.now table.old kind candidates }
+    requires known { AreKnown search.now.grammar.now table.old search.now.kind known.old }
+    requires candidates { AreCandidates search.now.grammar.now table.old search.now.kind search.now.candidates }
     ensures longer { OnOk result (Longer table.old table.new) }
-    ensures known { OnOk result (AreKnown grammar.now table.new kind.entry known.new) }
-    ensures ways { IfOk result (λ ws. AreWaysOf grammar.now table.new kind.entry (tree_of grammar.now table.old number.0) ws.items) }
+    ensures known { OnOk result (AreKnown search.now.grammar.now table.new search.now.kind known.new) }
+    ensures ways { IfOk result (λ ws. AreWaysOf search.now.grammar.now table.new search.now.kind (tree_of search.now.grammar.now table.old number.0) ws.items) }
 {
     match table.pattern(number) {
-        Pattern::Choice(_) => {
-            ways_of_choice(alloc, grammar, table, known, candidates, kind, number)
-        }
+        Pattern::Choice(_) => { ways_of_choice(search, table, known, number) }
         Pattern::Group(first, second) => {
             let (first, second) = (*first, *second);
-            ways_of_group(
-                alloc, grammar, table, known, candidates, kind, first, second,
-            )
+            ways_of_group(search, table, known, first, second)
         }
         Pattern::Interleave(first, second) => {
             let (first, second) = (*first, *second);
-            ways_of_both(
-                alloc,
-                grammar,
-                table,
-                known,
-                candidates,
-                kind,
-                Joint::Interleave,
+            let sides = Sides {
+                joint: Joint::Interleave,
                 first,
                 second,
-            )
+            };
+            ways_of_both(search, table, known, sides)
         }
         Pattern::OneOrMore(body) => {
             let body = *body;
-            ways_of_copies(alloc, grammar, table, known, candidates, kind, number, body)
+            ways_of_copies(search, table, known, number, body)
         }
-        _ => ways_of_leaf(alloc, grammar, table, candidates, kind, number),
+        _ => ways_of_leaf(search, table, number),
     }
 }
 
 /// Returns the ways of the choice with this number.
 #[cycle(ways)]
 fn ways_of_choice(
-    alloc: Global,
-    grammar: &SimpleGrammar,
+    search: &Search,
     table: &mut PatternTable,
     known: &mut KnownWays,
-    candidates: Candidates,
-    kind: Kind,
     number: PatternNumber,
 ) -> Result<Ways, OutOfMemory>
     requires inside { All (λ m. m < length table.old) (members_at table.old number.0) }
     requires two { 2 ≤ length (members_at table.old number.0) }
     requires number { number.0 < length table.old }
-    requires known { AreKnown grammar.now table.old kind known.old }
-    requires candidates { AreCandidates grammar.now table.old kind candidates }
+    requires known { AreKnown search.now.grammar.now table.old search.now.kind known.old }
+    requires candidates { AreCandidates search.now.grammar.now table.old search.now.kind search.now.candidates }
     ensures longer { OnOk result (Longer table.old table.new) }
-    ensures known { OnOk result (AreKnown grammar.now table.new kind.entry known.new) }
-    ensures ways { IfOk result (λ ws. AreWaysOf grammar.now table.new kind.entry (choice_over (tree_of grammar.now table.old)
+    ensures known { OnOk result (AreKnown search.now.grammar.now table.new search.now.kind known.new) }
+    ensures ways { IfOk result (λ ws. AreWaysOf search.now.grammar.now table.new search.now.kind (choice_over (tree_of search.now.grammar.now table.old)
         (members_at table.old number.0)) ws.items) }
 {
-    let mut all = Vec::new(alloc);
+    let mut all = Vec::new(search.alloc);
     let mut next = 0;
-    'members: while let Some((behind, member)) = next_member(table, candidates, number, next) {
-        let ways = ways(alloc, grammar, table, known, candidates, kind, member)?;
+    'members: while let Some((behind, member)) = next_member(
+        table,
+        search.candidates,
+        number,
+        next,
+    ) {
+        let ways = ways(search, table, known, member)?;
         all.extend_from_slice(ways.as_slice())?;
         next = behind;
     }
-    joined_ways(alloc, table, all.as_slice())
+    joined_ways(search.alloc, table, all.as_slice())
 }
 
 /// Returns the ways of a group.
 #[cycle(ways)]
 fn ways_of_group(
-    alloc: Global,
-    grammar: &SimpleGrammar,
+    search: &Search,
     table: &mut PatternTable,
     known: &mut KnownWays,
-    candidates: Candidates,
-    kind: Kind,
     first: PatternNumber,
     second: PatternNumber,
 ) -> Result<Ways, OutOfMemory>
     requires first { first.0 < length table.old }
     requires second { second.0 < length table.old }
-    requires known { AreKnown grammar.now table.old kind known.old }
-    requires candidates { AreCandidates grammar.now table.old kind candidates }
+    requires known { AreKnown search.now.grammar.now table.old search.now.kind known.old }
+    requires candidates { AreCandidates search.now.grammar.now table.old search.now.kind search.now.candidates }
     ensures longer { OnOk result (Longer table.old table.new) }
-    ensures known { OnOk result (AreKnown grammar.now table.new kind.entry known.new) }
-    ensures ways { IfOk result (λ ws. AreWaysOf grammar.now table.new kind.entry
-        (s_joined group (tree_of grammar.now table.old first.0) (tree_of grammar.now table.old second.0)) ws.items) }
+    ensures known { OnOk result (AreKnown search.now.grammar.now table.new search.now.kind known.new) }
+    ensures ways { IfOk result (λ ws. AreWaysOf search.now.grammar.now table.new search.now.kind
+        (s_joined group (tree_of search.now.grammar.now table.old first.0) (tree_of search.now.grammar.now table.old second.0)) ws.items) }
 {
-    if let Kind::Attribute(_) = kind {
-        return ways_of_both(
-            alloc,
-            grammar,
-            table,
-            known,
-            candidates,
-            kind,
-            Joint::Group,
+    if let Kind::Attribute(_) = search.kind {
+        let sides = Sides {
+            joint: Joint::Group,
             first,
             second,
-        );
+        };
+        return ways_of_both(search, table, known, sides);
     }
     let (first, rest) = table.reassociated(first, second)?;
-    item_ways_of_group(alloc, grammar, table, known, candidates, kind, first, rest)
+    item_ways_of_group(search, table, known, first, rest)
 }
 
 /// Returns the ways of a group to take an item first. These are the ways of its first side and, if that is nullable,
@@ -199,29 +177,26 @@ fn ways_of_group(
 /// first side takes what they take, with all of them after it.
 #[cycle(ways)]
 fn item_ways_of_group(
-    alloc: Global,
-    grammar: &SimpleGrammar,
+    search: &Search,
     table: &mut PatternTable,
     known: &mut KnownWays,
-    candidates: Candidates,
-    kind: Kind,
     first: PatternNumber,
     second: PatternNumber,
 ) -> Result<Ways, OutOfMemory>
-    requires kind { IsOfItems kind }
+    requires kind { IsOfItems search.now.kind }
     requires first { first.0 < length table.old }
     requires second { second.0 < length table.old }
-    requires known { AreKnown grammar.now table.old kind known.old }
-    requires candidates { AreCandidates grammar.now table.old kind candidates }
+    requires known { AreKnown search.now.grammar.now table.old search.now.kind known.old }
+    requires candidates { AreCandidates search.now.grammar.now table.old search.now.kind search.now.candidates }
     ensures longer { OnOk result (Longer table.old table.new) }
-    ensures known { OnOk result (AreKnown grammar.now table.new kind.entry known.new) }
-    ensures ways { IfOk result (λ ws. AreWaysOf grammar.now table.new kind.entry
-        (s_joined group (tree_of grammar.now table.old first.0) (tree_of grammar.now table.old second.0)) ws.items) }
+    ensures known { OnOk result (AreKnown search.now.grammar.now table.new search.now.kind known.new) }
+    ensures ways { IfOk result (λ ws. AreWaysOf search.now.grammar.now table.new search.now.kind
+        (s_joined group (tree_of search.now.grammar.now table.old first.0) (tree_of search.now.grammar.now table.old second.0)) ws.items) }
 {
-    let firsts = ways(alloc, grammar, table, known, candidates, kind, first)?;
-    let mut all = SmallVec::new(alloc);
+    let firsts = ways(search, table, known, first)?;
+    let mut all = SmallVec::new(search.alloc);
     add_filled(
-        alloc,
+        search.alloc,
         table,
         Hole::First(Joint::Group, second),
         firsts.as_slice(),
@@ -233,49 +208,51 @@ fn item_ways_of_group(
     let Some(rest) = table.behind_copies(first, second) else {
         return Ok(all);
     };
-    let seconds = ways(alloc, grammar, table, known, candidates, kind, rest)?;
-    let seconds = uncovered(alloc, table, rest, firsts.as_slice(), seconds)?;
-    add_filled(alloc, table, Hole::Whole, seconds.as_slice(), &mut all)?;
+    let seconds = ways(search, table, known, rest)?;
+    let seconds = uncovered(search.alloc, table, rest, firsts.as_slice(), seconds)?;
+    add_filled(
+        search.alloc,
+        table,
+        Hole::Whole,
+        seconds.as_slice(),
+        &mut all,
+    )?;
     Ok(all)
 }
 
 /// Returns the ways of two joined patterns, either of which may come first: those of each beside the other.
 #[cycle(ways)]
 fn ways_of_both(
-    alloc: Global,
-    grammar: &SimpleGrammar,
+    search: &Search,
     table: &mut PatternTable,
     known: &mut KnownWays,
-    candidates: Candidates,
-    kind: Kind,
-    joint: Joint,
-    first: PatternNumber,
-    second: PatternNumber,
+    sides: Sides,
 ) -> Result<Ways, OutOfMemory>
-    requires order { HasNoOrder kind joint }
-    requires first { first.0 < length table.old }
-    requires second { second.0 < length table.old }
-    requires known { AreKnown grammar.now table.old kind known.old }
-    requires candidates { AreCandidates grammar.now table.old kind candidates }
+    requires order { HasNoOrder search.now.kind sides.joint }
+    requires first { sides.first.0 < length table.old }
+    requires second { sides.second.0 < length table.old }
+    requires known { AreKnown search.now.grammar.now table.old search.now.kind known.old }
+    requires candidates { AreCandidates search.now.grammar.now table.old search.now.kind search.now.candidates }
     ensures longer { OnOk result (Longer table.old table.new) }
-    ensures known { OnOk result (AreKnown grammar.now table.new kind.entry known.new) }
-    ensures ways { IfOk result (λ ws. AreWaysOf grammar.now table.new kind.entry
-        (s_joined (connector_of joint) (tree_of grammar.now table.old first.0) (tree_of grammar.now table.old second.0)) ws.items) }
+    ensures known { OnOk result (AreKnown search.now.grammar.now table.new search.now.kind known.new) }
+    ensures ways { IfOk result (λ ws. AreWaysOf search.now.grammar.now table.new search.now.kind
+        (s_joined (connector_of sides.joint) (tree_of search.now.grammar.now table.old sides.first.0)
+        (tree_of search.now.grammar.now table.old sides.second.0)) ws.items) }
 {
-    let firsts = ways(alloc, grammar, table, known, candidates, kind, first)?;
-    let seconds = ways(alloc, grammar, table, known, candidates, kind, second)?;
-    let mut all = SmallVec::new(alloc);
+    let firsts = ways(search, table, known, sides.first)?;
+    let seconds = ways(search, table, known, sides.second)?;
+    let mut all = SmallVec::new(search.alloc);
     add_filled(
-        alloc,
+        search.alloc,
         table,
-        Hole::First(joint, second),
+        Hole::First(sides.joint, sides.second),
         firsts.as_slice(),
         &mut all,
     )?;
     add_filled(
-        alloc,
+        search.alloc,
         table,
-        Hole::Second(joint, first),
+        Hole::Second(sides.joint, sides.first),
         seconds.as_slice(),
         &mut all,
     )?;
@@ -286,33 +263,30 @@ fn ways_of_both(
 /// an attribute only more copies are left.
 #[cycle(ways)]
 fn ways_of_copies(
-    alloc: Global,
-    grammar: &SimpleGrammar,
+    search: &Search,
     table: &mut PatternTable,
     known: &mut KnownWays,
-    candidates: Candidates,
-    kind: Kind,
     number: PatternNumber,
     body: PatternNumber,
 ) -> Result<Ways, OutOfMemory>
     requires number { number.0 < length table.old }
     requires body { body.0 < length table.old }
-    requires copies { tree_of grammar.now table.old number.0 ≡ s_one_or_more (tree_of grammar.now table.old body.0) }
-    requires known { AreKnown grammar.now table.old kind known.old }
-    requires candidates { AreCandidates grammar.now table.old kind candidates }
+    requires copies { tree_of search.now.grammar.now table.old number.0 ≡ s_one_or_more (tree_of search.now.grammar.now table.old body.0) }
+    requires known { AreKnown search.now.grammar.now table.old search.now.kind known.old }
+    requires candidates { AreCandidates search.now.grammar.now table.old search.now.kind search.now.candidates }
     ensures longer { OnOk result (Longer table.old table.new) }
-    ensures known { OnOk result (AreKnown grammar.now table.new kind.entry known.new) }
-    ensures ways { IfOk result (λ ws. AreWaysOf grammar.now table.new kind.entry (tree_of grammar.now table.old number.0) ws.items) }
+    ensures known { OnOk result (AreKnown search.now.grammar.now table.new search.now.kind known.new) }
+    ensures ways { IfOk result (λ ws. AreWaysOf search.now.grammar.now table.new search.now.kind (tree_of search.now.grammar.now table.old number.0) ws.items) }
 {
-    let copies = ways(alloc, grammar, table, known, candidates, kind, body)?;
+    let copies = ways(search, table, known, body)?;
     let empty = table.empty()?;
-    let more = table.choice(alloc, &[number, empty])?;
-    if let Kind::Attribute(_) = kind {
-        return repeated_ways(alloc, table, copies.as_slice(), more);
+    let more = table.choice(search.alloc, &[number, empty])?;
+    if let Kind::Attribute(_) = search.kind {
+        return repeated_ways(search.alloc, table, copies.as_slice(), more);
     }
-    let mut all = SmallVec::new(alloc);
+    let mut all = SmallVec::new(search.alloc);
     add_filled(
-        alloc,
+        search.alloc,
         table,
         Hole::First(Joint::Group, more),
         copies.as_slice(),

@@ -6,6 +6,6 @@ use Rattle.rng_deriv_ways.proofs.deep_ways.keep_deep_ways.Given as goal
 abbrev pub invariant-steps : goal.invariant-steps
 invariant-steps l = record {
   longer : Longer l.fn.table l.table;
-  known : AreKnown l.grammar l.table l.kind l.known;
+  known : AreKnown l.search.grammar.now l.table l.search.kind l.known;
   steps : AreStepsInside l.table l.steps.items;
 }

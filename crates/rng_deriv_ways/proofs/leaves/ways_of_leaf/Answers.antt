@@ -13,18 +13,18 @@ use Rattle.rng_deriv_ways.proofs.leaves.ways_of_leaf.Goals as goal
 
 pub returns-then-not-takes_kind-clause-ways : goal.returns-then-not-takes_kind-clause-ways
 returns-then-not-takes_kind-clause-ways c =
-    let t = c.args.grammar.now in
+    let t = c.args.search.now.grammar.now in
     let p = tree_of t c.args.table.now c.args.number.0 in
     let not_taken = sym c.takes_kind.ensures ∙ c.if-not-takes_kind.true in
-    subst (AreWaysOf t c.args.table.now c.args.kind p) (sym c.new-ways.ensures.items) (record {
+    subst (AreWaysOf t c.args.table.now c.args.search.now.kind p) (sym c.new-ways.ensures.items) (record {
       inside = λ i d h. absurd (omega (arith, h));
-      law = no_law (reading_of t) c.args.kind p c.requires.leaf not_taken;
+      law = no_law (reading_of t) c.args.search.now.kind p c.requires.leaf not_taken;
       kept = λ place o. tt;
     })
 
 pub returns-clause-ways : goal.returns-clause-ways
 returns-clause-ways c =
-    let t = c.args.grammar.now in
+    let t = c.args.search.now.grammar.now in
     let old = c.args.table.now in
     let middle = c.rest_of_leaf.new.table in
     let new = c.like_leaf.new.table in
@@ -36,14 +36,14 @@ returns-clause-ways c =
     let is : ways_by (tree_of t new) (way ∷ []) ≡ like_way p q ∷ [] =
     ap (λ r. record { leaf = q; rest = r } ∷ []) (tree_stays t middle new c.in_ok-rest.rest.0 c.like_leaf.ensures.longer rest.inside ∙ rest.is t) in
     let there = tree_stays t old middle c.args.number.0 c.rest_of_leaf.ensures.longer c.requires.inside in
-    let leaf = c.in_ok-leaf.ensures.leaf t c.args.kind
-    (candidates_longer t old middle c.rest_of_leaf.ensures.longer c.args.kind c.args.candidates c.requires.candidates) in
+    let leaf = c.in_ok-leaf.ensures.leaf t c.args.search.now.kind
+    (candidates_longer t old middle c.rest_of_leaf.ensures.longer c.args.search.now.kind c.args.search.now.candidates c.requires.candidates) in
     let like = subst (λ p. AreLikeLeaves t p q) there leaf.like in
     let taken = sym c.takes_kind.ensures ∙ c.if-not-takes_kind.false in
     let long = Longer-length middle new c.like_leaf.ensures.longer in
     let below = rest.inside in
-    subst (AreWaysOf t new c.args.kind p) (sym e) (record {
+    subst (AreWaysOf t new c.args.search.now.kind p) (sym e) (record {
       inside = one_inside new way (leaf.inside, omega (arith, below, long));
-      law = subst (AreWays (reading_of t) c.args.kind p) (sym is) (like_law t c.args.kind p q like taken);
-      kept = λ place o. subst (AreKept c.args.kind place) (sym is) (like_kept t c.args.kind place p q like taken o);
+      law = subst (AreWays (reading_of t) c.args.search.now.kind p) (sym is) (like_law t c.args.search.now.kind p q like taken);
+      kept = λ place o. subst (AreKept c.args.search.now.kind place) (sym is) (like_kept t c.args.search.now.kind place p q like taken o);
     })
