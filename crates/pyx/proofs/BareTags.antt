@@ -3,7 +3,7 @@ use Rattle.std.proofs.Common.{◌≡◌, ℕ, List, [], ◌∷◌, Option, Some,
 use Rattle.rng_model.specs.names.Names.{Name}
 use Rattle.rng_model.specs.plain.Answers.{Gives}
 use Rattle.rng_model.specs.declared.document.Attr.{Attr}
-use Rattle.rng_model.specs.documents.PyxLines.{WrittenName}
+use Rattle.rng_model.specs.documents.PyxLines.{QName}
 use Rattle.rng_model.specs.documents.PyxNamespaces.{WrittenAttribute}
 use Rattle.pyx.specs.plain.Declarations.{Declared, any_forbidden, is_written_twice}
 use Rattle.pyx.specs.declared.fault.LineFault.{LineFault}
@@ -16,7 +16,7 @@ abbrev bare_element : Option Name → Result Element ℕ
 bare_element None = Err 11
 bare_element (Some name) = Ok (record { name = name; attrs = [] })
 
-bare_read : (outer : Declared) (name : WrittenName) → tag_read outer name [] [] ≡ bare_element (element_name ([] ∷ outer) name)
+bare_read : (outer : Declared) (name : QName) → tag_read outer name [] [] ≡ bare_element (element_name ([] ∷ outer) name)
 unfolding tag_read any_forbidden expanded is_named_twice is_written_twice
 bare_read outer name = go (element_name ([] ∷ outer) name) where
   go : (o : Option Name) → with_name o [] (Some []) ≡ bare_element o
@@ -32,7 +32,7 @@ bare_gives names (Err (faults.Clause k)) None given = let same : 11 ≡ k = cc i
 bare_gives names (Err (faults.Clause k)) (Some n) given = absurd cc
 
 -- in the form of the code
-pub gives_bare : (names : List Name) (attrs : List Attr) (result : Result ℕ LineFault) (outer : Declared) (name : WrittenName)
+pub gives_bare : (names : List Name) (attrs : List Attr) (result : Result ℕ LineFault) (outer : Declared) (name : QName)
     (declared others : List WrittenAttribute) → declared ≡ [] → others ≡ [] → attrs ≡ []
     → Gives clause_of (λ at. name_at names at) result (resolved (element_name (declared ∷ outer) name))
     → Gives clause_of (element_at names attrs) result (tag_read outer name declared others)

@@ -8,7 +8,7 @@ use Rattle.std.proofs.lemmas.List.Elements.{All-from_recursion, recursion_from_A
 use Rattle.rng_model.specs.names.Names.{is_xml_char}
 use Rattle.rng_model.specs.documents.Lines.{Line, lines, with_first}
 use Rattle.rng_model.specs.documents.PyxLines as said
-use Rattle.rng_model.specs.documents.PyxLines.{Said, WrittenName, IsNcnameText, IsName, alone, prefixed, Says, says_start, says_end, IsGoodLine, AreGoodLines}
+use Rattle.rng_model.specs.documents.PyxLines.{Said, QName, IsNcnameText, IsName, alone, prefixed, Says, says_start, says_end, IsGoodLine, AreGoodLines}
 use Rattle.rng_model.specs.documents.PyxLines.{no_lines}
 use Rattle.rng_model.specs.documents.PyxLines.{line_and}
 use Rattle.rng_model.specs.documents.PyxTrees.{Placed, Event, events_of, IsPyxDocument}
@@ -80,20 +80,20 @@ whole_both (x ∷ xs) ys h k = (h.0, whole_both xs ys h.1 k)
 
 -- ---- the end tag of a start tag
 
-name_without : {written : List ℕ} {name : WrittenName} → IsName written name → at_byte 10 written ≡ None
+name_without : {written : List ℕ} {name : QName} → IsName written name → at_byte 10 written ≡ None
 name_without (alone {local} n) = at_none 10 local (ncname_without 10 local (lit< tt) refl refl n)
 name_without (prefixed {prefix = p} {local} m n e) = ap (at_byte 10) e ∙ at_none 10 (p ++ 58 ∷ local)
     (all_append 10 p (58 ∷ local) (ncname_without 10 p (lit< tt) refl refl m) (differs 58 10 refl, ncname_without 10 local (lit< tt) refl refl n))
 
-start_name : {bytes : List ℕ} {name : WrittenName} → Says bytes (said.start name) → (written : List ℕ) × (bytes ≡ 40 ∷ written) × IsName written name
+start_name : {bytes : List ℕ} {name : QName} → Says bytes (said.start name) → (written : List ℕ) × (bytes ≡ 40 ∷ written) × IsName written name
 start_name (says_start {written} n) = (written, refl, n)
 
-record EndOf (name : WrittenName) : Type 0 where
+record EndOf (name : QName) : Type 0 where
   line : Line
   is : IsGoodLine line (said.end name)
   no_feed : at_byte 10 line.bytes ≡ None
 
-end_for : {l : Line} {name : WrittenName} → IsGoodLine l (said.start name) → EndOf name
+end_for : {l : Line} {name : QName} → IsGoodLine l (said.start name) → EndOf name
 end_for {l} {name} g =
     let k = start_name g.says in
     let u : IsUtf8 k.0 = (utf8_parts [] k.0 40 (lit< tt) (subst IsUtf8 k.1 g.utf8)).1 in
@@ -190,7 +190,7 @@ matched_root d (one_matched s p n m) = opened_root d
 
 -- ---- without a root
 
-abbrev a_name : WrittenName
+abbrev a_name : QName
 a_name = record { prefix = None; local = codes "a" }
 
 abbrev start_a : Line

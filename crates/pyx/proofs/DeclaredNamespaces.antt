@@ -1,6 +1,6 @@
 -- The declarations of the open elements in one list give a prefix the namespace that the elements give it.
 use Rattle.std.proofs.Common.{◌≡◌, ◌∙◌, ℕ, Bool, true, false, cond, List, [], ◌∷◌, ◌++◌, Option, Some, None, ap, sym, refl}
-use Rattle.rng_model.specs.documents.PyxLines.{WrittenName}
+use Rattle.rng_model.specs.documents.PyxLines.{QName}
 use Rattle.rng_model.specs.documents.PyxNamespaces.{WrittenAttribute}
 use Rattle.pyx.specs.plain.DocumentReader.{Open, declared_in}
 use Rattle.pyx.specs.plain.Declarations.{Declared, beforehand, declared_by, declares, found_in, namespace_of, or_else}
@@ -32,12 +32,12 @@ pub namespace_within : (stack : List Open) (ds : List WrittenAttribute) (p : Opt
     → namespace_of (ds ∷ []) p ≡ namespace_of (declared_in stack) p
 namespace_within stack ds p whole = ap (λ (x : List WrittenAttribute). namespace_of (x ∷ []) p) (sym whole) ∙ in_one_list stack p
 
-pub name_within : (stack : List Open) (ds : List WrittenAttribute) (name : WrittenName) → all_declared stack ≡ ds
+pub name_within : (stack : List Open) (ds : List WrittenAttribute) (name : QName) → all_declared stack ≡ ds
     → element_name (ds ∷ []) name ≡ element_name (declared_in stack) name
 unfolding element_name
 name_within stack ds name whole = ap (in_namespace name.local) (namespace_within stack ds name.prefix whole)
 
 -- a tag without declarations changes nothing
-pub name_within_none : (scope : Declared) (name : WrittenName) → element_name ([] ∷ scope) name ≡ element_name scope name
+pub name_within_none : (scope : Declared) (name : QName) → element_name ([] ∷ scope) name ≡ element_name scope name
 unfolding element_name namespace_of found_in
 name_within_none scope name = refl

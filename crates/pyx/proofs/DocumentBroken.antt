@@ -7,7 +7,7 @@ use Rattle.std.proofs.lemmas.Option.{same_Some, none-some}
 use Rattle.rng_model.proofs.Options.{same_err, same_ok}
 use Rattle.rng_model.specs.documents.Lines.{Line, line_limit, HasKind, Fault, EndsInTag}
 use Rattle.rng_model.specs.documents.PyxLines as said
-use Rattle.rng_model.specs.documents.PyxLines.{Said, WrittenName, IsGoodLine, AreGoodLines, BreaksAlone}
+use Rattle.rng_model.specs.documents.PyxLines.{Said, QName, IsGoodLine, AreGoodLines, BreaksAlone}
 use Rattle.rng_model.specs.documents.PyxNamespaces.{WrittenAttribute, NamespaceScope}
 use Rattle.rng_model.specs.documents.PyxTrees.{Event}
 use Rattle.rng_model.specs.documents.PyxClauses as clauses
@@ -46,7 +46,7 @@ failed clause line = Err (at clause line)
 -- the tag at the end of these lines breaks this clause
 pub record TagBreaks (front : List Line) (clause : ℕ) : Type 0 where
   pub outer : NamespaceScope
-  pub name : WrittenName
+  pub name : QName
   pub written : List WrittenAttribute
   pub ends : EndsWithTag front outer name written
   pub breaks : ((clause ≡ 11) × BreaksNamespaces outer name written) ⊎ ((clause ≡ 12) × RepeatsName outer written)
@@ -69,7 +69,7 @@ none_open_by : {front : List Line} {tags : List clauses.Tag} → AreOpenTags fro
 none_open_by d none_matched = d
 
 -- an end tag with another name
-other_end : {front : List Line} {l : Line} {tags : List clauses.Tag} {o : Open} {os : List Open} {name : WrittenName} → IsGoodLine l (said.end name)
+other_end : {front : List Line} {l : Line} {tags : List clauses.Tag} {o : Open} {os : List Open} {name : QName} → IsGoodLine l (said.end name)
     → AreOpenTags front tags → AreMatched tags (o ∷ os) → o.name ≢ name → (behind : List Line) → BreaksHere front l behind 8
 other_end {front} {l} {o = o} {name = name} g d (one_matched {tag} s p n m) differs behind =
     let k = end_line g in

@@ -7,7 +7,7 @@ use Rattle.rng_model.specs.matching.Document.{Attribute}
 use Rattle.rng_model.specs.documents.Lines.{Line, lines, attribute_limit, open_limit, text_limit}
 use Rattle.rng_model.specs.names.Names.{Name}
 use Rattle.rng_model.specs.documents.PyxLines as said
-use Rattle.rng_model.specs.documents.PyxLines.{Said, WrittenName}
+use Rattle.rng_model.specs.documents.PyxLines.{Said, QName}
 use Rattle.rng_model.specs.documents.PyxNamespaces.{WrittenAttribute, AreWritten, none_written, written_and, AreParted, NamespaceScope}
 use Rattle.rng_model.specs.documents.PyxTrees.{Placed, element_at, PlacedItems, none_placed, placed_and, Event, events_of, events_in, IsRun, no_run, text_and}
 use Rattle.rng_model.specs.documents.PyxTrees.{instruction_and}
@@ -54,7 +54,7 @@ record Gathered (bs : List ℕ) (xs : List Said) (os : List Open) (t : Tag) (all
   split : IsSplit all tag.declared tag.others
   reads : said_lines bs xs (in_tag os t n) ≡ good (in_tag os tag m) []
 
-gathered_more : (bs : List ℕ) (xs : List Said) (os : List Open) (a : WrittenName) (v : List ℕ) (front ws : List WrittenAttribute) (t : Tag) (n m : ℕ)
+gathered_more : (bs : List ℕ) (xs : List Said) (os : List Open) (a : QName) (v : List ℕ) (front ws : List WrittenAttribute) (t : Tag) (n m : ℕ)
     → IsSplit front t.declared t.others → length front < attribute_limit
     → Gathered (rest_of bs) xs os (with_attribute (first_of bs) (record { name = a; content = v }) t)
     ((front ++ record { name = a; content = v } ∷ []) ++ ws) (n + 1) m
@@ -191,12 +191,12 @@ pub record Declares (os : List Open) (scope : NamespaceScope) : Type 0 where
   pub declared : AllDeclared (declared_in os)
   pub once : IsScopeOnce (scope_in (declared_in os))
 
-end_all : (bs : List ℕ) (o : Open) (os : List Open) (t : List ℕ) (n : ℕ) (name : WrittenName) → o.name ≡ name
+end_all : (bs : List ℕ) (o : Open) (os : List Open) (t : List ℕ) (n : ℕ) (name : QName) → o.name ≡ name
     → said_lines bs (said.end name ∷ []) (inside (o ∷ os) t n true) ≡ good (inside os [] (n + 1) true) (text_event (n + 1) t ++ end_event (n + 1))
 end_all bs o os t n name e = cons_said bs (said.end name) [] _ _ _ (end_step o os t n true (first_of bs) name e)
     ∙ ap (after_events (text_event (n + 1) t ++ end_event (n + 1))) (none_said (rest_of bs) _) ∙ rw append-nil refl
 
-element_joins : (bs : List ℕ) (xs ys all : List Said) (name : WrittenName) (q : Name) (attrs : List Attribute) (kids : PlacedItems) (os : List Open)
+element_joins : (bs : List ℕ) (xs ys all : List Said) (name : QName) (q : Name) (attrs : List Attribute) (kids : PlacedItems) (os : List Open)
     (t : List ℕ) (root : Bool) (ws : List WrittenAttribute) (n i j m : ℕ) → (root && length os == 0) ≡ false → length os < open_limit
     → (g : Gathered (rest_of bs) xs os (begun (first_of bs) name) ws (n + 1) i)
     → tag_read (declared_in os) g.tag.name g.tag.declared g.tag.others ≡ Ok (record { name = q; attrs = attrs }) → BeginsPlain ys
@@ -213,7 +213,7 @@ element_joins bs xs ys all name q attrs kids os t root ws n i j m fits h g u fir
     ∙ rw (p, inner.events, append_assoc) refl
 
 -- the declarations of a tag come before those around it
-inner_scope : (os : List Open) (o : Open) (ws others : List WrittenAttribute) (outer scope : NamespaceScope) (name : WrittenName) (xs : List Said) (q : Name)
+inner_scope : (os : List Open) (o : Open) (ws others : List WrittenAttribute) (outer scope : NamespaceScope) (name : QName) (xs : List Said) (q : Name)
     (attrs : List Attribute) → Declares os outer → (t : IsTag outer name xs q attrs scope) → IsSplit ws o.declared others → t.written ≡ ws
     → Declares (o ∷ os) scope
 inner_scope os o ws others outer scope name xs q attrs d t s e =
@@ -223,11 +223,11 @@ inner_scope os o ws others outer scope name xs q attrs d t s e =
       once = (λ u. t.once (once_declared t.are_parted u (ap prefixes_of (sym k.0))), d.once);
     }
 
-tag_element : (os : List Open) (g : Tag) (ws : List WrittenAttribute) (outer scope : NamespaceScope) (name : WrittenName) (xs : List Said) (q : Name)
+tag_element : (os : List Open) (g : Tag) (ws : List WrittenAttribute) (outer scope : NamespaceScope) (name : QName) (xs : List Said) (q : Name)
     (attrs : List Attribute) → Declares os outer → (t : IsTag outer name xs q attrs scope) → IsSplit ws g.declared g.others → t.written ≡ ws
     → g.name ≡ name → tag_read (declared_in os) g.name g.declared g.others ≡ Ok (record { name = q; attrs = attrs })
 tag_element os g ws outer scope name xs q attrs d t s e f =
-    ap (λ (x : WrittenName). tag_read (declared_in os) x g.declared g.others) f
+    ap (λ (x : QName). tag_read (declared_in os) x g.declared g.others) f
     ∙ subst (λ (x : NamespaceScope). (t : IsTag x name xs q attrs scope) → t.written ≡ ws
     → tag_read (declared_in os) name g.declared g.others ≡ Ok (record { name = q; attrs = attrs })) (sym d.is)
     (λ t e. tag_is (declared_in os) name ws g.declared g.others s t e d.declared d.once) t e

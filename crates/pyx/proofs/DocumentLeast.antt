@@ -8,7 +8,7 @@ use Rattle.rng_model.proofs.Options.{same_err, same_ok}
 use Rattle.rng_model.proofs.Members.{same_rest, one_or_none}
 use Rattle.rng_model.specs.documents.Lines.{Line, line_limit, attribute_limit, open_limit, text_limit, HasKind, Fault, EndsInTag, IsBefore}
 use Rattle.rng_model.specs.documents.PyxLines as said
-use Rattle.rng_model.specs.documents.PyxLines.{Said, WrittenName, IsGoodLine, AreGoodLines}
+use Rattle.rng_model.specs.documents.PyxLines.{Said, QName, IsGoodLine, AreGoodLines}
 use Rattle.rng_model.specs.documents.PyxNamespaces.{WrittenAttribute, NamespaceScope}
 use Rattle.rng_model.specs.documents.PyxTrees.{Event}
 use Rattle.rng_model.specs.documents.PyxClauses as clauses
@@ -71,7 +71,7 @@ no_elements : (os : List Open) → length os ≡ 0 → os ≡ []
 no_elements [] e = refl
 no_elements (o ∷ os) e = absurd (omega (arith, e))
 
-outside_tag : {w : List ℕ} {n b : ℕ} {root : Bool} {os : List Open} {a : WrittenName} {v : List ℕ} {turn : Turn State}
+outside_tag : {w : List ℕ} {n b : ℕ} {root : Bool} {os : List Open} {a : QName} {v : List ℕ} {turn : Turn State}
     → Move w n b root os (said.attribute a v) turn → turn ≡ fault 7 (n + 1)
 outside_tag (attribute_outside e) = e
 
@@ -89,7 +89,7 @@ module _ (front : List Line) where
     some_none : {x : clauses.Tag} {xs : List clauses.Tag} → x ∷ xs ≡ [] → ⊥
     some_none e = cc
 
-  none_to_end : {os : List Open} {w : List ℕ} {n b : ℕ} {root : Bool} {name : WrittenName} {turn : Turn State} → Content front os w n root
+  none_to_end : {os : List Open} {w : List ℕ} {n b : ℕ} {root : Bool} {name : QName} {turn : Turn State} → Content front os w n root
       → Move w n b root os (said.end name) turn → AreOpenTags front [] → AtMost (at 8 (length front + 1)) turn
   none_to_end c (end_closes q e) d = absurd (no_open c.are_open c.matched d)
   none_to_end c (end_of_other q e) d = refused_at 8 8 e c.count (lit≤ tt)
@@ -103,7 +103,7 @@ module _ (front : List Line) where
       let same : own ≡ tag = first_tag (open_same d e) in
       ap written_of (same_rest (sym q ∙ ap (λ (t : clauses.Tag). t.first.bytes) (sym same) ∙ k.1)) ∙ k.2
 
-  other_name : {os : List Open} {w : List ℕ} {n b : ℕ} {root : Bool} {name : WrittenName} {turn : Turn State} {tag : clauses.Tag}
+  other_name : {os : List Open} {w : List ℕ} {n b : ℕ} {root : Bool} {name : QName} {turn : Turn State} {tag : clauses.Tag}
       {outer : List clauses.Tag} (l : Line) (bytes opened : List ℕ) → Content front os w n root → Move w n b root os (said.end name) turn
       → IsGoodLine l (said.end name) → l.bytes ≡ 41 ∷ bytes → AreOpenTags front (tag ∷ outer) → tag.first.bytes ≡ 40 ∷ opened → bytes ≢ opened
       → AtMost (at 8 (length front + 1)) turn
@@ -124,7 +124,7 @@ module _ (front : List Line) where
   none_deep : {os : List Open} {w : List ℕ} {n : ℕ} {root : Bool} → Content front os w n root → AreOpenTags front [] → length os ≡ 0
   none_deep c d = omega (arith, matched_length c.matched, ap length (open_same c.are_open d))
 
-  second_root : {os : List Open} {w : List ℕ} {n b : ℕ} {root : Bool} {name : WrittenName} {turn : Turn State} → Content front os w n root
+  second_root : {os : List Open} {w : List ℕ} {n b : ℕ} {root : Bool} {name : QName} {turn : Turn State} → Content front os w n root
       → Move w n b root os (said.start name) turn → AreOpenTags front [] → has_root front ≡ true → AtMost (at 9 (length front + 1)) turn
   second_root {os} {root = root} c (start_begins fits h e) d r = absurd (outside os root (no_elements os (none_deep c d)) (sym c.rooted ∙ r) fits) where
     outside : (os : List Open) (root : Bool) → os ≡ [] → root ≡ true → (root && length os == 0) ≡ false → ⊥
@@ -134,7 +134,7 @@ module _ (front : List Line) where
   second_root c (start_too_deep h e) d r = absurd (omega (arith, h, none_deep c d))
   second_root c (start_again e) d r = refused_at 9 9 e c.count (lit≤ tt)
 
-  too_deep : {os : List Open} {w : List ℕ} {n b : ℕ} {root : Bool} {name : WrittenName} {turn : Turn State} {opened : List clauses.Tag}
+  too_deep : {os : List Open} {w : List ℕ} {n b : ℕ} {root : Bool} {name : QName} {turn : Turn State} {opened : List clauses.Tag}
       → Content front os w n root → Move w n b root os (said.start name) turn → AreOpenTags front opened → open_limit ≤ length opened
       → AtMost (at 10 (length front + 1)) turn
   too_deep c (start_begins fits h e) d few = absurd (omega (arith, h, few, matched_length c.matched, ap length (open_same c.are_open d)))
@@ -183,7 +183,7 @@ module _ (front : List Line) where
       (tag_case k x c (tag_moves os t n (length l.bytes) x) f p)
 
   -- an `A` line
-  no_tag_case : {s : State} (l : Line) (a : WrittenName) (v : List ℕ) → Place front s → IsGoodLine l (said.attribute a v) → (EndsInTag front → ⊥)
+  no_tag_case : {s : State} (l : Line) (a : QName) (v : List ℕ) → Place front s → IsGoodLine l (said.attribute a v) → (EndsInTag front → ⊥)
       → AtMost (at 7 (length front + 1)) (line_read l s)
   no_tag_case l a v (at_content {os} {w} {n} {root} c u) g none = same_answer (ap (λ (t : Turn State). t.0) (line_said g (inside os w n root)))
       (refused_at 7 7 (outside_tag (moves os w n (length l.bytes) root (said.attribute a v))) c.count (lit≤ tt))
@@ -197,7 +197,7 @@ module _ (front : List Line) where
       → ◌≡◌ {A = clauses.Tag} (record { first = d.tag; attributes = d.others }) (record { first = e.tag; attributes = e.others })
   same_tag d e = first_tag (same_marks d e)
 
-  many_case : {s : State} (l : Line) (a : WrittenName) (v : List ℕ) → Place front s → IsGoodLine l (said.attribute a v) → (tag : EndsInTag front)
+  many_case : {s : State} (l : Line) (a : QName) (v : List ℕ) → Place front s → IsGoodLine l (said.attribute a v) → (tag : EndsInTag front)
       → attribute_limit ≤ length tag.others → AtMost (at 10 (length front + 1)) (line_read l s)
   many_case l a v (at_content {os} {w} {n} {root} c u) g tag h = absurd (no_tag u tag)
   many_case l a v (at_tag {os} {t} {n} c) g tag h = same_answer (ap (λ (t : Turn State). t.0) (line_said g (in_tag os t n)))
@@ -317,7 +317,7 @@ tag_answered {front} {os} {t} {n} {k} c b = go b.breaks where
 
   go : ((k ≡ 11) × BreaksNamespaces b.outer b.name b.written) ⊎ ((k ≡ 12) × RepeatsName b.outer b.written) → Answered os t k
   go (inl p) =
-      let x : BreaksNamespaces (scope_of os) t.name c.written = subst (λ (y : WrittenName). BreaksNamespaces (scope_of os) y c.written) same.0
+      let x : BreaksNamespaces (scope_of os) t.name c.written = subst (λ (y : QName). BreaksNamespaces (scope_of os) y c.written) same.0
       (subst (λ (y : List WrittenAttribute). BreaksNamespaces (scope_of os) b.name y) same.1
       (subst (λ (y : NamespaceScope). BreaksNamespaces y b.name b.written) outer p.1)) in
       record {

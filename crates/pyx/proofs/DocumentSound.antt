@@ -6,7 +6,7 @@ use Rattle.std.proofs.lemmas.List.{append-nil, length-append}
 use Rattle.rng_model.proofs.Options.{same_ok, err_is_ok}
 use Rattle.rng_model.specs.documents.Lines.{Line, lines, attribute_limit, open_limit, text_limit, Fault}
 use Rattle.rng_model.specs.documents.PyxLines as said
-use Rattle.rng_model.specs.documents.PyxLines.{Said, WrittenName, IsGoodLine, AreGoodLines, no_lines, line_and}
+use Rattle.rng_model.specs.documents.PyxLines.{Said, QName, IsGoodLine, AreGoodLines, no_lines, line_and}
 use Rattle.rng_model.specs.documents.PyxNamespaces.{WrittenAttribute, AreWritten, none_written, written_and, NamespaceScope}
 use Rattle.rng_model.specs.documents.PyxTrees.{Placed, element_at, PlacedItems, none_placed, placed_and, Event, IsRun, no_run, text_and, instruction_and}
 use Rattle.rng_model.specs.documents.PyxTrees.{AreInstructions, no_instructions, another_instruction, string_before, IsTag, IsElement, element, IsContent}
@@ -135,16 +135,16 @@ parse_text {n} {w} {v} {os = os} (in_element {content} {more} r c p parts) =
     in_element {content = said.text v ∷ content} r (content_text c) (subst (λ (m : ℕ). Parse m [] more os true) (next_count n (said.text v) content 1) p)
     (ap (λ (ys : List Said). said.text v ∷ ys) parts)
 
-parse_end : {n : ℕ} {w : List ℕ} {xs : List Said} {o : Open} {os : List Open} (room : ℕ) (name : WrittenName) → o.name ≡ name
+parse_end : {n : ℕ} {w : List ℕ} {xs : List Said} {o : Open} {os : List Open} (room : ℕ) (name : QName) → o.name ≡ name
     → room + length (o ∷ os) ≡ open_limit
     → length w ≤ text_limit → Parse (n + 1) [] xs os true → Parse n w (said.end name ∷ xs) (o ∷ os) true
 parse_end {n} {w} {xs} {o} {os} room name e r h p =
     in_element {room = room} {content = []} r (only_text no_run (omega (arith, h)) refl) (subst (λ (m : ℕ). Parse m [] xs os true) (omega arith) p)
-    (ap (λ (x : WrittenName). said.end x ∷ xs) (sym e))
+    (ap (λ (x : QName). said.end x ∷ xs) (sym e))
 
 -- ---- a tag and its element
 
-tag_attribute : {os : List Open} {t : Tag} {front : List WrittenAttribute} {n : ℕ} {xs : List Said} (a : WrittenName) (v : List ℕ) (b : ℕ)
+tag_attribute : {os : List Open} {t : Tag} {front : List WrittenAttribute} {n : ℕ} {xs : List Said} (a : QName) (v : List ℕ) (b : ℕ)
     → TagParse os (with_attribute b (record { name = a; content = v }) t) (front ++ record { name = a; content = v } ∷ []) (n + 1) xs
     → (with_attribute b (record { name = a; content = v }) t).name ≡ t.name → TagParse os t front n (said.attribute a v ∷ xs)
 tag_attribute {os} {t} {front} {n} {xs} a v b p e =
@@ -193,7 +193,7 @@ record Whole (os : List Open) (n : ℕ) (xs : List Said) : Type 0 where
   is : IsElement room (scope_of os) n all tree
   behind : Parse (n + length all) [] more os true
 
-whole_by : {os : List Open} {o : Open} {n m : ℕ} {name : WrittenName} {attributes behind xs : List Said} {q : Element} → o.name ≡ name
+whole_by : {os : List Open} {o : Open} {n m : ℕ} {name : QName} {attributes behind xs : List Said} {q : Element} → o.name ≡ name
     → IsTag (scope_of os) name attributes q.name q.attrs (scope_of (o ∷ os)) → xs ≡ attributes ++ behind → m ≡ n + 1 + length attributes
     → Parse m [] behind (o ∷ os) true → Whole os n (said.start name ∷ xs)
 whole_by {os} {o} {n} {m} {name} {attributes} {behind} {xs} {q} e t parts at (in_element {room} {content} {more} {kids} r c p is) =
@@ -211,11 +211,11 @@ whole_by {os} {o} {n} {m} {name} {attributes} {behind} {xs} {q} e t parts at (in
       behind = subst (λ (k : ℕ). Parse k [] more os true) (omega (arith, at, size)) p;
     }
 
-whole_tag : {os : List Open} {n b : ℕ} {name : WrittenName} {xs : List Said} → AllDeclared (declared_in os) → TagParse os (begun b name) [] (n + 1) xs
+whole_tag : {os : List Open} {n b : ℕ} {name : QName} {xs : List Said} → AllDeclared (declared_in os) → TagParse os (begun b name) [] (n + 1) xs
     → Whole os n (said.start name ∷ xs)
 whole_tag {os} {n} {b} {name} {xs} all p =
     whole_by {q = p.e} p.name (is_tag (declared_in os) name p.written p.tag.declared p.tag.others p.is_split all p.attributes p.e p.are_written p.few
-    (ap (λ (x : WrittenName). tag_read (declared_in os) x p.tag.declared p.tag.others) (sym p.name) ∙ p.is_read)) p.parts refl p.parse
+    (ap (λ (x : QName). tag_read (declared_in os) x p.tag.declared p.tag.others) (sym p.name) ∙ p.is_read)) p.parts refl p.parse
 
 -- an element inside its parent
 parse_root : {n : ℕ} {w : List ℕ} {xs : List Said} → Whole [] n xs → Parse n w xs [] false

@@ -9,7 +9,7 @@ use Rattle.std.proofs.lemmas.List.Elements.{All-from_recursion}
 use Rattle.pyx.proofs.DocumentEnds.{last_sends}
 use Rattle.rng_model.specs.documents.Lines.{Line, lines, attribute_limit, open_limit, text_limit, Fault}
 use Rattle.rng_model.specs.documents.PyxLines as said
-use Rattle.rng_model.specs.documents.PyxLines.{Said, WrittenName}
+use Rattle.rng_model.specs.documents.PyxLines.{Said, QName}
 use Rattle.rng_model.specs.documents.PyxNamespaces.{WrittenAttribute}
 use Rattle.rng_model.specs.documents.PyxTrees.{Event, a_string, an_end, Placed, events_of, IsPyxDocument}
 use Rattle.pyx.specs.plain.Cuts.{behind}
@@ -58,7 +58,7 @@ unfolding text_ended
 text_at s =
     if_at s.count (length s.joined == 0) (silent s) (Ok (record s { joined = [] }), record { line = s.count; kind = a_string s.joined } ∷ []) tt (refl, tt)
 
-started_at : (bytes : ℕ) (name : WrittenName) (s : State) → AreAt s.count (started bytes name s).1
+started_at : (bytes : ℕ) (name : QName) (s : State) → AreAt s.count (started bytes name s).1
 unfolding started
 started_at bytes name s =
     if_at s.count (s.root && is_outside s) _ _ tt
@@ -73,7 +73,7 @@ joined_at : (value : List ℕ) (s : State) → AreAt s.count (joined_by value s)
 unfolding joined_by
 joined_at value s = if_at s.count (is_outside s) _ _ tt (if_at s.count (nat_le (length s.joined + length value) text_limit) _ _ tt tt)
 
-end_at : (os : List Open) (name : WrittenName) (s : State) → AreAt s.count (end_in os name s).1
+end_at : (os : List Open) (name : QName) (s : State) → AreAt s.count (end_in os name s).1
 end_at [] name s = tt
 end_at (o ∷ outer) name s =
     if_at s.count (same_written o.name name) _ _

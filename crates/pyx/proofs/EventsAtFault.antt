@@ -12,7 +12,7 @@ use Rattle.rng_model.proofs.Options.{same_err}
 use Rattle.rng_model.proofs.Members.{same_first, same_rest}
 use Rattle.rng_model.specs.documents.Lines.{Line, lines, Fault, IsBefore}
 use Rattle.rng_model.specs.documents.PyxLines as said
-use Rattle.rng_model.specs.documents.PyxLines.{Said, WrittenName, IsGoodLine, AreGoodLines}
+use Rattle.rng_model.specs.documents.PyxLines.{Said, QName, IsGoodLine, AreGoodLines}
 use Rattle.rng_model.specs.documents.PyxTrees.{Event}
 use Rattle.rng_model.specs.documents.PyxClauses as clauses
 use Rattle.rng_model.specs.documents.PyxClauses.{BreaksBetween, BreaksHere, Breaks, at_line, unfinished, rootless, IsFront, HasLongestFront}
@@ -285,13 +285,13 @@ says_of l s u g = go (said_of l) refl where
 never : {turn : Turn State} {u : State} {k n : ℕ} → turn ≡ fault k n → turn.0 ≡ Ok u → ⊥
 never e g = ok_err (sym g ∙ ap (λ (t : Turn State). t.0) e)
 
-start_move : {w : List ℕ} {n b : ℕ} {root : Bool} {os : List Open} {name : WrittenName} {turn : Turn State} {u : State}
+start_move : {w : List ℕ} {n b : ℕ} {root : Bool} {os : List Open} {name : QName} {turn : Turn State} {u : State}
     → Move w n b root os (said.start name) turn → turn.0 ≡ Ok u → turn.1 ≡ text_event (n + 1) w
 start_move (start_begins fits h e) g = first_is e
 start_move (start_too_deep h e) g = absurd (never e g)
 start_move (start_again e) g = absurd (never e g)
 
-start_tag : {front : List Line} {os : List Open} {t : Tag} {n b : ℕ} {name : WrittenName} {turn : Turn State} {es : List Event} {u : State}
+start_tag : {front : List Line} {os : List Open} {t : Tag} {n b : ℕ} {name : QName} {turn : Turn State} {es : List Event} {u : State}
     → Within front os t n → all_read front nothing_read ≡ good (in_tag os t n) es → TagMove os t n b (said.start name) turn → turn.0 ≡ Ok u
     → Calm front (in_tag os t n) turn.1
 start_tag c r (tag_refused k p q e) g = absurd (never e g)
@@ -300,7 +300,7 @@ start_tag {front} {os} {t} {n} c r (tag_closes {inner} e p q m is) g =
     subst (Calm front (in_tag os t n)) (sym (first_is is ∙ ap (λ (x : List Event). start_event (n + 1) e ++ x) k ∙ append-nil (start_event (n + 1) e)))
     (calm_within e c q r)
 
-start_calm : {front : List Line} {s u : State} {es : List Event} {name : WrittenName} (l : Line) → Place front s → all_read front nothing_read ≡ good s es
+start_calm : {front : List Line} {s u : State} {es : List Event} {name : QName} (l : Line) → Place front s → all_read front nothing_read ≡ good s es
     → IsGoodLine l (said.start name) → (line_read l s).0 ≡ Ok u → Calm front s (line_read l s).1
 start_calm {front} {name = name} l (at_content {os} {w} {n} {root} c u) r d g =
     let z = line_said d (inside os w n root) in
@@ -313,18 +313,18 @@ start_calm {front} {name = name} l (at_tag {os} {t} {n} c) r d g =
     (start_tag c r (tag_moves os t n (length l.bytes) (said.start name)) (sym (ap (λ (t : Turn State). t.0) z) ∙ g))
 
 -- an `A` line hands out nothing
-attribute_move : {w : List ℕ} {n b : ℕ} {root : Bool} {os : List Open} {a : WrittenName} {v : List ℕ} {turn : Turn State}
+attribute_move : {w : List ℕ} {n b : ℕ} {root : Bool} {os : List Open} {a : QName} {v : List ℕ} {turn : Turn State}
     → Move w n b root os (said.attribute a v) turn → turn.1 ≡ []
 attribute_move (attribute_outside e) = first_is e
 
-attribute_tag : {os : List Open} {t : Tag} {n b : ℕ} {a : WrittenName} {v : List ℕ} {turn : Turn State} → TagMove os t n b (said.attribute a v) turn
+attribute_tag : {os : List Open} {t : Tag} {n b : ℕ} {a : QName} {v : List ℕ} {turn : Turn State} → TagMove os t n b (said.attribute a v) turn
     → turn.1 ≡ []
 attribute_tag (attribute_added h e) = first_is e
 attribute_tag (attribute_too_many h e) = first_is e
 attribute_tag (tag_refused k p q e) = first_is e
 attribute_tag (tag_closes e p q m is) = absurd cc
 
-attribute_silent : {front : List Line} {s : State} {a : WrittenName} {v : List ℕ} (l : Line) → Place front s → IsGoodLine l (said.attribute a v)
+attribute_silent : {front : List Line} {s : State} {a : QName} {v : List ℕ} (l : Line) → Place front s → IsGoodLine l (said.attribute a v)
     → (line_read l s).1 ≡ []
 attribute_silent {a = a} {v} l (at_content {os} {w} {n} {root} c u) d = ap (λ (t : Turn State). t.1) (line_said d (inside os w n root))
     ∙ attribute_move (moves os w n (length l.bytes) root (said.attribute a v))

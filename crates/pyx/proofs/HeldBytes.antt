@@ -11,7 +11,7 @@ use Rattle.pyx.proofs.DocumentSound.{goes_first}
 use Rattle.rng_model.proofs.Options.{same_ok}
 use Rattle.rng_model.specs.documents.Lines.{Line, lines, line_limit, HasKind, Fault}
 use Rattle.rng_model.specs.documents.PyxLines as said
-use Rattle.rng_model.specs.documents.PyxLines.{Said, WrittenName, IsName, alone, prefixed, StandsFor, at_end, itself, line_feed, tab, backslash, Says}
+use Rattle.rng_model.specs.documents.PyxLines.{Said, QName, IsName, alone, prefixed, StandsFor, at_end, itself, line_feed, tab, backslash, Says}
 use Rattle.rng_model.specs.documents.PyxLines.{says_start}
 use Rattle.rng_model.specs.documents.PyxLines.{says_attribute, IsGoodLine, AreGoodLines, no_lines, line_and}
 use Rattle.rng_model.specs.documents.PyxNamespaces.{WrittenAttribute, AreWritten, none_written, written_and, Declares, default_namespace, prefix_declared}
@@ -209,7 +209,7 @@ opened_exact (o ∷ outer) h =
 
 -- ---- what must be kept
 
-name_declared : {name : WrittenName} {p : Option (List ℕ)} → Declares name p → name_length name ≡ declared_length p
+name_declared : {name : QName} {p : Option (List ℕ)} → Declares name p → name_length name ≡ declared_length p
 name_declared default_namespace = refl
 name_declared (prefix_declared {p}) = omega arith
 
@@ -251,15 +251,15 @@ stands_less (line_feed d) = omega (arith, stands_less d)
 stands_less (tab d) = omega (arith, stands_less d)
 stands_less (backslash d) = omega (arith, stands_less d)
 
-name_size : {written : List ℕ} {name : WrittenName} → IsName written name → name_length name ≡ length written
+name_size : {written : List ℕ} {name : QName} → IsName written name → name_length name ≡ length written
 name_size (alone n) = omega arith
 name_size (prefixed {prefix = p} {local} n m e) = omega (arith, ap length e, length-append p (58 ∷ local))
 
-attribute_size : {bytes : List ℕ} {a : WrittenName} {v : List ℕ} → Says bytes (said.attribute a v) → name_length a + length v ≤ length bytes
+attribute_size : {bytes : List ℕ} {a : QName} {v : List ℕ} → Says bytes (said.attribute a v) → name_length a + length v ≤ length bytes
 attribute_size (says_attribute {written_name} {written} n d e) =
     omega (arith, name_size n, stands_less d, ap length e, length-append written_name (32 ∷ written))
 
-start_size : {bytes : List ℕ} {name : WrittenName} → Says bytes (said.start name) → name_length name ≤ length bytes
+start_size : {bytes : List ℕ} {name : QName} → Says bytes (said.start name) → name_length name ≤ length bytes
 start_size (says_start n) = omega (arith, name_size n)
 
 -- the `A` lines of a tag

@@ -9,7 +9,7 @@ use Rattle.rng_model.proofs.Options.{same_ok}
 use Rattle.rng_model.proofs.Members.{same_first, same_rest}
 use Rattle.rng_model.specs.documents.Lines.{Line, HasKind}
 use Rattle.rng_model.specs.documents.PyxLines as said
-use Rattle.rng_model.specs.documents.PyxLines.{Said, WrittenName, Says, says_start, says_attribute, says_text, says_end, says_instruction, IsGoodLine}
+use Rattle.rng_model.specs.documents.PyxLines.{Said, QName, Says, says_start, says_attribute, says_text, says_end, says_instruction, IsGoodLine}
 use Rattle.rng_model.specs.documents.PyxLines.{AreGoodLines}
 use Rattle.rng_model.specs.documents.PyxLines.{no_lines, line_and}
 use Rattle.rng_model.specs.documents.PyxTrees.{IsRun, no_run, text_and, instruction_and}
@@ -67,17 +67,17 @@ good_length (line_and g m) = omega (arith, good_length m)
 
 -- ---- kinds of good lines
 
-start_says : {bytes : List ℕ} {name : WrittenName} → Says bytes (said.start name) → (written : List ℕ) × (bytes ≡ 40 ∷ written) × (written_of written ≡ name)
+start_says : {bytes : List ℕ} {name : QName} → Says bytes (said.start name) → (written : List ℕ) × (bytes ≡ 40 ∷ written) × (written_of written ≡ name)
 start_says (says_start {written} n) = (written, refl, (name_is n).1)
 
-end_says : {bytes : List ℕ} {name : WrittenName} → Says bytes (said.end name) → (written : List ℕ) × (bytes ≡ 41 ∷ written) × (written_of written ≡ name)
+end_says : {bytes : List ℕ} {name : QName} → Says bytes (said.end name) → (written : List ℕ) × (bytes ≡ 41 ∷ written) × (written_of written ≡ name)
 end_says (says_end {written} n) = (written, refl, (name_is n).1)
 
-pub start_line : {l : Line} {name : WrittenName} → IsGoodLine l (said.start name)
+pub start_line : {l : Line} {name : QName} → IsGoodLine l (said.start name)
     → (written : List ℕ) × (l.bytes ≡ 40 ∷ written) × (written_of written ≡ name)
 start_line g = start_says g.says
 
-pub end_line : {l : Line} {name : WrittenName} → IsGoodLine l (said.end name)
+pub end_line : {l : Line} {name : QName} → IsGoodLine l (said.end name)
     → (written : List ℕ) × (l.bytes ≡ 41 ∷ written) × (written_of written ≡ name)
 end_line g = end_says g.says
 
@@ -99,14 +99,14 @@ pub good_kind : {l : Line} {x : Said} → IsGoodLine l x → HasKind (kind_of x)
 good_kind g = says_kind g.says
 
 -- a good line of this kind has such a content
-pub says_a_start : {l : Line} (x : Said) → IsGoodLine l x → HasKind 40 l → (name : WrittenName) × (x ≡ said.start name)
+pub says_a_start : {l : Line} (x : Said) → IsGoodLine l x → HasKind 40 l → (name : QName) × (x ≡ said.start name)
 says_a_start (said.start name) g h = (name, refl)
 says_a_start {l} (said.attribute a v) g h = absurd (other_kind 65 40 l (λ q. absurd (omega (arith, q))) (good_kind g) h)
 says_a_start {l} (said.text v) g h = absurd (other_kind 45 40 l (λ q. absurd (omega (arith, q))) (good_kind g) h)
 says_a_start {l} (said.end name) g h = absurd (other_kind 41 40 l (λ q. absurd (omega (arith, q))) (good_kind g) h)
 says_a_start {l} said.instruction g h = absurd (other_kind 63 40 l (λ q. absurd (omega (arith, q))) (good_kind g) h)
 
-pub says_an_attribute : {l : Line} (x : Said) → IsGoodLine l x → HasKind 65 l → (a : WrittenName) × (v : List ℕ) × (x ≡ said.attribute a v)
+pub says_an_attribute : {l : Line} (x : Said) → IsGoodLine l x → HasKind 65 l → (a : QName) × (v : List ℕ) × (x ≡ said.attribute a v)
 says_an_attribute (said.attribute a v) g h = (a, v, refl)
 says_an_attribute {l} (said.start name) g h = absurd (other_kind 40 65 l (λ q. absurd (omega (arith, q))) (good_kind g) h)
 says_an_attribute {l} (said.text v) g h = absurd (other_kind 45 65 l (λ q. absurd (omega (arith, q))) (good_kind g) h)
@@ -120,7 +120,7 @@ says_a_text {l} (said.attribute a v) g h = absurd (other_kind 65 45 l (λ q. abs
 says_a_text {l} (said.end name) g h = absurd (other_kind 41 45 l (λ q. absurd (omega (arith, q))) (good_kind g) h)
 says_a_text {l} said.instruction g h = absurd (other_kind 63 45 l (λ q. absurd (omega (arith, q))) (good_kind g) h)
 
-pub says_an_end : {l : Line} (x : Said) → IsGoodLine l x → HasKind 41 l → (name : WrittenName) × (x ≡ said.end name)
+pub says_an_end : {l : Line} (x : Said) → IsGoodLine l x → HasKind 41 l → (name : QName) × (x ≡ said.end name)
 says_an_end (said.end name) g h = (name, refl)
 says_an_end {l} (said.start name) g h = absurd (other_kind 40 41 l (λ q. absurd (omega (arith, q))) (good_kind g) h)
 says_an_end {l} (said.attribute a v) g h = absurd (other_kind 65 41 l (λ q. absurd (omega (arith, q))) (good_kind g) h)

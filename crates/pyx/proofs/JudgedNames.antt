@@ -41,7 +41,7 @@ start_judged bytes name s t opened good inside few e = rw (good, inside, few, e)
 abbrev pub ended_after : State → Turn State
 ended_after s = (Ok (record s { opened = around s.opened }), record { line = s.count; kind = an_end } ∷ [])
 
-end_first : (name : lines.WrittenName) (opened : List Open) (s : State) → is_innermost name opened ≡ true
+end_first : (name : lines.QName) (opened : List Open) (s : State) → is_innermost name opened ≡ true
     → end_in opened name s ≡ followed (text_ended s) ended_after
 end_first name [] s e = absurd cc
 end_first name (o ∷ outer) s e = rw e refl

@@ -5,7 +5,7 @@ use Rattle.std.specs.Prelude.{◌==◌, ◌≢◌, nat_le}
 use Rattle.std.proofs.lemmas.Bool.{le-leb, lt-leb}
 use Rattle.rng_model.specs.documents.Lines.{attribute_limit, open_limit, text_limit}
 use Rattle.rng_model.specs.documents.PyxLines as lines
-use Rattle.rng_model.specs.documents.PyxLines.{Said, WrittenName}
+use Rattle.rng_model.specs.documents.PyxLines.{Said, QName}
 use Rattle.pyx.specs.plain.TagReader.{Element, tag_read}
 use Rattle.pyx.specs.plain.Declarations.{same_written}
 use Rattle.pyx.specs.plain.DocumentReader.{State, Tag, Open, Turn, fault, after_events, declared_in, with_attribute, started, attributed, joined_by, ended, said_read}
@@ -19,25 +19,25 @@ use Rattle.pyx.proofs.StateSteps.{text_step, start_step, end_step, early}
 pub data Move (w : List ℕ) (n : ℕ) (b : ℕ) : Bool → List Open → Said → Turn State → Type 0 where
   instruction_passes : {root : Bool} {os : List Open} {turn : Turn State} → turn ≡ good (inside os w (n + 1) root) []
       → Move w n b root os lines.instruction turn
-  attribute_outside : {root : Bool} {os : List Open} {a : WrittenName} {v : List ℕ} {turn : Turn State} → turn ≡ fault 7 (n + 1)
+  attribute_outside : {root : Bool} {os : List Open} {a : QName} {v : List ℕ} {turn : Turn State} → turn ≡ fault 7 (n + 1)
       → Move w n b root os (lines.attribute a v) turn
   text_joins : {root : Bool} {o : Open} {os : List Open} {v : List ℕ} {turn : Turn State} → length w + length v ≤ text_limit
       → turn ≡ good (inside (o ∷ os) (w ++ v) (n + 1) root) [] → Move w n b root (o ∷ os) (lines.text v) turn
   text_too_long : {root : Bool} {o : Open} {os : List Open} {v : List ℕ} {turn : Turn State} → text_limit < length w + length v → turn ≡ fault 10 (n + 1)
       → Move w n b root (o ∷ os) (lines.text v) turn
   text_outside : {root : Bool} {v : List ℕ} {turn : Turn State} → turn ≡ fault 9 (n + 1) → Move w n b root [] (lines.text v) turn
-  start_begins : {root : Bool} {os : List Open} {name : WrittenName} {turn : Turn State} → (root && length os == 0) ≡ false → length os < open_limit
+  start_begins : {root : Bool} {os : List Open} {name : QName} {turn : Turn State} → (root && length os == 0) ≡ false → length os < open_limit
       → turn ≡ good (in_tag os (begun b name) (n + 1)) (text_event (n + 1) w) → Move w n b root os (lines.start name) turn
-  start_too_deep : {root : Bool} {os : List Open} {name : WrittenName} {turn : Turn State} → open_limit ≤ length os → turn ≡ fault 10 (n + 1)
+  start_too_deep : {root : Bool} {os : List Open} {name : QName} {turn : Turn State} → open_limit ≤ length os → turn ≡ fault 10 (n + 1)
       → Move w n b root os (lines.start name) turn
-  start_again : {name : WrittenName} {turn : Turn State} → turn ≡ fault 9 (n + 1) → Move w n b true [] (lines.start name) turn
-  end_closes : {root : Bool} {o : Open} {os : List Open} {name : WrittenName} {turn : Turn State} → o.name ≡ name
+  start_again : {name : QName} {turn : Turn State} → turn ≡ fault 9 (n + 1) → Move w n b true [] (lines.start name) turn
+  end_closes : {root : Bool} {o : Open} {os : List Open} {name : QName} {turn : Turn State} → o.name ≡ name
       → turn ≡ good (inside os [] (n + 1) root) (text_event (n + 1) w ++ end_event (n + 1)) → Move w n b root (o ∷ os) (lines.end name) turn
-  end_of_other : {root : Bool} {o : Open} {os : List Open} {name : WrittenName} {turn : Turn State} → o.name ≢ name → turn ≡ fault 8 (n + 1)
+  end_of_other : {root : Bool} {o : Open} {os : List Open} {name : QName} {turn : Turn State} → o.name ≢ name → turn ≡ fault 8 (n + 1)
       → Move w n b root (o ∷ os) (lines.end name) turn
-  end_of_none : {root : Bool} {name : WrittenName} {turn : Turn State} → turn ≡ fault 8 (n + 1) → Move w n b root [] (lines.end name) turn
+  end_of_none : {root : Bool} {name : QName} {turn : Turn State} → turn ≡ fault 8 (n + 1) → Move w n b root [] (lines.end name) turn
 
-attribute_refused : (os : List Open) (w : List ℕ) (n : ℕ) (root : Bool) (b : ℕ) (a : WrittenName) (v : List ℕ)
+attribute_refused : (os : List Open) (w : List ℕ) (n : ℕ) (root : Bool) (b : ℕ) (a : QName) (v : List ℕ)
     → said_line b (lines.attribute a v) (inside os w n root) ≡ fault 7 (n + 1)
 unfolding said_line said_read attributed
 attribute_refused os w n root b a v = refl
@@ -51,28 +51,28 @@ text_first : (w : List ℕ) (n : ℕ) (root : Bool) (b : ℕ) (v : List ℕ) →
 unfolding said_line said_read joined_by
 text_first w n root b v = refl
 
-start_deep : (os : List Open) (w : List ℕ) (n : ℕ) (root : Bool) (b : ℕ) (name : WrittenName) → (root && length os == 0) ≡ false
+start_deep : (os : List Open) (w : List ℕ) (n : ℕ) (root : Bool) (b : ℕ) (name : QName) → (root && length os == 0) ≡ false
     → open_limit ≤ length os → said_line b (lines.start name) (inside os w n root) ≡ fault 10 (n + 1)
 unfolding said_line said_read started
 start_deep os w n root b name fits h = rw (fits, le-leb open_limit (length os) h) refl
 
-start_second : (w : List ℕ) (n : ℕ) (b : ℕ) (name : WrittenName) → said_line b (lines.start name) (inside [] w n true) ≡ fault 9 (n + 1)
+start_second : (w : List ℕ) (n : ℕ) (b : ℕ) (name : QName) → said_line b (lines.start name) (inside [] w n true) ≡ fault 9 (n + 1)
 unfolding said_line said_read started
 start_second w n b name = refl
 
-end_refused : (o : Open) (os : List Open) (w : List ℕ) (n : ℕ) (root : Bool) (b : ℕ) (name : WrittenName) → same_written o.name name ≡ false
+end_refused : (o : Open) (os : List Open) (w : List ℕ) (n : ℕ) (root : Bool) (b : ℕ) (name : QName) → same_written o.name name ≡ false
     → said_line b (lines.end name) (inside (o ∷ os) w n root) ≡ fault 8 (n + 1)
 unfolding said_line said_read ended
 end_refused o os w n root b name e = rw e refl
 
-end_first : (w : List ℕ) (n : ℕ) (root : Bool) (b : ℕ) (name : WrittenName) → said_line b (lines.end name) (inside [] w n root) ≡ fault 8 (n + 1)
+end_first : (w : List ℕ) (n : ℕ) (root : Bool) (b : ℕ) (name : QName) → said_line b (lines.end name) (inside [] w n root) ≡ fault 8 (n + 1)
 unfolding said_line said_read ended
 end_first w n root b name = refl
 
 true_false : true ≡ false → ⊥
 true_false e = cc
 
-start_moves : (os : List Open) (w : List ℕ) (n b : ℕ) (root : Bool) (name : WrittenName) → (root && length os == 0) ≡ false
+start_moves : (os : List Open) (w : List ℕ) (n b : ℕ) (root : Bool) (name : QName) → (root && length os == 0) ≡ false
     → Move w n b root os (lines.start name) (said_line b (lines.start name) (inside os w n root))
 start_moves os w n b root name fits = go (nat_le open_limit (length os)) refl where
   go : (x : Bool) → nat_le open_limit (length os) ≡ x → Move w n b root os (lines.start name) (said_line b (lines.start name) (inside os w n root))
@@ -100,9 +100,9 @@ moves (o ∷ os) w n b root (lines.end name) = go (same_written o.name name) ref
 
 -- in a tag
 pub data TagMove (os : List Open) (t : Tag) (n : ℕ) (b : ℕ) : Said → Turn State → Type 0 where
-  attribute_added : {a : WrittenName} {v : List ℕ} {turn : Turn State} → length t.declared + length t.others < attribute_limit
+  attribute_added : {a : QName} {v : List ℕ} {turn : Turn State} → length t.declared + length t.others < attribute_limit
       → turn ≡ good (in_tag os (with_attribute b (record { name = a; content = v }) t) (n + 1)) [] → TagMove os t n b (lines.attribute a v) turn
-  attribute_too_many : {a : WrittenName} {v : List ℕ} {turn : Turn State} → attribute_limit ≤ length t.declared + length t.others
+  attribute_too_many : {a : QName} {v : List ℕ} {turn : Turn State} → attribute_limit ≤ length t.declared + length t.others
       → turn ≡ fault 10 (n + 1) → TagMove os t n b (lines.attribute a v) turn
   tag_refused : {x : Said} {turn : Turn State} (clause : ℕ) → is_attribute x ≡ false
       → tag_read (declared_in os) t.name t.declared t.others ≡ Err clause → turn ≡ fault clause n → TagMove os t n b x turn
@@ -110,7 +110,7 @@ pub data TagMove (os : List Open) (t : Tag) (n : ℕ) (b : ℕ) : Said → Turn 
       → tag_read (declared_in os) t.name t.declared t.others ≡ Ok e → Move [] n b true (open_of t ∷ os) x inner
       → turn ≡ after_events (start_event (n + 1) e) inner → TagMove os t n b x turn
 
-attribute_full : (os : List Open) (t : Tag) (n b : ℕ) (a : WrittenName) (v : List ℕ) → attribute_limit ≤ length t.declared + length t.others
+attribute_full : (os : List Open) (t : Tag) (n b : ℕ) (a : QName) (v : List ℕ) → attribute_limit ≤ length t.declared + length t.others
     → said_line b (lines.attribute a v) (in_tag os t n) ≡ fault 10 (n + 1)
 unfolding said_line said_read attributed
 attribute_full os t n b a v h = rw (le-leb attribute_limit (length t.declared + length t.others) h) refl

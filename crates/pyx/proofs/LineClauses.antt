@@ -12,7 +12,7 @@ use Rattle.pyx.proofs.LineTexts.{read_when_utf8}
 use Rattle.rng_model.specs.names.Names.{is_xml_char}
 use Rattle.rng_model.specs.names.Lists.{IsLeast}
 use Rattle.rng_model.specs.documents.Lines.{Line, line_limit, HasKind}
-use Rattle.rng_model.specs.documents.PyxLines.{WrittenName, IsName, IsNoName, Said, start, attribute, text, end, instruction, Says, says_start, says_attribute}
+use Rattle.rng_model.specs.documents.PyxLines.{QName, IsName, IsNoName, Said, start, attribute, text, end, instruction, Says, says_start, says_attribute}
 use Rattle.rng_model.specs.documents.PyxLines.{says_text}
 use Rattle.rng_model.specs.documents.PyxLines.{says_end, says_instruction, IsGoodLine, HasNoKind, IsCutAtSpace, StandsForNothing, BreaksAlone, unended, no_utf8}
 use Rattle.rng_model.specs.documents.PyxLines.{no_xml_char, no_kind, bad_text, bad_value, bad_start_name, bad_end_name, bad_attribute_name, no_space}
@@ -42,7 +42,7 @@ abbrev Tells : List ℕ → Read Said → Type 0
 Tells bytes (Ok said) = Says bytes said
 Tells bytes (Err k) = (l : Line) → l.bytes ≡ bytes → BreaksAlone l k
 
-named_tells : (said : WrittenName → Said) (name bytes : List ℕ) → IsUtf8 name → ((n : WrittenName) → IsName name n → Says bytes (said n)) →
+named_tells : (said : QName → Said) (name bytes : List ℕ) → IsUtf8 name → ((n : QName) → IsName name n → Says bytes (said n)) →
     (IsNoName name → (l : Line) → l.bytes ≡ bytes → BreaksAlone l 6) → Tells bytes (named said name)
 unfolding named
 named_tells said name bytes u says breaks = go (is_name name) refl where

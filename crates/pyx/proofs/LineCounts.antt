@@ -4,7 +4,7 @@ use Rattle.std.proofs.Common.{arith, lit≤}
 use Rattle.std.specs.Prelude.{nat_le, is_some}
 use Rattle.rng_model.specs.documents.Lines.{Line, open_limit, Fault}
 use Rattle.rng_model.specs.documents.PyxLines as lines
-use Rattle.rng_model.specs.documents.PyxLines.{Said, WrittenName}
+use Rattle.rng_model.specs.documents.PyxLines.{Said, QName}
 use Rattle.rng_model.specs.documents.PyxNamespaces.{WrittenAttribute}
 use Rattle.rng_model.specs.documents.PyxTrees.{Event}
 use Rattle.pyx.specs.plain.Cuts.{behind}
@@ -63,7 +63,7 @@ text_within s = if_within _ _ _ _ _ (ok_within s.count _ s _ refl (omega arith))
 abbrev More : ℕ → State → Turn State → Type 0
 More bytes s turn = Within s.count (tag_bytes s.tag + bytes) turn
 
-started_within : (bytes : ℕ) (name : WrittenName) (s : State) → More bytes s (started bytes name s)
+started_within : (bytes : ℕ) (name : QName) (s : State) → More bytes s (started bytes name s)
 unfolding started
 started_within bytes name s = if_within _ _ (s.root && is_outside s) (fault 9 s.count)
     (cond (nat_le open_limit (length s.opened)) (fault 10 s.count) (followed (text_ended s) (λ s. silent (begin_tag bytes name s)))) (fault_within _ _ _ _)
@@ -86,7 +86,7 @@ joined_within : (value : List ℕ) (bytes : ℕ) (s : State) → More bytes s (j
 unfolding joined_by
 joined_within value bytes s = if_within _ _ _ _ _ (fault_within _ _ _ _) (if_within _ _ _ _ _ (ok_within _ _ _ _ refl (omega arith)) (fault_within _ _ _ _))
 
-end_within : (os : List Open) (name : WrittenName) (bytes : ℕ) (s : State) → More bytes s (end_in os name s)
+end_within : (os : List Open) (name : QName) (bytes : ℕ) (s : State) → More bytes s (end_in os name s)
 end_within [] name bytes s = fault_within _ _ _ _
 end_within (o ∷ outer) name bytes s = if_within _ _ _ _ _ (followed_within _ _ (text_ended s) _
     (λ t e. ok_within _ _ _ _ ((text_within s).at t e).0 (omega (arith, ((text_within s).at t e).1)))) (fault_within _ _ _ _)

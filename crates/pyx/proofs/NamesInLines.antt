@@ -13,7 +13,7 @@ use Rattle.std.proofs.lemmas.Str.Ascii.{IsAscii-nil, IsAscii-cons}
 use Rattle.std.proofs.Math.Bool.{and-false}
 use Rattle.rng_model.proofs.Truths.{number_itself}
 use Rattle.rng_model.specs.names.Names.{is_ncname, is_name_start, is_name_char, is_colon}
-use Rattle.rng_model.specs.documents.PyxLines.{WrittenName, IsNcnameText, IsName, alone, prefixed}
+use Rattle.rng_model.specs.documents.PyxLines.{QName, IsNcnameText, IsName, alone, prefixed}
 use Rattle.pyx.specs.plain.Cuts.{at_byte, at_front}
 use Rattle.pyx.specs.plain.WrittenNames.{written_of, cut_name}
 use Rattle.pyx.specs.plain.LineReader.{is_name, are_ncnames}
@@ -129,12 +129,12 @@ no_space_in bytes n = ncname_without 32 bytes (lit< tt) refl refl n
 
 -- ---- names
 
-pub name_is : {bytes : List ℕ} {name : WrittenName} → IsName bytes name → (is_name bytes ≡ true) × (written_of bytes ≡ name)
+pub name_is : {bytes : List ℕ} {name : QName} → IsName bytes name → (is_name bytes ≡ true) × (written_of bytes ≡ name)
 unfolding is_name written_of
 name_is (alone {local} n) = rw (at_none 58 local (no_colon local n), n.ncname) (refl, refl)
 name_is (prefixed {text = bytes} {prefix = p} {local} m n e) = rw (e, at_seam 58 p local (no_colon p m), m.ncname, n.ncname) (refl, refl)
 
-pub name_has_no_space : {bytes : List ℕ} {name : WrittenName} → IsName bytes name → AllByRecursion (λ c. c ≢ 32) bytes
+pub name_has_no_space : {bytes : List ℕ} {name : QName} → IsName bytes name → AllByRecursion (λ c. c ≢ 32) bytes
 name_has_no_space (alone {local} n) = no_space_in local n
 name_has_no_space (prefixed {text = bytes} {prefix = p} {local} m n e) = subst (AllByRecursion (λ c. c ≢ 32)) (sym e)
     (all_append 32 p (58 ∷ local) (no_space_in p m) (differs 58 32 refl, no_space_in local n))

@@ -7,7 +7,7 @@ use Rattle.std.proofs.lemmas.List.Sums.{sum_by_push}
 use Rattle.rng_model.specs.names.Lists.{HasTwice}
 use Rattle.rng_model.specs.documents.Lines.{Line, attribute_limit, open_limit, text_limit, HasKind, nothing, EndsInTag}
 use Rattle.rng_model.specs.documents.PyxLines as said
-use Rattle.rng_model.specs.documents.PyxLines.{Said, WrittenName, IsGoodLine, AreGoodLines, no_lines, line_and}
+use Rattle.rng_model.specs.documents.PyxLines.{Said, QName, IsGoodLine, AreGoodLines, no_lines, line_and}
 use Rattle.rng_model.specs.documents.PyxNamespaces.{WrittenAttribute, AreWritten, none_written, written_and, AreParted, NamespaceScope}
 use Rattle.rng_model.specs.documents.PyxClauses as model
 use Rattle.rng_model.specs.documents.PyxClauses.{AreOpenTags, none_open, SaysTag, HasScope, no_tags, one_tag, EndsInText}
@@ -30,7 +30,7 @@ use Rattle.pyx.proofs.JoinedText.{said_same, good_same, good_line_more, good_kin
 
 -- ---- the content of a tag is unique
 
-start_same : {a b : WrittenName} → said.start a ≡ said.start b → a ≡ b
+start_same : {a b : QName} → said.start a ≡ said.start b → a ≡ b
 start_same e = cc
 
 written_same : {xs : List Said} {as_written others : List WrittenAttribute} → AreWritten xs as_written → AreWritten xs others → as_written ≡ others
@@ -38,7 +38,7 @@ written_same none_written none_written = refl
 written_same (written_and {name} {content} m) (written_and n) =
     ap (λ (x : List WrittenAttribute). record { name = name; content = content } ∷ x) (written_same m n)
 
-pub says_same : {tag : model.Tag} {a b : WrittenName} {ws vs : List WrittenAttribute} → SaysTag tag a ws → SaysTag tag b vs → (a ≡ b) × (ws ≡ vs)
+pub says_same : {tag : model.Tag} {a b : QName} {ws vs : List WrittenAttribute} → SaysTag tag a ws → SaysTag tag b vs → (a ≡ b) × (ws ≡ vs)
 says_same {ws = ws} {vs = vs} d e = (
   start_same (said_same d.first e.first),
   written_same (subst (λ (x : List Said). AreWritten x ws) (good_same d.attributes e.attributes) d.are_written) e.are_written,
@@ -211,7 +211,7 @@ module _ (front : List Line) (l : Line) where
       → (outer : List model.Tag) × AreOpenTags after outer × AreMatched outer os
   closed_by d (one_matched {tags = outer} s p n m) h = (outer, open_end l d h, m)
 
-  pub after_end : {o : Open} {os : List Open} {w : List ℕ} {n : ℕ} {root : Bool} {name : WrittenName} → Content front (o ∷ os) w n root
+  pub after_end : {o : Open} {os : List Open} {w : List ℕ} {n : ℕ} {root : Bool} {name : QName} → Content front (o ∷ os) w n root
       → IsGoodLine l (said.end name) → Place after (inside os [] (n + 1) root)
   after_end {name = name} c g =
       let h = good_kind g in
@@ -230,7 +230,7 @@ module _ (front : List Line) (l : Line) where
         deep = omega (arith, c.deep);
       }) (untagged front l (other_kind 41 40 l (λ q. absurd (omega (arith, q))) h) (other_kind 41 65 l (λ q. absurd (omega (arith, q))) h))
 
-  pub after_start : {os : List Open} {w : List ℕ} {n b : ℕ} {root : Bool} {name : WrittenName} → Content front os w n root
+  pub after_start : {os : List Open} {w : List ℕ} {n b : ℕ} {root : Bool} {name : QName} → Content front os w n root
       → IsGoodLine l (said.start name) → length os < open_limit → b ≡ length l.bytes → Place after (in_tag os (begun b name) (n + 1))
   after_start {name = name} c g h40 size =
       let h = good_kind g in
@@ -259,12 +259,12 @@ module _ (front : List Line) (l : Line) where
     go true = refl
     go false = refl
 
-  written_more : {xs : List Said} {ws : List WrittenAttribute} (a : WrittenName) (v : List ℕ) → AreWritten xs ws
+  written_more : {xs : List Said} {ws : List WrittenAttribute} (a : QName) (v : List ℕ) → AreWritten xs ws
       → AreWritten (xs ++ said.attribute a v ∷ []) (ws ++ record { name = a; content = v } ∷ [])
   written_more a v none_written = written_and none_written
   written_more a v (written_and d) = written_and (written_more a v d)
 
-  pub after_attribute : {os : List Open} {t : Tag} {n : ℕ} (b : ℕ) (a : WrittenName) (v : List ℕ) → Within front os t n → IsGoodLine l (said.attribute a v)
+  pub after_attribute : {os : List Open} {t : Tag} {n : ℕ} (b : ℕ) (a : QName) (v : List ℕ) → Within front os t n → IsGoodLine l (said.attribute a v)
       → length t.declared + length t.others < attribute_limit → b ≡ length l.bytes
       → Place after (in_tag os (with_attribute b (record { name = a; content = v }) t) (n + 1))
   after_attribute {t = t} b a v c g room size =
@@ -281,7 +281,7 @@ module _ (front : List Line) (l : Line) where
         matched = c.matched;
         written = c.written ++ w ∷ [];
         says_tag = record {
-          first = subst (λ (x : WrittenName). IsGoodLine c.ends.tag (said.start x)) (sym k.name) c.says_tag.first;
+          first = subst (λ (x : QName). IsGoodLine c.ends.tag (said.start x)) (sym k.name) c.says_tag.first;
           said = c.says_tag.said ++ said.attribute a v ∷ [];
           attributes = good_line_more c.says_tag.attributes g;
           are_written = written_more a v c.says_tag.are_written;

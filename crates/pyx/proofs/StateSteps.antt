@@ -6,7 +6,7 @@ use Rattle.std.proofs.lemmas.Bool.{lt-leb, le-leb}
 use Rattle.std.proofs.lemmas.List.{append-nil}
 use Rattle.rng_model.specs.documents.Lines.{attribute_limit, open_limit, text_limit}
 use Rattle.rng_model.specs.documents.PyxLines as lines
-use Rattle.rng_model.specs.documents.PyxLines.{Said, WrittenName}
+use Rattle.rng_model.specs.documents.PyxLines.{Said, QName}
 use Rattle.rng_model.specs.documents.PyxTrees.{Event, a_start, a_string, an_end}
 use Rattle.pyx.specs.plain.TagReader.{Element, tag_read}
 use Rattle.pyx.specs.plain.Declarations.{same_written}
@@ -23,7 +23,7 @@ inside os t n root = record { tag = None; opened = os; joined = t; root = root; 
 abbrev pub in_tag : List Open → Tag → ℕ → State
 in_tag os t n = record { tag = Some t; opened = os; joined = []; root = true; count = n }
 
-abbrev pub begun : ℕ → WrittenName → Tag
+abbrev pub begun : ℕ → QName → Tag
 begun bytes name = record { name = name; declared = []; others = []; bytes = bytes }
 
 abbrev pub open_of : Tag → Open
@@ -51,7 +51,7 @@ unfolding text_ended
 text_out os [] n root = refl
 text_out os (c ∷ t) n root = rw (not_zero (length t)) refl
 
-pub attribute_step : (os : List Open) (t : Tag) (n b : ℕ) (a : WrittenName) (v : List ℕ) → length t.declared + length t.others < attribute_limit
+pub attribute_step : (os : List Open) (t : Tag) (n b : ℕ) (a : QName) (v : List ℕ) → length t.declared + length t.others < attribute_limit
     → said_line b (lines.attribute a v) (in_tag os t n) ≡ good (in_tag os (with_attribute b (record { name = a; content = v }) t) (n + 1)) []
 unfolding said_line said_read attributed
 attribute_step os t n b a v h = rw (lt-leb attribute_limit (length t.declared + length t.others) h) refl
@@ -66,12 +66,12 @@ pub text_step : (o : Open) (os : List Open) (t : List ℕ) (n : ℕ) (root : Boo
 unfolding said_line said_read joined_by
 text_step o os t n root b v h = rw (not_zero (length os), le-leb (length t + length v) text_limit h) refl
 
-pub start_step : (os : List Open) (t : List ℕ) (n : ℕ) (root : Bool) (b : ℕ) (name : WrittenName) → (root && length os == 0) ≡ false
+pub start_step : (os : List Open) (t : List ℕ) (n : ℕ) (root : Bool) (b : ℕ) (name : QName) → (root && length os == 0) ≡ false
     → length os < open_limit → said_line b (lines.start name) (inside os t n root) ≡ good (in_tag os (begun b name) (n + 1)) (text_event (n + 1) t)
 unfolding said_line said_read started
 start_step os t n root b name fits h = rw (fits, lt-leb open_limit (length os) h, text_out os t (n + 1) root, append-nil) refl
 
-pub end_step : (o : Open) (os : List Open) (t : List ℕ) (n : ℕ) (root : Bool) (b : ℕ) (name : WrittenName) → o.name ≡ name
+pub end_step : (o : Open) (os : List Open) (t : List ℕ) (n : ℕ) (root : Bool) (b : ℕ) (name : QName) → o.name ≡ name
     → said_line b (lines.end name) (inside (o ∷ os) t n root) ≡ good (inside os [] (n + 1) root) (text_event (n + 1) t ++ end_event (n + 1))
 unfolding said_line said_read ended
 end_step o os t n root b name e = rw (same, text_out (o ∷ os) t (n + 1) root) refl where

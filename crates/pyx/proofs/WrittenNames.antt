@@ -6,7 +6,7 @@ use Rattle.std.proofs.lemmas.Bool.{eqb-true, and_parts}
 use Rattle.std.proofs.lemmas.List.{length-append}
 use Rattle.rng_model.proofs.Texts.{bytes_same, bytes_itself}
 use Rattle.rng_model.specs.documents.PyxHeld.{prefix_length, name_length}
-use Rattle.rng_model.specs.documents.PyxLines.{WrittenName}
+use Rattle.rng_model.specs.documents.PyxLines.{QName}
 use Rattle.pyx.specs.plain.Cuts.{at_byte, at_front}
 use Rattle.pyx.specs.plain.WrittenNames.{written_of, cut_name}
 use Rattle.pyx.specs.plain.Declarations.{same_prefix, same_written}
@@ -16,7 +16,7 @@ abbrev pub bytes_of_prefix : Option (List ℕ) → List ℕ → List ℕ
 bytes_of_prefix None local = local
 bytes_of_prefix (Some p) local = p ++ 58 ∷ local
 
-abbrev pub written_bytes : WrittenName → List ℕ
+abbrev pub written_bytes : QName → List ℕ
 written_bytes name = bytes_of_prefix name.prefix name.local
 
 -- the part before the first of a byte, the byte, and the part after it are the whole
@@ -50,14 +50,14 @@ pub prefix_itself : (p : Option (List ℕ)) → same_prefix p p ≡ true
 prefix_itself None = refl
 prefix_itself (Some p) = bytes_itself p
 
-pub written_same : (a b : WrittenName) → same_written a b ≡ true → a ≡ b
+pub written_same : (a b : QName) → same_written a b ≡ true → a ≡ b
 written_same a b e = let p = and_parts (same_prefix a.prefix b.prefix) (bytes_eq a.local b.local) e in
     join a.prefix b.prefix a.local b.local (prefix_same a.prefix b.prefix p.0) (bytes_same a.local b.local p.1) where
-      join : (p q : Option (List ℕ)) (x y : List ℕ) → p ≡ q → x ≡ y → ◌≡◌ {A = WrittenName} (record { prefix = p; local = x })
+      join : (p q : Option (List ℕ)) (x y : List ℕ) → p ≡ q → x ≡ y → ◌≡◌ {A = QName} (record { prefix = p; local = x })
           (record { prefix = q; local = y })
       join p q x y e f = rw (e, f) refl
 
-pub written_itself : (a : WrittenName) → same_written a a ≡ true
+pub written_itself : (a : QName) → same_written a a ≡ true
 written_itself a = rw (prefix_itself a.prefix, bytes_itself a.local) refl
 
 pub written_alike : (x y : List ℕ) → same_written (written_of x) (written_of y) ≡ bytes_eq x y

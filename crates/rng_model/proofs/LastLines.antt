@@ -2,7 +2,7 @@
 use Rattle.std.proofs.Common.{◌≡◌, ℕ, List, [], ◌∷◌, ◌++◌, length, Option, Some, None, ◌∙◌, refl, sym, ap, subst}
 use Rattle.std.specs.Prelude.{◌≤◌}
 use Rattle.rng_model.specs.documents.Lines.{Line, line_limit}
-use Rattle.rng_model.specs.documents.PyxLines.{WrittenName, Said, IsGoodLine, AreGoodLines, no_lines, line_and}
+use Rattle.rng_model.specs.documents.PyxLines.{QName, Said, IsGoodLine, AreGoodLines, no_lines, line_and}
 use Rattle.rng_model.specs.documents.PyxNamespaces.{WrittenAttribute, NamespaceScope}
 use Rattle.rng_model.specs.documents.PyxClauses.{EndsWithTag}
 
@@ -27,7 +27,7 @@ last_is_within good_line no_lines = good_line.within
 last_is_within good_line (line_and next more) = last_is_within next more
 
 -- so a line that ends a tag is not too long, if the lines of the tag have a meaning
-pub tag_is_within : (before : List Line) (l : Line) {outer : NamespaceScope} {name : WrittenName} {written : List WrittenAttribute} →
+pub tag_is_within : (before : List Line) (l : Line) {outer : NamespaceScope} {name : QName} {written : List WrittenAttribute} →
     EndsWithTag (before ++ l ∷ []) outer name written → length l.bytes ≤ line_limit
 unfolding last_of IsWithin
 tag_is_within before l tag =

@@ -10,7 +10,7 @@ use Rattle.rng_model.specs.names.Names.{Name, is_xml_char}
 use Rattle.rng_model.specs.documents.Lines.{Line, lines, line_limit, Fault, HasKind, IsBefore}
 use Rattle.rng_model.specs.matching.Document.{none}
 use Rattle.rng_model.specs.documents.PyxLines as pyx
-use Rattle.rng_model.specs.documents.PyxLines.{WrittenName, StandsFor, at_end, itself, line_feed, backslash, start, text, end, says_start, says_text, says_end}
+use Rattle.rng_model.specs.documents.PyxLines.{QName, StandsFor, at_end, itself, line_feed, backslash, start, text, end, says_start, says_text, says_end}
 use Rattle.rng_model.specs.documents.PyxLines.{no_lines, line_and, StandsForNothing, BreaksAlone}
 use Rattle.rng_model.specs.documents.PyxNamespaces.{none_written, nothing, declared_outside, no_default, element_name, none_left}
 use Rattle.rng_model.specs.documents.Lines as faults
@@ -39,7 +39,7 @@ no_such_escape value (itself differs more) = differs refl
 
 -- ---- a document
 
-abbrev name_a : WrittenName
+abbrev name_a : QName
 name_a = record { prefix = None; local = codes "a" }
 
 abbrev expanded_a : Name

@@ -5,7 +5,7 @@ use Rattle.std.specs.List.{AllByRecursion}
 use Rattle.rng_model.specs.matching.Document.{Attribute, Distinct}
 use Rattle.rng_model.specs.names.Lists.{Among, here, there}
 use Rattle.rng_model.specs.names.Names.{Name}
-use Rattle.rng_model.specs.documents.PyxLines.{WrittenName}
+use Rattle.rng_model.specs.documents.PyxLines.{QName}
 use Rattle.rng_model.specs.documents.PyxNamespaces.{WrittenAttribute, NamespaceDeclaration, IsForbidden, NamesElement, AreExpanded, none_left, expanded_and}
 use Rattle.rng_model.specs.documents.PyxClauses.{BreaksNamespaces, forbidden, element_prefix, attribute_prefix, RepeatsName, written_twice, expanded_twice}
 use Rattle.pyx.specs.plain.TagReader as read
@@ -80,32 +80,32 @@ expanded_tells scope (a ∷ more) all = go (attribute_name scope a.name) (expand
 -- ---- the tag
 
 -- the tag breaks no rule about namespaces, and these are its names
-pub record HasNames (outer : Declared) (name : WrittenName) (declared others : List WrittenAttribute) (q : Name) (attrs : List Attribute) : Type 0 where
+pub record HasNames (outer : Declared) (name : QName) (declared others : List WrittenAttribute) (q : Name) (attrs : List Attribute) : Type 0 where
   pub allowed : AllByRecursion (λ d. IsForbidden d → ⊥) (map declaration_of declared)
   pub is_named : NamesElement (scope_in (declared ∷ outer)) name q
   pub are_expanded : AreExpanded (scope_in (declared ∷ outer)) others attrs
   pub is_expanded : expanded (declared ∷ outer) others ≡ Some attrs
 
 -- the element that is read from a tag
-pub record IsRead (outer : Declared) (name : WrittenName) (declared others : List WrittenAttribute) (e : Element) : Type 0 where
+pub record IsRead (outer : Declared) (name : QName) (declared others : List WrittenAttribute) (e : Element) : Type 0 where
   pub names : HasNames outer name declared others e.name e.attrs
   pub distinct : Distinct e.attrs
   pub once : is_written_twice declared ≡ false
 
 -- a name occurs twice in the tag, which has names
-pub record Repeats (outer : Declared) (name : WrittenName) (written declared others : List WrittenAttribute) : Type 0 where
+pub record Repeats (outer : Declared) (name : QName) (written declared others : List WrittenAttribute) : Type 0 where
   pub q : Name
   pub attrs : List Attribute
   pub names : HasNames outer name declared others q attrs
   pub twice : RepeatsName (scope_in outer) written
 
 -- P11, or P12
-abbrev pub TagTells : Declared → WrittenName → List WrittenAttribute → List WrittenAttribute → List WrittenAttribute → Result Element ℕ → Type 0
+abbrev pub TagTells : Declared → QName → List WrittenAttribute → List WrittenAttribute → List WrittenAttribute → Result Element ℕ → Type 0
 TagTells outer name written declared others (Ok e) = IsRead outer name declared others e
 TagTells outer name written declared others (Err k) = ((k ≡ 11) × BreaksNamespaces (scope_in outer) name written) ⊎
     ((k ≡ 12) × Repeats outer name written declared others)
 
-module _ (outer : Declared) (name : WrittenName) (written declared others : List WrittenAttribute) (split : IsSplit written declared others) where
+module _ (outer : Declared) (name : QName) (written declared others : List WrittenAttribute) (split : IsSplit written declared others) where
   repeats_tell : (q : Name) (attrs : List Attribute) → HasNames outer name declared others q attrs
       → TagTells outer name written declared others (with_attributes q declared (Some attrs))
   repeats_tell q attrs n = go (is_written_twice declared) (is_named_twice attrs) refl refl where

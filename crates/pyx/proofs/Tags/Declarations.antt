@@ -5,7 +5,7 @@ use Rattle.std.specs.List.{AllByRecursion}
 use Rattle.std.specs.Str.{bytes_eq}
 use Rattle.std.proofs.lemmas.Option.{none-some, same_Some}
 use Rattle.rng_model.proofs.Texts.{bytes_same, bytes_itself, no_bytes}
-use Rattle.rng_model.specs.documents.PyxLines.{WrittenName}
+use Rattle.rng_model.specs.documents.PyxLines.{QName}
 use Rattle.rng_model.specs.documents.PyxNamespaces.{WrittenAttribute, NamespaceDeclaration, xmlns, xmlns_uri, Declares, default_namespace, prefix_declared}
 use Rattle.rng_model.specs.names.Names.{xml_uri}
 use Rattle.rng_model.specs.documents.PyxNamespaces.{DeclaresNothing, AreParted, nothing, declaration, other, IsForbidden, of_xmlns_uri, of_xmlns, of_nothing}
@@ -29,14 +29,14 @@ declares_by (Some x) local p e = go (bytes_eq x xmlns) refl e where
       (subst (λ (y : Option (List ℕ)). Declares (record { prefix = Some xmlns; local = local }) y) (same_Some (Some local) p k) prefix_declared)
   go false q k = absurd (none-some p k)
 
-pub declares_it : (name : WrittenName) (p : Option (List ℕ)) → declared_by name ≡ Some p → Declares name p
+pub declares_it : (name : QName) (p : Option (List ℕ)) → declared_by name ≡ Some p → Declares name p
 declares_it name p e = declares_by name.prefix name.local p e
 
-pub is_declared : {name : WrittenName} {p : Option (List ℕ)} → Declares name p → declared_by name ≡ Some p
+pub is_declared : {name : QName} {p : Option (List ℕ)} → Declares name p → declared_by name ≡ Some p
 is_declared default_namespace = refl
 is_declared (prefix_declared {p}) = refl
 
-pub declares_nothing : (name : WrittenName) → declared_by name ≡ None → DeclaresNothing name
+pub declares_nothing : (name : QName) → declared_by name ≡ None → DeclaresNothing name
 declares_nothing name e = λ p d. none-some p (sym e ∙ is_declared d)
 
 -- ---- declarations and others

@@ -12,7 +12,7 @@ use Rattle.rng_model.specs.matching.Document.{Attribute, Distinct}
 use Rattle.rng_model.specs.names.Lists.{Among, here, there, HasTwice, at_first, later}
 use Rattle.rng_model.specs.names.Names.{Name}
 use Rattle.rng_model.specs.documents.Lines.{attribute_limit}
-use Rattle.rng_model.specs.documents.PyxLines.{Said, WrittenName}
+use Rattle.rng_model.specs.documents.PyxLines.{Said, QName}
 use Rattle.rng_model.specs.documents.PyxNamespaces.{WrittenAttribute, AreWritten, NamespaceDeclaration, Declares, default_namespace, prefix_declared, AreParted}
 use Rattle.rng_model.specs.documents.PyxNamespaces.{nothing}
 use Rattle.rng_model.specs.documents.PyxNamespaces.{declaration}
@@ -43,31 +43,31 @@ nowhere : {A : Type 0} {x : A} {xs : List A} → Among x xs → xs ≡ [] → �
 nowhere here e = cc
 nowhere (there m) e = cc
 
-among_declared : {all ds os : List WrittenAttribute} {name : WrittenName} {names : List WrittenName} → IsSplit all ds os → Among name names
+among_declared : {all ds os : List WrittenAttribute} {name : QName} {names : List QName} → IsSplit all ds os → Among name names
     → names ≡ names_of all → is_some (declared_by name) ≡ true → Among name (names_of ds)
 among_declared no_lines m e s = absurd (nowhere m e)
-among_declared {name = name} (declares {a} {p} {all} {ds} d r) here e s = subst (λ (x : WrittenName). Among x (names_of (a ∷ ds))) (sym (same_first e)) here
+among_declared {name = name} (declares {a} {p} {all} {ds} d r) here e s = subst (λ (x : QName). Among x (names_of (a ∷ ds))) (sym (same_first e)) here
 among_declared (declares d r) (there m) e s = there (among_declared r m (same_rest e) s)
 among_declared {name = name} (declares_none {a} d r) here e s =
-    absurd (true_false (sym s ∙ ap (λ (x : WrittenName). is_some (declared_by x)) (same_first e) ∙ ap is_some d))
+    absurd (true_false (sym s ∙ ap (λ (x : QName). is_some (declared_by x)) (same_first e) ∙ ap is_some d))
 among_declared (declares_none d r) (there m) e s = among_declared r m (same_rest e) s
 
-among_others : {all ds os : List WrittenAttribute} {name : WrittenName} {names : List WrittenName} → IsSplit all ds os → Among name names
+among_others : {all ds os : List WrittenAttribute} {name : QName} {names : List QName} → IsSplit all ds os → Among name names
     → names ≡ names_of all → declared_by name ≡ None → Among name (names_of os)
 among_others no_lines m e s = absurd (nowhere m e)
 among_others (declares {a} {p} d r) here e s = absurd (none-some p (sym s ∙ ap declared_by (same_first e) ∙ d))
 among_others (declares d r) (there m) e s = among_others r m (same_rest e) s
-among_others (declares_none {a} {all} {ds} {os} d r) here e s = subst (λ (x : WrittenName). Among x (names_of (a ∷ os))) (sym (same_first e)) here
+among_others (declares_none {a} {all} {ds} {os} d r) here e s = subst (λ (x : QName). Among x (names_of (a ∷ os))) (sym (same_first e)) here
 among_others (declares_none d r) (there m) e s = there (among_others r m (same_rest e) s)
 
-twice_split : {all ds os : List WrittenAttribute} {names : List WrittenName} → IsSplit all ds os → HasTwice names → names ≡ names_of all
+twice_split : {all ds os : List WrittenAttribute} {names : List QName} → IsSplit all ds os → HasTwice names → names ≡ names_of all
     → HasTwice (names_of ds) ⊎ HasTwice (names_of os)
 twice_split no_lines (at_first m) e = absurd cc
 twice_split no_lines (later t) e = absurd cc
 twice_split (declares {a} {p} {all} {ds} d r) (at_first {x} {xs} m) e =
-    inl (at_first (among_declared r (subst (λ (y : WrittenName). Among y xs) (same_first e) m) (same_rest e) (ap is_some d)))
+    inl (at_first (among_declared r (subst (λ (y : QName). Among y xs) (same_first e) m) (same_rest e) (ap is_some d)))
 twice_split (declares_none {a} d r) (at_first {x} {xs} m) e =
-    inr (at_first (among_others r (subst (λ (y : WrittenName). Among y xs) (same_first e) m) (same_rest e) d))
+    inr (at_first (among_others r (subst (λ (y : QName). Among y xs) (same_first e) m) (same_rest e) d))
 twice_split (declares {a} {p} {all} {ds} {os} d r) (later t) e = go (twice_split r t (same_rest e)) where
   go : HasTwice (names_of ds) ⊎ HasTwice (names_of os) → HasTwice (names_of (a ∷ ds)) ⊎ HasTwice (names_of os)
   go (inl u) = inl (later u)
@@ -79,20 +79,20 @@ twice_split (declares_none {a} {all} {ds} {os} d r) (later t) e = go (twice_spli
 
 -- ---- among the declarations
 
-written_in : {name : WrittenName} {names : List WrittenName} (all : List WrittenAttribute) → Among name names → names ≡ names_of all
+written_in : {name : QName} {names : List QName} (all : List WrittenAttribute) → Among name names → names ≡ names_of all
     → is_written_in name all ≡ true
 unfolding is_written_in
 written_in [] m e = absurd (nowhere m e)
-written_in {name} (a ∷ more) here e = ap (λ (x : WrittenName). same_written x name || is_written_in name more) (sym (same_first e))
+written_in {name} (a ∷ more) here e = ap (λ (x : QName). same_written x name || is_written_in name more) (sym (same_first e))
     ∙ rw (written_itself name) refl
 written_in {name} (a ∷ more) (there m) e = rw (written_in more m (same_rest e)) (or-true (same_written a.name name))
 
-found_twice : {names : List WrittenName} (all : List WrittenAttribute) → HasTwice names → names ≡ names_of all → is_written_twice all ≡ true
+found_twice : {names : List QName} (all : List WrittenAttribute) → HasTwice names → names ≡ names_of all → is_written_twice all ≡ true
 unfolding is_written_twice
 found_twice [] (at_first m) e = absurd cc
 found_twice [] (later t) e = absurd cc
 found_twice (a ∷ more) (at_first {x} {xs} m) e =
-    rw (written_in more (subst (λ (y : WrittenName). Among y xs) (same_first e) m) (same_rest e)) refl
+    rw (written_in more (subst (λ (y : QName). Among y xs) (same_first e) m) (same_rest e)) refl
 found_twice (a ∷ more) (later t) e = rw (found_twice more t (same_rest e)) (or-true (is_written_in a.name more))
 
 -- ---- among the others: two that are written in the same way have one expanded name
@@ -115,7 +115,7 @@ parts_of : (scope : Declared) (a : WrittenAttribute) (more : List WrittenAttribu
 unfolding expanded
 parts_of scope a more attrs e = parts_by scope a more attrs (attribute_name scope a.name) (expanded scope more) refl refl e
 
-named_in : (scope : Declared) (name : WrittenName) (names : List WrittenName) (all : List WrittenAttribute) (attrs : List Attribute) (q : Name)
+named_in : (scope : Declared) (name : QName) (names : List QName) (all : List WrittenAttribute) (attrs : List Attribute) (q : Name)
     → Among name names → names ≡ names_of all → expanded scope all ≡ Some attrs → attribute_name scope name ≡ Some q → is_named_in q attrs ≡ true
 unfolding is_named_in
 named_in scope name names [] attrs q m e x n = absurd (nowhere m e)
@@ -127,7 +127,7 @@ named_in scope name names (a ∷ more) attrs q (there {xs} m) e x n =
     let p = parts_of scope a more attrs x in
     rw (p.is) (ap (λ (b : Bool). same_name p.name q || b) (named_in scope name xs more p.rest q m (same_rest e) p.others n) ∙ or-true (same_name p.name q))
 
-named_twice : (scope : Declared) (names : List WrittenName) (all : List WrittenAttribute) (attrs : List Attribute) → HasTwice names → names ≡ names_of all
+named_twice : (scope : Declared) (names : List QName) (all : List WrittenAttribute) (attrs : List Attribute) → HasTwice names → names ≡ names_of all
     → expanded scope all ≡ Some attrs → is_named_twice attrs ≡ true
 unfolding is_named_twice
 named_twice scope names [] attrs (at_first m) e x = absurd cc
@@ -147,10 +147,10 @@ not_among : {d : NamespaceDeclaration} {ds : List NamespaceDeclaration} → Amon
 not_among here all f = all.0 f
 not_among (there m) all f = not_among m all.1 f
 
-with_namespace : {scope : NamespaceScope} {name : WrittenName} {q : Name} → NamesElement scope name q → (uri : List ℕ) × HasNamespace scope name.prefix uri
+with_namespace : {scope : NamespaceScope} {name : QName} {q : Name} → NamesElement scope name q → (uri : List ℕ) × HasNamespace scope name.prefix uri
 with_namespace (element_name {name} {uri} h) = (uri, h)
 
-with_prefix_of : {scope : NamespaceScope} {name : WrittenName} {q : Name} → NamesAttribute scope name q → (p : List ℕ) → name.prefix ≡ Some p
+with_prefix_of : {scope : NamespaceScope} {name : QName} {q : Name} → NamesAttribute scope name q → (p : List ℕ) → name.prefix ≡ Some p
     → (uri : List ℕ) × HasNamespace scope (Some p) uri
 with_prefix_of without_prefix p e = absurd (none-some p e)
 with_prefix_of {scope} (with_prefix {p = r} {uri} h) p e = (uri, subst (λ (x : List ℕ). HasNamespace scope (Some x) uri) (same_Some r p e) h)
@@ -162,7 +162,7 @@ with_name_of (expanded_and {name} n more) here = (name, n)
 with_name_of (expanded_and n more) (there m) = with_name_of more m
 
 -- a tag with these names breaks no rule about namespaces
-no_breach : {outer : NamespaceScope} {name : WrittenName} {written os : List WrittenAttribute} {ds : List NamespaceDeclaration} {q : Name} {attrs : List Attribute}
+no_breach : {outer : NamespaceScope} {name : QName} {written os : List WrittenAttribute} {ds : List NamespaceDeclaration} {q : Name} {attrs : List Attribute}
     → AreParted written ds os → AllByRecursion (λ d. IsForbidden d → ⊥) ds → NamesElement (ds ∷ outer) name q → AreExpanded (ds ∷ outer) os attrs
     → BreaksNamespaces outer name written → ⊥
 no_breach parted allowed named are (forbidden {d = d} p m f) = not_among (subst (Among d) (parted_same p parted).0 m) allowed f
@@ -178,17 +178,17 @@ no_breach {outer} parted allowed named are (attribute_prefix {a = a} {p = x} p m
 
 -- ---- a prefix that is declared twice is written twice
 
-declares_one : {a b : WrittenName} {p q : Option (List ℕ)} → Declares a p → Declares b q → p ≡ q → a ≡ b
+declares_one : {a b : QName} {p q : Option (List ℕ)} → Declares a p → Declares b q → p ≡ q → a ≡ b
 declares_one default_namespace default_namespace e = refl
 declares_one default_namespace (prefix_declared {p}) e = absurd (none-some p e)
 declares_one (prefix_declared {p}) default_namespace e = absurd (none-some p (sym e))
 declares_one (prefix_declared {p}) (prefix_declared {p = r}) e = rw (same_Some p r e) refl
 
-among_prefixes : {all os : List WrittenAttribute} {ds : List NamespaceDeclaration} {p : Option (List ℕ)} {ps : List (Option (List ℕ))} {name : WrittenName}
+among_prefixes : {all os : List WrittenAttribute} {ds : List NamespaceDeclaration} {p : Option (List ℕ)} {ps : List (Option (List ℕ))} {name : QName}
     → AreParted all ds os → Among p ps → ps ≡ prefixes_of ds → Declares name p → Among name (names_of all)
 among_prefixes nothing m e d = absurd (nowhere m e)
 among_prefixes (declaration {a} {all} c r) here e d =
-    subst (λ (x : WrittenName). Among x (names_of (a ∷ all))) (sym (declares_one d c (same_first e))) here
+    subst (λ (x : QName). Among x (names_of (a ∷ all))) (sym (declares_one d c (same_first e))) here
 among_prefixes (declaration c r) (there m) e d = there (among_prefixes r m (same_rest e) d)
 among_prefixes (other n r) m e d = there (among_prefixes r m e d)
 
@@ -203,7 +203,7 @@ once_declared (other n r) t e = later (once_declared r t e)
 
 -- ---- the results
 
-module _ (outer : Declared) (name : WrittenName) (written declared others : List WrittenAttribute) (split : IsSplit written declared others) where
+module _ (outer : Declared) (name : QName) (written declared others : List WrittenAttribute) (split : IsSplit written declared others) where
   parts : {ds : List NamespaceDeclaration} {os : List WrittenAttribute} → AreParted written ds os → (ds ≡ map declaration_of declared) × (os ≡ others)
   parts p = parted_same p (split_parted split)
 

@@ -8,7 +8,7 @@ use Rattle.std.proofs.lemmas.Option.{none-some, same_Some}
 use Rattle.rng_model.proofs.Texts.{bytes_same, bytes_itself}
 use Rattle.rng_model.specs.names.Lists.{Among, here, there}
 use Rattle.rng_model.specs.names.Names.{Name, xml_uri}
-use Rattle.rng_model.specs.documents.PyxLines.{WrittenName}
+use Rattle.rng_model.specs.documents.PyxLines.{QName}
 use Rattle.rng_model.specs.documents.PyxNamespaces.{WrittenAttribute, NamespaceDeclaration, NamespaceScope, IsDeclared, HasNamespace, declared_here}
 use Rattle.rng_model.specs.documents.PyxNamespaces.{declared_outside}
 use Rattle.rng_model.specs.documents.PyxNamespaces.{xml_beforehand, no_default, NamesElement, element_name, NamesAttribute, without_prefix, with_prefix}
@@ -126,17 +126,17 @@ default_found (ds ∷ outer) = go (found_in None ds) (default_found outer) where
 -- ---- names
 
 -- the name has a prefix that is not declared
-pub record UndeclaredPrefix (scope : Declared) (name : WrittenName) : Type 0 where
+pub record UndeclaredPrefix (scope : Declared) (name : QName) : Type 0 where
   pub prefix : List ℕ
   pub is : name.prefix ≡ Some prefix
   pub undeclared : HasNoNamespace (scope_in scope) prefix
 
 -- the result for the name of an element
-abbrev pub NameTells : Declared → WrittenName → Option Name → Type 0
+abbrev pub NameTells : Declared → QName → Option Name → Type 0
 NameTells scope name None = UndeclaredPrefix scope name
 NameTells scope name (Some q) = NamesElement (scope_in scope) name q
 
-pub element_tells : (scope : Declared) (name : WrittenName) → AllDeclared scope → NameTells scope name (read.element_name scope name)
+pub element_tells : (scope : Declared) (name : QName) → AllDeclared scope → NameTells scope name (read.element_name scope name)
 unfolding read.element_name
 element_tells scope name all = go name.prefix (namespace_of scope name.prefix) refl refl (namespace_tells scope name.prefix all) where
   go : (p o : Option (List ℕ)) → name.prefix ≡ p → namespace_of scope name.prefix ≡ o → Space scope name.prefix o
@@ -146,11 +146,11 @@ element_tells scope name all = go name.prefix (namespace_of scope name.prefix) r
   go (Some p) None e f s = record { prefix = p; is = e; undeclared = subst (λ (x : Option (List ℕ)). Space scope x None) e s }
 
 -- the result for the name of an attribute
-abbrev pub AttributeTells : Declared → WrittenName → Option Name → Type 0
+abbrev pub AttributeTells : Declared → QName → Option Name → Type 0
 AttributeTells scope name None = UndeclaredPrefix scope name
 AttributeTells scope name (Some q) = NamesAttribute (scope_in scope) name q
 
-pub attribute_tells : (scope : Declared) (name : WrittenName) → AllDeclared scope → AttributeTells scope name (attribute_name scope name)
+pub attribute_tells : (scope : Declared) (name : QName) → AllDeclared scope → AttributeTells scope name (attribute_name scope name)
 unfolding attribute_name
 attribute_tells scope name all = by_prefix name.prefix name.local where
   by_prefix : (p : Option (List ℕ)) (local : List ℕ) → AttributeTells scope (record { prefix = p; local = local }) (attribute_in scope p local)

@@ -2,7 +2,7 @@
 use Rattle.std.proofs.Common.{◌≡◌, ℕ, List, [], ◌∷◌, ◌++◌, map, Option, Some, None, sym, ap, subst}
 use Rattle.std.specs.Prelude.{is_some}
 use Rattle.rng_model.specs.names.Lists.{Among, here, there, HasTwice, at_first, later}
-use Rattle.rng_model.specs.documents.PyxLines.{WrittenName}
+use Rattle.rng_model.specs.documents.PyxLines.{QName}
 use Rattle.rng_model.specs.documents.PyxNamespaces.{WrittenAttribute, AreParted, nothing, declaration, other}
 use Rattle.pyx.specs.plain.Declarations.{declared_by}
 use Rattle.pyx.proofs.Tags.Declarations.{declaration_of, prefix_of, AreDeclared, declares_it, declares_nothing}
@@ -41,25 +41,25 @@ split_other (declares d s) a e = declares d (split_other s a e)
 split_other (declares_none d s) a e = declares_none d (split_other s a e)
 
 -- what is among the declarations is among all lines
-among_all : {all ds os : List WrittenAttribute} {name : WrittenName} {names : List WrittenName} → IsSplit all ds os → Among name names → names ≡ names_of ds
+among_all : {all ds os : List WrittenAttribute} {name : QName} {names : List QName} → IsSplit all ds os → Among name names → names ≡ names_of ds
     → Among name (names_of all)
 among_all no_lines m e = absurd (nowhere m e) where
-  nowhere : {x : WrittenName} {xs : List WrittenName} → Among x xs → xs ≡ [] → ⊥
+  nowhere : {x : QName} {xs : List QName} → Among x xs → xs ≡ [] → ⊥
   nowhere here e = cc
   nowhere (there m) e = cc
-among_all {name = name} (declares {a} {p} {all} {ds} d s) here e = subst (λ (x : WrittenName). Among x (names_of (a ∷ all))) (sym (first e)) here where
-  first : {xs : List WrittenName} {x : WrittenName} → x ∷ xs ≡ a.name ∷ names_of ds → x ≡ a.name
+among_all {name = name} (declares {a} {p} {all} {ds} d s) here e = subst (λ (x : QName). Among x (names_of (a ∷ all))) (sym (first e)) here where
+  first : {xs : List QName} {x : QName} → x ∷ xs ≡ a.name ∷ names_of ds → x ≡ a.name
   first e = cc
 among_all (declares {a} {p} {all} {ds} d s) (there m) e = there (among_all s m (rest e)) where
-  rest : {xs : List WrittenName} {x : WrittenName} → x ∷ xs ≡ a.name ∷ names_of ds → xs ≡ names_of ds
+  rest : {xs : List QName} {x : QName} → x ∷ xs ≡ a.name ∷ names_of ds → xs ≡ names_of ds
   rest e = cc
 among_all (declares_none d s) m e = there (among_all s m e)
 
-pub twice_all : {all ds os : List WrittenAttribute} {names : List WrittenName} → IsSplit all ds os → HasTwice names → names ≡ names_of ds
+pub twice_all : {all ds os : List WrittenAttribute} {names : List QName} → IsSplit all ds os → HasTwice names → names ≡ names_of ds
     → HasTwice (names_of all)
 twice_all no_lines (at_first m) e = absurd cc
 twice_all no_lines (later t) e = absurd cc
-twice_all (declares {a} {p} {all} {ds} d s) (at_first {x} {xs} m) e = at_first (among_all s (subst (λ (y : WrittenName). Among y xs) (first e) m) (rest e))
+twice_all (declares {a} {p} {all} {ds} d s) (at_first {x} {xs} m) e = at_first (among_all s (subst (λ (y : QName). Among y xs) (first e) m) (rest e))
   where
     first : x ∷ xs ≡ a.name ∷ names_of ds → x ≡ a.name
     first e = cc

@@ -6,7 +6,7 @@ use Rattle.rng_model.proofs.Texts.{bytes_same, bytes_itself}
 use Rattle.rng_model.specs.matching.Document.{Attribute, HasNoName, nothing_named, another_name, Distinct, none, one_more}
 use Rattle.rng_model.specs.names.Lists.{Among, here, there, HasTwice, at_first, later}
 use Rattle.rng_model.specs.names.Names.{Name}
-use Rattle.rng_model.specs.documents.PyxLines.{WrittenName}
+use Rattle.rng_model.specs.documents.PyxLines.{QName}
 use Rattle.rng_model.specs.documents.PyxNamespaces.{WrittenAttribute}
 use Rattle.pyx.specs.plain.Declarations.{same_written, is_written_in, is_written_twice}
 use Rattle.pyx.specs.plain.TagReader.{same_name, is_named_in, is_named_twice}
@@ -17,13 +17,13 @@ true_false e = cc
 
 -- ---- names as they are written
 
-abbrev pub names_of : List WrittenAttribute → List WrittenName
+abbrev pub names_of : List WrittenAttribute → List QName
 names_of all = map (λ a. a.name) all
 
-written_first : (name : WrittenName) (a : WrittenAttribute) (more : List WrittenAttribute) → same_written a.name name ≡ true → Among name (names_of (a ∷ more))
-written_first name a more e = subst (λ (x : WrittenName). Among name (x ∷ names_of more)) (sym (written_same a.name name e)) here
+written_first : (name : QName) (a : WrittenAttribute) (more : List WrittenAttribute) → same_written a.name name ≡ true → Among name (names_of (a ∷ more))
+written_first name a more e = subst (λ (x : QName). Among name (x ∷ names_of more)) (sym (written_same a.name name e)) here
 
-pub among_written : (name : WrittenName) (all : List WrittenAttribute) → is_written_in name all ≡ true → Among name (names_of all)
+pub among_written : (name : QName) (all : List WrittenAttribute) → is_written_in name all ≡ true → Among name (names_of all)
 unfolding is_written_in
 among_written name [] e = absurd cc
 among_written name (a ∷ more) e = go (or_cases (same_written a.name name) (is_written_in name more) e) (among_written name more) where

@@ -7,7 +7,7 @@ use Rattle.std.proofs.lemmas.Option.{same_Some}
 use Rattle.rng_model.specs.matching.Document.{Attribute}
 use Rattle.rng_model.specs.names.Lists.{Among, here, there, HasTwice, at_first, later}
 use Rattle.rng_model.specs.names.Names.{Name, xml_uri}
-use Rattle.rng_model.specs.documents.PyxLines.{WrittenName}
+use Rattle.rng_model.specs.documents.PyxLines.{QName}
 use Rattle.rng_model.specs.documents.PyxNamespaces.{WrittenAttribute, NamespaceDeclaration, Declares, AreParted, nothing, declaration, other, NamespaceScope}
 use Rattle.rng_model.specs.documents.PyxNamespaces.{IsDeclared}
 use Rattle.rng_model.specs.documents.PyxNamespaces.{HasNamespace, declared_here, declared_outside, xml_beforehand, no_default, NamesElement, element_name}
@@ -15,7 +15,7 @@ use Rattle.rng_model.specs.documents.PyxNamespaces.{NamesAttribute}
 use Rattle.rng_model.specs.documents.PyxNamespaces.{without_prefix, with_prefix, AreExpanded, none_left, expanded_and}
 use Rattle.pyx.proofs.Tags.Declarations.{is_declared}
 
-declared_same : {name : WrittenName} {p q : Option (List ℕ)} → Declares name p → Declares name q → p ≡ q
+declared_same : {name : QName} {p q : Option (List ℕ)} → Declares name p → Declares name q → p ≡ q
 declared_same {p = p} {q = q} d e = same_Some p q (sym (is_declared d) ∙ is_declared e)
 
 -- ---- namespaces
@@ -95,22 +95,22 @@ parted_same (other {a} n m) (other e k) = let r = parted_same m k in (r.0, ap (�
 abbrev in_space : List ℕ → List ℕ → Name
 in_space local uri = record { ns = uri; local = local }
 
-pub element_same : {scope : NamespaceScope} {name : WrittenName} {q r : Name} → IsScopeOnce scope → NamesElement scope name q → NamesElement scope name r → q ≡ r
+pub element_same : {scope : NamespaceScope} {name : QName} {q r : Name} → IsScopeOnce scope → NamesElement scope name q → NamesElement scope name r → q ≡ r
 element_same once (element_name {name} h) (element_name k) = ap (in_space name.local) (namespace_same once h k)
 
-attribute_same : {scope : NamespaceScope} {name other : WrittenName} {q r : Name} → IsScopeOnce scope → NamesAttribute scope name q → NamesAttribute scope other r
+attribute_same : {scope : NamespaceScope} {name other : QName} {q r : Name} → IsScopeOnce scope → NamesAttribute scope name q → NamesAttribute scope other r
     → name ≡ other → q ≡ r
-attribute_same once (without_prefix {local}) (without_prefix {local = more}) e = ap (λ (n : WrittenName). in_space n.local []) e
-attribute_same once (without_prefix {local}) (with_prefix {p} {local = more} k) e = absurd (no_prefix p (ap (λ (n : WrittenName). n.prefix) e)) where
+attribute_same once (without_prefix {local}) (without_prefix {local = more}) e = ap (λ (n : QName). in_space n.local []) e
+attribute_same once (without_prefix {local}) (with_prefix {p} {local = more} k) e = absurd (no_prefix p (ap (λ (n : QName). n.prefix) e)) where
   no_prefix : (p : List ℕ) → None ≡ Some p → ⊥
   no_prefix p e = cc
-attribute_same once (with_prefix {p} {local} h) (without_prefix {local = more}) e = absurd (no_prefix p (ap (λ (n : WrittenName). n.prefix) e)) where
+attribute_same once (with_prefix {p} {local} h) (without_prefix {local = more}) e = absurd (no_prefix p (ap (λ (n : QName). n.prefix) e)) where
   no_prefix : (p : List ℕ) → Some p ≡ None → ⊥
   no_prefix p e = cc
 attribute_same {scope} once (with_prefix {p} {local} {uri} h) (with_prefix {p = o} {local = more} {uri = v} k) e =
-    let same : p ≡ o = same_Some p o (ap (λ (n : WrittenName). n.prefix) e) in
+    let same : p ≡ o = same_Some p o (ap (λ (n : QName). n.prefix) e) in
     let u : uri ≡ v = namespace_same once h (subst (λ (x : List ℕ). HasNamespace scope (Some x) v) (sym same) k) in
-    ap (λ (n : WrittenName). in_space n.local uri) e ∙ ap (in_space more) u
+    ap (λ (n : QName). in_space n.local uri) e ∙ ap (in_space more) u
 
 with_content : List ℕ → Name → Attribute
 with_content content name = record { name = name; content = content }

@@ -1,7 +1,7 @@
 -- The declarations of tags: what they declare, which are not allowed, and the namespace that they give a prefix.
 use Rattle.std.specs.Prelude.{ℕ, ◌==◌, Bool, true, false, not, ◌&&◌, ◌||◌, List, [], ◌∷◌, length, codes, Option, Some, None, if◌then◌else◌}
 use Rattle.std.specs.Str.{bytes_eq}
-use Rattle.rng_model.specs.documents.PyxLines.{WrittenName}
+use Rattle.rng_model.specs.documents.PyxLines.{QName}
 use Rattle.rng_model.specs.documents.PyxNamespaces.{WrittenAttribute, xmlns, xmlns_uri}
 use Rattle.rng_model.specs.names.Names.{xml_uri}
 
@@ -16,7 +16,7 @@ abbrev pub declared_prefix : Option (List ℕ) → List ℕ → Option (Option (
 declared_prefix None local = if bytes_eq local xmlns then Some None else None
 declared_prefix (Some p) local = if bytes_eq p xmlns then Some (Some local) else None
 
-abbrev pub declared_by : WrittenName → Option (Option (List ℕ))
+abbrev pub declared_by : QName → Option (Option (List ℕ))
 declared_by name = declared_prefix name.prefix name.local
 
 abbrev pub forbidden_prefix : List ℕ → List ℕ → Bool
@@ -67,10 +67,10 @@ namespace_of (ds ∷ outer) p = or_else (found_in p ds) (namespace_of outer p)
 
 -- ---- names that occur twice
 
-abbrev pub same_written : WrittenName → WrittenName → Bool
+abbrev pub same_written : QName → QName → Bool
 same_written a b = same_prefix a.prefix b.prefix && bytes_eq a.local b.local
 
-unfoldable pub is_written_in : WrittenName → List WrittenAttribute → Bool
+unfoldable pub is_written_in : QName → List WrittenAttribute → Bool
 is_written_in name [] = false
 is_written_in name (a ∷ more) = same_written a.name name || is_written_in name more
 

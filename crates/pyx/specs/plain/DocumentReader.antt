@@ -3,7 +3,7 @@ use Rattle.std.specs.Prelude.{ℕ, ◌+◌, ◌==◌, nat_le, Bool, true, false,
 use Rattle.std.specs.Prelude.{if◌then◌else◌, is_some}
 use Rattle.rng_model.specs.documents.Lines.{Line, attribute_limit, open_limit, text_limit, Fault}
 use Rattle.rng_model.specs.documents.PyxLines as lines
-use Rattle.rng_model.specs.documents.PyxLines.{Said, WrittenName}
+use Rattle.rng_model.specs.documents.PyxLines.{Said, QName}
 use Rattle.rng_model.specs.documents.PyxNamespaces.{WrittenAttribute}
 use Rattle.rng_model.specs.documents.PyxTrees.{Event, a_start, a_string, an_end}
 use Rattle.pyx.specs.plain.Cuts.{behind}
@@ -13,14 +13,14 @@ use Rattle.pyx.specs.plain.TagReader.{Element, tag_read}
 
 -- a tag: its name, its `A` lines (declarations, and others), each in order, and the number of bytes in its lines
 pub record Tag : Type 0 where
-  pub name : WrittenName
+  pub name : QName
   pub declared : List WrittenAttribute
   pub others : List WrittenAttribute
   pub bytes : ℕ
 
 -- an element whose end has not been read
 pub record Open : Type 0 where
-  pub name : WrittenName
+  pub name : QName
   pub declared : List WrittenAttribute
 
 pub record State : Type 0 where
@@ -89,14 +89,14 @@ text_ended s = if length s.joined == 0 then silent s else (Ok (record s { joined
 
 -- ---- the content of a line
 
-abbrev pub begin_tag : ℕ → WrittenName → State → State
+abbrev pub begin_tag : ℕ → QName → State → State
 begin_tag bytes name s = record s { tag = Some (record { name = name; declared = []; others = []; bytes = bytes }); root = true }
 
 -- no element is open
 abbrev pub is_outside : State → Bool
 is_outside s = length s.opened == 0
 
-unfoldable pub started : ℕ → WrittenName → State → Turn State
+unfoldable pub started : ℕ → QName → State → Turn State
 started bytes name s = if s.root && is_outside s then fault 9 s.count else
     (if nat_le open_limit (length s.opened) then fault 10 s.count else followed (text_ended s) (λ s. silent (begin_tag bytes name s)))
 
@@ -121,13 +121,13 @@ abbrev pub around : List Open → List Open
 around [] = []
 around (o ∷ outer) = outer
 
-abbrev pub end_in : List Open → WrittenName → State → Turn State
+abbrev pub end_in : List Open → QName → State → Turn State
 end_in [] name s = fault 8 s.count
 end_in (o ∷ outer) name s = if same_written o.name name
     then followed (text_ended s) (λ s. (Ok (record s { opened = around s.opened }), record { line = s.count; kind = an_end } ∷ []))
     else fault 8 s.count
 
-unfoldable pub ended : WrittenName → State → Turn State
+unfoldable pub ended : QName → State → Turn State
 ended name s = end_in s.opened name s
 
 -- a line of this many bytes with this content

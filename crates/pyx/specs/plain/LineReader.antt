@@ -5,7 +5,7 @@ use Rattle.std.specs.List.{list_all}
 use Rattle.std.specs.Str.{chars, is_utf8}
 use Rattle.rng_model.specs.names.Names.{is_ncname, is_xml_char}
 use Rattle.rng_model.specs.documents.Lines.{Line, line_limit}
-use Rattle.rng_model.specs.documents.PyxLines.{Said, WrittenName, start, attribute, text, end, instruction}
+use Rattle.rng_model.specs.documents.PyxLines.{Said, QName, start, attribute, text, end, instruction}
 use Rattle.pyx.specs.plain.Cuts.{behind, either_way, at_byte}
 use Rattle.pyx.specs.plain.WrittenNames.{written_of}
 use Rattle.pyx.specs.plain.Escapes.{unescaped}
@@ -21,7 +21,7 @@ is_name bytes = are_ncnames (at_byte 58 bytes) bytes
 abbrev pub Read : Type 0 → Type 0
 Read A = Result A ℕ
 
-unfoldable pub named : (WrittenName → Said) → List ℕ → Read Said
+unfoldable pub named : (QName → Said) → List ℕ → Read Said
 named said name = if is_name name then Ok (said (written_of name)) else Err 6
 
 unfoldable pub text_of : List ℕ → Read Said

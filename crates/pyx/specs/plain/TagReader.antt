@@ -3,7 +3,7 @@ use Rattle.std.specs.Prelude.{ℕ, Bool, false, ◌&&◌, ◌||◌, List, [], �
 use Rattle.std.specs.Str.{bytes_eq}
 use Rattle.rng_model.specs.names.Names.{Name}
 use Rattle.rng_model.specs.matching.Document.{Attribute}
-use Rattle.rng_model.specs.documents.PyxLines.{WrittenName}
+use Rattle.rng_model.specs.documents.PyxLines.{QName}
 use Rattle.rng_model.specs.documents.PyxNamespaces.{WrittenAttribute}
 use Rattle.pyx.specs.plain.Declarations.{Declared, any_forbidden, is_written_twice, namespace_of}
 
@@ -13,14 +13,14 @@ abbrev pub in_namespace : List ℕ → Option (List ℕ) → Option Name
 in_namespace local None = None
 in_namespace local (Some uri) = Some (record { ns = uri; local = local })
 
-unfoldable pub element_name : Declared → WrittenName → Option Name
+unfoldable pub element_name : Declared → QName → Option Name
 element_name scope name = in_namespace name.local (namespace_of scope name.prefix)
 
 abbrev pub attribute_in : Declared → Option (List ℕ) → List ℕ → Option Name
 attribute_in scope None local = Some (record { ns = []; local = local })
 attribute_in scope (Some p) local = in_namespace local (namespace_of scope (Some p))
 
-unfoldable pub attribute_name : Declared → WrittenName → Option Name
+unfoldable pub attribute_name : Declared → QName → Option Name
 attribute_name scope name = attribute_in scope name.prefix name.local
 
 abbrev pub and_more : Option Name → List ℕ → Option (List Attribute) → Option (List Attribute)
@@ -64,6 +64,6 @@ with_name (Some name) declared attrs = with_attributes name declared attrs
 -- A tag with this name, these declarations and these other `A` lines, inside the tags that declare these. Two of the
 -- `A` lines have the same name as they are written if two of the declarations have, or if two attributes have the same
 -- name.
-unfoldable pub tag_read : Declared → WrittenName → List WrittenAttribute → List WrittenAttribute → Result Element ℕ
+unfoldable pub tag_read : Declared → QName → List WrittenAttribute → List WrittenAttribute → Result Element ℕ
 tag_read outer name declared others = if any_forbidden declared then Err 11
     else with_name (element_name (declared ∷ outer) name) declared (expanded (declared ∷ outer) others)

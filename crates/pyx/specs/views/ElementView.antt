@@ -13,7 +13,7 @@ use Rattle.pyx.specs.declared.fault.LineFault.TheVariants as faults
 use Rattle.pyx.specs.declared.namespaces.written.WrittenAttribute as written
 use Rattle.pyx.specs.declared.elements.OpenElement.{OpenElement}
 use Rattle.pyx.specs.declared.known.KnownName.{KnownName}
-use Rattle.rng_model.specs.documents.PyxLines.{WrittenName}
+use Rattle.rng_model.specs.documents.PyxLines.{QName}
 use Rattle.pyx.specs.plain.LineReader.{is_name}
 use Rattle.pyx.specs.plain.WrittenNames.{written_of}
 use Rattle.pyx.specs.views.WrittenAttributes.{written_attribute}
@@ -110,6 +110,6 @@ pub record Elements : Type 0 where
   pub names : List Name
 
 -- whether the innermost element has this name
-abbrev pub is_innermost : WrittenName → List Open → Bool
+abbrev pub is_innermost : QName → List Open → Bool
 is_innermost name [] = false
 is_innermost name (o ∷ outer) = same_written o.name name

@@ -11,7 +11,7 @@ use Rattle.rng_model.specs.names.Lists.{HasTwice, at_first, here, later, there}
 use Rattle.rng_model.specs.names.Names.{is_ncname, is_xml_char, xml_uri}
 use Rattle.rng_model.specs.matching.Document.{Attribute, Distinct, none, one_more, another_name, nothing_named}
 use Rattle.rng_model.specs.documents.Lines.{Line, lines, line_limit, HasKind, nothing}
-use Rattle.rng_model.specs.documents.PyxLines.{IsNcnameText, IsName, alone, prefixed, StandsFor, at_end, itself, Said, WrittenName, start, attribute, text, end}
+use Rattle.rng_model.specs.documents.PyxLines.{IsNcnameText, IsName, alone, prefixed, StandsFor, at_end, itself, Said, QName, start, attribute, text, end}
 use Rattle.rng_model.specs.documents.PyxLines.{instruction}
 use Rattle.rng_model.specs.documents.PyxLines.{Says, says_start, says_attribute, says_text, says_end, says_instruction, IsGoodLine, AreGoodLines, no_lines}
 use Rattle.rng_model.specs.documents.PyxLines.{line_and}
@@ -68,7 +68,7 @@ plain_text (c ∷ cs) e = let both = and_parts (is_plain c) (list_all is_plain c
 abbrev across : List ℕ
 across = codes "(a" ++ 10 ∷ (codes "-x" ++ 10 ∷ (codes "?z" ++ 10 ∷ (codes "-y" ++ 10 ∷ (codes ")a" ++ 10 ∷ []))))
 
-abbrev name_a : WrittenName
+abbrev name_a : QName
 name_a = record { prefix = None; local = codes "a" }
 
 pub a_is_a_name : IsName (codes "a") name_a
@@ -111,10 +111,10 @@ across_is = record {
 abbrev late : List ℕ
 late = codes "(p:a" ++ 10 ∷ (codes "Ap:x 1" ++ 10 ∷ (codes "Axmlns:p u" ++ 10 ∷ (codes ")p:a" ++ 10 ∷ [])))
 
-abbrev with_p : List ℕ → WrittenName
+abbrev with_p : List ℕ → QName
 with_p local = record { prefix = Some (codes "p"); local = local }
 
-abbrev declares_p : WrittenName
+abbrev declares_p : QName
 declares_p = record { prefix = Some (codes "xmlns"); local = codes "p" }
 
 pa_is_a_name : IsName (codes "p:a") (with_p (codes "a"))
@@ -140,7 +140,7 @@ prefix_size None = 0
 prefix_size (Some p) = length p
 
 -- a name that declares a namespace has a prefix of five bytes, or has no prefix and a local name of five
-declaring_size : {name : WrittenName} {p : Option (List ℕ)} → Declares name p → (prefix_size name.prefix ≡ 5) ⊎ (length name.local ≡ 5)
+declaring_size : {name : QName} {p : Option (List ℕ)} → Declares name p → (prefix_size name.prefix ≡ 5) ⊎ (length name.local ≡ 5)
 declaring_size default_namespace = inr refl
 declaring_size prefix_declared = inl refl
 
@@ -205,7 +205,7 @@ whole bytes = record { bytes = bytes; ended = true }
 abbrev undeclared : List Line
 undeclared = whole (codes "(p:a") ∷ whole (codes "Ax 1") ∷ whole (codes ")p:a") ∷ []
 
-abbrev name_x : WrittenName
+abbrev name_x : QName
 name_x = record { prefix = None; local = codes "x" }
 
 x_is_a_name : IsName (codes "x") name_x
@@ -277,10 +277,10 @@ abbrev one_name_twice : List Line
 one_name_twice = whole (codes "(a") ∷ whole (codes "Axmlns:p u") ∷ whole (codes "Axmlns:q u") ∷ whole (codes "Ap:x 1") ∷ whole (codes "Aq:x 2") ∷
     whole (codes ")a") ∷ []
 
-abbrev with_q : List ℕ → WrittenName
+abbrev with_q : List ℕ → QName
 with_q local = record { prefix = Some (codes "q"); local = local }
 
-abbrev declares_q : WrittenName
+abbrev declares_q : QName
 declares_q = record { prefix = Some (codes "xmlns"); local = codes "q" }
 
 qx_is_a_name : IsName (codes "q:x") (with_q (codes "x"))

@@ -7,7 +7,7 @@ use Rattle.rng_model.specs.names.Lists.{Among}
 use Rattle.rng_model.specs.matching.Document.{Attribute, Distinct, none}
 use Rattle.rng_model.specs.documents.Lines.{Line, HasKind}
 use Rattle.rng_model.specs.documents.PyxLines as lines
-use Rattle.rng_model.specs.documents.PyxLines.{WrittenName, IsName, Said, start, says_start, Says, IsGoodLine, AreGoodLines, BreaksAlone}
+use Rattle.rng_model.specs.documents.PyxLines.{QName, IsName, Said, start, says_start, Says, IsGoodLine, AreGoodLines, BreaksAlone}
 use Rattle.rng_model.specs.documents.PyxNamespaces.{WrittenAttribute, AreWritten, none_written, AreParted, NamespaceDeclaration, NamespaceScope, AreExpanded}
 use Rattle.rng_model.specs.documents.PyxNamespaces.{none_left}
 use Rattle.rng_model.specs.documents.PyxNamespaces as namespaces
@@ -83,17 +83,17 @@ no_colon (c ∷ cs) local e =
     let p = length-append cs (58 ∷ local) in
     absurd (omega (arith, n, p))
 
-without_a_prefix : {written : List ℕ} {name : WrittenName} → written ≡ codes "a" → IsName written name → name.prefix ≡ None
+without_a_prefix : {written : List ℕ} {name : QName} → written ≡ codes "a" → IsName written name → name.prefix ≡ None
 without_a_prefix e (lines.alone i) = refl
 without_a_prefix e (lines.prefixed {prefix = p} {local = l} i j f) = absurd (no_colon p l (sym e ∙ f))
 
-name_of_tag : {bytes : List ℕ} {name : WrittenName} → bytes ≡ codes "(a" → Says bytes (start name) → name.prefix ≡ None
+name_of_tag : {bytes : List ℕ} {name : QName} → bytes ≡ codes "(a" → Says bytes (start name) → name.prefix ≡ None
 name_of_tag e (says_start i) = without_a_prefix (name_behind (sym e)) i
 
 nothing_declared : {ds : List NamespaceDeclaration} {others : List WrittenAttribute} → AreParted [] ds others → (ds ≡ []) × (others ≡ [])
 nothing_declared namespaces.nothing = (refl, refl)
 
-no_namespace_broken : {outer : NamespaceScope} {name : WrittenName} → name.prefix ≡ None → ¬ (BreaksNamespaces outer name [])
+no_namespace_broken : {outer : NamespaceScope} {name : QName} → name.prefix ≡ None → ¬ (BreaksNamespaces outer name [])
 no_namespace_broken e (clauses.forbidden p i f) = among_none (nothing_declared p).0 i where
   among_none : {d : NamespaceDeclaration} {ds : List NamespaceDeclaration} → ds ≡ [] → ¬ (Among d ds)
   among_none e i = elim_none (subst (Among _) e i) where
@@ -119,7 +119,7 @@ nothing_written : {said : List Said} {written : List WrittenAttribute} → AreGo
 nothing_written lines.no_lines none_written = refl
 
 -- the tag is only this line, and its name has no prefix
-module _ {outer : NamespaceScope} {name : WrittenName} {written : List WrittenAttribute} (ends : EndsWithTag (the_line ∷ []) outer name written) where
+module _ {outer : NamespaceScope} {name : QName} {written : List WrittenAttribute} (ends : EndsWithTag (the_line ∷ []) outer name written) where
   parts_of_tag : IsAlone ends.ends.front ends.ends.others the_line ends.ends.tag
   parts_of_tag = cut_about the_line ends.ends.tag ends.ends.front ends.ends.others ends.ends.parts
 

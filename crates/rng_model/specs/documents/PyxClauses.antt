@@ -5,7 +5,7 @@ use Rattle.std.specs.Prelude.{◌≡◌, ◌≢◌, ℕ, ◌+◌, ◌<◌, ◌�
 use Rattle.rng_model.specs.names.Lists.{Among, HasTwice}
 use Rattle.rng_model.specs.matching.Document.{Attribute, Distinct}
 use Rattle.rng_model.specs.documents.Lines.{Line, line_limit, attribute_limit, open_limit, text_limit, Fault, HasKind, IsBalanced, IsBefore, EndsInTag}
-use Rattle.rng_model.specs.documents.PyxLines.{Said, WrittenName, start, IsGoodLine, AreGoodLines, BreaksAlone}
+use Rattle.rng_model.specs.documents.PyxLines.{Said, QName, start, IsGoodLine, AreGoodLines, BreaksAlone}
 use Rattle.rng_model.specs.documents.PyxNamespaces.{WrittenAttribute, AreWritten, AreParted, NamespaceDeclaration, IsForbidden, NamespaceScope, HasNoNamespace}
 use Rattle.rng_model.specs.documents.PyxNamespaces.{AreExpanded}
 use Rattle.rng_model.specs.documents.PyxTrees.{IsRun}
@@ -31,7 +31,7 @@ pub data AreOpenTags : List Line → List Tag → Type 0 where
 -- ---- the lines of tags
 
 -- the tag's lines break nothing by themselves, and this is their meaning
-pub record SaysTag (tag : Tag) (name : WrittenName) (written : List WrittenAttribute) : Type 0 where
+pub record SaysTag (tag : Tag) (name : QName) (written : List WrittenAttribute) : Type 0 where
   pub first : IsGoodLine tag.first (start name)
   pub said : List Said
   pub attributes : AreGoodLines tag.attributes said
@@ -40,11 +40,11 @@ pub record SaysTag (tag : Tag) (name : WrittenName) (written : List WrittenAttri
 -- the declarations of the open tags
 pub data HasScope : List Tag → NamespaceScope → Type 0 where
   no_tags : HasScope [] []
-  one_tag : {tag : Tag} {outer : List Tag} {scope : NamespaceScope} {name : WrittenName} {written others : List WrittenAttribute} {ds : List NamespaceDeclaration} →
+  one_tag : {tag : Tag} {outer : List Tag} {scope : NamespaceScope} {name : QName} {written others : List WrittenAttribute} {ds : List NamespaceDeclaration} →
       SaysTag tag name written → AreParted written ds others → HasScope outer scope → HasScope (tag ∷ outer) (ds ∷ scope)
 
 -- P11, for such a tag inside this scope: a declaration is not allowed, or a prefix is not declared
-pub data BreaksNamespaces (outer : NamespaceScope) (name : WrittenName) (written : List WrittenAttribute) : Type 0 where
+pub data BreaksNamespaces (outer : NamespaceScope) (name : QName) (written : List WrittenAttribute) : Type 0 where
   forbidden : {ds : List NamespaceDeclaration} {others : List WrittenAttribute} {d : NamespaceDeclaration} → AreParted written ds others → Among d ds → IsForbidden d
       → BreaksNamespaces outer name written
   element_prefix : {ds : List NamespaceDeclaration} {others : List WrittenAttribute} {p : List ℕ} → AreParted written ds others → name.prefix ≡ Some p
@@ -59,7 +59,7 @@ pub data RepeatsName (outer : NamespaceScope) (written : List WrittenAttribute) 
       → AreExpanded (ds ∷ outer) others attrs → ¬ (Distinct attrs) → RepeatsName outer written
 
 -- these lines end with a tag with this meaning, inside tags with these declarations
-pub record EndsWithTag (ls : List Line) (outer : NamespaceScope) (name : WrittenName) (written : List WrittenAttribute) : Type 0 where
+pub record EndsWithTag (ls : List Line) (outer : NamespaceScope) (name : QName) (written : List WrittenAttribute) : Type 0 where
   pub ends : EndsInTag ls
   pub says : SaysTag (record { first = ends.tag; attributes = ends.others }) name written
   pub around : List Tag
@@ -96,9 +96,9 @@ pub data BreaksBetween (before : List Line) (l : Line) (behind : List Line) : �
   elements : {opened : List Tag} → HasKind 40 l → AreOpenTags before opened → open_limit ≤ length opened → BreaksBetween before l behind 10
   joined_text : {joined : List ℕ} → EndsInText (before ++ l ∷ []) joined → text_limit < length joined → BreaksBetween before l behind 10
   -- P11 and P12: by the tag that ends here
-  namespaces : {outer : NamespaceScope} {name : WrittenName} {written : List WrittenAttribute} → EndsWithTag (before ++ l ∷ []) outer name written
+  namespaces : {outer : NamespaceScope} {name : QName} {written : List WrittenAttribute} → EndsWithTag (before ++ l ∷ []) outer name written
       → BeginsOtherwise 65 behind → BreaksNamespaces outer name written → BreaksBetween before l behind 11
-  repeated_name : {outer : NamespaceScope} {name : WrittenName} {written : List WrittenAttribute} → EndsWithTag (before ++ l ∷ []) outer name written
+  repeated_name : {outer : NamespaceScope} {name : QName} {written : List WrittenAttribute} → EndsWithTag (before ++ l ∷ []) outer name written
       → BeginsOtherwise 65 behind → RepeatsName outer written → BreaksBetween before l behind 12
 
 -- the clause is broken by this line, between these lines; a line that is too long, ended or not, breaks only P10

@@ -3,7 +3,7 @@
 -- that is joined so far. (docs/LANGUAGE.md)
 use Rattle.std.specs.Prelude.{◌≡◌, ◌⊎◌, ℕ, ◌+◌, List, [], ◌∷◌, ◌++◌, Option, Some, None, true, false, length, sum_by, All}
 use Rattle.rng_model.specs.documents.Lines.{Line, lines, HasKind, EndsInTag}
-use Rattle.rng_model.specs.documents.PyxLines.{WrittenName}
+use Rattle.rng_model.specs.documents.PyxLines.{QName}
 use Rattle.rng_model.specs.documents.PyxNamespaces.{WrittenAttribute, AreParted, NamespaceDeclaration}
 use Rattle.rng_model.specs.documents.PyxClauses.{Tag, AreOpenTags, SaysTag, EndsInText}
 
@@ -12,7 +12,7 @@ abbrev pub prefix_length : Option (List ℕ) → ℕ
 prefix_length None = 0
 prefix_length (Some p) = length p + 1
 
-abbrev pub name_length : WrittenName → ℕ
+abbrev pub name_length : QName → ℕ
 name_length name = prefix_length name.prefix + length name.local
 
 -- the number of bytes of a declaration: of `xmlns` or `xmlns:p`, and of its value
@@ -26,7 +26,7 @@ declaration_length d = declared_length d.prefix + length d.uri
 -- the number of bytes that are kept of open elements
 pub data KeptOfTags : List Tag → ℕ → Type 0 where
   of_none : KeptOfTags [] 0
-  of_tag : {tag : Tag} {outer : List Tag} {name : WrittenName} {written others : List WrittenAttribute} {ds : List NamespaceDeclaration} {n m : ℕ} →
+  of_tag : {tag : Tag} {outer : List Tag} {name : QName} {written others : List WrittenAttribute} {ds : List NamespaceDeclaration} {n m : ℕ} →
       SaysTag tag name written → AreParted written ds others → KeptOfTags outer m → n ≡ name_length name + sum_by declaration_length ds + m
       → KeptOfTags (tag ∷ outer) n
 

@@ -7,8 +7,8 @@ use Rattle.rng_model.specs.documents.Lines.{Line, line_limit, HasKind}
 
 -- ---- names and values
 
--- a name as it is written
-pub record WrittenName : Type 0 where
+-- a name as it is written: a QName (Namespaces in XML 1.0, section 4)
+pub record QName : Type 0 where
   pub prefix : Option (List ℕ)
   pub local : List ℕ
 
@@ -18,7 +18,7 @@ pub record IsNcnameText (text : List ℕ) : Type 0 where
   pub ncname : is_ncname (chars text) ≡ true
 
 -- an NCName, or two of them joined by a colon
-pub data IsName : List ℕ → WrittenName → Type 0 where
+pub data IsName : List ℕ → QName → Type 0 where
   alone : {local : List ℕ} → IsNcnameText local → IsName local (record { prefix = None; local = local })
   prefixed : {text prefix local : List ℕ} → IsNcnameText prefix → IsNcnameText local → text ≡ prefix ++ 58 ∷ local
       → IsName text (record { prefix = Some prefix; local = local })
@@ -36,19 +36,19 @@ pub data StandsFor : List ℕ → List ℕ → Type 0 where
 
 -- the meaning of a line: its kind, its name as it is written, and the meaning of its value or its text
 pub data Said : Type 0 where
-  start : WrittenName → Said
-  attribute : WrittenName → List ℕ → Said
+  start : QName → Said
+  attribute : QName → List ℕ → Said
   text : List ℕ → Said
-  end : WrittenName → Said
+  end : QName → Said
   instruction : Said
 
 -- `(` and a name; `A`, a name, a space and a value; `-` and a text; `)` and a name; `?` and anything
 pub data Says : List ℕ → Said → Type 0 where
-  says_start : {written : List ℕ} {name : WrittenName} → IsName written name → Says (40 ∷ written) (start name)
-  says_attribute : {line written_name written value : List ℕ} {name : WrittenName} → IsName written_name name → StandsFor written value
+  says_start : {written : List ℕ} {name : QName} → IsName written name → Says (40 ∷ written) (start name)
+  says_attribute : {line written_name written value : List ℕ} {name : QName} → IsName written_name name → StandsFor written value
       → line ≡ 65 ∷ (written_name ++ 32 ∷ written) → Says line (attribute name value)
   says_text : {written value : List ℕ} → StandsFor written value → Says (45 ∷ written) (text value)
-  says_end : {written : List ℕ} {name : WrittenName} → IsName written name → Says (41 ∷ written) (end name)
+  says_end : {written : List ℕ} {name : QName} → IsName written name → Says (41 ∷ written) (end name)
   says_instruction : {bytes : List ℕ} → Says (63 ∷ bytes) instruction
 
 -- a line that breaks nothing by itself, and its meaning
@@ -83,7 +83,7 @@ abbrev pub StandsForNothing : List ℕ → Type 0
 StandsForNothing written = (value : List ℕ) → ¬ (StandsFor written value)
 
 abbrev pub IsNoName : List ℕ → Type 0
-IsNoName written = (name : WrittenName) → ¬ (IsName written name)
+IsNoName written = (name : QName) → ¬ (IsName written name)
 
 -- a line that is not too long breaks this clause by itself
 pub data BreaksAlone (l : Line) : ℕ → Type 0 where

@@ -3,18 +3,18 @@ use Rattle.std.specs.Prelude.{◌≡◌, ◌≢◌, ℕ, List, [], ◌∷◌, Op
 use Rattle.rng_model.specs.names.Lists.{Among}
 use Rattle.rng_model.specs.names.Names.{xml_uri, Name}
 use Rattle.rng_model.specs.matching.Document.{Attribute}
-use Rattle.rng_model.specs.documents.PyxLines.{Said, WrittenName, attribute}
+use Rattle.rng_model.specs.documents.PyxLines.{Said, QName, attribute}
 
 -- ---- what a tag declares
 
 -- an `A` line: its name as it is written, and the meaning of its value
 pub record WrittenAttribute : Type 0 where
-  pub name : WrittenName
+  pub name : QName
   pub content : List ℕ
 
 pub data AreWritten : List Said → List WrittenAttribute → Type 0 where
   none_written : AreWritten [] []
-  written_and : {name : WrittenName} {content : List ℕ} {lines : List Said} {more : List WrittenAttribute} → AreWritten lines more
+  written_and : {name : QName} {content : List ℕ} {lines : List Said} {more : List WrittenAttribute} → AreWritten lines more
       → AreWritten (attribute name content ∷ lines) (record { name = name; content = content } ∷ more)
 
 -- the namespace of a prefix, or the default one
@@ -26,12 +26,12 @@ abbrev pub xmlns : List ℕ
 xmlns = codes "xmlns"
 
 -- `xmlns` declares the default namespace, `xmlns:p` the namespace of the prefix p
-pub data Declares : WrittenName → Option (List ℕ) → Type 0 where
+pub data Declares : QName → Option (List ℕ) → Type 0 where
   default_namespace : Declares (record { prefix = None; local = xmlns }) None
   prefix_declared : {p : List ℕ} → Declares (record { prefix = Some xmlns; local = p }) (Some p)
 
 -- the name declares nothing, so it is the name of an attribute
-abbrev pub DeclaresNothing : WrittenName → Type 0
+abbrev pub DeclaresNothing : QName → Type 0
 DeclaresNothing name = (p : Option (List ℕ)) → ¬ (Declares name p)
 
 -- which of the `A` lines of a tag are declarations and which are attributes, in order
@@ -69,12 +69,12 @@ pub data HasNamespace : NamespaceScope → Option (List ℕ) → List ℕ → Ty
   no_default : HasNamespace [] None []
 
 -- the expanded name of an element: without a prefix it has the default namespace
-pub data NamesElement (scope : NamespaceScope) : WrittenName → Name → Type 0 where
-  element_name : {name : WrittenName} {uri : List ℕ} → HasNamespace scope name.prefix uri
+pub data NamesElement (scope : NamespaceScope) : QName → Name → Type 0 where
+  element_name : {name : QName} {uri : List ℕ} → HasNamespace scope name.prefix uri
       → NamesElement scope name (record { ns = uri; local = name.local })
 
 -- the expanded name of an attribute: without a prefix it has no namespace
-pub data NamesAttribute (scope : NamespaceScope) : WrittenName → Name → Type 0 where
+pub data NamesAttribute (scope : NamespaceScope) : QName → Name → Type 0 where
   without_prefix : {local : List ℕ} → NamesAttribute scope (record { prefix = None; local = local }) (record { ns = []; local = local })
   with_prefix : {p local uri : List ℕ} → HasNamespace scope (Some p) uri
       → NamesAttribute scope (record { prefix = Some p; local = local }) (record { ns = uri; local = local })

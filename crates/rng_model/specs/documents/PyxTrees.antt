@@ -5,7 +5,7 @@ use Rattle.rng_model.specs.names.Lists.{HasTwice}
 use Rattle.rng_model.specs.names.Names.{Name}
 use Rattle.rng_model.specs.matching.Document.{Attribute, Item, a_text, an_element, Items, no_items, item_and, Distinct}
 use Rattle.rng_model.specs.documents.Lines.{lines, attribute_limit, open_limit, text_limit}
-use Rattle.rng_model.specs.documents.PyxLines.{Said, WrittenName, start, text, end, instruction, AreGoodLines}
+use Rattle.rng_model.specs.documents.PyxLines.{Said, QName, start, text, end, instruction, AreGoodLines}
 use Rattle.rng_model.specs.documents.PyxNamespaces.{WrittenAttribute, AreWritten, AreParted, NamespaceDeclaration, IsForbidden, NamespaceScope, NamesElement}
 use Rattle.rng_model.specs.documents.PyxNamespaces.{AreExpanded}
 
@@ -68,7 +68,7 @@ string_before n [] rest = rest
 string_before n (c ∷ cs) rest = placed_and (text_at n (c ∷ cs)) rest
 
 -- A tag: a start and its `A` lines. Its declarations hold in the whole tag, together with those of the tags around it.
-pub record IsTag (outer : NamespaceScope) (name : WrittenName) (attributes : List Said) (q : Name) (attrs : List Attribute) (scope : NamespaceScope) : Type 0 where
+pub record IsTag (outer : NamespaceScope) (name : QName) (attributes : List Said) (q : Name) (attrs : List Attribute) (scope : NamespaceScope) : Type 0 where
   pub written : List WrittenAttribute
   pub are_written : AreWritten attributes written
   pub within : length written ≤ attribute_limit
@@ -87,7 +87,7 @@ pub record IsTag (outer : NamespaceScope) (name : WrittenName) (attributes : Lis
 -- start or an end. The event of an end has its own line.
 mutual
   pub data IsElement : ℕ → NamespaceScope → ℕ → List Said → Placed → Type 0 where
-    element : {room n : ℕ} {outer scope : NamespaceScope} {all attributes content : List Said} {tree : Placed} {name : WrittenName} {q : Name}
+    element : {room n : ℕ} {outer scope : NamespaceScope} {all attributes content : List Said} {tree : Placed} {name : QName} {q : Name}
         {attrs : List Attribute} {kids : PlacedItems} →
         IsTag outer name attributes q attrs scope → IsContent room scope (n + 1 + length attributes) content kids →
         all ≡ start name ∷ (attributes ++ (content ++ end name ∷ [])) →
