@@ -8,3 +8,4 @@ pub mod PyxFront
 pub mod PyxHeld
 pub mod Restrictions
 pub mod Datatypes
+pub mod XsdDatatypes

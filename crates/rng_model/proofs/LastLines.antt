@@ -1,5 +1,5 @@
 -- The last line of a tag is not too long.
-use Rattle.std.proofs.Common.{◌≡◌, ℕ, List, [], ◌∷◌, ◌++◌, length, Option, Some, None, ◌∙◌, refl, sym, ap, subst}
+use Rattle.std.proofs.Common.{◌≡◌, List, [], ◌∷◌, ◌++◌, length, Option, Some, None, ◌∙◌, refl, sym, ap, subst}
 use Rattle.std.specs.Prelude.{◌≤◌}
 use Rattle.rng_model.specs.documents.Lines.{Line, line_limit}
 use Rattle.rng_model.specs.documents.PyxLines.{QName, Said, IsGoodLine, AreGoodLines, no_lines, line_and}

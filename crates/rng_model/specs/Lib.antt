@@ -8,3 +8,4 @@ pub mod restrictions
 pub mod schema
 pub mod simple
 pub mod views
+pub mod xsd

@@ -2,22 +2,25 @@
 ghost use Rattle.std.specs.Prelude.{◌≡◌, ◌<◌, length, slice_get, option_copied, IfSome};
 ghost use Rattle.rng_model.specs.simple.Table.{tree_at, tree_over};
 ghost use Rattle.rng_model.specs.simple.TableRules.{IsTable, AreChildrenBelow};
+ghost use Rattle.rng_model.specs.declared.type_set.TypeSet.TheVariants.{Profile};
 
 use crate::name::NameClass;
 use crate::simple::{ElementId, PatternId, Simple};
+use crate::type_set::TypeSet;
 use std::marker::Model;
 
 /// A grammar in simple form: a table of patterns, a table of elements (a name class and a body each), and the start.
 ///
 /// RELAX NG Specification, section 5. The start and each body are positions in the table of patterns. A child's
 /// position is smaller than its parent's. Every ref is a position in the table of elements. Every choice in a name
-/// class has two members. Every datatype is known and has parameters that it takes (section 4.16). Contracts see the
-/// tables; `Rattle.rng_model.specs.simple.Table.grammar_of` returns the trees that they represent.
+/// class has two members. Every datatype is one of the set and has parameters that it takes (section 4.16). Contracts see
+/// the tables; `Rattle.rng_model.specs.simple.Table.grammar_of` returns the trees that they represent.
 #[derive(Drop)]
 pub struct SimpleGrammar {
     patterns: Vec<Simple>,
     elements: Vec<(NameClass, PatternId)>,
     start: PatternId,
+    types: TypeSet,
 }
 
 impl Model for SimpleGrammar {
@@ -31,27 +34,48 @@ impl Model for SimpleGrammar {
 
     ghost coded = { Prim.hlevel (codes, classes.the_row.coded) };
 
-    ghost view = { λ g. record { patterns = g.patterns.items; elements = g.elements.items; start = g.start } };
+    ghost view = { λ g. record { patterns = g.patterns.items; elements = g.elements.items; start = g.start; types = g.types } };
 
-    ghost invariant = { λ g. IsTable (record { patterns = g.patterns.items; elements = g.elements.items; start = g.start }) };
+    ghost invariant = { λ g. IsTable (record { patterns = g.patterns.items; elements = g.elements.items; start = g.start; types = g.types }) };
 }
 
 impl SimpleGrammar {
     /// Creates the grammar with these tables, which meet what the type says of positions, refs, name classes and datatypes
-    /// (RELAX NG Specification, section 5). Allocates nothing.
+    /// (RELAX NG Specification, section 5). Its datatypes are of the set `Profile`. Allocates nothing.
     pub fn new(
         patterns: Vec<Simple>,
         elements: Vec<(NameClass, PatternId)>,
         start: PatternId,
     ) -> Self
-        requires { IsTable (record { patterns = patterns.items; elements = elements.items; start = start }) }
-        ensures { result ≡ record { patterns = patterns.items; elements = elements.items; start = start } }
+        requires { IsTable (record { patterns = patterns.items; elements = elements.items; start = start; types = Profile }) }
+        ensures { result ≡ record { patterns = patterns.items; elements = elements.items; start = start; types = Profile } }
+    {
+        SimpleGrammar::with_types(TypeSet::Profile, patterns, elements, start)
+    }
+
+    /// Creates the grammar with these tables, as `new` does. Its datatypes are of this set. Allocates nothing.
+    pub fn with_types(
+        types: TypeSet,
+        patterns: Vec<Simple>,
+        elements: Vec<(NameClass, PatternId)>,
+        start: PatternId,
+    ) -> Self
+        requires { IsTable (record { patterns = patterns.items; elements = elements.items; start = start; types = types }) }
+        ensures { result ≡ record { patterns = patterns.items; elements = elements.items; start = start; types = types } }
     {
         SimpleGrammar {
             patterns,
             elements,
             start,
+            types,
         }
+    }
+
+    /// Returns the set of datatypes that the patterns name. Allocates nothing.
+    pub fn types(&self) -> TypeSet
+        ensures { result ≡ self.now.types }
+    {
+        self.types
     }
 
     /// Returns the pattern where matching starts. Allocates nothing.

@@ -25,6 +25,7 @@ mod place_numbers;
 mod pyx_fault;
 mod schema_pattern;
 mod simple;
+mod type_set;
 
 pub use blanks::{Pieces, collapse, split_blanks};
 pub use character::{is_name_char, is_name_start, is_ncname, is_xml_char};
@@ -44,3 +45,4 @@ pub use place::Place;
 pub use pyx_fault::PyxFault;
 pub use schema_pattern::{SchemaPattern, SchemaRow};
 pub use simple::{ElementId, PatternId, Simple};
+pub use type_set::TypeSet;

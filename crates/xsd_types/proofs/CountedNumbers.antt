@@ -8,7 +8,7 @@ use Rattle.std.specs.Str.Parse.{IsNumeral, without_leading_sign, signed_digits_v
 use Rattle.std.proofs.lemmas.Bool.{and_parts, and_from}
 use Rattle.rng_model.specs.datatypes.Texts.{has_bytes}
 use Rattle.rng_types.proofs.Decimals.{own}
-use Rattle.xsd_model.specs.Numbers.{are_digits, integer_of, counted_from, most_counted}
+use Rattle.rng_model.specs.xsd.Numbers.{are_digits, integer_of, counted_from, most_counted}
 use Rattle.xsd_types.proofs.Signs.{no_integer, an_integer}
 
 abbrev IsRead : List ℕ → ℤ → Type 0

@@ -7,7 +7,7 @@ use Rattle.rng_model.specs.datatypes.Texts.{pieces, collapse, text_if}
 use Rattle.rng_model.specs.datatypes.Facets.{Lengths, is_within}
 use Rattle.rng_model.proofs.BlankRuns.{pieces-collapse, pieces_fit, spaced_length}
 use Rattle.rng_types.proofs.TextValues.{is_some-text_if}
-use Rattle.xsd_model.specs.Types.{are_items, xsd_list}
+use Rattle.rng_model.specs.xsd.Types.{are_items, xsd_list}
 
 -- items, in an allowed number
 abbrev pub is_good : (List ℕ → Bool) → Lengths → List (List ℕ) → Bool

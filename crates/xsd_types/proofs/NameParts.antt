@@ -13,7 +13,7 @@ use Rattle.rng_model.specs.names.Names.{is_name_char, is_colon, is_ncname}
 use Rattle.rng_types.proofs.OnePiece.{chars-spaced}
 use Rattle.rng_types.proofs.TextValues.{ncname_space}
 use Rattle.rng_model.proofs.TestedRuns.{run_passes}
-use Rattle.xsd_model.specs.Names.{are_name_parts, is_qname}
+use Rattle.rng_model.specs.xsd.Names.{are_name_parts, is_qname}
 
 -- no colon: one part
 one_part : (s : List ℕ) → position_or_len is_colon s ≡ length s → slice_split is_colon s ≡ s ∷ []

@@ -8,7 +8,7 @@ use Rattle.std.specs.Str.Parse.{digits_value, without_leading_sign, signed_digit
 use Rattle.std.proofs.lemmas.Bool.{and_parts, and_right}
 use Rattle.rng_model.specs.datatypes.Texts.{has_bytes}
 use Rattle.rng_types.proofs.Decimals.{sign_spaced, none_if}
-use Rattle.xsd_model.specs.Numbers.{are_digits, integer_of}
+use Rattle.rng_model.specs.xsd.Numbers.{are_digits, integer_of}
 use Rattle.xsd_types.specs.plain.Digits.{past_zeros, AreSignificant, IsSigned, signed_value}
 
 -- ---- whether a text writes an integer

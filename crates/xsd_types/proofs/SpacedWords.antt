@@ -5,7 +5,7 @@ use Rattle.std.proofs.lemmas.Bool.{and_right}
 use Rattle.rng_model.specs.names.Names.{is_name_char}
 use Rattle.rng_model.specs.datatypes.Facets.{Lengths, fits}
 use Rattle.rng_types.proofs.OnePiece.{all_fails, chars-spaced}
-use Rattle.xsd_model.specs.Names.{is_hyphen, is_name, is_language, is_qname}
+use Rattle.rng_model.specs.xsd.Names.{is_hyphen, is_name, is_language, is_qname}
 use Rattle.xsd_types.specs.plain.Tags.{is_in_tag, rest_of_tags}
 use Rattle.xsd_types.specs.views.View.{word_test}
 use Rattle.xsd_types.specs.declared.words.WordKind.{WordKind}

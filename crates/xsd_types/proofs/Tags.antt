@@ -5,7 +5,7 @@ use Rattle.std.proofs.Math.Nat.{add-zero}
 use Rattle.std.specs.List.{list_all, slice_split}
 use Rattle.std.proofs.lemmas.List.Splits.{slice_split-cons_no, length-slice_split}
 use Rattle.std.proofs.lemmas.Bool.{and_left, and_right}
-use Rattle.xsd_model.specs.Names.{is_hyphen, is_tag, is_letter_or_digit, are_tags, is_language}
+use Rattle.rng_model.specs.xsd.Names.{is_hyphen, is_tag, is_letter_or_digit, are_tags, is_language}
 use Rattle.xsd_types.specs.plain.Tags.{is_in_tag, rest_of_tags}
 
 -- so many bytes, of one to eight

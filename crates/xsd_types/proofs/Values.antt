@@ -5,7 +5,7 @@ use Rattle.std.specs.Ordering.{int_eq, int_cmp, is_lt}
 use Rattle.std.specs.Str.{bytes_eq}
 use Rattle.std.proofs.lemmas.Bool.Decides.{Decides-int_eq}
 use Rattle.rng_model.specs.datatypes.Texts.{Value, number, text_if, are_equal}
-use Rattle.xsd_model.specs.Types.{number_if}
+use Rattle.rng_model.specs.xsd.Types.{number_if}
 
 -- two texts with values of the same kind
 pub texts_if : (f g : Bool) (v w : List ℕ) → are_equal (text_if f v) (text_if g w) ≡ (f && (g && bytes_eq v w))

@@ -2,8 +2,8 @@
 ghost use Rattle.std.specs.Prelude.{◌≡◌, map};
 ghost use Rattle.std.specs.Option.{option_and_then};
 ghost use Rattle.rng_model.specs.datatypes.DatatypeViews.{parameter_of};
-ghost use Rattle.xsd_model.specs.Numbers.{counted_from, count_from, integer_of};
-ghost use Rattle.xsd_model.specs.Facets.{written};
+ghost use Rattle.rng_model.specs.xsd.Numbers.{counted_from, count_from, integer_of};
+ghost use Rattle.rng_model.specs.xsd.Facets.{written};
 
 use rng_types::{only_piece, value_named};
 

@@ -3,8 +3,8 @@ ghost use Rattle.std.specs.Prelude.{◌≡◌, ◌&&◌};
 ghost use Rattle.rng_model.specs.datatypes.Datatypes.{is_allowed_by, are_equal_by};
 ghost use Rattle.rng_model.specs.datatypes.Texts.{are_equal};
 ghost use Rattle.rng_model.specs.datatypes.Facets.{is_inside};
-ghost use Rattle.xsd_model.specs.Facets.{is_within_facets};
-ghost use Rattle.xsd_model.specs.Types.{xsd_number};
+ghost use Rattle.rng_model.specs.xsd.Facets.{is_within_facets};
+ghost use Rattle.rng_model.specs.xsd.Types.{xsd_number};
 ghost use Rattle.xsd_types.specs.plain.Digits.{IsNumeral, value_of};
 ghost use Rattle.xsd_types.specs.views.View.{range_of, facets_of, number_by};
 

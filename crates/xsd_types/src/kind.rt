@@ -2,7 +2,7 @@
 ghost use Rattle.std.specs.Prelude.{◌≡◌, not};
 ghost use Rattle.std.specs.Option.{option_map};
 ghost use Rattle.rng_model.specs.datatypes.Facets.{named};
-ghost use Rattle.xsd_model.specs.Datatypes.{depends_on_context, from_to, from, up_to, unbounded, text_types, number_types, complete_types};
+ghost use Rattle.rng_model.specs.xsd.Datatypes.{depends_on_context, from_to, from, up_to, unbounded, text_types, number_types, complete_types};
 ghost use Rattle.xsd_types.specs.views.Kinds.{maker_of};
 
 use crate::lists::ItemKind;

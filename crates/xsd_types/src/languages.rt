@@ -1,6 +1,6 @@
 // The spelling of languages.
 ghost use Rattle.std.specs.Prelude.{◌≡◌};
-ghost use Rattle.xsd_model.specs.Names.{is_letter, is_language};
+ghost use Rattle.rng_model.specs.xsd.Names.{is_letter, is_language};
 ghost use Rattle.xsd_types.specs.plain.Tags.{is_in_tag};
 
 /// The most letters and digits between two hyphens.

@@ -4,7 +4,7 @@ ghost use Rattle.std.specs.List.{list_all};
 ghost use Rattle.std.specs.Option.{option_map};
 ghost use Rattle.rng_model.specs.datatypes.DatatypeViews.{parameter_of};
 ghost use Rattle.rng_types.specs.views.View.{lengths_of};
-ghost use Rattle.xsd_model.specs.Facets.{are_facets, is_facet, length_facets, is_range, joined_lengths, written_lengths};
+ghost use Rattle.rng_model.specs.xsd.Facets.{are_facets, is_facet, length_facets, is_range, joined_lengths, written_lengths};
 ghost use Rattle.xsd_types.specs.views.Finding.{IsMade};
 
 use crate::counts::{count, count_named};
@@ -12,7 +12,7 @@ use crate::fault::TypeFault;
 use rng_types::{Lengths, is_once};
 
 // the bounds on lengths that the parameters write
-#[tactic(auto, unfolding(xsd_model::specs::Facets::written_lengths))]
+#[tactic(auto, unfolding(rng_model::specs::xsd::Facets::written_lengths))]
 pub(crate) fn lengths(params: &[(String, String)]) -> Result<Lengths, TypeFault>
     ensures { IsMade lengths_of (written_lengths (map parameter_of params.now)) result }
 {

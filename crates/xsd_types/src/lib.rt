@@ -1,6 +1,6 @@
 //! The datatypes of the complete set: which texts each allows, and which texts are equal in it. No program uses them yet.
 //!
-//! Each datatype follows the table of `xsd_model/specs/Datatypes.antt` and proves the laws of `rng_types::Datatype`. A
+//! Each datatype follows the table of `rng_model/specs/xsd/Datatypes.antt` and proves the laws of `rng_types::Datatype`. A
 //! text is judged without memory. A search copies the texts of bounds.
 #![tactic(auto)]
 

@@ -4,7 +4,7 @@ ghost use Rattle.std.specs.List.{list_all};
 ghost use Rattle.rng_model.specs.datatypes.Texts.{pieces};
 ghost use Rattle.rng_model.specs.datatypes.Datatypes.{is_allowed_by, are_equal_by};
 ghost use Rattle.rng_types.specs.views.View.{lengths_of};
-ghost use Rattle.xsd_model.specs.Types.{xsd_list};
+ghost use Rattle.rng_model.specs.xsd.Types.{xsd_list};
 ghost use Rattle.xsd_types.specs.views.View.{item_test};
 
 use rng_model::{Pieces, is_ncname};

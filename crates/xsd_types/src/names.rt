@@ -1,7 +1,7 @@
 // The spelling of names.
 ghost use Rattle.std.specs.Prelude.{◌≡◌};
 ghost use Rattle.std.specs.Str.{chars};
-ghost use Rattle.xsd_model.specs.Names.{is_name, is_qname};
+ghost use Rattle.rng_model.specs.xsd.Names.{is_name, is_qname};
 
 use rng_model::{is_name_char, is_name_start, is_ncname};
 

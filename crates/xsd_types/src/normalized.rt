@@ -4,8 +4,8 @@ ghost use Rattle.std.specs.Str.{bytes_eq};
 ghost use Rattle.rng_model.specs.datatypes.Datatypes.{is_allowed_by, are_equal_by};
 ghost use Rattle.rng_model.specs.datatypes.Facets.{fits};
 ghost use Rattle.rng_types.specs.views.View.{lengths_of};
-ghost use Rattle.xsd_model.specs.Names.{replaced, replaced_byte};
-ghost use Rattle.xsd_model.specs.Types.{xsd_normalized};
+ghost use Rattle.rng_model.specs.xsd.Names.{replaced, replaced_byte};
+ghost use Rattle.rng_model.specs.xsd.Types.{xsd_normalized};
 
 use rng_types::{Lengths, char_count};
 

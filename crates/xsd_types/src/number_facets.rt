@@ -4,9 +4,9 @@ ghost use Rattle.std.specs.List.{list_all};
 ghost use Rattle.std.specs.Option.{option_map, option_and_then};
 ghost use Rattle.rng_model.specs.datatypes.DatatypeViews.{parameter_of};
 ghost use Rattle.rng_model.specs.datatypes.Facets.{named};
-ghost use Rattle.xsd_model.specs.Numbers.{written_integer};
-ghost use Rattle.xsd_model.specs.Facets.{are_facets, is_facet, is_read, bound_of, number_facets, is_within_facets, is_above_lower, is_below_upper, is_one};
-ghost use Rattle.xsd_model.specs.Facets.{are_single, are_in_order, is_inclusive_in_order, is_exclusive_in_order, clash, facets_of, written_facets};
+ghost use Rattle.rng_model.specs.xsd.Numbers.{written_integer};
+ghost use Rattle.rng_model.specs.xsd.Facets.{are_facets, is_facet, is_read, bound_of, number_facets, is_within_facets, is_above_lower, is_below_upper, is_one};
+ghost use Rattle.rng_model.specs.xsd.Facets.{are_single, are_in_order, is_inclusive_in_order, is_exclusive_in_order, clash, facets_of, written_facets};
 ghost use Rattle.xsd_types.specs.plain.Digits.{IsNumeral, value_of};
 ghost use Rattle.xsd_types.specs.views.View as view;
 ghost use Rattle.xsd_types.specs.views.Finding.{IsMade, IsMadeOf};
@@ -124,7 +124,7 @@ fn is_below_bound(a: Option<&str>, b: Option<&str>) -> bool
 }
 
 // the facets that the parameters write
-#[tactic(auto, unfolding(xsd_model::specs::Facets::written_facets))]
+#[tactic(auto, unfolding(rng_model::specs::xsd::Facets::written_facets))]
 pub(crate) fn number_facets(
     alloc: Global,
     range: &Range,

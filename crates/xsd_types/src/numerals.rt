@@ -4,8 +4,8 @@ ghost use Rattle.std.specs.Ordering.{int_cmp, int_eq, nat_cmp};
 ghost use Rattle.std.specs.Option.{option_map, option_and_then};
 ghost use Rattle.std.specs.Str.Parse.{starts_with_minus, digits_value};
 ghost use Rattle.rng_model.specs.datatypes.Facets.{passes};
-ghost use Rattle.xsd_model.specs.Numbers.{are_digits, integer_of, written_integer};
-ghost use Rattle.xsd_model.specs.Facets.{has_digits};
+ghost use Rattle.rng_model.specs.xsd.Numbers.{are_digits, integer_of, written_integer};
+ghost use Rattle.rng_model.specs.xsd.Facets.{has_digits};
 ghost use Rattle.xsd_types.specs.plain.Digits.{past_zeros, AreSignificant, IsNumeral, value_of};
 
 use rng_types::{are_digits, only_piece, without_sign};

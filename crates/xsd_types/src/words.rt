@@ -2,7 +2,7 @@
 ghost use Rattle.std.specs.Prelude.{◌≡◌};
 ghost use Rattle.rng_model.specs.datatypes.Datatypes.{is_allowed_by, are_equal_by};
 ghost use Rattle.rng_types.specs.views.View.{lengths_of};
-ghost use Rattle.xsd_model.specs.Types.{xsd_word};
+ghost use Rattle.rng_model.specs.xsd.Types.{xsd_word};
 ghost use Rattle.xsd_types.specs.views.View.{word_test};
 
 use crate::languages::is_language;

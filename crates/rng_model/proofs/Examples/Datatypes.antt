@@ -4,7 +4,7 @@ use Rattle.std.specs.Str.{chars}
 use Rattle.rng_model.specs.simple.Tree.{Datatype}
 use Rattle.rng_model.specs.datatypes.Texts.{collapse, pieces}
 use Rattle.rng_model.specs.datatypes.Facets.{Lengths, Bounds, integer_of, length_of, truth_of, Parameter, named, written_range}
-use Rattle.rng_model.specs.datatypes.Datatypes.{plain_string, plain_token, xsd_string, xsd_token, xsd_ncname, xsd_nmtoken, xsd_boolean, xsd_integer}
+use Rattle.rng_model.specs.datatypes.Datatypes.{plain_string, plain_token, xsd_token, xsd_ncname, xsd_nmtoken, xsd_boolean, xsd_integer}
 use Rattle.rng_model.specs.datatypes.Datatypes.{xsd_uri, libraries, type_named, meaning_of, is_allowed_by, are_equal_by}
 
 abbrev no_lengths : Lengths

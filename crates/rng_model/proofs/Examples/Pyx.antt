@@ -1,7 +1,7 @@
 -- Documents in PYX: the tree of some lines, and lines that break a clause.
 use Rattle.std.proofs.Common.{◌≡◌, ◌≢◌, ℕ, Bool, true, false, not, List, [], ◌∷◌, ◌++◌, length, codes, Option, Some, None, ◌∙◌, inl, inr, refl, sym, ap}
-use Rattle.std.proofs.Common.{arith, subst, true≢false}
-use Rattle.std.specs.Prelude.{◌<◌, ◌≤◌, ◌⊎◌, nat_le, ◌==◌, All}
+use Rattle.std.proofs.Common.{arith, true≢false}
+use Rattle.std.specs.Prelude.{◌<◌, ◌⊎◌, nat_le, ◌==◌, All}
 use Rattle.std.specs.List.{list_all, AllByRecursion}
 use Rattle.std.specs.Str.{is_utf8, chars}
 use Rattle.std.proofs.lemmas.Bool.{and_parts, leb-true}
@@ -13,14 +13,14 @@ use Rattle.rng_model.specs.matching.Document.{Attribute, Distinct, none, one_mor
 use Rattle.rng_model.specs.documents.Lines.{Line, lines, line_limit, HasKind, nothing}
 use Rattle.rng_model.specs.documents.PyxLines.{IsNcnameText, IsName, alone, prefixed, StandsFor, at_end, itself, Said, QName, start, attribute, text, end}
 use Rattle.rng_model.specs.documents.PyxLines.{instruction}
-use Rattle.rng_model.specs.documents.PyxLines.{Says, says_start, says_attribute, says_text, says_end, says_instruction, IsGoodLine, AreGoodLines, no_lines}
+use Rattle.rng_model.specs.documents.PyxLines.{Says, says_start, says_attribute, says_text, says_end, says_instruction, IsGoodLine, no_lines}
 use Rattle.rng_model.specs.documents.PyxLines.{line_and}
 use Rattle.rng_model.specs.documents.PyxNamespaces.{none_written, written_and, WrittenAttribute, nothing as parted_nothing, declaration, other, Declares}
 use Rattle.rng_model.specs.documents.PyxNamespaces.{default_namespace}
 use Rattle.rng_model.specs.documents.PyxNamespaces.{prefix_declared, DeclaresNothing, NamespaceDeclaration, IsForbidden, of_xmlns_uri, of_xmlns, of_nothing}
 use Rattle.rng_model.specs.documents.PyxNamespaces.{xml_as_another}
 use Rattle.rng_model.specs.documents.PyxNamespaces.{another_as_xml, xmlns_uri, xmlns, HasNamespace, declared_here, xml_beforehand, no_default}
-use Rattle.rng_model.specs.documents.PyxNamespaces.{declared_outside, HasNoNamespace, NamespaceScope}
+use Rattle.rng_model.specs.documents.PyxNamespaces.{declared_outside, HasNoNamespace}
 use Rattle.rng_model.specs.documents.PyxNamespaces.{element_name, with_prefix, none_left, expanded_and}
 use Rattle.rng_model.specs.documents.PyxClauses.{BreaksHere, too_long, within as within_limit}
 use Rattle.rng_model.specs.documents.PyxClauses.{BeginsOtherwise, none_open, SaysTag, no_tags, EndsWithTag, element_prefix, namespaces, expanded_twice}

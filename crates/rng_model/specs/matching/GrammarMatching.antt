@@ -7,7 +7,7 @@ use Rattle.rng_model.specs.matching.Document.{Item}
 use Rattle.rng_model.specs.matching.Matching.{Leaves, IsValid, HasText}
 use Rattle.rng_model.specs.datatypes.Texts.{Texts, TextTests}
 use Rattle.rng_model.specs.simple.Table.{Table, grammar_of}
-use Rattle.rng_model.specs.datatypes.Datatypes.{text_tests}
+use Rattle.rng_model.specs.xsd.TypeSets.{tests_in}
 
 -- the grammar lists this class and this body for the element
 pub data IsListed (g : Grammar) : ⊤ → ℕ → NameClass → ⊤ → Tree ℕ → Type 0 where
@@ -30,4 +30,4 @@ pub record Reading : Type 0 where
 
 -- a grammar as matching reads it
 abbrev pub reading_of : Table → Reading
-reading_of t = record { grammar = grammar_of t; tests = text_tests }
+reading_of t = record { grammar = grammar_of t; tests = tests_in t.types }

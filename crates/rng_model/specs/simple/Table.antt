@@ -10,12 +10,15 @@ use Rattle.rng_model.specs.declared.name.NameClass.{NameClass}
 use Rattle.rng_model.specs.declared.simple.PatternId.{PatternId}
 use Rattle.rng_model.specs.declared.simple.Simple.{Simple}
 use Rattle.rng_model.specs.declared.simple.Simple.TheVariants as simple
+use Rattle.rng_model.specs.declared.type_set.TypeSet.{TypeSet}
 
--- the patterns, the elements (a name class and the position of a body), and where to start
+-- the patterns, the elements (a name class and the position of a body), where to start, and the set of datatypes that the
+-- patterns name
 pub record Table : Type 0 where
   pub patterns : List Simple
   pub elements : List (NameClass × PatternId)
   pub start : PatternId
+  pub types : TypeSet
 
 -- a pattern as a tree, made of the trees of its children
 abbrev pub tree_over : (PatternId → tree.Simple ℕ) → Simple → tree.Simple ℕ

@@ -2,13 +2,14 @@
 use Rattle.std.specs.Prelude.{◌≡◌, ℕ, ◌<◌, ⊤, List, length, All, slice_get, Some, Bool, true, ◌==◌, ◌&&◌, IsTrue, string_bytes}
 use Rattle.std.specs.List.{list_all}
 use Rattle.rng_model.specs.datatypes.DatatypeViews.{datatype_of}
-use Rattle.rng_model.specs.datatypes.Datatypes.{IsKnownDatatype}
 use Rattle.rng_model.specs.schema.Patterns.{without_parameters}
 use Rattle.rng_model.specs.simple.Table.{Table}
+use Rattle.rng_model.specs.xsd.TypeSets.{IsKnownIn}
 use Rattle.rng_model.specs.declared.name.NameClass.{NameClass, fold-NameClass}
 use Rattle.rng_model.specs.declared.name.NameClass.TheOpen.{NameClass-F}
 use Rattle.rng_model.specs.declared.simple.Simple.{Simple}
 use Rattle.rng_model.specs.declared.simple.Simple.TheVariants as simple
+use Rattle.rng_model.specs.declared.type_set.TypeSet.{TypeSet}
 
 -- the position of each child is below n
 abbrev pub AreChildrenBelow : ℕ → Simple → Type 0
@@ -71,22 +72,22 @@ IsClassPaired (simple.Group a b) = ⊤
 IsClassPaired (simple.Interleave a b) = ⊤
 IsClassPaired (simple.Choice a b) = ⊤
 
--- the datatype of a data or a value is known, with parameters that it takes (RELAX NG Specification, section 4.16); the
--- datatype of a value has none
-abbrev pub IsDatatypeKnown : Simple → Type 0
-IsDatatypeKnown simple.NotAllowed = ⊤
-IsDatatypeKnown simple.Empty = ⊤
-IsDatatypeKnown simple.Text = ⊤
-IsDatatypeKnown (simple.Element e) = ⊤
-IsDatatypeKnown (simple.Attribute class body) = ⊤
-IsDatatypeKnown (simple.List body) = ⊤
-IsDatatypeKnown (simple.Data datatype) = IsKnownDatatype (datatype_of datatype.value)
-IsDatatypeKnown (simple.DataExcept datatype except) = IsKnownDatatype (datatype_of datatype.value)
-IsDatatypeKnown (simple.Value value) = IsKnownDatatype (without_parameters (string_bytes value.value.library) (string_bytes value.value.name))
-IsDatatypeKnown (simple.OneOrMore body) = ⊤
-IsDatatypeKnown (simple.Group a b) = ⊤
-IsDatatypeKnown (simple.Interleave a b) = ⊤
-IsDatatypeKnown (simple.Choice a b) = ⊤
+-- the datatype of a data or a value is one of the set, with parameters that it takes (RELAX NG Specification, section
+-- 4.16); the datatype of a value has none
+abbrev pub IsDatatypeKnown : TypeSet → Simple → Type 0
+IsDatatypeKnown types simple.NotAllowed = ⊤
+IsDatatypeKnown types simple.Empty = ⊤
+IsDatatypeKnown types simple.Text = ⊤
+IsDatatypeKnown types (simple.Element e) = ⊤
+IsDatatypeKnown types (simple.Attribute class body) = ⊤
+IsDatatypeKnown types (simple.List body) = ⊤
+IsDatatypeKnown types (simple.Data datatype) = IsKnownIn types (datatype_of datatype.value)
+IsDatatypeKnown types (simple.DataExcept datatype except) = IsKnownIn types (datatype_of datatype.value)
+IsDatatypeKnown types (simple.Value value) = IsKnownIn types (without_parameters (string_bytes value.value.library) (string_bytes value.value.name))
+IsDatatypeKnown types (simple.OneOrMore body) = ⊤
+IsDatatypeKnown types (simple.Group a b) = ⊤
+IsDatatypeKnown types (simple.Interleave a b) = ⊤
+IsDatatypeKnown types (simple.Choice a b) = ⊤
 
 -- each pattern's children are before it
 abbrev pub Falls : List Simple → Type 0
@@ -99,4 +100,4 @@ pub record IsTable (t : Table) : Type 0 where
   pub listed : All (IsLeafListed (length t.elements)) t.patterns
   pub paired : All IsClassPaired t.patterns
   pub paired_elements : All (λ e. IsPaired e.0) t.elements
-  pub datatypes : All IsDatatypeKnown t.patterns
+  pub datatypes : All (IsDatatypeKnown t.types) t.patterns

@@ -1,6 +1,6 @@
 -- The spelling of languages, read byte by byte.
 use Rattle.std.specs.Prelude.{ℕ, ◌+◌, List, [], ◌∷◌, Bool, true, false, ◌&&◌, nat_le, nat_lt, if◌then◌else◌}
-use Rattle.xsd_model.specs.Names.{is_letter, is_letter_or_digit, is_hyphen}
+use Rattle.rng_model.specs.xsd.Names.{is_letter, is_letter_or_digit, is_hyphen}
 
 -- the bytes that the first tag may have, or a further one
 abbrev pub is_in_tag : Bool → ℕ → Bool

@@ -1,8 +1,8 @@
 -- What each kind of a type makes of its parameters.
 use Rattle.rng_model.specs.datatypes.Facets.{Lengths}
 use Rattle.rng_model.specs.datatypes.Datatypes.{Meaning, Maker, without, xsd_string, xsd_token, xsd_ncname, xsd_nmtoken, xsd_boolean}
-use Rattle.xsd_model.specs.Types.{xsd_normalized, xsd_word, xsd_list, xsd_qname}
-use Rattle.xsd_model.specs.Datatypes.{with_lengths, with_number_facets}
+use Rattle.rng_model.specs.xsd.Types.{xsd_normalized, xsd_word, xsd_list, xsd_qname}
+use Rattle.rng_model.specs.xsd.Datatypes.{with_lengths, with_number_facets}
 use Rattle.xsd_types.specs.declared.kind.Kind.{Kind}
 use Rattle.xsd_types.specs.declared.kind.Kind.TheVariants as kinds
 use Rattle.xsd_types.specs.declared.kind.TextKind.{TextKind}

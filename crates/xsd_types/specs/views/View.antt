@@ -8,11 +8,11 @@ use Rattle.rng_model.specs.datatypes.Facets as facets
 use Rattle.rng_model.specs.datatypes.Facets.{is_inside}
 use Rattle.rng_model.specs.datatypes.Datatypes.{Meaning, is_nmtoken, xsd_string, xsd_token, xsd_ncname, xsd_nmtoken, xsd_boolean}
 use Rattle.rng_types.specs.views.View.{lengths_of}
-use Rattle.xsd_model.specs.Names.{is_name, is_language, is_qname}
-use Rattle.xsd_model.specs.Numbers.{written_integer}
-use Rattle.xsd_model.specs.Facets as written
-use Rattle.xsd_model.specs.Facets.{is_within_facets}
-use Rattle.xsd_model.specs.Types.{xsd_normalized, xsd_word, xsd_list, xsd_number, number_if}
+use Rattle.rng_model.specs.xsd.Names.{is_name, is_language, is_qname}
+use Rattle.rng_model.specs.xsd.Numbers.{written_integer}
+use Rattle.rng_model.specs.xsd.Facets as written
+use Rattle.rng_model.specs.xsd.Facets.{is_within_facets}
+use Rattle.rng_model.specs.xsd.Types.{xsd_normalized, xsd_word, xsd_list, xsd_number, number_if}
 use Rattle.xsd_types.specs.declared.words.WordKind.{WordKind}
 use Rattle.xsd_types.specs.declared.words.WordKind.TheVariants as words
 use Rattle.xsd_types.specs.declared.lists.ItemKind.{ItemKind}

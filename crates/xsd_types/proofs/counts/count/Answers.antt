@@ -1,6 +1,6 @@
 use Rattle.std.proofs.Common.{None, ap, ◌∙◌, sym}
 use Rattle.std.specs.Option.{option_and_then}
-use Rattle.xsd_model.specs.Numbers.{integer_of, counted_from}
+use Rattle.rng_model.specs.xsd.Numbers.{integer_of, counted_from}
 use Rattle.rng_types.proofs.OnePiece.{collapse-only, collapse-other}
 use Rattle.xsd_types.proofs.Signs.{integer-empty, integer-spaced}
 use Rattle.xsd_types.proofs.counts.count.Goals as goal

@@ -1,6 +1,6 @@
 use Rattle.std.proofs.Common.{Some, ap, ◌∙◌, sym}
 use Rattle.rng_model.specs.datatypes.Facets.{named}
-use Rattle.xsd_model.specs.Datatypes.{number_types}
+use Rattle.rng_model.specs.xsd.Datatypes.{number_types}
 use Rattle.xsd_types.proofs.kind.find_number.Goals as goal
 
 pub returns-in-long : goal.returns-in-long

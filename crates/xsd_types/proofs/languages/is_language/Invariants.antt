@@ -1,5 +1,5 @@
 use Rattle.std.proofs.Common.{◌≡◌, ◌≤◌, length}
-use Rattle.xsd_model.specs.Names.{is_language}
+use Rattle.rng_model.specs.xsd.Names.{is_language}
 use Rattle.xsd_types.specs.plain.Tags.{rest_of_tags}
 use Rattle.xsd_types.proofs.languages.is_language.Given as goal
 

@@ -3,7 +3,7 @@ use Rattle.std.proofs.lemmas.Iterator.{YieldsList-from_slice}
 use Rattle.std.proofs.lemmas.Iterator.Search.{all_from_yields_List}
 use Rattle.std.proofs.lemmas.List.Folds.{list_all-map}
 use Rattle.rng_model.specs.datatypes.DatatypeViews.{parameter_of}
-use Rattle.xsd_model.specs.Facets.{is_facet, length_facets}
+use Rattle.rng_model.specs.xsd.Facets.{is_facet, length_facets}
 use Rattle.xsd_types.proofs.lengths.bound_lengths.Goals as goal
 
 pub returns : goal.returns

@@ -5,7 +5,7 @@ use Rattle.std.proofs.lemmas.Str.{chars_past_char, IsUtf8-past_char}
 use Rattle.std.proofs.lemmas.Iterator.{YieldsList-from_chars}
 use Rattle.std.proofs.lemmas.Iterator.Search.{all_from_yields_List}
 use Rattle.rng_model.specs.names.Names.{is_name_char}
-use Rattle.xsd_model.specs.Names.{is_name}
+use Rattle.rng_model.specs.xsd.Names.{is_name}
 use Rattle.xsd_types.proofs.names.is_name.Goals as goal
 
 pub returns-then-is_name_start : goal.returns-then-is_name_start

@@ -1,6 +1,6 @@
 use Rattle.std.proofs.Common.{◌≡◌, length}
 use Rattle.std.specs.Str.{bytes_eq}
-use Rattle.xsd_model.specs.Names.{replaced}
+use Rattle.rng_model.specs.xsd.Names.{replaced}
 use Rattle.xsd_types.proofs.normalized.is_same_replaced.Given as goal
 
 abbrev pub invariant-bytes : goal.invariant-bytes

@@ -1,5 +1,5 @@
 use Rattle.std.proofs.Common.{ap, ◌∙◌, sym}
-use Rattle.xsd_model.specs.Numbers.{are_digits}
+use Rattle.rng_model.specs.xsd.Numbers.{are_digits}
 use Rattle.xsd_types.proofs.Signs.{no_integer, numeral_value, all_digits}
 use Rattle.xsd_types.proofs.numerals.numeral_in.Goals as goal
 

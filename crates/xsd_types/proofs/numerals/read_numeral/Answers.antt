@@ -1,5 +1,5 @@
 use Rattle.std.proofs.Common.{None, ap, ◌∙◌, sym}
-use Rattle.xsd_model.specs.Numbers.{integer_of}
+use Rattle.rng_model.specs.xsd.Numbers.{integer_of}
 use Rattle.rng_types.proofs.OnePiece.{collapse-only, collapse-other}
 use Rattle.xsd_types.proofs.Signs.{integer-empty, integer-spaced}
 use Rattle.xsd_types.proofs.numerals.read_numeral.Goals as goal

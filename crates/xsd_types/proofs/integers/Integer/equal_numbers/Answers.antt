@@ -2,7 +2,7 @@ use Rattle.std.proofs.Common.{◌&&◌, ℤ, Bool, ap, ◌∙◌, sym}
 use Rattle.std.specs.Ordering.{int_eq}
 use Rattle.std.proofs.lemmas.Bool.{and_left}
 use Rattle.rng_model.specs.datatypes.Facets.{is_inside}
-use Rattle.xsd_model.specs.Facets.{is_within_facets}
+use Rattle.rng_model.specs.xsd.Facets.{is_within_facets}
 use Rattle.xsd_types.specs.plain.Digits.{value_of}
 use Rattle.xsd_types.specs.views.View.{range_of, facets_of}
 use Rattle.xsd_types.proofs.Values.{numbers_if}

@@ -4,7 +4,7 @@ use Rattle.std.specs.Prelude.{not, ◌&&◌, ◌||◌, if◌then◌else◌}
 use Rattle.std.specs.List.{list_all}
 use Rattle.std.specs.Option.{option_and_then}
 use Rattle.rng_model.specs.datatypes.Facets.{Lengths, Bounds, passes, is_inside, Parameter, named, is_once}
-use Rattle.xsd_model.specs.Numbers.{count_of, digit_count_of, written_integer}
+use Rattle.rng_model.specs.xsd.Numbers.{count_of, digit_count_of, written_integer}
 
 -- ---- which parameters a type takes
 

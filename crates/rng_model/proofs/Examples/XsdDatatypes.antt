@@ -4,10 +4,10 @@ use Rattle.std.specs.Str.{chars}
 use Rattle.rng_model.specs.datatypes.Texts.{collapse, pieces}
 use Rattle.rng_model.specs.datatypes.Facets.{Parameter}
 use Rattle.rng_model.specs.datatypes.Datatypes.{known_allows, known_equates}
-use Rattle.xsd_model.specs.Names.{is_language, is_qname}
-use Rattle.xsd_model.specs.Numbers.{integer_of, count_of}
-use Rattle.xsd_model.specs.Facets.{written_lengths, written_facets}
-use Rattle.xsd_model.specs.Datatypes.{meaning_named}
+use Rattle.rng_model.specs.xsd.Names.{is_language, is_qname}
+use Rattle.rng_model.specs.xsd.Numbers.{integer_of, count_of}
+use Rattle.rng_model.specs.xsd.Facets.{written_lengths, written_facets}
+use Rattle.rng_model.specs.xsd.Datatypes.{meaning_named}
 
 abbrev allows : List ℕ → List Parameter → List ℕ → Bool
 allows name ps s = known_allows (meaning_named name ps) s

@@ -8,9 +8,9 @@ use Rattle.rng_model.specs.names.Names.{is_ncname}
 use Rattle.rng_model.specs.datatypes.Texts.{collapse, pieces, Value, number, text_if}
 use Rattle.rng_model.specs.datatypes.Facets.{Lengths, Bounds, fits, is_within, is_inside}
 use Rattle.rng_model.specs.datatypes.Datatypes.{is_nmtoken}
-use Rattle.xsd_model.specs.Names.{replaced, is_name, is_language, is_qname}
-use Rattle.xsd_model.specs.Numbers.{written_integer}
-use Rattle.xsd_model.specs.Facets.{NumberFacets, is_within_facets}
+use Rattle.rng_model.specs.xsd.Names.{replaced, is_name, is_language, is_qname}
+use Rattle.rng_model.specs.xsd.Numbers.{written_integer}
+use Rattle.rng_model.specs.xsd.Facets.{NumberFacets, is_within_facets}
 
 -- ---- texts
 

@@ -1,19 +1,18 @@
--- The complete set of datatypes: a table of the types of XML Schema, each with the parameters that it takes and the value
+-- The set `XmlSchema` of datatypes: a table of the types of XML Schema, each with the parameters that it takes and the value
 -- of each text (XML Schema Part 2, Second Edition, section 3; RELAX NG Specification, sections 4.16, 6.2.8 and 6.2.9).
 --
 -- A type that is not in the table is not served yet: decimal, the floats, dates, durations and octets. Nor is the
 -- parameter `pattern`, which each type is to take besides its own (section 4.3.4).
-use Rattle.std.specs.Prelude.{codes, ℕ, List, [], ◌∷◌, ◌++◌, Bool, Option, None, is_some, not, IsTrue, ◌||◌}
+use Rattle.std.specs.Prelude.{codes, ℕ, List, [], ◌∷◌, ◌++◌, Bool, Option, None, not, ◌||◌}
 use Rattle.std.specs.Option.{option_map, option_and_then}
 use Rattle.std.specs.Str.{bytes_eq}
 use Rattle.rng_model.specs.simple.Tree.{Datatype}
-use Rattle.rng_model.specs.datatypes.Texts.{TextTests, pieces}
 use Rattle.rng_model.specs.datatypes.Facets.{Lengths, Bounds, Parameter, named}
-use Rattle.rng_model.specs.datatypes.Datatypes.{Meaning, Maker, without, plain_types, xsd_uri, known_allows, known_equates}
+use Rattle.rng_model.specs.datatypes.Datatypes.{Meaning, Maker, without, plain_types, xsd_uri}
 use Rattle.rng_model.specs.datatypes.Datatypes.{xsd_string, xsd_token, xsd_ncname, xsd_nmtoken, xsd_boolean}
-use Rattle.xsd_model.specs.Numbers.{written_integer}
-use Rattle.xsd_model.specs.Facets.{written_lengths, written_facets}
-use Rattle.xsd_model.specs.Types.{xsd_normalized, xsd_language, xsd_name, xsd_qname, xsd_nmtokens, xsd_ncnames, xsd_number}
+use Rattle.rng_model.specs.xsd.Numbers.{written_integer}
+use Rattle.rng_model.specs.xsd.Facets.{written_lengths, written_facets}
+use Rattle.rng_model.specs.xsd.Types.{xsd_normalized, xsd_language, xsd_name, xsd_qname, xsd_nmtokens, xsd_ncnames, xsd_number}
 
 -- ---- which parameters a type takes
 
@@ -94,21 +93,10 @@ meaning_named name ps = option_and_then (λ make. make ps) (named name complete_
 abbrev pub complete_libraries : List (List ℕ × List (List ℕ × Maker))
 complete_libraries = ([], plain_types) ∷ (xsd_uri, complete_types) ∷ []
 
+-- the values of texts in a datatype, if the set has it
 abbrev pub complete_meaning_of : Datatype → Option Meaning
 complete_meaning_of d = option_and_then (λ make. make d.parameters) (option_and_then (named d.name) (named d.library complete_libraries))
-
--- the datatype is one of the set, with parameters that it takes
-abbrev pub IsCompleteDatatype : Datatype → Type 0
-IsCompleteDatatype d = IsTrue (is_some (complete_meaning_of d))
 
 -- texts may be given as values of the datatype
 abbrev pub takes_values : Datatype → Bool
 takes_values d = not (bytes_eq d.library xsd_uri) || not (depends_on_context d.name)
-
--- what the datatypes of the set say of texts
-abbrev pub complete_tests : TextTests
-complete_tests = record {
-  allows = λ d s. known_allows (complete_meaning_of d) s;
-  equals = λ d v w. known_equates (complete_meaning_of d) v w;
-  pieces = pieces;
-}

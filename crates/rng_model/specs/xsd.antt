@@ -1,0 +1,8 @@
+-- The set `XmlSchema` of datatypes, and what depends on which set a schema is compiled with.
+pub mod Names
+pub mod Numbers
+pub mod Facets
+pub mod Types
+pub mod Datatypes
+pub mod TypeSets
+pub mod SchemasWith
