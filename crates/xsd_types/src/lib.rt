@@ -1,6 +1,6 @@
-//! The datatypes of the complete set: which texts each allows, and which texts are equal in it. No program uses them yet.
+//! The datatypes of the sets with which a schema is compiled: which texts each allows, and which texts are equal in it.
 //!
-//! Each datatype follows the table of `rng_model/specs/xsd/Datatypes.antt` and proves the laws of `rng_types::Datatype`. A
+//! Each datatype follows the table of `rng_model/specs/xsd/Datatypes.antt`, and proves the laws of `rng_types::Datatype`. A
 //! text is judged without memory. A search copies the texts of bounds.
 #![tactic(auto)]
 
@@ -8,6 +8,7 @@ mod counts;
 mod fault;
 mod integers;
 mod kind;
+mod known;
 mod languages;
 mod lengths;
 mod lists;
@@ -22,6 +23,7 @@ mod xsd_type;
 pub use fault::TypeFault;
 pub use integers::Integer;
 pub use kind::takes_values;
+pub use known::{KnownDatatype, takes_values_in};
 pub use lists::{ItemKind, List};
 pub use normalized::NormalizedString;
 pub use number_facets::NumberFacets;

@@ -7,6 +7,7 @@ use Rattle.rng_model.specs.datatypes.Texts.{Value}
 use Rattle.rng_model.specs.datatypes.Facets as facets
 use Rattle.rng_model.specs.datatypes.Facets.{is_inside}
 use Rattle.rng_model.specs.datatypes.Datatypes.{Meaning, is_nmtoken, xsd_string, xsd_token, xsd_ncname, xsd_nmtoken, xsd_boolean}
+use Rattle.rng_types.specs.views.View as builtin
 use Rattle.rng_types.specs.views.View.{lengths_of}
 use Rattle.rng_model.specs.xsd.Names.{is_name, is_language, is_qname}
 use Rattle.rng_model.specs.xsd.Numbers.{written_integer}
@@ -22,6 +23,8 @@ use Rattle.xsd_types.specs.declared.number_facets.NumberFacets.{NumberFacets}
 use Rattle.xsd_types.specs.declared.integers.Integer.{Integer}
 use Rattle.xsd_types.specs.declared.xsd_type.XsdType.{XsdType}
 use Rattle.xsd_types.specs.declared.xsd_type.XsdType.TheVariants as types
+use Rattle.xsd_types.specs.declared.known.KnownDatatype.{KnownDatatype}
+use Rattle.xsd_types.specs.declared.known.KnownDatatype.TheVariants as known
 
 -- the test of a word
 abbrev pub word_test : WordKind → List ℕ → Bool
@@ -66,3 +69,7 @@ meaning_by (types.Word d) = xsd_word (word_test d.kind) (lengths_of d.lengths)
 meaning_by (types.List d) = xsd_list (item_test d.kind) (lengths_of d.lengths)
 meaning_by (types.Boolean d) = xsd_boolean
 meaning_by (types.Integer d) = xsd_number (range_of d.range) (facets_of d.facets)
+
+abbrev pub known_meaning : KnownDatatype → Meaning
+known_meaning (known.Builtin d) = builtin.meaning_by d
+known_meaning (known.Xsd d) = meaning_by d
