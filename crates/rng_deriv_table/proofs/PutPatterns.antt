@@ -10,6 +10,7 @@ use Rattle.std.specs.Map.{keys_of}
 use Rattle.std.specs.Option.{option_map}
 use Rattle.indexmap.specs.IndexMap.{insert_entry}
 use Rattle.rng_model.specs.simple.Table.{Table}
+use Rattle.rng_model.specs.declared.type_set.TypeSet.TheVariants.{Profile}
 use Rattle.rng_model.specs.simple.Tree.{s_not_allowed, s_empty}
 use Rattle.rng_deriv_table.specs.plain.Copies.{AreUnits, IsKeptLast, IsUnit}
 use Rattle.rng_deriv_table.specs.views.Node.{node_of}
@@ -62,7 +63,7 @@ module _ (rows : List (Pattern × Facts)) (p : Pattern) (f : Facts) (table : IsP
     (below : ArePartsBelow (length (nodes_of rows)) (node_of p)) (reduced : (t : Table) → AreReduced (tree_of t (nodes_of rows)) (node_of p))
     (known : (t : Table) → f ≡ facts_of (tree_over t (tree_of t (nodes_of rows)) (node_of p))) where
   any_table : Table
-  any_table = record { patterns = []; elements = []; start = record { 0 = 0 } }
+  any_table = record { patterns = []; elements = []; start = record { 0 = 0 }; types = Profile }
 
   known_there : IsKnownThere rows p f
   known_there i r found same =

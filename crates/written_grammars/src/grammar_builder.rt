@@ -3,6 +3,7 @@ ghost use Rattle.std.specs.Bool.{OnTrue};
 ghost use Rattle.rng_model.specs.datatypes.Datatypes.{IsKnownDatatype};
 ghost use Rattle.rng_model.specs.simple.TableRules.{AreChildrenBelow, IsClassPaired, IsDatatypeKnown, IsLeafListed, IsPaired};
 ghost use Rattle.rng_types.specs.views.View.{datatype_at};
+ghost use Rattle.rng_model.specs.declared.type_set.TypeSet.TheVariants.{Profile};
 
 use rng_model::{NameClass, PatternId, Simple, SimpleGrammar};
 use rng_types::Builtin;
@@ -22,6 +23,7 @@ impl Model for GrammarBuilder {
     ghost use Rattle.std.specs.Prelude.{◌<◌, ℕ, List, length, All};
     ghost use Rattle.rng_model.specs.simple.TableRules.{Falls, IsClassPaired, IsDatatypeKnown, IsLeafListed, IsPaired};
     ghost use Rattle.rng_model.specs.declared.simple.Simple.{Simple};
+    ghost use Rattle.rng_model.specs.declared.type_set.TypeSet.TheVariants.{Profile};
     ghost use Rattle.rng_model.specs.declared.simple.PatternId.{PatternId};
     ghost use Rattle.rng_model.specs.declared.name.NameClass.{NameClass};
     ghost use Rattle.rng_model.specs.contracts.name.NameClass as classes;
@@ -34,7 +36,7 @@ impl Model for GrammarBuilder {
     ghost view = { λ d. (d.patterns.items, d.elements.items, d.count) };
 
     ghost invariant = { λ d. Falls d.patterns.items × All (IsLeafListed d.count) d.patterns.items × All (λ e. e.1.0 < length d.patterns.items) d.elements.items × All IsClassPaired d.patterns.items × All (λ e. IsPaired e.0) d.elements.items
-        × All IsDatatypeKnown d.patterns.items };
+        × All (IsDatatypeKnown Profile) d.patterns.items };
 }
 
 impl GrammarBuilder {
@@ -114,7 +116,7 @@ fn is_known(library: &str, name: &str, parameters: &[(String, String)]) -> bool
 /// and its datatype is known.
 fn fits(pattern: &Simple, next: usize, count: usize) -> bool
     ensures tables { OnTrue result (AreChildrenBelow next pattern.now × IsLeafListed count pattern.now × IsClassPaired pattern.now) }
-    ensures known { OnTrue result (IsDatatypeKnown pattern.now) }
+    ensures known { OnTrue result (IsDatatypeKnown Profile pattern.now) }
 {
     match pattern {
         Simple::NotAllowed | Simple::Empty | Simple::Text => true,

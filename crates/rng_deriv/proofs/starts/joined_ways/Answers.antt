@@ -1,6 +1,7 @@
 use Rattle.std.proofs.Common.{subst, List, []}
 use Rattle.std.proofs.lemmas.List.{take_all}
 use Rattle.rng_model.specs.simple.Table.{Table}
+use Rattle.rng_model.specs.declared.type_set.TypeSet.TheVariants.{Profile}
 use Rattle.rng_deriv_table.specs.views.Trees.{tree_of}
 use Rattle.rng_deriv_table.proofs.Trees.{Longer-trans}
 use Rattle.rng_deriv_ways.specs.plain.Ways.{ways_by}
@@ -12,7 +13,7 @@ use Rattle.rng_deriv.proofs.starts.joined_ways.Goals as goal
 -- that numbers are in the table does not depend on the grammar, so any grammar will do
 pub add_way-requires-clause-inside : goal.add_way-requires-clause-inside
 add_way-requires-clause-inside c =
-    let nothing : Table = record { patterns = []; elements = []; start = record { 0 = 0 } } in
+    let nothing : Table = record { patterns = []; elements = []; start = record { 0 = 0 }; types = Profile } in
     (c.ways.invariant.joined nothing).inside
 
 pub ways-preserved : goal.ways-preserved
