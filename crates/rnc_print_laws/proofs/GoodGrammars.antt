@@ -20,13 +20,13 @@ use Rattle.rng_model.specs.schema.SchemaClauses.{BreaksNoClause}
 use Rattle.rng_model.specs.schema.Unfolding.{IsReachedTree, of_start, of_body, IsReachedByTrees, IsReachedBySimpleForms, Leaf}
 use Rattle.rncv_model.specs.printed.Items.{element_at}
 use Rattle.rng_simple.specs.plain.InTwos.{nested, in_twos}
-use Rattle.rng_simple.proofs.InTwos.{is_rewritten}
-use Rattle.rng_simple.proofs.SimpleClass.{class_keeps, is_only_simple_class}
+use Rattle.rng_simple.proofs.Trees.InTwos.{is_rewritten}
+use Rattle.rng_simple.proofs.Trees.SimpleClass.{class_keeps, is_only_simple_class}
 use Rattle.rng_simple.specs.plain.Renamed.{simple_renamed}
 use Rattle.rng_simple.specs.plain.SimpleOf.{simple_of}
-use Rattle.rng_simple.proofs.Renamed.{as_tree_renamed}
-use Rattle.rng_simple.proofs.SimpleForms.{is_only_simple_form}
-use Rattle.rng_simple.proofs.SimpleLeaves.{simply_is_reached}
+use Rattle.rng_simple.proofs.Leaves.Renamed.{as_tree_renamed}
+use Rattle.rng_simple.proofs.Trees.SimpleForms.{is_only_simple_form}
+use Rattle.rng_simple.proofs.Leaves.SimpleLeaves.{simply_is_reached}
 use Rattle.rng_model.proofs.SimpleTrees.{same_simple}
 use Rattle.rnc_print_laws.proofs.SimpleFormParts.{IsFine, reached_there, start_fine, element_fine}
 use Rattle.rnc_print_laws.proofs.RenamedSteps.{step_renamed}

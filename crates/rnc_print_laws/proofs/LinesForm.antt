@@ -21,14 +21,14 @@ use Rattle.rng_model.specs.schema.Unfolding.{IsReachedBySimpleForms, from_simple
 use Rattle.rng_model.proofs.Unfolding.{one_tree}
 use Rattle.rncv_model.specs.printed.Items.{place_in, PrintedItem, element, pattern, same_item, element_at, IsItemsOf}
 use Rattle.rnc_print.proofs.SameTests.{item_exact}
-use Rattle.rng_simple.proofs.SimpleClass.{has_simple_class, class_unchanged}
+use Rattle.rng_simple.proofs.Trees.SimpleClass.{has_simple_class, class_unchanged}
 use Rattle.rng_simple.specs.plain.Renamed.{simple_renamed}
 use Rattle.rng_simple.specs.plain.SimpleOf.{simple_of}
-use Rattle.rng_simple.proofs.NoStep.{unchanged}
-use Rattle.rng_simple.proofs.NumberedSchema.{same_form, one_of_definition}
-use Rattle.rng_simple.proofs.Renamed.{as_tree_renamed, Origin, origin}
-use Rattle.rng_simple.proofs.RenamedTwice.{renamed_twice, renamed_itself}
-use Rattle.rng_simple.proofs.SimpleForms.{has_simple_form}
+use Rattle.rng_simple.proofs.Trees.NoStep.{unchanged}
+use Rattle.rng_simple.proofs.Grammars.NumberedSchema.{same_form, one_of_definition}
+use Rattle.rng_simple.proofs.Leaves.Renamed.{as_tree_renamed, Origin, origin}
+use Rattle.rng_simple.proofs.Leaves.RenamedTwice.{renamed_twice, renamed_itself}
+use Rattle.rng_simple.proofs.Trees.SimpleForms.{has_simple_form}
 use Rattle.rnc_print_laws.specs.plain.LinesSchema.{flattened, IsSchemaOfLines}
 use Rattle.rnc_print_laws.proofs.SimpleFormParts.{leaf_of}
 use Rattle.rnc_print_laws.proofs.FlattenedClasses.{nested_flattened, simple_flattened}

@@ -12,7 +12,7 @@ use Rattle.rng_model.specs.simple.SchemaForm.{Element, SimpleForm, IsElementOf, 
 use Rattle.rng_model.specs.simple.Simplification.{IsSimpleFormOf}
 use Rattle.rng_model.specs.schema.Unfolding.{Leaf}
 use Rattle.rncv_model.specs.printed.Items.{PrintedItem, element_at, IsItemsOf}
-use Rattle.rng_simple.proofs.Renamed.{as_tree_renamed}
+use Rattle.rng_simple.proofs.Leaves.Renamed.{as_tree_renamed}
 use Rattle.rnc_print_laws.specs.plain.LinesSchema.{IsSchemaOfLines}
 use Rattle.rnc_print_laws.proofs.GoodGrammars.{IsGoodGrammar}
 use Rattle.rnc_print_laws.proofs.LineTrees.{leaf_at, placed, line_tree_of}

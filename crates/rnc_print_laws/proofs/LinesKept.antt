@@ -15,10 +15,10 @@ use Rattle.rncv_model.specs.printed.Items.{PrintedItem, element, element_at, IsI
 use Rattle.rnc_print.specs.plain.Renumbered.{AreSameUpToNumbering}
 use Rattle.rnc_print.proofs.OneForm.{one_form, same_numbering}
 use Rattle.rng_simple.specs.plain.InTwos.{in_twos}
-use Rattle.rng_simple.proofs.InTwos.{rewritten_is}
-use Rattle.rng_simple.proofs.NumberedSchema.{one_of_definition, same_class, only_simple_grammar}
-use Rattle.rng_simple.proofs.Renamed.{origin}
-use Rattle.rng_simple.proofs.SameRestrictions.{same_restrictions}
+use Rattle.rng_simple.proofs.Trees.InTwos.{rewritten_is}
+use Rattle.rng_simple.proofs.Grammars.NumberedSchema.{one_of_definition, same_class, only_simple_grammar}
+use Rattle.rng_simple.proofs.Leaves.Renamed.{origin}
+use Rattle.rng_simple.proofs.Grammars.SameRestrictions.{same_restrictions}
 use Rattle.rnc_print_laws.specs.plain.LinesSchema.{IsSchemaOfLines, IsReprinted, IsReprintedAs}
 use Rattle.rncv_model.specs.printed.SchemaText.{IsPrintedForm}
 use Rattle.rnc_print_laws.proofs.FewItems.{items_few}

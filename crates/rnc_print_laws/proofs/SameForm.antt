@@ -10,7 +10,7 @@ use Rattle.rng_model.specs.simple.Grammar.{Grammar}
 use Rattle.rncv_model.specs.printed.Items.{PrintedItem}
 use Rattle.rnc_print.proofs.OneForm.{same_numbering}
 use Rattle.rnc_print.proofs.SameNumberings.{is_form_too}
-use Rattle.rng_simple.proofs.NumberedSchema.{only_simple_grammar}
+use Rattle.rng_simple.proofs.Grammars.NumberedSchema.{only_simple_grammar}
 use Rattle.rnc_print_laws.specs.plain.HandedIn.{IsHandedInAgain, lines_alone, AreFilesOf, HaveSameForm, AreOfSameForm}
 use Rattle.rnc_print_laws.specs.plain.LinesSchema.{IsReprinted, schema_of_lines}
 use Rattle.rnc_print_laws.proofs.LinesKept.{is_reprinted, reprinted_form, reprinted_kept}

@@ -7,7 +7,7 @@ use Rattle.rng_model.specs.schema.Unfolding.{IsBodyOf}
 use Rattle.rng_model.specs.simple.Simplification.{IsSimpleClassOf}
 use Rattle.rng_model.specs.simple.SchemaForm.{SimpleForm, IsElementOf, IsSimpleFormOfSchema}
 use Rattle.rng_model.proofs.Unfolding.{one_tree}
-use Rattle.rng_simple.proofs.NumberedSchema.{same_element, same_class, same_form, one_of_definition}
+use Rattle.rng_simple.proofs.Grammars.NumberedSchema.{same_element, same_class, same_form, one_of_definition}
 use Rattle.rncv_model.specs.answers.Verdict.{IsUnknownIn}
 use Rattle.rncv_run.specs.plain.SameAnswers.{HasPartsOf}
 

@@ -13,7 +13,7 @@ use Rattle.rng_model.specs.declared.fault.SchemaFault.TheVariants as faults
 use Rattle.rncv_validator.specs.plain.LeastFaults.{IsLeastFault}
 use Rattle.rng_model.specs.simple.SimplifiedSchema.{IsSchemaFault}
 use Rattle.rng_model.proofs.ProhibitedPaths.{prohibits}
-use Rattle.rng_simple.proofs.SameRestrictions.{same_restrictions}
+use Rattle.rng_simple.proofs.Grammars.SameRestrictions.{same_restrictions}
 
 at_most : {s : Schema} {clause : ℕ} → BreaksSchemaClause s clause → clause ≤ 17
 at_most (c.in_name_class b) = omega arith

@@ -152,7 +152,7 @@ fn joined_sides(
 }
 
 /// The simple form of no members with this connector.
-#[tactic(auto, using(crate::proofs::SimpleParts::empty_is, crate::proofs::SimpleParts::empty_below))]
+#[tactic(auto, using(crate::proofs::Tables::SimpleParts::empty_is, crate::proofs::Tables::SimpleParts::empty_below))]
 fn no_members(table: &mut RowTable<'_>, connector: Connector) -> Result<usize, AllocError>
     requires table { IsRowTable table.old }
     ensures grown { OnOk result (IsGrown table.old table.new) }

@@ -42,7 +42,7 @@ pub fn class_depth(class: &NameClass) -> u32
 
 /// The depth of a choice of these members. A choice of no members is everything except everything.
 #[cycle(classes)]
-#[tactic(auto, using(crate::proofs::MemberDepths::choice_depth))]
+#[tactic(auto, using(crate::proofs::NumberedGraphs::MemberDepths::choice_depth))]
 fn choice_depth(members: &[NameClass]) -> u32
     ensures { result ≡ cut_off (depth_of_class (nested (some_of (map class_of members.now)))) }
 {
@@ -124,7 +124,7 @@ pub fn definition_depth(definitions: &[u32], j: usize) -> u32
 }
 
 /// The depth of the pattern of these rows, given the depths of the definitions. Uses `depths`.
-#[tactic(auto, using(crate::proofs::MemberDepths::depth_of_child))]
+#[tactic(auto, using(crate::proofs::NumberedGraphs::MemberDepths::depth_of_child))]
 pub fn pattern_depth(
     depths: &mut Vec<u32>,
     rows: &[GraphRow<'_>],
@@ -137,7 +137,7 @@ pub fn pattern_depth(
 }
 
 /// The depth of the body of a definition, given the depths of the others. Uses `depths`.
-#[tactic(auto, using(crate::proofs::MemberDepths::depth_of_combined))]
+#[tactic(auto, using(crate::proofs::NumberedGraphs::MemberDepths::depth_of_combined))]
 pub fn body_depth(
     depths: &mut Vec<u32>,
     body: &GraphBody<'_>,

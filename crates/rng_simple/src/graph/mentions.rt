@@ -21,7 +21,7 @@ pub fn mentions(alloc: Global, graph: &Graph<'_>) -> Result<Vec<Vec<usize>>, All
 }
 
 /// The definitions that a body mentions outside elements.
-#[tactic(auto, using(crate::proofs::Mentioned::mentioned_combined))]
+#[tactic(auto, using(crate::proofs::NumberedGraphs::Mentioned::mentioned_combined))]
 fn body_mentions(alloc: Global, body: &GraphBody<'_>) -> Result<Vec<usize>, AllocError>
     ensures { IfOk result (λ found. found.items ≡ mentioned (graph_body_of body.now)) }
 {
@@ -43,7 +43,7 @@ fn rows_mentions(alloc: Global, rows: &[GraphRow<'_>]) -> Result<Vec<usize>, All
 }
 
 /// Appends the definition of a row, if it is one.
-#[tactic(auto, using(crate::proofs::Mentioned::nothing_added))]
+#[tactic(auto, using(crate::proofs::NumberedGraphs::Mentioned::nothing_added))]
 fn add_mention(found: &mut Vec<usize>, row: &GraphRow<'_>) -> Result<(), AllocError>
     ensures { OnOk result (found.new.items ≡ found.old.items ++ definition_of_row row.now) }
 {

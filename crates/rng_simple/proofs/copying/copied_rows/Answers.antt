@@ -4,7 +4,7 @@ use Rattle.rng_model.proofs.Places.{read_at}
 use Rattle.rng_model.proofs.Unfolding.{some_is}
 use Rattle.rng_simple.specs.plain.Copying.{AreCopied, own_elements, IsRowCopy}
 use Rattle.rng_simple.specs.views.RowTable.{finished_labels}
-use Rattle.rng_simple.proofs.RowCopies.{copied_as, copied_next, skipped, both_children}
+use Rattle.rng_simple.proofs.Tables.RowCopies.{copied_as, copied_next, skipped, both_children}
 use Rattle.rng_simple.proofs.copying.copied_rows.Goals as goal
 use Rattle.rng_simple.proofs.copying.copied_rows.Goals.{then-reached-i+in_ok-pattern+in_ok-push+in_ok-push-2, else-reached-i+in_ok-push-3}
 

@@ -1,7 +1,7 @@
 use Rattle.std.proofs.Common.{◌≡◌, ap, ◌∙◌, ◌∷◌, [], map}
 use Rattle.rng_simple.specs.plain.Search.{lists}
 use Rattle.rng_simple.specs.plain.RowReach.{content_of, nexts}
-use Rattle.rng_simple.proofs.RowReach.{reached_by, by_reached, nexts_below}
+use Rattle.rng_simple.proofs.Tables.RowReach.{reached_by, by_reached, nexts_below}
 use Rattle.rng_simple.proofs.reaching.reached_rows.Goals as goal
 
 pub returns-clause-reached : goal.returns-clause-reached

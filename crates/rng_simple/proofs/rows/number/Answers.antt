@@ -1,7 +1,7 @@
 use Rattle.std.proofs.Common.{rules, ◌≡◌, sym, subst, slice_get, length, Some, None, [], ◌∷◌, ◌++◌}
 use Rattle.rng_model.proofs.Places.{at_place_of_end}
 use Rattle.rng_simple.specs.views.RowIndex.{IsIndex, number_of_row}
-use Rattle.rng_simple.proofs.RowIndex.{index_more}
+use Rattle.rng_simple.proofs.Tables.RowIndex.{index_more}
 use Rattle.rng_simple.proofs.rows.number.Goals as goal
 
 pub returns-clause-index : goal.returns-clause-index

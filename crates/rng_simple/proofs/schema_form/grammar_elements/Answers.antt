@@ -1,7 +1,7 @@
 use Rattle.std.proofs.Common.{◌+◌, get_or, map, take, rules}
 use Rattle.std.proofs.lemmas.List.{take_more}
 use Rattle.rng_model.specs.names.NameViews.{class_of}
-use Rattle.rng_simple.proofs.GrammarElements.{elements_next}
+use Rattle.rng_simple.proofs.Tables.GrammarElements.{elements_next}
 use Rattle.rng_simple.proofs.schema_form.grammar_elements.Goals as goal
 
 pub listed-preserved : goal.listed-preserved

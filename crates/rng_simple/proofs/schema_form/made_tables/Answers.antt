@@ -9,12 +9,12 @@ use Rattle.rng_simple.specs.views.RowTable.{finished_labels, labels_of, tree_of}
 use Rattle.rng_simple.specs.views.Rows.{AreDistinctRows, AreRows}
 use Rattle.rng_simple.specs.plain.SimpleParts.{AreRowsBelow, values_in}
 use Rattle.rng_simple.specs.plain.Worklist.{IsReachedBy}
-use Rattle.rng_simple.proofs.GrammarElements.{copies_as}
-use Rattle.rng_simple.proofs.MadeGrammar.{closed, is_table, is_simple, is_made}
-use Rattle.rng_simple.proofs.RowCopies.{index_apart}
-use Rattle.rng_simple.proofs.SimpleParts.{stay_below}
-use Rattle.rng_simple.proofs.ToldApart.{patterns_apart}
-use Rattle.rng_simple.proofs.UsedPatterns.{all_used}
+use Rattle.rng_simple.proofs.Tables.GrammarElements.{copies_as}
+use Rattle.rng_simple.proofs.Tables.MadeGrammar.{closed, is_table, is_simple, is_made}
+use Rattle.rng_simple.proofs.Tables.RowCopies.{index_apart}
+use Rattle.rng_simple.proofs.Tables.SimpleParts.{stay_below}
+use Rattle.rng_simple.proofs.Tables.ToldApart.{patterns_apart}
+use Rattle.rng_simple.proofs.Tables.UsedPatterns.{all_used}
 use Rattle.rng_simple.proofs.schema_form.made_tables.Goals as goal
 
 pub copied_rows-requires-clause-closed : goal.copied_rows-requires-clause-closed

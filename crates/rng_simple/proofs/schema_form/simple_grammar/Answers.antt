@@ -1,8 +1,8 @@
 use Rattle.rng_model.specs.simple.Table.{grammar_of}
 use Rattle.rng_simple.specs.views.GrammarTables.{table_of}
-use Rattle.rng_simple.proofs.GrammarOf.{made_is_grammar, made_is_only_grammar}
-use Rattle.rng_simple.proofs.KnownDatatypes.{grammar_known}
-use Rattle.rng_simple.proofs.KnownPatterns.{patterns_known}
+use Rattle.rng_simple.proofs.Grammars.GrammarOf.{made_is_grammar, made_is_only_grammar}
+use Rattle.rng_simple.proofs.Grammars.KnownDatatypes.{grammar_known}
+use Rattle.rng_simple.proofs.Tables.KnownPatterns.{patterns_known}
 use Rattle.rng_simple.proofs.schema_form.simple_grammar.Goals as goal
 
 pub new-requires : goal.new-requires

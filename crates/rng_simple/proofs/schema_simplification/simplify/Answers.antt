@@ -3,7 +3,7 @@ use Rattle.std.proofs.lemmas.Result.{err_from_is_err_and}
 use Rattle.rng_load.specs.views.PlacedGrammars.{schema_of}
 use Rattle.rng_model.specs.simple.Table.{grammar_of}
 use Rattle.rng_model.specs.schema.SchemaClauses.{in_datatype, in_ref, without_start}
-use Rattle.rng_simple.proofs.SchemaDocuments.{same_documents}
+use Rattle.rng_simple.proofs.Matching.SchemaDocuments.{same_documents}
 use Rattle.rng_simple.proofs.SimplifiedSchemas.{component_fault, expansion_fault, none_is_broken}
 use Rattle.rng_simple.proofs.schema_simplification.simplify.Goals as goal
 

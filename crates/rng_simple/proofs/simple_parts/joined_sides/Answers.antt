@@ -3,7 +3,7 @@ use Rattle.rng_simple.specs.views.Joining.{connector_of}
 use Rattle.rng_simple.specs.views.RowTable.{tree_of}
 use Rattle.rng_simple.specs.plain.SimpleOf.{join}
 use Rattle.rng_simple.specs.plain.SimpleParts.{joined_simple}
-use Rattle.rng_simple.proofs.SimpleParts.{grown_twice, next_joined}
+use Rattle.rng_simple.proofs.Tables.SimpleParts.{grown_twice, next_joined}
 use Rattle.rng_simple.proofs.simple_parts.joined_sides.Goals as goal
 
 pub loop-next-init : goal.loop-next-init

@@ -5,7 +5,7 @@ use Rattle.rng_simple.proofs.Forests.{no_rows}
 use Rattle.rng_simple.specs.plain.GrammarBy.{spot_simple}
 use Rattle.rng_simple.specs.plain.SimpleParts.{values_in}
 use Rattle.rng_simple.specs.views.RowTable.{tree_of}
-use Rattle.rng_simple.proofs.SimpleParts.{grown_twice, next_below, next_sides, none_below, stays, values_stay}
+use Rattle.rng_simple.proofs.Tables.SimpleParts.{grown_twice, next_below, next_sides, none_below, stays, values_stay}
 use Rattle.rng_simple.proofs.simple_parts.put_sides.Goals as goal
 
 pub loop-row-init : goal.loop-row-init

@@ -4,7 +4,7 @@ use Rattle.rng_simple.specs.views.GraphView.{forest}
 use Rattle.rng_simple.specs.plain.SimpleParts.{components_joined, values_in}
 use Rattle.rng_simple.specs.views.Joining.{connector_of}
 use Rattle.rng_simple.specs.views.RowTable.{tree_of}
-use Rattle.rng_simple.proofs.SimpleParts.{components_are}
+use Rattle.rng_simple.proofs.Tables.SimpleParts.{components_are}
 use Rattle.rng_simple.proofs.simple_parts.simple_components.Goals as goal
 
 pub returns-clause-tree : goal.returns-clause-tree

@@ -3,7 +3,7 @@ use Rattle.std.proofs.lemmas.Result.{IfOk-weaker}
 use Rattle.rng_simple.specs.views.GraphView.{forest}
 use Rattle.rng_simple.specs.plain.SimpleParts.{side, values_in}
 use Rattle.rng_simple.specs.views.RowTable.{tree_of}
-use Rattle.rng_simple.proofs.SimpleParts.{child_is}
+use Rattle.rng_simple.proofs.Tables.SimpleParts.{child_is}
 use Rattle.rng_simple.proofs.simple_parts.simple_pattern.Goals as goal
 
 pub returns-clause-tree : goal.returns-clause-tree

@@ -4,7 +4,7 @@ use Rattle.rng_model.specs.simple.Tree.{choice}
 use Rattle.rng_simple.specs.plain.SimpleOf.{join, some_of}
 use Rattle.rng_simple.specs.plain.SimpleParts.{row_simple, values_in}
 use Rattle.rng_simple.specs.views.RowTable.{tree_of}
-use Rattle.rng_simple.proofs.SimpleParts.{empty_is}
+use Rattle.rng_simple.proofs.Tables.SimpleParts.{empty_is}
 use Rattle.rng_simple.proofs.simple_parts.simple_row.Goals as goal
 
 pub returns-in-Empty-clause-tree : goal.returns-in-Empty-clause-tree

@@ -6,8 +6,8 @@ use Rattle.rng_simple.specs.views.GraphView.{child, forest, graph_pattern_of, gr
 use Rattle.rng_simple.specs.plain.GrammarBy.{spot_simple, content_simple}
 use Rattle.rng_simple.specs.views.RowTable.{tree_of}
 use Rattle.rng_simple.specs.plain.SimpleParts.{values_in}
-use Rattle.rng_simple.proofs.SimpleParts.{grown_twice, push_below, values_stay}
-use Rattle.rng_simple.proofs.SimpleRows.{contents_next, contents_past}
+use Rattle.rng_simple.proofs.Tables.SimpleParts.{grown_twice, push_below, values_stay}
+use Rattle.rng_simple.proofs.Tables.SimpleRows.{contents_next, contents_past}
 use Rattle.rng_simple.proofs.simple_rows.content_rows.Goals as goal
 
 pub elements-preserved : goal.elements-preserved

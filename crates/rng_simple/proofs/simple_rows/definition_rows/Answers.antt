@@ -7,8 +7,8 @@ use Rattle.rng_simple.proofs.ListParts.{map_at}
 use Rattle.rng_simple.specs.plain.GrammarBy.{spot_simple}
 use Rattle.rng_simple.specs.views.RowTable.{tree_of}
 use Rattle.rng_simple.specs.plain.SimpleParts.{values_in}
-use Rattle.rng_simple.proofs.SimpleParts.{grown_twice}
-use Rattle.rng_simple.proofs.SimpleRows.{set_below, filled_next}
+use Rattle.rng_simple.proofs.Tables.SimpleParts.{grown_twice}
+use Rattle.rng_simple.proofs.Tables.SimpleRows.{set_below, filled_next}
 use Rattle.rng_simple.proofs.simple_rows.definition_rows.Goals as goal
 
 pub loop-j-preserved : goal.loop-j-preserved

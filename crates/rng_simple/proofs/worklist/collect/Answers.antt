@@ -4,7 +4,7 @@ use Rattle.rng_model.proofs.Members.{all_from_members}
 use Rattle.rng_model.proofs.Places.{read_at}
 use Rattle.rng_simple.specs.plain.Search.{lists}
 use Rattle.rng_simple.specs.plain.Worklist.{Adds}
-use Rattle.rng_simple.proofs.QueueMarks.{queue_begins, queue_goes, below_more, queue_is_done, queue_is_short}
+use Rattle.rng_simple.proofs.Tables.QueueMarks.{queue_begins, queue_goes, below_more, queue_is_done, queue_is_short}
 use Rattle.rng_simple.proofs.worklist.collect.Goals as goal
 
 nothing_below : (n : ℕ) → All (λ k. k < n) []

@@ -1,6 +1,6 @@
 use Rattle.std.proofs.Common.{rules, ◌≡◌, sym, subst, false, [], ◌∷◌, ◌++◌}
 use Rattle.rng_simple.specs.plain.Worklist.{IsMarked}
-use Rattle.rng_simple.proofs.QueueMarks.{none_more, none_at_first}
+use Rattle.rng_simple.proofs.Tables.QueueMarks.{none_more, none_at_first}
 use Rattle.rng_simple.proofs.worklist.no_marks.Goals as goal
 
 pub loop-k-init : goal.loop-k-init

@@ -2,7 +2,7 @@ use Rattle.std.proofs.Common.{◌∙◌, sym, ap, ◌||◌, ◌+◌, map, drop}
 use Rattle.std.specs.List.{list_any}
 use Rattle.rng_model.specs.schema.Schema.{is_interleaved}
 use Rattle.rng_model.specs.views.SchemaView.{schema_component_of}
-use Rattle.rng_simple.proofs.ResolvedMembers.{next_any}
+use Rattle.rng_simple.proofs.BuiltGraphs.ResolvedMembers.{next_any}
 use Rattle.rng_simple.proofs.graph.bodies.are_interleaved.Goals as goal
 
 pub loop-component-preserved : goal.loop-component-preserved

@@ -3,7 +3,7 @@ use Rattle.rng_model.specs.views.SchemaView.{place_of}
 use Rattle.rng_load.specs.views.PlacedGrammars.{schema_of}
 use Rattle.rng_simple.specs.views.Definitions.{definition_of, numbering_of}
 use Rattle.rng_simple.specs.views.GraphView.{graph_body_of}
-use Rattle.rng_simple.proofs.SchemaGraphs.{body_found}
+use Rattle.rng_simple.proofs.BuiltGraphs.SchemaGraphs.{body_found}
 use Rattle.rng_simple.proofs.graph.building.body.Goals as goal
 
 pub returns-clause-body : goal.returns-clause-body

@@ -5,9 +5,9 @@ use Rattle.rng_load.specs.views.PlacedGrammars.{schema_of}
 use Rattle.rng_simple.specs.views.ComponentTable.{table_of}
 use Rattle.rng_simple.specs.views.Definitions.{definition_of, numbering_of}
 use Rattle.rng_simple.specs.views.GraphView.{graph_body_of}
-use Rattle.rng_simple.proofs.GraphSteps.{IsGraphSoFar, started}
-use Rattle.rng_simple.proofs.ReadySchemas.{ready}
-use Rattle.rng_simple.proofs.SchemaGraphs.{built, room, step}
+use Rattle.rng_simple.proofs.BuiltGraphs.GraphSteps.{IsGraphSoFar, started}
+use Rattle.rng_simple.proofs.BuiltGraphs.ReadySchemas.{ready}
+use Rattle.rng_simple.proofs.BuiltGraphs.SchemaGraphs.{built, room, step}
 use Rattle.rng_simple.proofs.graph.building.schema_graph.Goals as goal
 
 pub definitions-init : goal.definitions-init

@@ -3,7 +3,7 @@ use Rattle.rng_load.specs.views.PlacedGrammars.{schema_of}
 use Rattle.rng_simple.specs.views.ComponentTable.{table_of}
 use Rattle.rng_simple.specs.views.Definitions.{numbering_of}
 use Rattle.rng_simple.specs.views.GraphView.{graph_body_of}
-use Rattle.rng_simple.proofs.GraphSteps.{IsGraphSoFar}
+use Rattle.rng_simple.proofs.BuiltGraphs.GraphSteps.{IsGraphSoFar}
 use Rattle.rng_simple.proofs.graph.building.schema_graph.Given as goal
 
 abbrev pub decreases-definitions : goal.decreases-definitions

@@ -1,6 +1,6 @@
 use Rattle.std.proofs.Common.{◌∙◌, ap, map}
 use Rattle.rng_simple.specs.views.Definitions.{definition_of}
-use Rattle.rng_simple.proofs.DefinitionNumbers.{number_seen, with_seen}
+use Rattle.rng_simple.proofs.NumberedGraphs.DefinitionNumbers.{number_seen, with_seen}
 use Rattle.rng_simple.proofs.graph.definitions.number.Goals as goal
 
 pub returns-clause-number : goal.returns-clause-number

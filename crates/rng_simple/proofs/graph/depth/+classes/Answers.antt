@@ -6,7 +6,7 @@ use Rattle.rng_model.specs.names.NameViews.{class_of}
 use Rattle.rng_simple.specs.plain.InTwos.{nested}
 use Rattle.rng_simple.specs.plain.DepthWith.{cut_off}
 use Rattle.rng_simple.specs.plain.MemberDepths.{nested_class_depth}
-use Rattle.rng_simple.proofs.MemberDepths.{choice_depth}
+use Rattle.rng_simple.proofs.NumberedGraphs.MemberDepths.{choice_depth}
 use Rattle.rng_simple.proofs.graph.depth.+classes.Goals as goal
 
 pub choice_depth-loop-member-init : goal.choice_depth-loop-member-init

@@ -4,7 +4,7 @@ use Rattle.rng_simple.specs.plain.MemberDepths.{depth_at_spot}
 use Rattle.rng_simple.specs.views.GraphView.{arity}
 use Rattle.rng_model.proofs.ReplacedLists.{rest_from}
 use Rattle.rng_simple.proofs.Forests.{no_rows}
-use Rattle.rng_simple.proofs.MemberDepths.{next_depths}
+use Rattle.rng_simple.proofs.NumberedGraphs.MemberDepths.{next_depths}
 use Rattle.rng_simple.proofs.graph.depth.put_depths.Goals as goal
 
 pub loop-row-init : goal.loop-row-init

@@ -4,7 +4,7 @@ use Rattle.rng_model.proofs.Places.{read_at}
 use Rattle.rng_simple.specs.plain.Graph.{IsFilledBy, spot_depth}
 use Rattle.rng_simple.specs.views.GraphView.{graph_body_of, graph_of}
 use Rattle.rng_simple.specs.plain.MemberDepths.{depth_in}
-use Rattle.rng_simple.proofs.DepthTable.{filled_next}
+use Rattle.rng_simple.proofs.NumberedGraphs.DepthTable.{filled_next}
 use Rattle.rng_simple.proofs.graph.depth_table.depths.Goals as goal
 use Rattle.rng_simple.proofs.ListParts.{map_at}
 

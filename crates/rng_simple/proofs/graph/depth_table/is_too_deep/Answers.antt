@@ -1,7 +1,7 @@
 use Rattle.std.proofs.Common.{◌≡◌, ◌<◌, ◌∙◌, ap, length, get_or, arith, rules, refl}
 use Rattle.rng_model.proofs.Places.{read_at}
 use Rattle.rng_simple.specs.plain.MemberDepths.{depth_in}
-use Rattle.rng_simple.proofs.DepthTable.{element_is_deep, none_is_deep, next_is_flat}
+use Rattle.rng_simple.proofs.NumberedGraphs.DepthTable.{element_is_deep, none_is_deep, next_is_flat}
 use Rattle.rng_simple.proofs.graph.depth_table.is_too_deep.Goals as goal
 
 pub returns-then-branch-clause-deep : goal.returns-then-branch-clause-deep

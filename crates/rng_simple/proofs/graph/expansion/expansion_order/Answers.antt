@@ -5,7 +5,7 @@ use Rattle.rng_simple.specs.views.GraphView.{classes_of, graph_of}
 use Rattle.rng_simple.specs.plain.Mentioned.{mentioned}
 use Rattle.rng_simple.specs.plain.MemberDepths.{depth_in}
 use Rattle.rng_simple.specs.plain.Search.{lists}
-use Rattle.rng_simple.proofs.ExpansionOrder.{keeps_breaks_not, mentions_below, answer_is_whole, answer_is_broken, order_keeps, depth_breaks}
+use Rattle.rng_simple.proofs.NumberedGraphs.ExpansionOrder.{keeps_breaks_not, mentions_below, answer_is_whole, answer_is_broken, order_keeps, depth_breaks}
 use Rattle.rng_simple.proofs.graph.expansion.expansion_order.Goals as goal
 
 -- the lists are those of the graph

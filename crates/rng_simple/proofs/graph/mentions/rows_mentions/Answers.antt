@@ -1,7 +1,7 @@
 use Rattle.std.proofs.Common.{◌∙◌, ap, sym}
 use Rattle.rng_simple.specs.plain.Mentioned.{all_mentioned}
 use Rattle.rng_simple.proofs.Forests.{no_rows}
-use Rattle.rng_simple.proofs.Mentioned.{next_mentioned}
+use Rattle.rng_simple.proofs.NumberedGraphs.Mentioned.{next_mentioned}
 use Rattle.rng_simple.proofs.graph.mentions.rows_mentions.Goals as goal
 
 pub loop-row-init : goal.loop-row-init

@@ -1,8 +1,8 @@
 use Rattle.std.proofs.Common.{rules, ◌≡◌, sym, subst, [], vec_items}
 use Rattle.std.proofs.lemmas.List.{length-map, nil_from_length}
 use Rattle.rng_simple.specs.plain.Search.{IsSearch, IsStart, lists}
-use Rattle.rng_simple.proofs.DepthFirstSearch.{started, all_ordered}
-use Rattle.rng_simple.proofs.SearchSteps.{step_goes}
+use Rattle.rng_simple.proofs.NumberedGraphs.DepthFirstSearch.{started, all_ordered}
+use Rattle.rng_simple.proofs.NumberedGraphs.SearchSteps.{step_goes}
 use Rattle.rng_simple.proofs.graph.order.sort.Goals as goal
 
 pub search-init : goal.search-init

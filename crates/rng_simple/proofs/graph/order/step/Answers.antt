@@ -3,7 +3,7 @@ use Rattle.std.proofs.lemmas.List.{length-map}
 use Rattle.rng_model.proofs.Places.{read_at}
 use Rattle.rng_simple.specs.declared.graph.order.Mark.TheVariants as mark
 use Rattle.rng_simple.specs.plain.Search.{number_of, lists}
-use Rattle.rng_simple.proofs.SearchSteps.{number_below, number_marked, step_new, step_open, step_done, step_leave}
+use Rattle.rng_simple.proofs.NumberedGraphs.SearchSteps.{number_below, number_marked, step_new, step_open, step_done, step_leave}
 use Rattle.rng_simple.proofs.graph.order.step.Goals as goal
 
 pub index-requires : goal.index-requires

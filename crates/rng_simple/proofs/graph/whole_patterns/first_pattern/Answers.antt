@@ -1,6 +1,6 @@
 use Rattle.std.proofs.Common.{◌≡◌, ◌∙◌, ap, sym, subst, ◌+◌, ◌-◌}
 use Rattle.rng_model.specs.views.SchemaView.{row_arity}
-use Rattle.rng_simple.proofs.WholePatterns.{IsFirst, at_start, ends, first_found, goes_on}
+use Rattle.rng_simple.proofs.BuiltGraphs.WholePatterns.{IsFirst, at_start, ends, first_found, goes_on}
 use Rattle.rng_simple.proofs.graph.whole_patterns.first_pattern.Goals.{then-count-eq1, else-count-eq1}
 use Rattle.rng_simple.proofs.graph.whole_patterns.first_pattern.Goals as goal
 

@@ -1,4 +1,4 @@
-use Rattle.rng_simple.proofs.WholePatterns.{IsFirst}
+use Rattle.rng_simple.proofs.BuiltGraphs.WholePatterns.{IsFirst}
 use Rattle.rng_simple.proofs.graph.whole_patterns.first_pattern.Given as goal
 
 abbrev pub invariant-loop-index : goal.invariant-loop-index

@@ -2,7 +2,7 @@ use Rattle.std.proofs.Common.{rules, ◌≡◌, ◌∙◌, sym, subst, ℕ, ◌+
 use Rattle.std.proofs.lemmas.Bool.{eqb-true}
 use Rattle.std.proofs.lemmas.List.{nil_from_length}
 use Rattle.rng_simple.specs.views.GraphView.{arity}
-use Rattle.rng_simple.proofs.WholePatterns.{Takes, all_last, last_found, last_row, none_last, row_before}
+use Rattle.rng_simple.proofs.BuiltGraphs.WholePatterns.{Takes, all_last, last_found, last_row, none_last, row_before}
 use Rattle.rng_simple.proofs.graph.whole_patterns.last_pattern.Goals as goal
 
 pub returns-then-is_empty-clause-last : goal.returns-then-is_empty-clause-last

@@ -1,5 +1,5 @@
 use Rattle.std.proofs.Common.{◌<◌, length}
-use Rattle.rng_simple.proofs.WholePatterns.{Takes}
+use Rattle.rng_simple.proofs.BuiltGraphs.WholePatterns.{Takes}
 use Rattle.rng_simple.proofs.graph.whole_patterns.last_pattern.Given as goal
 
 abbrev pub invariant-rows : goal.invariant-rows

@@ -4,9 +4,9 @@ use Rattle.rng_model.specs.names.Names.{any_name}
 use Rattle.rng_model.specs.names.NameViews.{class_of}
 use Rattle.rng_simple.specs.plain.InTwos.{nested}
 use Rattle.rng_labels.specs.plain.LabelCodes.{IsPlaced, class_code, codes_of, part_of}
-use Rattle.rng_simple.proofs.NestedCodes.{same_classes}
-use Rattle.rng_simple.proofs.RowLabels.{codes_more, label_found}
-use Rattle.rng_simple.proofs.RowTable.{relabelled, same_labels, class_more}
+use Rattle.rng_simple.proofs.Tables.NestedCodes.{same_classes}
+use Rattle.rng_simple.proofs.Tables.RowLabels.{codes_more, label_found}
+use Rattle.rng_simple.proofs.Tables.RowTable.{relabelled, same_labels, class_more}
 use Rattle.rng_simple.proofs.row_table.RowTable.class_label.Goals as goal
 
 pub returns-in-Some-clause-table : goal.returns-in-Some-clause-table

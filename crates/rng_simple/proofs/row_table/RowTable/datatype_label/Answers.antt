@@ -4,8 +4,8 @@ use Rattle.rng_model.specs.datatypes.DatatypeViews.{datatype_of}
 use Rattle.rng_labels.specs.plain.LabelCodes.{IsPlaced, codes_of, datatype_code, part_of}
 use Rattle.rng_simple.specs.views.Rows.{no_datatype}
 use Rattle.rng_labels.proofs.LabelCodes.{same_datatypes}
-use Rattle.rng_simple.proofs.RowLabels.{codes_more, label_found}
-use Rattle.rng_simple.proofs.RowTable.{relabelled, same_labels, datatype_more}
+use Rattle.rng_simple.proofs.Tables.RowLabels.{codes_more, label_found}
+use Rattle.rng_simple.proofs.Tables.RowTable.{relabelled, same_labels, datatype_more}
 use Rattle.rng_simple.proofs.row_table.RowTable.datatype_label.Goals as goal
 
 pub returns-in-Some-clause-table : goal.returns-in-Some-clause-table

@@ -1,6 +1,6 @@
 use Rattle.std.proofs.Common.{rules}
-use Rattle.rng_simple.proofs.RowTable.{first_row}
-use Rattle.rng_simple.proofs.RowLabels.{none_coded}
+use Rattle.rng_simple.proofs.Tables.RowTable.{first_row}
+use Rattle.rng_simple.proofs.Tables.RowLabels.{none_coded}
 use Rattle.rng_simple.proofs.row_table.RowTable.new.Goals as goal
 
 pub returns : goal.returns

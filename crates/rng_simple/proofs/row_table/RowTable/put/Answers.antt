@@ -1,6 +1,6 @@
 use Rattle.rng_simple.specs.views.RowIndex.{number_of_row}
 use Rattle.rng_simple.specs.views.RowTable.{labels_of}
-use Rattle.rng_simple.proofs.RowTable as table
+use Rattle.rng_simple.proofs.Tables.RowTable as table
 use Rattle.rng_simple.proofs.row_table.RowTable.put.Goals as goal
 
 module _ (c : goal.In_ok-id) where

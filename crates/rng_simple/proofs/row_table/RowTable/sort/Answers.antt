@@ -2,7 +2,7 @@ use Rattle.std.proofs.Common.{sym, ap, ◌∙◌}
 use Rattle.rng_simple.specs.plain.SimpleOf.{sort_of}
 use Rattle.rng_simple.specs.views.RowTable.{labels_of, tree_of}
 use Rattle.rng_simple.specs.views.Rows.{row_tree}
-use Rattle.rng_simple.proofs.RowTable.{row_sort, tree_found}
+use Rattle.rng_simple.proofs.Tables.RowTable.{row_sort, tree_found}
 use Rattle.rng_simple.proofs.row_table.RowTable.sort.Goals as goal
 
 pub returns-in-NotAllowed : goal.returns-in-NotAllowed

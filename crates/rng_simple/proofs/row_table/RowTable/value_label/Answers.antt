@@ -5,8 +5,8 @@ use Rattle.rng_labels.specs.plain.LabelCodes.{IsPlaced, codes_of, part_of, value
 use Rattle.rng_simple.specs.views.RowTable.{value_of}
 use Rattle.rng_simple.specs.views.Rows.{no_datatype}
 use Rattle.rng_labels.proofs.LabelCodes.{same_value}
-use Rattle.rng_simple.proofs.RowLabels.{codes_more, label_found}
-use Rattle.rng_simple.proofs.RowTable.{relabelled, same_labels, value_more}
+use Rattle.rng_simple.proofs.Tables.RowLabels.{codes_more, label_found}
+use Rattle.rng_simple.proofs.Tables.RowTable.{relabelled, same_labels, value_more}
 use Rattle.rng_simple.proofs.row_table.RowTable.value_label.Goals as goal
 
 pub returns-in-Some-clause-table : goal.returns-in-Some-clause-table

@@ -6,7 +6,7 @@ use Rattle.rng_simple.specs.views.ComponentTable.{table_of}
 use Rattle.rng_simple.specs.plain.Graph.{number_of}
 use Rattle.rng_simple.specs.views.Definitions.{definition_of}
 use Rattle.rng_simple.specs.plain.Resolving.{with_definition}
-use Rattle.rng_simple.proofs.ComponentTables.{all_seen, list_at, list_within, one_component_more, seen}
+use Rattle.rng_simple.proofs.BuiltGraphs.ComponentTables.{all_seen, list_at, list_within, one_component_more, seen}
 use Rattle.rng_simple.proofs.graph.components.ComponentTable.add.Goals as goal
 
 pub index_mut-requires : goal.index_mut-requires

@@ -1,7 +1,7 @@
 use Rattle.std.proofs.Common.{◌++◌, map}
 use Rattle.rng_model.specs.views.SchemaView.{place_of, schema_component_of}
 use Rattle.rng_simple.specs.views.ComponentTable.{components_of, table_of, those_at}
-use Rattle.rng_simple.proofs.ComponentTables.{one_less}
+use Rattle.rng_simple.proofs.BuiltGraphs.ComponentTables.{one_less}
 use Rattle.rng_simple.proofs.graph.components.ComponentTable.add_grammar.Goals as goal
 
 pub loop-component-preserved : goal.loop-component-preserved

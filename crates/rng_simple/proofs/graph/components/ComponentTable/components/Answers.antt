@@ -3,8 +3,8 @@ use Rattle.std.proofs.lemmas.List.{length-map}
 use Rattle.rng_simple.specs.views.ComponentTable.{table_of}
 use Rattle.rng_simple.specs.views.Definitions.{definition_of}
 use Rattle.rng_simple.specs.plain.Graph.{number_of}
-use Rattle.rng_simple.proofs.ComponentTables.{all_seen, list_at, no_list_at, no_position, position_is, seen}
-use Rattle.rng_simple.proofs.DefinitionNumbers.{number_seen}
+use Rattle.rng_simple.proofs.BuiltGraphs.ComponentTables.{all_seen, list_at, no_list_at, no_position, position_is, seen}
+use Rattle.rng_simple.proofs.NumberedGraphs.DefinitionNumbers.{number_seen}
 use Rattle.rng_simple.proofs.graph.components.ComponentTable.components.Goals as goal
 use Rattle.rng_simple.specs.contracts.graph.definitions.DefinitionPartialEq.TheImpl as same
 

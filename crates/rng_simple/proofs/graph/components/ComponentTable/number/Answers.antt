@@ -3,7 +3,7 @@ use Rattle.std.proofs.lemmas.List.{length-append, length-map}
 use Rattle.rng_simple.specs.views.ComponentTable.{table_of}
 use Rattle.rng_simple.specs.views.Definitions.{definition_of}
 use Rattle.rng_simple.specs.plain.Graph.{number_of}
-use Rattle.rng_simple.proofs.ComponentTables.{all_seen, no_definition_more, one_definition_more}
+use Rattle.rng_simple.proofs.BuiltGraphs.ComponentTables.{all_seen, no_definition_more, one_definition_more}
 use Rattle.rng_simple.proofs.graph.components.ComponentTable.number.Goals as goal
 
 pub returns-in_ok-push-clause-table : goal.returns-in_ok-push-clause-table

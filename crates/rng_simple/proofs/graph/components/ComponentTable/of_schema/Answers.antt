@@ -3,7 +3,7 @@ use Rattle.rng_model.specs.views.SchemaView.{place_of, schema_component_of}
 use Rattle.rng_load.specs.views.PlacedGrammars.{schema_of}
 use Rattle.rng_simple.specs.views.ComponentTable.{components_of, table_of}
 use Rattle.rng_simple.specs.views.Definitions.{definition_of}
-use Rattle.rng_simple.proofs.ComponentTables.{all_seen, Gathers, no_grammar, none_at, one_grammar_more, these_at}
+use Rattle.rng_simple.proofs.BuiltGraphs.ComponentTables.{all_seen, Gathers, no_grammar, none_at, one_grammar_more, these_at}
 use Rattle.rng_simple.proofs.graph.components.ComponentTable.of_schema.Goals as goal
 use Rattle.rng_simple.proofs.graph.components.ComponentTable.of_schema.Goals.{in-Some+in_ok-add_grammar, in_default}
 

@@ -3,7 +3,7 @@ use Rattle.rng_model.specs.views.SchemaView.{place_of, schema_component_of}
 use Rattle.rng_simple.specs.views.Definitions.{numbering_of}
 use Rattle.rng_simple.specs.views.GraphView.{forest}
 use Rattle.rng_simple.proofs.Forests.{no_rows}
-use Rattle.rng_simple.proofs.ResolvedMembers.{AreResolved, all_numbered, all_patterns, goes_on, none_resolved}
+use Rattle.rng_simple.proofs.BuiltGraphs.ResolvedMembers.{AreResolved, all_numbered, all_patterns, goes_on, none_resolved}
 use Rattle.rng_simple.proofs.graph.resolving.Scope.component_rows.Goals as goal
 
 pub loop-component-init : goal.loop-component-init

@@ -2,7 +2,7 @@ use Rattle.std.proofs.Common.{[], map, drop, option_map}
 use Rattle.rng_model.specs.views.SchemaView.{place_of, schema_component_of}
 use Rattle.rng_simple.specs.views.Definitions.{numbering_of}
 use Rattle.rng_simple.specs.views.GraphView.{forest}
-use Rattle.rng_simple.proofs.ResolvedMembers.{AreResolved}
+use Rattle.rng_simple.proofs.BuiltGraphs.ResolvedMembers.{AreResolved}
 use Rattle.rng_simple.proofs.graph.resolving.Scope.component_rows.Given as goal
 
 abbrev pub invariant-loop-component : goal.invariant-loop-component

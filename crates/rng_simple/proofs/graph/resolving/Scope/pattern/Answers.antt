@@ -3,7 +3,7 @@ use Rattle.std.proofs.lemmas.Result.{on_ok_weaker}
 use Rattle.rng_model.specs.views.SchemaView.{patterns_in, place_of}
 use Rattle.rng_simple.specs.views.Definitions.{numbering_of}
 use Rattle.rng_simple.specs.views.GraphView.{forest}
-use Rattle.rng_simple.proofs.ResolvedRows.{all_numbers, all_trees, next_resolved, no_rows_resolved, one, there}
+use Rattle.rng_simple.proofs.BuiltGraphs.ResolvedRows.{all_numbers, all_trees, next_resolved, no_rows_resolved, one, there}
 use Rattle.rng_simple.proofs.graph.resolving.Scope.pattern.Goals as goal
 
 pub loop-row-init : goal.loop-row-init

@@ -2,7 +2,7 @@ use Rattle.std.proofs.Common.{option_map}
 use Rattle.rng_model.specs.views.SchemaView.{place_of}
 use Rattle.rng_simple.specs.views.Definitions.{numbering_of}
 use Rattle.rng_simple.specs.views.GraphView.{forest}
-use Rattle.rng_simple.proofs.ResolvedRows.{AreResolved}
+use Rattle.rng_simple.proofs.BuiltGraphs.ResolvedRows.{AreResolved}
 use Rattle.rng_simple.proofs.graph.resolving.Scope.pattern.Given as goal
 
 abbrev pub invariant-loop-row : goal.invariant-loop-row
