@@ -17,8 +17,8 @@ use Rattle.rncv_model.specs.printed.Items.{PrintedItem}
 use Rattle.rnc_print_laws.specs.plain.HandedIn.{lines_alone, IsHandedInAgain, IsAgain, IsPrintedFile, text_alone}
 use Rattle.rnc_print_laws.specs.plain.LinesSchema.{IsSchemaOfLines}
 use Rattle.rnc_print_laws.specs.plain.LinesTree.{lines_tree}
-use Rattle.rnc_print_laws.proofs.LinesKept.{reprinted_text}
-use Rattle.rnc_print_laws.proofs.LinesTaken.{lines_taken, lines_are_schema}
+use Rattle.rnc_print_laws.proofs.SimpleForms.LinesKept.{reprinted_text}
+use Rattle.rnc_print_laws.proofs.Lines.LinesTaken.{lines_taken, lines_are_schema}
 
 together_or_all : {k : ℕ} {r : TakenFiles} → together_break k ≡ are_taken r → ⊥
 together_or_all e = cc

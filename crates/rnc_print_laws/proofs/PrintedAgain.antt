@@ -6,9 +6,9 @@ use Rattle.rnc_model.specs.loading.SchemaFile.{FileName, NamedFile}
 use Rattle.rng_model.specs.schema.Schema.{Schema}
 use Rattle.rnc_print_laws.specs.plain.HandedIn.{IsHandedInAgain, IsPrintedFile, lines_alone, text_alone}
 use Rattle.rnc_print_laws.specs.plain.LinesSchema.{IsReprintedAs}
-use Rattle.rnc_print_laws.proofs.LinesKept.{reprinted_text, same_text_again}
+use Rattle.rnc_print_laws.proofs.SimpleForms.LinesKept.{reprinted_text, same_text_again}
 use Rattle.rnc_print_laws.proofs.LinesLoaded.{printed_alone}
-use Rattle.rnc_print_laws.proofs.LinesTaken.{lines_taken, lines_are_schema}
+use Rattle.rnc_print_laws.proofs.Lines.LinesTaken.{lines_taken, lines_are_schema}
 use Rattle.rncv_model.specs.answers.Answer.{Answer, printed}
 use Rattle.rncv_model.specs.answers.Run.{IsAnswer}
 use Rattle.rncv_run.proofs.AnswersByVerdict as verdicts

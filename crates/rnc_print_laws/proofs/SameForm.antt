@@ -13,8 +13,8 @@ use Rattle.rnc_print.proofs.SameNumberings.{is_form_too}
 use Rattle.rng_simple.proofs.Grammars.NumberedSchema.{only_simple_grammar}
 use Rattle.rnc_print_laws.specs.plain.HandedIn.{IsHandedInAgain, lines_alone, AreFilesOf, HaveSameForm, AreOfSameForm}
 use Rattle.rnc_print_laws.specs.plain.LinesSchema.{IsReprinted, schema_of_lines}
-use Rattle.rnc_print_laws.proofs.LinesKept.{is_reprinted, reprinted_form, reprinted_kept}
-use Rattle.rnc_print_laws.proofs.LinesTaken.{lines_taken, lines_are_schema, schema_is_lines}
+use Rattle.rnc_print_laws.proofs.SimpleForms.LinesKept.{is_reprinted, reprinted_form, reprinted_kept}
+use Rattle.rnc_print_laws.proofs.Lines.LinesTaken.{lines_taken, lines_are_schema, schema_is_lines}
 
 -- ---- schemas with one simple grammar in common have all
 

@@ -27,40 +27,7 @@
 //! - `WellSpelledFiles`, `WellSpelledSchemas`: the notion of printable for the tree of a file and for the components of
 //!   a schema.
 //!
-//! In `proofs/`, for reading back:
-//!
-//! - `EscapedCharacters`, `EncodedMarks`: escapes and runs, in bytes and in Unicode numbers.
-//! - `Colons`, `NumberedNames`: names.
-//! - `MarksText`: the printed text is that of its marks.
-//! - `SpelledMarks`, `ReadMarks`: these are marks that are read.
-//! - `LineSentences`: their tokens are a sentence.
-//! - `LineNesting`, `ResolvedPrefixes`, `LineDeclarations`, `LineConditions`: nesting and declarations.
-//! - `FewItems`, `ReadsBack`: the law.
-//! - `NamedDatatypes`: the datatypes of the table can be named.
-//! - `PrintableExample`: an example.
-//!
-//! For printable grammars:
-//!
-//! - `FileCharacters`: the characters of a file are Chars.
-//! - `RoomForBrackets`: how much room for brackets tokens leave.
-//! - `WellSpelledSyntaxTrees`: from tokens to syntax trees.
-//! - `WellSpelledTokens`: from characters to tokens.
-//! - `WellSpelledFileTrees`: declarations applied.
-//! - `WellSpelledComponents`: from files to the components of a schema.
-//! - `PrintableClasses`, `PrintableTrees`: what a step of simplification keeps.
-//! - `PrintableForms`: from components to the simple form.
-//!
-//! For printing again:
-//!
-//! - `ListedLines`, `ItemNames`, `LinesFound`: each name finds its line.
-//! - `FlattenedClasses`, `ClassParts`: choices of name classes as they are written.
-//! - `SimpleFormParts`, `SimpleDepths`, `GoodGrammars`: what a schema without faults implies for its grammar.
-//! - `LineTrees`: the tree of a line.
-//! - `RenamedSteps`, `LinesForm`, `LinesGrammar`: the simple form of the lines.
-//! - `LinesWritten`, `LinesKept`: their clauses.
-//! - `ReadClasses`, `ReadLines`, `LinesTaken`, `LinesLoaded`: the file of the lines.
-//! - `SameForm`: which simple form it has.
-//! - `PrintedAgain`, `PrintedTwice`: answers.
+//! `proofs/README.md` names the top of each law, and the groups of lemmas in `proofs/`.
 #![tactic(auto)]
 
 mod printable;

@@ -1,6 +1,6 @@
-use Rattle.rnc_print_laws.proofs.WellSpelledComponents.{loaded_spelled, files_printable}
-use Rattle.rnc_print_laws.proofs.WellSpelledFileTrees.{schema_file_spelled}
-use Rattle.rnc_print_laws.proofs.PrintableForms.{grammar_printable}
+use Rattle.rnc_print_laws.proofs.WellSpelled.Components.{loaded_spelled, files_printable}
+use Rattle.rnc_print_laws.proofs.WellSpelled.FileTrees.{schema_file_spelled}
+use Rattle.rnc_print_laws.proofs.Printability.PrintableForms.{grammar_printable}
 use Rattle.rnc_print_laws.proofs.printable.printable_laws.Goals as goal
 
 pub returns-clause-file : goal.returns-clause-file

@@ -1,5 +1,5 @@
-use Rattle.rnc_print_laws.proofs.NamedDatatypes.{known_named}
-use Rattle.rnc_print_laws.proofs.ReadsBack.{printed_reads_back}
+use Rattle.rnc_print_laws.proofs.Printability.NamedDatatypes.{known_named}
+use Rattle.rnc_print_laws.proofs.ReadBack.ReadsBack.{printed_reads_back}
 use Rattle.rnc_print_laws.proofs.reading_back.reading_back_laws.Goals as goal
 
 pub returns-clause-read : goal.returns-clause-read

@@ -1,5 +1,5 @@
 use Rattle.rnc_print_laws.proofs.LinesLoaded.{printed_again, printed_alone}
-use Rattle.rnc_print_laws.proofs.LinesTaken.{lines_taken, lines_are_schema, schema_is_lines}
+use Rattle.rnc_print_laws.proofs.Lines.LinesTaken.{lines_taken, lines_are_schema, schema_is_lines}
 use Rattle.rnc_print_laws.proofs.reprinting.printed_file_laws.Goals as goal
 
 pub returns-clause-taken : goal.returns-clause-taken

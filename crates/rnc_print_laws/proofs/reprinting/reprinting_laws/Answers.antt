@@ -1,4 +1,4 @@
-use Rattle.rnc_print_laws.proofs.LinesKept.{reprinted_kept, reprinted_form, reprinted_only, reprinted_numbers, reprinted_text, same_text_again}
+use Rattle.rnc_print_laws.proofs.SimpleForms.LinesKept.{reprinted_kept, reprinted_form, reprinted_only, reprinted_numbers, reprinted_text, same_text_again}
 use Rattle.rnc_print_laws.proofs.reprinting.reprinting_laws.Goals as goal
 
 pub returns-clause-kept : goal.returns-clause-kept

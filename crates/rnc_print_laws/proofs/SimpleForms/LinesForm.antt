@@ -30,13 +30,13 @@ use Rattle.rng_simple.proofs.Leaves.Renamed.{as_tree_renamed, Origin, origin}
 use Rattle.rng_simple.proofs.Leaves.RenamedTwice.{renamed_twice, renamed_itself}
 use Rattle.rng_simple.proofs.Trees.SimpleForms.{has_simple_form}
 use Rattle.rnc_print_laws.specs.plain.LinesSchema.{flattened, IsSchemaOfLines}
-use Rattle.rnc_print_laws.proofs.SimpleFormParts.{leaf_of}
-use Rattle.rnc_print_laws.proofs.FlattenedClasses.{nested_flattened, simple_flattened}
-use Rattle.rnc_print_laws.proofs.GoodGrammars.{IsAttributeClass, IsGoodData, IsGoodValue, IsGoodTree, IsGoodGrammar, IsLastSimple}
-use Rattle.rnc_print_laws.proofs.LinesFound.{in_rest}
-use Rattle.rnc_print_laws.proofs.LineTrees.{leaf_at, placed, line_tree_of, leaf_among, start_tree_is, body_tree_is}
-use Rattle.rnc_print_laws.proofs.ListedLines.{start_among, line_among}
-use Rattle.rnc_print_laws.proofs.RenamedSteps.{step_renamed}
+use Rattle.rnc_print_laws.proofs.SimpleForms.SimpleFormParts.{leaf_of}
+use Rattle.rnc_print_laws.proofs.SimpleForms.FlattenedClasses.{nested_flattened, simple_flattened}
+use Rattle.rnc_print_laws.proofs.SimpleForms.GoodGrammars.{IsAttributeClass, IsGoodData, IsGoodValue, IsGoodTree, IsGoodGrammar, IsLastSimple}
+use Rattle.rnc_print_laws.proofs.Lines.LinesFound.{in_rest}
+use Rattle.rnc_print_laws.proofs.SimpleForms.LineTrees.{leaf_at, placed, line_tree_of, leaf_among, start_tree_is, body_tree_is}
+use Rattle.rnc_print_laws.proofs.Lines.ListedLines.{start_among, line_among}
+use Rattle.rnc_print_laws.proofs.SimpleForms.RenamedSteps.{step_renamed}
 
 -- ---- trees with other names of leaves
 

@@ -16,13 +16,13 @@ use Rattle.rng_model.specs.declared.method.Method.TheVariants as methods
 use Rattle.rncv_model.specs.printed.Items.{PrintedItem, element, pattern, named_item, element_at, parts_of, mentions, IsItemsOf}
 use Rattle.rncv_model.specs.printed.PrintedText.{item_name}
 use Rattle.rnc_print_laws.specs.plain.LinesSchema.{flattened, reference_pattern, item_pattern, start_line, item_line, lines_components, IsSchemaOfLines}
-use Rattle.rnc_print_laws.proofs.ClassParts.{IsGoodClass, IsFreeOfDeclarations, good_nested, good_from_nested, free_from_nested}
-use Rattle.rnc_print_laws.proofs.FlattenedClasses.{nested_flattened}
-use Rattle.rnc_print_laws.proofs.GoodGrammars.{IsGoodData, IsGoodTree, IsGoodGrammar}
-use Rattle.rnc_print_laws.proofs.ItemNames.{names_apart}
-use Rattle.rnc_print_laws.proofs.LinesFound.{AreItemsNew, not_again}
-use Rattle.rnc_print_laws.proofs.LineTrees.{plain_datatype}
-use Rattle.rnc_print_laws.proofs.ListedLines.{AreAmong, among_left, among_right, start_among, line_among, each_once, each_item}
+use Rattle.rnc_print_laws.proofs.SimpleForms.ClassParts.{IsGoodClass, IsFreeOfDeclarations, good_nested, good_from_nested, free_from_nested}
+use Rattle.rnc_print_laws.proofs.SimpleForms.FlattenedClasses.{nested_flattened}
+use Rattle.rnc_print_laws.proofs.SimpleForms.GoodGrammars.{IsGoodData, IsGoodTree, IsGoodGrammar}
+use Rattle.rnc_print_laws.proofs.Lines.ItemNames.{names_apart}
+use Rattle.rnc_print_laws.proofs.Lines.LinesFound.{AreItemsNew, not_again}
+use Rattle.rnc_print_laws.proofs.SimpleForms.LineTrees.{plain_datatype}
+use Rattle.rnc_print_laws.proofs.Lines.ListedLines.{AreAmong, among_left, among_right, start_among, line_among, each_once, each_item}
 
 among_map : {A B : Type 0} (f : A → B) (xs : List A) (y : B) → Among y (map f xs) → (x : A) × Among x xs × (y ≡ f x)
 among_map f [] y a = elim a [ ]

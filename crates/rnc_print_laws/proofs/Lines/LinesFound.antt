@@ -15,8 +15,8 @@ use Rattle.rnc_print.proofs.FailedTests.{false_true}
 use Rattle.rnc_print.proofs.SameTests.{item_exact, item_itself}
 use Rattle.rnc_print.proofs.Numberings.{AreNew, has_left, has_right}
 use Rattle.rnc_print_laws.specs.plain.LinesSchema.{reference_pattern, item_pattern, item_line, lines_components, IsSchemaOfLines}
-use Rattle.rnc_print_laws.proofs.ListedLines.{each_once}
-use Rattle.rnc_print_laws.proofs.ItemNames.{names_apart}
+use Rattle.rnc_print_laws.proofs.Lines.ListedLines.{each_once}
+use Rattle.rnc_print_laws.proofs.Lines.ItemNames.{names_apart}
 
 -- the number of the line of an item; the line of the start has the number 0
 abbrev pub line_number : List PrintedItem → PrintedItem → ℕ

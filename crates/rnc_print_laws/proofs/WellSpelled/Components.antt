@@ -26,8 +26,8 @@ use Rattle.rnc_print_laws.specs.plain.WellSpelledFiles as spelled
 use Rattle.rnc_print_laws.specs.plain.WellSpelledFiles.{IsTextNamespace, AreWellSpelledComponents, AreWellSpelledPatterns, IsWellSpelledFile}
 use Rattle.rnc_print_laws.specs.plain.WellSpelledSchemas.{IsWellSpelledPattern, AreWellSpelledPatterns as AreWellSpelled, IsWellSpelledComponent}
 use Rattle.rnc_print_laws.specs.plain.WellSpelledSchemas.{IsWellSpelledSchema}
-use Rattle.rnc_print_laws.proofs.WellSpelledFileTrees.{uri_text, empty_text, schema_file_spelled}
-use Rattle.rnc_print_laws.proofs.PrintableForms.{grammar_printable}
+use Rattle.rnc_print_laws.proofs.WellSpelled.FileTrees.{uri_text, empty_text, schema_file_spelled}
+use Rattle.rnc_print_laws.proofs.Printability.PrintableForms.{grammar_printable}
 
 -- ---- lists
 

@@ -21,11 +21,11 @@ use Rattle.std.proofs.lemmas.Bool.{false≢true}
 use Rattle.rng_model.proofs.Texts.{bytes_same, bytes_itself}
 use Rattle.rnc_print.proofs.Numberings.{AreNew, has_contained, contained_has, has_left, has_right, has_last, and_has_right, and_fresh, fresh_new}
 use Rattle.rnc_print.proofs.Numberings.{all_contained, all_append, all_each}
-use Rattle.rnc_print_laws.proofs.NumberedNames.{item_no_keyword, prefix_apart}
-use Rattle.rnc_print_laws.proofs.LineSentences.{KnowsType, KnowsTypes, KnowsItem, lines_sentence}
-use Rattle.rnc_print_laws.proofs.LineNesting.{Shallow, ShallowItem, lines_nest}
-use Rattle.rnc_print_laws.proofs.ResolvedPrefixes.{Knows, HasOtherPrefix, HaveDistinctPrefixes, file_found}
-use Rattle.rnc_print_laws.proofs.LineDeclarations.{rules_kept}
+use Rattle.rnc_print_laws.proofs.ReadBack.NumberedNames.{item_no_keyword, prefix_apart}
+use Rattle.rnc_print_laws.proofs.ReadBack.LineSentences.{KnowsType, KnowsTypes, KnowsItem, lines_sentence}
+use Rattle.rnc_print_laws.proofs.ReadBack.LineNesting.{Shallow, ShallowItem, lines_nest}
+use Rattle.rnc_print_laws.proofs.ReadBack.ResolvedPrefixes.{Knows, HasOtherPrefix, HaveDistinctPrefixes, file_found}
+use Rattle.rnc_print_laws.proofs.ReadBack.LineDeclarations.{rules_kept}
 
 -- ---- what is reached is printable
 

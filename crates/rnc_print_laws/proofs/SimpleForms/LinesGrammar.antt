@@ -14,10 +14,10 @@ use Rattle.rng_model.specs.schema.Unfolding.{Leaf}
 use Rattle.rncv_model.specs.printed.Items.{PrintedItem, element_at, IsItemsOf}
 use Rattle.rng_simple.proofs.Leaves.Renamed.{as_tree_renamed}
 use Rattle.rnc_print_laws.specs.plain.LinesSchema.{IsSchemaOfLines}
-use Rattle.rnc_print_laws.proofs.GoodGrammars.{IsGoodGrammar}
-use Rattle.rnc_print_laws.proofs.LineTrees.{leaf_at, placed, line_tree_of}
-use Rattle.rnc_print_laws.proofs.LinesForm.{HasLine, number_at, number_back, below_of, class_is_form}
-use Rattle.rnc_print_laws.proofs.LinesForm.{start_is_tree, start_is_form, body_is_tree, body_is_form, has_line, is_line}
+use Rattle.rnc_print_laws.proofs.SimpleForms.GoodGrammars.{IsGoodGrammar}
+use Rattle.rnc_print_laws.proofs.SimpleForms.LineTrees.{leaf_at, placed, line_tree_of}
+use Rattle.rnc_print_laws.proofs.SimpleForms.LinesForm.{HasLine, number_at, number_back, below_of, class_is_form}
+use Rattle.rnc_print_laws.proofs.SimpleForms.LinesForm.{start_is_tree, start_is_form, body_is_tree, body_is_form, has_line, is_line}
 
 abbrev Row : Type 0
 Row = NameClass × Simple ℕ

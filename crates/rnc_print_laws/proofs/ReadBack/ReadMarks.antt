@@ -26,10 +26,10 @@ use Rattle.rnc_print_laws.specs.plain.PrintedMarks.{type_mark, parameter_marks, 
 use Rattle.rnc_print_laws.specs.plain.PrintedMarks.{braced_marks}
 use Rattle.rnc_print_laws.specs.plain.PrintedMarks.{pattern_marks, item_marks, line_marks, namespace_marks, item_line_marks, marks_of}
 use Rattle.rnc_print.proofs.Numberings.{all_append}
-use Rattle.rnc_print_laws.proofs.NumberedNames.{item_ncname, prefix_ncname, item_bytes, prefix_bytes}
-use Rattle.rnc_print_laws.proofs.EncodedMarks.{encoded_run, encoded_runs, IsRun, all_runs}
-use Rattle.rnc_print_laws.proofs.LineConditions.{PrintableItem}
-use Rattle.rnc_print_laws.proofs.SpelledMarks.{Spells, a_space, a_line_end, a_word, a_cname, an_ns_name, a_segment, a_sign, Read, both, then, nothing}
+use Rattle.rnc_print_laws.proofs.ReadBack.NumberedNames.{item_ncname, prefix_ncname, item_bytes, prefix_bytes}
+use Rattle.rnc_print_laws.proofs.Marks.EncodedMarks.{encoded_run, encoded_runs, IsRun, all_runs}
+use Rattle.rnc_print_laws.proofs.ReadBack.LineConditions.{PrintableItem}
+use Rattle.rnc_print_laws.proofs.Marks.SpelledMarks.{Spells, a_space, a_line_end, a_word, a_cname, an_ns_name, a_segment, a_sign, Read, both, then, nothing}
 
 -- ---- literals
 

@@ -20,7 +20,7 @@ use Rattle.rnc_print_laws.specs.plain.Printable.{CanBeNamed}
 use Rattle.rnc_print_laws.specs.plain.LinesSyntax as lines
 use Rattle.rnc_print_laws.specs.plain.LinesTree as trees
 use Rattle.rnc_print.proofs.SameTests.{bytes_other_way}
-use Rattle.rnc_print_laws.proofs.LineSentences.{KnowsType, KnowsTypes, KnowsItem}
+use Rattle.rnc_print_laws.proofs.ReadBack.LineSentences.{KnowsType, KnowsTypes, KnowsItem}
 
 -- what a scope has for the prefix of a namespace
 abbrev pub Knows : Scope → List (List ℕ) → List ℕ → Type 0

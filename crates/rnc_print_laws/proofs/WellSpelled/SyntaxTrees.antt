@@ -19,8 +19,10 @@ use Rattle.rnc_model.specs.grammar.Syntax as syntax
 use Rattle.rnc_model.specs.grammar.Syntax.{written, Name, NameClass, NameClasses, Pattern, Patterns, Component, Components, Uri, Declaration, Body, File}
 use Rattle.rnc_model.specs.grammar.Sentence.{nesting_limit}
 use Rattle.rnc_print_laws.specs.plain.Printable.{IsText, IsName, IsPrintableParameter}
-use Rattle.rnc_print_laws.proofs.RoomForBrackets.{Keeps, both, in_braces, in_parentheses, at, nothing, so, past_keyword, past_identifier, past_name, past_ns}
-use Rattle.rnc_print_laws.proofs.RoomForBrackets.{past_segment, past_word, IsWellSpelledName, past_type, past_method, past_connector, past_sign, past_other}
+use Rattle.rnc_print_laws.proofs.WellSpelled.RoomForBrackets.{Keeps, both, in_braces, in_parentheses, at, nothing, so, past_keyword, past_identifier, past_name}
+use Rattle.rnc_print_laws.proofs.WellSpelled.RoomForBrackets.{past_ns}
+use Rattle.rnc_print_laws.proofs.WellSpelled.RoomForBrackets.{past_segment, past_word, IsWellSpelledName, past_type, past_method, past_connector, past_sign}
+use Rattle.rnc_print_laws.proofs.WellSpelled.RoomForBrackets.{past_other}
 
 first : {A B : Type 0} → A × B → A
 first p = p.0

@@ -5,7 +5,7 @@ use Rattle.rng_model.specs.schema.Patterns.{without_parameters}
 use Rattle.rng_model.specs.simple.Tree.{s_text, s_leaf, s_attribute, s_value, s_joined, group}
 use Rattle.rng_model.specs.simple.Grammar.{Grammar}
 use Rattle.rnc_print_laws.specs.plain.Printable.{IsText, IsName, IsPrintable}
-use Rattle.rnc_print_laws.proofs.NamedDatatypes.{ascii_text, ascii_name}
+use Rattle.rnc_print_laws.proofs.Printability.NamedDatatypes.{ascii_text, ascii_name}
 
 -- an element `doc` in the namespace `urn:a`, with an attribute `kind` with the value `a`, and text
 abbrev pub example : Grammar

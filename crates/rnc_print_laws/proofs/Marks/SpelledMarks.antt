@@ -19,9 +19,9 @@ use Rattle.rnc_text.specs.plain.Marks.{Mark, space, line_end, word, cname, segme
 use Rattle.rnc_text.specs.plain.Marks.{characters_of_marks, piece_of_mark, IsMark, is_open, is_apart, begins_apart, AreParted, MarksAreCut, MarksAreDecoded}
 use Rattle.rnc_text.specs.plain.Marks as marks
 use Rattle.rnc_print_laws.specs.plain.MarkLexemes.{word_at, lexemes_from}
-use Rattle.rnc_print_laws.proofs.EscapedCharacters.{escaped_back}
-use Rattle.rnc_print_laws.proofs.EncodedMarks.{escaped_all}
-use Rattle.rnc_print_laws.proofs.Colons.{HasNoColon, ncname_no_colon, before_colon}
+use Rattle.rnc_print_laws.proofs.Marks.EscapedCharacters.{escaped_back}
+use Rattle.rnc_print_laws.proofs.Marks.EncodedMarks.{escaped_all}
+use Rattle.rnc_print_laws.proofs.Marks.Colons.{HasNoColon, ncname_no_colon, before_colon}
 
 -- a mark in bytes, and the same mark in numbers
 pub data Spells : Mark → Mark → Type 0 where

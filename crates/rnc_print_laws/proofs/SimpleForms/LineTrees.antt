@@ -15,10 +15,10 @@ use Rattle.rncv_model.specs.printed.Items.{PrintedItem, element, pattern, named_
 use Rattle.rncv_model.specs.printed.PrintedText.{item_name}
 use Rattle.rng_simple.specs.plain.Renamed.{simple_renamed}
 use Rattle.rnc_print_laws.specs.plain.LinesSchema.{flattened, reference_pattern, item_pattern, IsSchemaOfLines}
-use Rattle.rnc_print_laws.proofs.ListedLines.{AreAmong, among_left, among_right, start_among, line_among}
-use Rattle.rnc_print_laws.proofs.FlattenedClasses.{with_flattened}
-use Rattle.rnc_print_laws.proofs.LinesFound.{line_number, item_found, start_found}
-use Rattle.rnc_print_laws.proofs.GoodGrammars.{IsGoodTree}
+use Rattle.rnc_print_laws.proofs.Lines.ListedLines.{AreAmong, among_left, among_right, start_among, line_among}
+use Rattle.rnc_print_laws.proofs.SimpleForms.FlattenedClasses.{with_flattened}
+use Rattle.rnc_print_laws.proofs.Lines.LinesFound.{line_number, item_found, start_found}
+use Rattle.rnc_print_laws.proofs.SimpleForms.GoodGrammars.{IsGoodTree}
 
 pub plain_datatype : (d : Datatype) → d.parameters ≡ [] → without_parameters d.library d.name ≡ d
 plain_datatype d e = ap (λ ps. record { library = d.library; name = d.name; parameters = ps }) (sym e)

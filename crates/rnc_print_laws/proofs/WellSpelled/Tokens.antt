@@ -12,9 +12,9 @@ use Rattle.rnc_model.specs.declared.character.Character.TheVariants.{Ordinary}
 use Rattle.rnc_model.specs.declared.token.Keyword.{Keyword}
 use Rattle.rnc_model.specs.declared.token.TokenKind.{TokenKind}
 use Rattle.rnc_print_laws.specs.plain.Printable.{IsName}
-use Rattle.rnc_print_laws.proofs.Colons.{ncname_no_colon, before_colon}
-use Rattle.rnc_print_laws.proofs.FileCharacters.{AreChars, decoded_chars, chars_parts, chars_behind, text_of, name_of, IsCharPiece, cut_pieces}
-use Rattle.rnc_print_laws.proofs.RoomForBrackets.{IsWellSpelled}
+use Rattle.rnc_print_laws.proofs.Marks.Colons.{ncname_no_colon, before_colon}
+use Rattle.rnc_print_laws.proofs.WellSpelled.FileCharacters.{AreChars, decoded_chars, chars_parts, chars_behind, text_of, name_of, IsCharPiece, cut_pieces}
+use Rattle.rnc_print_laws.proofs.WellSpelled.RoomForBrackets.{IsWellSpelled}
 
 -- ---- names with a colon
 

@@ -23,7 +23,7 @@ use Rattle.rnc_model.specs.declarations.DeclarationRules.{prefixes_of_name, pref
 use Rattle.rnc_model.specs.declarations.DeclarationRules.{prefixes_of_components, prefixes_of_body}
 use Rattle.rnc_print_laws.specs.plain.LinesSyntax as lines
 use Rattle.rnc_print.proofs.Numberings.{all_append}
-use Rattle.rnc_print_laws.proofs.ResolvedPrefixes.{HasOtherPrefix, HaveDistinctPrefixes}
+use Rattle.rnc_print_laws.proofs.ReadBack.ResolvedPrefixes.{HasOtherPrefix, HaveDistinctPrefixes}
 
 among_all : {A : Type 0} (P : A → Type 0) {x : A} {xs : List A} → Among x xs → AllByRecursion P xs → P x
 among_all P here h = h.0

@@ -24,7 +24,7 @@ use Rattle.rnc_print_laws.specs.plain.LinesSchema.{IsSchemaOfLines, schema_of_li
 use Rattle.rnc_print_laws.specs.plain.HandedIn.{lines_alone}
 use Rattle.rnc_print_laws.specs.plain.LinesTree as lines
 use Rattle.rnc_print_laws.specs.plain.LinesTree.{lines_tree}
-use Rattle.rnc_print_laws.proofs.ReadLines.{lines_read, lines_are_read}
+use Rattle.rnc_print_laws.proofs.Lines.ReadLines.{lines_read, lines_are_read}
 
 -- ---- the lines mention no file
 

@@ -30,12 +30,12 @@ use Rattle.rnc_grammar.proofs.AppliedTrees.{made_where_applied}
 use Rattle.rnc_print_laws.specs.plain.Printable.{IsText, IsName, HasNames, HaveNames, one_more_if, parentheses, parentheses_among}
 use Rattle.rnc_print_laws.specs.plain.WellSpelledFiles.{IsTextNamespace, IsWellSpelledType, IsWellSpelledMention, IsWellSpelledClass, IsWellSpelledPattern}
 use Rattle.rnc_print_laws.specs.plain.WellSpelledFiles.{AreWellSpelledPatterns, IsWellSpelledComponent, AreWellSpelledComponents, IsWellSpelledFile}
-use Rattle.rnc_print_laws.proofs.RoomForBrackets.{IsWellSpelledName, fits}
-use Rattle.rnc_print_laws.proofs.WellSpelledSyntaxTrees.{IsSpelledName, IsSpelledClass, AreSpelledClasses, around, around_all, inside, IsSpelledPattern}
-use Rattle.rnc_print_laws.proofs.WellSpelledSyntaxTrees.{AreSpelledPatterns}
-use Rattle.rnc_print_laws.proofs.WellSpelledSyntaxTrees.{IsSpelledComponent, AreSpelledComponents, IsSpelledUri, IsSpelledDeclaration, IsSpelledBody}
-use Rattle.rnc_print_laws.proofs.WellSpelledSyntaxTrees.{IsSpelledFile, file}
-use Rattle.rnc_print_laws.proofs.WellSpelledTokens.{tokens_spelled}
+use Rattle.rnc_print_laws.proofs.WellSpelled.RoomForBrackets.{IsWellSpelledName, fits}
+use Rattle.rnc_print_laws.proofs.WellSpelled.SyntaxTrees.{IsSpelledName, IsSpelledClass, AreSpelledClasses, around, around_all, inside, IsSpelledPattern}
+use Rattle.rnc_print_laws.proofs.WellSpelled.SyntaxTrees.{AreSpelledPatterns}
+use Rattle.rnc_print_laws.proofs.WellSpelled.SyntaxTrees.{IsSpelledComponent, AreSpelledComponents, IsSpelledUri, IsSpelledDeclaration, IsSpelledBody}
+use Rattle.rnc_print_laws.proofs.WellSpelled.SyntaxTrees.{IsSpelledFile, file}
+use Rattle.rnc_print_laws.proofs.WellSpelled.Tokens.{tokens_spelled}
 
 bind_some : {A B : Type 0} (o : Option A) (f : A → Option B) {b : B} → (o >>= f) ≡ Some b → (a : A) × (o ≡ Some a) × (f a ≡ Some b)
 bind_some None f e = absurd (none-some _ e)

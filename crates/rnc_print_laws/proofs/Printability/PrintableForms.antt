@@ -27,9 +27,9 @@ use Rattle.rng_model.specs.schema.Unfolding.{Leaf, to_element, outside, aim, Unf
 use Rattle.rng_model.specs.schema.Unfolding.{from_simple_body}
 use Rattle.rnc_print_laws.specs.plain.Printable.{IsName, IsPrintableClass, CanBeNamed, IsPrintableTree, IsPrintable}
 use Rattle.rnc_print_laws.specs.plain.WellSpelledSchemas.{IsWellSpelledPattern, AreWellSpelledPatterns, IsWellSpelledSchema}
-use Rattle.rnc_print_laws.proofs.NamedDatatypes.{datatype_named, allowed_named}
-use Rattle.rnc_print_laws.proofs.PrintableClasses.{simple_printable}
-use Rattle.rnc_print_laws.proofs.PrintableTrees.{IsGoodTree, AreGoodTrees, AreAllGood, leaf_of, steps_good, nested_good, simple_good}
+use Rattle.rnc_print_laws.proofs.Printability.NamedDatatypes.{datatype_named, allowed_named}
+use Rattle.rnc_print_laws.proofs.Printability.PrintableClasses.{simple_printable}
+use Rattle.rnc_print_laws.proofs.Printability.PrintableTrees.{IsGoodTree, AreGoodTrees, AreAllGood, leaf_of, steps_good, nested_good, simple_good}
 
 -- ---- known types
 

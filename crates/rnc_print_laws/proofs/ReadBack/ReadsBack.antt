@@ -10,11 +10,11 @@ use Rattle.rnc_print_laws.specs.plain.Printable.{IsPrintable}
 use Rattle.rnc_text.specs.plain.Marks.{characters_of_marks, piece_of_mark, MarksAreCut, MarksAreDecoded}
 use Rattle.rnc_print_laws.specs.plain.LinesTree.{lines_tree}
 use Rattle.rnc_print_laws.specs.views.ReadBack.{IsReadAs}
-use Rattle.rnc_print_laws.proofs.FewItems.{items_few}
-use Rattle.rnc_print_laws.proofs.MarksText.{text_is}
-use Rattle.rnc_print_laws.proofs.LineConditions.{items_printable, tokens_read}
-use Rattle.rnc_print_laws.proofs.SpelledMarks.{marks_are_decoded, marks_have_tokens, tokens_are}
-use Rattle.rnc_print_laws.proofs.ReadMarks.{marks_are_read}
+use Rattle.rnc_print_laws.proofs.ReadBack.FewItems.{items_few}
+use Rattle.rnc_print_laws.proofs.Marks.MarksText.{text_is}
+use Rattle.rnc_print_laws.proofs.ReadBack.LineConditions.{items_printable, tokens_read}
+use Rattle.rnc_print_laws.proofs.Marks.SpelledMarks.{marks_are_decoded, marks_have_tokens, tokens_are}
+use Rattle.rnc_print_laws.proofs.ReadBack.ReadMarks.{marks_are_read}
 
 -- The printed text of a printable grammar breaks no clause of a file except that of its size, and has the tree of its
 -- lines.

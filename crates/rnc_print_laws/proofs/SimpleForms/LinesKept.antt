@@ -21,14 +21,15 @@ use Rattle.rng_simple.proofs.Leaves.Renamed.{origin}
 use Rattle.rng_simple.proofs.Grammars.SameRestrictions.{same_restrictions}
 use Rattle.rnc_print_laws.specs.plain.LinesSchema.{IsSchemaOfLines, IsReprinted, IsReprintedAs}
 use Rattle.rncv_model.specs.printed.SchemaText.{IsPrintedForm}
-use Rattle.rnc_print_laws.proofs.FewItems.{items_few}
-use Rattle.rnc_print_laws.proofs.FlattenedClasses.{leaves_flattened, twos_flattened}
-use Rattle.rnc_print_laws.proofs.GoodGrammars.{IsGoodTree, IsGoodBody, IsGoodGrammar, good_grammar}
-use Rattle.rnc_print_laws.proofs.LineTrees.{leaf_at, placed, line_tree_of}
-use Rattle.rnc_print_laws.proofs.LinesForm.{HasLine, IsLine, placed_last, below_of, class_is_form, start_leaf, body_leaf, start_is_tree, body_is_tree, has_line}
-use Rattle.rnc_print_laws.proofs.LinesGrammar.{lines_grammar}
-use Rattle.rnc_print_laws.proofs.LinesWritten.{no_name_class, no_datatype, no_combination, has_start, no_ref}
-use Rattle.rnc_print_laws.proofs.SimpleDepths.{renamed_depth}
+use Rattle.rnc_print_laws.proofs.ReadBack.FewItems.{items_few}
+use Rattle.rnc_print_laws.proofs.SimpleForms.FlattenedClasses.{leaves_flattened, twos_flattened}
+use Rattle.rnc_print_laws.proofs.SimpleForms.GoodGrammars.{IsGoodTree, IsGoodBody, IsGoodGrammar, good_grammar}
+use Rattle.rnc_print_laws.proofs.SimpleForms.LineTrees.{leaf_at, placed, line_tree_of}
+use Rattle.rnc_print_laws.proofs.SimpleForms.LinesForm.{HasLine, IsLine, placed_last, below_of, class_is_form, start_leaf, body_leaf, start_is_tree}
+use Rattle.rnc_print_laws.proofs.SimpleForms.LinesForm.{body_is_tree, has_line}
+use Rattle.rnc_print_laws.proofs.SimpleForms.LinesGrammar.{lines_grammar}
+use Rattle.rnc_print_laws.proofs.SimpleForms.LinesWritten.{no_name_class, no_datatype, no_combination, has_start, no_ref}
+use Rattle.rnc_print_laws.proofs.SimpleForms.SimpleDepths.{renamed_depth}
 
 module _ (s r : Schema) (g : Grammar) (items : List PrintedItem) (good : IsGoodGrammar g) (numbered : IsItemsOf g items) (few : length items < 2 ^ 64)
     (lines : IsSchemaOfLines g items r) (f : SimpleForm) (is : IsSimpleFormOfSchema s f) (same : IsSameUpToNumbering g f) where

@@ -22,7 +22,7 @@ use Rattle.rnc_print_laws.specs.plain.LinesSchema.{reference_pattern, item_patte
 use Rattle.rnc_print_laws.specs.plain.LinesSchema.{IsSchemaOfLines}
 use Rattle.rnc_print_laws.specs.plain.LinesTree as lines
 use Rattle.rnc_print_laws.specs.plain.LinesTree.{lines_tree}
-use Rattle.rnc_print_laws.proofs.ReadClasses.{class_read}
+use Rattle.rnc_print_laws.proofs.Lines.ReadClasses.{class_read}
 
 module _ (files : List ℕ → Option FileTree) where
   abbrev IsRead : TreePath → tree.Pattern applied → Pattern → Type 0

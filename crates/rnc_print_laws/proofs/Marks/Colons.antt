@@ -7,7 +7,7 @@ use Rattle.std.proofs.lemmas.Bool.{and_parts, and_from, false≢true}
 use Rattle.std.proofs.lemmas.Str.{encode_ascii}
 use Rattle.rng_model.specs.names.Names.{is_ncname, is_name_char, is_name_start, is_colon}
 use Rattle.rnc_model.specs.tokens.Cut as grammar
-use Rattle.rnc_print_laws.proofs.EncodedMarks.{AreHigh, low_or_high, high_bytes, other_number}
+use Rattle.rnc_print_laws.proofs.Marks.EncodedMarks.{AreHigh, low_or_high, high_bytes, other_number}
 
 -- no byte is a colon
 abbrev pub HasNoColon : List ℕ → Type 0

@@ -10,8 +10,8 @@ use Rattle.rncv_model.specs.printed.PrintedText.{element_in, pattern_in, item_na
 use Rattle.rnc_print.proofs.FailedTests.{false_true}
 use Rattle.rnc_print.proofs.SameTests.{item_exact, tree_exact, tree_itself, number_itself}
 use Rattle.rng_model.specs.names.Lists.{Among}
-use Rattle.rnc_print_laws.proofs.NumberedNames.{place_le, kept_le, one_place}
-use Rattle.rnc_print_laws.proofs.ListedLines.{among_has}
+use Rattle.rnc_print_laws.proofs.ReadBack.NumberedNames.{place_le, kept_le, one_place}
+use Rattle.rnc_print_laws.proofs.Lines.ListedLines.{among_has}
 
 heads_apart : (v w : List ℕ) → ◌≡◌ {A = List ℕ} (0x65 ∷ v) (0x70 ∷ w) → ⊥
 heads_apart v w e = let c : ◌≡◌ {A = ℕ} 0x65 0x70 = cc in omega (arith, c)

@@ -11,7 +11,7 @@ use Rattle.rng_model.specs.schema.Schema.{nested, nested_from}
 use Rattle.rng_model.specs.simple.Simplification as step
 use Rattle.rng_model.specs.simple.Simplification.{RuleGroup, Step, StepAmong, AnyStep, Steps}
 use Rattle.rnc_print_laws.specs.plain.Printable.{IsText, IsPrintableClass, IsPrintableType, IsPrintableTree}
-use Rattle.rnc_print_laws.proofs.PrintableClasses.{step_printable}
+use Rattle.rnc_print_laws.proofs.Printability.PrintableClasses.{step_printable}
 
 module _ {L : Type 0} (P : L → Type 0) where
   -- its classes, datatypes and texts are printable, and so is each leaf
