@@ -7,7 +7,7 @@ use Rattle.rng_model.specs.simple.Table.{Table}
 use Rattle.rnc_model.specs.loading.Loading.{TakenFiles, tree_in}
 use Rattle.rnc_model.specs.loading.LoadedSchema.{AreSchema, IsSchemaOf}
 use Rattle.rnc_model.specs.loading.SchemaFile.{FileName, NamedFile}
-use Rattle.rng_load.proofs.OneSchema.{one_schema}
+use Rattle.rng_load.proofs.Places.OneSchema.{one_schema}
 use Rattle.rncv_model.specs.answers.Run.{JudgesDocument}
 use Rattle.rncv_model.specs.declared.command.Command.{Command}
 use Rattle.rncv_model.specs.declared.command.Command.TheVariants.{Valid}

@@ -8,8 +8,8 @@ use Rattle.rng_load.specs.plain.FoundGrammars.{CanBeRead}
 use Rattle.rnc_model.specs.loading.Loading.{BreaksIncludes, FilesHaveOnlyVerdict, TakenFiles, are_taken, hrefs_in, includes_break, mentions_break, tree_in}
 use Rattle.rnc_model.specs.loading.Mentions.{BreaksMentions}
 use Rattle.rnc_model.specs.loading.SchemaFile.{FileName, NamedFile}
-use Rattle.rng_load.proofs.ClosedFiles.{are_closed, main_there}
-use Rattle.rng_load.proofs.PlainReading.{main_readable}
+use Rattle.rng_load.proofs.LoadOrder.ClosedFiles.{are_closed, main_there}
+use Rattle.rng_load.proofs.Patterns.PlainReading.{main_readable}
 
 module _ (files : List NamedFile) (main : FileName) (read : TakenFiles) (verdict : FilesHaveOnlyVerdict files main (are_taken read)) where
   no_mention : ¬ (BreaksMentions (hrefs_in read) main)

@@ -66,7 +66,7 @@ impl<'a> Children<'a> {
     }
 
     /// The child with this number.
-    #[tactic(auto, using(crate::proofs::OpenPatterns::child_there, crate::proofs::OpenPatterns::child_past))]
+    #[tactic(auto, using(crate::proofs::Patterns::OpenPatterns::child_there, crate::proofs::Patterns::OpenPatterns::child_past))]
     pub(crate) fn get(self, number: usize) -> Option<&'a Pattern>
         ensures child { MatchOption result (drop number (children_of self.entry) ≡ [])
             (λ p. drop number (children_of self.entry) ≡ pattern_of p.now ∷ drop (number + 1) (children_of self.entry)) }

@@ -110,7 +110,7 @@ impl<'a> TreeReader<'a> {
     /// How a pattern begins to which this way leads. Appends a grammar to `grammars`.
     ///
     /// RELAX NG Specification, sections 4.6, 4.9 and 4.18.
-    #[tactic(auto, using(crate::proofs::OpenPatterns::no_more), unfolding(crate::specs::plain::PlainReading::read_with))]
+    #[tactic(auto, using(crate::proofs::Patterns::OpenPatterns::no_more), unfolding(crate::specs::plain::PlainReading::read_with))]
     fn head(
         self,
         scope: FileScope<'a>,
@@ -253,7 +253,7 @@ fn boxed_class(
 }
 
 /// How a datatype begins, with or without a pattern that it excludes.
-#[tactic(auto, using(crate::proofs::OpenPatterns::no_more), unfolding(crate::specs::plain::PlainReading::read_with))]
+#[tactic(auto, using(crate::proofs::Patterns::OpenPatterns::no_more), unfolding(crate::specs::plain::PlainReading::read_with))]
 fn data<'a>(
     alloc: Global,
     scope: FileScope<'a>,

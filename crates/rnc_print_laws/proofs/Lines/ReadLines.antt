@@ -17,7 +17,7 @@ use Rattle.rnc_model.specs.loading.LoadedSchema as loaded
 use Rattle.rnc_model.specs.loading.Places as p
 use Rattle.rnc_model.specs.loading.Places.{TreePath, Nested, Gathered, Reads}
 use Rattle.rnc_model.specs.loading.LoadedSchema.{Gathers, HasGrammar, IsSchemaOf}
-use Rattle.rng_load.proofs.OneSchema.{one_gathering}
+use Rattle.rng_load.proofs.Places.OneSchema.{one_gathering}
 use Rattle.rnc_print_laws.specs.plain.LinesSchema.{reference_pattern, item_pattern, start_line, item_line, lines_components, components_at, schema_of_lines}
 use Rattle.rnc_print_laws.specs.plain.LinesSchema.{IsSchemaOfLines}
 use Rattle.rnc_print_laws.specs.plain.LinesTree as lines

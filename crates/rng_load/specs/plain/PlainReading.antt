@@ -1,6 +1,6 @@
 -- The pattern and the components that the code builds from the tree of a file, with mentions followed. A mention takes
 -- one of the levels. If no level is left, or a file does not exist or is no grammar, the mention is left out; this does
--- not happen in files that keep their rules. proofs/PlainReading.antt compares the result with `Reads` and `Gathers`.
+-- not happen in files that keep their rules. proofs/Patterns/PlainReading.antt compares the result with `Reads` and `Gathers`.
 use Rattle.std.specs.Prelude.{◌≡◌, ℕ, zero, suc, ◌+◌, List, [], ◌∷◌, ◌++◌, filter, not, Option, Some, None}
 use Rattle.rng_model.specs.schema.Patterns.{Pattern, joined_members}
 use Rattle.rng_model.specs.schema.Patterns as pattern

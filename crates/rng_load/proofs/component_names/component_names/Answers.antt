@@ -3,7 +3,7 @@ use Rattle.rnc_model.specs.grammar.Syntax.{components_of}
 use Rattle.rnc_grammar.specs.views.View.{component_of}
 use Rattle.rng_load.specs.plain.ComponentNames.{gather, names_in}
 use Rattle.rng_load.specs.views.FilesView.{taken_files_of}
-use Rattle.rng_load.proofs.GatheredNames.{IsGathering, at_index, beyond_end, length_keys, begins, few_looked, turned, all_found}
+use Rattle.rng_load.proofs.Overriding.GatheredNames.{IsGathering, at_index, beyond_end, length_keys, begins, few_looked, turned, all_found}
 use Rattle.rng_load.proofs.component_names.component_names.Goals as goal
 
 pub included-init : goal.included-init

@@ -3,7 +3,7 @@ use Rattle.rnc_model.specs.grammar.Syntax.{components_of}
 use Rattle.rnc_grammar.specs.views.View.{component_of}
 use Rattle.rng_load.specs.plain.ComponentNames.{names_in}
 use Rattle.rng_load.specs.views.FilesView.{taken_files_of}
-use Rattle.rng_load.proofs.GatheredNames.{IsGathering, all_included}
+use Rattle.rng_load.proofs.Overriding.GatheredNames.{IsGathering, all_included}
 use Rattle.rng_load.proofs.component_names.component_names.Given as goal
 
 abbrev pub invariant-included : goal.invariant-included

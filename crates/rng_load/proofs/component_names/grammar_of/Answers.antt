@@ -1,5 +1,5 @@
 use Rattle.std.proofs.Common.{Some, None, ◌∙◌}
-use Rattle.rng_load.proofs.GatheredNames.{grammar_found}
+use Rattle.rng_load.proofs.Overriding.GatheredNames.{grammar_found}
 use Rattle.rng_load.proofs.component_names.grammar_of.Goals as goal
 
 pub returns-in-Some : goal.returns-in-Some

@@ -1,5 +1,5 @@
 use Rattle.std.proofs.Common.{ap, ◌∙◌, map}
-use Rattle.rng_load.proofs.NameSets.{borrowed_after_insert}
+use Rattle.rng_load.proofs.LoadOrder.NameSets.{borrowed_after_insert}
 use Rattle.rng_load.proofs.component_names.note.Goals as goal
 
 pub returns : goal.returns

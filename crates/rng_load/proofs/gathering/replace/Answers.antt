@@ -1,7 +1,7 @@
 use Rattle.std.proofs.Common.{◌∙◌, ap, map}
 use Rattle.std.proofs.lemmas.Result.{on_ok_weaker}
 use Rattle.rng_load.specs.views.GatheredComponents.{gathered_of}
-use Rattle.rng_load.proofs.OverriddenComponents.{gathered_replaced}
+use Rattle.rng_load.proofs.Patterns.OverriddenComponents.{gathered_replaced}
 use Rattle.rng_load.proofs.gathering.replace.Goals as goal
 
 pub returns : goal.returns

@@ -3,7 +3,7 @@ use Rattle.std.proofs.lemmas.List.{nil_from_length}
 use Rattle.rnc_model.specs.grammar.Syntax.{components_of}
 use Rattle.rnc_grammar.specs.views.View.{component_of, file_of, mention_of}
 use Rattle.rng_load.specs.views.FilesView.{taken_files_of}
-use Rattle.rng_load.proofs.BrokenIncludes.{found_at, unread, is_no_grammar, nothing_in_braces, judged}
+use Rattle.rng_load.proofs.Overriding.BrokenIncludes.{found_at, unread, is_no_grammar, nothing_in_braces, judged}
 use Rattle.rng_load.proofs.includes.breaks_include.Goals as goal
 
 pub returns-in_default : goal.returns-in_default

@@ -3,8 +3,8 @@ use Rattle.std.specs.Map.{values_of}
 use Rattle.rnc_grammar.specs.views.View.{file_of}
 use Rattle.rng_load.specs.views.FilesView.{taken_files_of}
 use Rattle.rnc_model.specs.loading.Loading.{HasBrokenInclude}
-use Rattle.rng_load.proofs.BrokenIncludes.{OneOf, met, passed, all_passed, of_a_tree, of_a_file}
-use Rattle.rng_load.proofs.HandedIn.{is_not}
+use Rattle.rng_load.proofs.Overriding.BrokenIncludes.{OneOf, met, passed, all_passed, of_a_tree, of_a_file}
+use Rattle.rng_load.proofs.LoadOrder.HandedIn.{is_not}
 use Rattle.rng_load.proofs.includes.breaks_includes.Goals as goal
 
 pub returns-then-branch : goal.returns-then-branch

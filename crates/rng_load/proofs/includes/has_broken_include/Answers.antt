@@ -3,8 +3,8 @@ use Rattle.rnc_model.specs.loading.Mentions.{mentions_of}
 use Rattle.rnc_grammar.specs.views.View.{file_of, mentioned_file_of}
 use Rattle.rng_load.specs.views.FilesView.{taken_files_of}
 use Rattle.rnc_model.specs.loading.Loading.{IsBrokenInclude}
-use Rattle.rng_load.proofs.BrokenIncludes.{OneOf, met, passed}
-use Rattle.rng_load.proofs.HandedIn.{is_not}
+use Rattle.rng_load.proofs.Overriding.BrokenIncludes.{OneOf, met, passed}
+use Rattle.rng_load.proofs.LoadOrder.HandedIn.{is_not}
 use Rattle.rng_load.proofs.includes.has_broken_include.Goals as goal
 
 pub returns-then-branch : goal.returns-then-branch

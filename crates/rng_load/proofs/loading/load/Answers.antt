@@ -2,7 +2,7 @@ use Rattle.std.proofs.Common.{◌∙◌, ap, sym, option_map}
 use Rattle.rnc_grammar.specs.views.View.{file_of}
 use Rattle.rnc_model.specs.loading.SchemaFile.{named_files}
 use Rattle.rng_load.specs.views.FilesView.{taken_files_of}
-use Rattle.rng_load.proofs.BrokenIncludes.{tree_of_name}
+use Rattle.rng_load.proofs.Overriding.BrokenIncludes.{tree_of_name}
 use Rattle.rng_load.proofs.LoadedFiles.{can_be_read, found_some, main_is_there}
 use Rattle.rng_load.proofs.loading.load.Goals as goal
 

@@ -1,7 +1,7 @@
 use Rattle.rnc_model.specs.loading.SchemaFile.{named_files}
 use Rattle.rng_load.specs.views.FilesView.{taken_files_of}
 use Rattle.rng_load.proofs.FilesVerdict.{file_first, mentions_first, includes_next, none_broken}
-use Rattle.rng_load.proofs.HandedIn.{is_not}
+use Rattle.rng_load.proofs.LoadOrder.HandedIn.{is_not}
 use Rattle.rng_load.proofs.loading.load_files.Goals as goal
 
 pub returns-in-Err-File : goal.returns-in-Err-File

@@ -1,6 +1,6 @@
 use Rattle.std.proofs.Common.{rules, ◌∙◌, ◌≤◌, length}
 use Rattle.rnc_grammar.specs.views.View.{file_of}
-use Rattle.rng_load.proofs.MentionedNames.{all_hrefs}
+use Rattle.rng_load.proofs.Overriding.MentionedNames.{all_hrefs}
 use Rattle.rng_load.proofs.mentioned.hrefs.Goals as goal
 
 pub returns : goal.returns

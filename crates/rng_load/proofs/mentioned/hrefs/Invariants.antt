@@ -1,5 +1,5 @@
 use Rattle.std.proofs.Common.{◌≡◌, map, take}
-use Rattle.rng_load.proofs.MentionedNames.{href_of}
+use Rattle.rng_load.proofs.Overriding.MentionedNames.{href_of}
 use Rattle.rng_load.proofs.mentioned.hrefs.Given as goal
 
 abbrev pub invariant-loop-file : goal.invariant-loop-file

@@ -1,5 +1,5 @@
 use Rattle.std.proofs.Common.{rules, ◌≡◌, ◌∙◌, subst, map, IfOk, Some, None, []}
-use Rattle.rng_load.proofs.MentionedNames.{mentions_found}
+use Rattle.rng_load.proofs.Overriding.MentionedNames.{mentions_found}
 use Rattle.rng_load.proofs.mentioned.hrefs_in.Goals as goal
 
 pub returns-in-Some : goal.returns-in-Some

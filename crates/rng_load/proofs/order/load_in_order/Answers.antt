@@ -3,10 +3,10 @@ use Rattle.std.proofs.lemmas.Result.{err_from_is_err_and}
 use Rattle.rng_load.specs.views.FilesView.{names_of, taken_files_of}
 use Rattle.rnc_model.specs.loading.SchemaFile.{named_files}
 use Rattle.rnc_model.specs.loading.Loading.{with_name}
-use Rattle.rng_load.proofs.NameSets.{names_after_insert}
-use Rattle.rng_load.proofs.TakenFiles.{none_firm, all_read}
-use Rattle.rng_load.proofs.HandedIn.{length_named}
-use Rattle.rng_load.proofs.ReadInOrder.{name_at, no_name_left, length_entries, as_told, goes_on, fewer_left}
+use Rattle.rng_load.proofs.LoadOrder.NameSets.{names_after_insert}
+use Rattle.rng_load.proofs.LoadOrder.TakenFiles.{none_firm, all_read}
+use Rattle.rng_load.proofs.LoadOrder.HandedIn.{length_named}
+use Rattle.rng_load.proofs.LoadOrder.ReadInOrder.{name_at, no_name_left, length_entries, as_told, goes_on, fewer_left}
 use Rattle.rng_load.proofs.order.load_in_order.Goals as goal
 
 pub files-init : goal.files-init

@@ -1,7 +1,7 @@
 use Rattle.std.proofs.Common.{◌-◌, length}
 use Rattle.rng_load.specs.views.FilesView.{names_of, taken_files_of}
 use Rattle.rnc_model.specs.loading.SchemaFile.{named_files}
-use Rattle.rng_load.proofs.TakenFiles.{IsFirm}
+use Rattle.rng_load.proofs.LoadOrder.TakenFiles.{IsFirm}
 use Rattle.rng_load.proofs.order.load_in_order.Given as goal
 
 abbrev pub invariant-files : goal.invariant-files

@@ -1,7 +1,7 @@
 use Rattle.std.proofs.Common.{sym, ap, ◌∙◌, map, string_bytes}
 use Rattle.rnc_model.specs.loading.Loading.{with_name}
 use Rattle.rng_load.specs.views.FilesView.{names_of}
-use Rattle.rng_load.proofs.NameSets.{names_after_insert, name_is_there}
+use Rattle.rng_load.proofs.LoadOrder.NameSets.{names_after_insert, name_is_there}
 use Rattle.rng_load.proofs.order.note.Goals as goal
 
 pub returns-in_ok-insert : goal.returns-in_ok-insert

@@ -4,7 +4,7 @@ use Rattle.std.proofs.lemmas.Map.Text.{hash_map_updates_str}
 use Rattle.rng_load.specs.plain.Counting.{HasFewPaths, long_end}
 use Rattle.rng_load.specs.views.FilesView.{taken_files_of}
 use Rattle.rnc_model.specs.loading.Loading.{hrefs_in}
-use Rattle.rng_load.proofs.CountMarks.{at_some, at_none, starts, may_count, closes, stops, goes_round, stands_in, turn, excess, ended}
+use Rattle.rng_load.proofs.Mentions.CountMarks.{at_some, at_none, starts, may_count, closes, stops, goes_round, stands_in, turn, excess, ended}
 use Rattle.rng_load.proofs.paths.+count_paths.Goals as goal
 
 pub returns-in-Some-Counted-clause-counts : goal.returns-in-Some-Counted-clause-counts

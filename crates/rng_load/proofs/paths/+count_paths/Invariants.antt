@@ -2,7 +2,7 @@ use Rattle.std.proofs.Common.{map, take}
 use Rattle.rng_load.specs.plain.Counting.{marks_of}
 use Rattle.rng_load.specs.views.FilesView.{taken_files_of}
 use Rattle.rnc_model.specs.loading.Loading.{hrefs_in}
-use Rattle.rng_load.proofs.CountMarks.{IsCounting}
+use Rattle.rng_load.proofs.Mentions.CountMarks.{IsCounting}
 use Rattle.rng_load.proofs.paths.+count_paths.Given as goal
 
 abbrev pub decreases-count_paths : goal.decreases-count_paths

@@ -1,4 +1,4 @@
-use Rattle.rng_load.proofs.PathVerdicts.{judged}
+use Rattle.rng_load.proofs.Mentions.PathVerdicts.{judged}
 use Rattle.rng_load.proofs.paths.breaks_mentions.Goals as goal
 
 pub returns : goal.returns

@@ -1,6 +1,6 @@
 use Rattle.std.proofs.Common.{rules, ap, sym, subst, ◌∙◌, ◌<◌, length, inr, string_bytes, take, ◌+◌}
 use Rattle.std.proofs.lemmas.Slice.Eq.{bytes_eq-Decides}
-use Rattle.rng_load.proofs.HandedIn.{IsFound, passed_by, taken_up, met_again, all_seen, is_not}
+use Rattle.rng_load.proofs.LoadOrder.HandedIn.{IsFound, passed_by, taken_up, met_again, all_seen, is_not}
 use Rattle.rnc_model.specs.loading.SchemaFile.{named_files}
 use Rattle.rng_load.proofs.reading.bytes_of.Goals.{then-eq+else-is_some, else-eq}
 use Rattle.rng_load.proofs.reading.bytes_of.Goals as goal

@@ -1,7 +1,7 @@
 use Rattle.std.proofs.Common.{sym, ◌∙◌, length, inl, inr, arith}
 use Rattle.std.proofs.lemmas.Bool.{lt-ltb, ltb-true}
 use Rattle.std.proofs.lemmas.Slice.Eq.{bytes_eq-Decides}
-use Rattle.rng_load.proofs.HandedIn.{is_not, length_named}
+use Rattle.rng_load.proofs.LoadOrder.HandedIn.{is_not, length_named}
 use Rattle.rng_load.proofs.reading.is_too_large.Goals.{then-eq, else-eq}
 use Rattle.rng_load.proofs.reading.is_too_large.Goals as goal
 

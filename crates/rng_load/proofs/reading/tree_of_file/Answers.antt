@@ -1,4 +1,4 @@
-use Rattle.rng_load.proofs.HandedIn.{is_too_large, is_not, all_small}
+use Rattle.rng_load.proofs.LoadOrder.HandedIn.{is_too_large, is_not, all_small}
 use Rattle.rnc_model.specs.loading.SchemaFile.{named_files}
 use Rattle.rng_load.proofs.reading.tree_of_file.Goals as goal
 

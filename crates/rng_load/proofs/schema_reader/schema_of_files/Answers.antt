@@ -3,8 +3,8 @@ use Rattle.rnc_grammar.specs.views.View.{file_of}
 use Rattle.rng_load.specs.views.FilesView.{taken_files_of}
 use Rattle.rnc_model.specs.loading.Loading.{tree_in}
 use Rattle.rng_load.specs.views.PlacedGrammars.{grammars_of}
-use Rattle.rng_load.proofs.ReaderEnds.{whole}
-use Rattle.rng_load.proofs.WellPlaced.{well_placed}
+use Rattle.rng_load.proofs.Places.ReaderEnds.{whole}
+use Rattle.rng_load.proofs.Places.WellPlaced.{well_placed}
 use Rattle.rng_load.proofs.schema_reader.schema_of_files.Goals as goal
 
 pub returns : goal.returns

@@ -1,7 +1,7 @@
 use Rattle.std.proofs.Common.{Some}
 use Rattle.rng_load.specs.plain.ComponentNames.{names_in}
-use Rattle.rng_load.proofs.HandedIn.{is_not}
-use Rattle.rng_load.proofs.GatheredNames.{all_there, part_of, lacking}
+use Rattle.rng_load.proofs.LoadOrder.HandedIn.{is_not}
+use Rattle.rng_load.proofs.Overriding.GatheredNames.{all_there, part_of, lacking}
 use Rattle.rng_load.proofs.component_names.ComponentNames.have_all_of.Goals.{else-others-via-then-others+else-not-self, else-others-via-else-others}
 use Rattle.rng_load.proofs.component_names.ComponentNames.have_all_of.Goals as goal
 

@@ -6,7 +6,7 @@ use Rattle.rng_load.specs.plain.FoundGrammars.{nested_in}
 use Rattle.rng_load.specs.views.GatheredComponents.{gathered_of}
 use Rattle.rnc_model.specs.loading.Places.{Gathered}
 use Rattle.rng_load.specs.views.ReadPatterns.{nested_of}
-use Rattle.rng_load.proofs.PlacesApart.{nested_in_both}
+use Rattle.rng_load.proofs.Places.PlacesApart.{nested_in_both}
 use Rattle.rng_load.proofs.gathering.GrammarParts.append.Goals as goal
 
 nested_last : (gs : List Gathered) (g : Gathered) → nested_in (gs ++ g ∷ []) ≡ nested_in gs ++ g.nested

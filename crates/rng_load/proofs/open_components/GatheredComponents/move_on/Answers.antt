@@ -2,7 +2,7 @@ use Rattle.std.proofs.Common.{◌≡◌, ◌∙◌, ◌++◌, [], ap, map, subst
 use Rattle.rng_load.specs.plain.OpenComponents.{gathered_at_end}
 use Rattle.rng_load.specs.views.GatheredComponents.{gathered_of, lists_in}
 use Rattle.rng_load.specs.views.GrammarParts.{AreJoined}
-use Rattle.rng_load.proofs.GatheredParts.{gathered_first, moved_on}
+use Rattle.rng_load.proofs.Patterns.GatheredParts.{gathered_first, moved_on}
 use Rattle.rng_load.proofs.open_components.GatheredComponents.move_on.Goals as goal
 
 pub returns : goal.returns

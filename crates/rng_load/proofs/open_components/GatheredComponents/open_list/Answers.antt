@@ -1,8 +1,8 @@
 use Rattle.std.proofs.Common.{◌∙◌, ap₂, reverse}
 use Rattle.rng_load.specs.plain.OpenComponents.{gathered_at_end}
 use Rattle.rng_load.specs.views.GatheredComponents.{gathered_in, list_of, lists_in}
-use Rattle.rng_load.proofs.OpenComponents.{opened}
-use Rattle.rng_load.proofs.OpenPatterns.{reverse_pushed, views_pushed}
+use Rattle.rng_load.proofs.Patterns.OpenComponents.{opened}
+use Rattle.rng_load.proofs.Patterns.OpenPatterns.{reverse_pushed, views_pushed}
 use Rattle.rng_load.proofs.open_components.GatheredComponents.open_list.Goals as goal
 
 pub returns : goal.returns

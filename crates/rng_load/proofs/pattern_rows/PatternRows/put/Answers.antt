@@ -3,7 +3,7 @@ use Rattle.rng_model.specs.views.SchemaView.{row_arity}
 use Rattle.rng_load.specs.plain.OpenPatterns.{finished, with_read}
 use Rattle.rng_load.specs.views.PatternRows.{Fits, made_of, open_of, opens, read_head}
 use Rattle.rng_load.specs.views.ReadPatterns.{nested_of}
-use Rattle.rng_load.proofs.OpenPatterns.{external_made, leaf_made, opened, reverse_pushed, views_pushed}
+use Rattle.rng_load.proofs.Patterns.OpenPatterns.{external_made, leaf_made, opened, reverse_pushed, views_pushed}
 use Rattle.rng_load.proofs.pattern_rows.PatternRows.put.Goals as goal
 
 pub returns-in_ok-push-in-Leaf : goal.returns-in_ok-push-in-Leaf

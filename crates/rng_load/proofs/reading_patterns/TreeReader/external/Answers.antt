@@ -3,7 +3,7 @@ use Rattle.rng_model.specs.names.NameViews.{namespace_bytes}
 use Rattle.rnc_grammar.specs.views.View.{file_of, pattern_of}
 use Rattle.rng_load.specs.views.PatternRows.{read_head}
 use Rattle.rng_load.specs.views.ReadPatterns.{files_in, nested_of}
-use Rattle.rng_load.proofs.ReadMentioned.{file_opened}
+use Rattle.rng_load.proofs.Patterns.ReadMentioned.{file_opened}
 use Rattle.rng_load.proofs.reading_patterns.TreeReader.external.Goals as goal
 
 pub returns-else-scope-eq0-clause-pattern : goal.returns-else-scope-eq0-clause-pattern

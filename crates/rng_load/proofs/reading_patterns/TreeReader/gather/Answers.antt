@@ -7,9 +7,9 @@ use Rattle.rng_load.specs.plain.OpenComponents.{gathered_at_end}
 use Rattle.rng_load.specs.plain.PlainReading.{gather_one_at}
 use Rattle.rng_load.specs.views.GatheredComponents.{end_of, gathered_of, list_of, lists_in}
 use Rattle.rng_load.specs.views.ReadPatterns.{files_in}
-use Rattle.rng_load.proofs.GatherIncluded.{include_tree}
-use Rattle.rng_load.proofs.OpenComponents.{include_opened}
-use Rattle.rng_load.proofs.OpenPatterns.{if_ok, reverse_pushed}
+use Rattle.rng_load.proofs.Patterns.GatherIncluded.{include_tree}
+use Rattle.rng_load.proofs.Patterns.OpenComponents.{include_opened}
+use Rattle.rng_load.proofs.Patterns.OpenPatterns.{if_ok, reverse_pushed}
 use Rattle.rng_load.proofs.reading_patterns.TreeReader.gather.Goals as goal
 
 pub returns-in_ok-push-in-Include : goal.returns-in_ok-push-in-Include

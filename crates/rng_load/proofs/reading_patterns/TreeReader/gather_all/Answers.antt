@@ -6,8 +6,8 @@ use Rattle.rng_load.specs.plain.PlainReading.{gather_at}
 use Rattle.rng_load.specs.views.GatheredComponents.{gathered_in, gathered_of, list_of, lists_in}
 use Rattle.rng_load.specs.views.GrammarParts.{AreJoined}
 use Rattle.rng_load.specs.views.ReadPatterns.{files_in}
-use Rattle.rng_load.proofs.GatheredParts.{all_moved, none_joined}
-use Rattle.rng_load.proofs.OpenComponents.{none_open}
+use Rattle.rng_load.proofs.Patterns.GatheredParts.{all_moved, none_joined}
+use Rattle.rng_load.proofs.Patterns.OpenComponents.{none_open}
 use Rattle.rng_load.proofs.reading_patterns.TreeReader.gather_all.Goals as goal
 
 pub steps-init : goal.steps-init

@@ -4,8 +4,8 @@ use Rattle.rng_load.specs.plain.OpenComponents.{after_end, gathered_at_end}
 use Rattle.rng_load.specs.plain.PlainReading.{gather_one_at}
 use Rattle.rng_load.specs.views.GatheredComponents.{gathered_in, list_of, lists_in}
 use Rattle.rng_load.specs.views.ReadPatterns.{files_in}
-use Rattle.rng_load.proofs.OpenComponents.{ends, goes_on}
-use Rattle.rng_load.proofs.OpenPatterns.{child_past, child_there, reverse_pushed, views_pushed, way_popped}
+use Rattle.rng_load.proofs.Patterns.OpenComponents.{ends, goes_on}
+use Rattle.rng_load.proofs.Patterns.OpenPatterns.{child_past, child_there, reverse_pushed, views_pushed, way_popped}
 use Rattle.rng_load.proofs.reading_patterns.TreeReader.gather_next.Goals as goal
 
 pub returns-then-list-clause-same : goal.returns-then-list-clause-same

@@ -3,8 +3,8 @@ use Rattle.rng_model.specs.names.NameViews.{namespace_bytes}
 use Rattle.rnc_grammar.specs.views.View.{data_of, pattern_of}
 use Rattle.rng_load.specs.plain.PlainReading.{read_at}
 use Rattle.rng_load.specs.views.ReadPatterns.{files_in, nested_of}
-use Rattle.rng_load.proofs.OpenPatterns.{if_ok}
-use Rattle.rng_load.proofs.ReadMentioned.{data_tree}
+use Rattle.rng_load.proofs.Patterns.OpenPatterns.{if_ok}
+use Rattle.rng_load.proofs.Patterns.ReadMentioned.{data_tree}
 use Rattle.rng_load.proofs.reading_patterns.TreeReader.head.Goals as goal
 
 pub returns-in-Data-clause-pattern : goal.returns-in-Data-clause-pattern

@@ -5,7 +5,7 @@ use Rattle.rnc_model.specs.loading.FileGrammars.{grammar_if}
 use Rattle.rnc_model.specs.loading.Places.{uri_in}
 use Rattle.rnc_grammar.specs.views.View.{component_of, mention_of}
 use Rattle.rng_load.specs.views.ReadPatterns.{files_in}
-use Rattle.rng_load.proofs.GatherIncluded.{file_gathered, no_grammar, no_level}
+use Rattle.rng_load.proofs.Patterns.GatherIncluded.{file_gathered, no_grammar, no_level}
 use Rattle.rng_load.proofs.reading_patterns.TreeReader.included.Goals as goal
 use Rattle.rng_load.proofs.reading_patterns.TreeReader.included.Goals.{in_default-via-in-Some+else-scope-gt0, in_default-via-in_default}
 

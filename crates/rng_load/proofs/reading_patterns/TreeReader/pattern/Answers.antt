@@ -5,7 +5,7 @@ use Rattle.rnc_grammar.specs.views.View.{pattern_of}
 use Rattle.rng_load.specs.plain.PlainReading.{read_at}
 use Rattle.rng_load.specs.views.PatternRows.{made_of, opens}
 use Rattle.rng_load.specs.views.ReadPatterns.{files_in}
-use Rattle.rng_load.proofs.OpenPatterns.{is_read, same_way, starts, way_back}
+use Rattle.rng_load.proofs.Patterns.OpenPatterns.{is_read, same_way, starts, way_back}
 use Rattle.rng_load.proofs.reading_patterns.TreeReader.pattern.Goals as goal
 
 pub steps-init : goal.steps-init

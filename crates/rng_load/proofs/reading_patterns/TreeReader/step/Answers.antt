@@ -6,7 +6,7 @@ use Rattle.rng_load.specs.plain.OpenPatterns.{finished, with_read}
 use Rattle.rng_load.specs.plain.PlainReading.{read_at}
 use Rattle.rng_load.specs.views.PatternRows.{children_of, made_of, open_of, opens}
 use Rattle.rng_load.specs.views.ReadPatterns.{files_in}
-use Rattle.rng_load.proofs.OpenPatterns.{ends, goes_on, reverse_pushed, views_pushed, way_popped}
+use Rattle.rng_load.proofs.Patterns.OpenPatterns.{ends, goes_on, reverse_pushed, views_pushed, way_popped}
 use Rattle.rng_load.proofs.reading_patterns.TreeReader.step.Goals as goal
 
 pub returns-in_default-get-clause-same : goal.returns-in_default-get-clause-same

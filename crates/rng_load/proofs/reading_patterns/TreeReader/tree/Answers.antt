@@ -1,4 +1,4 @@
-use Rattle.rng_load.proofs.BrokenIncludes.{tree_of_name}
+use Rattle.rng_load.proofs.Overriding.BrokenIncludes.{tree_of_name}
 use Rattle.rng_load.proofs.reading_patterns.TreeReader.tree.Goals as goal
 
 pub returns : goal.returns

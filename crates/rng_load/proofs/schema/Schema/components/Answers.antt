@@ -1,6 +1,6 @@
 use Rattle.std.proofs.Common.{ap, ◌∙◌, map, option_map, None, Some}
 use Rattle.rng_model.specs.views.SchemaView.{schema_component_of}
-use Rattle.rng_load.proofs.GrammarLookup.{grammar_found}
+use Rattle.rng_load.proofs.Places.GrammarLookup.{grammar_found}
 use Rattle.rng_load.proofs.schema.Schema.components.Goals as goal
 
 pub returns-in-Some : goal.returns-in-Some

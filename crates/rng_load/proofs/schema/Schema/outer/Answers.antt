@@ -1,6 +1,6 @@
 use Rattle.std.proofs.Common.{ap, ◌∙◌, None, Some}
 use Rattle.rng_load.specs.views.PlacedGrammars.{outer_if}
-use Rattle.rng_load.proofs.GrammarLookup.{grammar_found, place_seen}
+use Rattle.rng_load.proofs.Places.GrammarLookup.{grammar_found, place_seen}
 use Rattle.rng_load.proofs.schema.Schema.outer.Goals as goal
 
 pub returns-in-Some : goal.returns-in-Some

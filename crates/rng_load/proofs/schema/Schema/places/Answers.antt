@@ -3,7 +3,7 @@ use Rattle.std.specs.Map.{keys_of}
 use Rattle.rng_model.specs.views.SchemaView.{place_of}
 use Rattle.rng_load.specs.views.PlacedGrammars.{grammars_of, schema_with}
 use Rattle.rng_load.specs.plain.SchemaPlaces.{AreItsPlaces}
-use Rattle.rng_load.proofs.PlacesListed.{keys_seen, places_listed, places_once}
+use Rattle.rng_load.proofs.Places.PlacesListed.{keys_seen, places_listed, places_once}
 use Rattle.rng_model.specs.names.Lists.{HasTwice}
 use Rattle.rng_load.proofs.schema.Schema.places.Goals as goal
 

@@ -4,7 +4,7 @@ use Rattle.rng_model.specs.views.SchemaView.{place_of, schema_component_of}
 use Rattle.rng_load.specs.plain.FoundGrammars.{left_by, pending_in}
 use Rattle.rng_load.specs.views.PendingGrammars.{pending_of}
 use Rattle.rng_load.specs.views.ReadPatterns.{nested_of}
-use Rattle.rng_load.proofs.ReaderEnds.{nested_moves, put_at}
+use Rattle.rng_load.proofs.Places.ReaderEnds.{nested_moves, put_at}
 use Rattle.rng_load.proofs.schema_reader.FoundGrammars.add.Goals as goal
 
 pub inner-preserved : goal.inner-preserved

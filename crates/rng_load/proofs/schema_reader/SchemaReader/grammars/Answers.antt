@@ -8,7 +8,7 @@ use Rattle.rng_load.specs.views.GrammarParts.{AreParts}
 use Rattle.rng_load.specs.views.PendingGrammars.{Pending, pending_of}
 use Rattle.rng_load.specs.views.PlacedGrammars.{grammars_of}
 use Rattle.rng_load.specs.views.ReadPatterns.{files_in}
-use Rattle.rng_load.proofs.ReaderEnds.{first_put_at, main_gathered, next_put_at}
+use Rattle.rng_load.proofs.Places.ReaderEnds.{first_put_at, main_gathered, next_put_at}
 use Rattle.rng_load.proofs.schema_reader.SchemaReader.grammars.Goals as goal
 
 pub places-init : goal.places-init

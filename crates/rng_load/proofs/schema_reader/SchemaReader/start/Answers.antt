@@ -9,7 +9,7 @@ use Rattle.rnc_model.specs.loading.Places.{grammar_or_start}
 use Rattle.rng_load.specs.plain.FoundGrammars.{gathered_at, nested_in}
 use Rattle.rng_load.specs.plain.PlainReading.{gathered_as, read_at}
 use Rattle.rng_load.specs.views.ReadPatterns.{files_in, nested_of}
-use Rattle.rng_load.proofs.ReaderEnds.{only_start}
+use Rattle.rng_load.proofs.Places.ReaderEnds.{only_start}
 use Rattle.rng_load.proofs.schema_reader.SchemaReader.start.Goals as goal
 
 pub returns : goal.returns

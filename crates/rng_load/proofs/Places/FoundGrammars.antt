@@ -25,10 +25,10 @@ use Rattle.rnc_model.specs.loading.Places.{Gathered, Nested}
 use Rattle.rnc_model.specs.loading.LoadedSchema.{Gathers, HasGrammar, main_is, nested_is, IsSchemaOf}
 use Rattle.rng_load.specs.declared.schema.Grammar.{Grammar}
 use Rattle.rng_load.proofs.NameLists.{false_true, in_cons, in_either, in_first, in_left, in_more, in_none, in_right}
-use Rattle.rng_load.proofs.OneGrammar.{one_grammar}
-use Rattle.rng_load.proofs.OneSchema.{one_gathering}
-use Rattle.rng_load.proofs.PlacesApart.{in_nested}
-use Rattle.rng_load.proofs.PlainReading.{gather_sound, grammars_readable}
+use Rattle.rng_load.proofs.Places.OneGrammar.{one_grammar}
+use Rattle.rng_load.proofs.Places.OneSchema.{one_gathering}
+use Rattle.rng_load.proofs.Places.PlacesApart.{in_nested}
+use Rattle.rng_load.proofs.Patterns.PlainReading.{gather_sound, grammars_readable}
 
 -- ---- entries by their places
 

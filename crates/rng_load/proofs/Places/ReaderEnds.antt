@@ -20,9 +20,9 @@ use Rattle.rnc_model.specs.loading.Places.{Gathered, Nested, main_grammar}
 use Rattle.rnc_model.specs.loading.LoadedSchema.{IsSchemaOf}
 use Rattle.rng_load.specs.plain.PlainReading.{gather_one_with, gather_with, gathered_as, read_at}
 use Rattle.rng_load.specs.declared.schema.Grammar.{Grammar}
-use Rattle.rng_load.proofs.FoundGrammars.{Entries, goes_on, is_put, is_schema, left_last, left_there, main_left, view}
+use Rattle.rng_load.proofs.Places.FoundGrammars.{Entries, goes_on, is_put, is_schema, left_last, left_there, main_left, view}
 use Rattle.rng_load.proofs.NameLists.{in_left, in_none, in_right}
-use Rattle.rng_load.proofs.OneGrammar.{main_there}
+use Rattle.rng_load.proofs.Places.OneGrammar.{main_there}
 
 module _ (files : List ℕ → Option FileTree) where
   -- a main file that is no grammar has one component

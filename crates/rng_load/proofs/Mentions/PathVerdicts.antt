@@ -5,9 +5,9 @@ use Rattle.std.specs.Option.{is_some}
 use Rattle.std.specs.Prelude.{◌↔◌, MatchOption, not}
 use Rattle.rnc_model.specs.loading.Mentions.{BreaksMentions, path_limit}
 use Rattle.rnc_model.specs.loading.SchemaFile.{FileName}
-use Rattle.rng_load.proofs.PathLists.{breaks_found, breaks_here}
+use Rattle.rng_load.proofs.Mentions.PathLists.{breaks_found, breaks_here}
 use Rattle.rng_load.specs.plain.Counting.{HasFewPaths, StopsAt}
-use Rattle.rng_load.proofs.CountedPaths.{few_keep, long_breaks}
+use Rattle.rng_load.proofs.Mentions.CountedPaths.{few_keep, long_breaks}
 
 no_truth : IsTrue false → ⊥
 no_truth w = cc

@@ -20,9 +20,9 @@ use Rattle.rnc_grammar.specs.views.View.{file_of}
 use Rattle.rnc_model.specs.loading.Loading.{TakenFiles, tree_in, BreaksInclude, no_grammar, nothing_to_override}
 use Rattle.rnc_model.specs.loading.Mentions.{HasName}
 use Rattle.rnc_model.specs.loading.SchemaFile.{FileName}
-use Rattle.rng_load.proofs.MentionedNames.{tree_found}
+use Rattle.rng_load.proofs.Overriding.MentionedNames.{tree_found}
 use Rattle.rng_load.proofs.NameLists.{in_none, in_left, in_right, in_more, from_map}
-use Rattle.rng_load.proofs.ReadInOrder.{entries_of}
+use Rattle.rng_load.proofs.LoadOrder.ReadInOrder.{entries_of}
 
 no_truth : IsTrue false → ⊥
 no_truth t = cc

@@ -22,11 +22,11 @@ use Rattle.rng_load.specs.plain.ComponentNames.{Names, gather, gather_component,
 use Rattle.rnc_model.specs.loading.Loading.{TakenFiles, with_name, tree_in, hrefs_of}
 use Rattle.rnc_model.specs.loading.FileGrammars.{grammar_if, grammar_in}
 use Rattle.rnc_model.specs.loading.SchemaFile.{FileName}
-use Rattle.rng_load.proofs.MentionedNames.{tree_found}
+use Rattle.rng_load.proofs.Overriding.MentionedNames.{tree_found}
 use Rattle.rng_load.proofs.NameLists.{any_in, in_any, from_map, false_true, in_cons, in_none, in_first, in_left, in_right, in_at, none_twice, no_more}
-use Rattle.rng_load.proofs.TakenFiles.{kept_name, added_name, name_origin, name_grows, name_differs}
-use Rattle.rng_load.proofs.NameSets.{any_seen}
-use Rattle.rng_load.proofs.PlainReading.{grammar_mentions}
+use Rattle.rng_load.proofs.LoadOrder.TakenFiles.{kept_name, added_name, name_origin, name_grows, name_differs}
+use Rattle.rng_load.proofs.LoadOrder.NameSets.{any_seen}
+use Rattle.rng_load.proofs.Patterns.PlainReading.{grammar_mentions}
 
 abbrev href : MentionedFile → FileName
 href m = (mention_of m).href

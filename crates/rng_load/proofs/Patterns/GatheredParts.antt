@@ -8,7 +8,7 @@ use Rattle.rng_load.specs.plain.FoundGrammars.{nested_in}
 use Rattle.rng_load.specs.plain.OpenComponents.{Files, IsLast, OpenList, after_end, components_at, gathered_at_end}
 use Rattle.rng_load.specs.views.GrammarParts.{AreJoined, AreParts}
 use Rattle.rng_load.specs.views.ReadPatterns.{nested_of}
-use Rattle.rng_load.proofs.PlacesApart.{nested_in_both}
+use Rattle.rng_load.proofs.Places.PlacesApart.{nested_in_both}
 
 -- no parts yet
 pub none_joined : (parts : GrammarParts) (all : List Gathered) → parts.components.items ≡ [] → parts.nested.items ≡ [] → AreJoined parts all all

@@ -9,9 +9,9 @@ use Rattle.rnc_model.specs.grammar.Syntax.{applied}
 use Rattle.rnc_model.specs.declarations.FileTree.{FileTree}
 use Rattle.rnc_model.specs.loading.Places.{TreePath, Gathered, main_grammar}
 use Rattle.rnc_model.specs.loading.LoadedSchema.{Gathers, HasGrammar, main_is, nested_is}
-use Rattle.rng_load.proofs.OneSchema.{one_gathering}
+use Rattle.rng_load.proofs.Places.OneSchema.{one_gathering}
 use Rattle.rng_load.specs.plain.FoundGrammars.{nested_in}
-use Rattle.rng_load.proofs.PlacesApart.{longer, same_entry, in_nested, gathered_children}
+use Rattle.rng_load.proofs.Places.PlacesApart.{longer, same_entry, in_nested, gathered_children}
 
 module _ (files : List ℕ → Option FileTree) (main : FileTree) where
   -- the number of grammars around a grammar

@@ -9,8 +9,8 @@ use Rattle.rng_load.specs.plain.Counting.{paths, paths_along, HasPaths, has, hav
 use Rattle.rnc_model.specs.loading.Loading.{TakenFiles, hrefs_in}
 use Rattle.rnc_model.specs.loading.Mentions.{IsCyclic, HasMorePathsThan, directly, through}
 use Rattle.rnc_model.specs.loading.SchemaFile.{FileName}
-use Rattle.rng_load.proofs.CountedPaths.{at_most}
-use Rattle.rng_load.proofs.PathLists.{more_here, more_found}
+use Rattle.rng_load.proofs.Mentions.CountedPaths.{at_most}
+use Rattle.rng_load.proofs.Mentions.PathLists.{more_here, more_found}
 
 abbrev a : FileName
 a = codes "a.rnc"

@@ -25,8 +25,8 @@ use Rattle.rnc_model.specs.loading.Places.{ReadAll, none_are, more_are}
 use Rattle.rng_load.specs.plain.PlainReading.{PatternReader, Gatherer, external_with, included_with, read_with, read_all_with, gather_with, gather_one_with}
 use Rattle.rng_load.specs.plain.PlainReading.{read_below, read_at, read_all_at, gather_below, gather_at, IsFollowed, AreFollowed, IsReadable, AreReadable}
 use Rattle.rng_load.specs.plain.PlainReading.{Serves}
-use Rattle.rng_load.proofs.CountedPaths.{long_breaks}
-use Rattle.rng_load.proofs.PathLists.{breaks_here}
+use Rattle.rng_load.proofs.Mentions.CountedPaths.{long_breaks}
+use Rattle.rng_load.proofs.Mentions.PathLists.{breaks_here}
 use Rattle.rng_load.proofs.NameLists.{in_none, in_cons, in_first, in_either, in_left, in_right}
 
 -- ---- the components of a file that is a grammar

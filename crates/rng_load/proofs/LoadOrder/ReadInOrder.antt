@@ -15,8 +15,8 @@ use Rattle.rng_load.specs.declared.fault.ReadingFault.{ReadingFault}
 use Rattle.rng_load.specs.declared.fault.ReadingFault.TheVariants as readings
 use Rattle.rnc_model.specs.loading.SchemaFile.{FileName, NamedFile}
 use Rattle.rnc_model.specs.loading.FileVerdicts.{breaks, has_tree, FileHasOnlyVerdict}
-use Rattle.rng_load.proofs.NameSets.{entry_goes_last}
-use Rattle.rng_load.proofs.TakenFiles.{IsFirm, more_firm, firm_taken, fresh, few_taken, first_broken, first_of}
+use Rattle.rng_load.proofs.LoadOrder.NameSets.{entry_goes_last}
+use Rattle.rng_load.proofs.LoadOrder.TakenFiles.{IsFirm, more_firm, firm_taken, fresh, few_taken, first_broken, first_of}
 
 abbrev Entries : Type 0
 Entries = List (String Global × declared.FileTree)

@@ -8,7 +8,7 @@ use Rattle.rnc_model.specs.loading.Mentions.{Path, IsPath, path_ends, path_goes_
 use Rattle.rnc_model.specs.loading.SchemaFile.{FileName}
 use Rattle.rng_load.specs.plain.Counting.{paths, paths_along, Breaks}
 use Rattle.rng_load.proofs.NameLists.{none_twice, in_cons, in_none, in_left, in_right, in_either, in_first, from_map, no_more}
-use Rattle.rng_load.proofs.DistinctLists.{differ_cons, differ_append, differ_map}
+use Rattle.rng_load.proofs.Mentions.DistinctLists.{differ_cons, differ_append, differ_map}
 
 cons_nil : {i : ℕ} {p : Path} → ◌≡◌ {A = Path} [] (i ∷ p) → ⊥
 cons_nil e = cc

@@ -7,10 +7,10 @@ use Rattle.std.proofs.lemmas.Slice.Eq.{bytes_eq-Decides}
 use Rattle.rng_model.specs.names.Lists.{Among, here, there}
 use Rattle.rnc_model.specs.declarations.FileTree.{FileTree}
 use Rattle.rnc_model.specs.loading.Loading.{TakenFiles, with_name, hrefs_of, hrefs_if, tree_in, IsTaken, none_yet, one_more, AreTaken}
-use Rattle.rng_load.proofs.PlainReading.{AreClosed, found_among}
+use Rattle.rng_load.proofs.Patterns.PlainReading.{AreClosed, found_among}
 use Rattle.rnc_model.specs.loading.SchemaFile.{FileName, NamedFile}
 use Rattle.rng_load.proofs.NameLists.{false_true, in_cons, in_none, in_more}
-use Rattle.rng_load.proofs.TakenFiles.{is_order, first_of, kept_name, added_name}
+use Rattle.rng_load.proofs.LoadOrder.TakenFiles.{is_order, first_of, kept_name, added_name}
 
 kept_all : {x : FileName} (ns ms : List FileName) → Among x ns → Among x (fold with_name ns ms)
 kept_all ns [] a = a

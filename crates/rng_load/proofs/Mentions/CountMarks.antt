@@ -13,7 +13,7 @@ use Rattle.rnc_model.specs.loading.Mentions.{directly, through, path_limit}
 use Rattle.rnc_model.specs.loading.SchemaFile.{FileName}
 use Rattle.rng_load.specs.plain.Counting.{Marks, HasFewPaths, HasPaths, has, HavePaths, have_none, long_more, StopsAt, AreCounted, IsMarked, AreMore}
 use Rattle.rng_load.proofs.NameLists.{in_left, in_right}
-use Rattle.rng_load.proofs.CountedPaths.{have_next, breaks_up, sum_breaks}
+use Rattle.rng_load.proofs.Mentions.CountedPaths.{have_next, breaks_up, sum_breaks}
 
 open_counted : {n : ℕ} → ◌≡◌ {A = Option Mark} (Some Open) (Some (Counted n)) → ⊥
 open_counted e = cc
