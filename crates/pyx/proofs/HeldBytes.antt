@@ -7,7 +7,7 @@ use Rattle.std.specs.List.{AllByRecursion}
 use Rattle.std.proofs.lemmas.List.{length-append, append-nil}
 use Rattle.std.proofs.lemmas.List.Elements.{All-from_recursion}
 use Rattle.std.proofs.lemmas.List.Sums.{sum_by-cons}
-use Rattle.pyx.proofs.DocumentSound.{goes_first}
+use Rattle.pyx.proofs.Documents.Sound.{goes_first}
 use Rattle.rng_model.proofs.Options.{same_ok}
 use Rattle.rng_model.specs.documents.Lines.{Line, lines, line_limit, HasKind, Fault}
 use Rattle.rng_model.specs.documents.PyxLines as said
@@ -28,20 +28,20 @@ use Rattle.pyx.specs.views.ReaderAfterPiece.{Kept}
 use Rattle.pyx.specs.plain.Held.{plus, declarations_held}
 use Rattle.pyx.specs.views.Held.{opened_held, held}
 use Rattle.pyx.specs.views.HeldCalls.{held_limit, IsHeld}
-use Rattle.pyx.proofs.ReaderAfterPiece.{at_fault}
+use Rattle.pyx.proofs.Input.ReaderAfterPiece.{at_fault}
 use Rattle.pyx.proofs.Tags.Declarations.{declaration_of, prefix_of, AreDeclared, declares_it}
 use Rattle.pyx.proofs.Tags.Parts.{IsSplit, declares, declares_none, split_parted, split_declared}
 use Rattle.pyx.proofs.Tags.Parts as split
-use Rattle.pyx.proofs.LinesOfPieces.{with_open, grown, long_fails, length-push, read_cons, read_nil, byte_full, byte_within, byte_feed, dichotomy}
-use Rattle.pyx.proofs.LinesOfPieces.{at_nil}
-use Rattle.pyx.proofs.LinesOfPieces.{fails_first}
-use Rattle.pyx.proofs.PieceCounts.{no_ok, read_counts}
-use Rattle.pyx.proofs.WholeBytes.{NoFeed, lines_ended, lines_open, lines_nil, push_no_feed}
-use Rattle.pyx.proofs.OpenTags.{other_kind, no_tag}
-use Rattle.pyx.proofs.JoinedText.{good_kind, good_length, joined_with, texts, text_more}
-use Rattle.pyx.proofs.StateAfterLines.{AreMatched, none_matched, one_matched, written_length, Place, at_content, at_tag, place_first}
-use Rattle.pyx.proofs.DocumentBroken.{line_tells, next_place}
-use Rattle.pyx.proofs.DocumentLeast.{all_cons}
+use Rattle.pyx.proofs.Input.LinesOfPieces.{with_open, grown, long_fails, length-push, read_cons, read_nil, byte_full, byte_within, byte_feed, dichotomy}
+use Rattle.pyx.proofs.Input.LinesOfPieces.{at_nil}
+use Rattle.pyx.proofs.Input.LinesOfPieces.{fails_first}
+use Rattle.pyx.proofs.Input.PieceCounts.{no_ok, read_counts}
+use Rattle.pyx.proofs.Input.WholeBytes.{NoFeed, lines_ended, lines_open, lines_nil, push_no_feed}
+use Rattle.pyx.proofs.States.OpenTags.{other_kind, no_tag}
+use Rattle.pyx.proofs.States.JoinedText.{good_kind, good_length, joined_with, texts, text_more}
+use Rattle.pyx.proofs.States.StateAfterLines.{AreMatched, none_matched, one_matched, written_length, Place, at_content, at_tag, place_first}
+use Rattle.pyx.proofs.Documents.Broken.{line_tells, next_place}
+use Rattle.pyx.proofs.Documents.Least.{all_cons}
 
 -- ---- the lines so far, and what begins after them
 

@@ -12,10 +12,10 @@ use Rattle.pyx.specs.views.ReaderAfterPiece.{Kept, Stands}
 use Rattle.pyx.specs.views.Calls.{UnlessOutOfMemory, Ends, IsFaultAfter}
 use Rattle.pyx.specs.views.View.{Concludes}
 use Rattle.rng_model.specs.documents.EventViews.{Hands}
-use Rattle.pyx.proofs.ReaderAfterPiece.{at_fault, ok_progress, stuck_more}
-use Rattle.pyx.proofs.LineTurns.{followed_ok, hands_nothing}
-use Rattle.pyx.proofs.WholeVerdict.{is_document, is_fault}
-use Rattle.pyx.proofs.WholeBytes.{in_pieces}
+use Rattle.pyx.proofs.Input.ReaderAfterPiece.{at_fault, ok_progress, stuck_more}
+use Rattle.pyx.proofs.Input.LineTurns.{followed_ok, hands_nothing}
+use Rattle.pyx.proofs.Events.WholeVerdict.{is_document, is_fault}
+use Rattle.pyx.proofs.Input.WholeBytes.{in_pieces}
 
 whole : (k : Kept) (p : Progress) (bytes : List ℕ) (sent : List Event) → p ≡ k.progress → k.fault ≡ None → Stands k bytes sent
     → document_read (lines bytes) ≡ after_events sent (finished p)

@@ -7,3 +7,5 @@ pub mod Parts
 pub mod Answers
 pub mod Unique
 pub mod Exact
+pub mod ExpandedAttributes
+pub mod BareTags

@@ -8,7 +8,7 @@ use crate::namespaces::{behind, cut_at};
 use rng_model::OutOfMemory;
 
 /// Returns the character that the escape after a backslash represents, and the rest.
-#[tactic(auto, using(crate::proofs::LineTexts::escape_by_front))]
+#[tactic(auto, using(crate::proofs::Lines::LineTexts::escape_by_front))]
 fn escape(text: &str) -> Option<(char, &str)>
     ensures { option_map (λ x. (x.0, x.1.now)) result ≡ escape_of text.now }
 {

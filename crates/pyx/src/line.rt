@@ -23,7 +23,7 @@ pub struct Line<'a> {
 }
 
 /// Returns whether the text is an NCName.
-#[tactic(auto, using(crate::proofs::PlainTexts::plain_part))]
+#[tactic(auto, using(crate::proofs::Lines::PlainTexts::plain_part))]
 fn is_part(text: &str) -> bool
     ensures { result ≡ is_ncname (chars text.now) }
 {
@@ -42,7 +42,7 @@ fn is_any_name(text: &str) -> bool
 }
 
 /// The same as `is_any_name`, fast for names of ASCII letters.
-#[tactic(auto, using(crate::proofs::PlainTexts::plain_name))]
+#[tactic(auto, using(crate::proofs::Lines::PlainTexts::plain_name))]
 #[inline(always)]
 pub fn is_name(text: &str) -> bool
     ensures { result ≡ is_name text.now }

@@ -15,9 +15,9 @@ use Rattle.rng_model.specs.declared.outcome.Outcome.{Outcome}
 use Rattle.rng_model.specs.declared.outcome.Outcome.TheVariants as outcome
 use Rattle.rng_model.specs.datatypes.Texts.{texts_of}
 use Rattle.pyx.specs.plain.DocumentReader.{Turn, State, document_read}
-use Rattle.pyx.proofs.DocumentComplete.{complete}
-use Rattle.pyx.proofs.DocumentLeast.{at_most}
-use Rattle.pyx.proofs.EventLines.{as_long, event_line, lines_rise, same_front}
+use Rattle.pyx.proofs.Documents.Complete.{complete}
+use Rattle.pyx.proofs.Documents.Least.{at_most}
+use Rattle.pyx.proofs.Events.EventLines.{as_long, event_line, lines_rise, same_front}
 use Rattle.rncv_validator.specs.plain.Judging.{IsUnknownTo, verdict_of}
 use Rattle.rncv_model.specs.answers.Verdict.{IsVerdict, IsInvalidFrom, CannotBeValid, StartsUnknown, AreSameVerdict}
 use Rattle.rncv_model.specs.declared.verdict.Verdict.{Verdict}

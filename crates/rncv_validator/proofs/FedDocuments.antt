@@ -24,8 +24,8 @@ use Rattle.rncv_model.specs.declared.verdict.Verdict.{Verdict}
 use Rattle.rncv_model.specs.declared.verdict.Verdict.TheVariants.{Malformed, Invalid}
 use Rattle.pyx.specs.views.Calls as calls
 use Rattle.pyx.specs.views.ReaderAfterPiece.{Kept}
-use Rattle.pyx.proofs.FedLines.{ended_events, fed_front, fed_line}
-use Rattle.pyx.proofs.ReaderAfterPiece.{fed_stuck}
+use Rattle.pyx.proofs.Events.FedLines.{ended_events, fed_front, fed_line}
+use Rattle.pyx.proofs.Input.ReaderAfterPiece.{fed_stuck}
 use Rattle.pyx.proofs.ReaderOutcome.{is_fault_after}
 use Rattle.rng_deriv.specs.declared.matcher_state.MatcherState.{MatcherState}
 use Rattle.rng_deriv_events.specs.declared.progress.Progress.{Progress}

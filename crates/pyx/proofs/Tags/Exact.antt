@@ -26,7 +26,7 @@ use Rattle.pyx.specs.plain.TagReader.{Element, attribute_name, expanded, and_mor
 use Rattle.pyx.specs.plain.TagReader.{is_named_twice}
 use Rattle.pyx.specs.plain.TagReader.{tag_read, same_name}
 use Rattle.pyx.specs.plain.Declarations.{same_written}
-use Rattle.pyx.proofs.WrittenNames.{written_itself}
+use Rattle.pyx.proofs.Lines.WrittenNames.{written_itself}
 use Rattle.pyx.proofs.Tags.Declarations.{declaration_of}
 use Rattle.pyx.proofs.Tags.Namespaces.{scope_in, AllDeclared}
 use Rattle.pyx.proofs.Tags.Parts.{IsSplit, no_lines, declares, declares_none, split_parted}

@@ -17,7 +17,7 @@ use Rattle.pyx.specs.plain.TagReader as read
 use Rattle.pyx.specs.plain.Declarations.{Declared, declared_by, same_prefix, declares, found_in, beforehand, or_else, namespace_of}
 use Rattle.pyx.specs.plain.TagReader.{in_namespace, attribute_in}
 use Rattle.pyx.specs.plain.TagReader.{attribute_name}
-use Rattle.pyx.proofs.WrittenNames.{prefix_same, prefix_itself}
+use Rattle.pyx.proofs.Lines.WrittenNames.{prefix_same, prefix_itself}
 use Rattle.pyx.proofs.Tags.Declarations.{declaration_of, prefix_of, AreDeclared}
 
 false_true : false ≡ true → ⊥

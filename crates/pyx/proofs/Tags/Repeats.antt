@@ -10,7 +10,7 @@ use Rattle.rng_model.specs.documents.PyxLines.{QName}
 use Rattle.rng_model.specs.documents.PyxNamespaces.{WrittenAttribute}
 use Rattle.pyx.specs.plain.Declarations.{same_written, is_written_in, is_written_twice}
 use Rattle.pyx.specs.plain.TagReader.{same_name, is_named_in, is_named_twice}
-use Rattle.pyx.proofs.WrittenNames.{written_same}
+use Rattle.pyx.proofs.Lines.WrittenNames.{written_same}
 
 pub true_false : true ≡ false → ⊥
 true_false e = cc

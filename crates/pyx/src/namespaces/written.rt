@@ -28,7 +28,7 @@ pub struct WrittenAttribute {
 }
 
 /// Returns whether two names are written in the same way.
-#[tactic(auto, using(crate::proofs::WrittenNames::written_alike))]
+#[tactic(auto, using(crate::proofs::Lines::WrittenNames::written_alike))]
 pub fn is_same(name: &str, other: &str) -> bool
     ensures { result ≡ same_written (written_of name.now) (written_of other.now) }
 {
@@ -143,7 +143,7 @@ pub fn is_written_twice(attributes: &[WrittenAttribute]) -> bool
 }
 
 /// Returns the number of bytes in a name.
-#[tactic(auto, using(crate::proofs::WrittenNames::written_size))]
+#[tactic(auto, using(crate::proofs::Lines::WrittenNames::written_size))]
 pub fn name_len(name: &str) -> u64
     ensures { result ≡ name_length (written_of name.now) }
 {

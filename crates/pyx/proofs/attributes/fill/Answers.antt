@@ -7,7 +7,7 @@ use Rattle.rng_model.specs.names.NameViews.{name_of}
 use Rattle.pyx.specs.plain.DocumentReader.{declared_in}
 use Rattle.pyx.specs.plain.TagReader.{attribute_name, expanded}
 use Rattle.pyx.specs.views.WrittenAttributes.{written_attribute}
-use Rattle.pyx.proofs.ExpandedAttributes.{one_more, is_stuck, resolved_some, refuses_all}
+use Rattle.pyx.proofs.Tags.ExpandedAttributes.{one_more, is_stuck, resolved_some, refuses_all}
 use Rattle.pyx.proofs.attributes.fill.Goals as goal
 
 pub others-init : goal.others-init

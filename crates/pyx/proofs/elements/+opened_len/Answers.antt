@@ -1,6 +1,6 @@
 use Rattle.std.proofs.Common.{arith, rules}
-use Rattle.pyx.proofs.OpenNames.{named_parts}
-use Rattle.pyx.proofs.OpenStack.{held_open}
+use Rattle.pyx.proofs.Scopes.OpenNames.{named_parts}
+use Rattle.pyx.proofs.Scopes.OpenStack.{held_open}
 use Rattle.pyx.proofs.elements.+opened_len.Goals as goal
 
 pub split_at-requires : goal.split_at-requires

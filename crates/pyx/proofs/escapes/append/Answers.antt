@@ -1,5 +1,5 @@
 use Rattle.std.proofs.Common.{◌∙◌, sym, rules, refl}
-use Rattle.pyx.proofs.ReplacedEscapes.{unescape_step, unescape_stuck, unescape_shortens, unescape_ends, escape_small}
+use Rattle.pyx.proofs.Lines.ReplacedEscapes.{unescape_step, unescape_stuck, unescape_shortens, unescape_ends, escape_small}
 use Rattle.pyx.proofs.escapes.append.Goals as goal
 
 pub returns-then-literal : goal.returns-then-literal

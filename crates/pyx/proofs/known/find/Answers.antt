@@ -1,5 +1,5 @@
 use Rattle.std.proofs.Common.{◌%◌, rules}
-use Rattle.pyx.proofs.KnownNames.{known_there}
+use Rattle.pyx.proofs.Scopes.KnownNames.{known_there}
 use Rattle.pyx.proofs.known.find.Goals as goal
 
 pub returns-in-Some : goal.returns-in-Some

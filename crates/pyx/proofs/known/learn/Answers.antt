@@ -1,5 +1,5 @@
 use Rattle.std.proofs.Common.{rules}
-use Rattle.pyx.proofs.KnownNames.{known_set, name_set}
+use Rattle.pyx.proofs.Scopes.KnownNames.{known_set, name_set}
 use Rattle.pyx.proofs.known.learn.Goals as goal
 
 pub returns-in_err-make_places-clause-known : goal.returns-in_err-make_places-clause-known

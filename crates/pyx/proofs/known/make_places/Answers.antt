@@ -1,5 +1,5 @@
 use Rattle.std.proofs.Common.{refl}
-use Rattle.pyx.proofs.KnownNames.{known_more}
+use Rattle.pyx.proofs.Scopes.KnownNames.{known_more}
 use Rattle.pyx.proofs.known.make_places.Goals as goal
 
 pub places-preserved : goal.places-preserved

@@ -1,7 +1,7 @@
 use Rattle.std.proofs.Common.{sym, ap, ◌∙◌}
 use Rattle.std.specs.List.{list_all}
 use Rattle.pyx.specs.plain.PlainBytes.{is_plain}
-use Rattle.pyx.proofs.PlainTexts.{plain_text}
+use Rattle.pyx.proofs.Lines.PlainTexts.{plain_text}
 use Rattle.pyx.proofs.line.all_xml_chars.Goals as goal
 
 pub returns-then-all_plain : goal.returns-then-all_plain

@@ -5,9 +5,9 @@ use Rattle.rng_model.specs.names.Names.{is_xml_char}
 use Rattle.pyx.specs.plain.LineReader.{said_of, kind_of}
 use Rattle.pyx.specs.plain.Pieces.{ended_line}
 use Rattle.pyx.specs.views.View.{line_of}
-use Rattle.pyx.proofs.LineClauses.{said_ended}
-use Rattle.pyx.proofs.PlainTexts.{good_text, odd_text}
-use Rattle.pyx.proofs.LineTexts.{read_when_utf8, read_when_not}
+use Rattle.pyx.proofs.Lines.LineClauses.{said_ended}
+use Rattle.pyx.proofs.Lines.PlainTexts.{good_text, odd_text}
+use Rattle.pyx.proofs.Lines.LineTexts.{read_when_utf8, read_when_not}
 use Rattle.pyx.proofs.line.line_text.Goals as goal
 
 pub returns-in_default : goal.returns-in_default

@@ -1,7 +1,7 @@
 use Rattle.std.proofs.Common.{◌≡◌, ◌-◌, arith, ap, take, ◌∙◌, length}
 use Rattle.std.proofs.lemmas.Str.{IsCharBoundary-after_ascii}
-use Rattle.pyx.proofs.TextCuts.{cut_here, mark_low}
-use Rattle.pyx.proofs.ByteMasks.{none_in_front}
+use Rattle.pyx.proofs.Lines.TextCuts.{cut_here, mark_low}
+use Rattle.pyx.proofs.Lines.ByteMasks.{none_in_front}
 use Rattle.pyx.proofs.marks.first_text_line.Goals as goal
 
 pub range_from-requires : goal.range_from-requires

@@ -2,7 +2,7 @@ use Rattle.std.proofs.Common.{◌≡◌, ◌↔◌, ◌+◌, get_or, replicate, 
 use Rattle.std.specs.Int.{bit_at}
 use Rattle.std.specs.Simd.Lanes.{chunk, mask_l, zip2}
 use Rattle.std.proofs.lemmas.Simd.{length-chunk, get_or-chunk}
-use Rattle.pyx.proofs.ByteMasks.{mask_is, mask_tells}
+use Rattle.pyx.proofs.Lines.ByteMasks.{mask_is, mask_tells}
 use Rattle.pyx.proofs.marks.mask_of.Goals as goal
 
 pub returns : goal.returns

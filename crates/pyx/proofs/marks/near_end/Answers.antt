@@ -1,6 +1,6 @@
 use Rattle.std.proofs.Common.{arith}
 use Rattle.std.proofs.lemmas.Bool.{leb-true}
-use Rattle.pyx.proofs.ByteMasks.{first_there, none_below}
+use Rattle.pyx.proofs.Lines.ByteMasks.{first_there, none_below}
 use Rattle.pyx.proofs.marks.near_end.Goals as goal
 
 pub returns-then-end-lt-BLOCK-clause-end : goal.returns-then-end-lt-BLOCK-clause-end

@@ -1,5 +1,5 @@
 use Rattle.std.proofs.Common.{◌∙◌, sym}
-use Rattle.pyx.proofs.OpenNames.{some}
+use Rattle.pyx.proofs.Scopes.OpenNames.{some}
 use Rattle.pyx.proofs.opened.judge.Goals as goal
 
 pub returns-in-Some : goal.returns-in-Some

@@ -1,6 +1,6 @@
 use Rattle.std.proofs.Common.{◌+◌, arith, refl}
 use Rattle.std.proofs.lemmas.List.{length-drop, take_all}
-use Rattle.pyx.proofs.TextCuts.{cut_here, cut_nowhere}
+use Rattle.pyx.proofs.Lines.TextCuts.{cut_here, cut_nowhere}
 use Rattle.pyx.proofs.pieces.first_line.Goals as goal
 
 pub returns-in-Some-clause-parts : goal.returns-in-Some-clause-parts

@@ -1,6 +1,6 @@
 use Rattle.std.proofs.Common.{◌≡◌, ◌-◌, arith, ap, length, take, ◌∙◌}
 use Rattle.std.proofs.lemmas.Str.{IsCharBoundary-after_ascii}
-use Rattle.pyx.proofs.TextCuts.{cut_here, cut_nowhere, mark_low}
+use Rattle.pyx.proofs.Lines.TextCuts.{cut_here, cut_nowhere, mark_low}
 use Rattle.pyx.proofs.namespaces.cuts.cut_at.Goals as goal
 
 pub range_from-requires : goal.range_from-requires

@@ -1,7 +1,7 @@
 use Rattle.std.proofs.Common.{◌≡◌, ◌∙◌, List, ℕ, Some, None, ap, option_map, sym}
 use Rattle.pyx.specs.plain.WrittenNames.{written_of}
 use Rattle.pyx.specs.plain.Declarations.{declared_by}
-use Rattle.pyx.proofs.DeclarationPlaces.{covers, passed}
+use Rattle.pyx.proofs.Scopes.DeclarationPlaces.{covers, passed}
 use Rattle.pyx.proofs.namespaces.declarations.cover.Goals as goal
 
 pub returns-in-Some : goal.returns-in-Some

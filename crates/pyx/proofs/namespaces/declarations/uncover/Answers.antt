@@ -2,7 +2,7 @@ use Rattle.std.proofs.Common.{◌≡◌, ◌∙◌, List, ℕ, Some, None, ap, o
 use Rattle.pyx.specs.plain.WrittenNames.{written_of}
 use Rattle.pyx.specs.plain.Declarations.{declared_by}
 use Rattle.pyx.specs.views.DeclarationView.{declaration_of}
-use Rattle.pyx.proofs.DeclarationPlaces.{placed, uncovered, unpassed}
+use Rattle.pyx.proofs.Scopes.DeclarationPlaces.{placed, uncovered, unpassed}
 use Rattle.pyx.proofs.namespaces.declarations.uncover.Goals as goal
 
 pub returns-in-Some : goal.returns-in-Some

@@ -1,5 +1,5 @@
 use Rattle.std.proofs.Common.{rules}
-use Rattle.pyx.proofs.DeclarationBytes.{held_push}
+use Rattle.pyx.proofs.Scopes.DeclarationBytes.{held_push}
 use Rattle.pyx.proofs.namespaces.places.+declarations_len.Goals as goal
 
 pub returns-in-Some : goal.returns-in-Some

@@ -2,8 +2,8 @@ use Rattle.std.proofs.Common.{◌-◌, ◌∙◌, length, take, drop, map, ap, s
 use Rattle.pyx.specs.plain.NamespacesSlots.{is_met}
 use Rattle.pyx.specs.plain.Declarations.{is_written_twice}
 use Rattle.pyx.specs.views.WrittenAttributes.{written_attribute, written_bytes}
-use Rattle.pyx.proofs.DeclarationSlots.{first_written, unmet_written}
-use Rattle.pyx.proofs.DeclarationSlots.{kept_names}
+use Rattle.pyx.proofs.Scopes.DeclarationSlots.{first_written, unmet_written}
+use Rattle.pyx.proofs.Scopes.DeclarationSlots.{kept_names}
 use Rattle.pyx.proofs.namespaces.written.+is_repeated.Goals as goal
 
 pub returns-else-mark-clause-twice : goal.returns-else-mark-clause-twice

@@ -2,7 +2,7 @@ use Rattle.std.proofs.Common.{◌≡◌, ◌∷◌, ◌++◌, [], ◌∙◌, Lis
 use Rattle.std.specs.Prelude.{IfSome}
 use Rattle.pyx.specs.plain.LineReader.{is_name}
 use Rattle.pyx.specs.views.ElementView.{AreKnown, AreNamed, IsPlace, all_declared, stack_of}
-use Rattle.pyx.proofs.OpenNames.{cut_stays, front_stays, name_behind}
+use Rattle.pyx.proofs.Scopes.OpenNames.{cut_stays, front_stays, name_behind}
 use Rattle.pyx.proofs.opened.OpenElements.begin.Goals as goal
 
 pub truncate-requires : goal.truncate-requires

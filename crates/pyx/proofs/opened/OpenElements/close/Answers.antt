@@ -3,8 +3,8 @@ use Rattle.std.proofs.lemmas.Str.{IsUtf8-string_bytes}
 use Rattle.rng_model.specs.documents.PyxNamespaces.{WrittenAttribute}
 use Rattle.pyx.specs.plain.DocumentReader.{around}
 use Rattle.pyx.specs.views.ElementView.{Elements, stack_of}
-use Rattle.pyx.proofs.OpenNames.{cut_at_end, cut_within, front_ends, front_left, named_parts, none_behind}
-use Rattle.pyx.proofs.OpenStack.{stack_close, whole_close}
+use Rattle.pyx.proofs.Scopes.OpenNames.{cut_at_end, cut_within, front_ends, front_left, named_parts, none_behind}
+use Rattle.pyx.proofs.Scopes.OpenStack.{stack_close, whole_close}
 use Rattle.pyx.proofs.opened.OpenElements.close.Goals as goal
 
 pub truncate-requires : goal.truncate-requires

@@ -3,7 +3,7 @@ use Rattle.rng_model.specs.documents.PyxNamespaces.{WrittenAttribute}
 use Rattle.pyx.specs.declared.elements.OpenElement.{OpenElement}
 use Rattle.pyx.specs.views.ElementView.{AreNamed, Elements, stack_of}
 use Rattle.pyx.specs.views.Held.{opened_held}
-use Rattle.pyx.proofs.OpenNames.{front_of}
+use Rattle.pyx.proofs.Scopes.OpenNames.{front_of}
 use Rattle.pyx.proofs.opened.OpenElements.held.Goals as goal
 
 pub opened_len-requires : goal.opened_len-requires

@@ -5,7 +5,7 @@ use Rattle.pyx.specs.plain.WrittenNames.{written_of}
 use Rattle.pyx.specs.plain.Declarations.{same_written}
 use Rattle.pyx.specs.plain.LineReader.{is_name}
 use Rattle.pyx.specs.views.ElementView.{Elements, is_innermost}
-use Rattle.pyx.proofs.OpenNames.{front_of, named_parts, not_innermost, same_as_innermost, some}
+use Rattle.pyx.proofs.Scopes.OpenNames.{front_of, named_parts, not_innermost, same_as_innermost, some}
 use Rattle.pyx.proofs.opened.OpenElements.is_innermost.Goals as goal
 
 pub range_from-requires : goal.range_from-requires

@@ -1,6 +1,6 @@
 use Rattle.std.proofs.Common.{◌∙◌, ap, length, string_bytes, sym, take}
 use Rattle.pyx.specs.views.ElementView.{Elements}
-use Rattle.pyx.proofs.OpenStack.{stack_length}
+use Rattle.pyx.proofs.Scopes.OpenStack.{stack_length}
 use Rattle.pyx.proofs.opened.OpenElements.len.Goals as goal
 
 pub returns : goal.returns

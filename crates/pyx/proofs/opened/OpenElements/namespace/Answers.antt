@@ -1,6 +1,6 @@
 use Rattle.std.proofs.Common.{◌∙◌, ap, option_map, sym}
 use Rattle.pyx.specs.views.ElementView.{Elements, all_declared}
-use Rattle.pyx.proofs.DeclaredNamespaces.{namespace_within}
+use Rattle.pyx.proofs.Scopes.DeclaredNamespaces.{namespace_within}
 use Rattle.pyx.proofs.opened.OpenElements.namespace.Goals as goal
 
 pub returns : goal.returns

@@ -8,7 +8,7 @@ use Rattle.pyx.specs.plain.TagReader.{element_name}
 use Rattle.pyx.specs.plain.WrittenNames.{written_of}
 use Rattle.pyx.specs.views.WrittenAttributes.{written_attribute}
 use Rattle.pyx.specs.views.ElementView.{Elements, IsPlace, resolved, stack_of}
-use Rattle.pyx.proofs.DeclaredNamespaces.{name_within, name_within_none}
+use Rattle.pyx.proofs.Scopes.DeclaredNamespaces.{name_within, name_within_none}
 use Rattle.pyx.proofs.opened.OpenElements.open.Goals as goal
 
 pub returns-in_ok-push-in-Some-clause-name : goal.returns-in_ok-push-in-Some-clause-name

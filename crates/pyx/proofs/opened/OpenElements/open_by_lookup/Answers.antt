@@ -8,9 +8,9 @@ use Rattle.pyx.specs.views.WrittenAttributes.{written_attribute}
 use Rattle.pyx.specs.plain.DocumentReader.{Open, declared_in}
 use Rattle.pyx.specs.plain.TagReader.{element_name}
 use Rattle.pyx.specs.views.ElementView.{AreNamed, Elements, clause_of, name_at, names_of, resolved, stack_of}
-use Rattle.pyx.proofs.DeclaredNamespaces.{name_within}
-use Rattle.pyx.proofs.OpenNames.{cut_at_end, named_push, none_behind}
-use Rattle.pyx.proofs.OpenStack.{opened_is, opened_whole, take_end, whole_none}
+use Rattle.pyx.proofs.Scopes.DeclaredNamespaces.{name_within}
+use Rattle.pyx.proofs.Scopes.OpenNames.{cut_at_end, named_push, none_behind}
+use Rattle.pyx.proofs.Scopes.OpenStack.{opened_is, opened_whole, take_end, whole_none}
 use Rattle.pyx.proofs.opened.OpenElements.open_by_lookup.Goals as goal
 
 pub invariant_of-self-in_err-declare : goal.invariant_of-self-in_err-declare

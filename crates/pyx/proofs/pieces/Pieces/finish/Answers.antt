@@ -4,8 +4,8 @@ use Rattle.pyx.specs.plain.DocumentReader.{silent, line_read}
 use Rattle.pyx.specs.plain.Pieces.{open_line}
 use Rattle.rng_model.specs.documents.EventViews.{Hands}
 use Rattle.pyx.specs.views.View.{progress_of, state_of}
-use Rattle.pyx.proofs.DocumentEnds.{concludes, refused, finished_none, finished_some}
-use Rattle.pyx.proofs.LineTurns.{hands_nothing}
+use Rattle.pyx.proofs.Documents.Ends.{concludes, refused, finished_none, finished_some}
+use Rattle.pyx.proofs.Input.LineTurns.{hands_nothing}
 use Rattle.pyx.proofs.pieces.Pieces.finish.Goals as goal
 
 pub returns-then-is_empty : goal.returns-then-is_empty

@@ -4,8 +4,8 @@ use Rattle.std.proofs.lemmas.Result.{err_from_is_err_and}
 use Rattle.pyx.specs.plain.DocumentReader.{followed}
 use Rattle.pyx.specs.plain.Pieces.{read}
 use Rattle.pyx.specs.views.View.{progress_of}
-use Rattle.pyx.proofs.PieceCounts.{read_counts}
-use Rattle.pyx.proofs.LineTurns.{starts, goes_on, fails, ends, read_append}
+use Rattle.pyx.proofs.Input.PieceCounts.{read_counts}
+use Rattle.pyx.proofs.Input.LineTurns.{starts, goes_on, fails, ends, read_append}
 use Rattle.pyx.proofs.pieces.Pieces.read.Goals as goal
 
 pub returns-in_err-read_bytes : goal.returns-in_err-read_bytes

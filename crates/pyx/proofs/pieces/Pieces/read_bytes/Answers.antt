@@ -2,9 +2,9 @@ use Rattle.std.proofs.Common.{arith}
 use Rattle.std.proofs.lemmas.Result.{err_from_is_err_and}
 use Rattle.pyx.specs.plain.Pieces.{line_taken, rest_taken}
 use Rattle.pyx.specs.views.View.{progress_of}
-use Rattle.pyx.proofs.LinesOfPieces.{read_line, read_rest}
-use Rattle.pyx.proofs.PieceCounts.{line_counts}
-use Rattle.pyx.proofs.LineTurns.{goes_on, fails, ends}
+use Rattle.pyx.proofs.Input.LinesOfPieces.{read_line, read_rest}
+use Rattle.pyx.proofs.Input.PieceCounts.{line_counts}
+use Rattle.pyx.proofs.Input.LineTurns.{goes_on, fails, ends}
 use Rattle.pyx.proofs.pieces.Pieces.read_bytes.Goals as goal
 
 pub returns-in_err-line : goal.returns-in_err-line

@@ -2,7 +2,7 @@ use Rattle.std.proofs.Common.{◌+◌, ◌<◌, ◌≤◌, ◌^◌, length}
 use Rattle.pyx.specs.views.View.{progress_of}
 use Rattle.rng_model.specs.documents.EventViews.{Hands}
 use Rattle.pyx.specs.plain.Pieces.{read, weight}
-use Rattle.pyx.proofs.LineTurns.{Goes}
+use Rattle.pyx.proofs.Input.LineTurns.{Goes}
 use Rattle.pyx.proofs.pieces.Pieces.read_bytes.Given as goal
 
 abbrev pub invariant-lines : goal.invariant-lines

@@ -6,11 +6,11 @@ use Rattle.pyx.specs.plain.Pieces.{line_taken, rest_taken}
 use Rattle.rng_model.specs.documents.EventViews.{Hands}
 use Rattle.pyx.specs.plain.Cuts.{at_byte}
 use Rattle.pyx.specs.views.View.{progress_of, state_of}
-use Rattle.pyx.proofs.FirstLines.{halves}
-use Rattle.pyx.proofs.LinesOfPieces.{read_line, read_rest}
-use Rattle.pyx.proofs.PieceCounts.{line_counts}
-use Rattle.pyx.proofs.LineTurns.{goes_on, fails, ends}
-use Rattle.pyx.proofs.TextInPlace.{piece_takes, read_two, two, two_keep, two_taken}
+use Rattle.pyx.proofs.Input.FirstLines.{halves}
+use Rattle.pyx.proofs.Input.LinesOfPieces.{read_line, read_rest}
+use Rattle.pyx.proofs.Input.PieceCounts.{line_counts}
+use Rattle.pyx.proofs.Input.LineTurns.{goes_on, fails, ends}
+use Rattle.pyx.proofs.States.TextInPlace.{piece_takes, read_two, two, two_keep, two_taken}
 use Rattle.pyx.proofs.pieces.Pieces.read_text.Goals as goal
 
 pub returns-in_err-text_line : goal.returns-in_err-text_line

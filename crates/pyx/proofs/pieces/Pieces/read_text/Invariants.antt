@@ -6,7 +6,7 @@ use Rattle.pyx.specs.plain.PlainBytes.{is_plain}
 use Rattle.pyx.specs.views.View.{progress_of}
 use Rattle.rng_model.specs.documents.EventViews.{Hands}
 use Rattle.pyx.specs.plain.Pieces.{read, weight}
-use Rattle.pyx.proofs.LineTurns.{Goes}
+use Rattle.pyx.proofs.Input.LineTurns.{Goes}
 use Rattle.pyx.proofs.pieces.Pieces.read_text.Given as goal
 
 abbrev pub invariant-lines : goal.invariant-lines

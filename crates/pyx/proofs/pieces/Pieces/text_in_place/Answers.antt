@@ -1,5 +1,5 @@
-use Rattle.pyx.proofs.ReplacedEscapes.{literal_behind}
-use Rattle.pyx.proofs.TextInPlace.{behind_is, end_behind}
+use Rattle.pyx.proofs.Lines.ReplacedEscapes.{literal_behind}
+use Rattle.pyx.proofs.States.TextInPlace.{behind_is, end_behind}
 use Rattle.pyx.proofs.pieces.Pieces.text_in_place.Goals as goal
 
 pub returns-then-name-lt-LINE_LIMIT-clause-text : goal.returns-then-name-lt-LINE_LIMIT-clause-text

@@ -1,7 +1,7 @@
 use Rattle.std.proofs.Common.{◌∙◌, arith, refl}
 use Rattle.pyx.specs.plain.Pieces.{ended_line}
-use Rattle.pyx.proofs.LineClauses.{said_ended}
-use Rattle.pyx.proofs.PlainTexts.{good_text, plain_text}
+use Rattle.pyx.proofs.Lines.LineClauses.{said_ended}
+use Rattle.pyx.proofs.Lines.PlainTexts.{good_text, plain_text}
 use Rattle.pyx.proofs.pieces.Pieces.text_line.Goals as goal
 
 pub text_line-requires-clause-good : goal.text_line-requires-clause-good

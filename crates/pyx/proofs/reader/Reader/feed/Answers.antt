@@ -3,9 +3,9 @@ use Rattle.pyx.specs.plain.Pieces.{weight}
 use Rattle.pyx.specs.views.ReaderAfterPiece.{Kept}
 use Rattle.pyx.specs.views.View.{progress_of}
 use Rattle.rng_model.specs.documents.EventViews.{Hands}
-use Rattle.pyx.proofs.ReaderAfterPiece.{fed_ok, fed_err, fed_stuck}
+use Rattle.pyx.proofs.Input.ReaderAfterPiece.{fed_ok, fed_err, fed_stuck}
 use Rattle.pyx.proofs.ReaderOutcome.{is_fault_after}
-use Rattle.pyx.proofs.PieceCounts.{read_counts}
+use Rattle.pyx.proofs.Input.PieceCounts.{read_counts}
 use Rattle.pyx.proofs.reader.Reader.feed.Goals as goal
 
 pub returns-in-Some-clause-stands : goal.returns-in-Some-clause-stands

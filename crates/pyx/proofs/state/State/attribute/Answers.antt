@@ -1,4 +1,4 @@
-use Rattle.pyx.proofs.ReplacedEscapes.{literal_after}
+use Rattle.pyx.proofs.Lines.ReplacedEscapes.{literal_after}
 use Rattle.pyx.proofs.state.State.attribute.Goals as goal
 
 pub append-requires : goal.append-requires

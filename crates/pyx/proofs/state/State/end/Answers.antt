@@ -2,7 +2,7 @@ use Rattle.std.proofs.Common.{◌∙◌, ◌++◌, List, append_assoc, option_ma
 use Rattle.rng_model.specs.documents.PyxTrees.{Event}
 use Rattle.pyx.specs.plain.DocumentReader.{text_ended}
 use Rattle.pyx.specs.views.View.{state_of, state_with}
-use Rattle.pyx.proofs.JudgedNames.{closes, end_judged}
+use Rattle.pyx.proofs.States.JudgedNames.{closes, end_judged}
 use Rattle.pyx.proofs.state.State.end.Goals as goal
 
 pub returns : goal.returns

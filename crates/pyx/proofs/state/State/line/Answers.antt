@@ -1,6 +1,6 @@
 use Rattle.std.proofs.Common.{◌≡◌, arith}
 use Rattle.pyx.specs.views.View.{state_of}
-use Rattle.pyx.proofs.LineCounts.{tag_ended_keeps}
+use Rattle.pyx.proofs.Input.LineCounts.{tag_ended_keeps}
 use Rattle.pyx.proofs.state.State.line.Goals as goal
 
 pub overflow_add-self : goal.overflow_add-self

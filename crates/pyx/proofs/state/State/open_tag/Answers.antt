@@ -1,7 +1,7 @@
 use Rattle.std.proofs.Common.{◌≡◌, ◌∙◌, ap, arith, length, map, sym}
 use Rattle.std.proofs.lemmas.List.{nil_from_length}
 use Rattle.pyx.specs.views.WrittenAttributes.{written_attribute}
-use Rattle.pyx.proofs.BareTags.{gives_bare}
+use Rattle.pyx.proofs.Tags.BareTags.{gives_bare}
 use Rattle.pyx.proofs.state.State.open_tag.Goals as goal
 
 pub returns-in-empty-empty-clause-element : goal.returns-in-empty-empty-clause-element

@@ -1,4 +1,4 @@
-use Rattle.pyx.proofs.ReplacedEscapes.{literal_behind}
+use Rattle.pyx.proofs.Lines.ReplacedEscapes.{literal_behind}
 use Rattle.pyx.proofs.state.State.said.Goals as goal
 
 pub attribute-requires-clause-literal : goal.attribute-requires-clause-literal

@@ -3,7 +3,7 @@ use Rattle.std.specs.Prelude.{nat_le}
 use Rattle.pyx.specs.plain.DocumentReader.{is_outside}
 use Rattle.pyx.specs.plain.LineReader.{is_name}
 use Rattle.pyx.specs.views.View.{state_of}
-use Rattle.pyx.proofs.JudgedNames.{few_open, not_outside, start_judged}
+use Rattle.pyx.proofs.States.JudgedNames.{few_open, not_outside, start_judged}
 use Rattle.pyx.proofs.state.State.start.Goals as goal
 use Rattle.pyx.proofs.state.State.start.Goals.{else-self-via-then-self+else-is_empty, else-self-via-else-self}
 

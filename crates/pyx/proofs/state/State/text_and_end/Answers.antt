@@ -3,9 +3,9 @@ use Rattle.std.proofs.lemmas.Result.{err_from_is_err_and}
 use Rattle.pyx.specs.plain.DocumentReader.{fault, is_outside}
 use Rattle.rng_model.specs.declared.pyx_fault.PyxFault.TheVariants as pyx
 use Rattle.pyx.specs.views.View.{state_of}
-use Rattle.pyx.proofs.LineCounts.{tag_ended_keeps}
-use Rattle.pyx.proofs.LineTurns.{hands_nothing}
-use Rattle.pyx.proofs.TextInPlace.{inside, outside, plain_end_line, plain_text_line, tag_fails, takes_after}
+use Rattle.pyx.proofs.Input.LineCounts.{tag_ended_keeps}
+use Rattle.pyx.proofs.Input.LineTurns.{hands_nothing}
+use Rattle.pyx.proofs.States.TextInPlace.{inside, outside, plain_end_line, plain_text_line, tag_fails, takes_after}
 use Rattle.pyx.proofs.state.State.text_and_end.Goals as goal
 
 pub returns-in_err-end_tag : goal.returns-in_err-end_tag

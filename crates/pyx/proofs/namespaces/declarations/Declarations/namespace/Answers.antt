@@ -1,7 +1,7 @@
 use Rattle.std.proofs.Common.{◌≡◌, ◌∙◌, List, ℕ, Option, Some, None, ap, arith, option_map, sym}
 use Rattle.pyx.specs.plain.Declarations.{beforehand, found_in, namespace_of, or_else}
 use Rattle.pyx.specs.views.DeclarationView.{declaration_of}
-use Rattle.pyx.proofs.DeclarationPlaces.{found_at, inside_list, not_found}
+use Rattle.pyx.proofs.Scopes.DeclarationPlaces.{found_at, inside_list, not_found}
 use Rattle.pyx.proofs.namespaces.declarations.Declarations.namespace.Goals as goal
 
 pub index-requires : goal.index-requires

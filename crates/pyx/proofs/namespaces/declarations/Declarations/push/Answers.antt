@@ -1,5 +1,5 @@
 use Rattle.std.proofs.Common.{ap, reverse}
-use Rattle.pyx.proofs.DeclarationPlaces.{none_found}
+use Rattle.pyx.proofs.Scopes.DeclarationPlaces.{none_found}
 use Rattle.pyx.proofs.namespaces.declarations.Declarations.push.Goals as goal
 
 pub invariant_of-self-in-Err : goal.invariant_of-self-in-Err

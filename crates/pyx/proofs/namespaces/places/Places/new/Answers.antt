@@ -1,6 +1,6 @@
 use Rattle.std.proofs.Common.{None, refl}
 use Rattle.pyx.specs.declared.namespaces.places.Places.{Places}
-use Rattle.pyx.proofs.DeclarationPlaces.{nowhere}
+use Rattle.pyx.proofs.Scopes.DeclarationPlaces.{nowhere}
 use Rattle.pyx.proofs.namespaces.places.Places.new.Goals as goal
 
 pub returns : goal.returns

@@ -1,5 +1,5 @@
 use Rattle.std.proofs.Common.{refl}
-use Rattle.pyx.proofs.DeclarationPlaces.{set_of_default, set_of_prefix}
+use Rattle.pyx.proofs.Scopes.DeclarationPlaces.{set_of_default, set_of_prefix}
 use Rattle.pyx.proofs.namespaces.places.Places.restore.Goals as goal
 
 pub returns-in-Some : goal.returns-in-Some

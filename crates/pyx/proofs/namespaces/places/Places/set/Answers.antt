@@ -1,6 +1,6 @@
 use Rattle.std.proofs.Common.{Some, refl}
 use Rattle.std.proofs.lemmas.Result.{on_ok_weaker}
-use Rattle.pyx.proofs.DeclarationPlaces.{set_of_default, set_of_prefix}
+use Rattle.pyx.proofs.Scopes.DeclarationPlaces.{set_of_default, set_of_prefix}
 use Rattle.pyx.proofs.namespaces.places.Places.set.Goals as goal
 
 pub returns-in-Some-clause-set : goal.returns-in-Some-clause-set

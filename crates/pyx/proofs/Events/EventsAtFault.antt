@@ -7,7 +7,7 @@ use Rattle.std.specs.List.{AllByRecursion}
 use Rattle.std.proofs.lemmas.List.{length-append, append-nil}
 use Rattle.std.proofs.lemmas.List.Elements.{All-from_recursion}
 use Rattle.std.proofs.lemmas.Option.{same_Some, none-some}
-use Rattle.pyx.proofs.DocumentEnds.{all_sends}
+use Rattle.pyx.proofs.Documents.Ends.{all_sends}
 use Rattle.rng_model.proofs.Options.{same_err}
 use Rattle.rng_model.proofs.Members.{same_first, same_rest}
 use Rattle.rng_model.specs.documents.Lines.{Line, lines, Fault, IsBefore}
@@ -24,22 +24,23 @@ use Rattle.pyx.specs.plain.DocumentReader.{State, Tag, Open, Turn, fault, silent
 use Rattle.pyx.specs.plain.DocumentReader.{nothing_read}
 use Rattle.pyx.specs.plain.DocumentReader.{at_end, all_ended, document_read}
 use Rattle.rng_model.specs.documents.Documents.{BeginsDocument, AreEventsBefore}
-use Rattle.pyx.proofs.LineClauses.{good_line}
-use Rattle.pyx.proofs.SaidLines.{good, line_said}
-use Rattle.pyx.proofs.StateSteps.{inside, in_tag, text_event, end_event, start_event}
-use Rattle.pyx.proofs.LineCases.{Move, instruction_passes, attribute_outside, text_joins, text_too_long, text_outside, start_begins, start_too_deep}
-use Rattle.pyx.proofs.LineCases.{start_again}
-use Rattle.pyx.proofs.LineCases.{end_closes, end_of_other, end_of_none, moves, TagMove, attribute_added, attribute_too_many, tag_refused, tag_closes, tag_moves}
-use Rattle.pyx.proofs.OpenTags.{begins_none, is_kind, has_kind, marks, no_tag, untagged}
-use Rattle.pyx.proofs.JoinedText.{says_a_start, says_an_attribute}
-use Rattle.pyx.proofs.StateAfterLines.{Content, Within, Place, at_content, at_tag, content_first, marks_none, place_first}
-use Rattle.pyx.proofs.DocumentBroken.{at, TagBreaks, LineTells, goes_on, breaks_here, tag_breaks, within_few, bad_line, ended_silent, ended_closes}
-use Rattle.pyx.proofs.DocumentBroken.{no_tag_ended}
-use Rattle.pyx.proofs.DocumentBroken.{not_kind, line_tells, next_place, EndTells, ends_well, ends_open, tag_ends_badly, fault_tag, end_tells, to_end}
-use Rattle.pyx.proofs.DocumentBroken.{tag_breaks_all, tag_broken, broken, ok_err, ended_fails}
-use Rattle.pyx.proofs.DocumentLeast.{at_most, all_append, all_cons, all_nil, to_end_first}
-use Rattle.pyx.proofs.ClosingLines.{IsWhole, lines_without, good_whole, Finishes, finishes_content, finishes_within, begins_less, read_none}
-use Rattle.pyx.proofs.ClosingLines as closing
+use Rattle.pyx.proofs.Lines.LineClauses.{good_line}
+use Rattle.pyx.proofs.Lines.SaidLines.{good, line_said}
+use Rattle.pyx.proofs.States.StateSteps.{inside, in_tag, text_event, end_event, start_event}
+use Rattle.pyx.proofs.States.LineCases.{Move, instruction_passes, attribute_outside, text_joins, text_too_long, text_outside, start_begins, start_too_deep}
+use Rattle.pyx.proofs.States.LineCases.{start_again}
+use Rattle.pyx.proofs.States.LineCases.{end_closes, end_of_other, end_of_none, moves, TagMove, attribute_added, attribute_too_many, tag_refused, tag_closes}
+use Rattle.pyx.proofs.States.LineCases.{tag_moves}
+use Rattle.pyx.proofs.States.OpenTags.{begins_none, is_kind, has_kind, marks, no_tag, untagged}
+use Rattle.pyx.proofs.States.JoinedText.{says_a_start, says_an_attribute}
+use Rattle.pyx.proofs.States.StateAfterLines.{Content, Within, Place, at_content, at_tag, content_first, marks_none, place_first}
+use Rattle.pyx.proofs.Documents.Broken.{at, TagBreaks, LineTells, goes_on, breaks_here, tag_breaks, within_few, bad_line, ended_silent, ended_closes}
+use Rattle.pyx.proofs.Documents.Broken.{no_tag_ended}
+use Rattle.pyx.proofs.Documents.Broken.{not_kind, line_tells, next_place, EndTells, ends_well, ends_open, tag_ends_badly, fault_tag, end_tells, to_end}
+use Rattle.pyx.proofs.Documents.Broken.{tag_breaks_all, tag_broken, broken, ok_err, ended_fails}
+use Rattle.pyx.proofs.Documents.Least.{at_most, all_append, all_cons, all_nil, to_end_first}
+use Rattle.pyx.proofs.Events.ClosingLines.{IsWhole, lines_without, good_whole, Finishes, finishes_content, finishes_within, begins_less, read_none}
+use Rattle.pyx.proofs.Events.ClosingLines as closing
 
 -- ---- fronts
 

@@ -5,7 +5,7 @@ use Rattle.std.specs.List.{list_all}
 use Rattle.std.proofs.lemmas.List.{length-append}
 use Rattle.std.proofs.lemmas.List.Folds.{list_all-append}
 use Rattle.pyx.specs.plain.PlainBytes.{is_plain}
-use Rattle.pyx.proofs.WrittenNames.{joins, at_joins}
+use Rattle.pyx.proofs.Lines.WrittenNames.{joins, at_joins}
 use Rattle.std.specs.List.{prefix_len, position_or_len}
 use Rattle.std.proofs.lemmas.List.Sums.{position_or_len_is}
 use Rattle.std.proofs.lemmas.Bool.{false_from_ne_true, and_parts}

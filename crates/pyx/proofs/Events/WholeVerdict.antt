@@ -5,10 +5,10 @@ use Rattle.rng_model.specs.documents.Lines.{lines, Fault}
 use Rattle.rng_model.specs.documents.PyxTrees.{Placed, Event, events_of, IsPyxDocument}
 use Rattle.pyx.specs.plain.DocumentReader.{State, Turn, document_read}
 use Rattle.rng_model.specs.documents.Documents.{AreEventsBefore, IsTheDocument, IsTheFault}
-use Rattle.pyx.proofs.DocumentComplete.{complete}
-use Rattle.pyx.proofs.DocumentSound.{sound}
-use Rattle.pyx.proofs.DocumentLeast.{first_fault}
-use Rattle.pyx.proofs.EventsAtFault.{events_at_fault}
+use Rattle.pyx.proofs.Documents.Complete.{complete}
+use Rattle.pyx.proofs.Documents.Sound.{sound}
+use Rattle.pyx.proofs.Documents.Least.{first_fault}
+use Rattle.pyx.proofs.Events.EventsAtFault.{events_at_fault}
 
 all_events : (bytes : List ℕ) (tree : Placed) → IsPyxDocument bytes tree → (document_read (lines bytes)).1 ≡ events_of tree
 all_events bytes tree d = ap (λ (t : Turn State). t.1) (complete bytes tree d).is

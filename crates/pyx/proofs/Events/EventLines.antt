@@ -6,7 +6,7 @@ use Rattle.std.specs.Prelude.{◌==◌, nat_le, is_some}
 use Rattle.std.specs.List.{AllByRecursion}
 use Rattle.std.proofs.lemmas.List.{append-nil, length-append, length-take-le, take-append-drop}
 use Rattle.std.proofs.lemmas.List.Elements.{All-from_recursion}
-use Rattle.pyx.proofs.DocumentEnds.{last_sends}
+use Rattle.pyx.proofs.Documents.Ends.{last_sends}
 use Rattle.rng_model.specs.documents.Lines.{Line, lines, attribute_limit, open_limit, text_limit, Fault}
 use Rattle.rng_model.specs.documents.PyxLines as said
 use Rattle.rng_model.specs.documents.PyxLines.{Said, QName}
@@ -19,9 +19,9 @@ use Rattle.pyx.specs.plain.DocumentReader.{State, Tag, Open, Turn, silent, go_on
 use Rattle.pyx.specs.plain.DocumentReader.{started, add_attribute, attributed, joined_by, around, end_in, ended, said_read, judged, line_read, declared_in}
 use Rattle.pyx.specs.plain.DocumentReader.{all_read, nothing_read, at_end, all_ended, document_read}
 use Rattle.pyx.specs.plain.Declarations.{same_written}
-use Rattle.pyx.proofs.LineCounts.{tag_ended_keeps, text_within, line_keeps}
-use Rattle.pyx.proofs.DocumentLeast.{all_append}
-use Rattle.pyx.proofs.DocumentComplete.{complete}
+use Rattle.pyx.proofs.Input.LineCounts.{tag_ended_keeps, text_within, line_keeps}
+use Rattle.pyx.proofs.Documents.Least.{all_append}
+use Rattle.pyx.proofs.Documents.Complete.{complete}
 
 -- ---- the events of one line
 

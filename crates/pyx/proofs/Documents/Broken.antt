@@ -23,19 +23,21 @@ use Rattle.pyx.specs.plain.DocumentReader.{State, Tag, Open, Turn, fault, silent
 use Rattle.pyx.specs.plain.DocumentReader.{line_read}
 use Rattle.pyx.specs.plain.DocumentReader.{all_read, nothing_read, at_end, at_last, all_ended, document_read}
 use Rattle.rng_model.proofs.LastLines.{tag_is_within}
-use Rattle.pyx.proofs.LineClauses.{BreaksLine, within, too_long, good_line, broken_line}
+use Rattle.pyx.proofs.Lines.LineClauses.{BreaksLine, within, too_long, good_line, broken_line}
 use Rattle.pyx.proofs.Tags.Answers.{TagTells, tag_tells}
-use Rattle.pyx.proofs.SaidLines.{is_attribute, good, line_said}
-use Rattle.pyx.proofs.StateSteps.{inside, in_tag, open_of, not_zero}
-use Rattle.pyx.proofs.LineCases.{Move, instruction_passes, attribute_outside, text_joins, text_too_long, text_outside, start_begins, start_too_deep}
-use Rattle.pyx.proofs.LineCases.{start_again}
-use Rattle.pyx.proofs.LineCases.{end_closes, end_of_other, end_of_none, moves, TagMove, attribute_added, attribute_too_many, tag_refused, tag_closes, tag_moves}
-use Rattle.pyx.proofs.DocumentComplete.{split_length}
-use Rattle.pyx.proofs.OpenTags.{other_kind, is_kind, kind_is, begins_line, begins_none, open_tag, no_tag}
-use Rattle.pyx.proofs.JoinedText.{good_kind, good_length, start_line, end_line, text_more, ends_in_text, root_found, no_root}
-use Rattle.pyx.proofs.StateAfterLines.{AreMatched, none_matched, one_matched, scope_of, matched_scope, matched_declared, matched_length, written_length}
-use Rattle.pyx.proofs.StateAfterLines.{Content, Within}
-use Rattle.pyx.proofs.StateAfterLines.{Place, at_content, at_tag, place_first, after_instruction, after_text, after_end, after_start, after_attribute, closed}
+use Rattle.pyx.proofs.Lines.SaidLines.{is_attribute, good, line_said}
+use Rattle.pyx.proofs.States.StateSteps.{inside, in_tag, open_of, not_zero}
+use Rattle.pyx.proofs.States.LineCases.{Move, instruction_passes, attribute_outside, text_joins, text_too_long, text_outside, start_begins, start_too_deep}
+use Rattle.pyx.proofs.States.LineCases.{start_again}
+use Rattle.pyx.proofs.States.LineCases.{end_closes, end_of_other, end_of_none, moves, TagMove, attribute_added, attribute_too_many, tag_refused, tag_closes}
+use Rattle.pyx.proofs.States.LineCases.{tag_moves}
+use Rattle.pyx.proofs.Documents.Complete.{split_length}
+use Rattle.pyx.proofs.States.OpenTags.{other_kind, is_kind, kind_is, begins_line, begins_none, open_tag, no_tag}
+use Rattle.pyx.proofs.States.JoinedText.{good_kind, good_length, start_line, end_line, text_more, ends_in_text, root_found, no_root}
+use Rattle.pyx.proofs.States.StateAfterLines.{AreMatched, none_matched, one_matched, scope_of, matched_scope, matched_declared, matched_length, written_length}
+use Rattle.pyx.proofs.States.StateAfterLines.{Content, Within}
+use Rattle.pyx.proofs.States.StateAfterLines.{Place, at_content, at_tag, place_first, after_instruction, after_text, after_end, after_start, after_attribute}
+use Rattle.pyx.proofs.States.StateAfterLines.{closed}
 
 abbrev pub at : ℕ → ℕ → Fault
 at clause line = record { clause = clause; line = line }

@@ -15,9 +15,9 @@ use Rattle.rng_model.specs.documents.PyxLines.{no_lines, line_and}
 use Rattle.rng_model.specs.documents.PyxTrees.{IsRun, no_run, text_and, instruction_and}
 use Rattle.rng_model.specs.documents.PyxClauses.{EndsInText}
 use Rattle.pyx.specs.plain.WrittenNames.{written_of}
-use Rattle.pyx.proofs.LineClauses.{line_is}
-use Rattle.pyx.proofs.NamesInLines.{name_is}
-use Rattle.pyx.proofs.OpenTags.{is_kind, kind_is, has_kind, other_kind}
+use Rattle.pyx.proofs.Lines.LineClauses.{line_is}
+use Rattle.pyx.proofs.Lines.NamesInLines.{name_is}
+use Rattle.pyx.proofs.States.OpenTags.{is_kind, kind_is, has_kind, other_kind}
 
 -- ---- good lines
 

@@ -9,8 +9,8 @@ use Rattle.std.proofs.lemmas.List.{get_or-take, length-take}
 use Rattle.memchr.specs.Find.{Nowhere, Passes, is_byte}
 use Rattle.pyx.specs.plain.Marks.{IsMask}
 use Rattle.pyx.specs.plain.Cuts.{at_byte}
-use Rattle.pyx.proofs.TextCuts.{cut_nowhere}
-use Rattle.pyx.proofs.NamesInLines.{differs}
+use Rattle.pyx.proofs.Lines.TextCuts.{cut_nowhere}
+use Rattle.pyx.proofs.Lines.NamesInLines.{differs}
 
 same_tells : (x b : ℕ) (s : Bool) → eqb x b ≡ s → (cond {A = ℕ} s 1 0 ≡ 1) ↔ (x ≡ b)
 same_tells x b true e = (λ h. eqb-true x b e, λ h. refl)

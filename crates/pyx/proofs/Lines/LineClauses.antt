@@ -8,7 +8,7 @@ use Rattle.std.proofs.lemmas.Bool.{eqb-true, le-leb}
 use Rattle.std.proofs.lemmas.List.Elements.{All-from_recursion, recursion_from_All}
 use Rattle.std.proofs.lemmas.List.Sums.{AllPass-from_list_all, list_all-from_AllPass}
 use Rattle.std.proofs.lemmas.Str.{is_utf8-from_IsUtf8, IsUtf8-from_is_utf8}
-use Rattle.pyx.proofs.LineTexts.{read_when_utf8}
+use Rattle.pyx.proofs.Lines.LineTexts.{read_when_utf8}
 use Rattle.rng_model.specs.names.Names.{is_xml_char}
 use Rattle.rng_model.specs.names.Lists.{IsLeast}
 use Rattle.rng_model.specs.documents.Lines.{Line, line_limit, HasKind}
@@ -20,9 +20,9 @@ use Rattle.pyx.specs.plain.Cuts.{either_way, at_byte}
 use Rattle.pyx.specs.plain.Escapes.{unescaped}
 use Rattle.pyx.specs.plain.LineReader.{Read, is_name, named, text_of, attribute_of, kind_of, characters_of, bytes_of, said_of}
 use Rattle.pyx.specs.plain.WrittenNames.{written_of}
-use Rattle.pyx.proofs.EscapedTexts.{value_is, value_of, no_value, none_stands}
-use Rattle.pyx.proofs.NamesInLines.{not_equal, differs, Found, found, at_none, at_seam, utf8_parts, name_is, name_has_no_space, good_name}
-use Rattle.pyx.proofs.LinesOfPieces.{said_of_long}
+use Rattle.pyx.proofs.Lines.EscapedTexts.{value_is, value_of, no_value, none_stands}
+use Rattle.pyx.proofs.Lines.NamesInLines.{not_equal, differs, Found, found, at_none, at_seam, utf8_parts, name_is, name_has_no_space, good_name}
+use Rattle.pyx.proofs.Input.LinesOfPieces.{said_of_long}
 
 -- ---- results
 

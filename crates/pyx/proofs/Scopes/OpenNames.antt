@@ -17,8 +17,8 @@ use Rattle.pyx.specs.plain.LineReader.{is_name}
 use Rattle.pyx.specs.plain.WrittenNames.{written_of}
 use Rattle.pyx.specs.plain.Declarations.{same_written}
 use Rattle.pyx.specs.views.ElementView.{AreNamed, IsJudged, is_innermost, stack_of}
-use Rattle.pyx.proofs.OpenStack.{stack_push}
-use Rattle.pyx.proofs.WrittenNames.{written_alike}
+use Rattle.pyx.proofs.Scopes.OpenStack.{stack_push}
+use Rattle.pyx.proofs.Lines.WrittenNames.{written_alike}
 
 -- the innermost element and those around it
 pub named_parts : (opened outer : List OpenElement) (e : OpenElement) (names : List ℕ) → opened ≡ outer ++ e ∷ [] → AreNamed (reverse opened) names

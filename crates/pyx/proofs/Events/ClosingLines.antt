@@ -21,16 +21,16 @@ use Rattle.pyx.specs.plain.Declarations.{namespace_of, found_in, any_forbidden, 
 use Rattle.pyx.specs.plain.DocumentReader.{State, Tag, Open, Turn, followed, after_events, declared_in, line_read, all_read, nothing_read, at_end, all_ended}
 use Rattle.pyx.specs.plain.DocumentReader.{document_read}
 use Rattle.rng_model.specs.documents.Documents.{BeginsDocument}
-use Rattle.pyx.proofs.NamesInLines.{at_none, all_append, differs, ncname_without, utf8_parts, ascii_first, char_first}
-use Rattle.pyx.proofs.LineTurns.{sent_before}
-use Rattle.pyx.proofs.WholeBytes.{cons_no_feed, lines_ended, lines_cons, lines_nil}
-use Rattle.pyx.proofs.SaidLines.{good, line_said}
-use Rattle.pyx.proofs.StateSteps.{inside, in_tag, begun, open_of, text_event, end_event, start_event, start_step, end_step, early}
-use Rattle.pyx.proofs.DocumentComplete.{complete}
-use Rattle.pyx.proofs.DocumentSound.{sound}
-use Rattle.pyx.proofs.JoinedText.{has_root, root_in}
-use Rattle.pyx.proofs.StateAfterLines.{AreMatched, none_matched, one_matched, Content, Within, closed}
-use Rattle.pyx.proofs.DocumentLeast.{all_append as read_append, all_cons}
+use Rattle.pyx.proofs.Lines.NamesInLines.{at_none, all_append, differs, ncname_without, utf8_parts, ascii_first, char_first}
+use Rattle.pyx.proofs.Input.LineTurns.{sent_before}
+use Rattle.pyx.proofs.Input.WholeBytes.{cons_no_feed, lines_ended, lines_cons, lines_nil}
+use Rattle.pyx.proofs.Lines.SaidLines.{good, line_said}
+use Rattle.pyx.proofs.States.StateSteps.{inside, in_tag, begun, open_of, text_event, end_event, start_event, start_step, end_step, early}
+use Rattle.pyx.proofs.Documents.Complete.{complete}
+use Rattle.pyx.proofs.Documents.Sound.{sound}
+use Rattle.pyx.proofs.States.JoinedText.{has_root, root_in}
+use Rattle.pyx.proofs.States.StateAfterLines.{AreMatched, none_matched, one_matched, Content, Within, closed}
+use Rattle.pyx.proofs.Documents.Least.{all_append as read_append, all_cons}
 
 -- ---- bytes of lines
 

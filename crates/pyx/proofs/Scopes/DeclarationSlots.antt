@@ -9,7 +9,7 @@ use Rattle.pyx.specs.plain.WrittenNames.{written_of}
 use Rattle.pyx.specs.plain.NamespacesSlots.{AreAllMet, is_met}
 use Rattle.pyx.specs.plain.Declarations.{same_written, is_written_in, is_written_twice}
 use Rattle.pyx.specs.views.WrittenAttributes.{written_attribute, written_bytes}
-use Rattle.pyx.proofs.WrittenNames.{written_alike}
+use Rattle.pyx.proofs.Lines.WrittenNames.{written_alike}
 
 true_false : true ≡ false → ⊥
 true_false e = cc

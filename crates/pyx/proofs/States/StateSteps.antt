@@ -12,8 +12,8 @@ use Rattle.pyx.specs.plain.TagReader.{Element, tag_read}
 use Rattle.pyx.specs.plain.Declarations.{same_written}
 use Rattle.pyx.specs.plain.DocumentReader.{State, Tag, Open, after_events, declared_in, text_ended, started, with_attribute, attributed}
 use Rattle.pyx.specs.plain.DocumentReader.{joined_by, ended, said_read}
-use Rattle.pyx.proofs.WrittenNames.{written_itself}
-use Rattle.pyx.proofs.SaidLines.{is_attribute, said_line, good}
+use Rattle.pyx.proofs.Lines.WrittenNames.{written_itself}
+use Rattle.pyx.proofs.Lines.SaidLines.{is_attribute, said_line, good}
 
 -- inside these elements, with this text joined, after this many lines
 abbrev pub inside : List Open → List ℕ → ℕ → Bool → State

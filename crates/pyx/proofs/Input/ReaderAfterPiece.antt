@@ -11,7 +11,7 @@ use Rattle.pyx.specs.views.ReaderAfterPiece.{Kept, Stands, result_of}
 use Rattle.pyx.specs.views.Calls.{Extends, UnlessOutOfMemory}
 use Rattle.pyx.specs.views.View.{Takes}
 use Rattle.rng_model.specs.documents.EventViews.{Hands}
-use Rattle.pyx.proofs.LineTurns.{read_append, followed_ok, followed_err, hands_nothing}
+use Rattle.pyx.proofs.Input.LineTurns.{read_append, followed_ok, followed_err, hands_nothing}
 
 ok_more : (bytes more : List ℕ) (p : Progress) → (read bytes nothing_fed).0 ≡ Ok p
     → read (bytes ++ more) nothing_fed ≡ after_events (read bytes nothing_fed).1 (read more p)

@@ -4,7 +4,7 @@ use Rattle.std.proofs.lemmas.Bool.{eqb-true}
 use Rattle.std.proofs.lemmas.Option.{none-some}
 use Rattle.rng_model.specs.documents.PyxLines.{StandsFor, at_end, itself, line_feed, tab, backslash, StandsForNothing}
 use Rattle.pyx.specs.plain.Escapes.{unescaped, escaped, in_front}
-use Rattle.pyx.proofs.NamesInLines.{not_equal, differs}
+use Rattle.pyx.proofs.Lines.NamesInLines.{not_equal, differs}
 
 pub value_is : {t v : List ℕ} → StandsFor t v → unescaped t ≡ Some v
 unfolding unescaped

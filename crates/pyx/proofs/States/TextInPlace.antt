@@ -7,7 +7,7 @@ use Rattle.std.specs.Str.{IsUtf8}
 use Rattle.std.proofs.lemmas.Bool.{eqb-true, le-leb}
 use Rattle.std.proofs.lemmas.List.{append-nil, nil_from_length}
 use Rattle.std.proofs.lemmas.Str.{IsUtf8-append, encode_ascii}
-use Rattle.pyx.proofs.DocumentSound.{goes_first}
+use Rattle.pyx.proofs.Documents.Sound.{goes_first}
 use Rattle.rng_model.specs.documents.EventViews.{Hands}
 use Rattle.rng_model.specs.documents.Lines.{line_limit, text_limit, Fault}
 use Rattle.rng_model.specs.documents.PyxLines as lines
@@ -23,12 +23,12 @@ use Rattle.pyx.specs.plain.Pieces.{Progress, ended_line, line_taken, overlong, r
 use Rattle.pyx.specs.plain.PlainBytes.{is_plain}
 use Rattle.pyx.specs.plain.TagReader.{Element, tag_read}
 use Rattle.pyx.specs.views.View.{Takes}
-use Rattle.pyx.proofs.LineClauses.{said_ended}
-use Rattle.pyx.proofs.LineCounts.{line_keeps}
-use Rattle.pyx.proofs.LineTurns.{followed_err, followed_ok, followed_same, followed_twice, hands_more}
-use Rattle.pyx.proofs.LinesOfPieces.{read_line}
-use Rattle.pyx.proofs.PlainTexts.{good_text, plain_text}
-use Rattle.pyx.proofs.ReplacedEscapes.{unescaped_plain}
+use Rattle.pyx.proofs.Lines.LineClauses.{said_ended}
+use Rattle.pyx.proofs.Input.LineCounts.{line_keeps}
+use Rattle.pyx.proofs.Input.LineTurns.{followed_err, followed_ok, followed_same, followed_twice, hands_more}
+use Rattle.pyx.proofs.Input.LinesOfPieces.{read_line}
+use Rattle.pyx.proofs.Lines.PlainTexts.{good_text, plain_text}
+use Rattle.pyx.proofs.Lines.ReplacedEscapes.{unescaped_plain}
 
 -- what a turn hands out comes behind what was handed out before it
 pub takes_after : (A : Type 0) {S E : Type 0} (stands : E → E → List Event → Type 0) (a b d : E) (whole turn : Turn S) (es : List Event) (new : S)

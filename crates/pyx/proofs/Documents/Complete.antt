@@ -21,10 +21,11 @@ use Rattle.pyx.proofs.Tags.Namespaces.{scope_in, AllDeclared}
 use Rattle.pyx.proofs.Tags.Parts.{IsSplit, no_lines, declares, declares_none, split_parted, split_declared, split_declaration, split_other}
 use Rattle.pyx.proofs.Tags.Unique.{IsScopeOnce, prefixes_of, parted_same}
 use Rattle.pyx.proofs.Tags.Exact.{tag_is, once_declared}
-use Rattle.pyx.proofs.LineTurns.{sent_before}
-use Rattle.pyx.proofs.SaidLines.{is_attribute, said_line, said_lines, skip, first_of, rest_of, good, cons_said, append_said, none_said, lines_said, sizes}
-use Rattle.pyx.proofs.StateSteps.{inside, in_tag, begun, open_of, text_event, end_event, start_event, attribute_step, instruction_step, text_step, start_step}
-use Rattle.pyx.proofs.StateSteps.{end_step, early, not_zero}
+use Rattle.pyx.proofs.Input.LineTurns.{sent_before}
+use Rattle.pyx.proofs.Lines.SaidLines.{is_attribute, said_line, said_lines, skip, first_of, rest_of, good, cons_said, append_said, none_said, lines_said, sizes}
+use Rattle.pyx.proofs.States.StateSteps.{inside, in_tag, begun, open_of, text_event, end_event, start_event, attribute_step, instruction_step, text_step}
+use Rattle.pyx.proofs.States.StateSteps.{start_step}
+use Rattle.pyx.proofs.States.StateSteps.{end_step, early, not_zero}
 
 -- ---- the lines of a tag
 

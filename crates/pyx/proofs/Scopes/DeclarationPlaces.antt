@@ -10,7 +10,7 @@ use Rattle.pyx.specs.declared.namespaces.places.Places.{Places}
 use Rattle.pyx.specs.plain.WrittenNames.{written_of}
 use Rattle.pyx.specs.plain.Declarations.{declared_by, declares, found_in, same_prefix}
 use Rattle.pyx.specs.views.DeclarationView.{AreFound, declaration_of, innermost_place, is_of, place_in}
-use Rattle.pyx.proofs.WrittenNames.{prefix_itself, prefix_same}
+use Rattle.pyx.proofs.Lines.WrittenNames.{prefix_itself, prefix_same}
 
 false_true : false ≡ true → ⊥
 false_true e = cc

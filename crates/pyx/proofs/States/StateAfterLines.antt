@@ -21,12 +21,12 @@ use Rattle.pyx.proofs.Tags.Parts.{IsSplit, split_parted, split_declared}
 use Rattle.pyx.proofs.Tags.Unique.{prefixes_of, IsScopeOnce, parted_same}
 use Rattle.pyx.proofs.Tags.Answers.{TagTells, tag_tells}
 use Rattle.pyx.proofs.Tags.Exact.{read_once}
-use Rattle.pyx.proofs.StateSteps.{inside, in_tag, begun, open_of}
-use Rattle.pyx.proofs.DocumentComplete.{attribute_longer, split_length}
-use Rattle.pyx.proofs.OpenTags.{marks, Marks, kind_not, other_kind, open_marks, ends_marks, open_same, no_tag, open_other, open_end, open_tag, untagged}
-use Rattle.pyx.proofs.OpenTags.{tag_begins}
-use Rattle.pyx.proofs.OpenTags.{tag_grows}
-use Rattle.pyx.proofs.JoinedText.{said_same, good_same, good_line_more, good_kind, texts, texts_nil, texts_more, has_root, root_in, root_other}
+use Rattle.pyx.proofs.States.StateSteps.{inside, in_tag, begun, open_of}
+use Rattle.pyx.proofs.Documents.Complete.{attribute_longer, split_length}
+use Rattle.pyx.proofs.States.OpenTags.{marks, Marks, kind_not, other_kind, open_marks, ends_marks, open_same, no_tag, open_other, open_end, open_tag, untagged}
+use Rattle.pyx.proofs.States.OpenTags.{tag_begins}
+use Rattle.pyx.proofs.States.OpenTags.{tag_grows}
+use Rattle.pyx.proofs.States.JoinedText.{said_same, good_same, good_line_more, good_kind, texts, texts_nil, texts_more, has_root, root_in, root_other}
 
 -- ---- the content of a tag is unique
 
@@ -131,7 +131,7 @@ unfolding has_root
 root_none = refl
 
 pub marks_none : (marks []).within ≡ false
-unfolding Rattle.pyx.proofs.OpenTags.marked
+unfolding Rattle.pyx.proofs.States.OpenTags.marked
 marks_none = refl
 
 pub content_first : Content [] [] [] 0 false

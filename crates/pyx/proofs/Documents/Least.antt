@@ -3,7 +3,7 @@ use Rattle.std.proofs.Common.{◌≡◌, ℕ, ◌+◌, ◌≤◌, ◌<◌, Bool,
 use Rattle.std.proofs.Common.{refl, sym, ap, subst, ◌∙◌, arith, append_assoc, ◌⊎◌, inl, inr, lit≤, rules}
 use Rattle.std.specs.Prelude.{◌==◌, ◌≢◌, nat_le}
 use Rattle.std.proofs.lemmas.List.{length-append, append-nil}
-use Rattle.pyx.proofs.DocumentEnds.{ends_badly}
+use Rattle.pyx.proofs.Documents.Ends.{ends_badly}
 use Rattle.rng_model.proofs.Options.{same_err, same_ok}
 use Rattle.rng_model.proofs.Members.{same_rest, one_or_none}
 use Rattle.rng_model.specs.documents.Lines.{Line, line_limit, attribute_limit, open_limit, text_limit, HasKind, Fault, EndsInTag, IsBefore}
@@ -23,28 +23,29 @@ use Rattle.pyx.specs.plain.DocumentReader as reader
 use Rattle.pyx.specs.plain.DocumentReader.{State, Tag, Open, Turn, fault, silent, go_on, followed, after_events, declared_in, close_tag, tag_ended, line_read}
 use Rattle.pyx.specs.plain.DocumentReader.{all_read}
 use Rattle.pyx.specs.plain.DocumentReader.{nothing_read, at_end, at_last, all_ended, document_read}
-use Rattle.pyx.proofs.LineClauses.{BreaksLine, good_line, broken_line, alone_most}
-use Rattle.pyx.proofs.LineClauses as line_clauses
-use Rattle.pyx.proofs.WrittenNames.{written_back, written_bytes}
+use Rattle.pyx.proofs.Lines.LineClauses.{BreaksLine, good_line, broken_line, alone_most}
+use Rattle.pyx.proofs.Lines.LineClauses as line_clauses
+use Rattle.pyx.proofs.Lines.WrittenNames.{written_back, written_bytes}
 use Rattle.pyx.proofs.Tags.Exact.{tag_namespaces, tag_repeats}
-use Rattle.pyx.proofs.LineTurns.{followed_same, followed_twice}
-use Rattle.pyx.proofs.SaidLines.{is_attribute, line_said}
-use Rattle.pyx.proofs.StateSteps.{inside, in_tag, open_of, not_zero}
-use Rattle.pyx.proofs.LineCases.{Move, instruction_passes, attribute_outside, text_joins, text_too_long, text_outside, start_begins, start_too_deep}
-use Rattle.pyx.proofs.LineCases.{start_again}
-use Rattle.pyx.proofs.LineCases.{end_closes, end_of_other, end_of_none, moves, TagMove, attribute_added, attribute_too_many, tag_refused, tag_closes, tag_moves}
-use Rattle.pyx.proofs.OpenTags.{is_kind, kind_not, marks, Marks, open_marks, ends_marks, open_same, no_tag}
-use Rattle.pyx.proofs.JoinedText.{start_line, end_line, says_a_start, says_an_attribute, says_a_text, says_an_end, joined_with, texts_more}
-use Rattle.pyx.proofs.JoinedText.{good_line_more, text_within, has_root, root_in, root_not}
-use Rattle.pyx.proofs.StateAfterLines.{AreMatched, none_matched, one_matched, scope_of, matched_scope, matched_declared, matched_once, matched_length}
-use Rattle.pyx.proofs.StateAfterLines.{says_same}
-use Rattle.pyx.proofs.StateAfterLines.{scope_same}
-use Rattle.pyx.proofs.StateAfterLines.{Content, Within, Place, at_content, at_tag, place_first, closed}
-use Rattle.pyx.proofs.DocumentBroken.{at, failed, TagBreaks, LineTells, goes_on, breaks_here, tag_breaks, tag_lines, alone_few, bad_line, ended_silent}
-use Rattle.pyx.proofs.DocumentBroken.{ended_closes}
-use Rattle.pyx.proofs.DocumentBroken.{no_tag_ended, line_tells, next_place, EndTells, ends_well, ends_open, tag_ends_badly, fault_tag, fault_open, end_tells}
-use Rattle.pyx.proofs.DocumentBroken.{to_end}
-use Rattle.pyx.proofs.DocumentBroken.{broken, ok_err}
+use Rattle.pyx.proofs.Input.LineTurns.{followed_same, followed_twice}
+use Rattle.pyx.proofs.Lines.SaidLines.{is_attribute, line_said}
+use Rattle.pyx.proofs.States.StateSteps.{inside, in_tag, open_of, not_zero}
+use Rattle.pyx.proofs.States.LineCases.{Move, instruction_passes, attribute_outside, text_joins, text_too_long, text_outside, start_begins, start_too_deep}
+use Rattle.pyx.proofs.States.LineCases.{start_again}
+use Rattle.pyx.proofs.States.LineCases.{end_closes, end_of_other, end_of_none, moves, TagMove, attribute_added, attribute_too_many, tag_refused, tag_closes}
+use Rattle.pyx.proofs.States.LineCases.{tag_moves}
+use Rattle.pyx.proofs.States.OpenTags.{is_kind, kind_not, marks, Marks, open_marks, ends_marks, open_same, no_tag}
+use Rattle.pyx.proofs.States.JoinedText.{start_line, end_line, says_a_start, says_an_attribute, says_a_text, says_an_end, joined_with, texts_more}
+use Rattle.pyx.proofs.States.JoinedText.{good_line_more, text_within, has_root, root_in, root_not}
+use Rattle.pyx.proofs.States.StateAfterLines.{AreMatched, none_matched, one_matched, scope_of, matched_scope, matched_declared, matched_once, matched_length}
+use Rattle.pyx.proofs.States.StateAfterLines.{says_same}
+use Rattle.pyx.proofs.States.StateAfterLines.{scope_same}
+use Rattle.pyx.proofs.States.StateAfterLines.{Content, Within, Place, at_content, at_tag, place_first, closed}
+use Rattle.pyx.proofs.Documents.Broken.{at, failed, TagBreaks, LineTells, goes_on, breaks_here, tag_breaks, tag_lines, alone_few, bad_line, ended_silent}
+use Rattle.pyx.proofs.Documents.Broken.{ended_closes}
+use Rattle.pyx.proofs.Documents.Broken.{no_tag_ended, line_tells, next_place, EndTells, ends_well, ends_open, tag_ends_badly, fault_tag, fault_open, end_tells}
+use Rattle.pyx.proofs.Documents.Broken.{to_end}
+use Rattle.pyx.proofs.Documents.Broken.{broken, ok_err}
 
 -- a fault at this place or before is returned
 pub record AtMost (g : Fault) {A : Type 0} (turn : Turn A) : Type 0 where

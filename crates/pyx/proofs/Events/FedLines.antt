@@ -9,11 +9,11 @@ use Rattle.rng_model.specs.documents.PyxTrees.{Event, Placed, IsPyxDocument, eve
 use Rattle.pyx.specs.plain.DocumentReader.{State, Turn, document_read, all_read, followed, go_on, line_read, nothing_read, silent}
 use Rattle.pyx.specs.plain.Pieces.{Progress, ended_line, finished, nothing_fed, open_line, read, with_begun}
 use Rattle.pyx.specs.views.ReaderAfterPiece.{Kept, Stands}
-use Rattle.pyx.proofs.EventLines.{AreReported, as_long, parted_at, reported_front, reported_line, reported_of}
-use Rattle.pyx.proofs.LineTurns.{followed_twice, read_append}
-use Rattle.pyx.proofs.LinesOfPieces.{at_nil, byte_feed, byte_full, byte_within, dichotomy, fails_first, grown, length-push, long_fails, read_cons}
-use Rattle.pyx.proofs.ReaderAfterPiece.{at_fault}
-use Rattle.pyx.proofs.WholeBytes.{NoFeed, in_pieces, lines_ended, lines_nil, lines_open, push_no_feed}
+use Rattle.pyx.proofs.Events.EventLines.{AreReported, as_long, parted_at, reported_front, reported_line, reported_of}
+use Rattle.pyx.proofs.Input.LineTurns.{followed_twice, read_append}
+use Rattle.pyx.proofs.Input.LinesOfPieces.{at_nil, byte_feed, byte_full, byte_within, dichotomy, fails_first, grown, length-push, long_fails, read_cons}
+use Rattle.pyx.proofs.Input.ReaderAfterPiece.{at_fault}
+use Rattle.pyx.proofs.Input.WholeBytes.{NoFeed, in_pieces, lines_ended, lines_nil, lines_open, push_no_feed}
 
 -- ---- the events of all bytes that begin with those that were fed
 

@@ -1,7 +1,7 @@
 -- Replacing escapes from one backslash to the next.
 use Rattle.std.proofs.Common.{◌≡◌, ℕ, ◌<◌, suc, List, [], ◌∷◌, ◌++◌, length, Option, Some, None, refl, cond, eqb, ap, sym, arith, Bool, true, false}
 use Rattle.std.proofs.Common.{append_assoc, lit<}
-use Rattle.pyx.proofs.LinesOfPieces.{some_pair}
+use Rattle.pyx.proofs.Input.LinesOfPieces.{some_pair}
 use Rattle.pyx.specs.plain.Cuts.{at_byte, at_front, behind}
 use Rattle.pyx.specs.plain.Escapes.{escape_of, unescaped, escaped, in_front}
 

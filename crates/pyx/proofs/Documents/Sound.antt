@@ -16,17 +16,18 @@ use Rattle.pyx.specs.plain.LineReader.{said_of}
 use Rattle.pyx.specs.plain.TagReader.{Element, tag_read}
 use Rattle.pyx.specs.plain.DocumentReader.{State, Tag, Open, Turn, fault, go_on, declared_in, with_attribute, tag_ended, judged, line_read}
 use Rattle.pyx.specs.plain.DocumentReader.{all_read, nothing_read, unfinished, at_end, at_last, all_ended, document_read}
-use Rattle.pyx.proofs.LineClauses.{good_line}
+use Rattle.pyx.proofs.Lines.LineClauses.{good_line}
 use Rattle.pyx.proofs.Tags.Namespaces.{scope_in, AllDeclared}
 use Rattle.pyx.proofs.Tags.Parts as split
 use Rattle.pyx.proofs.Tags.Parts.{IsSplit, split_declared}
 use Rattle.pyx.proofs.Tags.Exact.{is_tag}
-use Rattle.pyx.proofs.SaidLines.{said_line, good, line_said}
-use Rattle.pyx.proofs.StateSteps.{inside, in_tag, begun, open_of, not_zero}
-use Rattle.pyx.proofs.LineCases.{Move, instruction_passes, attribute_outside, text_joins, text_too_long, text_outside, start_begins, start_too_deep}
-use Rattle.pyx.proofs.LineCases.{start_again}
-use Rattle.pyx.proofs.LineCases.{end_closes, end_of_other, end_of_none, moves, TagMove, attribute_added, attribute_too_many, tag_refused, tag_closes, tag_moves}
-use Rattle.pyx.proofs.DocumentComplete.{attribute_longer, split_length}
+use Rattle.pyx.proofs.Lines.SaidLines.{said_line, good, line_said}
+use Rattle.pyx.proofs.States.StateSteps.{inside, in_tag, begun, open_of, not_zero}
+use Rattle.pyx.proofs.States.LineCases.{Move, instruction_passes, attribute_outside, text_joins, text_too_long, text_outside, start_begins, start_too_deep}
+use Rattle.pyx.proofs.States.LineCases.{start_again}
+use Rattle.pyx.proofs.States.LineCases.{end_closes, end_of_other, end_of_none, moves, TagMove, attribute_added, attribute_too_many, tag_refused, tag_closes}
+use Rattle.pyx.proofs.States.LineCases.{tag_moves}
+use Rattle.pyx.proofs.Documents.Complete.{attribute_longer, split_length}
 
 -- ---- results
 

@@ -8,8 +8,8 @@ use Rattle.rng_model.specs.documents.PyxLines.{line_and}
 use Rattle.rng_model.specs.documents.PyxTrees.{Event}
 use Rattle.pyx.specs.plain.Cuts.{behind}
 use Rattle.pyx.specs.plain.DocumentReader.{State, Turn, silent, after_events, followed, close_tag, tag_ended, said_read, line_read, all_read}
-use Rattle.pyx.proofs.LineClauses.{line_is}
-use Rattle.pyx.proofs.LineTurns.{followed_same, followed_twice}
+use Rattle.pyx.proofs.Lines.LineClauses.{line_is}
+use Rattle.pyx.proofs.Input.LineTurns.{followed_same, followed_twice}
 
 abbrev pub is_attribute : Said → Bool
 is_attribute (lines.start name) = false

@@ -9,11 +9,11 @@ use Rattle.rng_model.specs.documents.PyxLines.{Said, QName}
 use Rattle.pyx.specs.plain.TagReader.{Element, tag_read}
 use Rattle.pyx.specs.plain.Declarations.{same_written}
 use Rattle.pyx.specs.plain.DocumentReader.{State, Tag, Open, Turn, fault, after_events, declared_in, with_attribute, started, attributed, joined_by, ended, said_read}
-use Rattle.pyx.proofs.WrittenNames.{written_itself, written_same}
-use Rattle.pyx.proofs.SaidLines.{is_attribute, said_line, good}
-use Rattle.pyx.proofs.StateSteps.{inside, in_tag, begun, open_of, text_event, end_event, start_event, not_zero, attribute_step}
-use Rattle.pyx.proofs.StateSteps.{instruction_step}
-use Rattle.pyx.proofs.StateSteps.{text_step, start_step, end_step, early}
+use Rattle.pyx.proofs.Lines.WrittenNames.{written_itself, written_same}
+use Rattle.pyx.proofs.Lines.SaidLines.{is_attribute, said_line, good}
+use Rattle.pyx.proofs.States.StateSteps.{inside, in_tag, begun, open_of, text_event, end_event, start_event, not_zero, attribute_step}
+use Rattle.pyx.proofs.States.StateSteps.{instruction_step}
+use Rattle.pyx.proofs.States.StateSteps.{text_step, start_step, end_step, early}
 
 -- outside a tag
 pub data Move (w : List ℕ) (n : ℕ) (b : ℕ) : Bool → List Open → Said → Turn State → Type 0 where

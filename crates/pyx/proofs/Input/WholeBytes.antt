@@ -3,14 +3,15 @@ use Rattle.std.proofs.Common.{◌≡◌, ℕ, suc, ◌+◌, ◌≤◌, ◌<◌, 
 use Rattle.std.proofs.Common.{◌∙◌, arith, append_assoc, rules, ◌⊎◌, inl, inr}
 use Rattle.std.specs.Prelude.{is_some, ◌==◌}
 use Rattle.std.proofs.lemmas.List.{append-nil, length-append}
-use Rattle.pyx.proofs.DocumentLeast.{all_cons}
+use Rattle.pyx.proofs.Documents.Least.{all_cons}
 use Rattle.rng_model.specs.documents.Lines.{Line, line_limit, lines, with_first}
 use Rattle.pyx.specs.plain.Cuts.{at_byte, at_front, behind}
 use Rattle.pyx.specs.plain.DocumentReader.{State, Turn, silent, fault, followed, close_tag, tag_ended, line_read, all_read, all_ended, document_read}
 use Rattle.pyx.specs.plain.Pieces.{Progress, with_begun, ended_line, open_line, read, finished, nothing_fed}
-use Rattle.pyx.proofs.LineTurns.{followed_same, followed_twice}
-use Rattle.pyx.proofs.LinesOfPieces.{Fails, with_open, grown, said_of_long, long_fails, length-push, read_cons, read_nil, byte_full, byte_within, byte_feed}
-use Rattle.pyx.proofs.LinesOfPieces.{dichotomy, at_cons, at_nil}
+use Rattle.pyx.proofs.Input.LineTurns.{followed_same, followed_twice}
+use Rattle.pyx.proofs.Input.LinesOfPieces.{Fails, with_open, grown, said_of_long, long_fails, length-push, read_cons, read_nil, byte_full, byte_within}
+use Rattle.pyx.proofs.Input.LinesOfPieces.{byte_feed}
+use Rattle.pyx.proofs.Input.LinesOfPieces.{dichotomy, at_cons, at_nil}
 
 -- ---- lines
 

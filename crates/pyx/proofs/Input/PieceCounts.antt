@@ -2,14 +2,14 @@
 use Rattle.std.proofs.Common.{◌≡◌, ℕ, ◌+◌, ◌≤◌, ◌<◌, Bool, true, false, cond, List, [], ◌∷◌, ◌++◌, length, Result, Ok, Err, refl, sym, ◌∙◌, arith, rules, eqb}
 use Rattle.std.specs.Prelude.{nat_le}
 use Rattle.std.proofs.lemmas.List.{length-append}
-use Rattle.pyx.proofs.DocumentSound.{goes_first}
+use Rattle.pyx.proofs.Documents.Sound.{goes_first}
 use Rattle.rng_model.proofs.Options.{err_is_ok}
 use Rattle.rng_model.specs.documents.Lines.{line_limit, Fault}
 use Rattle.rng_model.specs.documents.PyxTrees.{Event}
 use Rattle.pyx.specs.plain.DocumentReader.{Turn, silent, go_on, followed, line_read}
 use Rattle.pyx.specs.plain.Pieces.{Progress, with_begun, ended_line, open_line, byte_read, read, overlong, line_taken, weight}
-use Rattle.pyx.proofs.LineCounts.{line_keeps}
-use Rattle.pyx.proofs.LinesOfPieces.{Fails, overlong_fails, fails_first, long_fails}
+use Rattle.pyx.proofs.Input.LineCounts.{line_keeps}
+use Rattle.pyx.proofs.Input.LinesOfPieces.{Fails, overlong_fails, fails_first, long_fails}
 
 went_well : {A B : Type 0} (r : Result A Fault) (es : List Event) (f : A → B) (q : B) → (go_on r es (λ a. silent (f a))).0 ≡ Ok q
     → (a : A) × (r ≡ Ok a) × (f a ≡ q)
