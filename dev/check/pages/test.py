@@ -32,6 +32,7 @@ ROOMS = ("programs", "dev")
 FENCE = re.compile(r"^[ >]*(```|~~~)(.*)$")
 LINK = re.compile(r"\[[^\]\n]*\]\(([^)\s]+)\)")
 CODE = re.compile(r"`([^`]+)`")
+LEMMA = re.compile(r"`([A-Z][A-Za-z0-9]+(?:/[A-Z][A-Za-z0-9]+)?)`")
 NAMED_HEADING = re.compile(r"(?:\]\(([^)\s#]+\.md)\)|`([^`\s]+\.md)`),\s+\"([^\"]+)\"")
 ENDINGS = (".rt", ".antt", ".md", ".py", ".sh")
 MADE = ("out", "build")
@@ -233,14 +234,15 @@ def room_faults(checkout, room):
 def lemma_faults(checkout):
     """Crates with many files of lemmas and no page about them, and names on these pages that are no such file."""
     for folder in sorted(checkout.top.glob("crates/*/proofs")):
-        page, lemmas = folder / "README.md", {path.stem for path in folder.glob("*.antt")} - {"Lib"}
+        files = [*folder.glob("*.antt"), *folder.glob("[A-Z]*/*.antt")]
+        page, lemmas = folder / "README.md", {path.relative_to(folder).with_suffix("").as_posix() for path in files} - {"Lib"}
         name = page.relative_to(checkout.top)
         if not page.exists():
             if len(lemmas) > MOST_LEMMAS:
                 yield f"{name}: it is not there, and the crate has {len(lemmas)} files of lemmas"
             continue
         for number, line in prose(page.read_text(encoding="utf-8")):
-            yield from (f"{name}:{number}: there is no {word}.antt" for word in re.findall(r"`([A-Z][A-Za-z0-9]+)`", line) if word not in lemmas)
+            yield from (f"{name}:{number}: there is no {word}.antt" for word in LEMMA.findall(line) if word not in lemmas)
 
 
 def faults(checkout):
@@ -275,6 +277,7 @@ PLANTS = (
     ("dev/README.md", "\n## `check`\n\n| `not_there` | |\n", "there is no dev/check/not_there"),
     ("programs/README.md", "\n| `xml` | again |\n", "it has programs/xml 2 times"),
     ("crates/pyx/proofs/README.md", "\n`NotThere`\n", "there is no NotThere.antt"),
+    ("crates/pyx/proofs/README.md", "\n`Tags/NotThere`\n", "there is no Tags/NotThere.antt"),
 )
 
 
