@@ -17,7 +17,6 @@ use Rattle.rng_model.specs.documents.PyxLines.{says_attribute, IsGoodLine, AreGo
 use Rattle.rng_model.specs.documents.PyxNamespaces.{WrittenAttribute, AreWritten, none_written, written_and, Declares, default_namespace, prefix_declared}
 use Rattle.rng_model.specs.documents.PyxTrees.{Event, no_run}
 use Rattle.rng_model.specs.documents.PyxClauses as clauses
-use Rattle.rng_model.specs.documents.PyxClauses.{EndsInText, SaysTag}
 use Rattle.rng_model.specs.documents.PyxHeld.{name_length, declared_length, declaration_length, KeptOfTags, of_none, of_tag, IsCutAtLine, JoinsText}
 use Rattle.rng_model.specs.documents.PyxHeld.{KeptOf}
 use Rattle.rng_model.specs.documents.PyxHeld.{in_tag, in_no_tag}

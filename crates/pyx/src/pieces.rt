@@ -1,14 +1,12 @@
 // Documents in pieces.
-ghost use Rattle.std.specs.Prelude.{◌≡◌, ◌+◌, ◌<◌, ◌≤◌, ◌^◌, ◌++◌, true, length, take, [], ◌∷◌, IfSome, None, OnSome, Some, string_bytes, MatchOption};
+ghost use Rattle.std.specs.Prelude.{◌≡◌, ◌+◌, ◌<◌, ◌≤◌, ◌^◌, ◌++◌, true, length, ◌∷◌, IfSome, None, OnSome, Some, string_bytes};
 ghost use Rattle.std.specs.Option.{option_map};
-ghost use Rattle.std.specs.List.{list_all, prefix_len};
-ghost use Rattle.std.specs.Str.{chars};
-ghost use Rattle.rng_model.specs.names.Names.{is_xml_char};
+ghost use Rattle.std.specs.List.{list_all};
 ghost use Rattle.pyx.specs.plain.PlainBytes.{is_plain};
 ghost use Rattle.pyx.specs.plain.Cuts.{at_byte};
 ghost use Rattle.pyx.specs.views.Held.{held};
 ghost use Rattle.pyx.specs.plain.Pieces as pieces;
-ghost use Rattle.pyx.specs.plain.Pieces.{is_within, weight};
+ghost use Rattle.pyx.specs.plain.Pieces.{weight};
 ghost use Rattle.pyx.specs.views.View.{Concludes, Takes, progress_of};
 ghost use Rattle.rng_model.specs.documents.EventViews.{Hands};
 

@@ -1,5 +1,5 @@
 // Finding the declaration that breaks a rule.
-ghost use Rattle.std.specs.Prelude.{◌≡◌, ◌≤◌, ◌<◌, ℕ, List, IfOk, IfSome, length, map, option_map};
+ghost use Rattle.std.specs.Prelude.{◌≡◌, ◌≤◌, ◌<◌, ℕ, IfOk, IfSome, length, map, option_map};
 ghost use Rattle.rnc_model.specs.declarations.Declarations.{nothing_declared};
 ghost use Rattle.rnc_model.specs.loading.FaultPlaces.{BreaksDeclarationsAt};
 ghost use Rattle.rnc_model.specs.loading.SchemaFile.{BreaksDeclarations};

@@ -1,5 +1,5 @@
 -- Codes distinguish patterns, if numbers distinguish their parts.
-use Rattle.std.proofs.Common.{◌≡◌, ◌↔◌, ◌∙◌, refl, ap, ap₂, ℕ, ◌<◌, List, [], ◌∷◌, string_bytes, arith}
+use Rattle.std.proofs.Common.{◌≡◌, ◌↔◌, refl, ap, ap₂, ℕ, ◌<◌, List, [], string_bytes, arith}
 use Rattle.rng_labels.specs.plain.LabelCodes.{class_code, datatype_code, value_code}
 use Rattle.rng_labels.proofs.LabelCodes.{same_classes, same_datatypes, same_values}
 use Rattle.rng_labels.proofs.PairedClasses.{paired_is}

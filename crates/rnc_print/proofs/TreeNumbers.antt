@@ -1,13 +1,13 @@
 -- Patterns have the same number exactly if their trees are equal, if each has the place of its code among different
 -- codes.
-use Rattle.std.proofs.Common.{◌≡◌, ◌↔◌, ◌∙◌, inl, inr, sym, ap, subst, ℕ, zero, suc, ◌<◌, ◌≤◌, List, [], ◌∷◌, ◌++◌, length, Some, None, slice_get, arith}
+use Rattle.std.proofs.Common.{◌≡◌, ◌↔◌, ◌∙◌, inl, inr, sym, ap, ℕ, zero, suc, ◌<◌, ◌≤◌, List, [], ◌∷◌, ◌++◌, length, Some, None, slice_get, arith}
 use Rattle.std.proofs.Common.{length-append}
 use Rattle.std.proofs.lemmas.Bool.{cases_lt}
 use Rattle.std.proofs.lemmas.List.{get_or_append_left, get_or_push}
 use Rattle.std.proofs.lemmas.Option.{slice_get_cases, same_Some}
 use Rattle.rng_labels.specs.plain.LabelCodes.{Part, AreCodesApart}
-use Rattle.rng_model.specs.simple.Table.{Table, tree_at, tree_over}
-use Rattle.rng_model.specs.simple.TableRules.{Falls, IsTable}
+use Rattle.rng_model.specs.simple.Table.{Table, tree_at}
+use Rattle.rng_model.specs.simple.TableRules.{IsTable}
 use Rattle.rng_model.specs.declared.simple.PatternId.{PatternId}
 use Rattle.rng_model.specs.declared.simple.Simple.{Simple}
 use Rattle.rng_model.proofs.Table.{tree_at-over_children}

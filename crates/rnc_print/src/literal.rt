@@ -1,5 +1,5 @@
 // Literals: texts between quotes.
-ghost use Rattle.std.specs.Prelude.{◌≡◌, ◌++◌, OnOk, IfOk, if◌then◌else◌};
+ghost use Rattle.std.specs.Prelude.{◌≡◌, ◌++◌, OnOk, IfOk};
 ghost use Rattle.rncv_model.specs.printed.Words.{delimiter, escaped, literal};
 ghost use Rattle.rnc_print.specs.plain.Literals.{byte_text};
 

@@ -1,5 +1,5 @@
 // Numbers that distinguish the patterns of a grammar by their trees.
-ghost use Rattle.std.specs.Prelude.{◌≡◌, ◌++◌, [], IfOk, OnOk, Some, length, map, slice_get};
+ghost use Rattle.std.specs.Prelude.{◌≡◌, ◌++◌, IfOk, OnOk, Some, length, map, slice_get};
 ghost use Rattle.rng_labels.specs.plain.LabelCodes.{AreCodesApart, codes_of, part_of};
 ghost use Rattle.rng_model.specs.simple.TableRules.{AreChildrenBelow, IsTable};
 ghost use Rattle.rnc_print.specs.plain.PatternCodes.{Stays, label_code, number_at, numbers_of, pattern_code};

@@ -13,7 +13,7 @@ use Rattle.rnc_model.specs.grammar.Syntax.{written, DatatypeName, Pattern, Compo
 use Rattle.rnc_model.specs.grammar.Grammar as grammar
 use Rattle.rnc_model.specs.grammar.NameClasses as name_classes
 use Rattle.rnc_model.specs.grammar.Grammar.{content, IsPattern, IsParticle, IsPrimary}
-use Rattle.rnc_model.specs.grammar.NameClasses.{word_of, type_of, method_of, IsAnnotationContent, MayBeAnnotation, IsLiteral}
+use Rattle.rnc_model.specs.grammar.NameClasses.{word_of, type_of, method_of, MayBeAnnotation}
 use Rattle.rnc_model.specs.grammar.Grammar.{IsBarePrimary, AreComponents, IsBareComponent}
 use Rattle.rnc_model.specs.grammar.Grammar.{IsComponent, IsUri, IsDeclaration, AreDeclarations, IsBody, IsFile}
 use Rattle.rnc_syntax.specs.plain.Combinators.{Outcome, ◌>>=◌, follow, after, after_keyword, many}

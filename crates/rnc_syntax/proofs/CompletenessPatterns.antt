@@ -15,7 +15,7 @@ use Rattle.rnc_model.specs.grammar.Syntax.{written, NameClass, DatatypeName, Men
 use Rattle.rnc_model.specs.grammar.Grammar as grammar
 use Rattle.rnc_model.specs.grammar.NameClasses as name_classes
 use Rattle.rnc_model.specs.grammar.Grammar.{Setting, content, override, IsPattern, AreMore}
-use Rattle.rnc_model.specs.grammar.NameClasses.{type_of, method_of, connector_of, IsLiteral, MayBeParameters, IsClass, MayBeAnnotation}
+use Rattle.rnc_model.specs.grammar.NameClasses.{type_of, method_of, connector_of, MayBeParameters, MayBeAnnotation}
 use Rattle.rnc_model.specs.grammar.Grammar.{IsParticle, IsPrimary, IsBarePrimary, IsBraced, AreComponents, IsComponent, IsBareComponent, MayOverride}
 use Rattle.rnc_syntax.specs.plain.Combinators.{follow, follow_keyword, after, identifier_at, many}
 use Rattle.rnc_syntax.specs.plain.Productions.{literal_at, parameters_at, mention_at, braced_with, contents_with, named_with, begins_segment, typed_at}

@@ -14,7 +14,7 @@ use Rattle.rnc_syntax.specs.declared.fault.Stop.{Stop}
 use Rattle.rnc_syntax.specs.declared.fault.Stop.TheVariants.{Unexpected, TooDeep}
 use Rattle.rnc_model.specs.tokens.Cut.{Lexeme, Spelling, keyword, identifier, cname, ns_name, segment, sign}
 use Rattle.rnc_model.specs.grammar.Syntax as syntax
-use Rattle.rnc_model.specs.grammar.Syntax.{written, NameClass, DatatypeName, Pattern, Component, Uri, Declaration, File}
+use Rattle.rnc_model.specs.grammar.Syntax.{written, NameClass, DatatypeName, Pattern}
 use Rattle.rnc_model.specs.grammar.NameClasses as grammar
 use Rattle.rnc_model.specs.grammar.Grammar.{Setting, content, override, IsParticle, IsComponent, IsDeclaration, IsPrimary}
 use Rattle.rnc_model.specs.grammar.NameClasses.{IsBasic, method_of, MayBeParameters, MayBeAnnotation, IsClass}

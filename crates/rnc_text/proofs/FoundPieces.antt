@@ -9,9 +9,9 @@ use Rattle.rnc_text.specs.declared.scanning.Class.TheVariants as classes
 use Rattle.rnc_model.specs.declared.token.Sign.{Sign}
 use Rattle.rnc_model.specs.characters.Decoding.{numbers_of}
 use Rattle.rnc_model.specs.tokens.Tokens as spec
-use Rattle.rnc_model.specs.tokens.Tokens.{Piece, gap, token, characters_in, IsPiece, IsNcname, IsUpToThree, is_blank_character, is_in_line, is_in_segment}
+use Rattle.rnc_model.specs.tokens.Tokens.{Piece, gap, token, characters_in, IsPiece, IsNcname, is_blank_character}
 use Rattle.rnc_model.specs.tokens.Tokens.{is_quote, word_kind}
-use Rattle.rnc_model.specs.tokens.Tokens.{sign_of, sign_table, look_up, three}
+use Rattle.rnc_model.specs.tokens.Tokens.{sign_of, three}
 use Rattle.rnc_text.specs.plain.CutSteps.{Found, front, after, first_of, behind, behind_two, until_three, begins_ncname, starts_ncname, local_at, star_at}
 use Rattle.rnc_text.specs.plain.CutSteps.{colon_at}
 use Rattle.rnc_text.specs.plain.CutSteps.{name_at, quoted_at, segment_with, segment_at, triple_with, triple_in, triple_at, or_else, signed, long_sign, sign_at}

@@ -17,7 +17,7 @@ use Rattle.rnc_model.specs.declared.token.TokenKind.{TokenKind}
 use Rattle.rnc_model.specs.declared.token.TokenKind.TheVariants as kinds
 use Rattle.rnc_model.specs.characters.Decoding.{number_of, numbers_of}
 use Rattle.rnc_model.specs.tokens.Tokens as spec
-use Rattle.rnc_model.specs.tokens.Tokens.{Piece, gap, token, characters_in, IsPiece, IsNcname, IsUpToThree, is_blank_character, is_in_line, is_in_segment}
+use Rattle.rnc_model.specs.tokens.Tokens.{Piece, gap, token, characters_in, IsPiece, IsNcname, IsUpToThree, is_blank_character}
 use Rattle.rnc_model.specs.tokens.Tokens.{is_quote, word_kind}
 use Rattle.rnc_model.specs.tokens.Tokens.{sign_of, sign_table, look_up, three}
 use Rattle.rnc_text.specs.plain.CutSteps.{Found, is_in, front, after, first_of, behind, behind_two, until_three, begins_ncname, starts_ncname, local_at}

@@ -1,2 +1,1 @@
 -- Small facts about tests.
-use Rattle.std.proofs.Common.{cond}

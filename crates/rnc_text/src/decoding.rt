@@ -1,5 +1,5 @@
 // From the bytes of a file to characters.
-ghost use Rattle.std.specs.Prelude.{◌≡◌, ◌++◌, ◌≤◌, List, length, option_map, IfOk, IfErr, ℕ, Bool, true, false};
+ghost use Rattle.std.specs.Prelude.{◌≡◌, ◌++◌, ◌≤◌, List, length, option_map, IfOk, IfErr, ℕ, true, false};
 ghost use Rattle.std.specs.List.{list_all, prefix_len};
 ghost use Rattle.std.specs.Str.{chars};
 ghost use Rattle.rng_model.specs.names.Names.{is_xml_char};

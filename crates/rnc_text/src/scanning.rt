@@ -1,6 +1,6 @@
 // What begins at an offset of a text: a blank, a comment or a token, each the longest.
 ghost use Rattle.std.specs.Prelude.{◌≡◌, ◌∷◌, [], List, Some};
-ghost use Rattle.rng_model.specs.names.Names.{is_name_start, is_name_char, is_colon};
+ghost use Rattle.rng_model.specs.names.Names.{is_name_start, is_name_char};
 ghost use Rattle.rnc_model.specs.characters.Decoding.{number_of, bytes_of};
 ghost use Rattle.rnc_model.specs.tokens.Tokens.{three, word_kind};
 ghost use Rattle.std.specs.List.{prefix_len};

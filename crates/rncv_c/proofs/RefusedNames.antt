@@ -1,7 +1,7 @@
 -- Which name is that of the file that breaks a clause by itself.
 use Rattle.std.proofs.Common.{◌≡◌, ℕ, List}
 use Rattle.rng_model.specs.declared.fault.SchemaFault.TheVariants as faults
-use Rattle.rnc_model.specs.loading.Loading.{FilesHaveOnlyVerdict, FilesVerdict, TakenFiles, are_taken, file_breaks, together_break}
+use Rattle.rnc_model.specs.loading.Loading.{FilesHaveOnlyVerdict, TakenFiles, are_taken, file_breaks, together_break}
 use Rattle.rnc_model.specs.loading.SchemaFile.{FileName, NamedFile}
 use Rattle.rncv_model.specs.answers.Verdict.{IsRefusal}
 use Rattle.rncv_validator.specs.views.Validators.{IsOneFor}

@@ -1,5 +1,5 @@
 // Calls on a handle with a schema.
-ghost use Rattle.std.specs.Prelude.{◌≡◌, ◌≢◌, ◌↔◌, IfErr, IfOk, IfSome, IsErrOf, IsSomeAnd, string_bytes};
+ghost use Rattle.std.specs.Prelude.{◌≡◌, ◌≢◌, ◌↔◌, IfErr, IfOk, IsErrOf, IsSomeAnd, string_bytes};
 ghost use Rattle.std.specs.declared.option.Option.TheVariants.{None, Some};
 ghost use Rattle.rnc_model.specs.loading.SchemaFile.{FileName};
 ghost use Rattle.rncv_model.specs.answers.Verdict.{IsRefusal};

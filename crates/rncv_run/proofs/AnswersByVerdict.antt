@@ -3,10 +3,10 @@ use Rattle.std.proofs.Common.{◌≡◌, ℕ, List, Option, refl, sym, subst}
 use Rattle.rng_model.specs.schema.Schema.{Schema}
 use Rattle.rng_model.specs.schema.SchemaClauses.{BreaksNoClause, IsLeastClause}
 use Rattle.rnc_model.specs.loading.LoadedSchema.{AreSchema}
-use Rattle.rnc_model.specs.loading.Loading.{TakenFiles, FilesVerdict, file_breaks, together_break, are_taken, FilesHaveOnlyVerdict}
+use Rattle.rnc_model.specs.loading.Loading.{FilesVerdict, file_breaks, together_break, are_taken, FilesHaveOnlyVerdict}
 use Rattle.rnc_model.specs.loading.SchemaFile.{FileName, NamedFile}
 use Rattle.rncv_model.specs.answers.Answer.{Answer, refused, refused_file, schema_ok, printed, judged}
-use Rattle.rncv_model.specs.answers.Verdict.{AreGoodSchema, AreTakenAs}
+use Rattle.rncv_model.specs.answers.Verdict.{AreTakenAs}
 use Rattle.rncv_model.specs.answers.Run as run
 use Rattle.rncv_model.specs.answers.Run.{IsAnswer, IsJudged}
 use Rattle.rncv_model.specs.declared.command.Command.{Command}

@@ -4,7 +4,7 @@ ghost use Rattle.rng_model.specs.schema.Schema.{Schema};
 ghost use Rattle.rng_model.specs.simple.Table.{grammar_of};
 ghost use Rattle.rng_model.specs.restrictions.Restrictions.{BreaksNone};
 ghost use Rattle.rnc_model.specs.loading.SchemaFile.{named_files};
-ghost use Rattle.rncv_model.specs.answers.Verdict.{AreGoodSchema, IsRefusal};
+ghost use Rattle.rncv_model.specs.answers.Verdict.{IsRefusal};
 ghost use Rattle.rncv_model.specs.answers.Run.{main_name};
 ghost use Rattle.rncv_model.specs.printed.SchemaText.{IsPrintedForm};
 ghost use Rattle.rncv_validator.specs.views.Validators.{IsOneFor, Judges};

@@ -1,5 +1,5 @@
 // Freeing the patterns that nobody holds.
-ghost use Rattle.std.specs.Prelude.{◌≡◌, ◌<◌, ◌++◌, All, IfOk, List, OnOk, length};
+ghost use Rattle.std.specs.Prelude.{◌≡◌, ◌<◌, ◌++◌, All, IfOk, List, length};
 ghost use Rattle.rng_names.specs.plain.Keys.{Keys};
 ghost use Rattle.rng_model.specs.simple.Table.{Table};
 ghost use Rattle.rng_deriv_table.specs.views.Node.{Node};

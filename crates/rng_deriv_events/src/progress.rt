@@ -1,5 +1,5 @@
 // What is known of a document, event by event.
-ghost use Rattle.std.specs.Prelude.{◌≡◌, ℕ, IfOk, IsErr, OnOk};
+ghost use Rattle.std.specs.Prelude.{ℕ, IfOk, IsErr, OnOk};
 ghost use Rattle.rng_model.specs.documents.EventViews.{event_of, event_kind_of};
 ghost use Rattle.rng_model.specs.documents.PyxTrees as trees;
 ghost use Rattle.rng_deriv_events.specs.views.Basis.{HoldsBy, Keeps, reading_by};

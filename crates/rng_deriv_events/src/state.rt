@@ -1,5 +1,5 @@
 // What a matcher keeps of the open elements, at each start tag.
-ghost use Rattle.std.specs.Prelude.{◌≡◌, OnOk, map};
+ghost use Rattle.std.specs.Prelude.{OnOk, map};
 ghost use Rattle.rng_model.specs.documents.EventViews.{attribute_of};
 ghost use Rattle.rng_model.specs.names.NameViews.{name_of};
 ghost use Rattle.rng_deriv_laws.specs.plain.LevelStates.{StartsLevel};

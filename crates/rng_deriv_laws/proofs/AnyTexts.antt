@@ -3,12 +3,12 @@ use Rattle.std.proofs.Common.{◌≡◌, ℕ, List, [], ◌∷◌, Bool, true, f
 use Rattle.std.proofs.lemmas.Bool.{or_from}
 use Rattle.rng_model.specs.simple.Tree.{Simple, s_not_allowed, s_empty, s_text, s_leaf, s_attribute, s_list, s_data, s_data_except}
 use Rattle.rng_model.specs.simple.Tree.{s_value, s_one_or_more, s_joined}
-use Rattle.rng_model.specs.matching.Document.{Item, a_text, AllTexts, no_texts, text_and}
+use Rattle.rng_model.specs.matching.Document.{Item, a_text, no_texts, text_and}
 use Rattle.rng_model.specs.datatypes.Texts.{is_blank}
 use Rattle.rng_model.specs.matching.GrammarMatching.{Reading}
 use Rattle.rng_deriv_laws.specs.plain.Taking.{Takes}
 use Rattle.rng_deriv_laws.specs.plain.Taking as t
-use Rattle.rng_deriv_laws.specs.plain.Blanks.{IsBare, Every, IsNotBlank, cons, strings_alone, no_blanks}
+use Rattle.rng_deriv_laws.specs.plain.Blanks.{IsBare, cons, strings_alone, no_blanks}
 use Rattle.rng_deriv_laws.specs.plain.Derivatives.{Way, has_data, item_ways}
 use Rattle.rng_deriv_laws.specs.plain.LevelStates.{IsAfterText}
 use Rattle.rng_deriv_laws.specs.plain.Ways.{TakesItem, EachWay, IsItemLeaf}

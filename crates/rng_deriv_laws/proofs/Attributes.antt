@@ -3,12 +3,12 @@ use Rattle.std.proofs.Common.{◌≡◌, ℕ, List, [], ◌∷◌, refl, subst, 
 use Rattle.std.proofs.lemmas.Bool.{and_from, and_parts}
 use Rattle.rng_model.specs.simple.Tree.{Simple, choice, group, interleave, s_not_allowed, s_empty, s_text, s_leaf, s_attribute, s_list, s_data, s_data_except}
 use Rattle.rng_model.specs.simple.Tree.{s_value, s_one_or_more, s_joined}
-use Rattle.rng_model.specs.matching.Document.{Attribute, Item, a_text, Interleaves, Distinct, one_more}
+use Rattle.rng_model.specs.matching.Document.{Attribute, Item, Interleaves, Distinct, one_more}
 use Rattle.rng_model.specs.matching.Document as document
 use Rattle.rng_model.proofs.OneSidedInterleavings.{left_is_none, right_is_none}
 use Rattle.rng_names.specs.plain.Holding.{holds}
 use Rattle.rng_model.specs.matching.GrammarMatching.{Reading}
-use Rattle.rng_deriv_laws.specs.plain.Taking.{Takes, WeaklyTakes, Same}
+use Rattle.rng_deriv_laws.specs.plain.Taking.{Takes, WeaklyTakes}
 use Rattle.rng_deriv_laws.specs.plain.Taking as t
 use Rattle.rng_deriv_laws.specs.plain.Restricted.{IsRestricted}
 use Rattle.rng_deriv_laws.specs.plain.Derivatives.{Way, attribute_ways, rests_of, has_text, takes_attribute, after_attribute, after_attributes, closed}

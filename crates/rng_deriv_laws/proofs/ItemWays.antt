@@ -6,7 +6,7 @@ use Rattle.rng_model.proofs.Truths.{not_both}
 use Rattle.rng_model.specs.names.Names.{Name}
 use Rattle.rng_model.specs.simple.Tree.{Simple, choice, group, interleave, s_not_allowed, s_empty, s_text, s_leaf, s_attribute, s_list, s_data, s_data_except}
 use Rattle.rng_model.specs.simple.Tree.{s_value, s_one_or_more, s_joined}
-use Rattle.rng_model.specs.matching.Document.{Attribute, Item, a_text, an_element, Items, Interleaves, AllTexts, no_texts, text_and, Padded}
+use Rattle.rng_model.specs.matching.Document.{Attribute, Item, an_element, Items, Interleaves, no_texts, text_and, Padded}
 use Rattle.rng_model.specs.matching.Document as document
 use Rattle.rng_model.specs.datatypes.Texts.{is_blank}
 use Rattle.rng_model.specs.matching.GrammarMatching.{Reading}

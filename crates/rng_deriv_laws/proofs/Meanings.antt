@@ -2,7 +2,7 @@
 -- valid.
 use Rattle.std.proofs.Common.{◌≡◌, ◌↔◌, ℕ, List, [], ◌∷◌, ◌++◌, refl, sym, ap, ◌∙◌, subst, Bool, true, false, cond, append_assoc}
 use Rattle.rng_model.specs.names.Names.{Name}
-use Rattle.rng_model.specs.matching.Document.{Attribute, Item, a_text, an_element, Items, no_items, item_and, list_of, Distinct}
+use Rattle.rng_model.specs.matching.Document.{Attribute, Item, a_text, an_element, Items, no_items, item_and, list_of}
 use Rattle.rng_model.specs.plain.WellFormed.{Separate, IsWellFormed, AreWellFormed}
 use Rattle.rng_model.specs.plain.WellFormed as w
 use Rattle.rng_model.specs.datatypes.Texts.{is_blank, TextTests, texts_of}

@@ -7,7 +7,7 @@ use Rattle.rng_model.specs.plain.WellFormed.{Separate, IsWellFormed, AreWellForm
 use Rattle.rng_model.specs.plain.WellFormed as w
 use Rattle.rng_model.specs.documents.PyxLines.{Said}
 use Rattle.rng_model.specs.documents.PyxNamespaces.{NamespaceScope}
-use Rattle.rng_model.specs.documents.PyxTrees.{Placed, PlacedItems, text_at, element_at, none_placed, placed_and, item_of, items_of, string_before, IsElement, IsContent}
+use Rattle.rng_model.specs.documents.PyxTrees.{Placed, PlacedItems, element_at, none_placed, placed_and, items_of, string_before, IsElement, IsContent}
 use Rattle.rng_model.specs.documents.PyxTrees.{IsPyxDocument}
 use Rattle.rng_model.specs.documents.PyxTrees as p
 

@@ -7,7 +7,7 @@ use Rattle.rng_model.specs.matching.Document.{Attribute, Item, an_element, Items
 use Rattle.rng_model.specs.matching.Document as document
 use Rattle.rng_model.specs.matching.GrammarMatching.{Reading}
 use Rattle.rng_deriv_laws.specs.plain.Reading.{body_of, has_name}
-use Rattle.rng_deriv_laws.specs.plain.Taking.{Takes, WeaklyTakes, WeaklyMatches}
+use Rattle.rng_deriv_laws.specs.plain.Taking.{Takes, WeaklyTakes}
 use Rattle.rng_deriv_laws.specs.plain.Taking as t
 use Rattle.rng_deriv_laws.specs.plain.Restricted.{IsRestricted, IsRestrictedBody}
 use Rattle.rng_deriv_laws.specs.plain.Blanks.{IsBare}

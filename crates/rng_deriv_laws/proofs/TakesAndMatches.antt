@@ -5,7 +5,7 @@ use Rattle.rng_model.specs.names.Names.{Name, NameClass, In}
 use Rattle.rng_model.specs.simple.Tree.{Simple, Tree, choice, group, interleave, as_tree, no_trees, tree_and, one_or_more, s_not_allowed, s_empty, s_text}
 use Rattle.rng_model.specs.simple.Tree.{s_leaf}
 use Rattle.rng_model.specs.simple.Tree.{s_attribute, s_list, s_data, s_data_except, s_value, s_one_or_more, s_joined}
-use Rattle.rng_model.specs.matching.Document.{Attribute, Item, a_text, an_element, Items, list_of, Interleaves, Shares}
+use Rattle.rng_model.specs.matching.Document.{Attribute, Item, list_of, Shares}
 use Rattle.rng_model.specs.matching.Document as document
 use Rattle.rng_model.specs.matching.Matching as m
 use Rattle.rng_model.specs.matching.GrammarMatching.{is_listed, Reading}

@@ -1,5 +1,5 @@
 // Patterns that match everything that others match, as far as their shape shows.
-ghost use Rattle.std.specs.Prelude.{◌≡◌, ◌⊎◌, ◌<◌, ◌++◌, ◌∷◌, [], All, IfOk, IsTrue, List, OnOk, length};
+ghost use Rattle.std.specs.Prelude.{◌<◌, ◌++◌, ◌∷◌, [], All, IfOk, IsTrue, List, OnOk, length};
 ghost use Rattle.std.specs.List.{Contains};
 ghost use Rattle.rng_model.specs.matching.Document.{Attribute, Item};
 ghost use Rattle.rng_model.specs.simple.Table.{Table};

@@ -1,5 +1,5 @@
 // Choices of two patterns that have a side in common.
-ghost use Rattle.std.specs.Prelude.{◌≡◌, ◌⊎◌, ◌<◌, ◌↔◌, All, IfOk, List, OnOk, length};
+ghost use Rattle.std.specs.Prelude.{◌<◌, ◌↔◌, All, IfOk, List, OnOk, length};
 ghost use Rattle.rng_model.specs.matching.Document.{Attribute, Item};
 ghost use Rattle.rng_model.specs.simple.Table.{Table};
 ghost use Rattle.rng_model.specs.matching.GrammarMatching.{Reading};

@@ -1,5 +1,5 @@
 // Patterns by number.
-ghost use Rattle.std.specs.Prelude.{◌≡◌, ◌≤◌, ℕ, IsTrue};
+ghost use Rattle.std.specs.Prelude.{◌≡◌, ℕ, IsTrue};
 ghost use Rattle.rng_deriv_table.specs.plain.Facts.{IsWithin, joined_spans, one_span};
 
 use rng_model::{ElementId, PatternId};

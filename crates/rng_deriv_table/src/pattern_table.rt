@@ -1,6 +1,5 @@
 // A table of patterns, each once.
-ghost use Rattle.std.specs.Prelude.{◌≡◌, ◌↔◌, ◌++◌, ◌∷◌, [], ℕ, IsTrue, ◌<◌, ◌≤◌, All, IfOk, IfSome, IfNone, Some, length, map, slice_get};
-ghost use Rattle.std.specs.List.{list_any, list_all};
+ghost use Rattle.std.specs.Prelude.{◌≡◌, ◌↔◌, ◌++◌, ◌∷◌, [], ℕ, IsTrue, ◌<◌, ◌≤◌, All, IfOk, Some, length, map, slice_get};
 ghost use Rattle.rng_model.specs.simple.Table.{Table};
 ghost use Rattle.rng_model.specs.simple.Tree.{s_not_allowed, s_empty};
 ghost use Rattle.rng_model.specs.matching.GrammarMatching.{Reading};

@@ -1,5 +1,5 @@
 // Some patterns of a table, copied into a table of their own.
-ghost use Rattle.std.specs.Prelude.{◌≡◌, ◌<◌, ℕ, [], ◌∷◌, All, IfOk, length, map, take};
+ghost use Rattle.std.specs.Prelude.{◌≡◌, ◌<◌, ℕ, All, IfOk, length, map, take};
 ghost use Rattle.std.specs.List.{AllZip};
 ghost use Rattle.rng_model.specs.simple.Table.{Table};
 ghost use Rattle.rng_deriv_table.specs.plain.Kept.{AreRestrictedAlike};

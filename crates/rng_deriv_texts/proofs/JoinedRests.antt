@@ -1,9 +1,8 @@
 -- What is left after an attribute, where alternatives are joined.
-use Rattle.std.proofs.Common.{◌≡◌, ◌↔◌, ◌<◌, ◌+◌, ◌⊎◌, inl, inr, ⊎_elim, All, Bor, List, [], ◌∷◌, ◌++◌, Some, ℕ, zero, suc, arith, get_or, length, map, refl}
+use Rattle.std.proofs.Common.{◌≡◌, ◌↔◌, ◌<◌, ◌+◌, ◌⊎◌, ⊎_elim, All, Bor, List, [], ◌∷◌, ◌++◌, Some, ℕ, zero, suc, arith, get_or, length, refl}
 use Rattle.std.proofs.Common.{slice_get, subst, sym, take}
-use Rattle.std.specs.List.{Contains}
 use Rattle.std.proofs.lemmas.List.{get_or-map, length-map, take_more}
-use Rattle.std.proofs.lemmas.List.Elements.{All-contains, Contains-append_cases, Contains-append_left, Contains-push, Contains-push_cases}
+use Rattle.std.proofs.lemmas.List.Elements.{All-contains, Contains-append_left, Contains-push, Contains-push_cases}
 use Rattle.rng_model.specs.simple.Tree.{Simple, choice, s_joined}
 use Rattle.rng_model.specs.matching.Document.{Attribute, Item}
 use Rattle.rng_model.specs.matching.GrammarMatching.{reading_of, Reading}

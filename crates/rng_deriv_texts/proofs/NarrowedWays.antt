@@ -1,8 +1,8 @@
 -- Ways by the texts of values: what an index leaves out takes nothing.
-use Rattle.std.proofs.Common.{◌≡◌, ◌∙◌, ◌↔◌, ◌⊎◌, inl, inr, ⊎_elim, ℕ, zero, suc, ◌<◌, List, [], ◌∷◌, ◌++◌, length, Bool, true, false, cond, Bor, Contains}
+use Rattle.std.proofs.Common.{◌≡◌, ◌∙◌, ◌⊎◌, inl, inr, ⊎_elim, ℕ, zero, suc, ◌<◌, List, [], ◌∷◌, ◌++◌, length, Bool, true, false, cond, Contains}
 use Rattle.std.proofs.Common.{Option, Some, None}
-use Rattle.std.proofs.Common.{All, String, Global, string_bytes, refl, sym, ap, subst, arith, rules}
-use Rattle.std.specs.Prelude.{IfSome, unwrap_or}
+use Rattle.std.proofs.Common.{String, Global, string_bytes, refl, sym, ap, subst, arith, rules}
+use Rattle.std.specs.Prelude.{unwrap_or}
 use Rattle.std.specs.HashMap.{HashMap, get_by_text}
 use Rattle.std.specs.Map.{lookup}
 use Rattle.std.specs.Str.{bytes_eq}
@@ -16,7 +16,7 @@ use Rattle.rng_model.specs.datatypes.Texts.{collapse, are_equal, text_if}
 use Rattle.rng_model.specs.datatypes.Datatypes.{Meaning, plain_string, plain_token, xsd_string, xsd_token, xsd_ncname, xsd_nmtoken}
 use Rattle.rng_model.specs.datatypes.Facets.{Lengths, fits}
 use Rattle.rng_model.specs.datatypes.Datatypes.{known_equates, meaning_of}
-use Rattle.rng_model.specs.matching.Document.{Attribute, Item, a_text}
+use Rattle.rng_model.specs.matching.Document.{a_text}
 use Rattle.rng_model.specs.matching.GrammarMatching.{reading_of, Reading}
 use Rattle.rng_model.specs.names.Lists.{Among, here, there}
 use Rattle.rng_model.specs.simple.Table.{Table}
@@ -28,12 +28,11 @@ use Rattle.rng_deriv_laws.specs.plain.Ways.{EachWay}
 use Rattle.rng_deriv_table.specs.views.Node.{Node}
 use Rattle.rng_deriv_table.specs.views.Trees.{tree_of}
 use Rattle.rng_deriv_table.specs.declared.pattern.PatternNumber.{PatternNumber}
-use Rattle.rng_deriv_ways.specs.plain.Kinds.{Obeys}
-use Rattle.rng_deriv_ways.specs.plain.Ways.{AreInside, IsInside, Offers, way_by, ways_by}
+use Rattle.rng_deriv_ways.specs.plain.Ways.{AreInside, IsInside, way_by, ways_by}
 use Rattle.rng_deriv_ways.specs.views.Plans.{IsIndex, IsKeptFor, TakesOnly}
 use Rattle.rng_deriv_ways.specs.declared.plans.ValueIndex.{ValueIndex}
 use Rattle.rng_deriv_ways.specs.declared.way.LeafWay.{LeafWay}
-use Rattle.rng_deriv_texts.specs.plain.After.{AreFor, AreRests, IsLeafFor, attributes_of, items_of, place_of}
+use Rattle.rng_deriv_texts.specs.plain.After.{AreFor, AreRests, attributes_of, items_of}
 use Rattle.rng_deriv_texts.specs.plain.ValueWays.{AreNarrowed, AreNarrowedFor, ComparesTexts, IsKeptOrIs}
 use Rattle.rng_deriv_texts.specs.declared.first.First.{First}
 

@@ -1,6 +1,5 @@
 -- What is left of a pattern by its plan.
 use Rattle.std.proofs.Common.{◌≡◌, ◌∙◌, ◌⊎◌, inl, inr, ⊎_elim, ℕ, zero, suc, ◌<◌, List, [], ◌∷◌, ◌++◌, length, All, Bool, true, false, Contains, Bor, Some}
-use Rattle.std.proofs.Common.{string_bytes}
 use Rattle.std.proofs.Common.{slice_get, refl, sym, ap, subst, arith}
 use Rattle.std.specs.Prelude.{IfSome}
 use Rattle.std.proofs.lemmas.List.Elements.{All-append}
@@ -31,7 +30,6 @@ use Rattle.rng_deriv_ways.specs.declared.plans.Plan.{Plan}
 use Rattle.rng_deriv_ways.specs.declared.way.Kind.{Kind}
 use Rattle.rng_deriv_ways.specs.declared.way.Kind.TheVariants as kinds
 use Rattle.rng_deriv_ways.specs.declared.way.LeafWay.{LeafWay}
-use Rattle.rng_deriv_ways.specs.declared.way.Place.TheVariants as places
 use Rattle.rng_deriv_ways.proofs.AddedWays.{back_inside, front_inside}
 use Rattle.rng_deriv_ways.proofs.KnownPlans.{all_inside, choice_longer, plan_for_longer, plan_longer}
 use Rattle.rng_deriv_ways.proofs.LikeAttributes.{ways_alike}

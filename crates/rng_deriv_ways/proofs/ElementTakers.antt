@@ -8,7 +8,7 @@ use Rattle.rng_model.specs.names.Names.{Name}
 use Rattle.rng_model.specs.simple.Table.{Table}
 use Rattle.rng_model.specs.datatypes.Texts.{is_blank}
 use Rattle.rng_model.specs.simple.Tree.{Simple}
-use Rattle.rng_model.specs.matching.Document.{Attribute, Item, Items, a_text, an_element, AllTexts, no_texts, text_and, Interleaves, Padded}
+use Rattle.rng_model.specs.matching.Document.{Attribute, Item, Items, an_element, AllTexts, no_texts, text_and, Interleaves, Padded}
 use Rattle.rng_model.specs.matching.Document as document
 use Rattle.rng_model.specs.names.NameViews.{class_of, name_of}
 use Rattle.rng_model.specs.declared.name.NameClass.{NameClass}

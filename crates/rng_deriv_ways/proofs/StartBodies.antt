@@ -38,7 +38,7 @@ use Rattle.rng_deriv_ways.proofs.PatternNodes.{IsAttribute, IsStringLeaf, a_data
 use Rattle.rng_deriv_ways.proofs.PatternNodes.{is_over}
 use Rattle.rng_deriv_ways.proofs.PatternNodes.{parts_there}
 use Rattle.rng_deriv_laws.specs.plain.Reading.{body_of, has_name}
-use Rattle.rng_deriv_laws.specs.plain.Taking.{Takes, Same, WeaklyTakes}
+use Rattle.rng_deriv_laws.specs.plain.Taking.{Same, WeaklyTakes}
 use Rattle.rng_deriv_laws.specs.plain.Taking as t
 use Rattle.rng_deriv_laws.specs.plain.Derivatives.{Way, bodies_of, started}
 use Rattle.rng_deriv_laws.specs.plain.Ways.{Opens}

@@ -1,5 +1,5 @@
 // Known ways, by keys of names.
-ghost use Rattle.std.specs.Prelude.{◌≡◌, ◌<◌, IfOk, OnOk, length};
+ghost use Rattle.std.specs.Prelude.{◌<◌, IfOk, OnOk, length};
 ghost use Rattle.rng_deriv_table.specs.views.PatternTable.{Longer};
 ghost use Rattle.rng_deriv_table.specs.views.Trees.{tree_of};
 ghost use Rattle.rng_deriv_ways.specs.views.KnownWays.{AreKnownFor, KeepsOtherKeys};

@@ -1,5 +1,5 @@
 // Ways that can be left out because of others.
-ghost use Rattle.std.specs.Prelude.{◌≡◌, ◌<◌, All, IfOk, length, true};
+ghost use Rattle.std.specs.Prelude.{◌≡◌, ◌<◌, IfOk, length, true};
 ghost use Rattle.rng_deriv_ways.specs.plain.FewerWays.{AreRepeated, AreUncovered, HasOptionalRest};
 ghost use Rattle.rng_deriv_ways.specs.plain.Ways.{AreInside, IsInside};
 

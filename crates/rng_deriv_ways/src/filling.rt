@@ -1,6 +1,5 @@
 // Ways of a whole, from those of its sides.
 ghost use Rattle.std.specs.Prelude.{◌≡◌, ◌<◌, ◌++◌, ◌∷◌, [], All, Some, IfOk, OnOk, IfSome, IfNone, length, slice_get};
-ghost use Rattle.rng_model.specs.simple.Table.{Table};
 ghost use Rattle.rng_deriv_laws.specs.plain.Derivatives.{behind, joined_of};
 ghost use Rattle.rng_deriv_table.specs.views.PatternTable.{Adds, Longer};
 ghost use Rattle.rng_deriv_table.specs.views.Trees.{tree_of};

@@ -1,5 +1,5 @@
 // The ways of leaves.
-ghost use Rattle.std.specs.Prelude.{◌≡◌, ◌<◌, IfOk, OnOk, length, slice_get, if◌then◌else◌};
+ghost use Rattle.std.specs.Prelude.{◌≡◌, ◌<◌, IfOk, OnOk, length, slice_get};
 ghost use Rattle.rng_model.specs.simple.Table.{Table};
 ghost use Rattle.rng_model.specs.simple.Tree.{s_leaf, s_text};
 ghost use Rattle.rng_model.specs.matching.GrammarMatching.{Reading, reading_of};

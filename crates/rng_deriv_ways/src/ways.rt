@@ -7,7 +7,7 @@ ghost use Rattle.rng_deriv_table.specs.views.Trees.{choice_over, tree_of};
 ghost use Rattle.rng_deriv_ways.specs.plain.Kinds.{HasNoOrder, IsOfItems, connector_of};
 ghost use Rattle.rng_deriv_ways.specs.views.KnownWays.{AreKnown};
 ghost use Rattle.rng_deriv_ways.specs.plain.Takers.{AreCandidates};
-ghost use Rattle.rng_deriv_ways.specs.plain.Ways.{AreWaysOf, IsHoleInside, filled};
+ghost use Rattle.rng_deriv_ways.specs.plain.Ways.{AreWaysOf};
 
 use crate::fewer_ways::{repeated_ways, uncovered};
 use crate::filling::{add_filled, joined_ways};

@@ -1,7 +1,7 @@
 // The files of a schema, in load order.
-ghost use Rattle.std.specs.Prelude.{◌≡◌, fold, map, string_bytes, IfOk, IfSome, OnOk};
+ghost use Rattle.std.specs.Prelude.{◌≡◌, fold, IfSome, OnOk};
 ghost use Rattle.rnc_grammar.specs.views.View.{file_of};
-ghost use Rattle.rng_load.specs.views.FilesView.{names_of, taken_files_of};
+ghost use Rattle.rng_load.specs.views.FilesView.{names_of};
 ghost use Rattle.rnc_model.specs.loading.SchemaFile.{named_files};
 ghost use Rattle.rnc_model.specs.loading.Loading.{hrefs_of, with_name};
 ghost use Rattle.rng_load.specs.views.LoadingFaults.{IsNamedTree, IsTheReading, order_of};

@@ -1,5 +1,5 @@
 // A simple grammar in tables.
-ghost use Rattle.std.specs.Prelude.{◌≡◌, ◌<◌, length, slice_get, option_copied, IfSome};
+ghost use Rattle.std.specs.Prelude.{◌≡◌, ◌<◌, slice_get, option_copied, IfSome};
 ghost use Rattle.rng_model.specs.simple.Table.{tree_at, tree_over};
 ghost use Rattle.rng_model.specs.simple.TableRules.{IsTable, AreChildrenBelow};
 ghost use Rattle.rng_model.specs.declared.type_set.TypeSet.TheVariants.{Profile};

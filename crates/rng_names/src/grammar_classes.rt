@@ -1,5 +1,5 @@
 // The name classes of a grammar.
-ghost use Rattle.std.specs.Prelude.{◌≡◌, ◌≤◌, ℕ, IfOk, List, Option, Some, map, slice_get};
+ghost use Rattle.std.specs.Prelude.{◌≡◌, ◌≤◌, ℕ, IfOk, Option, Some, map, slice_get};
 ghost use Rattle.rng_model.specs.names.Names as names;
 ghost use Rattle.rng_names.specs.plain.Written.{longest};
 ghost use Rattle.rng_names.specs.views.GrammarClasses.{attribute_class, element_class, seen_class};

@@ -4,7 +4,7 @@ ghost use Rattle.rng_model.specs.documents.EventViews.{attribute_of};
 ghost use Rattle.rng_model.specs.simple.Tree.{s_not_allowed};
 ghost use Rattle.rng_model.specs.matching.GrammarMatching.{reading_of};
 ghost use Rattle.rng_deriv_laws.specs.plain.Derivatives.{after_attributes, choice_of, closed, has_text, list_has, rests_of};
-ghost use Rattle.rng_plain_matcher.specs.views.Trees.{connector_of, tree_of};
+ghost use Rattle.rng_plain_matcher.specs.views.Trees.{tree_of};
 ghost use Rattle.rng_plain_matcher.specs.views.Ways.{way_of};
 ghost use Rattle.rng_deriv_laws.specs.plain.Derivatives as laws;
 ghost use Rattle.rng_plain_matcher.specs.plain.First.{after_first, takes_first, ways_for};

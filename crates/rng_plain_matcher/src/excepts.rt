@@ -1,7 +1,6 @@
 // Texts that a data takes, with its except.
 ghost use Rattle.std.specs.Prelude.{◌≡◌};
 ghost use Rattle.rng_model.specs.matching.GrammarMatching.{reading_of};
-ghost use Rattle.rng_model.specs.simple.Table.{Table};
 ghost use Rattle.rng_deriv_laws.specs.plain.Derivatives.{is_excepted, takes_text};
 ghost use Rattle.rng_deriv_laws.specs.plain.Derivatives as laws;
 ghost use Rattle.rng_plain_matcher.specs.views.Trees.{tree_of};

@@ -1,7 +1,6 @@
 // Where a matcher is in a document.
-ghost use Rattle.std.specs.Prelude.{◌≡◌, IfOk, map, ◌∷◌, [], string_bytes};
-ghost use Rattle.rng_model.specs.documents.EventViews.{event_kind_of, attribute_of};
-ghost use Rattle.rng_model.specs.names.NameViews.{name_of};
+ghost use Rattle.std.specs.Prelude.{◌≡◌, IfOk};
+ghost use Rattle.rng_model.specs.documents.EventViews.{event_kind_of};
 ghost use Rattle.rng_model.specs.documents.PyxTrees as trees;
 ghost use Rattle.rng_model.specs.matching.GrammarMatching.{reading_of};
 ghost use Rattle.rng_model.specs.simple.Table.{grammar_of};

@@ -3,7 +3,7 @@ use Rattle.std.proofs.Common.{◌≡◌, refl, ap, sym, ◌∙◌, subst, ℕ, �
 use Rattle.std.proofs.lemmas.Option.{slice_get_cases, slice_get_within}
 use Rattle.rng_model.proofs.Options.{one_value, none_is_some}
 use Rattle.rng_model.specs.names.Names as names
-use Rattle.rng_model.specs.names.Names.{Overlap, IsPairOfTexts}
+use Rattle.rng_model.specs.names.Names.{Overlap}
 use Rattle.rng_model.specs.simple.Table.{Table}
 use Rattle.rng_model.specs.names.NameViews.{class_of, name_of}
 use Rattle.rng_model.specs.declared.name.Name.{Name}

@@ -1,7 +1,6 @@
 // Rows where a search for a row that meets itself may start instead.
-ghost use Rattle.std.specs.Prelude.{◌≡◌, ◌<◌, ◌+◌, ◌==◌, ℕ, length, IfOk, IfSome};
+ghost use Rattle.std.specs.Prelude.{◌≡◌, ◌<◌, ◌+◌, ◌==◌, length, IfOk, IfSome};
 ghost use Rattle.rng_rules.specs.views.NamesMeetHeads.{AreHeads, AreHeadsFrom, IsHead, IsOnlyAbove, are_equal};
-ghost use Rattle.rng_rules.specs.plain.NamesMeetReach.{lists};
 ghost use Rattle.rng_rules.specs.views.NamesMeetSides.{AreRows, row_sides};
 
 use crate::names_meet_rows::no_marks;

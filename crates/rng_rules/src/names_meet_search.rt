@@ -1,7 +1,5 @@
 // The search for rows whose names meet.
-ghost use Rattle.std.specs.Prelude.{◌≡◌, ◌<◌, ◌+◌, ◌∷◌, [], ◌↔◌, ℕ, length, map, slice_index_or, All, Contains, IfOk, OnOk, IsTrue, IsFalse};
-ghost use Rattle.rng_model.specs.names.Names.{Overlap};
-ghost use Rattle.rng_model.specs.names.NameViews.{class_of};
+ghost use Rattle.std.specs.Prelude.{◌≡◌, ◌<◌, ◌+◌, [], ℕ, length, map, slice_index_or, All, Contains, IfOk, OnOk, IsTrue, IsFalse};
 ghost use Rattle.rng_model.specs.declared.name.NameClass.{NameClass};
 ghost use Rattle.rng_names.specs.views.PlainNames.{IsPlain};
 ghost use Rattle.rng_rules.specs.views.NamesMeetLabels.{label_of, ready_label_of};

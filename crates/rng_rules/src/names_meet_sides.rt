@@ -1,6 +1,6 @@
 // Whether the rows reached from two lists occur on the two sides of a row.
 ghost use Rattle.std.specs.Prelude.{◌≡◌, ◌<◌, ◌+◌, ℕ, length, All, Contains, IfOk, OnOk, IfSome, IsTrue, IsFalse, true};
-ghost use Rattle.rng_rules.specs.plain.NamesMeetReach.{AreBelow, lists};
+ghost use Rattle.rng_rules.specs.plain.NamesMeetReach.{lists};
 ghost use Rattle.rng_rules.specs.views.NamesMeetSides.{AreMarks, AreRows, MeetBetween, are_marked, row_sides};
 
 use crate::names_meet::NamesOf;

@@ -1,5 +1,5 @@
 -- A clause about components is broken if its test passes at a place.
-use Rattle.std.proofs.Common.{◌≡◌, ◌↔◌, inl, inr, refl, sym, ap, ◌∙◌, ℕ, List, [], true, not, Option, Some, None, is_some, IsTrue, arith}
+use Rattle.std.proofs.Common.{◌≡◌, ◌↔◌, inl, inr, refl, sym, ap, ◌∙◌, ℕ, List, [], true, Some, None, is_some, IsTrue, arith}
 use Rattle.std.specs.List.{list_any}
 use Rattle.std.proofs.lemmas.Bool.{not_from_false, or_cases, or_left, or_right}
 use Rattle.std.proofs.lemmas.List.Folds.{Any-from_list_any, list_any_at}

@@ -1,5 +1,5 @@
 // How components of one name are combined, and whether there is a start.
-ghost use Rattle.std.specs.Prelude.{◌≡◌, ◌∷◌, ◌++◌, ◌||◌, [], List, ℕ, IfOk, IsTrue, OnOk, Option, map, not, option_map};
+ghost use Rattle.std.specs.Prelude.{◌≡◌, ◌∷◌, ◌++◌, ◌||◌, [], List, ℕ, IfOk, IsTrue, OnOk, Option, map, not};
 ghost use Rattle.std.specs.List.{list_any};
 ghost use Rattle.rng_model.specs.schema.Schema.{is_interleaved, same_component_name};
 ghost use Rattle.rng_model.specs.views.SchemaView.{schema_component_of};

@@ -1,5 +1,5 @@
 -- Parts of lists.
-use Rattle.std.proofs.Common.{◌≡◌, ap, ◌∙◌, ℕ, ◌-◌, List, map}
+use Rattle.std.proofs.Common.{◌≡◌, ap, ◌∙◌, ℕ, List, map}
 use Rattle.std.proofs.Common.{slice_get, option_map, Some}
 use Rattle.std.proofs.lemmas.Option.{slice_get-map}
 

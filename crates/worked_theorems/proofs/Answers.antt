@@ -10,7 +10,7 @@ use Rattle.rnc_model.specs.characters.Decoding.{IsDecoded, IsSpelling}
 use Rattle.rnc_model.specs.tokens.Cut.{Token}
 use Rattle.rnc_model.specs.declared.character.Character.{Character}
 use Rattle.rnc_model.specs.declarations.FileTree.{FileTree}
-use Rattle.rnc_model.specs.loading.SchemaFile.{FileName, NamedFile, AreTokensOf, IsHandedIn, IsHandedInTwice, BreaksLimit, BreaksOwn, BreaksFileClause, HasTree}
+use Rattle.rnc_model.specs.loading.SchemaFile.{FileName, NamedFile, AreTokensOf, IsHandedInTwice, BreaksLimit, BreaksOwn, BreaksFileClause, HasTree}
 use Rattle.rnc_model.specs.loading.SchemaFile as file
 use Rattle.rnc_model.specs.loading.Loading.{TakenFiles, IsTaken, none_yet, one_more, AreTaken, IsFirstBroken, FilesVerdict}
 use Rattle.rnc_model.specs.loading.Loading.{file_breaks, together_break, are_taken, FilesHaveVerdict, FilesHaveOnlyVerdict}

@@ -12,7 +12,7 @@ use Rattle.rnc_model.specs.grammar.Syntax as syntax
 use Rattle.rnc_model.specs.grammar.Syntax.{written, Pattern, Component, DatatypeName}
 use Rattle.rnc_model.specs.grammar.Grammar as g
 use Rattle.rnc_model.specs.grammar.NameClasses as name_classes
-use Rattle.rnc_model.specs.grammar.Grammar.{IsPattern, AreMore, IsParticle, IsPrimary, IsBarePrimary, AreComponents, IsComponent}
+use Rattle.rnc_model.specs.grammar.Grammar.{IsPattern, AreMore, IsParticle, IsPrimary, IsBarePrimary, AreComponents}
 use Rattle.rnc_model.specs.grammar.NameClasses.{IsLiteral, MayBeAnnotation, type_of, connector_of, method_of}
 use Rattle.rnc_model.specs.grammar.Grammar.{IsBareComponent, AreDeclarations, IsDeclaration, IsBody, IsFile}
 use Rattle.rnc_model.specs.grammar.Sentence.{IsSentence, IsStuckAt}

@@ -7,7 +7,7 @@ use Rattle.std.proofs.lemmas.Option.{same_Some, none-some}
 use Rattle.rng_model.proofs.Options.{same_err, same_ok}
 use Rattle.rng_model.specs.documents.Lines.{Line, line_limit, HasKind, Fault, EndsInTag}
 use Rattle.rng_model.specs.documents.PyxLines as said
-use Rattle.rng_model.specs.documents.PyxLines.{Said, QName, IsGoodLine, AreGoodLines, BreaksAlone}
+use Rattle.rng_model.specs.documents.PyxLines.{Said, QName, IsGoodLine, BreaksAlone}
 use Rattle.rng_model.specs.documents.PyxNamespaces.{WrittenAttribute, NamespaceScope}
 use Rattle.rng_model.specs.documents.PyxTrees.{Event}
 use Rattle.rng_model.specs.documents.PyxClauses as clauses
@@ -19,7 +19,7 @@ use Rattle.pyx.specs.plain.LineReader.{said_of}
 use Rattle.pyx.specs.plain.WrittenNames.{written_of}
 use Rattle.pyx.specs.plain.TagReader.{Element, tag_read}
 use Rattle.pyx.specs.plain.DocumentReader as reader
-use Rattle.pyx.specs.plain.DocumentReader.{State, Tag, Open, Turn, fault, silent, go_on, followed, after_events, declared_in, close_tag, tag_ended, judged}
+use Rattle.pyx.specs.plain.DocumentReader.{State, Tag, Open, Turn, fault, silent, go_on, followed, declared_in, close_tag, tag_ended}
 use Rattle.pyx.specs.plain.DocumentReader.{line_read}
 use Rattle.pyx.specs.plain.DocumentReader.{all_read, nothing_read, at_end, at_last, all_ended, document_read}
 use Rattle.rng_model.proofs.LastLines.{tag_is_within}

@@ -8,11 +8,11 @@ use Rattle.rng_model.proofs.Options.{same_err, same_ok}
 use Rattle.rng_model.proofs.Members.{same_rest, one_or_none}
 use Rattle.rng_model.specs.documents.Lines.{Line, line_limit, attribute_limit, open_limit, text_limit, HasKind, Fault, EndsInTag, IsBefore}
 use Rattle.rng_model.specs.documents.PyxLines as said
-use Rattle.rng_model.specs.documents.PyxLines.{Said, QName, IsGoodLine, AreGoodLines}
+use Rattle.rng_model.specs.documents.PyxLines.{Said, QName, IsGoodLine}
 use Rattle.rng_model.specs.documents.PyxNamespaces.{WrittenAttribute, NamespaceScope}
 use Rattle.rng_model.specs.documents.PyxTrees.{Event}
 use Rattle.rng_model.specs.documents.PyxClauses as clauses
-use Rattle.rng_model.specs.documents.PyxClauses.{BeginsOtherwise, AreOpenTags, none_open, SaysTag, HasScope, EndsWithTag, EndsInText, BreaksNamespaces}
+use Rattle.rng_model.specs.documents.PyxClauses.{BeginsOtherwise, AreOpenTags, SaysTag, HasScope, EndsInText, BreaksNamespaces}
 use Rattle.rng_model.specs.documents.PyxClauses.{RepeatsName}
 use Rattle.rng_model.specs.documents.PyxClauses.{BreaksHere}
 use Rattle.rng_model.specs.documents.PyxClauses.{Breaks, at_line, unfinished, rootless, IsFirstFault}
@@ -20,9 +20,9 @@ use Rattle.pyx.specs.plain.LineReader.{said_of}
 use Rattle.pyx.specs.plain.WrittenNames.{written_of}
 use Rattle.pyx.specs.plain.TagReader.{Element, tag_read}
 use Rattle.pyx.specs.plain.DocumentReader as reader
-use Rattle.pyx.specs.plain.DocumentReader.{State, Tag, Open, Turn, fault, silent, go_on, followed, after_events, declared_in, close_tag, tag_ended, line_read}
+use Rattle.pyx.specs.plain.DocumentReader.{State, Tag, Open, Turn, fault, go_on, followed, after_events, declared_in, line_read}
 use Rattle.pyx.specs.plain.DocumentReader.{all_read}
-use Rattle.pyx.specs.plain.DocumentReader.{nothing_read, at_end, at_last, all_ended, document_read}
+use Rattle.pyx.specs.plain.DocumentReader.{nothing_read, at_end, all_ended, document_read}
 use Rattle.pyx.proofs.Lines.LineClauses.{BreaksLine, good_line, broken_line, alone_most}
 use Rattle.pyx.proofs.Lines.LineClauses as line_clauses
 use Rattle.pyx.proofs.Lines.WrittenNames.{written_back, written_bytes}

@@ -8,7 +8,7 @@ use Rattle.std.proofs.lemmas.List.Elements.{All-from_recursion, recursion_from_A
 use Rattle.rng_model.specs.names.Names.{is_xml_char}
 use Rattle.rng_model.specs.documents.Lines.{Line, lines, with_first}
 use Rattle.rng_model.specs.documents.PyxLines as said
-use Rattle.rng_model.specs.documents.PyxLines.{Said, QName, IsNcnameText, IsName, alone, prefixed, Says, says_start, says_end, IsGoodLine, AreGoodLines}
+use Rattle.rng_model.specs.documents.PyxLines.{Said, QName, IsName, alone, prefixed, Says, says_start, says_end, IsGoodLine, AreGoodLines}
 use Rattle.rng_model.specs.documents.PyxLines.{no_lines}
 use Rattle.rng_model.specs.documents.PyxLines.{line_and}
 use Rattle.rng_model.specs.documents.PyxTrees.{Placed, Event, events_of, IsPyxDocument}

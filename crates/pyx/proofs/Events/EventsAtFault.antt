@@ -12,7 +12,7 @@ use Rattle.rng_model.proofs.Options.{same_err}
 use Rattle.rng_model.proofs.Members.{same_first, same_rest}
 use Rattle.rng_model.specs.documents.Lines.{Line, lines, Fault, IsBefore}
 use Rattle.rng_model.specs.documents.PyxLines as said
-use Rattle.rng_model.specs.documents.PyxLines.{Said, QName, IsGoodLine, AreGoodLines}
+use Rattle.rng_model.specs.documents.PyxLines.{Said, QName, IsGoodLine}
 use Rattle.rng_model.specs.documents.PyxTrees.{Event}
 use Rattle.rng_model.specs.documents.PyxClauses as clauses
 use Rattle.rng_model.specs.documents.PyxClauses.{BreaksBetween, BreaksHere, Breaks, at_line, unfinished, rootless, IsFront, HasLongestFront}
@@ -20,7 +20,7 @@ use Rattle.pyx.specs.plain.Cuts.{at_byte}
 use Rattle.pyx.specs.plain.LineReader.{said_of}
 use Rattle.pyx.specs.plain.TagReader.{Element, tag_read}
 use Rattle.pyx.specs.plain.DocumentReader as reader
-use Rattle.pyx.specs.plain.DocumentReader.{State, Tag, Open, Turn, fault, silent, go_on, followed, after_events, declared_in, tag_ended, line_read, all_read}
+use Rattle.pyx.specs.plain.DocumentReader.{State, Tag, Open, Turn, fault, go_on, followed, after_events, declared_in, tag_ended, line_read, all_read}
 use Rattle.pyx.specs.plain.DocumentReader.{nothing_read}
 use Rattle.pyx.specs.plain.DocumentReader.{at_end, all_ended, document_read}
 use Rattle.rng_model.specs.documents.Documents.{BeginsDocument, AreEventsBefore}

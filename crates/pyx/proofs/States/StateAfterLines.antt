@@ -7,10 +7,10 @@ use Rattle.std.proofs.lemmas.List.Sums.{sum_by_push}
 use Rattle.rng_model.specs.names.Lists.{HasTwice}
 use Rattle.rng_model.specs.documents.Lines.{Line, attribute_limit, open_limit, text_limit, HasKind, nothing, EndsInTag}
 use Rattle.rng_model.specs.documents.PyxLines as said
-use Rattle.rng_model.specs.documents.PyxLines.{Said, QName, IsGoodLine, AreGoodLines, no_lines, line_and}
+use Rattle.rng_model.specs.documents.PyxLines.{Said, QName, IsGoodLine, AreGoodLines, no_lines}
 use Rattle.rng_model.specs.documents.PyxNamespaces.{WrittenAttribute, AreWritten, none_written, written_and, AreParted, NamespaceScope}
 use Rattle.rng_model.specs.documents.PyxClauses as model
-use Rattle.rng_model.specs.documents.PyxClauses.{AreOpenTags, none_open, SaysTag, HasScope, no_tags, one_tag, EndsInText}
+use Rattle.rng_model.specs.documents.PyxClauses.{AreOpenTags, none_open, SaysTag, HasScope, no_tags, one_tag}
 use Rattle.pyx.specs.plain.TagReader.{Element, tag_read}
 use Rattle.pyx.specs.plain.Declarations.{declared_by}
 use Rattle.pyx.specs.plain.DocumentReader.{State, Tag, Open, declared_in, with_attribute, nothing_read}
@@ -23,7 +23,7 @@ use Rattle.pyx.proofs.Tags.Answers.{TagTells, tag_tells}
 use Rattle.pyx.proofs.Tags.Exact.{read_once}
 use Rattle.pyx.proofs.States.StateSteps.{inside, in_tag, begun, open_of}
 use Rattle.pyx.proofs.Documents.Complete.{attribute_longer, split_length}
-use Rattle.pyx.proofs.States.OpenTags.{marks, Marks, kind_not, other_kind, open_marks, ends_marks, open_same, no_tag, open_other, open_end, open_tag, untagged}
+use Rattle.pyx.proofs.States.OpenTags.{marks, kind_not, other_kind, open_other, open_end, open_tag, untagged}
 use Rattle.pyx.proofs.States.OpenTags.{tag_begins}
 use Rattle.pyx.proofs.States.OpenTags.{tag_grows}
 use Rattle.pyx.proofs.States.JoinedText.{said_same, good_same, good_line_more, good_kind, texts, texts_nil, texts_more, has_root, root_in, root_other}

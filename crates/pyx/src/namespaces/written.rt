@@ -1,7 +1,6 @@
 // Names as they are written, and `A` lines.
 ghost use Rattle.std.specs.Prelude.{◌≡◌, false, map};
 ghost use Rattle.std.specs.Option.{option_map};
-ghost use Rattle.std.specs.Str.{bytes_eq};
 ghost use Rattle.pyx.specs.plain.WrittenNames.{written_of};
 ghost use Rattle.pyx.specs.plain.Declarations.{declared_by, is_forbidden, any_forbidden, is_written_in, is_written_twice, same_written};
 ghost use Rattle.rng_model.specs.documents.PyxHeld.{name_length};

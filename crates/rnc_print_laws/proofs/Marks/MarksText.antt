@@ -11,11 +11,11 @@ use Rattle.rng_model.specs.simple.Grammar.{Grammar}
 use Rattle.rnc_model.specs.declared.token.Sign.TheVariants as signs
 use Rattle.rncv_model.specs.printed.Words as printed
 use Rattle.rncv_model.specs.printed.Items.{PrintedItem, element, pattern, element_at}
-use Rattle.rncv_model.specs.printed.PrintedText.{item_name, namespaces, reference, pattern_text, element_text, item_text, definition_line, namespace_line}
+use Rattle.rncv_model.specs.printed.PrintedText.{item_name, namespaces, reference, pattern_text, item_text, definition_line, namespace_line}
 use Rattle.rncv_model.specs.printed.PrintedText.{item_line, schema_lines, text_of}
-use Rattle.rncv_model.specs.printed.Words.{prefix_of, escaped, runs_of, is_choice, is_except, run_text, more_runs, joined_runs, literal, class_text}
+use Rattle.rncv_model.specs.printed.Words.{prefix_of, escaped, runs_of, is_choice, is_except, run_text, joined_runs, literal, class_text}
 use Rattle.rncv_model.specs.printed.Words.{classes_text, name_text, type_text, parameter_text, parameters_text, datatype_text, connector_text}
-use Rattle.rnc_text.specs.plain.Marks.{Mark, space, line_end, word, cname, segment, sign, mark_text, text_of_marks}
+use Rattle.rnc_text.specs.plain.Marks.{Mark, space, line_end, word, cname, sign, mark_text, text_of_marks}
 use Rattle.rnc_text.specs.plain.Marks as marks
 use Rattle.rnc_print_laws.specs.plain.PrintedMarks.{run_mark, joined_run_marks, literal_marks, in_parentheses_if, name_mark, class_marks, classes_marks}
 use Rattle.rnc_print_laws.specs.plain.PrintedMarks.{type_mark}

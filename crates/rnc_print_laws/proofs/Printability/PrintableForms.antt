@@ -10,7 +10,6 @@ use Rattle.rng_model.proofs.Texts.{bytes_same}
 use Rattle.rng_model.specs.names.Lists.{Among, here, there}
 use Rattle.rng_model.specs.names.Names.{NameClass}
 use Rattle.rng_model.specs.simple.Tree.{Datatype, Tree, Trees, Simple}
-use Rattle.rng_model.specs.datatypes.Datatypes as types
 use Rattle.rng_model.specs.datatypes.Datatypes.{xsd_uri}
 use Rattle.rng_model.specs.simple.Grammar.{Grammar}
 use Rattle.rng_model.specs.schema.Patterns as written

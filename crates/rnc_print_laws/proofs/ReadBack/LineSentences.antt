@@ -16,18 +16,18 @@ use Rattle.rng_model.specs.declared.method.Method.TheVariants as methods
 use Rattle.rnc_model.specs.tokens.Cut.{Lexeme, lexeme_at, identifier}
 use Rattle.rnc_model.specs.tokens.Cut as lexeme
 use Rattle.rnc_model.specs.grammar.Syntax as syntax
-use Rattle.rnc_model.specs.grammar.Syntax.{written, NameClass, NameClasses, DatatypeName, Pattern, Component, Declaration, File, string_type, token_type}
-use Rattle.rnc_model.specs.grammar.Syntax.{prefixed_type, choice_of, classes_of}
-use Rattle.rnc_model.specs.grammar.NameClasses.{word_of, type_of, connector_of, IsLiteral, one_segment, more_segments, AreParameters, no_parameters}
+use Rattle.rnc_model.specs.grammar.Syntax.{written, NameClass, NameClasses, Pattern, Component, string_type, token_type}
+use Rattle.rnc_model.specs.grammar.Syntax.{choice_of, classes_of}
+use Rattle.rnc_model.specs.grammar.NameClasses.{word_of, type_of, IsLiteral, one_segment, more_segments, AreParameters, no_parameters}
 use Rattle.rnc_model.specs.grammar.NameClasses.{and_parameter, MayBeParameters, without_parameters, with_parameters, IsClass, basic_class, choice_class}
 use Rattle.rnc_model.specs.grammar.NameClasses.{AreMoreClasses, last_class, more_classes, IsBasic, annotated_basic, MayBeAnnotation, without_annotation}
 use Rattle.rnc_model.specs.grammar.NameClasses.{IsBareBasic, word_class, cname_class, ns_class, any_class, class_in_parens}
 use Rattle.rnc_model.specs.grammar.Grammar.{IsBarePrimary}
 use Rattle.rnc_model.specs.grammar.Grammar.{annotated_primary, IsBareComponent, annotated_component}
-use Rattle.rnc_model.specs.grammar.Grammar.{content, IsPattern, one_particle, particles, AreMore, last_particle, IsParticle, once, IsPrimary, IsBraced}
+use Rattle.rnc_model.specs.grammar.Grammar.{content, IsPattern, one_particle, particles, last_particle, once, IsPrimary, IsBraced}
 use Rattle.rnc_model.specs.grammar.Grammar.{in_braces}
-use Rattle.rnc_model.specs.grammar.Grammar.{AreComponents, no_components, and_component, IsComponent, IsUri, IsDeclaration, AreDeclarations, no_declarations}
-use Rattle.rnc_model.specs.grammar.Grammar.{and_declaration, IsBody, grammar_body, IsFile}
+use Rattle.rnc_model.specs.grammar.Grammar.{AreComponents, no_components, and_component, IsComponent, IsDeclaration, AreDeclarations, no_declarations}
+use Rattle.rnc_model.specs.grammar.Grammar.{and_declaration, grammar_body, IsFile}
 use Rattle.rnc_model.specs.grammar.NameClasses as name_classes
 use Rattle.rnc_model.specs.grammar.Grammar as grammar
 use Rattle.rncv_model.specs.printed.Items.{PrintedItem, element, pattern, element_at}
@@ -42,7 +42,7 @@ use Rattle.rnc_print_laws.specs.plain.PrintedMarks.{pattern_marks}
 use Rattle.rnc_print_laws.specs.plain.PrintedMarks.{item_marks, line_marks, namespace_marks, item_line_marks, lines_marks}
 use Rattle.rnc_print_laws.specs.plain.Printable.{CanBeNamed}
 use Rattle.rnc_print_laws.specs.plain.LinesSyntax.{list_of, members_in, written_name, class_of, reference_of, pattern_of, item_pattern, components}
-use Rattle.rnc_print_laws.specs.plain.LinesSyntax.{declarations, file}
+use Rattle.rnc_print_laws.specs.plain.LinesSyntax.{file}
 use Rattle.rnc_print_laws.specs.plain.LinesSyntax as lines
 
 -- ---- marks one after the other

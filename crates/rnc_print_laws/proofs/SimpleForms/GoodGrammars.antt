@@ -9,7 +9,7 @@ use Rattle.rng_model.specs.simple.Tree.{Simple, s_not_allowed, s_empty, s_text, 
 use Rattle.rng_model.specs.simple.Tree.{s_joined}
 use Rattle.rng_model.specs.simple.Grammar.{Grammar}
 use Rattle.rng_model.specs.datatypes.Datatypes.{IsKnownDatatype, IsAllowed}
-use Rattle.rng_model.specs.simple.Leaves.{depth, class_depth, depth_limit, LeafIn, renamed, AreLeavesBelow}
+use Rattle.rng_model.specs.simple.Leaves.{depth, class_depth, depth_limit, renamed, AreLeavesBelow}
 use Rattle.rng_model.specs.simple.Leaves as at
 use Rattle.rng_model.specs.schema.Patterns as written
 use Rattle.rng_model.specs.schema.Patterns.{Place, Pattern, without_parameters}

@@ -8,7 +8,7 @@ use Rattle.rng_model.specs.simple.Leaves.{depth, class_depth, depth_limit, LeafI
 use Rattle.rng_model.specs.schema.Unfolding.{IsReachedByTrees, IsReachedTree, from_start, from_element, of_start, of_body, Leaf, IsTreeOf, IsBodyOf}
 use Rattle.rng_model.specs.schema.Schema.{Schema, main_start}
 use Rattle.rng_model.specs.schema.SchemaClauses as clause
-use Rattle.rng_model.specs.schema.SchemaClauses.{BreaksExpansion, BreaksDepth, BreaksSchemaClause, BreaksClause, BreaksNoClause}
+use Rattle.rng_model.specs.schema.SchemaClauses.{BreaksExpansion, BreaksDepth, BreaksSchemaClause, BreaksNoClause}
 use Rattle.rng_model.specs.simple.SchemaForm.{SimpleForm, IsSimpleFormOfSchema, IsSameUpToNumbering, IsSimpleGrammarOf, IsOnlySimpleGrammarOf}
 use Rattle.rng_model.proofs.Unfolding.{one_tree}
 use Rattle.rncv_model.specs.printed.Items.{PrintedItem, element, element_at, IsItemsOf}

@@ -12,18 +12,18 @@ use Rattle.rng_model.specs.simple.SchemaForm.{IsSimpleGrammarOf}
 use Rattle.rng_model.specs.simple.Grammar.{Grammar}
 use Rattle.rng_model.specs.simple.Tree.{Connector, choice, group, interleave}
 use Rattle.rnc_model.specs.grammar.Syntax as tree
-use Rattle.rnc_model.specs.grammar.Syntax.{applied, Namespace, inherited, given}
+use Rattle.rnc_model.specs.grammar.Syntax.{applied}
 use Rattle.rnc_model.specs.declarations.FileTree.{FileTree, grammar_file, pattern_file, grammar_components, whole_grammar}
 use Rattle.rnc_model.specs.loading.LoadedSchema.{AreSchema, Gathers, HasGrammar, IsSchemaOf}
-use Rattle.rnc_model.specs.loading.Loading.{TakenFiles, tree_in, IsTaken, AreTaken, are_taken, FilesHaveOnlyVerdict}
+use Rattle.rnc_model.specs.loading.Loading.{TakenFiles, tree_in, IsTaken, are_taken, FilesHaveOnlyVerdict}
 use Rattle.rnc_model.specs.loading.Loading as loading
 use Rattle.rnc_model.specs.loading.LoadedSchema as loaded
 use Rattle.rnc_model.specs.loading.Places as places
-use Rattle.rnc_model.specs.loading.Places.{uri_in, TreePath, Nested, Gathered, is_overridden, grammar_or_start, main_grammar, Reads, ReadAll}
+use Rattle.rnc_model.specs.loading.Places.{TreePath, Nested, Gathered, is_overridden, grammar_or_start, main_grammar, Reads, ReadAll}
 use Rattle.rnc_model.specs.loading.SchemaFile.{FileName, NamedFile}
 use Rattle.rnc_print_laws.specs.plain.Printable.{IsText, IsPrintable}
 use Rattle.rnc_print_laws.specs.plain.WellSpelledFiles as spelled
-use Rattle.rnc_print_laws.specs.plain.WellSpelledFiles.{IsTextNamespace, AreWellSpelledComponents, AreWellSpelledPatterns, IsWellSpelledFile}
+use Rattle.rnc_print_laws.specs.plain.WellSpelledFiles.{AreWellSpelledComponents, AreWellSpelledPatterns, IsWellSpelledFile}
 use Rattle.rnc_print_laws.specs.plain.WellSpelledSchemas.{IsWellSpelledPattern, AreWellSpelledPatterns as AreWellSpelled, IsWellSpelledComponent}
 use Rattle.rnc_print_laws.specs.plain.WellSpelledSchemas.{IsWellSpelledSchema}
 use Rattle.rnc_print_laws.proofs.WellSpelled.FileTrees.{uri_text, empty_text, schema_file_spelled}

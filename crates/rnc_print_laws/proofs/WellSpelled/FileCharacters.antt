@@ -9,7 +9,7 @@ use Rattle.rnc_text.proofs.MarkScalars.{ends}
 use Rattle.rng_model.proofs.Truths.{no_truth}
 use Rattle.rng_model.specs.names.Names.{is_xml_char, is_ncname}
 use Rattle.rnc_model.specs.characters.Decoding.{number_of, numbers_of, bytes_of, Begins, Decodes, IsDecoded}
-use Rattle.rnc_model.specs.tokens.Cut.{IsNext, Cuts}
+use Rattle.rnc_model.specs.tokens.Cut.{Cuts}
 use Rattle.rnc_model.specs.tokens.Cut as cut
 use Rattle.rnc_model.specs.characters.Decoding as decoding
 use Rattle.rnc_model.specs.tokens.Tokens.{Piece, characters_in, IsPiece, IsNcname}

@@ -5,7 +5,7 @@ use Rattle.std.proofs.lemmas.Str.{encode_ascii}
 use Rattle.rnc_text.proofs.Cursors.{bytes_append}
 use Rattle.rnc_model.specs.characters.Decoding.{numbers_of, bytes_of, IsDecoded}
 use Rattle.rnc_model.specs.tokens.Cut.{Token, tokens_at, HasTokens, lexeme_at, numbered, lexemes, prefix_in, local_in}
-use Rattle.rnc_model.specs.tokens.Tokens.{Piece, gap, token, characters_in, keyword_or_identifier, keyword_of, word_kind, IsNcname, three, IsPiece}
+use Rattle.rnc_model.specs.tokens.Tokens.{Piece, gap, token, characters_in, keyword_or_identifier, keyword_of, IsNcname, three, IsPiece}
 use Rattle.rnc_model.specs.tokens.Tokens as tokens
 use Rattle.rnc_model.specs.declared.character.Character.{Character}
 use Rattle.rnc_model.specs.declared.character.Character.TheVariants.{Ordinary}

@@ -7,7 +7,7 @@ use Rattle.rng_model.specs.declared.method.Method.{Method}
 use Rattle.rng_model.specs.declared.method.Method.TheVariants as methods
 use Rattle.rnc_model.specs.tokens.Cut.{Lexeme, keyword, identifier, sign}
 use Rattle.rnc_model.specs.grammar.Syntax as syntax
-use Rattle.rnc_model.specs.grammar.Syntax.{written, Mention, Component}
+use Rattle.rnc_model.specs.grammar.Syntax.{written, Component}
 use Rattle.rnc_model.specs.grammar.Grammar.{Setting, content, override}
 use Rattle.rnc_syntax.specs.plain.Combinators.{Outcome, ◌>>=◌, follow}
 use Rattle.rnc_syntax.specs.plain.Productions.{annotation_at, mention_at, Inside, contents_with, class_with, pattern_with, method_at, overrides_with}

@@ -4,7 +4,7 @@ use Rattle.rnc_model.specs.declared.token.Keyword.TheVariants as keywords
 use Rattle.rnc_model.specs.declared.token.Sign.TheVariants.{Equal, BarEqual, AndEqual, OpenBracket}
 use Rattle.rnc_model.specs.tokens.Cut.{Lexeme, keyword, identifier, sign}
 use Rattle.rnc_model.specs.grammar.Syntax as syntax
-use Rattle.rnc_model.specs.grammar.Syntax.{written, Component, Uri, Declaration, Body}
+use Rattle.rnc_model.specs.grammar.Syntax.{written, Component, Uri, Body}
 use Rattle.rnc_model.specs.grammar.Grammar.{content}
 use Rattle.rnc_syntax.specs.plain.Combinators.{Outcome, ◌>>=◌, follow, follow_keyword, after, after_keyword, word_at}
 use Rattle.rnc_syntax.specs.plain.Productions.{annotation_end, literal_at, parameter_at, Inside, bare_pattern_with, bare_component_with, components_with}

@@ -7,7 +7,7 @@ use Rattle.rnc_model.specs.declared.token.Keyword.TheVariants as keywords
 use Rattle.rnc_model.specs.declared.token.Sign.TheVariants.{Equal, OpenBracket}
 use Rattle.rnc_model.specs.tokens.Cut.{Lexeme, Spelling, keyword, sign}
 use Rattle.rnc_model.specs.grammar.Syntax as syntax
-use Rattle.rnc_model.specs.grammar.Syntax.{written, Pattern, Component, Uri, Declaration, Body, File}
+use Rattle.rnc_model.specs.grammar.Syntax.{written, Component, Uri, Declaration, Body, File}
 use Rattle.rnc_model.specs.grammar.Grammar as grammar
 use Rattle.rnc_model.specs.grammar.NameClasses as name_classes
 use Rattle.rnc_model.specs.grammar.Grammar.{content, AreComponents, IsComponent, IsUri, IsDeclaration, AreDeclarations, IsBody, IsFile}

@@ -8,7 +8,7 @@ use Rattle.rnc_model.specs.tokens.Cut.{Lexeme, Spelling, keyword, identifier, se
 use Rattle.rnc_model.specs.grammar.Syntax.{written, Mention}
 use Rattle.rnc_model.specs.grammar.SyntaxTrees.{joined_text}
 use Rattle.rnc_model.specs.grammar.NameClasses as grammar
-use Rattle.rnc_model.specs.grammar.NameClasses.{word_of, MayBeAnnotation, IsLiteral, AreParameters, MayBeParameters, MayInherit}
+use Rattle.rnc_model.specs.grammar.NameClasses.{MayBeAnnotation, IsLiteral, AreParameters, MayBeParameters, MayInherit}
 use Rattle.rnc_syntax.specs.plain.Combinators.{follow, follow_keyword, after, word_at, segment_at, either_way, many}
 use Rattle.rnc_syntax.specs.plain.Productions.{literal_at, parameter_at, parameter_front, annotated_parameter_at, in_braces_at, parameters_at, word_after_equal}
 use Rattle.rnc_syntax.specs.plain.Productions.{inherit_at, mention_at}

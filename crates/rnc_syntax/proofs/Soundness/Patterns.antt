@@ -15,7 +15,7 @@ use Rattle.rnc_model.specs.grammar.Syntax as syntax
 use Rattle.rnc_model.specs.grammar.Syntax.{written, NameClass, DatatypeName, Mention, Pattern, Component}
 use Rattle.rnc_model.specs.grammar.Grammar as grammar
 use Rattle.rnc_model.specs.grammar.Grammar.{Setting, content, override, IsPattern}
-use Rattle.rnc_model.specs.grammar.NameClasses.{type_of, method_of, connector_of, IsLiteral, MayBeParameters, IsClass, IsBasic, MayBeAnnotation}
+use Rattle.rnc_model.specs.grammar.NameClasses.{type_of, method_of, connector_of, IsLiteral, MayBeParameters, IsClass, MayBeAnnotation}
 use Rattle.rnc_model.specs.grammar.Grammar.{AreMore, IsParticle, IsPrimary, IsBarePrimary, IsBraced, AreComponents, IsComponent, IsBareComponent, MayOverride}
 use Rattle.rnc_syntax.specs.plain.Combinators.{Outcome, ◌>>=◌, follow, identifier_at, either_way, many}
 use Rattle.rnc_syntax.specs.plain.Productions.{in_braces_at, literal_at, parameters_at, mention_at, class_with, Inside, braced_with, contents_with}

@@ -3,7 +3,8 @@ ghost use Rattle.std.specs.Prelude.{◌≡◌, ◌<◌, ◌⊎◌, ◌++◌, ◌
 ghost use Rattle.std.specs.Option.{option_copied};
 ghost use Rattle.rng_deriv_events.specs.declared.level_table.level.LevelNumber.{LevelNumber};
 ghost use Rattle.rng_deriv_events.specs.declared.level_table.step.End.{End};
-ghost use Rattle.rng_deriv_events.specs.views.LevelTable.{IsEndAt, IsKnownAt, IsStepOf, KeepsKnown, KeepsLists, sampled_in, closed_in, ends_in, levels_in, numbers_in, steps_in};
+ghost use Rattle.rng_deriv_events.specs.views.LevelTable.{IsEndAt, IsKnownAt, IsStepOf, KeepsKnown, KeepsLists};
+ghost use Rattle.rng_deriv_events.specs.views.LevelTable.{sampled_in, closed_in, ends_in, levels_in, numbers_in, steps_in};
 
 use crate::level_table::level::{Level, LevelNumber};
 use crate::level_table::level_index::{LevelIndex, put_known};

@@ -8,7 +8,7 @@ use Rattle.rng_deriv_laws.specs.plain.Taking.{Takes}
 use Rattle.rng_deriv_laws.specs.plain.Derivatives.{is_nullable}
 use Rattle.rng_deriv_laws.specs.plain.Events.{kinds, open_after}
 use Rattle.rng_deriv_laws.specs.plain.Laws.{reading}
-use Rattle.rng_deriv_laws.specs.plain.Meanings.{IsStart, Settles, Runs, stays}
+use Rattle.rng_deriv_laws.specs.plain.Meanings.{Settles, Runs, stays}
 use Rattle.rng_deriv_laws.specs.plain.Meanings as meanings
 use Rattle.rng_deriv_laws.specs.plain.LevelStates.{Link, LevelState, HoldsInLevels, level_meaning}
 use Rattle.rng_deriv_laws.specs.plain.LevelEvents.{LevelMatcher, SettlesLevels, StepsTo, StandsFor, as_blank, as_text, at_start, at_string, at_end}

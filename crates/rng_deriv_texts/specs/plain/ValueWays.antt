@@ -1,11 +1,11 @@
 -- Which ways are tested, where a text is compared with many values.
-use Rattle.std.specs.Prelude.{◌≡◌, ◌⊎◌, ℕ, List, [], ◌∷◌, String, true}
+use Rattle.std.specs.Prelude.{◌≡◌, ◌⊎◌, ℕ, List, String, true}
 use Rattle.std.specs.HashMap.{HashMap}
 use Rattle.std.specs.List.{Contains}
 use Rattle.smallvec.specs.SmallVec.{SmallVec}
 use Rattle.rng_model.specs.datatypes.Texts.{collapse}
 use Rattle.rng_model.specs.datatypes.Datatypes.{Meaning, are_equal_by}
-use Rattle.rng_model.specs.matching.Document.{Attribute, Item, a_text}
+use Rattle.rng_model.specs.matching.Document.{Attribute, Item}
 use Rattle.rng_model.specs.matching.GrammarMatching.{reading_of}
 use Rattle.rng_model.specs.simple.Table.{Table}
 use Rattle.rng_deriv_laws.specs.plain.Taking.{Takes}

@@ -4,7 +4,7 @@ use Rattle.rng_model.specs.names.Lists.{here}
 use Rattle.rng_model.specs.simple.Tree.{group}
 use Rattle.rnc_model.specs.grammar.Syntax as tree
 use Rattle.rnc_model.specs.grammar.Syntax.{applied, inherited}
-use Rattle.rnc_model.specs.declarations.FileTree.{FileTree, pattern_file}
+use Rattle.rnc_model.specs.declarations.FileTree.{pattern_file}
 use Rattle.rng_load.specs.plain.Counting.{paths, paths_along, HasPaths, has, have_none, have_more}
 use Rattle.rnc_model.specs.loading.Loading.{TakenFiles, hrefs_in}
 use Rattle.rnc_model.specs.loading.Mentions.{IsCyclic, HasMorePathsThan, directly, through}

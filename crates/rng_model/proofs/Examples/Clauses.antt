@@ -3,10 +3,9 @@ use Rattle.std.proofs.Common.{◌≡◌, refl, sym, subst, arith, ℕ, suc, zero
 use Rattle.rng_model.specs.names.Lists.{Among, here, there, first_and}
 use Rattle.rng_model.specs.names.Names.{any_except}
 use Rattle.rng_model.specs.simple.Tree as tree
-use Rattle.rng_model.specs.simple.Tree.{Datatype, Tree, choice, Simple, s_text, s_list, as_tree}
+use Rattle.rng_model.specs.simple.Tree.{Datatype, Tree, Simple, s_text, s_list, as_tree}
 use Rattle.rng_model.specs.datatypes.Datatypes.{IsKnownDatatype, type_named}
-use Rattle.rng_model.specs.schema.Patterns.{Place, Position, Point, Pattern, text, element, attribute, list, data_of, ref, parent_ref, grammar, joined}
-use Rattle.rng_model.specs.schema.Patterns.{no_patterns}
+use Rattle.rng_model.specs.schema.Patterns.{Place, Position, Point, Pattern, text, element, attribute, list, data_of, ref, parent_ref}
 use Rattle.rng_model.specs.schema.Patterns.{pattern_tree}
 use Rattle.rng_model.specs.schema.Patterns as in_pattern
 use Rattle.rng_model.specs.schema.Schema.{Schema, Component, body, main_start, IsWrittenAt}

@@ -8,12 +8,12 @@ use Rattle.rng_model.proofs.Places.{among_at}
 use Rattle.rng_model.specs.names.Lists.{Among, here, there, HasTwo, first_and, both_later}
 use Rattle.rng_model.specs.names.Names.{Name, NameClass, name_is}
 use Rattle.rng_model.specs.simple.Tree as tree
-use Rattle.rng_model.specs.simple.Tree.{Tree, group, interleave, choice, Simple, s_not_allowed, s_empty, s_text, s_leaf, s_attribute, s_list}
+use Rattle.rng_model.specs.simple.Tree.{Tree, group, interleave, Simple, s_not_allowed, s_empty, s_text, s_leaf, s_attribute, s_list}
 use Rattle.rng_model.specs.simple.Tree.{s_data, s_data_except, s_value, s_one_or_more, s_joined, as_tree}
 use Rattle.rng_model.specs.simple.Grammar.{Grammar}
 use Rattle.rng_model.specs.simple.Leaves.{renamed, LeafIn, depth, class_depth}
-use Rattle.rng_model.specs.simple.Simplification.{ClassStep, ClassSteps, IsSimpleClassOf, RuleGroup, rewriting, propagation, Step, AnyStep, Steps, no_step}
-use Rattle.rng_model.specs.simple.Simplification.{step_and, IsLast, IsRewritten, IsSimpleFormOf}
+use Rattle.rng_model.specs.simple.Simplification.{ClassSteps, IsSimpleClassOf, RuleGroup, rewriting, propagation, Step, AnyStep, Steps, no_step}
+use Rattle.rng_model.specs.simple.Simplification.{step_and, IsRewritten, IsSimpleFormOf}
 use Rattle.rng_model.specs.simple.Simplification as steps
 use Rattle.rng_model.specs.simple.Leaves as at
 use Rattle.rng_model.specs.schema.Patterns.{Place, Pattern, text, not_allowed, element, attribute, data_of, data_except, value, ref, parent_ref, joined}
@@ -26,7 +26,7 @@ use Rattle.rng_model.specs.schema.Unfolding.{IsReachedBySimpleForms, from_simple
 use Rattle.rng_model.specs.schema.Unfolding as u
 use Rattle.rng_model.specs.simple.SchemaForm.{Element, IsElementOf, SimpleForm, IsSimpleFormOfSchema, IsSimpleGrammarOf}
 use Rattle.rng_model.specs.schema.SchemaClauses as clauses
-use Rattle.rng_model.specs.schema.SchemaClauses.{BreaksClause, BreaksNoClause}
+use Rattle.rng_model.specs.schema.SchemaClauses.{BreaksNoClause}
 use Rattle.rng_model.specs.simple.Grammar as inside_of
 use Rattle.rng_model.specs.restrictions.Contents as paths
 use Rattle.rng_model.specs.restrictions.Restrictions as restrictions

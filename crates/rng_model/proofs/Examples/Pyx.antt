@@ -27,7 +27,7 @@ use Rattle.rng_model.specs.documents.PyxClauses.{BeginsOtherwise, none_open, Say
 use Rattle.rng_model.specs.documents.PyxClauses.{repeated_name}
 use Rattle.rng_model.specs.documents.PyxClauses.{Breaks, at_line}
 use Rattle.rng_model.specs.documents.PyxTrees as trees
-use Rattle.rng_model.specs.documents.PyxTrees.{Placed, text_at, element_at, none_placed, placed_and, IsTag, IsElement, IsContent, IsRun, no_run, IsPyxDocument}
+use Rattle.rng_model.specs.documents.PyxTrees.{text_at, element_at, none_placed, placed_and, no_run, IsPyxDocument}
 
 -- ---- what a test says of each member
 

@@ -14,7 +14,7 @@ use Rattle.rng_model.specs.documents.PyxNamespaces as namespaces
 use Rattle.rng_model.specs.documents.PyxTrees.{IsRun, no_run}
 use Rattle.rng_model.specs.documents.PyxTrees as trees
 use Rattle.rng_model.specs.documents.PyxClauses as clauses
-use Rattle.rng_model.specs.documents.PyxClauses.{BreaksBetween, BreaksHere, BreaksNamespaces, RepeatsName, EndsInText, EndsWithTag, AreOpenTags, Tag, Breaks}
+use Rattle.rng_model.specs.documents.PyxClauses.{BreaksBetween, BreaksHere, BreaksNamespaces, RepeatsName, EndsWithTag, AreOpenTags, Tag}
 use Rattle.rng_model.specs.documents.PyxClauses.{IsFront}
 use Rattle.rng_model.proofs.Examples.Pyx.{whole, good, a_is_a_name, first_of}
 

@@ -5,7 +5,7 @@ use Rattle.std.specs.Str.{chars, is_utf8}
 use Rattle.rng_model.specs.names.Lists.{here}
 use Rattle.rng_model.specs.names.Names.{Name, NameClass, any_name, name_is, Overlap}
 use Rattle.rng_model.specs.simple.Tree as tree
-use Rattle.rng_model.specs.simple.Tree.{Datatype, Simple, s_empty, s_text, s_leaf, s_attribute, s_list, s_data, s_data_except, s_value, s_one_or_more, s_joined}
+use Rattle.rng_model.specs.simple.Tree.{Datatype, Simple, s_empty, s_text, s_leaf, s_attribute, s_list, s_data_except, s_value, s_one_or_more, s_joined}
 use Rattle.rng_model.specs.simple.Grammar.{Grammar, itself, of_list, of_attribute, of_except, of_one_or_more, of_left}
 use Rattle.rng_model.specs.restrictions.Contents.{attribute_attribute, repeated_group_attribute, list_text, data_empty, start_text, HasContent, of_both}
 use Rattle.rng_model.specs.restrictions.Contents.{of_text, of_value, ContentType, grouped}

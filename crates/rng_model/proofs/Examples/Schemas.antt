@@ -8,7 +8,7 @@ use Rattle.rng_model.specs.schema.Patterns.{Place, Pattern, element, empty, ref,
 use Rattle.rng_model.specs.names.Lists.{Among}
 use Rattle.rng_model.specs.schema.Schema.{Schema, Component, Definition, body, main_start, HasComponent}
 use Rattle.rng_model.specs.simple.Leaves as at
-use Rattle.rng_model.specs.schema.Unfolding.{Leaf, Aim, to_definition, aim, Unfolds, IsTreeOf, IsBodyOf}
+use Rattle.rng_model.specs.schema.Unfolding.{Leaf, to_definition, IsTreeOf, IsBodyOf}
 use Rattle.rng_model.specs.schema.Unfolding as u
 use Rattle.rng_model.specs.declared.method.Method.TheVariants.{Plain, Choice, Interleave}
 use Rattle.rng_model.proofs.Unfolding.{IsStuck, none_of_stuck}

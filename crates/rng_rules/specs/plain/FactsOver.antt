@@ -2,7 +2,7 @@
 use Rattle.std.specs.Prelude.{Option, Some, None, false, ◌&&◌, ◌||◌}
 use Rattle.rng_model.specs.names.Names.{NameClass}
 use Rattle.rng_model.specs.simple.Grammar as model
-use Rattle.rng_model.specs.simple.Grammar.{not_allowed_kind, empty_kind, text_kind, ref_kind, attribute_kind, one_or_more_kind, choice_kind, interleave_kind}
+use Rattle.rng_model.specs.simple.Grammar.{not_allowed_kind, empty_kind, text_kind, ref_kind, attribute_kind, one_or_more_kind, choice_kind}
 use Rattle.rng_rules.specs.plain.Facts.{has_wildcard, of_attribute, of_both, of_either, nothing_held}
 use Rattle.rng_rules.specs.plain.Kinds.{is_attribute, is_one_or_more, is_list, is_data, is_between, is_barred_from_attribute, is_barred_from_list}
 use Rattle.rng_rules.specs.plain.Kinds.{is_barred_from_except, is_barred_from_start, is_not_allowed, is_text, is_interleave}

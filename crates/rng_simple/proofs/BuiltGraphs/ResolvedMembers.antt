@@ -4,7 +4,7 @@ use Rattle.std.proofs.Common.{arith}
 use Rattle.std.specs.List.{list_any}
 use Rattle.std.proofs.lemmas.List.{append-nil, drop_all, drop_more}
 use Rattle.rng_model.specs.simple.Tree.{Tree, Connector, choice, group, interleave, joined, tree_and}
-use Rattle.rng_model.specs.schema.Patterns.{Place, Pattern, Patterns, pattern_list}
+use Rattle.rng_model.specs.schema.Patterns.{Place, Pattern, pattern_list}
 use Rattle.rng_model.specs.schema.Patterns as pattern
 use Rattle.rng_simple.specs.plain.Graph.{Spot}
 use Rattle.rng_simple.specs.views.GraphView.{members, trees_of}

@@ -11,7 +11,7 @@ use Rattle.rng_model.specs.schema.Patterns.{Place, Pattern}
 use Rattle.rng_model.specs.datatypes.DatatypeViews.{datatype_of}
 use Rattle.rng_model.specs.names.NameViews.{class_of}
 use Rattle.rng_model.specs.views.ReplacedLists.{replaced}
-use Rattle.rng_model.specs.views.SchemaView.{place_of, patterns_in, row_arity, row_pattern}
+use Rattle.rng_model.specs.views.SchemaView.{patterns_in, row_arity, row_pattern}
 use Rattle.rng_model.specs.views.SchemaView as schema
 use Rattle.rng_model.proofs.ReplacedLists.{with_children}
 use Rattle.rng_model.proofs.SchemaRows.{no_rows, next_row}

@@ -2,7 +2,6 @@
 use Rattle.std.proofs.Common.{◌≡◌, refl, ap, sym, ◌∙◌, subst, ℕ, ◌<◌, length, slice_get, Some, Contains}
 use Rattle.std.proofs.lemmas.List.Elements.{All-contains}
 use Rattle.rng_model.proofs.Places.{among_at, at_among}
-use Rattle.rng_model.specs.names.Lists as lists
 use Rattle.rng_model.specs.names.Names.{NameClass}
 use Rattle.rng_model.specs.simple.Grammar.{StandsIn, itself, below, of_attribute, of_list, of_except, of_one_or_more, of_left, of_right, Grammar}
 use Rattle.rng_model.specs.restrictions.Contents.{HasProhibited, HasProhibitedInStart, BreaksContent}

@@ -6,7 +6,7 @@ use Rattle.rng_model.specs.simple.Tree.{Tree, leaf}
 use Rattle.rng_model.specs.schema.Patterns.{Place, Point}
 use Rattle.rng_model.specs.schema.Schema.{Schema, Definition}
 use Rattle.rng_model.specs.simple.Leaves.{LeafIn}
-use Rattle.rng_model.specs.schema.Unfolding.{Leaf, Aim, to_element, to_definition, to_nothing, aim, Unfolds, IsTreeOf}
+use Rattle.rng_model.specs.schema.Unfolding.{Leaf, to_definition, aim, Unfolds}
 use Rattle.rng_model.specs.schema.Unfolding as u
 use Rattle.rng_simple.specs.plain.Met.{IsSettled, IsOrder, none_yet, and_then}
 use Rattle.rng_simple.specs.plain.DepthWith.{of_aim, IsFilled, IsRight}

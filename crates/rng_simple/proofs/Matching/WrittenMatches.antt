@@ -11,7 +11,7 @@ use Rattle.rng_model.specs.matching.Matching as m
 use Rattle.rng_model.specs.matching.GrammarMatching.{Nothing}
 use Rattle.rng_model.specs.schema.Patterns.{Place, Point, an_element, a_ref, a_parent_ref, a_grammar}
 use Rattle.rng_model.specs.schema.Schema.{Schema, Definition, body}
-use Rattle.rng_model.specs.schema.Unfolding.{Leaf, content_of, Aim, to_element, to_definition, outside, aim, Unfolds, UnfoldAll, IsBodyOf}
+use Rattle.rng_model.specs.schema.Unfolding.{Leaf, content_of, to_element, to_definition, outside, aim, Unfolds, UnfoldAll, IsBodyOf}
 use Rattle.rng_model.specs.schema.Unfolding as u
 use Rattle.rng_model.specs.simple.Simplification.{AnyStep, IsSimpleFormOf, IsSimpleClassOf}
 use Rattle.rng_model.specs.matching.SchemaMatching.{IsFound, is_found, IsWrittenElement, is_written, schema_leaves}

@@ -1,5 +1,5 @@
 // From a schema to its graph.
-ghost use Rattle.std.specs.Prelude.{◌≡◌, ◌∷◌, [], IfOk, None, OnOk, option_map};
+ghost use Rattle.std.specs.Prelude.{◌≡◌, ◌∷◌, [], IfOk, None, OnOk};
 ghost use Rattle.rng_model.specs.schema.Schema as schemas;
 ghost use Rattle.rng_model.specs.views.SchemaView.{place_of};
 ghost use Rattle.rng_load.specs.views.PlacedGrammars.{schema_of};

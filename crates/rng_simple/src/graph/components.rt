@@ -1,5 +1,5 @@
 // The components of the grammars of a schema, by definition.
-ghost use Rattle.std.specs.Prelude.{◌≡◌, ◌∷◌, ◌++◌, [], IfOk, OnOk, ℕ, map, option_map, slice_index_or};
+ghost use Rattle.std.specs.Prelude.{◌≡◌, ◌∷◌, ◌++◌, [], IfOk, OnOk, ℕ, map, slice_index_or};
 ghost use Rattle.rng_model.specs.schema.Schema as schemas;
 ghost use Rattle.rng_model.specs.views.SchemaView.{place_of, schema_component_of};
 ghost use Rattle.rng_load.specs.views.PlacedGrammars.{schema_of};

@@ -1,6 +1,5 @@
 // Depths of the trees of a schema. Each definition is measured once.
-ghost use Rattle.std.specs.Prelude.{◌≡◌, ◌<◌, ◌⊎◌, length, All, IfOk, IsTrue, IsFalse};
-ghost use Rattle.rng_simple.specs.plain.DepthWith.{depth_with};
+ghost use Rattle.std.specs.Prelude.{◌<◌, length, All, IfOk, IsTrue, IsFalse};
 ghost use Rattle.rng_simple.specs.plain.Graph.{IsDeepBy, IsFilledBy, IsOrderBy, Mentions, spot_depth};
 ghost use Rattle.rng_simple.specs.views.GraphView.{classes_of, graph_of};
 ghost use Rattle.rng_simple.specs.plain.MemberDepths.{IsDeepElement, depth_in};

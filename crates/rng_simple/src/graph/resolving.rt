@@ -1,12 +1,10 @@
 // From the patterns of a schema to the rows of its graph.
-ghost use Rattle.std.specs.Prelude.{◌≡◌, ◌≤◌, ◌∷◌, ◌++◌, ◌-◌, [], List, OnOk, length, take, drop, option_map};
-ghost use Rattle.rng_model.specs.simple.Tree.{Tree};
+ghost use Rattle.std.specs.Prelude.{◌≡◌, ◌≤◌, ◌∷◌, ◌++◌, ◌-◌, [], List, OnOk, length, option_map};
 ghost use Rattle.rng_model.specs.views.ReplacedLists.{replaced};
 ghost use Rattle.rng_model.specs.views.SchemaView.{place_of, row_arity, schema_pattern_of};
 ghost use Rattle.rng_model.specs.names.NameViews.{class_of};
 ghost use Rattle.rng_simple.specs.views.Definitions.{definition_of, numbering_of};
 ghost use Rattle.rng_simple.specs.views.GraphView.{arity, child, forest, row_tree, with_row};
-ghost use Rattle.rng_simple.specs.plain.Graph.{Spot};
 ghost use Rattle.rng_simple.specs.plain.Resolving.{looked_up, looked_up_outside, resolve, with_element};
 ghost use Rattle.rng_simple.specs.plain.ResolvedRows.{in_place, with_resolved};
 

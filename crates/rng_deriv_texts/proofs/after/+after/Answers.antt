@@ -1,4 +1,4 @@
-use Rattle.std.proofs.Common.{◌≡◌, ◌∙◌, ◌↔◌, ◌<◌, ◌+◌, ◌++◌, [], ◌∷◌, suc, All, Contains, List, Option, Some, string_bytes, true, false, true≢false, take}
+use Rattle.std.proofs.Common.{◌≡◌, ◌∙◌, ◌↔◌, ◌<◌, ◌+◌, ◌++◌, [], ◌∷◌, suc, All, Contains, List, Option, Some, true, false, true≢false, take}
 use Rattle.std.proofs.Common.{get_or, length, length-append, refl, sym, ap, subst, arith, rules}
 use Rattle.std.specs.Prelude.{IfSome}
 use Rattle.std.proofs.lemmas.Option.{slice_get-get_or, slice_get_within}

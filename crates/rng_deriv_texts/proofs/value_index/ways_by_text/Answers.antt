@@ -1,6 +1,5 @@
 use Rattle.std.proofs.Common.{◌≡◌, ◌++◌, [], rules, sym}
-use Rattle.std.proofs.lemmas.List.{append-nil}
-use Rattle.rng_deriv_texts.proofs.NarrowedWays.{found_ways, narrowed}
+use Rattle.rng_deriv_texts.proofs.NarrowedWays.{narrowed}
 use Rattle.rng_deriv_texts.proofs.value_index.ways_by_text.Goals as goal
 
 pub returns-in-Some : goal.returns-in-Some

@@ -1,4 +1,4 @@
-use Rattle.std.proofs.Common.{rules, ◌≡◌, ap}
+use Rattle.std.proofs.Common.{rules}
 use Rattle.written_grammars.proofs.FoundDatatypes.{known_as}
 use Rattle.written_grammars.proofs.grammar_builder.fits.Goals as goal
 

@@ -1,4 +1,4 @@
-use Rattle.std.proofs.Common.{◌≡◌, ◌∙◌, ◌<◌, List, ap, length, subst, sym}
+use Rattle.std.proofs.Common.{◌≡◌, ◌<◌, List, length, subst, sym}
 use Rattle.rng_model.specs.names.NameViews.{name_of}
 use Rattle.rng_names.specs.plain.Keys.{key_of}
 use Rattle.rng_deriv_table.specs.views.Node.{Node}

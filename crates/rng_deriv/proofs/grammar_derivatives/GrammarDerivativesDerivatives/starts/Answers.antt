@@ -1,6 +1,6 @@
-use Rattle.std.proofs.Common.{◌≡◌, ◌∙◌, ◌<◌, List, ap, length, subst, sym}
+use Rattle.std.proofs.Common.{◌≡◌, ◌<◌, List, ap, length, subst, sym}
 use Rattle.rng_model.specs.simple.Table.{Table}
-use Rattle.rng_names.specs.plain.Keys.{Keys, key_of, name_at}
+use Rattle.rng_names.specs.plain.Keys.{key_of, name_at}
 use Rattle.rng_deriv_table.specs.views.Node.{Node}
 use Rattle.rng_deriv_table.specs.views.Trees.{tree_of, trees}
 use Rattle.rng_deriv_table.specs.declared.pattern.PatternNumber.{PatternNumber}

@@ -2,7 +2,7 @@ use Rattle.std.proofs.Common.{◌≡◌, ◌++◌, ◌∷◌, [], ◌<◌, ap, a
 use Rattle.std.proofs.Common.{List}
 use Rattle.std.proofs.lemmas.List.{length_push}
 use Rattle.std.proofs.lemmas.Option.{get_or_from_slice_get}
-use Rattle.rng_deriv_table.specs.views.Node.{Node, node_of}
+use Rattle.rng_deriv_table.specs.views.Node.{node_of}
 use Rattle.rng_deriv_table.specs.views.Node as node
 use Rattle.rng_deriv_table.specs.views.PatternTable.{ArePartsBelow, IsNew}
 use Rattle.rng_deriv_table.specs.plain.Reduced.{AreReduced}
