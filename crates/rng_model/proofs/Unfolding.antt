@@ -7,9 +7,7 @@ use Rattle.rng_model.specs.simple.Leaves.{LeafIn, LeafAmong}
 use Rattle.rng_model.specs.simple.Leaves as at
 use Rattle.rng_model.specs.schema.Unfolding.{Leaf, Aim, to_element, to_definition, aim, Unfolds, UnfoldAll, IsTreeOf}
 use Rattle.rng_model.specs.schema.Unfolding as u
-
-pub some_is : {A : Type 0} {x y : A} {o : Option A} → o ≡ Some x → o ≡ Some y → x ≡ y
-some_is e f = cc
+use Rattle.rng_model.proofs.Options.{one_value}
 
 pub one_element : {w : Aim} {l m : Leaf} → w ≡ to_element l → w ≡ to_element m → l ≡ m
 one_element e f = cc
@@ -25,7 +23,7 @@ module _ (s : Schema) where
   pub moved : {d e : Definition} {a b : Tree Point} {t : Tree Leaf} → d ≡ e → body s d ≡ Some a → body s e ≡ Some b → Unfolds s d.place a t
       → Unfolds s e.place b t
   moved {d = d} {a = a} {b = b} {t = t} p f g u =
-      subst (λ w. Unfolds s w.place b t) p (subst (λ c. Unfolds s d.place c t) (some_is f (ap (body s) p ∙ g)) u)
+      subst (λ w. Unfolds s w.place b t) p (subst (λ c. Unfolds s d.place c t) (one_value f (ap (body s) p ∙ g)) u)
 
   mutual
     pub one_tree : {x : Place} {a : Tree Point} {t v : Tree Leaf} → Unfolds s x a t → Unfolds s x a v → t ≡ v

@@ -1,7 +1,7 @@
 -- A property of each name class, datatype and value that is written in a schema holds for those in its simple form, if
 -- changes of the nesting of name classes keep it.
 use Rattle.std.proofs.Common.{◌≡◌, refl, subst, ℕ, ◌+◌, Bool, true, false, if◌then◌else◌, List, [], ◌∷◌, Option, Some, None}
-use Rattle.rng_model.proofs.Options.{none_is_some}
+use Rattle.rng_model.proofs.Options.{none_is_some, one_value}
 use Rattle.rng_model.specs.names.Lists.{Among, here, there}
 use Rattle.rng_model.specs.names.Names.{NameClass}
 use Rattle.rng_model.specs.simple.Simplification.{ClassStep, RuleGroup, Step, StepAmong, AnyStep, Steps}
@@ -22,7 +22,6 @@ use Rattle.rng_model.specs.simple.Simplification as step
 use Rattle.rng_model.specs.schema.Unfolding as unfolding_of
 use Rattle.rng_model.specs.schema.Unfolding.{Leaf, to_element, outside, aim, Unfolds, UnfoldAll, IsTreeOf, IsBodyOf, IsReachedBySimpleForms, from_simple_start}
 use Rattle.rng_model.specs.schema.Unfolding.{from_simple_body}
-use Rattle.rng_model.proofs.Unfolding.{some_is}
 
 first : {A B : Type 0} → A × B → A
 first p = p.0
@@ -85,7 +84,7 @@ module _ (IsClass : NameClass → Type 0) (IsData : Datatype → Type 0) (IsValu
 
     nested_fine : (k : Connector) (ts : List (Tree L)) (a : Tree L) → nested k ts ≡ Some a → AreAllFine ts → IsFine a
     nested_fine k [] a e hs = none_is_some e
-    nested_fine k (t ∷ ts) a e hs = subst IsFine (some_is refl e) (from_fine k t ts (first hs) (second hs))
+    nested_fine k (t ∷ ts) a e hs = subst IsFine (one_value refl e) (from_fine k t ts (first hs) (second hs))
 
     -- ---- a step keeps the conditions
 

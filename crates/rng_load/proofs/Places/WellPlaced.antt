@@ -8,7 +8,7 @@ use Rattle.rng_model.specs.schema.Patterns.{in_element, in_attribute, in_list, i
 use Rattle.rng_model.specs.schema.Patterns.{in_second, in_another, in_external, IsWrittenAmong, in_this, in_later}
 use Rattle.rng_model.specs.schema.Schema.{Schema, Component, IsWrittenAt}
 use Rattle.rng_model.specs.plain.WellPlaced.{IsWellPlaced}
-use Rattle.rng_model.proofs.Unfolding.{some_is}
+use Rattle.rng_model.proofs.Options.{one_value}
 use Rattle.rnc_model.specs.grammar.Syntax as tree
 use Rattle.rnc_model.specs.grammar.Syntax.{applied}
 use Rattle.rnc_model.specs.declarations.FileTree.{FileTree}
@@ -126,7 +126,7 @@ module _ (files : List ℕ → Option FileTree) (main : FileTree) (s : Schema) (
   written_nested x z w =
       let h = is.only_there x w.there.components w.there.there in
       let t = is.there x h.0 h.1 h.2 h.3 in
-      let c = from_map (λ g. g.component) t.0 (subst (Among w.component) (some_is w.there.there t.2) w.there.among) in
+      let c = from_map (λ g. g.component) t.0 (subst (Among w.component) (one_value w.there.there t.2) w.there.among) in
       nested_at x z h.0 h.1 h.2 t.0 c.0 h.3 t.1 c.1 (nested_gathered files t.1 c.1 (subst (λ d. IsWrittenIn (grammar z) d.pattern) c.2 w.written))
 
   pub well_placed : IsWellPlaced s

@@ -16,7 +16,7 @@ use Rattle.rng_model.specs.schema.Patterns.{Place}
 use Rattle.rng_model.specs.schema.Schema.{Schema, Component, Definition, same_component_name}
 use Rattle.rng_model.specs.views.SchemaView.{schema_component_of}
 use Rattle.rng_model.specs.declared.component.Component as code
-use Rattle.rng_model.proofs.Unfolding.{some_is}
+use Rattle.rng_model.proofs.Options.{one_value}
 use Rattle.rng_load.specs.plain.SchemaPlaces.{AreItsPlaces}
 use Rattle.rng_simple.specs.views.ComponentTable.{Table, components_of, IsTable, is_of, those_at, given, components_at, those_among, schema_components}
 use Rattle.rng_simple.specs.plain.Graph.{same_definition, number_of}
@@ -119,7 +119,7 @@ module _ (ds : List Definition) (e : Definition) (c : Component) (old css : List
       → slice_index_or new (number_of (with_definition ds e) d) [] ≡ slice_index_or old (number_of ds d) []
   for_another d h (is_there a b) (is_there x y) =
       ap (λ z. slice_index_or new (number_of (if z then ds else ds ++ e ∷ []) d) []) a
-      ∙ elsewhere (number_of ds d) (λ q. true≢false (sym (definition_same d) ∙ ap (same_definition d) (some_is y (ap (slice_get ds) q ∙ b)) ∙ h))
+      ∙ elsewhere (number_of ds d) (λ q. true≢false (sym (definition_same d) ∙ ap (same_definition d) (one_value y (ap (slice_get ds) q ∙ b)) ∙ h))
   for_another d h (is_there a b) (is_new x y n) =
       ap (λ z. slice_index_or new (number_of (if z then ds else ds ++ e ∷ []) d) []) a
       ∙ elsewhere (number_of ds d) (λ q. let i = slice_get_within ds (number_of ds e) e b in omega (arith, q, y, i))
@@ -187,7 +187,7 @@ pub position_is : {A : Type 0} (test : A → Bool) (xs : List A) (n : ℕ) → S
 position_is test xs n e = either_way (nat_lt (position_or_len test xs) (length xs)) (position_or_len test xs) e
   where
     either_way : (b : Bool) (k : ℕ) → Some n ≡ cond b (Some k) None → n ≡ k
-    either_way true k e = some_is refl e
+    either_way true k e = one_value refl e
     either_way false k e = absurd cc
 
 pub no_position : {A : Type 0} (test : A → Bool) (xs : List A) → None ≡ position test xs → length xs ≤ position_or_len test xs
@@ -269,7 +269,7 @@ module _ (s : Schema) (d : Definition) where
 
   among_found : (xs : List Place) (i : ℕ) (x : Place) → slice_get xs i ≡ Some x → Among x xs
   among_found [] i x e = absurd (let h = slice_get_within [] i x e in omega arith)
-  among_found (y ∷ ys) zero x e = subst (λ z. Among x (z ∷ ys)) (some_is e refl) here
+  among_found (y ∷ ys) zero x e = subst (λ z. Among x (z ∷ ys)) (one_value e refl) here
   among_found (y ∷ ys) (suc i) x e = there (among_found ys i x e)
 
   found_among : {x : Place} {xs : List Place} → Among x xs → Contains xs x

@@ -14,7 +14,7 @@ use Rattle.rng_model.specs.schema.Patterns.{Place, Position, Pattern, Patterns, 
 use Rattle.rng_model.specs.schema.Patterns as pattern
 use Rattle.rng_model.specs.schema.Schema.{Schema, Component, Definition, same_component_name}
 use Rattle.rng_model.specs.schema.Unfolding.{Leaf}
-use Rattle.rng_model.proofs.Unfolding.{some_is}
+use Rattle.rng_model.proofs.Options.{one_value}
 use Rattle.rng_simple.specs.views.ComponentTable.{components_at}
 use Rattle.rng_simple.specs.plain.Graph.{ArePairwiseApart, same_definition, same_leaf}
 use Rattle.rng_simple.specs.plain.ResolvedElements.{with_elements, with_all_elements, with_named_elements, with_elements_of, elements_of}
@@ -61,9 +61,9 @@ leaves_apart : (ls : List Leaf) → AllApart ls → ArePairwiseApart same_leaf l
 leaves_apart [] none_apart i j x y e f q = absurd (let h = slice_get_within [] i x e in omega arith)
 leaves_apart (l ∷ ls) (more_apart a more) zero zero x y e f q = refl
 leaves_apart (l ∷ ls) (more_apart a more) zero (suc j) x y e f q =
-    absurd (not_one x y q (subst (λ k. AreTwo k y) (some_is refl e) (a y (contains_at ls j y f))))
+    absurd (not_one x y q (subst (λ k. AreTwo k y) (one_value refl e) (a y (contains_at ls j y f))))
 leaves_apart (l ∷ ls) (more_apart a more) (suc i) zero x y e f q =
-    let two : AreTwo y x = subst (λ k. AreTwo k x) (some_is refl f) (a x (contains_at ls i x e)) in
+    let two : AreTwo y x = subst (λ k. AreTwo k x) (one_value refl f) (a x (contains_at ls i x e)) in
     absurd (not_one x y q (λ p n. two (sym p) (sym n)))
 leaves_apart (l ∷ ls) (more_apart a more) (suc i) (suc j) x y e f q = ap suc (leaves_apart ls more i j x y e f q)
 
@@ -261,7 +261,7 @@ one_definition s d e l m a b p q =
     let index : 0 + a.index ≡ 0 + b.index = one_child a.front b.front [] (0 + a.index) (0 + b.index) (sym a.position ∙ q ∙ b.position) in
     let there : slice_get (components_at s d.place) a.index ≡ Some b.component =
     ap (λ z. slice_get (components_at s z) a.index) places ∙ ap (slice_get (components_at s e.place)) (omega (arith, index)) ∙ b.there in
-    let component : a.component ≡ b.component = some_is a.there there in
+    let component : a.component ≡ b.component = one_value a.there there in
     let names = same_names d.name e.name b.component.name (ap (λ c. same_component_name d.name c.name) (sym component) ∙ a.named) b.named in
     rw ((bytes_eq-Decides d.place e.place).1 places, names) refl
 

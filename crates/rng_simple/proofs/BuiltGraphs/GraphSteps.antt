@@ -14,7 +14,7 @@ use Rattle.rng_model.specs.schema.Patterns.{Point, pattern_tree}
 use Rattle.rng_model.specs.schema.Schema.{Schema, Component, Definition, main_start, body, body_among, combining_connector, nested, same_component_name}
 use Rattle.rng_model.specs.schema.Schema.{trees_named}
 use Rattle.rng_model.specs.schema.Unfolding.{Leaf, content_of, to_definition}
-use Rattle.rng_model.proofs.Unfolding.{some_is}
+use Rattle.rng_model.proofs.Options.{one_value}
 use Rattle.rng_simple.specs.views.ComponentTable.{given, IsTable, Table, components_of, schema_components}
 use Rattle.rng_simple.specs.plain.Graph.{Spot, IsResolved, IsGraphOf, ArePairwiseApart, same_definition, same_leaf, number_of}
 use Rattle.rng_simple.specs.plain.Met.{met_start}
@@ -94,7 +94,7 @@ module _ (s : Schema) (ready : IsReady s) where
               let b = is.each j c q (before j c (omega (arith, inside, is.some)) f) h in
               (b.0, b.1, subst (λ ls. IsResolved s r.1.definitions ls c.place b.0 q) elements (stays more b.2))
           | inr h ↦
-              let same : d ≡ c = some_is e (ap (slice_get v.definitions) (sym h.0) ∙ before j c (omega (arith, h.0, here)) f) in
+              let same : d ≡ c = one_value e (ap (slice_get v.definitions) (sym h.0) ∙ before j c (omega (arith, h.0, here)) f) in
               subst (λ q. (a : Tree Point) × (body s c ≡ Some a)
               × IsResolved s r.1.definitions (elements_so_far s (length (bodies ++ r.0 ∷ [])) r.1) c.place a q)
               (sym h.1) (subst (λ c. (a : Tree Point) × (body s c ≡ Some a)
@@ -119,7 +119,7 @@ module _ (s : Schema) (ready : IsReady s) where
         contents = λ k m r e f.
             let g = found v.elements k (omega (arith, slice_get_within (map (λ e. e.1) v.elements) k r f, length-map v.elements (λ e. e.1))) in
             subst (IsResolved s v.definitions (elements_of s v.definitions) m.place (content_of m))
-            (some_is (map_at (λ e. e.1) v.elements k g.0 g.1) f) (numbering.each k m g.0 e g.1).1;
+            (one_value (map_at (λ e. e.1) v.elements k g.0 g.1) f) (numbering.each k m g.0 e g.1).1;
         met_definitions = numbering.met_definitions;
         met_elements = numbering.met_elements;
         definitions_apart = numbering.apart;
@@ -133,7 +133,7 @@ same_classes s ls v is = same_lists (map (λ m. m.class) ls) (map (λ e. e.0) v.
     (λ k c d e f.
     let m = found ls k (omega (arith, slice_get_within (map (λ m. m.class) ls) k c e, length-map ls (λ m. m.class))) in
     let g = found v.elements k (omega (arith, slice_get_within (map (λ e. e.0) v.elements) k d f, length-map v.elements (λ e. e.0))) in
-    sym (some_is (sym e ∙ map_at (λ m. m.class) ls k m.0 m.1 ∙ ap Some (sym (is.each k m.0 g.0 m.1 g.1).0) ∙ sym (map_at (λ e. e.0) v.elements k g.0 g.1)
+    sym (one_value (sym e ∙ map_at (λ m. m.class) ls k m.0 m.1 ∙ ap Some (sym (is.each k m.0 g.0 m.1 g.1).0) ∙ sym (map_at (λ e. e.0) v.elements k g.0 g.1)
     ∙ f) refl))
   where
     same_lists : {A : Type 0} (xs ys : List A) → length xs ≡ length ys

@@ -14,7 +14,7 @@ use Rattle.rng_model.specs.schema.Unfolding.{Leaf, content_of}
 use Rattle.rng_simple.specs.plain.Met.{met_in_definition, met_in_element}
 use Rattle.rng_simple.specs.plain.Graph.{Spot, at_element, at_definition, Graph, element_aim, definition_aim, aim_at, IsSpotBelow, IsResolved, IsGraphOf, IsPartOf}
 use Rattle.rng_simple.specs.plain.Graph.{Brings}
-use Rattle.rng_model.proofs.Unfolding.{some_is}
+use Rattle.rng_model.proofs.Options.{one_value}
 
 module _ {K L : Type 0} (f g : K → L) where
   mutual
@@ -96,7 +96,7 @@ module _ (s : Schema) (ds : List Definition) (ls : List Leaf) (g : Graph) (is : 
         bodies = λ j c q f h. elim (before_or_at_end g.bodies r q j h) [
           | inl k ↦ old_body j c q f k
           | inr k ↦
-              let same : d ≡ c = some_is (front_stays ds more_ds (length g.bodies) (slice_get_within ds (length g.bodies) d here) ∙ here)
+              let same : d ≡ c = one_value (front_stays ds more_ds (length g.bodies) (slice_get_within ds (length g.bodies) d here) ∙ here)
               (ap (slice_get all_ds) (sym k.0) ∙ f) in
               subst (λ v. (a : Tree Point) × (body s v ≡ Some a) × IsResolved s all_ds all_ls v.place a q) same
               (a, b, subst (IsResolved s all_ds all_ls d.place a) (sym k.1) e)
@@ -127,7 +127,7 @@ module _ (s : Schema) (ds : List Definition) (ls : List Leaf) (g : Graph) (is : 
         contents = λ j m q f h. elim (before_or_at_end g.contents r q j h) [
           | inl k ↦ old_content j m q f k
           | inr k ↦
-              let same : n ≡ m = some_is (front_stays ls more_ls (length g.contents) (slice_get_within ls (length g.contents) n here) ∙ here)
+              let same : n ≡ m = one_value (front_stays ls more_ls (length g.contents) (slice_get_within ls (length g.contents) n here) ∙ here)
               (ap (slice_get all_ls) (sym k.0) ∙ f) in
               subst (λ v. IsResolved s all_ds all_ls v.place (content_of v) q) same (subst (IsResolved s all_ds all_ls n.place (content_of n)) (sym k.1) e)
         ];

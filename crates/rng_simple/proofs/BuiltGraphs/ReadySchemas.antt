@@ -18,7 +18,7 @@ use Rattle.rng_model.specs.schema.SchemaClauses.{HasNoStart, BreaksRef, of_ref, 
 use Rattle.rng_model.specs.simple.Leaves.{LeafIn, LeafAmong}
 use Rattle.rng_model.specs.simple.Leaves as at
 use Rattle.rng_model.specs.schema.Unfolding.{Leaf, content_of, Aim, to_element, to_definition, to_nothing, outside, aim}
-use Rattle.rng_model.proofs.Unfolding.{some_is}
+use Rattle.rng_model.proofs.Options.{one_value}
 use Rattle.rng_load.proofs.NameLists.{in_none, in_cons}
 use Rattle.rng_simple.specs.plain.Met.{Met, met_start, met_in_definition, met_in_element}
 use Rattle.rng_simple.specs.plain.ReadySchema.{IsReady}
@@ -121,7 +121,7 @@ named_or_not s x y = by_grammar (s.components x) refl
     by_grammar None e = inr (λ h. none-some _ (sym e ∙ h.1.there))
     by_grammar (Some cs) e = elim (named_or_none y cs) [
       | inl h ↦ inl (named_there s x y cs e h)
-      | inr none ↦ inr (λ h. none h.0 (subst (Among h.0) (some_is h.1.there e) h.1.among) h.2)
+      | inr none ↦ inr (λ h. none h.0 (subst (Among h.0) (one_value h.1.there e) h.1.among) h.2)
     ]
 
 -- ---- a definition has a body if some component has its name
@@ -178,7 +178,7 @@ point_of_trees l y n (c ∷ cs) t m i = by_name (same_component_name y c.name) (
 point_of_nested : (k : Connector) (l : Point) (ts : List (Tree Point)) (a : Tree Point) → nested k ts ≡ Some a → LeafIn l a
     → (t : Tree Point) × Contains ts t × LeafIn l t
 point_of_nested k l [] a e i = absurd (none-some _ e)
-point_of_nested k l (t ∷ ts) a e i = elim (from_nested k t ts (subst (LeafIn l) (some_is e refl) i)) [
+point_of_nested k l (t ∷ ts) a e i = elim (from_nested k t ts (subst (LeafIn l) (one_value e refl) i)) [
   | inl j ↦ (t, (0, omega arith, refl), j)
   | inr (u, m, j) ↦ (u, Contains-append_right (t ∷ []) ts u m, j)
 ]
@@ -216,7 +216,7 @@ module _ (s : Schema) (placed : IsWellPlaced s) (starts : ¬ (HasNoStart s)) (re
   parent_there x y w None e = absurd (refs (of_parent_ref w (λ z f h. none-some _ (sym e ∙ f))))
   parent_there x y w (Some z) e = elim (named_or_not s z (Some y)) [
     | inl h ↦ h
-    | inr none ↦ absurd (refs (of_parent_ref w (λ v f h. none (subst (λ v. IsNamedAt s v (Some y)) (some_is f e) h))))
+    | inr none ↦ absurd (refs (of_parent_ref w (λ v f h. none (subst (λ v. IsNamedAt s v (Some y)) (one_value f e) h))))
   ]
 
   point_there : (x : Place) (l : Point) → IsWrittenAt s x (as_written l) → IsThere s (aim s x l)

@@ -12,7 +12,7 @@ use Rattle.rng_model.specs.schema.Schema.{combining_connector, nested, nested_fr
 use Rattle.rng_model.specs.simple.Leaves.{LeafIn, renamed}
 use Rattle.rng_model.specs.simple.Leaves as at
 use Rattle.rng_model.specs.schema.Unfolding.{Leaf, to_definition, to_nothing, aim}
-use Rattle.rng_model.proofs.Unfolding.{some_is}
+use Rattle.rng_model.proofs.Options.{one_value}
 use Rattle.rng_simple.specs.views.ComponentTable.{given, joining, schema_components}
 use Rattle.rng_simple.specs.plain.Graph.{Spot, IsSpotBelow, aim_at}
 use Rattle.rng_simple.specs.views.GraphView.{combined}
@@ -138,7 +138,7 @@ module _ (s : Schema) (found : Met s to_nothing → ⊥) (x : Place) (y : Option
   combined_after k [] a rs ls ks v w e after = absurd (none-some _ e)
   combined_after k (t ∷ ts) a [] ls ks v w e after = absurd (one_or_none after.same)
   combined_after k (t ∷ ts) a (q ∷ qs) ls ks v w e after =
-      subst (λ b. IsAfter s x ls v b ks (nested_from k q qs, w)) (some_is refl e) (nested_after k t ts q qs ls ks v w after)
+      subst (λ b. IsAfter s x ls v b ks (nested_from k q qs, w)) (one_value refl e) (nested_after k t ts q qs ls ks v w after)
 
 -- the connector of the components of a name
 connector_step : (c : Component) (cs : List Component) (k : Connector) → k ≡ joining cs → (b : Bool)
@@ -157,7 +157,7 @@ same_connector y (c ∷ cs) = connector_step c (filter (λ c. same_component_nam
 -- a leaf of one of the trees is a leaf of the body
 in_body : (k : Connector) (ts : List (Tree Point)) (a t : Tree Point) (l : Point) → nested k ts ≡ Some a → Contains ts t → LeafIn l t → LeafIn l a
 in_body k [] a t l e c i = absurd (not_in_none c)
-in_body k (b ∷ ts) a t l e c i = subst (LeafIn l) (some_is refl e) (elim (Contains-append_cases (b ∷ []) ts t c) [
+in_body k (b ∷ ts) a t l e c i = subst (LeafIn l) (one_value refl e) (elim (Contains-append_cases (b ∷ []) ts t c) [
   | inl h ↦ elim (Contains-push_cases [] b t h) [
     | inl z ↦ absurd (not_in_none z)
     | inr z ↦ in_first k b ts (subst (LeafIn l) (sym z) i)

@@ -27,7 +27,7 @@ use Rattle.rng_model.specs.simple.Simplification.{RuleGroup, Step, StepAmong, An
 use Rattle.rng_model.specs.schema.Unfolding as unfolding_of
 use Rattle.rng_model.specs.schema.Unfolding.{Leaf, to_element, outside, aim, Unfolds, UnfoldAll, IsTreeOf, IsBodyOf, IsReachedBySimpleForms, from_simple_start}
 use Rattle.rng_model.specs.schema.Unfolding.{from_simple_body}
-use Rattle.rng_model.proofs.Unfolding.{some_is}
+use Rattle.rng_model.proofs.Options.{one_value}
 use Rattle.rng_schema_checks.proofs.KeptDatatypes.{data_known, data_except_known, value_allowed}
 use Rattle.rng_simple.specs.plain.KnownDatatypes.{AreDatatypesKnown, AreGrammarDatatypesKnown, IsValueDatatype}
 
@@ -133,7 +133,7 @@ module _ {L : Type 0} (P : L → Type 0) where
 
   nested_known : (k : Connector) (ts : List (Tree L)) (a : Tree L) → nested k ts ≡ Some a → AreAllKnown ts → IsKnownTree a
   nested_known k [] a e hs = absurd (none-some _ e)
-  nested_known k (t ∷ ts) a e hs = subst IsKnownTree (some_is refl e) (from_known k t ts (first hs) (second hs))
+  nested_known k (t ∷ ts) a e hs = subst IsKnownTree (one_value refl e) (from_known k t ts (first hs) (second hs))
 
 -- ---- trees of a schema
 

@@ -18,7 +18,8 @@ use Rattle.rng_model.specs.simple.SchemaForm.{Element, SimpleForm, IsElementOf, 
 use Rattle.rng_model.specs.simple.SchemaForm.{IsOnlySimpleGrammarOf}
 use Rattle.rng_model.specs.simple.Grammar.{Grammar}
 use Rattle.rng_simple.specs.plain.Numbering.{no_element, element_at, AreBodies, IsNumbering}
-use Rattle.rng_model.proofs.Unfolding.{some_is, one_tree}
+use Rattle.rng_model.proofs.Unfolding.{one_tree}
+use Rattle.rng_model.proofs.Options.{one_value}
 use Rattle.rng_simple.proofs.NumberedGraphs.Graphs.{found}
 use Rattle.rng_simple.proofs.Trees.SimpleClass.{has_simple_class, is_only_simple_class}
 use Rattle.rng_simple.proofs.Trees.SimpleForms.{has_simple_form, is_only_simple_form}
@@ -37,7 +38,7 @@ same_form e f g = is_only_simple_form _ _ f ∙ ap (λ t. as_tree (simple_of t))
 
 -- a definition has one tree
 pub one_of_definition : (s : Schema) (d : Definition) {t v : Tree Leaf} → IsTreeOf s d t → IsTreeOf s d v → t ≡ v
-one_of_definition s d {t} {v} f g = one_tree s f.2 (subst (λ a. Unfolds s d.place a v) (some_is g.1 f.1) g.2)
+one_of_definition s d {t} {v} f g = one_tree s f.2 (subst (λ a. Unfolds s d.place a v) (one_value g.1 f.1) g.2)
 
 -- an element of a schema in simple form
 abbrev element_form : (Leaf → Simple Leaf) → Leaf → Element

@@ -14,7 +14,8 @@ use Rattle.rng_simple.specs.plain.Expansion.{HasTree, KeepsExpansion}
 use Rattle.rng_model.specs.schema.Unfolding as u
 use Rattle.rng_model.specs.schema.SchemaClauses.{BreaksExpansion}
 use Rattle.rng_simple.specs.plain.Met.{Met, met_start, met_in_definition, met_in_element, IsSettled, IsOrder, none_yet, and_then, Leads, directly, further}
-use Rattle.rng_model.proofs.Unfolding.{IsStuck, some_is, none_of_stuck, no_tree}
+use Rattle.rng_model.proofs.Unfolding.{IsStuck, none_of_stuck, no_tree}
+use Rattle.rng_model.proofs.Options.{one_value}
 use Rattle.rng_simple.proofs.LoopsAndDepths.OrderAndRest.{IsSplit}
 use Rattle.rng_simple.proofs.LoopsAndDepths.PatternPoints.{mapped, bound, tree_or, IsWithin, point_tree, inside}
 use Rattle.rng_model.specs.schema.SchemaClauses as clauses
@@ -76,7 +77,7 @@ module _ (s : Schema) where
     within_definition : (d : Definition) {a : Tree Point} {l : Point} {w : Aim} → body s d ≡ Some a → LeafIn l a → w ≡ aim s d.place l
         → Stands (to_definition d) → Stands w
     within_definition d {a} {l} b i e t =
-        let v = subst (λ c. Unfolds s d.place c t.0) (some_is t.1.1 b) t.1.2 in
+        let v = subst (λ c. Unfolds s d.place c t.0) (one_value t.1.1 b) t.1.2 in
         let p = point_tree s i v in
         stands_within e (record { tree = p.tree; unfolds = p.unfolds; leaves = λ m j. t.2 m (p.leaves m j) })
 
@@ -155,9 +156,9 @@ module _ (s : Schema) where
   -- the definitions that lead to a definition that leads to itself
   pub leading_is_stuck : (c : Definition) → Leads s c c → IsStuck s (λ d. Leads s d c)
   leading_is_stuck c loop d (directly {e = e} {l = l} b i f) a g =
-      record { point = l; definition = e; there = subst (LeafIn l) (some_is b g) i; aimed = f; holds = loop }
+      record { point = l; definition = e; there = subst (LeafIn l) (one_value b g) i; aimed = f; holds = loop }
   leading_is_stuck c loop d (further {e = e} {l = l} b i f h) a g =
-      record { point = l; definition = e; there = subst (LeafIn l) (some_is b g) i; aimed = f; holds = h }
+      record { point = l; definition = e; there = subst (LeafIn l) (one_value b g) i; aimed = f; holds = h }
 
   pub start_leads : (c : Definition) → Leads s c c → Leads s (main_start s) c → BreaksExpansion s
   start_leads c loop f = clauses.of_start (none_of_stuck s (λ d. Leads s d c) (leading_is_stuck c loop) (main_start s) f)

@@ -13,7 +13,8 @@ use Rattle.rng_model.specs.simple.Leaves as at
 use Rattle.rng_model.specs.schema.Unfolding.{Aim, to_element, to_definition, to_nothing, aim}
 use Rattle.rng_model.specs.schema.SchemaClauses.{BreaksExpansion}
 use Rattle.rng_simple.specs.plain.Met.{Met, IsSettled, IsOrder, none_yet, and_then, Leads}
-use Rattle.rng_model.proofs.Unfolding.{MentionsSome, some_is, none_of_stuck}
+use Rattle.rng_model.proofs.Unfolding.{MentionsSome, none_of_stuck}
+use Rattle.rng_model.proofs.Options.{one_value}
 use Rattle.rng_simple.proofs.LoopsAndDepths.OrderAndRest.{IsSplit}
 use Rattle.rng_simple.proofs.LoopsAndDepths.PatternPoints.{mapped, bound}
 use Rattle.rng_simple.proofs.LoopsAndDepths.LoopsOrOrder.{Covers, order_trees, breaks, leading_is_stuck}
@@ -112,7 +113,7 @@ module _ (s : Schema) (ds : List Definition) (has_body : (d : Definition) → Co
       elim (leaves_or (λ l. IsSettled (Contains done) (aim s d.place l)) (MentionsSome s (Contains todo) d.place b.0) b.0
       (λ l i. point_or done todo o d.place b.0 l i (aim s d.place l) refl (closed d b.0 l (o.known d c) b.1 i))) [
         | inl p ↦ inl (b.0, b.1, p)
-        | inr m ↦ inr (λ a e. subst (MentionsSome s (Contains todo) d.place) (some_is b.1 e) m)
+        | inr m ↦ inr (λ a e. subst (MentionsSome s (Contains todo) d.place) (one_value b.1 e) m)
       ]
 
   -- one more in order

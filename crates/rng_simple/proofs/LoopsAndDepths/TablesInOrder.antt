@@ -10,7 +10,7 @@ use Rattle.rng_model.specs.schema.Unfolding.{Leaf, to_definition, aim, Unfolds}
 use Rattle.rng_model.specs.schema.Unfolding as u
 use Rattle.rng_simple.specs.plain.Met.{IsSettled, IsOrder, none_yet, and_then}
 use Rattle.rng_simple.specs.plain.DepthWith.{of_aim, IsFilled, IsRight}
-use Rattle.rng_model.proofs.Unfolding.{some_is}
+use Rattle.rng_model.proofs.Options.{one_value}
 
 module _ (A : Type 0) (s : Schema) (of_tree : Tree Leaf → A) (one : Leaf → A) (other : A) (is_one : (m : Leaf) → one m ≡ of_tree (leaf m))
     (table : Definition → A) where
@@ -38,5 +38,5 @@ module _ (A : Type 0) (s : Schema) (of_tree : Tree Leaf → A) (one : Leaf → A
         let right = filled_right o (λ g i. f g (subst (λ xs. Contains xs g) (sym p) (Contains-append_left ds _ g i))) in
         let ends : Contains es e = subst (λ xs. Contains xs e) (sym p) (Contains-push ds e) in
         newest_right ds d e right
-        (λ t w. f e ends a b ∙ body_right (Contains ds) right e.place a k t (subst (λ z. Unfolds s e.place z t) (some_is w.1 b) w.2))
+        (λ t w. f e ends a b ∙ body_right (Contains ds) right e.place a k t (subst (λ z. Unfolds s e.place z t) (one_value w.1 b) w.2))
         (Contains-push_cases ds e d (subst (λ xs. Contains xs d) p c))

@@ -18,7 +18,8 @@ use Rattle.rng_model.specs.schema.Unfolding.{Leaf, Unfolds, IsBodyOf, IsReachedB
 use Rattle.rng_model.specs.simple.SchemaForm.{SimpleForm, IsElementOf, IsSimpleFormOfSchema, IsSameUpToNumbering, IsSimpleGrammarOf}
 use Rattle.rng_model.specs.matching.SchemaMatching.{IsValidOver}
 use Rattle.rng_model.specs.simple.SimplifiedSchema.{AreSameDocuments}
-use Rattle.rng_model.proofs.Unfolding.{some_is, one_tree}
+use Rattle.rng_model.proofs.Unfolding.{one_tree}
+use Rattle.rng_model.proofs.Options.{one_value}
 use Rattle.rng_simple.specs.plain.InTwos.{nested}
 use Rattle.rng_simple.proofs.Trees.SimpleClass.{is_only_simple_class}
 use Rattle.rng_simple.specs.plain.SimpleOf.{simple_of}
@@ -119,7 +120,7 @@ module _ (s : Schema) (texts : Texts) where
         (m.tree, v, λ k i. from_simple_body r v (has_simple_form m.tree) i.there)
 
     start_tree : (a : Tree Point) → body s (main_start s) ≡ Some a → Unfolds s s.main a is.tree
-    start_tree a e = subst (λ b. Unfolds s s.main b is.tree) (some_is is.is_tree.1 e) is.is_tree.2
+    start_tree a e = subst (λ b. Unfolds s s.main b is.tree) (one_value is.is_tree.1 e) is.is_tree.2
 
     written_to_grammar : (root : Item) → IsValidOver s texts root → IsValidBy g texts root
     written_to_grammar root v =

@@ -13,7 +13,7 @@ use Rattle.rng_simple.specs.declared.graph.order.Task.{Task}
 use Rattle.rng_simple.specs.declared.graph.order.Task.TheVariants as task
 use Rattle.rng_simple.specs.plain.Graph.{no_numbers, and_number, LeadsBy, by_one, by_more}
 use Rattle.rng_simple.specs.plain.Search.{Lists, AreMentionsBelow, number_of, IsDue, IsSearch, IsStart, weight}
-use Rattle.rng_model.proofs.Unfolding.{some_is}
+use Rattle.rng_model.proofs.Options.{one_value}
 
 then_one : {A : Type 0} (M : A → A → Type 0) {x y : A} (z : A) → LeadsBy M x y → M y z → LeadsBy M x z
 then_one M z (by_one m) n = by_more m (by_one n)
@@ -271,7 +271,7 @@ module _ (all : List (List ℕ)) (marks : List Mark) (rest : List Task) (order :
 pub started : (all : List (List ℕ)) (marks : List Mark) (tasks : List Task) → IsStart (length all) marks tasks → IsSearch all marks tasks []
 started all marks tasks s =
     let entered : (p : ℕ) (t : Task) → slice_get tasks p ≡ Some t
-    → t ≡ task.Enter p = λ p t e. some_is e (s.each p (omega (arith, slice_get_within tasks p t e, s.all_tasks))) in record {
+    → t ≡ task.Enter p = λ p t e. one_value e (s.each p (omega (arith, slice_get_within tasks p t e, s.all_tasks))) in record {
       long = s.all_marks;
       in_order = no_numbers;
       ordered_below = All-nil (λ i. i < length all);
@@ -295,7 +295,7 @@ pub weight_open : (marks : List Mark) (all : List (List ℕ)) (j : ℕ) → slic
     → weight (set marks j mark.Open) all + (length (slice_index_or all j []) + 2) ≡ weight marks all
 weight_open [] all j e h = absurd (let k = slice_get_within [] j mark.New e in omega arith)
 weight_open (m ∷ marks) [] j e h = absurd (omega arith)
-weight_open (m ∷ marks) (is ∷ all) zero e h = by_mark m (some_is refl e) where
+weight_open (m ∷ marks) (is ∷ all) zero e h = by_mark m (one_value refl e) where
   by_mark : (m : Mark) → m ≡ mark.New → weight (mark.Open ∷ marks) (is ∷ all) + (length is + 2) ≡ weight (m ∷ marks) (is ∷ all)
   by_mark mark.New q = omega arith
   by_mark mark.Open q = absurd (let z = q in cc)

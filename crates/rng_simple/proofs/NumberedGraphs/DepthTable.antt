@@ -8,7 +8,7 @@ use Rattle.rng_model.specs.simple.Tree.{Tree}
 use Rattle.rng_model.specs.simple.Leaves.{class_depth, depth_limit}
 use Rattle.rng_simple.specs.plain.InTwos.{nested}
 use Rattle.rng_model.specs.names.NameViews.{class_of}
-use Rattle.rng_model.proofs.Unfolding.{some_is}
+use Rattle.rng_model.proofs.Options.{one_value}
 use Rattle.rng_simple.specs.plain.Graph.{Spot, Graph, Mentions, IsOrderBy, IsFilledBy, spot_depth, IsDeepBy, start_is_deep, body_is_deep, class_is_deep}
 use Rattle.rng_simple.specs.views.GraphView.{graph_pattern_of, graph_of, classes_of}
 use Rattle.rng_simple.specs.plain.MemberDepths.{depth_in, IsDeepElement}
@@ -59,7 +59,7 @@ module _ (g : declared.Graph) (table : List ℕ) where
   element_at f k x is =
       let h : k < length g.elements.items = omega (arith, slice_get_within (map f g.elements.items) k x is, length-map g.elements.items f) in
       let e = found g.elements.items k h in
-      (e.0, e.1, some_is (map_at f g.elements.items k e.0 e.1) is)
+      (e.0, e.1, one_value (map_at f g.elements.items k e.0 e.1) is)
 
   pub none_is_deep : (depth_limit < depth_in table 0 → ⊥)
       → ((k : ℕ) (e : GraphElement) → k < length g.elements.items → slice_get g.elements.items k ≡ Some e → IsDeepElement table e → ⊥)
@@ -81,6 +81,6 @@ module _ (g : declared.Graph) (table : List ℕ) where
     | inr l ↦
         let same : k ≡ i = omega arith in
         let here : d ≡ e =
-        some_is is (ap (slice_get g.elements.items) same ∙ slice_get-get_or g.elements.items i e inside ∙ ap Some (sym at)) in
+        one_value is (ap (slice_get g.elements.items) same ∙ slice_get-get_or g.elements.items i e inside ∙ ap Some (sym at)) in
         flat (subst (IsDeepElement table) here deep)
   ]

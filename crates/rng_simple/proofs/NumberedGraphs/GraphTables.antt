@@ -19,7 +19,7 @@ use Rattle.rng_simple.specs.plain.Graph.{Spot, at_element, at_definition, Graph,
 use Rattle.rng_simple.specs.plain.Graph.{same_leaf, ArePairwiseApart, IsGraphOf, Mentions, IsOrderBy, no_numbers, and_number, LeadsBy, by_one, by_more, of_spot}
 use Rattle.rng_simple.specs.plain.Graph.{spot_depth}
 use Rattle.rng_simple.specs.plain.Graph.{IsFilledBy, first_with, no_definition, definition_at, number_of, leaf_number}
-use Rattle.rng_model.proofs.Unfolding.{some_is}
+use Rattle.rng_model.proofs.Options.{one_value}
 use Rattle.rng_simple.proofs.Leaves.RenamedLeaves.{depth_same}
 use Rattle.rng_simple.proofs.NumberedGraphs.Graphs.{found, spot_of, point_of, resolved_body, has_body}
 
@@ -54,7 +54,7 @@ first_is : {A : Type 0} (test : A → Bool) (xs : List A) (j : ℕ) (x : A) → 
     → ((i : ℕ) (y : A) → slice_get xs i ≡ Some y → test y ≡ true → i ≡ j) → first_with test xs ≡ j
 first_is test [] j x e t u = absurd (let h = slice_get_within [] j x e in omega arith)
 first_is test (y ∷ ys) zero x e t u =
-    let same : x ≡ y = some_is e refl in
+    let same : x ≡ y = one_value e refl in
     ap (λ b. if b then 0 else first_with test ys + 1) (sym (ap test same) ∙ t)
 first_is test (y ∷ ys) (suc j) x e t u =
     first_later test y ys j

@@ -12,7 +12,7 @@ use Rattle.rng_model.specs.simple.Leaves as at
 use Rattle.rng_model.specs.schema.Unfolding.{Leaf, content_of, Aim, to_element, to_definition, to_nothing, aim}
 use Rattle.rng_simple.specs.plain.Met.{Met, met_start, met_in_definition, met_in_element, IsSettled}
 use Rattle.rng_simple.specs.plain.Graph.{Spot, at_element, at_definition, Graph, element_aim, definition_aim, aim_at, IsSpotBelow, IsResolved, IsGraphOf}
-use Rattle.rng_model.proofs.Unfolding.{some_is}
+use Rattle.rng_model.proofs.Options.{one_value}
 use Rattle.rng_simple.proofs.LoopsAndDepths.LoopsOrOrder.{Covers}
 
 -- ---- leaves of renamed trees
@@ -110,7 +110,7 @@ module _ (s : Schema) (ds : List Definition) (ls : List Leaf) (g : Graph) (is : 
   resolved_body d j e =
       let f = found g.bodies j (omega (arith, slice_get_within ds j d e, is.all_bodies)) in
       let b = is.bodies j d f.0 e f.1 in
-      (f.0, f.1, λ a h. subst (λ c. IsResolved s ds ls d.place c f.0) (some_is b.1 h) b.2)
+      (f.0, f.1, λ a h. subst (λ c. IsResolved s ds ls d.place c f.0) (one_value b.1 h) b.2)
 
   pub resolved_content : (m : Leaf) (k : ℕ) → slice_get ls k ≡ Some m
       → (r : Tree Spot) × (slice_get g.contents k ≡ Some r) × IsResolved s ds ls m.place (content_of m) r

@@ -20,7 +20,7 @@ use Rattle.rng_simple.proofs.NumberedGraphs.Graphs.{found, found_contained, reso
 use Rattle.rng_simple.proofs.NumberedGraphs.GraphTables.{number_is, order_of, leads_of, table_of, depth_resolved, filled_of}
 use Rattle.rng_model.specs.simple.Leaves.{class_depth, depth_limit}
 use Rattle.rng_simple.specs.plain.InTwos.{nested}
-use Rattle.rng_model.proofs.Unfolding.{some_is}
+use Rattle.rng_model.proofs.Options.{one_value}
 use Rattle.rng_simple.proofs.ListParts.{map_at}
 
 -- ---- S16
@@ -85,7 +85,7 @@ module _ (s : Schema) (ds : List Definition) (ls : List Leaf) (g : Graph) (is : 
       by_deep (class_is_deep k c e l) =
           let at : slice_get (map (λ m. m.class) ls) k ≡ Some c = subst (λ cs. slice_get cs k ≡ Some c) (sym named) e in
           let m = found ls k (omega (arith, slice_get_within (map (λ m. m.class) ls) k c at, length-map ls (λ m. m.class))) in
-          let same : m.0.class ≡ c = some_is (map_at (λ n. n.class) ls k m.0 m.1) at in
+          let same : m.0.class ≡ c = one_value (map_at (λ n. n.class) ls k m.0 m.1) at in
           deep_name m.0 (is.met_elements m.0 (contains_at ls k m.0 m.1)) (subst (λ d. depth_limit < class_depth (nested d)) (sym same) l)
 
       pub deep_breaks_depth : BreaksDepth s ↔ IsDeepBy classes g values

@@ -7,7 +7,7 @@ use Rattle.rng_model.specs.simple.Tree.{Tree}
 use Rattle.rng_model.specs.simple.Leaves.{LeafIn}
 use Rattle.rng_simple.specs.plain.Graph.{Spot, at_element, at_definition, Graph, Mentions, IsOrderBy, no_numbers, and_number, of_spot, spot_depth}
 use Rattle.rng_simple.specs.plain.Graph.{IsFilledBy}
-use Rattle.rng_model.proofs.Unfolding.{some_is}
+use Rattle.rng_model.proofs.Options.{one_value}
 use Rattle.rng_simple.proofs.Leaves.RenamedLeaves.{depth_same}
 
 -- what a member of an order mentions is in the order
@@ -49,6 +49,6 @@ module _ {A : Type 0} (of_body : (ℕ → A) → Tree Spot → A) (reads : Reads
     | inl h ↦ sym (same_there i h) ∙ filled i h q f
         ∙ reads v w q (λ k l. same_there k (order_closed (Mentions g) o i k h (record { tree = q; is = f; there = l })))
     | inr e ↦
-        let same : r ≡ q = some_is there (ap (slice_get g.bodies) e ∙ f) in
+        let same : r ≡ q = one_value there (ap (slice_get g.bodies) e ∙ f) in
         ap w (sym e) ∙ new ∙ reads v w r (λ k l. same_there k (earlier k (record { tree = r; is = there; there = l }))) ∙ ap (of_body w) same
   ]

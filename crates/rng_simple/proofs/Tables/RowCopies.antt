@@ -16,7 +16,7 @@ use Rattle.rng_model.specs.simple.Table as tables
 use Rattle.rng_model.specs.declared.simple.Simple.{Simple}
 use Rattle.rng_model.specs.declared.simple.Simple.TheVariants as simple
 use Rattle.rng_model.proofs.NumberedTrees as numbered
-use Rattle.rng_model.proofs.Unfolding.{some_is}
+use Rattle.rng_model.proofs.Options.{one_value}
 use Rattle.rng_simple.specs.plain.Copying.{tree_numbered, place_of, listed_at, AllChildren, own_elements, numbered_row, IsRowCopy, IsCopied, IsRowTree, AreCopied}
 use Rattle.rng_simple.specs.plain.Renamed.{simple_renamed}
 use Rattle.std.specs.HashMap.{HashMap}
@@ -396,7 +396,7 @@ module _ (l : Labels) (rs : List Row) (reached : List Bool) (i : ℕ) (places li
         | inl a ↦ Contains-append_left listed (own_elements r) k (are.all j k a e f)
         | inr a ↦
             let last : j ≡ i = omega arith in
-            let same : r ≡ row.Element k = some_is found (ap (slice_get rs) (sym last) ∙ f) in
+            let same : r ≡ row.Element k = one_value found (ap (slice_get rs) (sym last) ∙ f) in
             Contains-append_right listed (own_elements r) k (own_has r k same)
       ];
       short = omega (arith, are.short, length-append ps (p ∷ []));
@@ -409,7 +409,7 @@ module _ (l : Labels) (rs : List Row) (reached : List Bool) (i : ℕ) (places li
             (older q (place_of places j) (are.copied j a e).there (are.made j q a e f))
         | inr a ↦
             let last : j ≡ i = omega arith in
-            let same : r ≡ q = some_is found (ap (slice_get rs) (sym last) ∙ f) in
+            let same : r ≡ q = one_value found (ap (slice_get rs) (sym last) ∙ f) in
             subst (IsRowTree l qs (places ++ length ps ∷ []) new (i + 1) q) (sym (here j (length ps) last))
             (subst (λ x. IsRowTree l qs (places ++ length ps ∷ []) new (i + 1) x (length ps)) same newest)
       ];
@@ -439,4 +439,4 @@ both_children P i (row.Value v) b h = tt
 
 -- rows with an index are distinct
 pub index_apart : {S : Type 0} (rs : List Row) (numbers : HashMap Row ℕ S) → IsIndex rs numbers → AreDistinctRows rs
-index_apart rs numbers is i j r e f = some_is ((is r i).1 e) ((is r j).1 f)
+index_apart rs numbers is i j r e f = one_value ((is r i).1 e) ((is r j).1 f)

@@ -1,7 +1,7 @@
 use Rattle.std.proofs.Common.{◌≡◌, ◌<◌, [], ◌∷◌, ◌++◌, length, slice_get, Some, true, false, rules, refl, subst, ap, ◌∙◌, arith}
 use Rattle.std.proofs.lemmas.Option.{slice_get-get_or}
 use Rattle.rng_model.proofs.Places.{read_at}
-use Rattle.rng_model.proofs.Unfolding.{some_is}
+use Rattle.rng_model.proofs.Options.{one_value}
 use Rattle.rng_simple.specs.plain.Copying.{AreCopied, own_elements, IsRowCopy}
 use Rattle.rng_simple.specs.views.RowTable.{finished_labels}
 use Rattle.rng_simple.proofs.Tables.RowCopies.{copied_as, copied_next, skipped, both_children}
@@ -43,7 +43,7 @@ rows-preserved c =
           let g : c.if-reached-i.listed.items ≡ listed = search rules in
           let is : slice_get reached i ≡ Some false = slice_get-get_or reached i false inside ∙ ap (λ b. Some b) w.if-reached-i.false in
           copied_as l rs reached _ _ _ _ _ _ _ e f g
-          (skipped l rs reached i places listed ps c.rows.invariant (λ h. true_is_not_false (some_is h is)))
+          (skipped l rs reached i places listed ps c.rows.invariant (λ h. true_is_not_false (one_value h is)))
     ]
 
 pub returns : goal.returns
