@@ -4,6 +4,7 @@ use Rattle.std.proofs.Common.{Result, Ok, Err}
 use Rattle.std.proofs.Common.{refl, sym, ap, subst, ◌∙◌, arith, append_assoc, ◌⊎◌, inl, inr}
 use Rattle.std.specs.Prelude.{sum_by, is_some}
 use Rattle.std.specs.List.{AllByRecursion}
+use Rattle.std.proofs.lemmas.Bool.{cases_lt}
 use Rattle.std.proofs.lemmas.List.{length-append, append-nil}
 use Rattle.std.proofs.lemmas.List.Elements.{All-from_recursion}
 use Rattle.std.proofs.lemmas.List.Sums.{sum_by-cons}
@@ -31,7 +32,7 @@ use Rattle.pyx.proofs.Input.ReaderAfterPiece.{at_fault}
 use Rattle.pyx.proofs.Tags.Declarations.{declaration_of, prefix_of, AreDeclared, declares_it}
 use Rattle.pyx.proofs.Tags.Parts.{IsSplit, declares, declares_none, split_parted, split_declared}
 use Rattle.pyx.proofs.Tags.Parts as split
-use Rattle.pyx.proofs.Input.LinesOfPieces.{with_open, grown, long_fails, length-push, read_cons, read_nil, byte_full, byte_within, byte_feed, dichotomy}
+use Rattle.pyx.proofs.Input.LinesOfPieces.{with_open, grown, long_fails, length-push, read_cons, read_nil, byte_full, byte_within, byte_feed}
 use Rattle.pyx.proofs.Input.LinesOfPieces.{at_nil}
 use Rattle.pyx.proofs.Input.LinesOfPieces.{fails_first}
 use Rattle.pyx.proofs.Input.PieceCounts.{no_ok, read_counts}
@@ -96,7 +97,7 @@ silent_ok (Err x) es f a e = absurd cc
 
 came : (bytes : List ℕ) (p q : Progress) → NoFeed p.begun → length p.begun ≤ line_limit → (read bytes p).0 ≡ Ok q → Came (p.begun ++ bytes) p.state q
 came [] p q f h e = came_none p q f (same_ok (ap (λ (t : Turn Progress). t.0) (sym (read_nil p)) ∙ e))
-came (c ∷ cs) p q f h e = go (eqb c 10) refl (dichotomy (length p.begun) line_limit)
+came (c ∷ cs) p q f h e = go (eqb c 10) refl (cases_lt (length p.begun) line_limit)
     (goes_first (byte_read c p).0 (byte_read c p).1 (read cs) q (ap (λ (t : Turn Progress). t.0) (sym (read_cons c cs p)) ∙ e))
     (λ u. came cs (with_begun [] u) q at_nil (omega arith)) (λ k j. came cs (grown c p) q k j) where
       go : (b : Bool) → eqb c 10 ≡ b → (length p.begun < line_limit) ⊎ (line_limit ≤ length p.begun)

@@ -207,6 +207,14 @@ no_tag_ended l os w n root = go (is_kind 65 l.bytes) refl where
 pub not_kind : (k : ℕ) (l : Line) → is_kind k l.bytes ≡ false → HasKind k l → ⊥
 not_kind k l e h = false_true (sym e ∙ kind_is k l h)
 
+-- a line that breaks a clause, and no attribute, ends the start tag
+pub bad_closes : (l : Line) (os : List Open) (t : Tag) (n k : ℕ) → said_of l ≡ Err k → is_kind 65 l.bytes ≡ false
+    → (r : Result Element ℕ) → tag_read (declared_in os) t.name t.declared t.others ≡ r
+    → line_read l (in_tag os t n) ≡ followed (reader.tag_closed r t (in_tag os t n)) (λ t. fault k (t.count + 1))
+bad_closes l os t n k e p r q = bad_line l (in_tag os t n) k e
+    ∙ ap (λ (t : Turn State). followed t (λ t. fault k (t.count + 1))) (ended_closes l (in_tag os t n) p)
+    ∙ ap (λ (x : Result Element ℕ). followed (reader.tag_closed x t (in_tag os t n)) (λ t. fault k (t.count + 1))) q
+
 bad_tells : {front : List Line} {s : State} (l : Line) (k : ℕ) → Place front s → said_of l ≡ Err k → LineTells front l (line_read l s)
 bad_tells {front} l k (at_content {os} {w} {n} {root} c u) e =
     let b = broken_line l k e in
@@ -216,22 +224,16 @@ bad_tells {front} l k (at_tag {os} {t} {n} c) e = go (is_kind 65 l.bytes) (tag_r
   b : BreaksLine l k
   b = broken_line l k e
 
-  closing : is_kind 65 l.bytes ≡ false
-      → line_read l (in_tag os t n) ≡ followed (close_tag (Some t) (in_tag os t n)) (λ t. fault k (t.count + 1))
-  closing p = bad_line l (in_tag os t n) k e ∙ ap (λ (t : Turn State). followed t (λ t. fault k (t.count + 1))) (ended_closes l (in_tag os t n) p)
-
-  closes : (r : Result Element ℕ) → tag_read (declared_in os) t.name t.declared t.others ≡ r → is_kind 65 l.bytes ≡ false
-      → line_read l (in_tag os t n) ≡ followed (reader.tag_closed r t (in_tag os t n)) (λ t. fault k (t.count + 1))
-  closes r q p = closing p ∙ ap (λ (x : Result Element ℕ). followed (reader.tag_closed x t (in_tag os t n)) (λ t. fault k (t.count + 1))) q
-
   go : (x : Bool) (r : Result Element ℕ) → is_kind 65 l.bytes ≡ x → tag_read (declared_in os) t.name t.declared t.others ≡ r
       → LineTells front l (line_read l (in_tag os t n))
   go true r p q = here front l k c.count (bad_line l (in_tag os t n) k e
       ∙ ap (λ (t : Turn State). followed t (λ t. fault k (t.count + 1))) (ended_silent l (in_tag os t n) p))
       (at_most_ten (alone_few b)) (λ behind. line_breaks b)
-  go false (Ok x) p q = breaks_here k (ap (λ (r : Turn State). r.0) (closes (Ok x) q p) ∙ ap (λ (m : ℕ). failed k (m + 1)) c.count)
+  go false (Ok x) p q = breaks_here k (ap (λ (r : Turn State). r.0) (bad_closes l os t n k e p (Ok x) q)
+      ∙ ap (λ (m : ℕ). failed k (m + 1)) c.count)
       (at_most_ten (alone_few b)) (λ behind. line_breaks b)
-  go false (Err j) p q = tag_breaks j (ap (λ (r : Turn State). r.0) (closes (Err j) q p) ∙ ap (failed j) c.count) (tag_broken c q) (not_kind 65 l p)
+  go false (Err j) p q = tag_breaks j (ap (λ (r : Turn State). r.0) (bad_closes l os t n k e p (Err j) q) ∙ ap (failed j) c.count)
+      (tag_broken c q) (not_kind 65 l p)
 
 good_tells : {front : List Line} {s : State} (l : Line) (x : Said) → Place front s → IsGoodLine l x → LineTells front l (line_read l s)
 good_tells {front} l x (at_content {os} {w} {n} {root} c u) g = retold (ap (λ (t : Turn State). t.0) (line_said g (inside os w n root)))

@@ -82,13 +82,13 @@ front_by {ls} h = λ g b.
 not_front : {ls : List Line} {f : Fault} → (document_read ls).0 ≡ Err f → f.clause ≤ 12 → IsFront ls → ⊥
 not_front {ls} {f} e h i = absurd (omega (arith, h, i f (broken ls f e)))
 
+-- the clauses that a tag breaks
+one_of_tag : {A B : Type 0} {k : ℕ} → ((k ≡ 11) × A) ⊎ ((k ≡ 12) × B) → k ≤ 12
+one_of_tag (inl p) = omega (arith, p.0)
+one_of_tag (inr p) = omega (arith, p.0)
+
 tag_not_front : {ls : List Line} {k : ℕ} → TagBreaks ls k → IsFront ls → ⊥
-tag_not_front {ls} {k} b i = absurd (omega (arith, i (at k (length ls)) (tag_breaks_all b begins_none (sym (append-nil ls))), twelve)) where
-  twelve : k ≤ 12
-  twelve = go b.breaks where
-    go : {A B : Type 0} → ((k ≡ 11) × A) ⊎ ((k ≡ 12) × B) → k ≤ 12
-    go (inl p) = omega (arith, p.0)
-    go (inr p) = omega (arith, p.0)
+tag_not_front {ls} {k} b i = absurd (omega (arith, i (at k (length ls)) (tag_breaks_all b begins_none (sym (append-nil ls))), one_of_tag b.breaks))
 
 -- a place where the end breaks nothing except P13
 calm_front : {front : List Line} {s : State} {es : List Event} → all_read front nothing_read ≡ good s es
@@ -161,23 +161,17 @@ bad_fails : {front : List Line} {s : State} {es : List Event} {f : Fault} (l : L
 bad_fails l k (at_content {os} {w} {n} {root} c u) r e g = inl (first_is (bad_line l (inside os w n root) k e
     ∙ ap (λ (t : Turn State). followed t (λ t. fault k (t.count + 1))) (no_tag_ended l os w n root)))
 bad_fails {front} {f = f} l k (at_tag {os} {t} {n} c) r e g = go (is_kind 65 l.bytes) (tag_read (declared_in os) t.name t.declared t.others) refl refl where
-  closes : (x : Result Element ℕ) → tag_read (declared_in os) t.name t.declared t.others ≡ x → is_kind 65 l.bytes ≡ false
-      → line_read l (in_tag os t n) ≡ followed (reader.tag_closed x t (in_tag os t n)) (λ t. fault k (t.count + 1))
-  closes x q p = bad_line l (in_tag os t n) k e
-      ∙ ap (λ (t : Turn State). followed t (λ t. fault k (t.count + 1))) (ended_closes l (in_tag os t n) p)
-      ∙ ap (λ (y : Result Element ℕ). followed (reader.tag_closed y t (in_tag os t n)) (λ t. fault k (t.count + 1))) q
-
   go : (x : Bool) (y : Result Element ℕ) → is_kind 65 l.bytes ≡ x → tag_read (declared_in os) t.name t.declared t.others ≡ y
       → Handed front (in_tag os t n) f (line_read l (in_tag os t n)).1
   go true y p q = inl (first_is (bad_line l (in_tag os t n) k e
       ∙ ap (λ (t : Turn State). followed t (λ t. fault k (t.count + 1))) (ended_silent l (in_tag os t n) p)))
   go false (Ok x) p q =
-      let z = closes (Ok x) q p in
+      let z = bad_closes l os t n k e p (Ok x) q in
       inr (
         ap (λ (f : Fault). f.line) (same_err (sym g ∙ ap (λ (t : Turn State). t.0) z)) ∙ ap (λ (m : ℕ). m + 1) c.count,
         subst (Calm front (in_tag os t n)) (sym (first_is z)) (calm_within x c q r),
       )
-  go false (Err j) p q = inl (first_is (closes (Err j) q p))
+  go false (Err j) p q = inl (first_is (bad_closes l os t n k e p (Err j) q))
 
 line_fails : {front : List Line} {s : State} {es : List Event} {f : Fault} (l : Line) → Place front s → all_read front nothing_read ≡ good s es
     → (line_read l s).0 ≡ Err f → Handed front s f (line_read l s).1
@@ -482,10 +476,7 @@ tells_of (goes_on q p) e = absurd (ok_err (sym q ∙ e))
 tells_of (breaks_here k q h b) e = let is = same_err (sym q ∙ e) in
     (omega (arith, ap (λ (x : Fault). x.clause) is, h), omega (arith, ap (λ (x : Fault). x.line) is))
 tells_of (tag_breaks k q b n) e = let is = same_err (sym q ∙ e) in
-    (omega (arith, ap (λ (x : Fault). x.clause) is, go b.breaks), omega (arith, ap (λ (x : Fault). x.line) is)) where
-      go : {A B : Type 0} → ((k ≡ 11) × A) ⊎ ((k ≡ 12) × B) → k ≤ 12
-      go (inl p) = omega (arith, p.0)
-      go (inr p) = omega (arith, p.0)
+    (omega (arith, ap (λ (x : Fault). x.clause) is, one_of_tag b.breaks), omega (arith, ap (λ (x : Fault). x.line) is))
 
 -- a fault at this line
 module _ (front : List Line) (l : Line) (s : State) (es : List Event) (f : Fault) (place : Place front s)

@@ -1,6 +1,7 @@
 -- The lines of bytes that were fed, and the documents with the same first lines.
 use Rattle.std.proofs.Common.{◌≡◌, ℕ, zero, suc, ◌≤◌, ◌<◌, Bool, true, false, eqb, List, [], ◌∷◌, ◌++◌, All, length, take, None, Result, Ok, Err}
 use Rattle.std.proofs.Common.{refl, ap, sym, ◌∙◌, subst, arith, append_assoc, ◌⊎◌, inl, inr}
+use Rattle.std.proofs.lemmas.Bool.{cases_lt}
 use Rattle.std.proofs.lemmas.List.{append-nil}
 use Rattle.std.proofs.lemmas.List.Elements.{All-append, All-cons, All-head, All-nil, All-tail, All-weaker}
 use Rattle.rng_model.proofs.Options.{ok_is_err}
@@ -11,7 +12,7 @@ use Rattle.pyx.specs.plain.Pieces.{Progress, ended_line, finished, nothing_fed, 
 use Rattle.pyx.specs.views.ReaderAfterPiece.{Kept, Stands}
 use Rattle.pyx.proofs.Events.EventLines.{AreReported, as_long, parted_at, reported_front, reported_line, reported_of}
 use Rattle.pyx.proofs.Input.LineTurns.{followed_twice, read_append}
-use Rattle.pyx.proofs.Input.LinesOfPieces.{at_nil, byte_feed, byte_full, byte_within, dichotomy, fails_first, grown, length-push, long_fails, read_cons}
+use Rattle.pyx.proofs.Input.LinesOfPieces.{at_nil, byte_feed, byte_full, byte_within, fails_first, grown, length-push, long_fails, read_cons}
 use Rattle.pyx.proofs.Input.ReaderAfterPiece.{at_fault}
 use Rattle.pyx.proofs.Input.WholeBytes.{NoFeed, in_pieces, lines_ended, lines_nil, lines_open, push_no_feed}
 
@@ -105,7 +106,7 @@ ended_front : (bytes : List ℕ) (p q : Progress) (es : List Event) → NoFeed p
     → Fronts n (lines (p.begun ++ bytes)) p.state es
 ended_front bytes p q es f h e zero = no_front (lines (p.begun ++ bytes)) p.state es
 ended_front [] p q es f h e (suc n) = λ le ended. absurd (no_ended (p.begun ++ []) n (subst NoFeed (sym (append-nil p.begun)) f) le ended)
-ended_front (c ∷ cs) p q es f h e (suc n) = go (eqb c 10) refl (dichotomy (length p.begun) line_limit)
+ended_front (c ∷ cs) p q es f h e (suc n) = go (eqb c 10) refl (cases_lt (length p.begun) line_limit)
     (λ t fs r. ended_front cs (with_begun [] t) q fs at_nil (omega arith) r n) (ended_front cs (grown c p) q es) where
       go : (b : Bool) → eqb c 10 ≡ b → (length p.begun < line_limit) ⊎ (line_limit ≤ length p.begun)
           → ((t : State) (fs : List Event) → read cs (with_begun [] t) ≡ (Ok q, fs) → Fronts n (lines cs) t fs)

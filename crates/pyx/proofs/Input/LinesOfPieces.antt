@@ -1,9 +1,8 @@
 -- Reading bytes one by one is reading them line by line.
 use Rattle.std.proofs.Common.{◌≡◌, ℕ, suc, ◌+◌, ◌-◌, ◌≤◌, ◌<◌, Bool, true, false, cond, eqb, List, [], ◌∷◌, ◌++◌, length, take, Option, Some, None, Result, Ok}
 use Rattle.std.proofs.Common.{Err, refl, ap, sym, ◌∙◌, arith, append_assoc, rules, ◌⊎◌, inl, inr}
-use Rattle.std.specs.Prelude.{nat_le}
 use Rattle.std.proofs.lemmas.List.{append-nil, length-append}
-use Rattle.std.proofs.lemmas.Bool.{lt-leb, le-leb}
+use Rattle.std.proofs.lemmas.Bool.{cases_lt, lt-leb, le-leb}
 use Rattle.rng_model.specs.documents.Lines.{Line, line_limit, Fault}
 use Rattle.rng_model.specs.documents.PyxTrees.{Event}
 use Rattle.pyx.specs.plain.Cuts.{at_byte, at_front}
@@ -131,19 +130,13 @@ at_cons c cs = refl
 pub some_pair : {A B : Type 0} (a : A) (b : B) (c : A) (d : B) → ◌≡◌ {A = Option (A × B)} (Some (a, b)) (Some (c, d)) → (a ≡ c) × (b ≡ d)
 some_pair {A = A} {B = B} a b c d e = let q : ◌≡◌ {A = A × B} (a, b) (c, d) = cc in (ap (λ (p : A × B). p.0) q, ap (λ (p : A × B). p.1) q)
 
-pub dichotomy : (n m : ℕ) → (n < m) ⊎ (m ≤ n)
-dichotomy n m = go (nat_le m n) refl where
-  go : (b : Bool) → nat_le m n ≡ b → (n < m) ⊎ (m ≤ n)
-  go true e = inr (search rules)
-  go false e = inl (search rules)
-
 silent_first : {A B : Type 0} (a : A) (f : A → Turn B) → followed (silent a) f ≡ f a
 silent_first a f = refl
 
 -- a byte that does not end a line, and then the rest
 pub read_other : (c : ℕ) (cs : List ℕ) (p : Progress) (r : Turn Progress) → eqb c 10 ≡ false → length p.begun ≤ line_limit →
     (length p.begun < line_limit → read cs (grown c p) ≡ r) → (line_limit ≤ length p.begun → with_open p (p.begun ++ c ∷ []) ≡ r) → read (c ∷ cs) p ≡ r
-read_other c cs p r e h more full = go (dichotomy (length p.begun) line_limit) where
+read_other c cs p r e h more full = go (cases_lt (length p.begun) line_limit) where
   go : (length p.begun < line_limit) ⊎ (line_limit ≤ length p.begun) → read (c ∷ cs) p ≡ r
   go (inl k) = read_cons c cs p ∙ ap (λ (t : Turn Progress). followed t (read cs)) (byte_within c p e k) ∙ more k
   go (inr k) = read_cons c cs p ∙ ap (λ (t : Turn Progress). followed t (read cs)) (byte_full c p e k)

@@ -1,17 +1,20 @@
 -- Reading bytes, in any pieces, gives the result of reading their lines.
-use Rattle.std.proofs.Common.{◌≡◌, ℕ, suc, ◌+◌, ◌≤◌, ◌<◌, Bool, true, false, cond, eqb, List, [], ◌∷◌, ◌++◌, length, Option, Some, None, Err, refl, ap, sym}
-use Rattle.std.proofs.Common.{◌∙◌, arith, append_assoc, rules, ◌⊎◌, inl, inr}
+use Rattle.std.proofs.Common.{◌≡◌, ℕ, ◌+◌, ◌≤◌, ◌<◌, Bool, true, false, cond, eqb, List, [], ◌∷◌, ◌++◌, length, Option, Some, None, Err, refl, ap, sym}
+use Rattle.std.proofs.Common.{◌∙◌, arith, append_assoc, ◌⊎◌, inl, inr}
 use Rattle.std.specs.Prelude.{is_some, ◌==◌}
+use Rattle.std.proofs.lemmas.Bool.{cases_lt}
 use Rattle.std.proofs.lemmas.List.{append-nil, length-append}
-use Rattle.pyx.proofs.Documents.Least.{all_cons}
 use Rattle.rng_model.specs.documents.Lines.{Line, line_limit, lines, with_first}
 use Rattle.pyx.specs.plain.Cuts.{at_byte, at_front, behind}
-use Rattle.pyx.specs.plain.DocumentReader.{State, Turn, silent, fault, followed, close_tag, tag_ended, line_read, all_read, all_ended, document_read}
+use Rattle.pyx.specs.plain.DocumentReader.{State, Turn, silent, fault, followed, close_tag, tag_ended, line_read, all_ended, document_read}
 use Rattle.pyx.specs.plain.Pieces.{Progress, with_begun, ended_line, open_line, read, finished, nothing_fed}
+use Rattle.pyx.proofs.Documents.Broken.{to_end}
+use Rattle.pyx.proofs.Documents.Least.{all_nil, to_end_first}
+use Rattle.pyx.proofs.States.StateSteps.{not_zero}
 use Rattle.pyx.proofs.Input.LineTurns.{followed_same, followed_twice}
 use Rattle.pyx.proofs.Input.LinesOfPieces.{Fails, with_open, grown, said_of_long, long_fails, length-push, read_cons, read_nil, byte_full, byte_within}
 use Rattle.pyx.proofs.Input.LinesOfPieces.{byte_feed}
-use Rattle.pyx.proofs.Input.LinesOfPieces.{dichotomy, at_cons, at_nil}
+use Rattle.pyx.proofs.Input.LinesOfPieces.{at_cons, at_nil}
 
 -- ---- lines
 
@@ -114,31 +117,14 @@ long_same l m more s h e =
 followed_fails : {A B : Type 0} (turn : Turn A) (f : A → Turn B) (h : Fails turn) → followed turn f ≡ (Err h.fault, turn.1)
 followed_fails turn f h = rw (h.is) refl
 
-all_nil : (s : State) → all_read [] s ≡ silent s
-unfolding all_read
-all_nil s = refl
-
--- the result of reading these lines to the end
-abbrev to_end : List Line → State → Turn State
-to_end ls s = followed (all_read ls s) all_ended
-
-to_end_cons : (l : Line) (ls : List Line) (s : State) → to_end (l ∷ ls) s ≡ followed (line_read l s) (to_end ls)
-to_end_cons l ls s = ap (λ (t : Turn State). followed t all_ended) (all_cons l ls s) ∙ followed_twice (line_read l s) (all_read ls) all_ended
-
-to_end_nil : (s : State) → to_end [] s ≡ all_ended s
-to_end_nil s = ap (λ (t : Turn State). followed t all_ended) (all_nil s)
-
 finished_is : (p : Progress) → finished p ≡ followed (cond (length p.begun == 0) (silent p.state) (line_read (open_line p.begun) p.state)) all_ended
 unfolding finished
 finished_is p = refl
 
 at_last_line : (b : List ℕ) (s : State) → NoFeed b → finished (with_begun b s) ≡ to_end (lines b) s
-at_last_line [] s f = finished_is (with_begun [] s) ∙ sym (ap (λ ls. to_end ls s) lines_nil ∙ to_end_nil s)
-at_last_line (c ∷ b) s f = finished_is (with_begun (c ∷ b) s) ∙ some ∙ sym (ap (λ ls. to_end ls s) (lines_open c b f) ∙ to_end_cons (open_line (c ∷ b)) [] s ∙
-    followed_same (line_read (open_line (c ∷ b)) s) (to_end []) all_ended to_end_nil) where
-      not_zero : (n : ℕ) → (suc n == 0) ≡ false
-      not_zero n = search rules
-
+at_last_line [] s f = finished_is (with_begun [] s) ∙ sym (ap (λ ls. to_end ls s) lines_nil ∙ all_nil s)
+at_last_line (c ∷ b) s f = finished_is (with_begun (c ∷ b) s) ∙ some ∙ sym (ap (λ ls. to_end ls s) (lines_open c b f) ∙ to_end_first (open_line (c ∷ b)) [] s ∙
+    followed_same (line_read (open_line (c ∷ b)) s) (to_end []) all_ended all_nil) where
       some : followed (cond (length (c ∷ b) == 0) (silent s) (line_read (open_line (c ∷ b)) s)) all_ended ≡ followed (line_read (open_line (c ∷ b)) s) all_ended
       some = rw (not_zero (length b)) refl
 
@@ -152,7 +138,7 @@ feed_case c cs p e f more =
     ap (λ (t : Turn Progress). followed t finished) (read_cons c cs p ∙ ap (λ (t : Turn Progress). followed t (read cs)) (byte_feed c p e) ∙
     followed_twice l (λ s. silent (with_begun [] s)) (read cs)) ∙ followed_twice l (λ s. read cs (with_begun [] s)) finished ∙
     followed_same l (λ s. followed (read cs (with_begun [] s)) finished) (to_end (lines cs)) more ∙
-    sym (ap (λ ls. to_end ls p.state) (lines_ended p.begun c cs f e) ∙ to_end_cons (ended_line p.begun) (lines cs) p.state)
+    sym (ap (λ ls. to_end ls p.state) (lines_ended p.begun c cs f e) ∙ to_end_first (ended_line p.begun) (lines cs) p.state)
 
 full_case : (c : ℕ) (cs : List ℕ) (p : Progress) → eqb c 10 ≡ false → NoFeed p.begun → line_limit ≤ length p.begun
     → followed (read (c ∷ cs) p) finished ≡ to_end (lines (p.begun ++ c ∷ cs)) p.state
@@ -166,14 +152,14 @@ full_case c cs p e f full =
     let left : read (c ∷ cs) p ≡ followed (with_open p all) (read cs) = read_cons c cs p
     ∙ ap (λ (t : Turn Progress). followed t (read cs)) (byte_full c p e full) in
     ap (λ (t : Turn Progress). followed t finished) (left ∙ followed_twice t _ (read cs)) ∙ followed_twice t _ finished ∙ followed_fails t _ h ∙
-    sym (ap (λ ls. to_end ls p.state) b.parts ∙ to_end_cons b.first b.others p.state ∙ ap (λ (t : Turn State). followed t (to_end b.others)) same
+    sym (ap (λ ls. to_end ls p.state) b.parts ∙ to_end_first b.first b.others p.state ∙ ap (λ (t : Turn State). followed t (to_end b.others)) same
     ∙ followed_fails t _ h)
 
 pub joined : (bytes : List ℕ) (p : Progress) → NoFeed p.begun → length p.begun ≤ line_limit
     → followed (read bytes p) finished ≡ to_end (lines (p.begun ++ bytes)) p.state
 joined [] p f h = ap (λ (t : Turn Progress). followed t finished) (read_nil p) ∙ at_last_line p.begun p.state f
     ∙ ap (λ b. to_end (lines b) p.state) (sym (append-nil p.begun))
-joined (c ∷ cs) p f h = go (eqb c 10) refl (dichotomy (length p.begun) line_limit) (λ s. joined cs (with_begun [] s) at_nil (omega arith))
+joined (c ∷ cs) p f h = go (eqb c 10) refl (cases_lt (length p.begun) line_limit) (λ s. joined cs (with_begun [] s) at_nil (omega arith))
     (joined cs (grown c p)) where
       go : (b : Bool) → eqb c 10 ≡ b → (length p.begun < line_limit) ⊎ (line_limit ≤ length p.begun) →
           ((s : State) → followed (read cs (with_begun [] s)) finished ≡ to_end (lines cs) s) →

@@ -1,6 +1,7 @@
 -- The open elements as a stack, each with its part of the declarations.
-use Rattle.std.proofs.Common.{◌≡◌, ◌∙◌, ◌≤◌, ◌<◌, ◌-◌, ℕ, Bool, true, false, List, [], ◌∷◌, ◌++◌, map, reverse, ap, sym, length, take, drop, refl, arith, rules}
-use Rattle.std.proofs.Common.{◌⊎◌, inl, inr, nat_le}
+use Rattle.std.proofs.Common.{◌≡◌, ◌∙◌, ◌≤◌, ◌<◌, ◌-◌, ℕ, List, [], ◌∷◌, ◌++◌, map, reverse, ap, sym, length, take, drop, refl, arith}
+use Rattle.std.proofs.Common.{◌⊎◌, inl, inr}
+use Rattle.std.proofs.lemmas.Bool.{cases_lt}
 use Rattle.std.proofs.lemmas.List.{append_cancel_left, append-nil, drop_all, drop_at, length-append, length-map, length-reverse, map-append, nil_from_length}
 use Rattle.std.proofs.lemmas.List.{reverse-append, take-append-drop, take_all, take_at}
 use Rattle.rng_model.specs.documents.PyxHeld.{name_length}
@@ -81,14 +82,8 @@ whole_close xs ys e names ds parts whole =
 
 -- ---- the declarations in a list of which the innermost is last
 
-either : (n m : ℕ) → (n < m) ⊎ (m ≤ n)
-either n m = go (nat_le m n) refl where
-  go : (b : Bool) → nat_le m n ≡ b → (n < m) ⊎ (m ≤ n)
-  go true e = inr (search rules)
-  go false e = inl (search rules)
-
 parted : (inner rest ds : List WrittenAttribute) (n : ℕ) → ds ≡ inner ++ rest → length rest ≡ length ds - n → (take n ds ≡ inner) × (drop n ds ≡ rest)
-parted inner rest ds n both size = go (either (length ds) n) where
+parted inner rest ds n both size = go (cases_lt (length ds) n) where
   go : (length ds < n) ⊎ (n ≤ length ds) → (take n ds ≡ inner) × (drop n ds ≡ rest)
   go (inr few) =
       let own : length inner ≡ n = omega (arith, size, few, ap length both, length-append inner rest) in

@@ -208,9 +208,7 @@ balanced_append {ys = ys} (pair l r {all} {ls} {ms} h d g c parts) e = pair l r 
 
 begins_append : (xs ys : List Line) → BeginsOtherwise 65 xs → BeginsOtherwise 65 ys → BeginsOtherwise 65 (xs ++ ys)
 begins_append [] ys n m = m
-begins_append (x ∷ xs) ys n m = λ l rest e. n l xs (ap (λ (y : Line). y ∷ xs) (line_same x l (xs ++ ys) rest e)) where
-  line_same : (x l : Line) (xs ys : List Line) → x ∷ xs ≡ l ∷ ys → x ≡ l
-  line_same x l xs ys e = cc
+begins_append (x ∷ xs) ys n m = λ l rest e. n l xs (ap (λ (y : Line). y ∷ xs) (same_first e))
 
 pub open_append : {xs ys : List Line} {tags : List Tag} → AreOpenTags xs tags → IsBalanced ys → BeginsOtherwise 65 ys → AreOpenTags (xs ++ ys) tags
 open_append (none_open d) e n = none_open (balanced_append d e)
@@ -219,9 +217,7 @@ open_append {ys = ys} (one_open {front} {attributes} {rest} l d h each m b parts
     (rw (parts, append_assoc front (l ∷ (attributes ++ rest)) ys) (ap (λ (x : List Line). front ++ l ∷ x) (append_assoc attributes rest ys)))
 
 pub begins_line : (l : Line) (ls : List Line) → (HasKind 65 l → ⊥) → BeginsOtherwise 65 (l ∷ ls)
-begins_line l ls n = λ m rest e h. n (subst (HasKind 65) (sym (line_same l m ls rest e)) h) where
-  line_same : (x l : Line) (xs ys : List Line) → x ∷ xs ≡ l ∷ ys → x ≡ l
-  line_same x l xs ys e = cc
+begins_line l ls n = λ m rest e h. n (subst (HasKind 65) (sym (same_first e)) h)
 
 pub begins_none : BeginsOtherwise 65 []
 begins_none = λ l rest e h. absurd (nowhere l rest e) where
