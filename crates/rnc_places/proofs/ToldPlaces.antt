@@ -24,7 +24,7 @@ use Rattle.rnc_places.specs.views.Told.{BreaksAtToken, IsNumberOf, clause_of, un
 use Rattle.rnc_text.specs.declared.fault.TextFault.{TextFault}
 use Rattle.rnc_text.specs.declared.fault.TextFault.TheVariants as texts
 use Rattle.rnc_text.specs.views.Answers.{GivesFault, GivesOk, IfBroken}
-use Rattle.rng_load.proofs.FileContent.{Decoded, Lexed, parse_fault, text_fault, tokens_fault}
+use Rattle.rng_load.proofs.FileContent.{Decoded, Lexed, parse_fault, text_fault, tokens_fault, tree_or_clause}
 use Rattle.rng_load.specs.views.FileFaults.{fault_of_parse, verdict_of}
 use Rattle.rng_model.specs.plain.Answers.{Gives}
 use Rattle.rnc_places.proofs.FilePieces.{decodes_front, stuck_front, token_front}
@@ -145,7 +145,4 @@ is_another bytes (files.Broken i q) k j p e f told broken =
     f (let n : i ≡ k = cc in let m : i ≡ j = cc in sym m ∙ n)
 
 pub is_none : (bytes : List ℕ) (t : FileTree) (k : ℕ) → ContentHasOnlyVerdict bytes (has_tree t) → BreaksFileClause bytes k → ⊥
-is_none bytes t k only broken = tree_breaks t k (only.only (breaks k) broken)
-  where
-    tree_breaks : (t : FileTree) (k : ℕ) → has_tree t ≡ breaks k → ⊥
-    tree_breaks t k e = cc
+is_none bytes t k only broken = tree_or_clause (only.only (breaks k) broken)

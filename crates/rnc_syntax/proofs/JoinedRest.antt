@@ -9,11 +9,6 @@ use Rattle.rnc_syntax.specs.declared.fault.ReadFault.TheVariants as read_faults
 use Rattle.rnc_syntax.specs.plain.Combinators.{Outcome, ◌>>=◌, follow, many, with_front}
 use Rattle.rnc_syntax.specs.plain.Productions.{Inside, joined, particle_with, rest_with, separator_of}
 use Rattle.rnc_syntax.specs.views.Fault.{stop_of}
-use Rattle.rnc_syntax.proofs.ReadItems.{with_front-nil}
-
--- nothing before
-pub nothing_before : {A : Type 0} (r : Outcome (List A)) → with_front [] r ≡ r
-nothing_before r = with_front-nil r
 
 -- the rest of a pattern after its first primary, where a connector follows
 pub from_is : (inside : Inside) (read : Outcome (Pattern written)) (u : Pattern written) (us : List Lexeme) (s : Sign) → read ≡ Ok (u, us)

@@ -6,7 +6,7 @@ use Rattle.std.specs.Str.{chars, IsUtf8, IsValidUpTo, encode_utf8_all}
 use Rattle.std.proofs.lemmas.Bool.{false≢true}
 use Rattle.std.proofs.lemmas.List.{length-append, length-take-le, append-nil, append_assoc}
 use Rattle.std.proofs.lemmas.Option.{none-some, some_pair_parts}
-use Rattle.std.proofs.lemmas.Str.{encodes-chars, scalars-chars, encodes_same, encodes-append, length-le-encodes}
+use Rattle.std.proofs.lemmas.Str.{encodes-chars, encodes_same, encodes-append, length-le-encodes}
 use Rattle.rnc_model.specs.characters.Decoding.{bytes_of, byte_length, numbers_of, Begins, BreaksCharactersAt, BreaksUtf8At, Decodes, here, next_is, IsSpelling}
 use Rattle.rnc_model.specs.characters.FilePlaces.{ends_line, position, IsPlaceBetween, IsPlaceBehind}
 use Rattle.rnc_model.specs.declared.character.Character.{Character}
@@ -14,7 +14,7 @@ use Rattle.rnc_model.specs.declared.file_place.FilePlace.{FilePlace}
 use Rattle.rnc_text.specs.plain.DecodingSteps.{first_and_rest, front_of}
 use Rattle.rnc_text.proofs.Cursors.{bytes_append}
 use Rattle.rnc_text.proofs.FrontCharacter.{begins_one, front_begins, nothing_begins}
-use Rattle.rnc_text.proofs.OneDecoding.{parts}
+use Rattle.rnc_text.proofs.OneDecoding.{parts, spelling_utf8, text_spelling}
 
 -- ---- lines and columns
 
@@ -154,14 +154,8 @@ no_left all count more numbers front after leaves none some d size =
 
 -- ---- the places that are returned
 
-utf8_parts : (bs : List ℕ) → IsUtf8 bs → IsSpelling bs (chars bs)
-utf8_parts bs u = record { scalars = scalars-chars bs u; spelled = encodes-chars bs u }
-
 pub spelled_by : (bytes text numbers : List ℕ) → IsUtf8 text → IsSpelling bytes numbers → text ≡ bytes → chars text ≡ numbers
 spelled_by bytes text numbers u s e = encodes_same (chars text) numbers (encodes-chars text u ∙ e ∙ sym s.spelled)
-
-pub spelling_utf8 : (bytes numbers : List ℕ) → IsSpelling bytes numbers → IsUtf8 bytes
-spelling_utf8 bytes numbers s = (numbers, (s.scalars, s.spelled))
 
 -- what follows decoded characters, and what comes before
 record Split (all after : List ℕ) : Type 0 where
@@ -197,7 +191,7 @@ at_bad_byte bytes text offset left p u front left-is places broken =
     let is = places (chars text) [] (sym (append-nil (chars text))) (omega (arith, left-is, size)) in
     record {
       front = chars text;
-      spelling = subst (λ (x : List ℕ). IsSpelling x (chars text)) e (utf8_parts text u);
+      spelling = subst (λ (x : List ℕ). IsSpelling x (chars text)) e (text_spelling text u);
       is = is;
       offset_is = is.offset_is ∙ ap length (encodes-chars text u) ∙ size;
     }

@@ -36,7 +36,7 @@ plain c h =
     let d = and_parts (not (c == 0xA)) _ b.1 in
     record { is_char = a.0; no_return = differs c 0xD b.0; no_feed = differs c 0xA d.0; no_backslash = differs c 0x5C d.1 }
 
-no_escape : (c : ℕ) (rest : List ℕ) → c ≢ 0x5C → ¬ (OpensEscape (c ∷ rest))
+pub no_escape : (c : ℕ) (rest : List ℕ) → c ≢ 0x5C → ¬ (OpensEscape (c ∷ rest))
 no_escape c rest n o = n (let e = o.is in cc)
 
 plain_begins : (c : ℕ) (rest : List ℕ) → Plain c → Begins (c ∷ rest) (Ordinary c) rest

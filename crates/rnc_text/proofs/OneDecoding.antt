@@ -39,7 +39,7 @@ one_decoding (next_is {c = c} {after = after} {cs = cs} p q e) stops ds end (nex
 spelling_one : (bytes ns ms : List ℕ) → IsSpelling bytes ns → IsSpelling bytes ms → ns ≡ ms
 spelling_one bytes ns ms p q = encodes_same ns ms (p.spelled ∙ sym q.spelled)
 
-spelling_utf8 : (bytes ns : List ℕ) → IsSpelling bytes ns → IsUtf8 bytes
+pub spelling_utf8 : (bytes ns : List ℕ) → IsSpelling bytes ns → IsUtf8 bytes
 spelling_utf8 bytes ns p = (ns, (p.scalars, p.spelled))
 
 pub decoded_one : (bytes : List ℕ) (cs ds : List Character) → IsDecoded bytes cs → IsDecoded bytes ds → cs ≡ ds
@@ -84,7 +84,7 @@ gives_fault bytes (Err (At c p)) found fault clause offset is = fault_one bytes 
 
 -- ---- at the characters of a text
 
-text_spelling : (bs : List ℕ) → IsUtf8 bs → IsSpelling bs (chars bs)
+pub text_spelling : (bs : List ℕ) → IsUtf8 bs → IsSpelling bs (chars bs)
 text_spelling bs u = record { scalars = scalars-chars bs u; spelled = encodes-chars bs u }
 
 pub text_decoded : (bs : List ℕ) (cs : List Character) (rest : List ℕ) → IsUtf8 bs → Decodes (chars bs) cs rest → rest ≡ [] → IsDecoded bs cs

@@ -22,6 +22,10 @@ use Rattle.rnc_grammar.specs.views.View.{file_of}
 use Rattle.rng_load.specs.views.FileFaults.{fault_of_text, fault_of_parse, verdict_of}
 use Rattle.rnc_model.specs.loading.FileVerdicts.{FileVerdict, breaks, has_tree, ContentHasVerdict, ContentHasOnlyVerdict}
 
+-- a tree is no broken clause
+pub tree_or_clause : {t : FileTree} {k : ℕ} → has_tree t ≡ breaks k → ⊥
+tree_or_clause e = cc
+
 -- ---- characters
 
 -- these are the only characters of the bytes, and the bytes break no clause about characters

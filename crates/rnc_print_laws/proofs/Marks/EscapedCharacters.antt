@@ -6,12 +6,10 @@ use Rattle.std.specs.Str.{all_scalars}
 use Rattle.std.proofs.lemmas.Bool.{eqb-true, eqb-false}
 use Rattle.rng_model.specs.names.Names.{is_xml_char}
 use Rattle.rnc_model.specs.declared.character.Character.TheVariants.{Ordinary}
-use Rattle.rnc_model.specs.characters.Decoding.{AreDigits, hexadecimal, OpensEscape, Begins, escape, other}
+use Rattle.rnc_model.specs.characters.Decoding.{AreDigits, hexadecimal, Begins, escape, other}
 use Rattle.rncv_model.specs.printed.Words.{escaped}
 use Rattle.rnc_text.specs.plain.Marks.{IsReadBack}
-
-no_escape : (c : ℕ) (rest : List ℕ) → c ≢ 0x5C → ¬ (OpensEscape (c ∷ rest))
-no_escape c rest n o = n (let e = o.is in cc)
+use Rattle.rnc_text.proofs.MarksDecoded.{no_escape}
 
 two_digits : (a b : ℕ) → (is_digit a 16 && (is_digit b 16 && true)) ≡ true → AreDigits (a ∷ b ∷ [])
 two_digits a b h = record { some = omega arith; most = omega arith; are_hexadecimal = h }

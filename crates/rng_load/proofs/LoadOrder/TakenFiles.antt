@@ -13,6 +13,7 @@ use Rattle.rnc_model.specs.loading.Loading.{together_break, are_taken}
 use Rattle.rnc_model.specs.loading.SchemaFile.{FileName, NamedFile, HasTree, BreaksOwn}
 use Rattle.rnc_model.specs.loading.FileVerdicts.{breaks, has_tree, FileHasOnlyVerdict}
 use Rattle.rng_load.specs.views.LoadingFaults.{IsReading, IsTheReading}
+use Rattle.rng_load.proofs.FileContent.{tree_or_clause}
 use Rattle.rng_load.proofs.NameLists.{false_true, in_none, in_cons, in_left, in_right, in_either, none_twice, twice_or, differ_more, differ_front}
 use Rattle.rng_load.proofs.NameLists.{differ_parts, no_more, from_map, any_in, in_any}
 
@@ -249,9 +250,6 @@ module _ (files : List NamedFile) (main : FileName) where
     | inl l ↦ inl (omega (arith, l))
     | inr o ↦ elim o [ inl e ↦ inr (inl (ap suc e)) | inr g ↦ inr (inr (omega (arith, g))) ]
   ]
-
-  tree_or_clause : {t : FileTree} {k : ℕ} → has_tree t ≡ breaks k → ⊥
-  tree_or_clause e = cc
 
   same_clause : {j k : ℕ} → breaks j ≡ breaks k → j ≡ k
   same_clause e = cc

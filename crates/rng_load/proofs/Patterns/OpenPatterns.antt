@@ -1,6 +1,6 @@
 -- Open patterns finished child by child.
 use Rattle.std.proofs.Common.{◌≡◌, ◌∙◌, refl, sym, ap, ap₂, ℕ, suc, ◌+◌, ◌<◌, ◌≤◌, List, [], ◌∷◌, ◌++◌, length, map, reverse, drop, get_or, append_assoc}
-use Rattle.std.proofs.Common.{Option, Some, None, IsSome, option_to_list, false, true, Result, Ok, Err, IfOk, arith}
+use Rattle.std.proofs.Common.{Option, Some, None, IsSome, option_to_list, false, true, arith}
 use Rattle.std.proofs.lemmas.List.{append-nil, drop-map, drop_all, drop_more, map_push, reverse-append, reverse-reverse}
 use Rattle.rng_model.specs.declared.schema_pattern.SchemaRow.{SchemaRow}
 use Rattle.rng_model.specs.declared.schema_pattern.SchemaRow.TheVariants as row
@@ -14,10 +14,6 @@ use Rattle.rnc_model.specs.grammar.Syntax.{applied, patterns_of}
 use Rattle.rnc_model.specs.loading.Places.{TreePath, Nested}
 use Rattle.rng_load.specs.plain.OpenPatterns.{Files, Made, Open, finished, left_at, with_read}
 use Rattle.rng_load.specs.plain.PlainReading.{read_all_at, read_all_with, read_at}
-
-pub if_ok : {T E : Type 0} (r : Result T E) (P Q : T → Type 0) → ((x : T) → P x → Q x) → IfOk r P → IfOk r Q
-if_ok (Ok x) P Q f h = f x h
-if_ok (Err e) P Q f h = tt
 
 -- ---- stacks
 

@@ -1,7 +1,8 @@
 use Rattle.std.proofs.Common.{rules, sym, subst, ◌≡◌, List, ℕ}
 use Rattle.std.specs.Str.{chars, IsUtf8}
 use Rattle.rnc_model.specs.characters.Decoding.{Decodes}
-use Rattle.rnc_text.proofs.FilePlaces.{behind, spelled_by, spelling_utf8}
+use Rattle.rnc_text.proofs.FilePlaces.{behind, spelled_by}
+use Rattle.rnc_text.proofs.OneDecoding.{spelling_utf8}
 use Rattle.rnc_text.proofs.placing.place_of_decoded.Goals as goal
 
 pub returns : goal.returns

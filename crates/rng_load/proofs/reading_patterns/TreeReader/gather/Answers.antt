@@ -1,4 +1,5 @@
 use Rattle.std.proofs.Common.{◌≡◌, ◌∙◌, ◌∷◌, ◌++◌, [], sym, ap, ap₂, map, reverse}
+use Rattle.std.proofs.lemmas.Result.{IfOk-weaker}
 use Rattle.rng_model.specs.names.NameViews.{namespace_bytes}
 use Rattle.rnc_model.specs.grammar.Syntax as tree
 use Rattle.rnc_model.specs.grammar.Syntax.{components_of}
@@ -9,7 +10,7 @@ use Rattle.rng_load.specs.views.GatheredComponents.{end_of, gathered_of, list_of
 use Rattle.rng_load.specs.views.ReadPatterns.{files_in}
 use Rattle.rng_load.proofs.Patterns.GatherIncluded.{include_tree}
 use Rattle.rng_load.proofs.Patterns.OpenComponents.{include_opened}
-use Rattle.rng_load.proofs.Patterns.OpenPatterns.{if_ok, reverse_pushed}
+use Rattle.rng_load.proofs.Patterns.OpenPatterns.{reverse_pushed}
 use Rattle.rng_load.proofs.reading_patterns.TreeReader.gather.Goals as goal
 
 pub returns-in_ok-push-in-Include : goal.returns-in_ok-push-in-Include
@@ -31,5 +32,5 @@ returns-in_ok-push-in-Include c =
     ap₂ (λ m os. tree.include (mention_of m) (components_of (map component_of os))) c.deref-in-Include-2.ensures c.deref-in-Include.ensures.value
     ∙ sym (include_tree c.in-Include.mention c.in-Include.overriding) ∙ ap component_of (sym c.in-Include.is) in
     let all = ap₂ (λ v d. (map gathered_of v.items ++ gather_one_at files levels uri way d, way)) c.replace-before.ensures.value one in
-    if_ok c.open_list-in-Include.result _ _ (λ r e. e files ∙ ap (gathered_at_end files (lists_in c.args.made.now)) (put ∙ all))
+    IfOk-weaker c.open_list-in-Include.result _ _ (λ r e. e files ∙ ap (gathered_at_end files (lists_in c.args.made.now)) (put ∙ all))
     c.open_list-in-Include.ensures
