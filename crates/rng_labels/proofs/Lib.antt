@@ -1,2 +1,3 @@
 pub mod LabelCodes
 pub mod PairedClasses
+pub mod Queues

@@ -1,2 +1,3 @@
 -- Plain functions that the code is proved against, and private relations.
 pub mod LabelCodes
+pub mod Queues

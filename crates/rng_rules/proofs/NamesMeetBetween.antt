@@ -11,7 +11,8 @@ use Rattle.rng_model.specs.declared.simple.Simple.{Simple}
 use Rattle.rng_model.specs.declared.simple.Simple.TheVariants as simple
 use Rattle.rng_rules.specs.declared.names_meet.NamesOf.{NamesOf}
 use Rattle.rng_rules.specs.declared.names_meet.NamesOf.TheVariants as names_of
-use Rattle.rng_rules.specs.plain.NamesMeetReach.{AreBelow, onward}
+use Rattle.rng_labels.specs.plain.Queues.{onward}
+use Rattle.rng_rules.specs.plain.NamesMeetReach.{AreBelow}
 use Rattle.rng_rules.specs.views.NamesMeetRows.{IsAbove, passed, sides_at}
 use Rattle.rng_rules.specs.views.NamesMeetSides.{Climbs, IsJoin, MeetBetween, AreRowsOf, sides_in, are_marked}
 use Rattle.rng_rules.proofs.NamesMeetTables.{first_of_two, second_of_two, one_of_two}

@@ -18,7 +18,7 @@ use Rattle.rng_model.specs.declared.simple.Simple.{Simple}
 use Rattle.rng_model.specs.declared.simple.Simple.TheVariants as simple
 use Rattle.rng_rules.specs.declared.names_meet.NamesOf.{NamesOf}
 use Rattle.rng_rules.specs.declared.names_meet.NamesOf.TheVariants as names_of
-use Rattle.rng_rules.specs.plain.NamesMeetReach.{at_start, onward}
+use Rattle.rng_labels.specs.plain.Queues.{at_start, onward}
 use Rattle.rng_rules.specs.views.NamesMeetRows.{IsAbove, IsLabelled, class_at, class_in, sides_at}
 use Rattle.rng_rules.specs.views.NamesMeetLabels.{AreLabels}
 use Rattle.rng_rules.specs.views.NamesMeetSearch.{Breaks, Meeting}

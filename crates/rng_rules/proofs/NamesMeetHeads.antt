@@ -10,7 +10,8 @@ use Rattle.rng_model.specs.simple.TableRules.{Falls}
 use Rattle.rng_rules.specs.declared.names_meet.NamesOf.{NamesOf}
 use Rattle.rng_rules.specs.declared.names_meet_sides.Rows as declared
 use Rattle.rng_rules.specs.views.NamesMeetHeads.{AreHeads, AreHeadsFrom, IsHead, IsOnlyAbove, are_equal}
-use Rattle.rng_rules.specs.plain.NamesMeetReach.{at_start, onward, lists}
+use Rattle.rng_labels.specs.plain.Queues.{at_start, onward}
+use Rattle.rng_rules.specs.plain.NamesMeetReach.{lists}
 use Rattle.rng_rules.specs.views.NamesMeetRows.{IsAbove}
 use Rattle.rng_rules.specs.views.NamesMeetSides.{AreRows, Climbs, IsJoin, MeetBetween, row_sides}
 use Rattle.rng_rules.proofs.NamesMeetBetween.{join_sides, passed_below, sides_passed}

@@ -8,7 +8,8 @@ use Rattle.rng_model.specs.simple.TableRules.{IsTable}
 use Rattle.rng_model.specs.declared.simple.Simple.{Simple}
 use Rattle.rng_model.specs.declared.simple.Simple.TheVariants as simple
 use Rattle.rng_rules.specs.declared.names_meet_sides.Rows as declared
-use Rattle.rng_rules.specs.plain.NamesMeetReach.{IsReachedBy, at_start, onward, lists}
+use Rattle.rng_labels.specs.plain.Queues.{IsReachedBy, at_start, onward}
+use Rattle.rng_rules.specs.plain.NamesMeetReach.{lists}
 use Rattle.rng_rules.specs.views.NamesMeetRows.{IsAbove, children, children_at, passed}
 use Rattle.rng_rules.specs.views.NamesMeetSides.{AreRows, Climbs, IsJoin, join_list, row_sides}
 use Rattle.rng_rules.proofs.NamesMeetBetween.{join_sides}

@@ -13,7 +13,8 @@ use Rattle.rng_model.specs.names.NameViews.{class_of}
 use Rattle.rng_model.specs.declared.name.NameClass.{NameClass}
 use Rattle.rng_names.specs.views.PlainNames.{IsPlain}
 use Rattle.rng_rules.specs.declared.names_meet.NamesOf.{NamesOf}
-use Rattle.rng_rules.specs.plain.NamesMeetReach.{AreBelow, at_start, onward, lists}
+use Rattle.rng_labels.specs.plain.Queues.{at_start, onward}
+use Rattle.rng_rules.specs.plain.NamesMeetReach.{AreBelow, lists}
 use Rattle.rng_rules.specs.views.NamesMeetSearch.{Meeting}
 use Rattle.rng_rules.specs.views.NamesMeetSides.{Climbs, MeetBetween}
 

@@ -21,7 +21,7 @@ use Rattle.rng_model.proofs.Inside.{occurs_repeated, occurs_left, occurs_right}
 use Rattle.rng_model.specs.declared.simple.Simple.{Simple}
 use Rattle.rng_model.specs.declared.simple.Simple.TheVariants as simple
 use Rattle.rng_model.proofs.Table.{tree_at-over_children}
-use Rattle.rng_rules.specs.plain.NamesMeetReach.{IsReachedBy, at_start, onward}
+use Rattle.rng_labels.specs.plain.Queues.{IsReachedBy, at_start, onward}
 use Rattle.rng_rules.specs.views.NamesMeetRows.{IsAbove, children, children_at, part_rows, passed}
 use Rattle.rng_rules.specs.views.NamesMeetSides.{Climbs}
 use Rattle.rng_rules.proofs.NamesMeetTables.{one_of_two, children_below}

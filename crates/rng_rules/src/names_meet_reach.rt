@@ -1,6 +1,7 @@
 // What is reached from numbers by repeated steps, marked with the number of the round.
 ghost use Rattle.std.specs.Prelude.{◌≡◌, ◌<◌, ◌≤◌, ◌↔◌, ℕ, [], ◌∷◌, length, slice_get, slice_index_or, All, Contains, IfOk, OnOk, Some};
-ghost use Rattle.rng_rules.specs.plain.NamesMeetReach.{Adds, AreBelow, IsMarked, IsReachedBy, lists};
+ghost use Rattle.rng_labels.specs.plain.Queues.{Adds, IsReachedBy};
+ghost use Rattle.rng_rules.specs.plain.NamesMeetReach.{AreBelow, IsMarked, lists};
 
 use rng_model::OutOfMemory;
 use std::alloc::Global;

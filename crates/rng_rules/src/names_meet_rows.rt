@@ -1,7 +1,8 @@
 // The rows of a grammar: their parts, and the rows in which they occur.
 ghost use Rattle.std.specs.Prelude.{◌≡◌, ◌<◌, ◌⊎◌, ◌↔◌, ℕ, [], length, map, slice_get, slice_index_or, All, Contains, IfOk, OnOk, Some};
 ghost use Rattle.rng_model.specs.simple.TableRules.{AreChildrenBelow};
-ghost use Rattle.rng_rules.specs.plain.NamesMeetReach.{IsReachedBy, lists};
+ghost use Rattle.rng_labels.specs.plain.Queues.{IsReachedBy};
+ghost use Rattle.rng_rules.specs.plain.NamesMeetReach.{lists};
 ghost use Rattle.rng_rules.specs.views.NamesMeetRows.{IsAbove, children, children_at, part_rows, passed};
 
 use crate::names_meet_reach::reach;

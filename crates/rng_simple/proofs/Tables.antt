@@ -3,7 +3,6 @@ pub mod RowTrees
 pub mod RowTable
 pub mod RowIndex
 pub mod RowReach
-pub mod Queues
 pub mod QueueMarks
 pub mod RowCopies
 pub mod GrammarElements

@@ -4,7 +4,7 @@ ghost use Rattle.rng_simple.specs.plain.Search.{lists};
 ghost use Rattle.rng_simple.specs.plain.RowReach.{content_of, nexts, row_next};
 ghost use Rattle.rng_simple.specs.views.RowTable.{IsRowTable, row_count};
 ghost use Rattle.rng_simple.specs.plain.SimpleParts.{AreRowsBelow};
-ghost use Rattle.rng_simple.specs.plain.Worklist.{IsReachedBy};
+ghost use Rattle.rng_labels.specs.plain.Queues.{IsReachedBy};
 
 use crate::row_table::RowTable;
 use crate::rows::Row;

@@ -1,7 +1,8 @@
 // The numbers that are reached from a start by following numbers to the next ones.
 ghost use Rattle.std.specs.Prelude.{◌≡◌, ◌<◌, ◌↔◌, ℕ, [], ◌∷◌, length, slice_get, slice_index_or, All, IfOk, OnOk, Some, true};
 ghost use Rattle.rng_simple.specs.plain.Search.{AreMentionsBelow, lists};
-ghost use Rattle.rng_simple.specs.plain.Worklist.{Adds, IsMarked, IsReachedBy};
+ghost use Rattle.rng_labels.specs.plain.Queues.{Adds, IsReachedBy};
+ghost use Rattle.rng_simple.specs.plain.Worklist.{IsMarked};
 
 use std::alloc::{AllocError, Global};
 

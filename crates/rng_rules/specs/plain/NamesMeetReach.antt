@@ -1,5 +1,5 @@
--- What is reached from numbers by repeated steps, and a queue that collects it. Private contracts cite the states.
-use Rattle.std.specs.Prelude.{◌≡◌, ◌≢◌, ℕ, ◌+◌, ◌<◌, ◌≤◌, List, [], ◌∷◌, ◌++◌, length, map, slice_get, slice_index_or, Some, All, Contains, Vec, vec_items}
+-- Numbers in a queue, with marks of the round in which they came into it. Private contracts cite the states.
+use Rattle.std.specs.Prelude.{◌≡◌, ◌≢◌, ℕ, ◌+◌, ◌<◌, ◌≤◌, List, [], ◌∷◌, length, map, slice_get, slice_index_or, Some, All, Contains, Vec, vec_items}
 
 abbrev pub lists : {Z : Type 0} → List (Vec ℕ Z) → List (List ℕ)
 lists all = map vec_items all
@@ -7,20 +7,6 @@ lists all = map vec_items all
 -- all numbers in the lists are below n
 abbrev pub AreBelow : ℕ → List (List ℕ) → Type 0
 AreBelow n all = (j i : ℕ) → Contains (slice_index_or all j []) i → i < n
-
-module _ {A : Type 0} (next : A → List A) (start : List A) where
-  -- in the start, or next to something that is reached
-  pub data IsReachedBy : A → Type 0 where
-    at_start : {x : A} → Contains start x → IsReachedBy x
-    onward : {x y : A} → IsReachedBy x → Contains (next x) y → IsReachedBy y
-
-  -- a queue whose first n are done: each member is reached; it contains the start and everything next to those that are
-  -- done
-  pub record IsQueue (xs : List A) (n : ℕ) : Type 0 where
-    pub within : n ≤ length xs
-    pub reached : All IsReachedBy xs
-    pub begun : (x : A) → Contains start x → Contains xs x
-    pub done : (k : ℕ) (x y : A) → k < n → slice_get xs k ≡ Some x → Contains (next x) y → Contains xs y
 
 -- the number of those that are not marked with this
 pub data Without (mark : ℕ) : List ℕ → ℕ → Type 0 where
@@ -36,10 +22,3 @@ pub record IsMarked (round : ℕ) (marks : List ℕ) (queue : List ℕ) : Type 0
   pub room : ℕ
   pub left : Without round marks room
   pub count : room + length queue ≡ length marks
-
--- the new queue is the old one followed by the numbers that were not in it
-pub record Adds (old : List ℕ) (numbers : List ℕ) (new : List ℕ) : Type 0 where
-  pub more : List ℕ
-  pub is : new ≡ old ++ more
-  pub from : (k : ℕ) → Contains more k → Contains numbers k
-  pub all : (k : ℕ) → Contains numbers k → Contains new k

@@ -8,7 +8,8 @@ use Rattle.rng_model.specs.declared.simple.Simple.{Simple}
 use Rattle.rng_rules.specs.declared.names_meet.NamesOf.{NamesOf}
 use Rattle.rng_rules.specs.declared.names_meet_sides.Marks.{Marks}
 use Rattle.rng_rules.specs.declared.names_meet_sides.Rows as declared
-use Rattle.rng_rules.specs.plain.NamesMeetReach.{IsReachedBy, lists}
+use Rattle.rng_labels.specs.plain.Queues.{IsReachedBy}
+use Rattle.rng_rules.specs.plain.NamesMeetReach.{lists}
 use Rattle.rng_rules.specs.views.NamesMeetRows.{IsAbove, children_at, part_rows, sides_at}
 
 -- the row is reached from these by going up

@@ -28,7 +28,7 @@ use Rattle.rng_simple.specs.plain.Renamed.{simple_renamed}
 use Rattle.rng_simple.specs.plain.RowReach.{nexts, row_next, content_of}
 use Rattle.rng_simple.specs.views.Rows.{Labels, tree_at, AreRows}
 use Rattle.rng_simple.specs.plain.SimpleParts.{AreRowsBelow}
-use Rattle.rng_simple.specs.plain.Worklist.{IsReachedBy, at_start, onward}
+use Rattle.rng_labels.specs.plain.Queues.{IsReachedBy, at_start, onward}
 use Rattle.rng_simple.proofs.Tables.RowCopies.{children_all, children_map}
 use Rattle.rng_simple.proofs.Tables.RowReach.{leaf_has_row, row_has_leaf, numbers_same}
 use Rattle.rng_simple.proofs.MappedLists.{found_mapped}

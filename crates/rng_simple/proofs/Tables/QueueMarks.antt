@@ -1,17 +1,14 @@
 -- Marks on the numbers of a queue, when one more is set.
-use Rattle.std.proofs.Common.{◌≡◌, ◌↔◌, inl, inr, refl, ap, sym, ◌∙◌, subst, ℕ, zero, suc, ◌+◌, ◌<◌, ◌≤◌, Bool, true, false, List, [], ◌∷◌, ◌++◌}
-use Rattle.std.proofs.Common.{length, set, slice_get, Some, All, Contains, append_assoc, append-nil, length-append, arith}
+use Rattle.std.proofs.Common.{◌≡◌, inl, inr, refl, ap, sym, ◌∙◌, subst, ℕ, zero, suc, ◌+◌, ◌<◌, ◌≤◌, Bool, true, false, List, [], ◌∷◌, ◌++◌}
+use Rattle.std.proofs.Common.{length, set, slice_get, Some, Contains, length-append, arith}
 use Rattle.std.proofs.lemmas.Bool.{cases_eq}
 use Rattle.std.proofs.lemmas.List.{get_or-set_same, get_or-set_other, length-set}
-use Rattle.std.proofs.lemmas.List.Elements.{All-append, All-contains, All-same, Contains-append_left, Contains-append_right, Contains-append_cases}
+use Rattle.std.proofs.lemmas.List.Elements.{Contains-append_left}
 use Rattle.std.proofs.lemmas.List.Elements.{Contains-push, Contains-push_cases}
 use Rattle.std.proofs.lemmas.Option.{slice_get_within, slice_get-get_or, get_or_from_slice_get}
 use Rattle.rng_model.proofs.Options.{one_value}
-use Rattle.rng_model.proofs.Members.{all_from_members}
 use Rattle.rng_model.proofs.Places.{before_or_at_end}
-use Rattle.rng_simple.specs.plain.Worklist.{trues, AreDistinctNumbers, IsMarked, Adds, IsQueue, IsReachedBy}
-use Rattle.rng_simple.proofs.Tables.RowReach.{one_only}
-use Rattle.rng_simple.proofs.Tables.Queues.{begins, goes_on, collected}
+use Rattle.rng_simple.specs.plain.Worklist.{trues, AreDistinctNumbers, IsMarked}
 
 true_is_not_false : true ≡ false → ⊥
 true_is_not_false e = cc
@@ -27,42 +24,6 @@ trues_more (true ∷ marks) zero e = absurd (let z = e in cc)
 trues_more (false ∷ marks) zero e = omega arith
 trues_more (true ∷ marks) (suc k) e = let h = trues_more marks k e in omega arith
 trues_more (false ∷ marks) (suc k) e = trues_more marks k e
-
--- ---- what is added
-
-pub adds_none : (old : List ℕ) → Adds old [] old
-adds_none old = record { more = []; is = sym (append-nil old); from = λ k c. c; all = λ k c. absurd (let h = c.1 in omega arith) }
-
-pub adds_then : (a xs b ys c : List ℕ) → Adds a xs b → Adds b ys c → Adds a (xs ++ ys) c
-adds_then a xs b ys c f g = record {
-  more = f.more ++ g.more;
-  is = g.is ∙ ap (λ zs. zs ++ g.more) f.is ∙ append_assoc a f.more g.more;
-  from = λ k h. elim (Contains-append_cases f.more g.more k h)
-      [ inl i ↦ Contains-append_left xs ys k (f.from k i) | inr i ↦ Contains-append_right xs ys k (g.from k i) ];
-  all = λ k h. elim (Contains-append_cases xs ys k h) [
-    | inl i ↦
-        subst (λ zs. Contains zs k) (sym g.is) (Contains-append_left b g.more k (f.all k i))
-    | inr i ↦ g.all k i
-  ];
-}
-
-pub adds_there : (old : List ℕ) (k : ℕ) → Contains old k → Adds old (k ∷ []) old
-adds_there old k c = record {
-  more = [];
-  is = sym (append-nil old);
-  from = λ j h. absurd (let l = h.1 in omega arith);
-  all =
-      λ j h. subst (Contains old) (one_only k j h) c;
-}
-
-pub adds_new : (old new : List ℕ) (k : ℕ) → new ≡ old ++ k ∷ [] → Adds old (k ∷ []) new
-adds_new old new k e = record {
-  more = k ∷ [];
-  is = e;
-  from = λ j h. h;
-  all =
-      λ j h. subst (λ xs. Contains xs j) (sym e) (subst (Contains (old ++ k ∷ [])) (one_only k j h) (Contains-push old k));
-}
 
 -- ---- one more mark
 
@@ -139,26 +100,6 @@ none_at_first = record {
   count = refl;
   distinct = λ i j k e f. absurd (let h = slice_get_within [] i k e in omega arith);
 }
-
--- ---- a queue of numbers
-
-pub queue_begins : (next : ℕ → List ℕ) (start seen : List ℕ) → Adds [] start seen → IsQueue next start seen 0
-queue_begins next start seen a = begins next start seen (λ k c. a.from k (subst (λ xs. Contains xs k) a.is c)) a.all
-
-pub queue_goes : (next : ℕ → List ℕ) (start seen new : List ℕ) (i k : ℕ) → IsQueue next start seen i → slice_get seen i ≡ Some k → Adds seen (next k) new
-    → IsQueue next start new (i + 1)
-queue_goes next start seen new i k q e a =
-    subst (λ xs. IsQueue next start xs (i + 1)) (sym a.is) (goes_on next start seen a.more i k q e a.from (λ y c. subst (λ xs. Contains xs y) a.is (a.all y c)))
-
-pub below_more : (n : ℕ) (seen numbers new : List ℕ) → All (λ k. k < n) seen → All (λ k. k < n) numbers → Adds seen numbers new → All (λ k. k < n) new
-below_more n seen numbers new f g a = All-same (λ k. k < n) new (seen ++ a.more) a.is
-    (All-append (λ k. k < n) seen a.more f (all_from_members (λ k. k < n) a.more (λ k c. All-contains (λ k. k < n) numbers k g (a.from k c))))
-
-pub queue_is_done : (next : ℕ → List ℕ) (start seen : List ℕ) (i : ℕ) → IsQueue next start seen i → length seen ≤ i → (k : ℕ)
-    → IsReachedBy next start k ↔ Contains seen k
-queue_is_done next start seen i q h k =
-    let e : i ≡ length seen = omega (arith, q.within) in
-    collected next start seen (subst (IsQueue next start seen) e q) k
 
 pub queue_is_short : (marks : List Bool) (seen : List ℕ) → IsMarked marks seen → length seen ≤ length marks
 queue_is_short marks seen is = omega (arith, is.count, trues_within marks)

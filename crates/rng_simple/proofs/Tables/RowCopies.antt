@@ -20,7 +20,7 @@ use Rattle.rng_model.proofs.Options.{one_value}
 use Rattle.rng_simple.specs.plain.Copying.{tree_numbered, place_of, listed_at, AllChildren, own_elements, numbered_row, IsRowCopy, IsCopied, IsRowTree, AreCopied}
 use Rattle.rng_simple.specs.plain.Renamed.{simple_renamed}
 use Rattle.std.specs.HashMap.{HashMap}
-use Rattle.rng_model.proofs.Members.{not_in_none}
+use Rattle.rng_model.proofs.Members.{not_in_none, one_only}
 use Rattle.rng_model.proofs.Places.{before_or_at_end, none_at}
 use Rattle.rng_simple.specs.views.RowIndex.{IsIndex}
 use Rattle.rng_simple.specs.plain.RowReach.{nexts}
@@ -30,7 +30,6 @@ use Rattle.rng_simple.specs.declared.rows.Row.{Row}
 use Rattle.rng_simple.specs.declared.rows.Row.TheVariants as row
 use Rattle.rng_model.proofs.Table.{falls_after_push}
 use Rattle.rng_simple.proofs.Leaves.Renamed.{renamed_corresponds}
-use Rattle.rng_simple.proofs.Tables.RowReach.{one_only}
 use Rattle.rng_simple.proofs.Tables.RowTrees.{tree_at-over_children}
 
 -- ---- the trees of a table of patterns by number

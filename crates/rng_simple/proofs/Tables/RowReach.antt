@@ -4,8 +4,9 @@ use Rattle.std.proofs.Common.{◌≡◌, ◌⊎◌, inl, inr, refl, ap, sym, ◌
 use Rattle.std.proofs.Common.{Some, Contains, arith}
 use Rattle.std.proofs.lemmas.Bool.{cases_lt}
 use Rattle.std.proofs.lemmas.List.{get_or-map, get_or_past, length-map}
-use Rattle.std.proofs.lemmas.List.Elements.{Contains-append_cases, Contains-push_cases}
+use Rattle.std.proofs.lemmas.List.Elements.{Contains-append_cases}
 use Rattle.std.proofs.lemmas.Option.{slice_get-get_or, slice_get_within, get_or_from_slice_get}
+use Rattle.rng_model.proofs.Members.{not_in_none, one_only}
 use Rattle.rng_model.specs.simple.Tree.{Simple, as_tree}
 use Rattle.rng_model.specs.simple.Leaves.{LeafIn}
 use Rattle.rng_model.specs.simple.Leaves as at
@@ -14,17 +15,11 @@ use Rattle.rng_simple.specs.declared.rows.Row.TheVariants as row
 use Rattle.rng_simple.specs.plain.GrammarBy.{IsNumberReached, in_first, in_body}
 use Rattle.rng_simple.specs.views.Rows.{Labels, row_tree, tree_at, AreChildrenBelow, Falls}
 use Rattle.rng_simple.specs.plain.RowReach.{nexts, row_next}
-use Rattle.rng_simple.specs.plain.Worklist.{IsReachedBy, at_start, onward}
+use Rattle.rng_labels.specs.plain.Queues.{IsReachedBy, at_start, onward}
 use Rattle.rng_simple.proofs.Tables.RowTrees.{tree_at-over_children}
-
-pub one_only : (x y : ℕ) → Contains (x ∷ []) y → x ≡ y
-one_only x y c = elim (Contains-push_cases [] x y c) [ inl n ↦ absurd (let h = n.1 in omega arith) | inr e ↦ e ]
 
 pub one_of_two : (x z y : ℕ) → Contains (x ∷ (z ∷ [])) y → (x ≡ y) ⊎ (z ≡ y)
 one_of_two x z y c = elim (Contains-append_cases (x ∷ []) (z ∷ []) y c) [ inl h ↦ inl (one_only x y h) | inr h ↦ inr (one_only z y h) ]
-
-pub not_there : (y : ℕ) → Contains [] y → ⊥
-not_there y c = let h = c.1 in omega arith
 
 module _ (l : Labels) (rs : List Row) (falls : Falls rs) (content : ℕ → ℕ) (contents_below : (k : ℕ) → content k < length rs) (first : ℕ)
     (first_below : first < length rs) where
@@ -62,11 +57,11 @@ module _ (l : Labels) (rs : List Row) (falls : Falls rs) (content : ℕ → ℕ)
     | inl e ↦ subst Stands e (omega (arith, b.0), λ k i. f k (at.of_first i))
     | inr e ↦ subst Stands e (omega (arith, b.1), λ k i. f k (at.of_second i))
   ]
-  onward_stands row.NotAllowed n y h b f c = absurd (not_there y c)
-  onward_stands row.Empty n y h b f c = absurd (not_there y c)
-  onward_stands row.Text n y h b f c = absurd (not_there y c)
-  onward_stands (row.Data d) n y h b f c = absurd (not_there y c)
-  onward_stands (row.Value v) n y h b f c = absurd (not_there y c)
+  onward_stands row.NotAllowed n y h b f c = absurd (not_in_none c)
+  onward_stands row.Empty n y h b f c = absurd (not_in_none c)
+  onward_stands row.Text n y h b f c = absurd (not_in_none c)
+  onward_stands (row.Data d) n y h b f c = absurd (not_in_none c)
+  onward_stands (row.Value v) n y h b f c = absurd (not_in_none c)
 
   stands : {i : ℕ} → IsReachedBy (row_next rs content) (first ∷ []) i → Stands i
   stands (at_start {x = i} c) = subst Stands (one_only first i c) (first_below, λ k i. in_first i)
@@ -159,11 +154,11 @@ next_below rs content i y (row.OneOrMore a) l b f c = subst (λ n. n < length rs
 next_below rs content i y (row.Choice a e) l b f c = elim (one_of_two a e y c) [ inl h ↦ omega (arith, f.0, h) | inr h ↦ omega (arith, f.1, h) ]
 next_below rs content i y (row.Group a e) l b f c = elim (one_of_two a e y c) [ inl h ↦ omega (arith, f.0, h) | inr h ↦ omega (arith, f.1, h) ]
 next_below rs content i y (row.Interleave a e) l b f c = elim (one_of_two a e y c) [ inl h ↦ omega (arith, f.0, h) | inr h ↦ omega (arith, f.1, h) ]
-next_below rs content i y row.NotAllowed l b f c = absurd (not_there y c)
-next_below rs content i y row.Empty l b f c = absurd (not_there y c)
-next_below rs content i y row.Text l b f c = absurd (not_there y c)
-next_below rs content i y (row.Data d) l b f c = absurd (not_there y c)
-next_below rs content i y (row.Value v) l b f c = absurd (not_there y c)
+next_below rs content i y row.NotAllowed l b f c = absurd (not_in_none c)
+next_below rs content i y row.Empty l b f c = absurd (not_in_none c)
+next_below rs content i y row.Text l b f c = absurd (not_in_none c)
+next_below rs content i y (row.Data d) l b f c = absurd (not_in_none c)
+next_below rs content i y (row.Value v) l b f c = absurd (not_in_none c)
 
 module _ (rs : List Row) (content : ℕ → ℕ) (all : List (List ℕ)) (is : all ≡ map (nexts content) rs) where
   pub reached_by : (start : List ℕ) (first : ℕ) → start ≡ first ∷ [] → {i : ℕ} → IsReachedBy (λ j. slice_index_or all j []) start i
@@ -187,5 +182,5 @@ module _ (rs : List Row) (content : ℕ → ℕ) (all : List (List ℕ)) (is : a
             let r = slice_index_or rs j row.Empty in
             let inside : i < length rs = next_below rs content j i r h below (falls j r (slice_get-get_or rs j row.Empty h)) there in
             omega (arith, inside, long)
-        | inr h ↦ absurd (not_there i (subst (λ r. Contains (nexts content r) i) (get_or_past rs j row.Empty h) there))
+        | inr h ↦ absurd (not_in_none (subst (λ r. Contains (nexts content r) i) (get_or_past rs j row.Empty h) there))
       ]

@@ -7,6 +7,7 @@ use Rattle.rng_model.specs.names.Lists as lists
 use Rattle.rng_model.specs.names.Names as names
 use Rattle.rng_model.specs.restrictions.Restrictions.{IsPart, the_start, a_body}
 use Rattle.rng_model.specs.simple.Grammar.{StandsIn, itself}
+use Rattle.rng_model.proofs.Members.{not_in_none, one_only}
 use Rattle.rng_model.proofs.Inside.{deeper, in_attribute, in_list, in_except, in_one_or_more, in_left, in_right}
 use Rattle.rng_model.specs.simple.Table.{Table, grammar_of}
 use Rattle.rng_model.specs.simple.Tree.{Simple}
@@ -20,10 +21,10 @@ use Rattle.rng_simple.specs.plain.RowReach.{nexts, row_next, content_of}
 use Rattle.rng_simple.specs.views.Rows.{Labels, row_tree, AreRows, AreChildrenBelow}
 use Rattle.rng_simple.specs.plain.SimpleParts.{AreRowsBelow}
 use Rattle.rng_model.specs.simple.SimplifiedSchema.{AreAllUsed}
-use Rattle.rng_simple.specs.plain.Worklist.{IsReachedBy, at_start, onward}
+use Rattle.rng_labels.specs.plain.Queues.{IsReachedBy, at_start, onward}
 use Rattle.rng_simple.specs.declared.rows.Row.{Row}
 use Rattle.rng_simple.specs.declared.rows.Row.TheVariants as row
-use Rattle.rng_simple.proofs.Tables.RowReach.{one_only, one_of_two, not_there}
+use Rattle.rng_simple.proofs.Tables.RowReach.{one_of_two}
 
 -- what is found in a list is a member, and so is its image
 found_among : {A B : Type 0} (f : A → B) (xs : List A) (i : ℕ) (x : A) → slice_get xs i ≡ Some x → Among (f x) (map f xs)
@@ -85,11 +86,11 @@ module _ (l : Labels) (rs : List Row) (rows : AreRows l rs) (contents : List ℕ
     | inl s ↦ subst Stands s (omega (arith, h, b.0), part, is, deeper w (in_left itself))
     | inr s ↦ subst Stands s (omega (arith, h, b.1), part, is, deeper w (in_right itself))
   ]
-  onward_stands row.NotAllowed n i y h b part is w e c = absurd (not_there y c)
-  onward_stands row.Empty n i y h b part is w e c = absurd (not_there y c)
-  onward_stands row.Text n i y h b part is w e c = absurd (not_there y c)
-  onward_stands (row.Data d) n i y h b part is w e c = absurd (not_there y c)
-  onward_stands (row.Value v) n i y h b part is w e c = absurd (not_there y c)
+  onward_stands row.NotAllowed n i y h b part is w e c = absurd (not_in_none c)
+  onward_stands row.Empty n i y h b part is w e c = absurd (not_in_none c)
+  onward_stands row.Text n i y h b part is w e c = absurd (not_in_none c)
+  onward_stands (row.Data d) n i y h b part is w e c = absurd (not_in_none c)
+  onward_stands (row.Value v) n i y h b part is w e c = absurd (not_in_none c)
 
   stands : {i : ℕ} → IsReachedBy (row_next rs (content_of contents)) (first ∷ []) i → Stands i
   stands (at_start {x = i} c) = subst Stands (one_only first i c)

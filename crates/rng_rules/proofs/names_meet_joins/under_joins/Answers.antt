@@ -1,5 +1,6 @@
 use Rattle.std.proofs.Common.{◌<◌, sym, subst, length, All}
-use Rattle.rng_rules.specs.plain.NamesMeetReach.{IsReachedBy, at_start, lists}
+use Rattle.rng_labels.specs.plain.Queues.{IsReachedBy, at_start}
+use Rattle.rng_rules.specs.plain.NamesMeetReach.{lists}
 use Rattle.rng_rules.specs.views.NamesMeetRows.{children_at}
 use Rattle.rng_rules.proofs.NamesMeetJoins.{goes_under}
 use Rattle.rng_rules.proofs.NamesMeetSearch.{if_ok}

@@ -1,7 +1,7 @@
 use Rattle.std.proofs.Common.{sym, subst, ◌∙◌, take}
 use Rattle.std.proofs.lemmas.List.{take_more}
-use Rattle.rng_rules.specs.plain.NamesMeetReach.{Adds}
-use Rattle.rng_rules.proofs.NamesMeetQueues.{adds_then}
+use Rattle.rng_labels.specs.plain.Queues.{Adds}
+use Rattle.rng_labels.proofs.Queues.{adds_then}
 use Rattle.rng_rules.proofs.names_meet_reach.add.Goals as goal
 
 pub loop-k-preserved : goal.loop-k-preserved

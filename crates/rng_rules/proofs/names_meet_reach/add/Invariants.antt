@@ -1,5 +1,6 @@
 use Rattle.std.proofs.Common.{◌≡◌, length, take}
-use Rattle.rng_rules.specs.plain.NamesMeetReach.{IsMarked, Adds}
+use Rattle.rng_labels.specs.plain.Queues.{Adds}
+use Rattle.rng_rules.specs.plain.NamesMeetReach.{IsMarked}
 use Rattle.rng_rules.proofs.names_meet_reach.add.Given as goal
 
 abbrev pub invariant-loop-k : goal.invariant-loop-k

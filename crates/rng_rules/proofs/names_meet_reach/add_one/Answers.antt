@@ -1,7 +1,8 @@
 use Rattle.std.proofs.Common.{rules, ◌≡◌, ◌≢◌, sym, subst, [], ◌∷◌, ◌++◌, set, refl}
 use Rattle.rng_model.proofs.Places.{read_at}
 use Rattle.rng_rules.specs.plain.NamesMeetReach.{IsMarked}
-use Rattle.rng_rules.proofs.NamesMeetQueues.{one_marked, adds_there}
+use Rattle.rng_labels.proofs.Queues.{adds_there}
+use Rattle.rng_rules.proofs.NamesMeetQueues.{one_marked}
 use Rattle.rng_rules.proofs.names_meet_reach.add_one.Goals as goal
 
 pub returns-in_ok-push-clause-marked : goal.returns-in_ok-push-clause-marked

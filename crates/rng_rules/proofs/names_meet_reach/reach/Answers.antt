@@ -1,12 +1,12 @@
-use Rattle.std.proofs.Common.{rules, ◌≡◌, sym, subst, ◌∙◌, ℕ, ◌<◌, [], length, slice_get, slice_index_or, All, Some, refl, arith}
+use Rattle.std.proofs.Common.{rules, ◌≡◌, sym, subst, ◌∙◌, ◌<◌, [], length, slice_get, slice_index_or, All, Some, refl, arith}
+use Rattle.std.proofs.lemmas.List.Elements.{All-nil}
 use Rattle.rng_model.proofs.Members.{all_from_members}
 use Rattle.rng_model.proofs.Places.{read_at}
-use Rattle.rng_rules.specs.plain.NamesMeetReach.{Adds, IsMarked, lists}
-use Rattle.rng_rules.proofs.NamesMeetQueues.{nothing_marked, queue_begins, queue_goes, below_more, queue_is_done}
+use Rattle.rng_labels.specs.plain.Queues.{Adds}
+use Rattle.rng_rules.specs.plain.NamesMeetReach.{IsMarked, lists}
+use Rattle.rng_labels.proofs.Queues.{queue_begins, queue_goes, below_more, queue_is_done}
+use Rattle.rng_rules.proofs.NamesMeetQueues.{nothing_marked}
 use Rattle.rng_rules.proofs.names_meet_reach.reach.Goals as goal
-
-nothing_below : (n : ℕ) → All (λ k. k < n) []
-nothing_below n k d h = absurd (omega arith)
 
 pub add-requires-clause-marked : goal.add-requires-clause-marked
 add-requires-clause-marked c =
@@ -19,7 +19,7 @@ queue-init c =
     let adds = subst (λ xs. Adds xs c.args.start.now c.add.new.rows.items) none c.in_ok-add.ensures.adds in record {
       marked = c.in_ok-add.ensures.marked;
       long = c.in_ok-add.ensures.long ∙ c.requires.long;
-      below = below_more (length c.args.next.now) [] c.args.start.now c.add.new.rows.items (nothing_below (length c.args.next.now)) c.requires.start adds;
+      below = below_more (length c.args.next.now) [] c.args.start.now c.add.new.rows.items (All-nil (λ k. k < length c.args.next.now)) c.requires.start adds;
       queue = queue_begins _ c.args.start.now c.add.new.rows.items adds;
     }
 

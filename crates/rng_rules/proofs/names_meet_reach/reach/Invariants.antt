@@ -1,5 +1,6 @@
 use Rattle.std.proofs.Common.{◌≡◌, ◌-◌, ◌<◌, [], length, slice_index_or, All}
-use Rattle.rng_rules.specs.plain.NamesMeetReach.{IsMarked, IsQueue, lists}
+use Rattle.rng_labels.specs.plain.Queues.{IsQueue}
+use Rattle.rng_rules.specs.plain.NamesMeetReach.{IsMarked, lists}
 use Rattle.rng_rules.proofs.names_meet_reach.reach.Given as goal
 
 abbrev pub invariant-queue : goal.invariant-queue

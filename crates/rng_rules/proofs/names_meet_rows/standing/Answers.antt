@@ -1,5 +1,5 @@
 use Rattle.std.proofs.Common.{rules, ◌≡◌, ◌↔◌, ◌<◌, sym, subst, ℕ, length, slice_get, Some, All, IfOk}
-use Rattle.rng_rules.specs.plain.NamesMeetReach.{IsReachedBy}
+use Rattle.rng_labels.specs.plain.Queues.{IsReachedBy}
 use Rattle.rng_rules.specs.views.NamesMeetRows.{children_at, part_rows}
 use Rattle.rng_rules.proofs.NamesMeetTables.{parts_in_table}
 use Rattle.rng_rules.proofs.names_meet_rows.standing.Goals as goal

@@ -2,7 +2,8 @@ use Rattle.std.proofs.Common.{◌≡◌, ◌↔◌, ◌<◌, [], ap, sym, ◌∙
 use Rattle.std.proofs.lemmas.List.{length-map}
 use Rattle.rng_model.proofs.Members.{all_from_members}
 use Rattle.rng_model.proofs.Places.{some_at}
-use Rattle.rng_rules.specs.plain.NamesMeetReach.{AreBelow, IsReachedBy, lists}
+use Rattle.rng_labels.specs.plain.Queues.{IsReachedBy}
+use Rattle.rng_rules.specs.plain.NamesMeetReach.{AreBelow, lists}
 use Rattle.rng_rules.specs.views.NamesMeetRows.{children}
 use Rattle.rng_rules.proofs.NamesMeetTables.{children_in_table}
 use Rattle.rng_rules.proofs.names_meet_rows.within.Goals as goal

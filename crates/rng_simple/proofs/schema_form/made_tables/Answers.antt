@@ -8,7 +8,7 @@ use Rattle.rng_simple.specs.plain.RowReach.{row_next, content_of}
 use Rattle.rng_simple.specs.views.RowTable.{finished_labels, labels_of, tree_of}
 use Rattle.rng_simple.specs.views.Rows.{AreDistinctRows, AreRows}
 use Rattle.rng_simple.specs.plain.SimpleParts.{AreRowsBelow, values_in}
-use Rattle.rng_simple.specs.plain.Worklist.{IsReachedBy}
+use Rattle.rng_labels.specs.plain.Queues.{IsReachedBy}
 use Rattle.rng_simple.proofs.Tables.GrammarElements.{copies_as}
 use Rattle.rng_simple.proofs.Tables.MadeGrammar.{closed, is_table, is_simple, is_made}
 use Rattle.rng_simple.proofs.Tables.RowCopies.{index_apart}

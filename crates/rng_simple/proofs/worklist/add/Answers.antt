@@ -1,7 +1,7 @@
 use Rattle.std.proofs.Common.{sym, subst, ◌∙◌, take}
 use Rattle.std.proofs.lemmas.List.{take_more}
-use Rattle.rng_simple.specs.plain.Worklist.{Adds}
-use Rattle.rng_simple.proofs.Tables.QueueMarks.{adds_then}
+use Rattle.rng_labels.specs.plain.Queues.{Adds}
+use Rattle.rng_labels.proofs.Queues.{adds_then}
 use Rattle.rng_simple.proofs.worklist.add.Goals as goal
 
 pub loop-k-preserved : goal.loop-k-preserved

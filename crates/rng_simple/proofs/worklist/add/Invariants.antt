@@ -1,5 +1,6 @@
 use Rattle.std.proofs.Common.{◌≡◌, length, take}
-use Rattle.rng_simple.specs.plain.Worklist.{IsMarked, Adds}
+use Rattle.rng_labels.specs.plain.Queues.{Adds}
+use Rattle.rng_simple.specs.plain.Worklist.{IsMarked}
 use Rattle.rng_simple.proofs.worklist.add.Given as goal
 
 abbrev pub invariant-loop-k : goal.invariant-loop-k

@@ -1,7 +1,8 @@
 use Rattle.std.proofs.Common.{rules, ◌≡◌, sym, subst, true, false, [], ◌∷◌, ◌++◌, set}
 use Rattle.rng_model.proofs.Places.{read_at}
 use Rattle.rng_simple.specs.plain.Worklist.{IsMarked}
-use Rattle.rng_simple.proofs.Tables.QueueMarks.{one_marked, adds_there}
+use Rattle.rng_labels.proofs.Queues.{adds_there}
+use Rattle.rng_simple.proofs.Tables.QueueMarks.{one_marked}
 use Rattle.rng_simple.proofs.worklist.add_one.Goals as goal
 
 pub returns-in_ok-push-clause-marked : goal.returns-in_ok-push-clause-marked

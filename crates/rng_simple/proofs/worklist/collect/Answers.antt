@@ -1,14 +1,13 @@
-use Rattle.std.proofs.Common.{rules, ◌≡◌, sym, subst, ◌∙◌, ℕ, ◌<◌, [], length, slice_get, slice_index_or, All, Some, vec_items, refl, arith}
+use Rattle.std.proofs.Common.{rules, ◌≡◌, sym, subst, ◌∙◌, ◌<◌, [], length, slice_get, slice_index_or, All, Some, vec_items, refl, arith}
 use Rattle.std.proofs.lemmas.List.{length-map}
+use Rattle.std.proofs.lemmas.List.Elements.{All-nil}
 use Rattle.rng_model.proofs.Members.{all_from_members}
 use Rattle.rng_model.proofs.Places.{read_at}
 use Rattle.rng_simple.specs.plain.Search.{lists}
-use Rattle.rng_simple.specs.plain.Worklist.{Adds}
-use Rattle.rng_simple.proofs.Tables.QueueMarks.{queue_begins, queue_goes, below_more, queue_is_done, queue_is_short}
+use Rattle.rng_labels.specs.plain.Queues.{Adds}
+use Rattle.rng_labels.proofs.Queues.{queue_begins, queue_goes, below_more, queue_is_done}
+use Rattle.rng_simple.proofs.Tables.QueueMarks.{queue_is_short}
 use Rattle.rng_simple.proofs.worklist.collect.Goals as goal
-
-nothing_below : (n : ℕ) → All (λ k. k < n) []
-nothing_below n k d h = absurd (omega arith)
 
 pub queue-init : goal.queue-init
 queue-init c =
@@ -16,7 +15,7 @@ queue-init c =
     let adds = subst (λ xs. Adds xs c.args.start.now c.add.new.seen.items) none c.in_ok-add.ensures.adds in record {
       marked = c.in_ok-add.ensures.marked;
       long = c.in_ok-add.ensures.long ∙ c.in_ok-marks.ensures.long;
-      below = below_more (length c.args.next.now) [] c.args.start.now c.add.new.seen.items (nothing_below (length c.args.next.now)) c.requires.start adds;
+      below = below_more (length c.args.next.now) [] c.args.start.now c.add.new.seen.items (All-nil (λ k. k < length c.args.next.now)) c.requires.start adds;
       queue = queue_begins _ c.args.start.now c.add.new.seen.items adds;
     }
 

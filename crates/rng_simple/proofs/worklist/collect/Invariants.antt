@@ -1,6 +1,7 @@
 use Rattle.std.proofs.Common.{◌≡◌, ◌-◌, ◌<◌, [], length, slice_index_or, All}
 use Rattle.rng_simple.specs.plain.Search.{lists}
-use Rattle.rng_simple.specs.plain.Worklist.{IsMarked, IsQueue}
+use Rattle.rng_labels.specs.plain.Queues.{IsQueue}
+use Rattle.rng_simple.specs.plain.Worklist.{IsMarked}
 use Rattle.rng_simple.proofs.worklist.collect.Given as goal
 
 abbrev pub invariant-queue : goal.invariant-queue
