@@ -11,6 +11,7 @@ use Rattle.rng_model.specs.matching.GrammarMatching.{Reading}
 use Rattle.rng_deriv_laws.specs.plain.LevelStates.{IsAfterText, StartsLevel, LevelState, EndsLevel, EndsNow, EndsWith}
 use Rattle.rng_deriv_laws.specs.plain.LevelEvents.{LevelMatcher, SettlesLevels, StepsTo, as_blank, as_text, at_start, at_string, at_end, at_end_of_text}
 use Rattle.rng_deriv_laws.specs.plain.LevelEvents.{at_stray_end}
+use Rattle.rng_deriv_laws.proofs.Levels.Events.{settled_levels}
 use Rattle.rng_deriv_table.specs.declared.pattern.PatternNumber.{PatternNumber}
 use Rattle.rng_deriv_events.specs.views.Numbers.{Longer, IsInside, tree_of, AddsEach}
 use Rattle.rng_deriv_events.specs.views.Levels.{AreEndsWith}
@@ -49,10 +50,6 @@ holds_text g old new now h text inside blank count a = record {
 -- ---- steps
 
 module _ (g : Reading) where
-  settled_levels : (s : List ℕ) (m k : LevelState) → SettlesLevels g s m k → k.levels ≡ m.levels
-  settled_levels s m k (as_blank e) = refl
-  settled_levels s m k (as_text e a) = a.levels
-
   -- a held string that is beside an element
 
   pub settles_nothing : (trees : List (Simple ℕ)) (p : OpenPosition) (m : LevelMatcher) → p.held ≡ None → IsPositionOf g trees p m
@@ -128,7 +125,7 @@ module _ (g : Reading) where
   } where
     step : (m : LevelMatcher) → IsPositionOf g old p m → EndsIf g (EndsNow g) (state_of old s) (state_of new r.state)
         → StepsTo g m an_end (record { state = state_of new r.state; has_begun = true; held = [] })
-    step m of (inl none) = at_stray_end (sym (settled_levels m.held m.state (state_of old s) (settles m of)) ∙ none)
+    step m of (inl none) = at_stray_end (sym (settled_levels g m.held m.state (state_of old s) (settles m of)) ∙ none)
     step m of (inr e) = at_end (state_of old s) (of.has_begun ∙ before) (settles m of) e refl refl
 
   -- an end after only a string, or after nothing

@@ -11,6 +11,7 @@ use Rattle.rng_deriv_laws.specs.plain.Restricted.{IsRestricted}
 use Rattle.rng_deriv_laws.specs.plain.Blanks.{Every, cons, IsNotBlank, has_element, without_blanks, string_of}
 use Rattle.rng_deriv_laws.specs.plain.States.{State, finished, after_of, end_tag, accepts, start_tag, string, end_text, after_items, after_item, Holds, Begins}
 use Rattle.rng_deriv_laws.specs.plain.States.{HasRestrictedBodies, IsRestrictedState}
+use Rattle.rng_deriv_laws.proofs.KeptRestrictions.{either_one}
 use Rattle.rng_deriv_laws.proofs.PutBlanks.{without_is_clean}
 use Rattle.rng_deriv_laws.proofs.States.{holds_after, holds_after_out, after_of-restricted}
 use Rattle.rng_deriv_laws.proofs.Levels.{start_tag_in, start_tag_out, start_tag_restricted, begins_in, begins_out, string_in, string_out, string_restricted}
@@ -18,12 +19,8 @@ use Rattle.rng_deriv_laws.proofs.Levels.{end_in, end_out}
 use Rattle.rng_deriv_laws.proofs.Levels.{end_restricted, end_text_in, end_text_out, end_text_restricted, accepts_in, accepts_out}
 
 module _ (g : Reading) (bodies : HasRestrictedBodies g) where
-  one_restricted : (b : Bool) (r s : State) → IsRestrictedState r → IsRestrictedState s → IsRestrictedState (cond b r s)
-  one_restricted true r s o h = o
-  one_restricted false r s o h = h
-
   text_restricted : (s : List ℕ) (r : State) → IsRestrictedState r → IsRestrictedState (cond (is_blank s) r (string g r s))
-  text_restricted s r o = one_restricted (is_blank s) r (string g r s) o (string_restricted g r o s)
+  text_restricted s r o = either_one IsRestrictedState (is_blank s) r (string g r s) o (string_restricted g r o s)
 
   items_restricted : (ns : Items) (r : State) → IsRestrictedState r → IsRestrictedState (after_items g ns r)
   items_restricted no_items r o = o
@@ -31,7 +28,7 @@ module _ (g : Reading) (bodies : HasRestrictedBodies g) where
   items_restricted (item_and (an_element q xs kids) ns) r o =
       let k = start_tag_restricted g bodies r o q xs in
       items_restricted ns _
-      (one_restricted (has_element (list_of kids)) _ _ (end_restricted g _ (items_restricted kids (start_tag g r q xs) k))
+      (either_one IsRestrictedState (has_element (list_of kids)) _ _ (end_restricted g _ (items_restricted kids (start_tag g r q xs) k))
       (end_text_restricted g (start_tag g r q xs) k (string_of (list_of kids))))
 
   -- a string among children, blank or not
@@ -66,7 +63,7 @@ module _ (g : Reading) (bodies : HasRestrictedBodies g) where
   items_in (item_and (an_element q xs kids) ns) f r o ls h =
       let k = start_tag_restricted g bodies r o q xs in
       items_in ns f.1 _
-      (one_restricted (has_element (list_of kids)) _ _ (end_restricted g _ (items_restricted kids (start_tag g r q xs) k))
+      (either_one IsRestrictedState (has_element (list_of kids)) _ _ (end_restricted g _ (items_restricted kids (start_tag g r q xs) k))
       (end_text_restricted g (start_tag g r q xs) k (string_of (list_of kids)))) ls
       (close_in kids f.0.1 (start_tag g r q xs) k (without_blanks (list_of ns) ∷ ls)
       (items_in kids f.0.2 (start_tag g r q xs) k (without_blanks (list_of ns) ∷ ls)) (has_element (list_of kids)) refl
@@ -83,7 +80,7 @@ module _ (g : Reading) (bodies : HasRestrictedBodies g) where
       (close_out kids f.0.1 (start_tag g r q xs) k (without_blanks (list_of ns) ∷ ls)
       (items_out kids f.0.2 (start_tag g r q xs) k (without_blanks (list_of ns) ∷ ls)) (has_element (list_of kids)) refl
       (items_out ns f.1 _
-      (one_restricted (has_element (list_of kids)) _ _ (end_restricted g _ (items_restricted kids (start_tag g r q xs) k))
+      (either_one IsRestrictedState (has_element (list_of kids)) _ _ (end_restricted g _ (items_restricted kids (start_tag g r q xs) k))
       (end_text_restricted g (start_tag g r q xs) k (string_of (list_of kids)))) ls h))
 
   module _ (p : Simple ℕ) (o : IsRestricted p) (q : Name) (xs : List Attribute) (kids : Items) (formed : IsWellFormed (an_element q xs kids)) where

@@ -17,7 +17,7 @@ pub record IsHereditary (Q : Simple ℕ → Type 0) : Type 0 where
   pub sides : (k : Connector) (p q : Simple ℕ) → Q (s_joined k p q) → Q p × Q q
   pub copy : (p : Simple ℕ) → Q (s_one_or_more p) → Q p
 
-either_one : (Q : Simple ℕ → Type 0) (b : Bool) (p q : Simple ℕ) → Q p → Q q → Q (cond b p q)
+pub either_one : {A : Type 0} (Q : A → Type 0) (b : Bool) (p q : A) → Q p → Q q → Q (cond b p q)
 either_one Q true p q h k = h
 either_one Q false p q h k = k
 
@@ -146,7 +146,7 @@ IsRestricted-hereditary = record {
 
 -- ---- after all attributes are taken
 
-repeat_of-keeps : (Q : Simple ℕ → Type 0) (p : Simple ℕ) → Q s_not_allowed → Q s_empty → Q (s_one_or_more p) → Q (repeat_of p)
+pub repeat_of-keeps : (Q : Simple ℕ → Type 0) (p : Simple ℕ) → Q s_not_allowed → Q s_empty → Q (s_one_or_more p) → Q (repeat_of p)
 repeat_of-keeps Q p n e h = either_one Q (is_not_allowed p) s_not_allowed _ n (either_one Q (is_empty p) s_empty (s_one_or_more p) e h)
 
 none_hereditary : IsHereditary HasNoAttribute

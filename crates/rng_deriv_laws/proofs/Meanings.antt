@@ -22,7 +22,7 @@ use Rattle.rng_deriv_laws.proofs.Events.{kinds_of_document, kinds_append}
 use Rattle.rng_deriv_laws.proofs.PyxDocuments.{document_formed}
 
 -- from the first to the third
-through : {A B C : Type 0} → A ↔ B → B ↔ C → A ↔ C
+pub through : {A B C : Type 0} → A ↔ B → B ↔ C → A ↔ C
 through f h = (λ a. h.0 (f.0 a), λ c. f.1 (h.1 c))
 
 same : {A : Type 0} → A ↔ A

@@ -20,6 +20,7 @@ use Rattle.rng_deriv_laws.specs.plain.Events.{Matcher, run}
 use Rattle.rng_deriv_laws.specs.plain.Meanings.{Meaning, IsEmpty, IsStart, IsAfterStart, IsAfterString, IsAfterEnd, IsAfterEndOfText, Settles, as_blank}
 use Rattle.rng_deriv_laws.specs.plain.Meanings.{as_text, Runs}
 use Rattle.rng_deriv_laws.specs.plain.Meanings.{stays, at_start, at_string, at_end, at_end_of_text}
+use Rattle.rng_deriv_laws.proofs.Meanings.{through}
 use Rattle.rng_deriv_laws.proofs.Starts.{start_in, start_out}
 use Rattle.rng_deriv_laws.proofs.SamePatterns.{same_back}
 use Rattle.rng_deriv_laws.proofs.States.{begins_after, begins_after_out}
@@ -226,9 +227,6 @@ module _ (g : Reading) where
   }
 
 -- ---- events respect meanings that allow the same
-
-through : {A B C : Type 0} → A ↔ B → B ↔ C → A ↔ C
-through f h = (λ a. h.0 (f.0 a), λ c. f.1 (h.1 c))
 
 back : {A B : Type 0} → A ↔ B → B ↔ A
 back f = (f.1, f.0)

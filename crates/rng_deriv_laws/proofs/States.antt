@@ -10,6 +10,7 @@ use Rattle.rng_deriv_laws.specs.plain.Blanks.{has_element, without_blanks}
 use Rattle.rng_deriv_laws.specs.plain.Derivatives.{is_not_allowed}
 use Rattle.rng_deriv_laws.specs.plain.States.{State, never, finished, after, either, is_never, after_of, either_of, if_so, Holds, Contains, Begins}
 use Rattle.rng_deriv_laws.specs.plain.States.{IsRestrictedState}
+use Rattle.rng_deriv_laws.proofs.KeptRestrictions.{either_one}
 
 pub none_taken : (g : Reading) (p : Simple ℕ) (ns : List Item) → is_not_allowed p ≡ true → Takes g p [] ns → ⊥
 none_taken g s_not_allowed ns e d = elim d [ ]
@@ -128,15 +129,12 @@ module _ (g : Reading) where
 
 -- ---- the restrictions
 
-either_one : (b : Bool) (r s : State) → IsRestrictedState r → IsRestrictedState s → IsRestrictedState (cond b r s)
-either_one true r s h k = h
-either_one false r s h k = k
-
 pub either_of-restricted : (r s : State) → IsRestrictedState r → IsRestrictedState s → IsRestrictedState (either_of r s)
-either_of-restricted r s h k = either_one (is_never r) s _ k (either_one (is_never s) r (either r s) h (h, k))
+either_of-restricted r s h k = either_one IsRestrictedState (is_never r) s _ k (either_one IsRestrictedState (is_never s) r (either r s) h (h, k))
 
 pub after_of-restricted : (p : Simple ℕ) (r : State) → IsRestricted p → IsRestrictedState r → IsRestrictedState (after_of p r)
-after_of-restricted p r o h = either_one (is_not_allowed p) never _ tt (either_one (is_never r) never (after p r) tt (o, h))
+after_of-restricted p r o h = either_one IsRestrictedState (is_not_allowed p) never _ tt
+    (either_one IsRestrictedState (is_never r) never (after p r) tt (o, h))
 
 pub if_so-restricted : (b : Bool) (r : State) → IsRestrictedState r → IsRestrictedState (if_so b r)
-if_so-restricted b r h = either_one b r never h tt
+if_so-restricted b r h = either_one IsRestrictedState b r never h tt

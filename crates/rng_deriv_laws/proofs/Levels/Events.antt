@@ -29,7 +29,7 @@ module _ (g : Reading) where
   settles s m k (as_blank e) = meanings.as_blank e
   settles s m k (as_text e a) = meanings.as_text e (string_is_after g s m k a)
 
-  settled_levels : (s : List ℕ) (m k : LevelState) → SettlesLevels g s m k → k.levels ≡ m.levels
+  pub settled_levels : (s : List ℕ) (m k : LevelState) → SettlesLevels g s m k → k.levels ≡ m.levels
   settled_levels s m k (as_blank e) = refl
   settled_levels s m k (as_text e a) = a.levels
 
