@@ -23,7 +23,7 @@ digits_test = search rules
 pub own : IsNumeralModel (λ ds. list_all is_ascii_digit ds ≡ true) (digits_value 10)
 own = numerals_by_value _ digits_test
 
-some_digits : (ds : List ℕ) → has_bytes ds ≡ true → 0 < length ds
+pub some_digits : (ds : List ℕ) → has_bytes ds ≡ true → 0 < length ds
 some_digits [] e = search rules
 some_digits (d ∷ ds) e = omega arith
 

@@ -7,7 +7,7 @@ use Rattle.std.specs.Option.{option_and_then}
 use Rattle.std.specs.Str.Parse.{IsNumeral, without_leading_sign, signed_digits_value}
 use Rattle.std.proofs.lemmas.Bool.{and_parts, and_from}
 use Rattle.rng_model.specs.datatypes.Texts.{has_bytes}
-use Rattle.rng_types.proofs.Decimals.{own}
+use Rattle.rng_types.proofs.Decimals.{own, some_digits}
 use Rattle.rng_model.specs.xsd.Numbers.{are_digits, integer_of, counted_from, most_counted}
 use Rattle.xsd_types.proofs.Signs.{no_integer, an_integer}
 
@@ -59,11 +59,6 @@ too_great least (pos n) no_fit = by_size (nat_le n most_counted) refl
         by_least true = refl
         by_least false = refl
 
--- a text that is not empty has a length
-has_length : (ds : List ℕ) → has_bytes ds ≡ true → 0 < length ds
-has_length [] e = search rules
-has_length (d ∷ ds) e = omega arith
-
 pub unread : (bs : List ℕ) (least : ℕ) → (IsNumeral 10 (without_leading_sign bs) × FitsSigned w64 (signed_digits_value 10 bs) → ⊥)
     → None ≡ option_and_then (counted_from least) (integer_of bs)
 unread bs least not_read = by_digits (are_digits (without_leading_sign bs)) refl
@@ -72,5 +67,5 @@ unread bs least not_read = by_digits (are_digits (without_leading_sign bs)) refl
     by_digits false e = ap (option_and_then (counted_from least)) (sym (no_integer bs e))
     by_digits true e =
         let parts = and_parts (has_bytes (without_leading_sign bs)) _ e in
-        let numeral : IsNumeral 10 (without_leading_sign bs) = (has_length (without_leading_sign bs) parts.0, own.to (without_leading_sign bs) parts.1) in
+        let numeral : IsNumeral 10 (without_leading_sign bs) = (some_digits (without_leading_sign bs) parts.0, own.to (without_leading_sign bs) parts.1) in
         too_great least (signed_digits_value 10 bs) (λ fits. not_read (numeral, fits)) ∙ ap (option_and_then (counted_from least)) (sym (an_integer bs e))
