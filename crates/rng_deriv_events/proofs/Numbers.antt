@@ -1,6 +1,6 @@
 -- Numbers of a table that grows.
 use Rattle.std.proofs.Common.{◌≡◌, ℕ, ◌<◌, ◌+◌, List, [], ◌∷◌, ◌++◌, length, map, take, refl, sym, ap, ◌∙◌, subst, All, arith, slice_index_or, slice_set, drop}
-use Rattle.std.proofs.Common.{◌-◌, append_assoc, Option, None, Result, Ok, Err, IfOk, OnOk}
+use Rattle.std.proofs.Common.{◌-◌, append_assoc, Option, None}
 use Rattle.std.specs.Option.{MatchOption, option_to_list}
 use Rattle.std.proofs.lemmas.Option.{MatchOption-at_none}
 use Rattle.std.proofs.lemmas.List.{length-append, length-set, get_or_append_left, take_at, take_more, append-nil}
@@ -11,14 +11,6 @@ use Rattle.rng_model.specs.matching.GrammarMatching.{Reading}
 use Rattle.rng_deriv_laws.specs.plain.Restricted.{IsRestricted}
 use Rattle.rng_deriv_table.specs.declared.pattern.PatternNumber.{PatternNumber}
 use Rattle.rng_deriv_events.specs.views.Numbers.{Longer, IsInside, tree_of, Adds, AddsEach}
-
-pub ok_weaker : {A E : Type 0} (r : Result A E) (P Q : A → Type 0) → ((x : A) → P x → Q x) → IfOk r P → IfOk r Q
-ok_weaker (Ok x) P Q f h = f x h
-ok_weaker (Err e) P Q f h = tt
-
-pub on_ok_weaker : {A E : Type 0} (r : Result A E) (P Q : Type 0) → (P → Q) → OnOk r P → OnOk r Q
-on_ok_weaker (Ok x) P Q f h = f h
-on_ok_weaker (Err e) P Q f h = tt
 
 -- an item that is set through a loan of the whole list
 pub set_lent : {A : Type 0} (xs lent : List A) (i : ℕ) (y : A) → lent ≡ xs → refill (length xs) xs (slice_set lent i y) ≡ slice_set xs i y

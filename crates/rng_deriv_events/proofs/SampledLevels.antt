@@ -1,6 +1,6 @@
 -- What is left after the sample string of a level is left after each string that it is an example for.
 use Rattle.std.proofs.Common.{◌≡◌, ◌∙◌, inl, inr, ℕ, ◌<◌, List, [], ◌∷◌, map, refl, sym, ap, subst, Bool, true, false, Some, slice_get, codes, All, length}
-use Rattle.std.proofs.Common.{Result, Ok, Err, IfOk, if◌then◌else◌}
+use Rattle.std.proofs.Common.{if◌then◌else◌}
 use Rattle.std.specs.List.{AllZip, list_any}
 use Rattle.rng_model.proofs.Places.{all_at as all_there}
 use Rattle.rng_names.specs.plain.Keys.{Keys}
@@ -70,6 +70,3 @@ module _ (g : Reading) (keys : Keys) (old new : List (Simple ℕ)) (t u : LevelT
   pub sample_serves : AddsAfter (IsAfterText g s) old new ps u m
   sample_serves = by_tests l.tests_strings refl
 
-pub if_ok : {A E : Type 0} (r : Result A E) (P Q : A → Type 0) → ((x : A) → P x → Q x) → IfOk r P → IfOk r Q
-if_ok (Ok x) P Q f h = f x h
-if_ok (Err e) P Q f h = h

@@ -154,10 +154,6 @@ module _ (g : Reading) where
       let f = found_in (tree d.0.0) xs ns d.2 in
       let a = within f.tree (d.0, d.1, f.among) in (a.0, a.1, by_alternative (tree a.0.0) f.tree xs ns a.2 f.takes)
 
-pub if_ok : {X E : Type 0} (r : Result X E) (P Q : X → Type 0) → ((x : X) → P x → Q x) → IfOk r P → IfOk r Q
-if_ok (Ok x) P Q f h = f x h
-if_ok (Err e) P Q f h = tt
-
 pub both_ok : {X E : Type 0} (r : Result X E) (P Q R : X → Type 0) → ((x : X) → P x → Q x → R x) → IfOk r P → IfOk r Q → IfOk r R
 both_ok (Ok x) P Q R f h k = f x h k
 both_ok (Err e) P Q R f h k = tt

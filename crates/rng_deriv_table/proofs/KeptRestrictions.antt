@@ -1,13 +1,13 @@
 -- What is made over the members of a pattern of a grammar obeys the restrictions that the pattern obeys, if each member
 -- does.
-use Rattle.std.proofs.Common.{◌≡◌, ℕ, ◌<◌, Bool, true, false, cond, Option, Some, Contains, slice_get, refl, sym, ap, ap₂, ◌∙◌, subst, inl, inr, ⊎_elim}
+use Rattle.std.proofs.Common.{◌≡◌, ℕ, ◌<◌, Option, Some, Contains, slice_get, refl, sym, ap, ap₂, ◌∙◌, subst, inl, inr, ⊎_elim}
 use Rattle.std.proofs.Common.{List, [], ◌∷◌, ◌++◌, length, get_or, arith, length-append}
 use Rattle.std.proofs.lemmas.Bool.{cases_lt}
 use Rattle.std.proofs.lemmas.List.{get_or_append_left}
 use Rattle.std.proofs.Math.Seq.{get_or-append_seam}
 use Rattle.std.proofs.lemmas.Option.{same_Some}
 use Rattle.rng_deriv_laws.proofs.Restricted.{greater_itself}
-use Rattle.rng_model.specs.simple.Tree.{Simple, Connector, choice, group, interleave, s_not_allowed, s_empty}
+use Rattle.rng_model.specs.simple.Tree.{Simple, Connector, choice, group, interleave, s_not_allowed}
 use Rattle.rng_model.specs.simple.Tree.{s_one_or_more, s_joined}
 use Rattle.rng_model.specs.restrictions.Contents.{ContentType, empty_content, greater}
 use Rattle.rng_model.specs.simple.Table.{Table, tree_at, tree_over}
@@ -19,7 +19,7 @@ use Rattle.rng_deriv_laws.specs.plain.Derivatives.{is_empty, is_not_allowed, joi
 use Rattle.rng_deriv_laws.specs.plain.Restricted.{HasNoAttribute, HasNoneGrouped, RepeatsWell, HasTexts, MayBeListed, content_type, type_of_both}
 use Rattle.rng_deriv_laws.specs.plain.Restricted.{type_of_choice}
 use Rattle.rng_deriv_laws.specs.plain.Restricted.{IsTyped}
-use Rattle.rng_deriv_laws.proofs.KeptRestrictions.{none_is_ungrouped}
+use Rattle.rng_deriv_laws.proofs.KeptRestrictions.{none_is_ungrouped, either_one, repeat_of-keeps}
 use Rattle.rng_deriv_table.specs.declared.uses.Use.{Use}
 use Rattle.rng_deriv_table.specs.plain.AskedFor.{HasNumber, HasPart, IsAskedFor, IsNoChoice, IsOwn}
 use Rattle.rng_deriv_table.specs.plain.Kept.{AreKeptAt, AreRestrictedAlike, HasContentWithin, HasNoLists, IsChoiceOf, IsChoiceTaken, IsInterleaveOf, IsMadeOver}
@@ -38,10 +38,6 @@ use Rattle.rng_deriv_table.proofs.Alternatives.{IsOfChoices, alternative_has, ha
 use Rattle.rng_deriv_table.proofs.ContentTypes.{both_have, both_members, both_within, less_together, together_greater, within_first}
 use Rattle.rng_deriv_table.proofs.ContentTypes.{within_second}
 
-either_one : (Q : Simple ℕ → Type 0) (b : Bool) (p q : Simple ℕ) → Q p → Q q → Q (cond b p q)
-either_one Q true p q h k = h
-either_one Q false p q h k = k
-
 -- a pattern that is unchanged
 pub kept_same : (p : Simple ℕ) → KeepsRestrictions p p
 kept_same p = record {
@@ -58,9 +54,6 @@ pub joined_has : (Q : Simple ℕ → Type 0) (k : Connector) (p q : Simple ℕ) 
 joined_has Q k p q none h i both =
     either_one Q (is_not_allowed p) s_not_allowed _ none (either_one Q (is_not_allowed q) s_not_allowed _ none
     (either_one Q (is_empty p) q _ i (either_one Q (is_empty q) p _ h both)))
-
-repeat_has : (Q : Simple ℕ → Type 0) (p : Simple ℕ) → Q s_not_allowed → Q s_empty → Q (s_one_or_more p) → Q (repeat_of p)
-repeat_has Q p none empty more = either_one Q (is_not_allowed p) s_not_allowed _ none (either_one Q (is_empty p) s_empty (s_one_or_more p) empty more)
 
 -- ---- content types
 
@@ -93,7 +86,7 @@ repeat_content : (p : Simple ℕ) (u c : ContentType) → type_of_both (Some u) 
 repeat_content p u c e h =
     let top = together_greater u u c e in
     ⊎_elim
-    (λ s. repeat_has (HasContentWithin c) p (inr refl) (inl (empty_content, refl, refl))
+    (λ s. repeat_of-keeps (HasContentWithin c) p (inr refl) (inl (empty_content, refl, refl))
     (inl (
       greater s.0 s.0,
       ap₂ type_of_both s.1 s.1 ∙ less_together u u c s.0 s.0 e s.2 s.2,
@@ -135,11 +128,11 @@ interleave_kept p q made other whole h i is = record {
 
 repeat_kept : (p made : Simple ℕ) → KeepsRestrictions p made → KeepsRestrictions (s_one_or_more p) (repeat_of made)
 repeat_kept p made h = record {
-  bare = λ o. repeat_has HasNoAttribute made tt tt (h.bare o);
-  ungrouped = λ o. repeat_has HasNoneGrouped made tt tt (h.ungrouped o);
-  repeats = λ o. repeat_has RepeatsWell made tt tt (h.ungrouped o.0, h.repeats o.1);
-  texts = λ o. repeat_has (HasTexts MayBeListed) made tt tt (h.texts o);
-  unlisted = λ o. repeat_has HasNoLists made tt tt (h.unlisted o);
+  bare = λ o. repeat_of-keeps HasNoAttribute made tt tt (h.bare o);
+  ungrouped = λ o. repeat_of-keeps HasNoneGrouped made tt tt (h.ungrouped o);
+  repeats = λ o. repeat_of-keeps RepeatsWell made tt tt (h.ungrouped o.0, h.repeats o.1);
+  texts = λ o. repeat_of-keeps (HasTexts MayBeListed) made tt tt (h.texts o);
+  unlisted = λ o. repeat_of-keeps HasNoLists made tt tt (h.unlisted o);
   content = λ c e.
       let b = both_have (content_type p) (content_type p) c e in
       let one : b.1 ≡ b.0 = same_Some b.1 b.0 (sym b.3 ∙ b.2) in

@@ -35,6 +35,10 @@ nothing_kept rows none =
     let Kept : List (Pattern × Facts) → Type 0 = λ rows. IsPatternTable (nodes_of rows) × AreExact rows in
     subst Kept (sym none) (record { falls = λ i n e. absurd (cc); reduced = λ t i n e. absurd (cc); apart = λ i j n e f. absurd (cc) }, none_exact)
 
+-- a row that has a pattern has what equals it
+pub is_there : {row : Option Node} {p q : Pattern} → row ≡ Some (node_of p) → p ≡ q → row ≡ Some (node_of q)
+is_there found is = found ∙ ap (λ p. Some (node_of p)) is
+
 -- ---- one more pattern
 
 -- a pattern of the longer table is one of the old or the new one

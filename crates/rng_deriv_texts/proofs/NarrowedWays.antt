@@ -139,6 +139,9 @@ no_index t ns index others texts = record {
 }
 
 module _ (t : Table) (ns : List Node) (ws : List LeafWay) (way : LeafWay) (before after : ValueIndex) (was : IsIndex t ns ws before) where
+  own : (w : LeafWay) → way ≡ w → Contains (ws ++ way ∷ []) w
+  own w e = subst (Contains (ws ++ way ∷ [])) e (Contains-push ws way)
+
   pub other_added : after.others.items ≡ before.others.items ++ way ∷ [] → after.by_text ≡ before.by_text → IsIndex t ns (ws ++ way ∷ []) after
   other_added others texts = record {
     others = λ w c. ⊎_elim (λ a. Contains-append_left ws (way ∷ []) w (was.others w a)) (λ e. own w e)
@@ -149,9 +152,7 @@ module _ (t : Table) (ns : List Node) (ws : List LeafWay) (way : LeafWay) (befor
         (λ h. inr (h.0, subst (λ m. IsKeptFor m h.0 w) (sym texts) h.1, h.2)) (was.all w a))
         (λ e. inl (subst (λ vs. Contains vs w) (sym others) (subst (Contains (before.others.items ++ way ∷ [])) e (Contains-push before.others.items way))))
         (Contains-push_cases ws way w c);
-  } where
-    own : (w : LeafWay) → way ≡ w → Contains (ws ++ way ∷ []) w
-    own w e = subst (Contains (ws ++ way ∷ [])) e (Contains-push ws way)
+  }
 
   pub text_added : (text : String Global) → TakesOnly t ns (string_bytes text) way.leaf → after.others ≡ before.others
       → ((q : String Global) (w : LeafWay) → IsKeptFor after.by_text q w → IsKeptOrIs before.by_text q way w)
@@ -164,9 +165,7 @@ module _ (t : Table) (ns : List Node) (ws : List LeafWay) (way : LeafWay) (befor
         (λ a. ⊎_elim (λ b. inl (subst (λ (v : SmallVec LeafWay). Contains v.items w) (sym others) b)) (λ h. inr (h.0, stay h.0 w h.1, h.2)) (was.all w a))
         (λ e. inr (text, subst (IsKeptFor after.by_text text) e put, subst (λ (v : LeafWay). TakesOnly t ns (string_bytes text) v.leaf) e only))
         (Contains-push_cases ws way w c);
-  } where
-    own : (w : LeafWay) → way ≡ w → Contains (ws ++ way ∷ []) w
-    own w e = subst (Contains (ws ++ way ∷ [])) e (Contains-push ws way)
+  }
 
 -- the ways that were found, if any were
 abbrev pub found_ways : Option (SmallVec LeafWay) → List LeafWay

@@ -2,7 +2,7 @@
 use Rattle.std.proofs.Common.{◌≡◌, ℕ, zero, suc, ◌<◌, ◌↔◌, ◌⊎◌, inl, inr, ⊎_elim, List, [], ◌∷◌, ◌++◌, length, sym, ap, subst, arith}
 use Rattle.std.proofs.Common.{All, Bool, true, false, Contains, Bor}
 use Rattle.std.proofs.lemmas.List.{map-append}
-use Rattle.std.proofs.lemmas.List.Elements.{All-append, Contains-get_or, Contains-append_left, Contains-append_right, Contains-append_cases}
+use Rattle.std.proofs.lemmas.List.Elements.{All-append, Contains-get_or, Contains-append_left, Contains-append_right, Contains-append_cases, All-contains}
 use Rattle.rng_model.specs.names.Lists.{Among, here, there}
 use Rattle.rng_model.specs.simple.Tree.{Simple, s_not_allowed}
 use Rattle.rng_model.specs.matching.Document.{Attribute, Item, a_text}
@@ -100,9 +100,6 @@ module _ (g : Reading) where
   one_offers w xs ks ys ms (v, there a, d, e) = elim a [ ]
 
 module _ (P : PatternNumber → Type 0) where
-  pub contained : (xs : List PatternNumber) (m : PatternNumber) → All P xs → Contains xs m → P m
-  contained xs m all (i, h, e) = subst P e (all i m h)
-
   pub only_this : (m : PatternNumber) → P m → All P (m ∷ [])
   only_this m h (zero) d l = h
   only_this m h (suc k) d l = absurd (omega (arith, l))
@@ -130,7 +127,7 @@ module _ (t : Table) (old before new : List Node) (first : First) (ws : List num
     g = reading_of t
 
     stays : (m : PatternNumber) → Contains rests m → tree_of t new m.0 ≡ tree_of t before m.0
-    stays m c = let P : PatternNumber → Type 0 = λ m. m.0 < length before in tree_stays t before new m.0 longer' (contained P rests m was.inside c)
+    stays m c = let P : PatternNumber → Type 0 = λ m. m.0 < length before in tree_stays t before new m.0 longer' (All-contains P rests m was.inside c)
 
     some_stay : (xs : List Attribute) (ns : List Item) → SomeTakes g (tree_of t new) rests xs ns ↔ SomeTakes g (tree_of t before) rests xs ns
     some_stay xs ns = (
@@ -238,7 +235,7 @@ left_behind t old n1 n2 new first number rest ways rests all some inside alterna
       (λ xs ns. let e = matches xs ns in let f = some.takes (all.kept o) xs ns in (λ h. f.0 (e.0 h), λ h. e.1 (f.1 h))) (all.law o);
   kept = λ o. choice_has (Obeys (place_of first)) (Obeys-hereditary (place_of first)) (tree_of t n2) rests (tree_of t new rest.0)
       alternatives
-      (λ m c. let P : PatternNumber → Type 0 = λ m. Obeys (place_of first) (tree_of t n2 m.0) in contained P rests m (some.kept (all.kept o)) c);
+      (λ m c. let P : PatternNumber → Type 0 = λ m. Obeys (place_of first) (tree_of t n2 m.0) in All-contains P rests m (some.kept (all.kept o)) c);
 }
 
 -- ---- a leaf that a string may take

@@ -2,7 +2,7 @@
 use Rattle.std.proofs.Common.{Bor, ◌≡◌, ◌∙◌, ◌||◌, inl, inr, ℕ, ◌<◌, ◌↔◌, List, [], ◌∷◌, ◌++◌, length, refl, sym, subst, arith}
 use Rattle.std.proofs.Common.{Bool, true, false, Option, Some, None, Contains}
 use Rattle.std.specs.Prelude.{IfSome}
-use Rattle.std.proofs.lemmas.List.Elements.{Contains-append_cases, Contains-append_left, Contains-append_right, Contains-get_or}
+use Rattle.std.proofs.lemmas.List.Elements.{Contains-append_cases, Contains-append_left, Contains-append_right, Contains-get_or, All-contains}
 use Rattle.std.proofs.lemmas.Bool.{or_left, or_right, or_cases}
 use Rattle.rng_model.proofs.Members.{not_in_none}
 use Rattle.rng_model.specs.simple.Tree.{Simple, s_not_allowed}
@@ -30,7 +30,7 @@ use Rattle.rng_deriv_texts.specs.declared.first.First.{First}
 use Rattle.rng_deriv_texts.specs.declared.first.First.TheVariants as firsts
 use Rattle.rng_deriv_texts.specs.declared.settled.Rest.{Rest}
 use Rattle.rng_deriv_texts.specs.declared.settled.Rest.TheVariants as rest_kinds
-use Rattle.rng_deriv_texts.proofs.RestsOfWays.{contained, leaf_covered, leaf_leaves, leaf_leaves_none, left_behind, takes_nothing, those_same}
+use Rattle.rng_deriv_texts.proofs.RestsOfWays.{leaf_covered, leaf_leaves, leaf_leaves_none, left_behind, takes_nothing, those_same}
 
 pub if_some : {X : Type 0} (o : Option X) (P Q : X → Type 0) → ((x : X) → P x → Q x) → IfSome o P → IfSome o Q
 if_some (Some x) P Q f h = f x h
@@ -87,7 +87,7 @@ settled_by t ns first p ws (rest_kinds.Two r q) all left = (ws, all, left)
 pub rest_inside : (t : Table) (ns : List Node) (first : First) (p : Simple ℕ) (r : Rest) → IsSettled t ns first p r → IsRestInside ns r
 rest_inside t ns first p rest_kinds.Unknown settled = tt
 rest_inside t ns first p rest_kinds.Nothing settled = tt
-rest_inside t ns first p (rest_kinds.Only r) (ws, all, some) = contained (λ m. m.0 < length ns) (r ∷ []) r some.inside (has_one r)
+rest_inside t ns first p (rest_kinds.Only r) (ws, all, some) = All-contains (λ m. m.0 < length ns) (r ∷ []) r some.inside (has_one r)
 rest_inside t ns first p (rest_kinds.Two r q) (ws, all, some) = some.inside
 
 -- what the rest of some ways tells
@@ -103,14 +103,14 @@ module _ (t : Table) (ns : List Node) (first : First) (number : PatternNumber) w
       let g = reading_of t in
       let In : PatternNumber → Type 0 = λ m. m.0 < length ns in
       let Kept : PatternNumber → Type 0 = λ m. Obeys (place_of first) (tree_of t ns m.0) in record {
-        inside = contained In (rest ∷ []) rest some.inside (has_one rest);
+        inside = All-contains In (rest ∷ []) rest some.inside (has_one rest);
         law = λ o. those_same g first (tree_of t ns number.0) _ _ (λ xs ks.
             let Own : PatternNumber → Type 0 = λ m. Takes g (tree_of t ns m.0) xs ks in
             let f = some.takes (all.kept o) xs ks in (
               λ h. f.0 (rest, has_one rest, h),
               λ h. let d = f.1 h in subst Own (sym (only_one rest d.0 d.1)) d.2,
             )) (all.law o);
-        kept = λ o. contained Kept (rest ∷ []) rest (some.kept (all.kept o)) (has_one rest);
+        kept = λ o. All-contains Kept (rest ∷ []) rest (some.kept (all.kept o)) (has_one rest);
       }
 
   -- a choice of the two

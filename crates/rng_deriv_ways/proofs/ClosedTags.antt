@@ -5,7 +5,7 @@ use Rattle.std.specs.List.{Contains}
 use Rattle.std.proofs.Math.ListN.{get_or-map}
 use Rattle.std.proofs.Math.Seq.{take-suc}
 use Rattle.std.proofs.lemmas.List.{length-map, map-append}
-use Rattle.std.proofs.lemmas.List.Elements.{All-append}
+use Rattle.std.proofs.lemmas.List.Elements.{All-append, All-contains}
 use Rattle.rng_model.specs.matching.Document.{Attribute, Item}
 use Rattle.rng_model.specs.simple.Table.{Table}
 use Rattle.rng_model.specs.simple.Tree.{Simple, s_not_allowed, s_empty, s_text, s_leaf, s_attribute, s_list, s_data, s_data_except}
@@ -126,11 +126,8 @@ choice_closed old before new number rest ms closes is inside takes bare alternat
       (member_has (HasTexts MayBeListed) (HasTexts-hereditary MayBeListed) (tree_of t old) numbers whole i d.0 (omega (arith, long, h))) in
       let all = bare t each in
       choice_has IsBareOfAttributes bare_hereditary (tree_of t before) closes (tree_of t new rest.0) (alternatives t)
-      (λ m c. let At : PatternNumber → Type 0 = λ k. IsBareOfAttributes (tree_of t before k.0) in contained At closes m all c);
+      (λ m c. let At : PatternNumber → Type 0 = λ k. IsBareOfAttributes (tree_of t before k.0) in All-contains At closes m all c);
 }
-  where
-    contained : (P : PatternNumber → Type 0) (xs : List PatternNumber) (m : PatternNumber) → All P xs → Contains xs m → P m
-    contained P xs m all (i, h, e) = subst P e (all i m h)
 
 -- ---- one more member
 

@@ -4,6 +4,7 @@ use Rattle.std.proofs.Common.{inl, inr, ⊎_elim, refl, sym, subst, arith, rules
 use Rattle.std.specs.HashMap.{HashMap, IsEmpty, get}
 use Rattle.std.specs.Map.{lookup}
 use Rattle.std.proofs.lemmas.Option.{same_Some, none-some}
+use Rattle.std.proofs.lemmas.List.Elements.{All-contains}
 use Rattle.rng_names.specs.plain.Keys.{Keys}
 use Rattle.rng_model.specs.matching.Document.{a_text}
 use Rattle.rng_model.specs.matching.GrammarMatching.{reading_of}
@@ -24,10 +25,6 @@ use Rattle.rng_deriv_ways.specs.declared.plans.ValueIndex.{ValueIndex}
 use Rattle.rng_deriv_ways.specs.declared.way.LeafWay.{LeafWay}
 use Rattle.rng_deriv_ways.proofs.WaysOfSides.{side_law}
 
-module _ (P : PatternNumber → Type 0) where
-  one_of : (ms : List PatternNumber) (m : PatternNumber) → All P ms → Contains ms m → P m
-  one_of ms m all (i, h, e) = subst P e (all i m h)
-
 -- a choice of patterns of shorter tables
 module _ (t : Table) (before after later last : List Node) (longer : Longer before later) (more : Longer after last) where
   pub choice_longer : (members : List PatternNumber) (n : PatternNumber) → All (λ (m : PatternNumber). m.0 < length before) members
@@ -47,7 +44,7 @@ module _ (t : Table) (before after later last : List Node) (longer : Longer befo
       }
     where
       stays : (m : PatternNumber) → Contains members m → tree_of t later m.0 ≡ tree_of t before m.0
-      stays m c = tree_stays t before later m.0 longer (one_of (λ m. m.0 < length before) members m there c)
+      stays m c = tree_stays t before later m.0 longer (All-contains (λ m. m.0 < length before) members m there c)
 
 module _ (t : Table) (old new : List Node) (longer : Longer old new) where
   pub all_inside : (ms : List PatternNumber) → All (λ (m : PatternNumber). m.0 < length old) ms → All (λ (m : PatternNumber). m.0 < length new) ms

@@ -1,5 +1,6 @@
 use Rattle.std.proofs.Common.{◌≡◌, ◌↔◌, All, OnOk, map, subst, sym, true}
 use Rattle.std.specs.List.{AllZip}
+use Rattle.std.proofs.lemmas.Result.{on_ok_weaker}
 use Rattle.rng_deriv_laws.specs.plain.LevelStates.{EndsNow}
 use Rattle.rng_deriv_events.specs.views.Basis.{reading_by}
 use Rattle.rng_deriv_events.specs.views.LevelTable.{levels_in}
@@ -7,7 +8,6 @@ use Rattle.rng_deriv_events.specs.views.Numbers.{IsInside, tree_of}
 use Rattle.rng_deriv_events.specs.views.OpenPositions.{open_state}
 use Rattle.rng_deriv_events.specs.views.States.{AddsState, EndsBy, EndsIf, state_of}
 use Rattle.rng_deriv_events.proofs.KeptLevels.{numbers_inside}
-use Rattle.rng_deriv_events.proofs.Numbers.{on_ok_weaker}
 use Rattle.rng_deriv_events.proofs.Positions.{ends_if}
 use Rattle.rng_deriv_events.proofs.closing.after_carried_elements.Goals as goal
 
@@ -27,8 +27,8 @@ returns-clause-ended g c =
     let good = c.in_ok-good.good.items in
     let n = open_state c.close_carried.new.state in
     let which = subst (λ ps. AllZip (λ p b. (b ≡ true) ↔ EndsNow reading p) (map (tree_of old) ps) good) c.numbers.ensures c.in_ok-good.ensures in
-    on_ok_weaker c.close_carried.result (AddsState (EndsBy reading good (state_of old (open_state s))) old new n)
-    (AddsState (EndsIf reading (EndsNow reading) (state_of old (open_state s))) old new n)
+    on_ok_weaker {P = AddsState (EndsBy reading good (state_of old (open_state s))) old new n}
+    {Q = AddsState (EndsIf reading (EndsNow reading) (state_of old (open_state s))) old new n} c.close_carried.result
     (λ e. record {
       longer = e.longer;
       inside = e.inside;

@@ -1,4 +1,5 @@
 use Rattle.std.proofs.Common.{◌∙◌, ℕ, List, All, OnOk, Some, ap, length, subst, sym}
+use Rattle.std.proofs.lemmas.Result.{on_ok_weaker}
 use Rattle.rng_deriv_laws.specs.plain.LevelStates.{EndsWith}
 use Rattle.rng_deriv_events.specs.views.Basis.{reading_by}
 use Rattle.rng_deriv_events.specs.views.LevelTable.{levels_in, numbers_in}
@@ -8,7 +9,6 @@ use Rattle.rng_deriv_events.specs.views.OpenPositions.{held_string, open_state}
 use Rattle.rng_deriv_events.specs.views.States.{AddsState, EndsBy, EndsIf, state_of}
 use Rattle.rng_deriv_events.specs.views.Strings.{IsHeld}
 use Rattle.rng_deriv_events.proofs.KeptLevels.{numbers_inside}
-use Rattle.rng_deriv_events.proofs.Numbers.{on_ok_weaker}
 use Rattle.rng_deriv_events.proofs.Positions.{ends_if}
 use Rattle.rng_deriv_events.proofs.closing.after_carried_string.Goals as goal
 
@@ -40,9 +40,9 @@ returns-clause-ended g c =
     let which : AreEndsWith reading old now (numbers_in (levels_in s.table) string.after.0) string.blank now good =
     subst (λ ps. AreEndsWith reading old now ps string.blank now good) c.numbers-2.ensures
     (subst (λ ps. AreEndsWith reading old ps c.numbers-2.result.now string.blank ps good) c.numbers.ensures c.in_ok-good.ensures) in
-    on_ok_weaker c.close_carried.result (AddsState (EndsBy reading good (state_of old (open_state s))) old new n)
-    (AddsState (λ n. (t : List ℕ) → IsHeld reading old now (Some (held_string s.table string)) t
-    → EndsIf reading (EndsWith reading t) (state_of old (open_state s)) n) old new n)
+    on_ok_weaker {P = AddsState (EndsBy reading good (state_of old (open_state s))) old new n}
+    {Q = AddsState (λ n. (t : List ℕ) → IsHeld reading old now (Some (held_string s.table string)) t
+    → EndsIf reading (EndsWith reading t) (state_of old (open_state s)) n) old new n} c.close_carried.result
     (λ e. record {
       longer = e.longer;
       inside = e.inside;

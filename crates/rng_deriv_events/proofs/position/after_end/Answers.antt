@@ -1,4 +1,5 @@
 use Rattle.std.proofs.Common.{refl, true, subst, sym, List, ℕ, ◌∙◌}
+use Rattle.std.proofs.lemmas.Result.{on_ok_weaker}
 use Rattle.rng_model.specs.documents.PyxTrees.{an_end}
 use Rattle.rng_deriv_laws.specs.plain.LevelStates.{EndsNow, EndsWith}
 use Rattle.rng_deriv_events.specs.views.Basis.{Keeps, reading_by}
@@ -8,7 +9,6 @@ use Rattle.rng_deriv_events.specs.declared.position.Position.{Position}
 use Rattle.rng_deriv_events.specs.views.OpenPositions.{IsHeldKept, IsPositionKept, IsStateKept, open_position, open_state, open_string}
 use Rattle.rng_deriv_events.specs.views.States.{AddsState, EndsIf, state_of}
 use Rattle.rng_deriv_events.specs.views.Strings.{IsHeld}
-use Rattle.rng_deriv_events.proofs.Numbers.{on_ok_weaker}
 use Rattle.rng_deriv_events.proofs.OpenStates.{held_none, kept_no_string}
 use Rattle.rng_deriv_events.proofs.Positions.{end_step, lone_step}
 use Rattle.rng_deriv_events.proofs.position.after_end.Goals as goal
@@ -30,7 +30,7 @@ returns-then-position-clause-keeps g c =
     let trees = g.D.Derivatives.trees c.after_elements.new.derivatives in
     let s = c.settle.new.position in
     let r : Position = record { state = c.after_elements.new.state; has_begun = s.has_begun; held = s.held } in
-    on_ok_weaker c.after_elements.result (Keeps IsStateKept old new trees r.state) (Keeps IsPositionKept old new trees r)
+    on_ok_weaker {P = Keeps IsStateKept old new trees r.state} {Q = Keeps IsPositionKept old new trees r} c.after_elements.result
     (λ k. record { basis = k.basis; right = kept_no_string (reading_by new) new.keys trees r c.settle.ensures.held k.right }) c.after_elements.ensures.keeps
 
 pub returns-then-position-clause-step : goal.returns-then-position-clause-step
@@ -42,8 +42,8 @@ returns-then-position-clause-step g c =
     let p = c.args.position.now in
     let s = c.settle.new.position in
     let r : Position = record { state = c.after_elements.new.state; has_begun = s.has_begun; held = s.held } in
-    on_ok_weaker c.after_elements.result (AddsState (EndsIf reading (EndsNow reading) (state_of old (open_state s.state))) old new (open_state r.state))
-    (AddsStep reading an_end old new (open_position p) (open_position r))
+    on_ok_weaker {P = AddsState (EndsIf reading (EndsNow reading) (state_of old (open_state s.state))) old new (open_state r.state)}
+    {Q = AddsStep reading an_end old new (open_position p) (open_position r)} c.after_elements.result
     (λ e. end_step reading old new (open_position p) (open_state s.state) (open_position r) (λ m of. c.settle.ensures.settles reading old m of) e
     c.if-position.true (c.settle.ensures.begun ∙ c.if-position.true) (held_none r.state.table r.held c.settle.ensures.held)) c.after_elements.ensures.ended
 

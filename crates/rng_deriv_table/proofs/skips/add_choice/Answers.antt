@@ -1,9 +1,9 @@
 use Rattle.std.proofs.Common.{◌≡◌, ◌∙◌, ◌<◌, All, List, Some, ap, length, map, refl, subst, sym}
+use Rattle.std.proofs.lemmas.Result.{IfOk-weaker}
 use Rattle.rng_deriv_table.specs.plain.Selecting.{parts_of}
 use Rattle.rng_deriv_table.specs.views.Node.{node_of}
 use Rattle.rng_deriv_table.specs.views.Skips.{AreSkipsOf, members_at, members_found}
 use Rattle.rng_deriv_table.specs.declared.pattern.PatternNumber.{PatternNumber}
-use Rattle.rng_deriv_table.proofs.Choices.{if_ok}
 use Rattle.rng_deriv_table.proofs.KnownFacts.{of_members}
 use Rattle.rng_deriv_table.proofs.MarkedNumbers.{parts_inside}
 use Rattle.rng_deriv_table.proofs.MemberSkips.{choice_put}
@@ -27,5 +27,5 @@ returns c =
     (ap (λ p. parts_of (node_of p)) c.in-Choice.is) c.pattern.ensures.table (length ns) refl c.requires in
     let is : members_at ns c.args.number.0 ≡ ms = ap members_found (c.pattern.ensures.found ∙ ap (λ p. Some (node_of p)) c.in-Choice.is) in
     let single = subst (λ (ms : List PatternNumber). AreSkipsOf ns (map (λ (m : PatternNumber). m.0) ms) c.in_ok-skips.skips.items) c.as_slice.ensures.value c.in_ok-skips.ensures in
-    if_ok c.keep_skips.result _ _ (λ u within. λ all. choice_put ns c.args.by_choice.now c.keep_skips.new.by_choice c.args.number ms c.widen_all.new.skips.items
+    IfOk-weaker c.keep_skips.result _ _ (λ u within. λ all. choice_put ns c.args.by_choice.now c.keep_skips.new.by_choice c.args.number ms c.widen_all.new.skips.items
     c.requires is below (c.widen_all.ensures ns ms single) within all) c.keep_skips.ensures

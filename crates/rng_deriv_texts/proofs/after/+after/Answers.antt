@@ -3,6 +3,7 @@ use Rattle.std.proofs.Common.{get_or, length, length-append, refl, sym, ap, subs
 use Rattle.std.specs.Prelude.{IfSome}
 use Rattle.std.proofs.lemmas.Option.{slice_get-get_or, slice_get_within}
 use Rattle.std.proofs.Math.Seq.{take-suc}
+use Rattle.std.proofs.lemmas.Result.{IfOk-weaker as if_ok}
 use Rattle.rng_names.proofs.Holding.{decides_holds}
 use Rattle.rng_model.specs.simple.Table.{Table, tree_at}
 use Rattle.rng_model.specs.datatypes.Texts.{pieces, is_blank}
@@ -16,7 +17,6 @@ use Rattle.rng_deriv_table.specs.plain.AskedFor.{as_part}
 use Rattle.rng_deriv_table.specs.views.Taking.{tree_by}
 use Rattle.rng_deriv_table.specs.views.Trees.{attribute_found, data_found, tree_of}
 use Rattle.rng_deriv_table.specs.declared.pattern.PatternNumber.{PatternNumber}
-use Rattle.rng_deriv_table.proofs.Choices.{if_ok}
 use Rattle.rng_deriv_table.proofs.Trees.{Longer-length, Longer-refl, Longer-trans, tree_stays}
 use Rattle.rng_deriv_texts.specs.plain.After.{AreRests, IsLeft, TellsTaken}
 use Rattle.rng_deriv_texts.specs.plain.Settling.{AreLeft}

@@ -1,7 +1,7 @@
+use Rattle.std.proofs.lemmas.Result.{IfOk-weaker as if_ok}
 use Rattle.rng_model.specs.matching.GrammarMatching.{reading_of}
 use Rattle.rng_deriv_ways.proofs.ClosedTags.{both_ok}
 use Rattle.rng_deriv_ways.proofs.KnownWays.{all_longer}
-use Rattle.rng_deriv_table.proofs.Choices.{if_ok}
 use Rattle.rng_deriv_table.proofs.Trees.{Longer-trans}
 use Rattle.rng_deriv_texts.proofs.JoinedRests.{left_joined}
 use Rattle.rng_deriv_texts.proofs.after.after_attribute.Goals as goal

@@ -1,5 +1,5 @@
 use Rattle.std.proofs.Common.{rules}
-use Rattle.rng_deriv_table.proofs.Choices.{if_ok}
+use Rattle.std.proofs.lemmas.Result.{IfOk-weaker as if_ok}
 use Rattle.rng_deriv_ways.proofs.ClosedTags.{both_ok}
 use Rattle.rng_deriv_ways.proofs.KnownWays.{all_longer}
 use Rattle.rng_deriv_ways.proofs.StartBodies.{ready_longer}

@@ -1,5 +1,5 @@
 use Rattle.std.proofs.Common.{subst, rules}
-use Rattle.rng_deriv_table.proofs.Choices.{if_ok}
+use Rattle.std.proofs.lemmas.Result.{IfOk-weaker as if_ok}
 use Rattle.rng_deriv_table.specs.views.Trees.{tree_of}
 use Rattle.rng_deriv_texts.specs.plain.Asking.{IsAskedBy}
 use Rattle.rng_deriv_ways.proofs.ClosedTags.{both_ok}

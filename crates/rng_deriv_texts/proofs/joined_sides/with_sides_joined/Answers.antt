@@ -1,5 +1,6 @@
 use Rattle.std.proofs.Common.{◌≡◌, ◌∙◌, ◌<◌, ◌↔◌, All, List, ℕ, Some, ap, arith, length, rules, subst, sym}
 use Rattle.std.proofs.lemmas.List.Elements.{All-weaker}
+use Rattle.std.proofs.lemmas.Result.{IfOk-weaker as if_ok}
 use Rattle.rng_model.specs.simple.Tree.{Simple}
 use Rattle.rng_deriv_laws.specs.plain.Restricted.{IsRestricted}
 use Rattle.rng_model.specs.matching.Document.{Attribute, Item}
@@ -8,7 +9,6 @@ use Rattle.rng_deriv_table.specs.views.Choices.{SomeTakes}
 use Rattle.rng_deriv_table.specs.views.Node.{node_of}
 use Rattle.rng_deriv_table.specs.views.Trees.{tree_of}
 use Rattle.rng_deriv_table.specs.declared.pattern.PatternNumber.{PatternNumber}
-use Rattle.rng_deriv_table.proofs.Choices.{if_ok}
 use Rattle.rng_deriv_texts.proofs.JoinedRests.{choice_same, choice_there, restricted_members}
 use Rattle.rng_deriv_texts.proofs.joined_sides.with_sides_joined.Goals as goal
 

@@ -1,6 +1,6 @@
 use Rattle.std.proofs.Common.{refl, rules, string_bytes, subst}
 use Rattle.std.specs.Prelude.{IfSome}
-use Rattle.rng_deriv_table.proofs.Choices.{if_ok}
+use Rattle.std.proofs.lemmas.Result.{IfOk-weaker as if_ok}
 use Rattle.rng_deriv_ways.specs.views.Plans.{TakesOnly}
 use Rattle.rng_deriv_ways.proofs.ClosedTags.{both_ok}
 use Rattle.rng_deriv_texts.proofs.NarrowedWays.{other_added, text_added}

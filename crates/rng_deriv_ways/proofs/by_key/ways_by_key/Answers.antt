@@ -1,8 +1,8 @@
 use Rattle.std.proofs.Common.{sym, rules}
 use Rattle.std.specs.HashMap.{get}
 use Rattle.std.specs.Option.{IsSome}
+use Rattle.std.proofs.lemmas.Result.{IfOk-weaker as if_ok}
 use Rattle.rng_names.specs.contracts.name_keys.NameKeyPartialEq.TheImpl as same_key
-use Rattle.rng_deriv_table.proofs.Choices.{if_ok}
 use Rattle.rng_deriv_ways.proofs.KnownWays.{known_for, none_known}
 use Rattle.rng_deriv_ways.proofs.by_key.ways_by_key.Goals as goal
 

@@ -2,6 +2,7 @@ use Rattle.std.proofs.Common.{◌≡◌, ◌∙◌, ◌<◌, ◌+◌, ◌↔◌,
 use Rattle.std.proofs.lemmas.Bool.{not-false, not-true}
 use Rattle.std.proofs.Math.ListN.{get_or-map}
 use Rattle.std.proofs.lemmas.List.{length-map, take_all}
+use Rattle.std.proofs.lemmas.Result.{IfOk-weaker as if_ok}
 use Rattle.rng_model.specs.simple.Table.{Table}
 use Rattle.rng_model.specs.matching.Document.{Attribute, Item}
 use Rattle.rng_model.specs.matching.GrammarMatching.{Reading}
@@ -14,7 +15,6 @@ use Rattle.rng_deriv_table.specs.views.Choices.{SomeTakes}
 use Rattle.rng_deriv_table.specs.views.Trees.{choice_over, tree_of}
 use Rattle.rng_deriv_table.specs.declared.pattern.Facts.{Facts}
 use Rattle.rng_deriv_table.specs.declared.pattern.PatternNumber.{PatternNumber}
-use Rattle.rng_deriv_table.proofs.Choices.{if_ok}
 use Rattle.rng_deriv_table.proofs.Trees.{Longer-length, Longer-trans}
 use Rattle.rng_deriv_ways.specs.plain.Closing.{IsBareOfAttributes}
 use Rattle.rng_deriv_ways.proofs.PatternsWithoutAttributes.{bare_there, closed_same}

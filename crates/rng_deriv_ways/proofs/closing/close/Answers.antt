@@ -1,4 +1,4 @@
-use Rattle.rng_deriv_table.proofs.Choices.{if_ok}
+use Rattle.std.proofs.lemmas.Result.{IfOk-weaker as if_ok}
 use Rattle.rng_deriv_ways.proofs.KnownRests.{closed_before}
 use Rattle.rng_deriv_ways.proofs.closing.close.Goals as goal
 

@@ -1,5 +1,5 @@
 use Rattle.std.proofs.Common.{subst}
-use Rattle.rng_deriv_table.proofs.Choices.{if_ok}
+use Rattle.std.proofs.lemmas.Result.{IfOk-weaker as if_ok}
 use Rattle.rng_deriv_table.proofs.Trees.{tree_stays}
 use Rattle.rng_deriv_ways.specs.plain.Ways.{AreWaysOf}
 use Rattle.rng_deriv_ways.proofs.AttributeTakers.{candidates_longer}

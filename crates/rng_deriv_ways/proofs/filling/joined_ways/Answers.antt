@@ -1,7 +1,7 @@
 use Rattle.std.proofs.Common.{◌≡◌, IsPermutation, List, rules, subst, sym}
 use Rattle.std.proofs.lemmas.List.Sorted.{All-permutation}
+use Rattle.std.proofs.lemmas.Result.{IfOk-weaker as if_ok}
 use Rattle.rng_deriv_table.specs.views.Trees.{tree_of}
-use Rattle.rng_deriv_table.proofs.Choices.{if_ok}
 use Rattle.rng_deriv_ways.specs.plain.Ways.{AreInside, IsInside, StandFor, ways_by}
 use Rattle.rng_deriv_ways.specs.declared.way.LeafWay.{LeafWay}
 use Rattle.rng_deriv_ways.proofs.NumberedWays.{stands_itself}

@@ -1,7 +1,7 @@
 use Rattle.std.proofs.Common.{◌≡◌, ◌∙◌, inr, Some, ap, slice_get, subst, sym}
 use Rattle.std.proofs.lemmas.Option.{slice_get-get_or}
+use Rattle.std.proofs.lemmas.Result.{IfOk-weaker as if_ok}
 use Rattle.rng_model.specs.declared.simple.ElementId.{ElementId}
-use Rattle.rng_deriv_table.proofs.Choices.{if_ok}
 use Rattle.rng_deriv_ways.specs.plain.Takers.{AreCandidates}
 use Rattle.rng_deriv_ways.proofs.PatternNodes.{is_over}
 use Rattle.rng_deriv_ways.proofs.leaves.like_leaf.Goals as goal

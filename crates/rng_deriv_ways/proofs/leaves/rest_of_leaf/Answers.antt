@@ -1,7 +1,7 @@
 use Rattle.std.proofs.Common.{◌∙◌, sym, ap}
+use Rattle.std.proofs.lemmas.Result.{IfOk-weaker as if_ok}
 use Rattle.rng_deriv_table.specs.views.PatternTable.{Adds}
 use Rattle.rng_deriv_table.specs.views.Trees.{tree_of}
-use Rattle.rng_deriv_table.proofs.Choices.{if_ok}
 use Rattle.rng_model.specs.simple.Tree.{s_empty}
 use Rattle.rng_deriv_ways.specs.plain.Kinds.{rest_of_leaf}
 use Rattle.rng_deriv_ways.proofs.PatternNodes.{is_over, rest_is_empty}

@@ -1,5 +1,6 @@
 use Rattle.std.proofs.Common.{◌∙◌, ◌<◌, ◌≤◌, ℕ, All, [], ◌++◌, length, map, refl, sym, ap, subst, arith, rules, IsTrue}
 use Rattle.std.proofs.lemmas.Bool.{not-false, not-true}
+use Rattle.std.proofs.lemmas.Result.{IfOk-weaker as if_ok}
 use Rattle.rng_model.specs.simple.Tree.{Simple, group, s_joined, s_not_allowed}
 use Rattle.rng_deriv_laws.specs.plain.Derivatives.{behind, is_nullable}
 use Rattle.rng_deriv_laws.proofs.SameWays.{choice_all}
@@ -10,7 +11,6 @@ use Rattle.rng_deriv_table.specs.views.Skips.{members_at}
 use Rattle.rng_deriv_table.specs.views.Trees.{choice_over, tree_of}
 use Rattle.rng_deriv_table.specs.declared.pattern.Facts.{Facts}
 use Rattle.rng_deriv_table.specs.declared.pattern.PatternNumber.{PatternNumber}
-use Rattle.rng_deriv_table.proofs.Choices.{if_ok}
 use Rattle.rng_deriv_table.proofs.Trees.{Longer-length, Longer-refl, Longer-trans, tree_stays}
 use Rattle.rng_deriv_ways.specs.plain.Kinds.{connector_of, weight}
 use Rattle.rng_model.specs.matching.GrammarMatching.{reading_of}

@@ -1,12 +1,8 @@
-use Rattle.std.proofs.Common.{◌≡◌, ◌∙◌, Option, Some, ap, arith, eqb-true, refl, subst, sym}
+use Rattle.std.proofs.Common.{arith, eqb-true, refl, subst, sym}
 use Rattle.std.specs.List.{Contains}
-use Rattle.rng_deriv_table.specs.views.Node.{Node, node_of}
-use Rattle.rng_deriv_table.specs.declared.pattern.Pattern.{Pattern}
+use Rattle.rng_deriv_table.proofs.TableRows.{is_there}
 use Rattle.rng_deriv_table.proofs.WiderParts.{choice_covers, first_covers, group_covers, interleave_covers, second_covers}
 use Rattle.rng_deriv_table.proofs.pattern_table.PatternTable.+covers.Goals as goal
-
-is_there : {row : Option Node} {p q : Pattern} → row ≡ Some (node_of p) → p ≡ q → row ≡ Some (node_of q)
-is_there found is = found ∙ ap (λ p. Some (node_of p)) is
 
 pub covers-requires : goal.covers-requires
 covers-requires t c =

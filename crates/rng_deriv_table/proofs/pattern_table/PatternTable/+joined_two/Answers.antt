@@ -1,28 +1,25 @@
-use Rattle.std.proofs.Common.{◌≡◌, ◌∙◌, Option, Some, ap, arith, eqb-true, sym, subst, ℕ}
+use Rattle.std.proofs.Common.{◌≡◌, ◌∙◌, ap, arith, eqb-true, sym, subst, ℕ}
+use Rattle.std.proofs.lemmas.Result.{IfOk-weaker}
 use Rattle.rng_model.specs.simple.Tree.{Simple, group, interleave, s_joined}
 use Rattle.rng_deriv_laws.specs.plain.Derivatives.{joined_of}
 use Rattle.rng_deriv_laws.specs.plain.Restricted.{IsRestricted}
 use Rattle.rng_deriv_laws.specs.plain.Taking.{Same}
 use Rattle.rng_deriv_table.specs.views.Choices.{IsEither}
-use Rattle.rng_deriv_table.specs.views.Node.{Node, node_of}
 use Rattle.rng_deriv_table.specs.views.Trees.{tree_of}
-use Rattle.rng_deriv_table.specs.declared.pattern.Pattern.{Pattern}
-use Rattle.rng_deriv_table.proofs.Choices.{both_ok, if_ok}
+use Rattle.rng_deriv_table.proofs.Choices.{both_ok}
 use Rattle.rng_deriv_table.proofs.JoinedSides.{either_of_two, group_first, group_second, interleave_first, interleave_second, side_first, side_second}
+use Rattle.rng_deriv_table.proofs.TableRows.{is_there}
 use Rattle.rng_deriv_table.proofs.Trees.{Longer-length, tree_of-over_parts, tree_stays}
 use Rattle.rng_deriv_table.proofs.pattern_table.PatternTable.+joined_two.Goals as goal
 
-is_there : {row : Option Node} {p q : Pattern} → row ≡ Some (node_of p) → p ≡ q → row ≡ Some (node_of q)
-is_there found is = found ∙ ap (λ p. Some (node_of p)) is
-
 pub returns-then-levels-eq0-clause-matches : goal.returns-then-levels-eq0-clause-matches
 returns-then-levels-eq0-clause-matches t c =
-    if_ok c.choice.result _ _ (λ n takes. λ t. either_of_two t c.args.self.now c.choice.new.self c.args.first c.args.second n (takes t))
+    IfOk-weaker c.choice.result _ _ (λ n takes. λ t. either_of_two t c.args.self.now c.choice.new.self c.args.first c.args.second n (takes t))
     c.choice.ensures.matches
 
 pub returns-in_default-clause-matches : goal.returns-in_default-clause-matches
 returns-in_default-clause-matches t c =
-    if_ok c.choice-in_default.result _ _ (λ n takes. λ t. either_of_two t c.args.self.now c.choice-in_default.new.self c.args.first c.args.second n (takes t))
+    IfOk-weaker c.choice-in_default.result _ _ (λ n takes. λ t. either_of_two t c.args.self.now c.choice-in_default.new.self c.args.first c.args.second n (takes t))
     c.choice-in_default.ensures.matches
 
 pub joined_two-requires : goal.joined_two-requires

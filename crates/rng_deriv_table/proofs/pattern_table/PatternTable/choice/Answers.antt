@@ -1,4 +1,5 @@
 use Rattle.std.proofs.Common.{◌≡◌, ◌<◌, ◌↔◌, ℕ, All, List, length}
+use Rattle.std.proofs.lemmas.Result.{IfOk-weaker}
 use Rattle.rng_model.specs.matching.Document.{Attribute, Item}
 use Rattle.rng_model.specs.simple.Table.{Table}
 use Rattle.rng_model.specs.simple.Tree.{Simple, s_not_allowed}
@@ -9,7 +10,7 @@ use Rattle.rng_deriv_table.specs.views.Choices.{IsAlternativeOf, SomeTakes}
 use Rattle.rng_deriv_table.specs.plain.Reduced.{HasAlternative, MayBeMember}
 use Rattle.rng_deriv_table.specs.views.Trees.{tree_of}
 use Rattle.rng_deriv_table.proofs.Alternatives.{choice_restricted, choice_typed, no_alternatives}
-use Rattle.rng_deriv_table.proofs.Choices.{all_within, as_sets, both_ok, if_ok, takes_some, takes_within}
+use Rattle.rng_deriv_table.proofs.Choices.{all_within, as_sets, both_ok, takes_some, takes_within}
 use Rattle.rng_deriv_table.proofs.OnlyMember.{only_among, only_inside, only_none, only_restricted, only_takes, only_typed}
 use Rattle.rng_deriv_table.proofs.pattern_table.PatternTable.choice.Goals as goal
 
@@ -55,7 +56,7 @@ returns-clause-alternatives c =
     let ns = c.args.self.now in
     let all = c.in_ok-alternatives.alternatives.items in
     let ordered = c.put_in_order.new.numbers.items in
-    if_ok c.choice_of.result
+    IfOk-weaker c.choice_of.result
     (λ n. (t : Table) (s : Simple ℕ) → HasAlternative (tree_of t c.choice_of.new.self n.0) s ↔ IsAlternativeOf (tree_of t ns) ordered s)
     (λ n. (t : Table) (s : Simple ℕ) → HasAlternative (tree_of t c.choice_of.new.self n.0) s → IsAlternativeOf (tree_of t ns) c.args.members.now s)
     (λ n has t s h.
@@ -70,7 +71,7 @@ returns-clause-matches c =
     let all = c.in_ok-alternatives.alternatives.items in
     let ordered = c.put_in_order.new.numbers.items in
     let members = c.args.members.now in
-    if_ok c.choice_of.result
+    IfOk-weaker c.choice_of.result
     (λ n. (t : Table) (s : Simple ℕ) → HasAlternative (tree_of t c.choice_of.new.self n.0) s ↔ IsAlternativeOf (tree_of t ns) ordered s)
     (λ n. (t : Table) (g : Reading) (xs : List Attribute) (ks : List Item)
     → Takes g (tree_of t c.choice_of.new.self n.0) xs ks ↔ SomeTakes g (tree_of t ns) members xs ks)

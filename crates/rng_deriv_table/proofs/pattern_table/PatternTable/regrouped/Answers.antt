@@ -1,8 +1,8 @@
 use Rattle.std.proofs.Common.{◌≡◌, ◌∙◌, true, List, Some, ap, arith, map, rules, slice_get, sym}
+use Rattle.std.proofs.lemmas.Result.{IfOk-weaker}
 use Rattle.rng_deriv_table.specs.views.Node as node
 use Rattle.rng_deriv_table.specs.views.Node.{node_of}
 use Rattle.rng_deriv_table.specs.declared.pattern.PatternNumber.{PatternNumber}
-use Rattle.rng_deriv_table.proofs.Choices.{if_ok}
 use Rattle.rng_deriv_table.proofs.Regrouped.{option_there, options_longer}
 use Rattle.rng_deriv_table.proofs.Units.{group_there}
 use Rattle.rng_deriv_table.proofs.pattern_table.PatternTable.regrouped.Goals as goal
@@ -60,5 +60,5 @@ regrouped_group-requires-clause-is c =
 
 pub returns-in-Group-clause-options : goal.returns-in-Group-clause-options
 returns-in-Group-clause-options c =
-    if_ok c.regrouped_group.result _ _ (λ n longer. options_longer c.args.self.now c.regrouped_group.new.self c.args.options.now longer c.requires.options)
+    IfOk-weaker c.regrouped_group.result _ _ (λ n longer. options_longer c.args.self.now c.regrouped_group.new.self c.args.options.now longer c.requires.options)
     c.regrouped_group.ensures.longer
