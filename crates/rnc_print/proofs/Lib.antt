@@ -16,5 +16,6 @@ pub mod ItemLines
 pub mod ClassTexts
 pub mod LineTexts
 pub mod TreeShapes
+pub mod NamedElements
 pub mod OneForm
 pub mod SameNumberings

@@ -1,47 +1,23 @@
 -- Two simple grammars of a schema are the same up to the numbers of their elements, so a schema has one printed form.
-use Rattle.std.proofs.Common.{◌≡◌, ◌∙◌, ℕ, zero, suc, ◌+◌, ◌<◌, Bool, true, false, List, [], ◌∷◌, length, get_or, Some, refl, sym, ap, subst, arith}
+use Rattle.std.proofs.Common.{◌≡◌, ◌∙◌, ℕ, ◌<◌, Bool, true, false, List, length, Some, refl, sym, ap, subst}
 use Rattle.std.specs.Prelude.{Contains, slice_get}
 use Rattle.std.proofs.Math.Dec.{ltb}
 use Rattle.std.proofs.lemmas.Bool.{ltb-true, lt-ltb}
 use Rattle.std.proofs.lemmas.List.Elements.{All-contains}
-use Rattle.std.proofs.lemmas.Option.{get_or_from_slice_get, slice_get-get_or, slice_get_within}
+use Rattle.std.proofs.lemmas.Option.{get_or_from_slice_get, slice_get_within}
 use Rattle.rng_model.specs.names.Names.{NameClass, any_name}
 use Rattle.rng_model.specs.simple.Leaves.{AreLeavesBelow, renamed}
 use Rattle.rng_model.specs.schema.Schema.{Schema}
 use Rattle.rng_model.specs.simple.SchemaForm.{Element, SimpleForm, IsElementOf, IsOnlySimpleGrammarOf, IsSameUpToNumbering, IsSimpleFormOfSchema}
 use Rattle.rng_model.specs.simple.Grammar.{Grammar}
 use Rattle.rng_model.specs.simple.Tree.{Simple, s_not_allowed, as_tree}
-use Rattle.rng_model.specs.schema.Unfolding.{Leaf}
 use Rattle.rncv_model.specs.printed.Items.{element_at}
 use Rattle.rnc_print.specs.plain.Renumbered.{renumbered, AreSameUpToNumbering}
 use Rattle.rncv_model.specs.printed.SchemaText.{IsPrintedForm}
 use Rattle.rnc_print.proofs.FailedTests.{false_true}
+use Rattle.rnc_print.proofs.NamedElements.{as_many, in_rows, listed, named, named_from, row_at}
 use Rattle.rnc_print.proofs.SameText.{renumbered_back, same_text}
 use Rattle.rnc_print.proofs.TreeShapes.{is_below, paired_tree}
-
-abbrev Row : Type 0
-Row = NameClass × Simple ℕ
-
--- ---- the elements of a grammar, by the names of its numbers
-
-module _ (name : ℕ → Leaf) where
-  abbrev named : ℕ → Row → Element
-  named k e = record { name = name k; class = e.0; body = renamed name (as_tree e.1) }
-
-  abbrev named_from : ℕ → List Row → List Element
-  named_from k [] = []
-  named_from k (e ∷ es) = named k e ∷ named_from (1 + k) es
-
-  as_many : (k : ℕ) (es : List Row) → length (named_from k es) ≡ length es
-  as_many k [] = refl
-  as_many k (e ∷ es) = ap (λ (n : ℕ). suc n) (as_many (1 + k) es)
-
-  named_at : (k : ℕ) (es : List Row) (i : ℕ) (d : Element) (e : Row) → i < length es → get_or (named_from k es) i d ≡ named (k + i) (get_or es i e)
-  named_at k [] i d e l = absurd (omega (arith, l))
-  named_at k (x ∷ es) zero d e l = let same : k ≡ k + 0 = omega arith in ap (λ n. named n x) same
-  named_at k (x ∷ es) (suc i) d e l =
-      let same : (1 + k) + i ≡ k + suc i = omega arith in
-      named_at (1 + k) es i d e (omega (arith, l)) ∙ ap (λ n. named n (get_or es i e)) same
 
 module _ (s : Schema) (g h : Grammar) (f : SimpleForm) (is : IsSimpleFormOfSchema s f) (same : IsSameUpToNumbering g f) (only : IsOnlySimpleGrammarOf s h) where
   abbrev n : ℕ
@@ -56,26 +32,15 @@ module _ (s : Schema) (g h : Grammar) (f : SimpleForm) (is : IsSimpleFormOfSchem
   abbrev rows : List Element
   rows = named_from same.element 0 g.elements
 
-  row_at : (k : ℕ) (d : Element) → k < n → get_or rows k d ≡ row k
-  row_at k d l =
-      let none : 0 + k ≡ k = omega arith in
-      named_at same.element 0 g.elements k d (any_name, s_not_allowed) l ∙ ap (λ i. named same.element i (element_at g k)) none
-
-  in_rows : (k : ℕ) → k < n → Contains rows (row k)
-  in_rows k l = (k, subst (λ x. k < x) (sym (as_many same.element 0 g.elements)) l, row_at k (row k) l)
-
   of_rows : (x : Element) → Contains rows x → (k : ℕ) × (k < n) × (x ≡ row k)
   of_rows x c =
       let l : c.0 < n = subst (λ x. c.0 < x) (as_many same.element 0 g.elements) c.1 in
-      (c.0, l, sym c.2 ∙ row_at c.0 x l)
+      (c.0, l, sym c.2 ∙ row_at same.element g c.0 x l)
 
   -- ---- the grammar's own form is one of the schema
 
-  listed : (k : ℕ) → k < n → slice_get g.elements k ≡ Some (element_at g k)
-  listed k l = slice_get-get_or g.elements k (any_name, s_not_allowed) l
-
   row_is : (k : ℕ) → k < n → IsElementOf s (row k)
-  row_is k l = All-contains (IsElementOf s) f.elements (row k) is.elements (same.bodies k _ _ (listed k l)).0
+  row_is k l = All-contains (IsElementOf s) f.elements (row k) is.elements (same.bodies k _ _ (listed g k l)).0
 
   abbrev form : SimpleForm
   form = record { start = f.start; elements = rows }
@@ -87,11 +52,11 @@ module _ (s : Schema) (g h : Grammar) (f : SimpleForm) (is : IsSimpleFormOfSchem
     start = is.start;
     elements = λ k d l.
         let below : k < n = subst (λ x. k < x) (as_many same.element 0 g.elements) l in
-        subst (IsElementOf s) (sym (row_at k d below)) (row_is k below);
+        subst (IsElementOf s) (sym (row_at same.element g k d below)) (row_is k below);
     reached = λ l r.
         let e = is.reached l r in
         let k = All-contains (λ e. (k : ℕ) × (k < n) × (same.element k ≡ e.name)) f.elements e.0 same.all e.1 in
-        (row k.0, in_rows k.0 k.1, k.2 ∙ e.2);
+        (row k.0, in_rows same.element g k.0 k.1, k.2 ∙ e.2);
   }
 
   abbrev other : IsSameUpToNumbering h form
@@ -100,13 +65,10 @@ module _ (s : Schema) (g h : Grammar) (f : SimpleForm) (is : IsSimpleFormOfSchem
   -- ---- the pairing, in both directions
 
   to : (k : ℕ) → k < n → (j : ℕ) × (j < m) × (other.element j ≡ same.element k)
-  to k l = All-contains (λ e. (j : ℕ) × (j < m) × (other.element j ≡ e.name)) rows (row k) other.all (in_rows k l)
-
-  there : (j : ℕ) → j < m → slice_get h.elements j ≡ Some (element_at h j)
-  there j l = slice_get-get_or h.elements j (any_name, s_not_allowed) l
+  to k l = All-contains (λ e. (j : ℕ) × (j < m) × (other.element j ≡ e.name)) rows (row k) other.all (in_rows same.element g k l)
 
   from : (j : ℕ) → j < m → (k : ℕ) × (k < n) × (named other.element j (element_at h j) ≡ row k)
-  from j l = of_rows (named other.element j (element_at h j)) (other.bodies j _ _ (there j l)).0
+  from j l = of_rows (named other.element j (element_at h j)) (other.bodies j _ _ (listed h j l)).0
 
   to_by : (k : ℕ) (b : Bool) → ltb k n ≡ b → ℕ
   to_by k true e = (to k (ltb-true k n e)).0
@@ -151,7 +113,7 @@ module _ (s : Schema) (g h : Grammar) (f : SimpleForm) (is : IsSimpleFormOfSchem
       other.one_to_one (pairing (back j)) j p.0 l (p.1 ∙ b.1)
 
   below : (k : ℕ) → k < n → AreLeavesBelow n (as_tree (element_at g k).1)
-  below k l = (same.bodies k _ _ (listed k l)).1
+  below k l = (same.bodies k _ _ (listed g k l)).1
 
   abbrev paired_body : (a b : Simple ℕ) → AreLeavesBelow n (as_tree a) → AreLeavesBelow m (as_tree b)
       → renamed same.element (as_tree a) ≡ renamed other.element (as_tree b) → b ≡ renumbered pairing a
@@ -164,14 +126,14 @@ module _ (s : Schema) (g h : Grammar) (f : SimpleForm) (is : IsSimpleFormOfSchem
       let x = from j p.0 in
       let is_k : x.0 ≡ k = same.one_to_one x.0 k x.1 l (sym (ap (λ r. r.name) x.2) ∙ p.1) in
       let e : named other.element j (element_at h j) ≡ row k = x.2 ∙ ap row is_k in
-      let body = paired_body (element_at g k).1 (element_at h j).1 (below k l) (other.bodies j _ _ (there j p.0)).1 (sym (ap (λ r. r.body) e)) in
+      let body = paired_body (element_at g k).1 (element_at h j).1 (below k l) (other.bodies j _ _ (listed h j p.0)).1 (sym (ap (λ r. r.body) e)) in
       ap (λ c. (c, (element_at h j).1)) (ap (λ r. r.class) e) ∙ ap (λ b. ((element_at g k).0, b)) body
 
   carried : (k : ℕ) (c : NameClass) (p : Simple ℕ) → slice_get g.elements k ≡ Some (c, p) → slice_get h.elements (pairing k) ≡ Some (c, renumbered pairing p)
   carried k c p e =
       let l = slice_get_within g.elements k (c, p) e in
       let is : element_at g k ≡ (c, p) = get_or_from_slice_get g.elements k (c, p) (any_name, s_not_allowed) e in
-      there (pairing k) (paired k l).0 ∙ ap Some (element_paired k l ∙ ap (λ r. (r.0, renumbered pairing r.1)) is)
+      listed h (pairing k) (paired k l).0 ∙ ap Some (element_paired k l ∙ ap (λ r. (r.0, renumbered pairing r.1)) is)
 
   start_carried : h.start ≡ renumbered pairing g.start
   start_carried = paired_body g.start h.start same.start_below other.start_below (sym same.start ∙ other.start)
@@ -184,7 +146,7 @@ module _ (s : Schema) (g h : Grammar) (f : SimpleForm) (is : IsSimpleFormOfSchem
       let is : element_at h j ≡ (c, q) = get_or_from_slice_get h.elements j (c, q) (any_name, s_not_allowed) e in
       let pair : ((element_at g k).0, renumbered pairing (element_at g k).1) ≡ (c, q) =
       sym (element_paired k b) ∙ ap (element_at h) (back_and_there j l) ∙ is in
-      listed k b
+      listed g k b
       ∙ ap (λ a. Some ((element_at g k).0, a)) (sym (renumbered_back pairing back n there_and_back (element_at g k).1 (is_below n (element_at g k).1 (below k b))))
       ∙ ap (λ r. Some (r.0, renumbered back r.1)) pair
 

@@ -21,6 +21,7 @@ use Rattle.std.proofs.lemmas.Bool.{false≢true}
 use Rattle.rng_model.proofs.Texts.{bytes_same, bytes_itself}
 use Rattle.rnc_print.proofs.Numberings.{AreNew, has_contained, contained_has, has_left, has_right, has_last, and_has_right, and_fresh, fresh_new}
 use Rattle.rnc_print.proofs.Numberings.{all_contained, all_append, all_each}
+use Rattle.rnc_print.proofs.CarriedNumberings.{each_of}
 use Rattle.rnc_print_laws.proofs.ReadBack.NumberedNames.{item_no_keyword, prefix_apart}
 use Rattle.rnc_print_laws.proofs.ReadBack.LineSentences.{KnowsType, KnowsTypes, KnowsItem, lines_sentence}
 use Rattle.rnc_print_laws.proofs.ReadBack.LineNesting.{Shallow, ShallowItem, lines_nest}
@@ -74,10 +75,6 @@ mentions_printable g p (pattern s) h = parts_printable g p s h
 reached_printable : (g : Grammar) → IsPrintable g → (i : PrintedItem) → IsReached same_item (named_item g.start) (mentions g) i → PrintableItem g i
 reached_printable g p i (at_start {a} c) = all_contained (PrintableItem g) (named_item g.start) (written_printable g p g.start p.start) a c
 reached_printable g p i (in_line {a} {x} r c) = all_contained (PrintableItem g) (mentions g x) (mentions_printable g p x (reached_printable g p x r)) a c
-
-each_of : {A : Type 0} (P Q : A → Type 0) (xs : List A) → ((a : A) → P a → Q a) → AllByRecursion P xs → AllByRecursion Q xs
-each_of P Q [] f h = tt
-each_of P Q (x ∷ xs) f h = (f x h.0, each_of P Q xs f h.1)
 
 pub items_printable : (g : Grammar) → IsPrintable g → (items : List PrintedItem) → IsItemsOf g items → AllByRecursion (PrintableItem g) items
 items_printable g p items n = each_of (IsReached same_item (named_item g.start) (mentions g)) (PrintableItem g) items (reached_printable g p) n.reached

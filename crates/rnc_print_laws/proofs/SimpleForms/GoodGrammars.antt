@@ -1,8 +1,7 @@
 -- What the clauses of a schema that breaks none imply for its simple grammar.
-use Rattle.std.proofs.Common.{◌≡◌, ◌∙◌, refl, sym, ap, subst, ℕ, ◌<◌, ◌≤◌, List, [], length, Some, slice_get, arith}
+use Rattle.std.proofs.Common.{◌≡◌, ◌∙◌, refl, sym, ap, subst, ℕ, ◌<◌, ◌≤◌, List, [], length, arith}
 use Rattle.std.proofs.lemmas.List.Elements.{All-contains}
-use Rattle.std.proofs.lemmas.Option.{slice_get-get_or}
-use Rattle.rng_model.specs.names.Names.{NameClass, any_name}
+use Rattle.rng_model.specs.names.Names.{NameClass}
 use Rattle.rng_model.specs.simple.Simplification.{ClassStep, IsSimpleClassOf, RuleGroup, Step, IsSimpleFormOf}
 use Rattle.rng_model.specs.simple.Tree.{Datatype, Tree, as_tree}
 use Rattle.rng_model.specs.simple.Tree.{Simple, s_not_allowed, s_empty, s_text, s_leaf, s_attribute, s_list, s_data, s_data_except, s_value, s_one_or_more}
@@ -19,6 +18,7 @@ use Rattle.rng_model.specs.schema.SchemaClauses as clause
 use Rattle.rng_model.specs.schema.SchemaClauses.{BreaksNoClause}
 use Rattle.rng_model.specs.schema.Unfolding.{IsReachedTree, of_start, of_body, IsReachedByTrees, IsReachedBySimpleForms, Leaf}
 use Rattle.rncv_model.specs.printed.Items.{element_at}
+use Rattle.rnc_print.proofs.NamedElements.{listed}
 use Rattle.rng_simple.specs.plain.InTwos.{nested, in_twos}
 use Rattle.rng_simple.proofs.Trees.InTwos.{is_rewritten}
 use Rattle.rng_simple.proofs.Trees.SimpleClass.{class_keeps, is_only_simple_class}
@@ -143,9 +143,6 @@ module _ (s : Schema) (kept : BreaksNoClause s) where
       shallow = shallow_body g.start is.tree f.start (of_start is.is_tree) is.start same.start;
     }
 
-    listed : (k : ℕ) → k < n → slice_get g.elements k ≡ Some (element_at g k)
-    listed k l = slice_get-get_or g.elements k (any_name, s_not_allowed) l
-
     written_there : (l : Leaf) → IsReachedBySimpleForms s l → IsWrittenAt s l.place (written.element l.class l.content)
     written_there l r = (reached_there IsAttributeClass IsGoodData IsGoodValue s class_is data_is except_is value_is keeps r).0
 
@@ -174,6 +171,6 @@ module _ (s : Schema) (kept : BreaksNoClause s) where
     good_grammar = record {
       start = start_is;
       elements = λ k l.
-          let b = same.bodies k (element_at g k).0 (element_at g k).1 (listed k l) in
+          let b = same.bodies k (element_at g k).0 (element_at g k).1 (listed g k l) in
           element_is (element_at g k).0 (element_at g k).1 _ (All-contains (IsElementOf s) f.elements _ is.elements b.0) refl refl b.1;
     }

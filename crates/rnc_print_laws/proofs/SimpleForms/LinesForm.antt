@@ -1,12 +1,11 @@
 -- The simple form of the schema of the lines is the grammar that was printed.
-use Rattle.std.proofs.Common.{◌≡◌, ◌∙◌, refl, sym, ap, subst, ℕ, suc, ◌+◌, ◌<◌, ◌^◌, Bool, true, false, cond, List, [], ◌∷◌, length, Some}
-use Rattle.std.proofs.Common.{slice_get, arith}
+use Rattle.std.proofs.Common.{◌≡◌, ◌∙◌, refl, sym, ap, subst, ℕ, suc, ◌+◌, ◌<◌, ◌^◌, Bool, true, false, cond, List, [], ◌∷◌, length}
+use Rattle.std.proofs.Common.{arith}
 use Rattle.std.specs.Prelude.{not}
 use Rattle.std.specs.List.{slice_index_or}
 use Rattle.std.proofs.lemmas.List.Elements.{All-contains}
-use Rattle.std.proofs.lemmas.Option.{slice_get-get_or}
 use Rattle.rng_model.specs.names.Lists.{Among}
-use Rattle.rng_model.specs.names.Names.{NameClass, any_name}
+use Rattle.rng_model.specs.names.Names.{NameClass}
 use Rattle.rng_model.specs.simple.Simplification.{ClassStep, IsSimpleClassOf, RuleGroup, Step, IsSimpleFormOf}
 use Rattle.rng_model.specs.simple.Tree.{Tree, as_tree}
 use Rattle.rng_model.specs.simple.Tree.{Simple, s_not_allowed, s_empty, s_text, s_leaf, s_attribute, s_list, s_data, s_data_except, s_value, s_one_or_more}
@@ -20,6 +19,7 @@ use Rattle.rng_model.specs.simple.SchemaForm.{SimpleForm, IsElementOf, IsSimpleF
 use Rattle.rng_model.specs.schema.Unfolding.{IsReachedBySimpleForms, from_simple_start, from_simple_body, Leaf, IsTreeOf, IsBodyOf}
 use Rattle.rng_model.proofs.Unfolding.{one_tree}
 use Rattle.rncv_model.specs.printed.Items.{place_in, PrintedItem, element, pattern, same_item, element_at, IsItemsOf}
+use Rattle.rnc_print.proofs.NamedElements.{listed as listed_row}
 use Rattle.rnc_print.proofs.SameTests.{item_exact}
 use Rattle.rng_simple.proofs.Trees.SimpleClass.{has_simple_class, class_unchanged}
 use Rattle.rng_simple.specs.plain.Renamed.{simple_renamed}
@@ -148,12 +148,9 @@ module _ (s r : Schema) (g : Grammar) (items : List PrintedItem) (good : IsGoodG
     pub among : Among (element number) items
     pub reached : IsReachedBySimpleForms r (leaf_at g items number)
 
-  pub listed_row : (k : ℕ) → k < n → slice_get g.elements k ≡ Some (element_at g k)
-  listed_row k l = slice_get-get_or g.elements k (any_name, s_not_allowed) l
-
   row_is : (k : ℕ) → k < n
       → IsElementOf s (record { name = same.element k; class = (element_at g k).0; body = renamed same.element (as_tree (element_at g k).1) })
-  row_is k l = All-contains (IsElementOf s) f.elements _ is.elements (same.bodies k (element_at g k).0 (element_at g k).1 (listed_row k l)).0
+  row_is k l = All-contains (IsElementOf s) f.elements _ is.elements (same.bodies k (element_at g k).0 (element_at g k).1 (listed_row g k l)).0
 
   listed : {l : Leaf} → IsReachedBySimpleForms s l → IsListed l
   listed (from_simple_start {t} {b} {l} tree form i) =

@@ -1,47 +1,24 @@
 -- The printed grammar is a simple grammar of the schema of its lines, and the only one up to the numbers of its
 -- elements.
-use Rattle.std.proofs.Common.{◌≡◌, ◌∙◌, refl, sym, ap, subst, ℕ, zero, suc, ◌+◌, ◌<◌, ◌^◌, List, [], ◌∷◌, length, get_or, arith}
+use Rattle.std.proofs.Common.{◌≡◌, ◌∙◌, sym, ap, subst, ℕ, ◌<◌, ◌^◌, List, length}
 use Rattle.std.specs.Prelude.{Contains}
 use Rattle.std.proofs.lemmas.Option.{slice_get_within, get_or_from_slice_get}
-use Rattle.rng_model.specs.names.Names.{NameClass, any_name}
-use Rattle.rng_model.specs.simple.Tree.{Simple, s_not_allowed, as_tree}
+use Rattle.rng_model.specs.names.Names.{any_name}
+use Rattle.rng_model.specs.simple.Tree.{s_not_allowed, as_tree}
 use Rattle.rng_model.specs.simple.Grammar.{Grammar}
-use Rattle.rng_model.specs.simple.Leaves.{renamed, AreLeavesBelow}
+use Rattle.rng_model.specs.simple.Leaves.{AreLeavesBelow}
 use Rattle.rng_model.specs.schema.Schema.{Schema}
 use Rattle.rng_model.specs.simple.SchemaForm.{Element, SimpleForm, IsElementOf, IsSimpleFormOfSchema, IsSameUpToNumbering, IsSimpleGrammarOf}
 use Rattle.rng_model.specs.simple.Simplification.{IsSimpleFormOf}
 use Rattle.rng_model.specs.schema.Unfolding.{Leaf}
 use Rattle.rncv_model.specs.printed.Items.{PrintedItem, element_at, IsItemsOf}
+use Rattle.rnc_print.proofs.NamedElements.{Row, as_many, in_rows, named, named_from, row_at}
 use Rattle.rng_simple.proofs.Leaves.Renamed.{as_tree_renamed}
 use Rattle.rnc_print_laws.specs.plain.LinesSchema.{IsSchemaOfLines}
 use Rattle.rnc_print_laws.proofs.SimpleForms.GoodGrammars.{IsGoodGrammar}
 use Rattle.rnc_print_laws.proofs.SimpleForms.LineTrees.{leaf_at, placed, line_tree_of}
 use Rattle.rnc_print_laws.proofs.SimpleForms.LinesForm.{HasLine, number_at, number_back, below_of, class_is_form}
 use Rattle.rnc_print_laws.proofs.SimpleForms.LinesForm.{start_is_tree, start_is_form, body_is_tree, body_is_form, has_line, is_line}
-
-abbrev Row : Type 0
-Row = NameClass × Simple ℕ
-
--- ---- the elements of a grammar, by the names of its numbers
-
-module _ (name : ℕ → Leaf) where
-  abbrev named : ℕ → Row → Element
-  named k e = record { name = name k; class = e.0; body = renamed name (as_tree e.1) }
-
-  abbrev named_from : ℕ → List Row → List Element
-  named_from k [] = []
-  named_from k (e ∷ es) = named k e ∷ named_from (1 + k) es
-
-  as_many : (k : ℕ) (es : List Row) → length (named_from k es) ≡ length es
-  as_many k [] = refl
-  as_many k (e ∷ es) = ap (λ (n : ℕ). suc n) (as_many (1 + k) es)
-
-  named_at : (k : ℕ) (es : List Row) (i : ℕ) (d : Element) (e : Row) → i < length es → get_or (named_from k es) i d ≡ named (k + i) (get_or es i e)
-  named_at k [] i d e l = absurd (omega (arith, l))
-  named_at k (x ∷ es) zero d e l = let same : k ≡ k + 0 = omega arith in ap (λ n. named n x) same
-  named_at k (x ∷ es) (suc i) d e l =
-      let same : (1 + k) + i ≡ k + suc i = omega arith in
-      named_at (1 + k) es i d e (omega (arith, l)) ∙ ap (λ n. named n (get_or es i e)) same
 
 module _ (s r : Schema) (g : Grammar) (items : List PrintedItem) (good : IsGoodGrammar g) (numbered : IsItemsOf g items) (few : length items < 2 ^ 64)
     (lines : IsSchemaOfLines g items r) (f : SimpleForm) (is : IsSimpleFormOfSchema s f) (same : IsSameUpToNumbering g f) where
@@ -56,14 +33,6 @@ module _ (s r : Schema) (g : Grammar) (items : List PrintedItem) (good : IsGoodG
 
   abbrev rows : List Element
   rows = named_from name 0 g.elements
-
-  row_at : (k : ℕ) (d : Element) → k < n → get_or rows k d ≡ row k
-  row_at k d l =
-      let none : 0 + k ≡ k = omega arith in
-      named_at name 0 g.elements k d (any_name, s_not_allowed) l ∙ ap (λ i. named name i (element_at g k)) none
-
-  in_rows : (k : ℕ) → k < n → Contains rows (row k)
-  in_rows k l = (k, subst (λ x. k < x) (sym (as_many name 0 g.elements)) l, row_at k (row k) l)
 
   abbrev form : SimpleForm
   form = record { start = as_tree (placed g items g.start); elements = rows }
@@ -88,10 +57,10 @@ module _ (s r : Schema) (g : Grammar) (items : List PrintedItem) (good : IsGoodG
     start = start_is_form s r g items good numbered few lines f is same;
     elements = λ k d l.
         let below : k < n = subst (λ x. k < x) (as_many name 0 g.elements) l in
-        subst (IsElementOf r) (sym (row_at k d below)) (row_is k below);
+        subst (IsElementOf r) (sym (row_at name g k d below)) (row_is k below);
     reached = λ l reached.
         let x = is_line s r g items good numbered few lines f is same reached in
-        (row x.number, in_rows x.number x.below, x.is_placed);
+        (row x.number, in_rows name g x.number x.below, x.is_placed);
   }
 
   pub is_numbered : IsSameUpToNumbering g form
@@ -101,14 +70,14 @@ module _ (s r : Schema) (g : Grammar) (items : List PrintedItem) (good : IsGoodG
         sym (number_back g items j (line j jn).among) ∙ ap (number_at items) e ∙ number_back g items k (line k kn).among;
     all = λ k d l.
         let below : k < n = subst (λ x. k < x) (as_many name 0 g.elements) l in
-        (k, below, sym (ap (λ (e : Element). e.name) (row_at k d below)));
+        (k, below, sym (ap (λ (e : Element). e.name) (row_at name g k d below)));
     start = as_tree_renamed name g.start;
     start_below = below_of n g.start good.start.good;
     bodies = λ k c u there.
         let l : k < n = slice_get_within g.elements k (c, u) there in
         let e : element_at g k ≡ (c, u) = get_or_from_slice_get g.elements k (c, u) (any_name, s_not_allowed) there in
         subst (λ (x : Row). Contains rows (named name k x) × AreLeavesBelow n (as_tree x.1)) e
-        (in_rows k l, below_of n (element_at g k).1 (good.elements k l).body.good);
+        (in_rows name g k l, below_of n (element_at g k).1 (good.elements k l).body.good);
   }
 
   pub lines_grammar : IsSimpleGrammarOf r g

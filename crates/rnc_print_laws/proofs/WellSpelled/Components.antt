@@ -28,12 +28,9 @@ use Rattle.rnc_print_laws.specs.plain.WellSpelledSchemas.{IsWellSpelledPattern, 
 use Rattle.rnc_print_laws.specs.plain.WellSpelledSchemas.{IsWellSpelledSchema}
 use Rattle.rnc_print_laws.proofs.WellSpelled.FileTrees.{uri_text, empty_text, schema_file_spelled}
 use Rattle.rnc_print_laws.proofs.Printability.PrintableForms.{grammar_printable}
+use Rattle.rnc_print.proofs.Numberings.{all_append}
 
 -- ---- lists
-
-all_both : {A : Type 0} (P : A → Type 0) (xs ys : List A) → AllByRecursion P xs → AllByRecursion P ys → AllByRecursion P (xs ++ ys)
-all_both P [] ys h i = i
-all_both P (x ∷ xs) ys h i = (h.0, all_both P xs ys h.1 i)
 
 all_kept : {A : Type 0} (P : A → Type 0) (p : A → Bool) (xs : List A) → AllByRecursion P xs → AllByRecursion P (filter p xs)
 all_kept {A} P p [] h = tt
@@ -116,7 +113,7 @@ module _ (files : List ℕ → Option FileTree) (good : (f : List ℕ) (t : File
     read_all (places.more_are {u} {x} {n} {a} {all} {p} {ps} {gs} {hs} d ds e) i h =
         let r = reads d i h.0 in
         let rs = read_all ds i h.1 in
-        ((r.0, rs.0), all_same IsSpelledNested e (all_both IsSpelledNested gs hs r.1 rs.1))
+        ((r.0, rs.0), all_same IsSpelledNested e (all_append IsSpelledNested gs hs r.1 rs.1))
 
   gathers : {u : List ℕ} {x : TreePath} {n : ℕ} {cs : tree.Components applied} {all : List Gathered} → Gathers files u x n cs all → IsText u
       → AreWellSpelledComponents cs → AllByRecursion IsSpelledGathered all
@@ -124,12 +121,12 @@ module _ (files : List ℕ → Option FileTree) (good : (f : List ℕ) (t : File
   gathers (loaded.a_start d ds) i h = let r = reads d i h.0 in (((tt, r.0), r.1), gathers ds i h.1)
   gathers (loaded.a_define d ds) i h = let r = reads d i h.0.1 in (((h.0.0, r.0), r.1), gathers ds i h.1)
   gathers (loaded.a_div {u} {x} {n} {is} {cs} {inner} {rest} {all} ds es e) i h =
-      all_same IsSpelledGathered e (all_both IsSpelledGathered inner rest (gathers ds i h.0) (gathers es i h.1))
+      all_same IsSpelledGathered e (all_append IsSpelledGathered inner rest (gathers ds i h.0) (gathers es i h.1))
   gathers (loaded.an_include {u} {x} {n} {m} {over} {cs} {is} {f} {included} {overriding} {rest} {all} found g ds os es e) i h =
       let own = gathers ds (uri_text u m.inherit i h.0.0.1) (grammar_spelled f is g (good m.href f found)) in
       let kept = all_kept IsSpelledGathered (λ g. not (is_overridden overriding g)) included own in
-      all_same IsSpelledGathered e (all_both IsSpelledGathered (filter (λ g. not (is_overridden overriding g)) included ++ overriding) rest
-      (all_both IsSpelledGathered (filter (λ g. not (is_overridden overriding g)) included) overriding kept (gathers os i h.0.1))
+      all_same IsSpelledGathered e (all_append IsSpelledGathered (filter (λ g. not (is_overridden overriding g)) included ++ overriding) rest
+      (all_append IsSpelledGathered (filter (λ g. not (is_overridden overriding g)) included) overriding kept (gathers os i h.0.1))
       (gathers es i h.1))
 
   module _ (main : FileTree) (main-is : IsWellSpelledFile main) where
@@ -161,7 +158,7 @@ taken_spelled : (files : List NamedFile) (main : FileName) {read : TakenFiles} {
     → AllByRecursion (λ file. IsWellSpelledFile file.1) read
 taken_spelled files main (loading.none_yet e f) = all_same (λ file. IsWellSpelledFile file.1) e tt
 taken_spelled files main (loading.one_more {read} {all} {names} {more} {f} {t} taken n has e m) =
-    all_same (λ file. IsWellSpelledFile file.1) e (all_both (λ file. IsWellSpelledFile file.1) read ((f, t) ∷ []) (taken_spelled files main taken)
+    all_same (λ file. IsWellSpelledFile file.1) e (all_append (λ file. IsWellSpelledFile file.1) read ((f, t) ∷ []) (taken_spelled files main taken)
     (schema_file_spelled has.bytes t has.is, tt))
 
 found_spelled : (f : FileName) (read : TakenFiles) → AllByRecursion (λ file. IsWellSpelledFile file.1) read → (t : FileTree) → tree_in read f ≡ Some t
