@@ -1,6 +1,6 @@
 -- Lists by row that grow row by row.
 use Rattle.std.proofs.Common.{◌≡◌, ◌⊎◌, ◌↔◌, inl, inr, refl, ap, sym, ◌∙◌, subst, ℕ, ◌+◌, ◌<◌, ◌≤◌, List, [], ◌∷◌, ◌++◌, length, map, set}
-use Rattle.std.proofs.Common.{slice_get, slice_index_or, Some, None, Result, Ok, Err, OnOk, All, Contains, get_or, length-append, arith}
+use Rattle.std.proofs.Common.{slice_get, slice_index_or, Some, None, All, Contains, get_or, length-append, arith}
 use Rattle.std.proofs.lemmas.Bool.{cases_eq, cases_lt}
 use Rattle.std.proofs.lemmas.List.{length-map, get_or-map, get_or-set_same, get_or-set_other, get_or_append_left, get_or_push, get_or_past}
 use Rattle.std.proofs.lemmas.List.Elements.{All-append, All-map, Contains-push, Contains-push_cases, Contains-append_left, Contains-append_cases}
@@ -16,10 +16,6 @@ use Rattle.rng_model.specs.simple.TableRules.{AreChildrenBelow, Falls, IsTable}
 use Rattle.rng_model.proofs.MadeLists.{past_end}
 use Rattle.rng_rules.specs.plain.NamesMeetReach.{AreBelow}
 use Rattle.rng_rules.specs.views.NamesMeetRows.{IsAbove, Passes, children, part_rows, passed}
-
-pub on_ok : {A E : Type 0} {P Q : Type 0} (r : Result A E) → (P → Q) → OnOk r P → OnOk r Q
-on_ok (Ok x) f p = f p
-on_ok (Err x) f p = p
 
 -- ---- a row in the list of its child
 

@@ -1,15 +1,15 @@
 use Rattle.std.proofs.Common.{rules, ◌≡◌, ◌++◌, ◌∷◌, [], subst, map}
+use Rattle.std.proofs.lemmas.Result.{on_ok_weaker}
 use Rattle.rng_model.specs.declared.name.NameClass.TheVariants as class
 use Rattle.rng_rules.specs.views.NamesMeetLabels.{AreGroups, plain_name_of}
 use Rattle.rng_rules.specs.plain.NamesMeetReach.{lists}
 use Rattle.rng_rules.proofs.NamesMeetGroups.{not_added}
-use Rattle.rng_rules.proofs.NamesMeetTables.{on_ok}
 use Rattle.rng_rules.proofs.names_meet_groups.NameGroups.add.Goals as goal
 
 pub returns-in-Name : goal.returns-in-Name
 returns-in-Name c =
     let is : class.Name c.in-Name.name ≡ c.args.label.class.now = search rules in
-    on_ok c.add_name.result (λ f ls a. subst (λ k. AreGroups (ls ++ (c.args.label.row, k) ∷ []) (map plain_name_of c.add_name.new.self.names.keys)
+    on_ok_weaker c.add_name.result (λ f ls a. subst (λ k. AreGroups (ls ++ (c.args.label.row, k) ∷ []) (map plain_name_of c.add_name.new.self.names.keys)
     (lists c.add_name.new.self.rows.items)) is (f ls a)) c.add_name.ensures
 
 pub returns-in_default : goal.returns-in_default
