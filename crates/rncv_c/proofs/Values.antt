@@ -1,7 +1,6 @@
 -- The machine value of a handle at any pointer, and what a handle owns besides it.
 use Rattle.std.proofs.Common.{◌≡◌, List, [], ◌∷◌, ◌++◌, refl, subst, lit<}
 use seplogic.Ra.Ura.{Ura}
-use mir.Syntax.{Ty}
 use mir.Val.{Val, vstruct, vcons, vnil, of_list, has_ty}
 use types.Logic.{Logic}
 use types.Kit.{Item, Goal, Seq, Step, step, ‵, ◌$◌, move, drop, fsplit, fjoin, fpick, fpack, feq_i, feq_l}

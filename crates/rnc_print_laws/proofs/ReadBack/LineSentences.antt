@@ -16,7 +16,7 @@ use Rattle.rng_model.specs.declared.method.Method.TheVariants as methods
 use Rattle.rnc_model.specs.tokens.Cut.{Lexeme, lexeme_at, identifier}
 use Rattle.rnc_model.specs.tokens.Cut as lexeme
 use Rattle.rnc_model.specs.grammar.Syntax as syntax
-use Rattle.rnc_model.specs.grammar.Syntax.{written, NameClass, NameClasses, Pattern, Component, string_type, token_type}
+use Rattle.rnc_model.specs.grammar.Syntax.{written, NameClass, Pattern, Component, string_type, token_type}
 use Rattle.rnc_model.specs.grammar.Syntax.{choice_of, classes_of}
 use Rattle.rnc_model.specs.grammar.NameClasses.{word_of, type_of, IsLiteral, one_segment, more_segments, AreParameters, no_parameters}
 use Rattle.rnc_model.specs.grammar.NameClasses.{and_parameter, MayBeParameters, without_parameters, with_parameters, IsClass, basic_class, choice_class}
