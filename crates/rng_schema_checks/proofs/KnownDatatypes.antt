@@ -1,23 +1,30 @@
 -- What the search for a datatype returns.
-use Rattle.std.proofs.Common.{◌≡◌, ℕ, List, true, not, is_some, Result, Ok, Err, sym, ap}
-use Rattle.std.specs.Result.{is_err}
+use Rattle.std.proofs.Common.{◌≡◌, ◌∙◌, ◌&&◌, ℕ, List, Bool, true, false, not, Option, Some, None, is_some, option_map, sym, ap}
+use Rattle.rng_model.proofs.Truths.{no_truth}
 use Rattle.rng_model.specs.simple.Tree.{Datatype}
-use Rattle.rng_model.specs.datatypes.Datatypes.{is_allowed_by, known_allows}
+use Rattle.rng_model.specs.datatypes.Datatypes.{Meaning, known_allows}
 use Rattle.rng_model.specs.schema.Patterns.{without_parameters}
-use Rattle.rng_types.specs.views.View.{meaning_by}
-use Rattle.rng_types.specs.declared.builtin.Builtin.{Builtin}
-use Rattle.rng_types.specs.declared.builtin.TypeFault.{TypeFault}
-use Rattle.rng_types.proofs.FoundDatatypes.{IsFound, meaning_is, no_meaning}
+use Rattle.rng_model.specs.xsd.TypeSets.{meaning_in, takes_values_in, tests_in}
+use Rattle.rng_model.specs.declared.type_set.TypeSet.{TypeSet}
+use Rattle.xsd_types.specs.views.View.{known_meaning}
+use Rattle.xsd_types.specs.declared.known.KnownDatatype.{KnownDatatype}
 use Rattle.rng_schema_checks.specs.plain.PatternTests.{is_unknown, is_refused}
 
-module _ (d : Datatype) where
-  pub unknown_if_fault : (r : Result Builtin TypeFault) → IsFound d r → is_err r ≡ is_unknown d
-  unknown_if_fault (Ok b) found = sym (ap (λ o. not (is_some o)) (meaning_is d b found))
-  unknown_if_fault (Err f) found = sym (ap (λ o. not (is_some o)) (no_meaning d f found))
+module _ (types : TypeSet) (d : Datatype) where
+  pub unknown_if_none : (o : Option KnownDatatype) (none : Bool) → is_some o ≡ not none → option_map known_meaning o ≡ meaning_in types d
+      → none ≡ is_unknown types d
+  unknown_if_none None true e found = ap (λ m. not (is_some m)) found
+  unknown_if_none None false e found = no_truth e
+  unknown_if_none (Some found_type) true e found = no_truth (sym e)
+  unknown_if_none (Some found_type) false e found = ap (λ m. not (is_some m)) found
 
-module _ (library name v : List ℕ) where
-  pub refused_by_type : (b : Builtin) → IsFound (without_parameters library name) (Ok b) → not (is_allowed_by (meaning_by b) v) ≡ is_refused library name v
-  refused_by_type b found = sym (ap (λ o. not (known_allows o v)) (meaning_is (without_parameters library name) b found))
+module _ (types : TypeSet) (library name v : List ℕ) where
+  abbrev pub d : Datatype
+  d = without_parameters library name
 
-  pub refused_by_none : (f : TypeFault) → IsFound (without_parameters library name) (Err f) → true ≡ is_refused library name v
-  refused_by_none f found = sym (ap (λ o. not (known_allows o v)) (no_meaning (without_parameters library name) f found))
+  pub refused_without_values : takes_values_in types d ≡ false → true ≡ is_refused types library name v
+  refused_without_values e = ap (λ b. not (b && (tests_in types).allows d v)) (sym e)
+
+  -- the text is one of the datatype that is found
+  pub refused_by : takes_values_in types d ≡ true → (o : Option Meaning) → o ≡ meaning_in types d → not (known_allows o v) ≡ is_refused types library name v
+  refused_by e o found = ap (λ m. not (known_allows m v)) found ∙ ap (λ b. not (b && (tests_in types).allows d v)) (sym e)

@@ -2,6 +2,7 @@
 use Rattle.std.specs.Prelude.{ℕ, Bool}
 use Rattle.rng_model.specs.schema.Patterns.{Place}
 use Rattle.rng_model.specs.schema.Schema.{Schema}
+use Rattle.rng_model.specs.declared.type_set.TypeSet.{TypeSet}
 use Rattle.rng_schema_checks.specs.plain.PatternTests.{class_test, datatype_test, ref_test}
 use Rattle.rng_schema_checks.specs.plain.GrammarTests.{breaks_combination, components_at, defines, defines_if, lacks_start, some_has}
 use Rattle.rng_schema_checks.specs.declared.checking.ComponentClause.{ComponentClause}
@@ -14,9 +15,9 @@ number_of clauses.Combinations = 13
 number_of clauses.Starts = 14
 number_of clauses.Refs = 15
 
-abbrev pub is_broken_at : ComponentClause → Schema → Place → Bool
-is_broken_at clauses.NameClasses s x = some_has class_test (components_at s x)
-is_broken_at clauses.Datatypes s x = some_has datatype_test (components_at s x)
-is_broken_at clauses.Combinations s x = breaks_combination (components_at s x)
-is_broken_at clauses.Starts s x = lacks_start (components_at s x)
-is_broken_at clauses.Refs s x = some_has (ref_test (defines s x) (defines_if s (s.outer x))) (components_at s x)
+abbrev pub is_broken_at : TypeSet → ComponentClause → Schema → Place → Bool
+is_broken_at types clauses.NameClasses s x = some_has class_test (components_at s x)
+is_broken_at types clauses.Datatypes s x = some_has (datatype_test types) (components_at s x)
+is_broken_at types clauses.Combinations s x = breaks_combination (components_at s x)
+is_broken_at types clauses.Starts s x = lacks_start (components_at s x)
+is_broken_at types clauses.Refs s x = some_has (ref_test (defines s x) (defines_if s (s.outer x))) (components_at s x)

@@ -1,11 +1,12 @@
 -- Tests for the patterns that break a rule, by their kinds. (RELAX NG Specification, sections 4.16 and 4.18)
-use Rattle.std.specs.Prelude.{ℕ, List, Bool, false, ◌||◌, not, is_some}
+use Rattle.std.specs.Prelude.{ℕ, List, Bool, false, ◌&&◌, ◌||◌, not, is_some}
 use Rattle.rng_model.specs.names.Names.{NameClass}
 use Rattle.rng_model.specs.simple.Tree.{Datatype}
 use Rattle.rng_model.specs.schema.Patterns.{Pattern, Patterns, not_allowed, empty, text, element, attribute, list, data_of, data_except, value, mixed}
 use Rattle.rng_model.specs.schema.Patterns.{optional, zero_or_more, one_or_more, joined, ref, parent_ref, grammar, external, no_patterns, pattern_and}
 use Rattle.rng_model.specs.schema.Patterns.{without_parameters}
-use Rattle.rng_model.specs.datatypes.Datatypes.{meaning_of, text_tests}
+use Rattle.rng_model.specs.xsd.TypeSets.{meaning_in, takes_values_in, tests_in}
+use Rattle.rng_model.specs.declared.type_set.TypeSet.{TypeSet}
 use Rattle.rng_schema_checks.specs.plain.ClassTests.{has_part, breaks_except, declaration_test}
 
 -- what to search for in patterns: elements and attributes of some classes, datatypes, values, refs and parent refs
@@ -93,18 +94,19 @@ class_test = record {
 
 -- ---- datatypes
 
-abbrev pub is_unknown : Datatype → Bool
-is_unknown d = not (is_some (meaning_of d))
+abbrev pub is_unknown : TypeSet → Datatype → Bool
+is_unknown types d = not (is_some (meaning_in types d))
 
-abbrev pub is_refused : List ℕ → List ℕ → List ℕ → Bool
-is_refused library name v = not (text_tests.allows (without_parameters library name) v)
+abbrev pub is_refused : TypeSet → List ℕ → List ℕ → List ℕ → Bool
+is_refused types library name v =
+    let d = without_parameters library name in not (takes_values_in types d && (tests_in types).allows d v)
 
-abbrev pub datatype_test : PatternTest
-datatype_test = record {
+abbrev pub datatype_test : TypeSet → PatternTest
+datatype_test types = record {
   element = no_class;
   attribute = no_class;
-  datatype = is_unknown;
-  value = is_refused;
+  datatype = is_unknown types;
+  value = is_refused types;
   ref = no_ref;
   parent_ref = no_ref;
 }

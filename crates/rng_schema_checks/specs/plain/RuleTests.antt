@@ -14,5 +14,5 @@ part_test parts.Declaration = declaration_test
 
 abbrev pub rule_test : Rule → PatternTest
 rule_test rules.NameClasses = class_test
-rule_test rules.Datatypes = datatype_test
+rule_test (rules.Datatypes of) = datatype_test of.types
 rule_test (rules.Refs s) = ref_test (finds s.names) (finds s.outer)

@@ -7,5 +7,5 @@ use Rattle.rng_schema_checks.proofs.checking.Judge.breaks.Given as goal
 
 abbrev pub invariant-loop-place : goal.invariant-loop-place
 invariant-loop-place l =
-    list_any (λ p. is_broken_at l.clause (schema_of l.self.schema.now) (place_of p)) l.place-items ≡
-    list_any (λ p. is_broken_at l.clause (schema_of l.self.schema.now) (place_of p)) (drop l.place-index l.place-items)
+    list_any (λ p. is_broken_at l.self.types l.clause (schema_of l.self.schema.now) (place_of p)) l.place-items ≡
+    list_any (λ p. is_broken_at l.self.types l.clause (schema_of l.self.schema.now) (place_of p)) (drop l.place-index l.place-items)

@@ -1,4 +1,5 @@
 use Rattle.std.proofs.Common.{◌∙◌, ap, map, sym}
+use Rattle.std.proofs.lemmas.Result.{IfOk-weaker}
 use Rattle.rng_model.specs.views.SchemaView.{place_of, schema_component_of}
 use Rattle.rng_load.specs.views.PlacedGrammars.{schema_of}
 use Rattle.rng_schema_checks.specs.plain.ClauseTests.{is_broken_at}
@@ -10,7 +11,7 @@ pub returns-in-Refs : goal.returns-in-Refs
 returns-in-Refs c =
     let s = schema_of c.args.self.schema.now in
     let x = place_of c.args.place.now in
-    c.break_rule-in-Refs.ensures
-    ∙ ap (λ t. some_has t (map schema_component_of c.components_at-components.result.now)) c.refs_at.ensures
+    let same = ap (λ t. some_has t (map schema_component_of c.components_at-components.result.now)) c.refs_at.ensures
     ∙ ap (some_has (ref_test (defines s x) (defines_if s (s.outer x)))) c.components_at-components.ensures
-    ∙ ap (λ clause. is_broken_at clause s x) (sym c.in-Refs.is)
+    ∙ ap (λ clause. is_broken_at c.args.self.types clause s x) (sym c.in-Refs.is) in
+    IfOk-weaker c.break_rule-in-Refs.result _ _ (λ broken e. e ∙ same) c.break_rule-in-Refs.ensures

@@ -24,7 +24,7 @@ loop-row-preserved c =
     let from : start ≡ count - row_arity row = c.saturating_sub-start.ensures ∙ ap (λ n. count - n) c.arity.ensures in
     record {
       count = next_count rows i row count start c.loop-row-test.true c.row-item.is c.loop-row.invariant.count from;
-      first = c.broken_with-broken.ensures
+      first = c.in_ok-broken.ensures
           ∙ next_first (rule_test c.args.self.now) rows i row count start c.loop-row.broken c.loop-row-test.true c.row-item.is c.loop-row.invariant.count
           c.loop-row.invariant.first from;
       bound = omega (arith, from, c.loop-row.invariant.bound);
