@@ -18,4 +18,4 @@ mod simple_parts;
 mod simple_rows;
 mod worklist;
 
-pub use schema_simplification::simplify;
+pub use schema_simplification::{simplify, simplify_with};

@@ -6,7 +6,8 @@ ghost use Rattle.rng_model.specs.simple.TableRules.{Falls, IsDatatypeKnown, IsPa
 ghost use Rattle.rng_model.specs.simple.Grammar.{IsInSimpleSyntax};
 ghost use Rattle.rng_model.specs.names.NameViews.{class_of};
 ghost use Rattle.rng_model.specs.schema.Schema.{Schema};
-ghost use Rattle.rng_model.specs.schema.SchemaClauses.{BreaksDatatype};
+ghost use Rattle.rng_model.specs.xsd.SchemasWith.{BreaksDatatypeWith};
+ghost use Rattle.rng_model.specs.declared.type_set.TypeSet.{TypeSet};
 ghost use Rattle.rng_model.specs.simple.SchemaForm.{IsOnlySimpleGrammarOf, IsSimpleGrammarOf};
 ghost use Rattle.rng_simple.specs.views.ExpansionOrder.{IsGraphOfSchema, IsWholeOrder};
 ghost use Rattle.rng_simple.specs.plain.Graph.{IsOrderBy, Mentions};
@@ -24,7 +25,7 @@ use crate::reaching::reached_rows;
 use crate::row_table::RowTable;
 use crate::simple_parts::row_of;
 use crate::simple_rows::{content_rows, definition_rows};
-use rng_model::{NameClass, OutOfMemory, PatternId, Simple, SimpleGrammar};
+use rng_model::{NameClass, OutOfMemory, PatternId, Simple, SimpleGrammar, TypeSet};
 use std::alloc::{AllocError, Global};
 
 /// The tables of a simple grammar.
@@ -38,8 +39,8 @@ struct GrammarTables {
 /// Builds the simple form of the schema of this graph by the rules of sections 4.12 to 4.21 of the RELAX NG
 /// Specification.
 ///
-/// The datatypes of the schema must be known. The order has all definitions, each after those that its body mentions
-/// outside elements.
+/// The datatypes of the schema must be those of the set. The order has all definitions, each after those that its body
+/// mentions outside elements.
 ///
 /// The result is in the simple syntax of section 5. It is the only simple form of the schema, up to the numbers of its
 /// elements. Each definition and each element is simplified once, equal patterns have one number, and elements that the
@@ -48,11 +49,13 @@ struct GrammarTables {
 /// before the grammar is made.
 pub(crate) fn simple_grammar(
     alloc: Global,
+    types: TypeSet,
     graph: Graph<'_>,
     order: Vec<usize>,
 ) -> Result<SimpleGrammar, OutOfMemory>
     requires order { IsWholeOrder (graph_of graph) order.items }
-    requires datatypes { (s : Schema) × IsGraphOfSchema s graph × ¬ (BreaksDatatype s) }
+    requires datatypes { (s : Schema) × IsGraphOfSchema s graph × ¬ (BreaksDatatypeWith types s) }
+    ensures set { IfOk result (λ h. h.types ≡ types) }
     ensures syntax { IfOk result (λ h. IsInSimpleSyntax (grammar_of h)) }
     ensures used { IfOk result AreAllUsed }
     ensures apart { IfOk result AreToldApart }
@@ -60,11 +63,11 @@ pub(crate) fn simple_grammar(
     ensures only { IfOk result (λ h. (s : Schema) → IsGraphOfSchema s graph.entry → IsOnlySimpleGrammarOf s (grammar_of h)) }
 {
     let tables = made_tables(alloc, graph, order)?;
-    Ok(SimpleGrammar::new(tables.patterns, tables.elements, tables.start))
+    Ok(SimpleGrammar::with_types(types, tables.patterns, tables.elements, tables.start))
 }
 
-/// The tables of the grammar of a graph. The definitions are taken in this order. Once everything is in rows, only the
-/// name classes of the elements are kept from the graph.
+/// The tables of the grammar of a graph, which are the same with each set of datatypes. The definitions are taken in
+/// this order. Once everything is in rows, only the name classes of the elements are kept from the graph.
 fn made_tables(
     alloc: Global,
     graph: Graph<'_>,
@@ -72,9 +75,9 @@ fn made_tables(
 ) -> Result<GrammarTables, AllocError>
     requires order { IsOrderBy (Mentions (graph_of graph)) order.items }
     requires within { All (λ j. j < length (graph_of graph).bodies) order.items }
-    ensures made { IfOk result (λ t. IsMadeTable (classes_of graph.entry) (graph_of graph.entry) order.items (table_of t)) }
+    ensures made { IfOk result (λ t. (types : TypeSet) → IsMadeTable (classes_of graph.entry) (graph_of graph.entry) order.items (table_of types t)) }
     ensures falls { IfOk result (λ t. Falls t.patterns.items) }
-    ensures table { IfOk result (λ t. All IsDatatypeKnown t.patterns.items → IsTable (table_of t)) }
+    ensures table { IfOk result (λ t. (types : TypeSet) → All (IsDatatypeKnown types) t.patterns.items → IsTable (table_of types t)) }
 {
     let mut table = RowTable::new(alloc)?;
     let definitions = definition_rows(alloc, &mut table, &graph, order.as_slice())?;

@@ -8,7 +8,7 @@ use Rattle.std.proofs.lemmas.List.Sums.{fold_push}
 use Rattle.std.proofs.lemmas.Option.{slice_get_within, get_or_from_slice_get, none-some}
 use Rattle.rng_model.proofs.Members.{not_in_none, one_or_none}
 use Rattle.rng_model.proofs.Places.{before_or_at_end, front_stays, contains_at, among_at, in_front}
-use Rattle.rng_model.specs.names.Lists.{here, HasTwice, at_first, later}
+use Rattle.rng_model.specs.names.Lists.{HasTwice, at_first, later}
 use Rattle.rng_model.specs.simple.Tree.{Tree}
 use Rattle.rng_model.specs.schema.Patterns.{Point, pattern_tree}
 use Rattle.rng_model.specs.schema.Schema.{Schema, Component, Definition, main_start, body, body_among, combining_connector, nested, same_component_name}

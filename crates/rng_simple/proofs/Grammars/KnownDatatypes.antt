@@ -1,6 +1,7 @@
 -- If a schema breaks the clause about datatypes nowhere, each datatype of its simple form is known.
 use Rattle.std.proofs.Common.{◌≡◌, refl, subst, ℕ, ◌+◌, Bool, true, false, if◌then◌else◌, List, [], ◌∷◌, Option, Some, None, get_or, slice_get}
 use Rattle.std.proofs.lemmas.List.Elements.{All-contains, All-from_get_or}
+use Rattle.std.proofs.lemmas.Bool.{and_parts}
 use Rattle.std.proofs.lemmas.Option.{slice_get-get_or, none-some}
 use Rattle.rng_model.proofs.ValueLaws.{known_if_allowed}
 use Rattle.rng_model.specs.names.Lists.{Among, here, there}
@@ -9,7 +10,7 @@ use Rattle.rng_model.specs.simple.Tree.{Connector, Tree, not_allowed, empty, tex
 use Rattle.rng_model.specs.simple.Tree.{zero_or_more, one_or_more, joined, Trees, no_trees, tree_and, as_tree}
 use Rattle.rng_model.specs.simple.Tree.{Simple, s_not_allowed, s_empty, s_text, s_leaf, s_attribute, s_list, s_data, s_data_except, s_value}
 use Rattle.rng_model.specs.simple.Tree.{s_one_or_more, s_joined}
-use Rattle.rng_model.specs.datatypes.Datatypes.{IsKnownDatatype, meaning_of}
+use Rattle.rng_model.specs.xsd.TypeSets.{IsKnownIn, meaning_in, takes_values_in, tests_in}
 use Rattle.rng_model.specs.simple.Grammar.{Grammar}
 use Rattle.rng_model.specs.simple.Leaves.{renamed, LeafIn, LeafAmong}
 use Rattle.rng_model.specs.schema.Patterns as written
@@ -19,7 +20,7 @@ use Rattle.rng_model.specs.schema.Patterns.{in_mixed, in_optional, in_zero_or_mo
 use Rattle.rng_model.specs.schema.Patterns.{IsWrittenAmong, in_this, in_later}
 use Rattle.rng_model.specs.schema.Schema.{Schema, Component, Definition, main_start, body, body_among, combining_connector, nested, nested_from}
 use Rattle.rng_model.specs.schema.Schema.{same_component_name, trees_named, HasComponent, IsWrittenAt}
-use Rattle.rng_model.specs.schema.SchemaClauses.{BreaksDatatype}
+use Rattle.rng_model.specs.xsd.SchemasWith.{BreaksDatatypeWith}
 use Rattle.rng_model.specs.simple.SchemaForm.{IsElementOf, IsSimpleFormOfSchema, IsSameUpToNumbering, IsSimpleGrammarOf, SimpleForm}
 use Rattle.rng_model.specs.simple.Leaves as at
 use Rattle.rng_model.specs.simple.Simplification as step
@@ -28,6 +29,7 @@ use Rattle.rng_model.specs.schema.Unfolding as unfolding_of
 use Rattle.rng_model.specs.schema.Unfolding.{Leaf, to_element, outside, aim, Unfolds, UnfoldAll, IsTreeOf, IsBodyOf, IsReachedBySimpleForms, from_simple_start}
 use Rattle.rng_model.specs.schema.Unfolding.{from_simple_body}
 use Rattle.rng_model.proofs.Options.{one_value}
+use Rattle.rng_model.specs.declared.type_set.TypeSet.{TypeSet}
 use Rattle.rng_schema_checks.proofs.KeptDatatypes.{data_known, data_except_known, value_allowed}
 use Rattle.rng_simple.specs.plain.KnownDatatypes.{AreDatatypesKnown, AreGrammarDatatypesKnown, IsValueDatatype}
 
@@ -39,7 +41,7 @@ second p = p.1
 
 -- ---- trees whose datatypes are known
 
-module _ {L : Type 0} (P : L → Type 0) where
+module _ (types : TypeSet) {L : Type 0} (P : L → Type 0) where
   -- each datatype is known, that of a value has no parameters, and each leaf has this property
   abbrev mutual
     pub IsKnownTree : Tree L → Type 0
@@ -49,9 +51,9 @@ module _ {L : Type 0} (P : L → Type 0) where
     IsKnownTree (leaf l) = P l
     IsKnownTree (attribute c a) = IsKnownTree a
     IsKnownTree (list a) = IsKnownTree a
-    IsKnownTree (data_of d) = IsKnownDatatype d
-    IsKnownTree (data_except d a) = IsKnownDatatype d × IsKnownTree a
-    IsKnownTree (value d v) = IsValueDatatype d
+    IsKnownTree (data_of d) = IsKnownIn types d
+    IsKnownTree (data_except d a) = IsKnownIn types d × IsKnownTree a
+    IsKnownTree (value d v) = IsValueDatatype types d
     IsKnownTree (mixed a) = IsKnownTree a
     IsKnownTree (optional a) = IsKnownTree a
     IsKnownTree (zero_or_more a) = IsKnownTree a
@@ -137,7 +139,7 @@ module _ {L : Type 0} (P : L → Type 0) where
 
 -- ---- trees of a schema
 
-module _ (s : Schema) (kept : ¬ (BreaksDatatype s)) where
+module _ (types : TypeSet) (s : Schema) (kept : ¬ (BreaksDatatypeWith types s)) where
   -- what is in the body of an element is written at its place
   abbrev IsPointThere : Place → Point → Type 0
   IsPointThere x (an_element n c p) = (q : Pattern) → IsWrittenIn q p → IsWrittenAt s x q
@@ -148,21 +150,24 @@ module _ (s : Schema) (kept : ¬ (BreaksDatatype s)) where
   abbrev IsLeafThere : Leaf → Type 0
   IsLeafThere l = (q : Pattern) → IsWrittenIn q l.content → IsWrittenAt s l.place q
 
-  value_known : (x : Place) (library name v : List ℕ) → IsWrittenAt s x (written.value library name v) → IsValueDatatype (without_parameters library name)
-  value_known x library name v w = (known_if_allowed (meaning_of (without_parameters library name)) v (value_allowed s kept x library name v w), refl)
+  value_known : (x : Place) (library name v : List ℕ) → IsWrittenAt s x (written.value library name v) → IsValueDatatype types (without_parameters library name)
+  value_known x library name v w =
+      let d = without_parameters library name in
+      let is = and_parts (takes_values_in types d) ((tests_in types).allows d v) (value_allowed types s kept x library name v w) in
+      (known_if_allowed (meaning_in types d) v is.1, refl)
 
   mutual
     pattern_known : (x : Place) (p : Pattern) (n : Position) → ((q : Pattern) → IsWrittenIn q p → IsWrittenAt s x q)
-        → IsKnownTree (IsPointThere x) (pattern_tree n p)
+        → IsKnownTree types (IsPointThere x) (pattern_tree n p)
     pattern_known x written.not_allowed n w = tt
     pattern_known x written.empty n w = tt
     pattern_known x written.text n w = tt
     pattern_known x (written.element c p) n w = λ q i. w q (in_element i)
     pattern_known x (written.attribute c p) n w = pattern_known x p (0 ∷ n) (λ q i. w q (in_attribute i))
     pattern_known x (written.list p) n w = pattern_known x p (0 ∷ n) (λ q i. w q (in_list i))
-    pattern_known x (written.data_of d) n w = data_known s kept x d (w (written.data_of d) itself)
+    pattern_known x (written.data_of d) n w = data_known types s kept x d (w (written.data_of d) itself)
     pattern_known x (written.data_except d p) n w =
-        (data_except_known s kept x d p (w (written.data_except d p) itself), pattern_known x p (0 ∷ n) (λ q i. w q (in_except i)))
+        (data_except_known types s kept x d p (w (written.data_except d p) itself), pattern_known x p (0 ∷ n) (λ q i. w q (in_except i)))
     pattern_known x (written.value library name v) n w = value_known x library name v (w (written.value library name v) itself)
     pattern_known x (written.mixed p) n w = pattern_known x p (0 ∷ n) (λ q i. w q (in_mixed i))
     pattern_known x (written.optional p) n w = pattern_known x p (0 ∷ n) (λ q i. w q (in_optional i))
@@ -178,28 +183,28 @@ module _ (s : Schema) (kept : ¬ (BreaksDatatype s)) where
     pattern_known x (written.external p) n w = pattern_known x p (0 ∷ n) (λ q i. w q (in_external i))
 
     patterns_known : (x : Place) (ps : Patterns) (m : ℕ) (n : Position) → ((q : Pattern) → IsWrittenAmong q ps → IsWrittenAt s x q)
-        → AreKnownTrees (IsPointThere x) (pattern_trees m n ps)
+        → AreKnownTrees types (IsPointThere x) (pattern_trees m n ps)
     patterns_known x no_patterns m n w = tt
     patterns_known x (pattern_and p ps) m n w =
         (pattern_known x p (m ∷ n) (λ q i. w q (in_this i)), patterns_known x ps (m + 1) n (λ q i. w q (in_later i)))
 
   trees_known : (x : Place) (y : Option (List ℕ)) (n : ℕ) (cs : List Component) → ((c : Component) → Among c cs → HasComponent s x c)
-      → AreAllKnown (IsPointThere x) (trees_named y n cs)
+      → AreAllKnown types (IsPointThere x) (trees_named y n cs)
   trees_known x y n [] has = tt
   trees_known x y n (c ∷ cs) has = by_name (same_component_name y c.name) (trees_known x y (n + 1) cs (λ d m. has d (there m)))
     where
-      by_name : (b : Bool) → AreAllKnown (IsPointThere x) (trees_named y (n + 1) cs)
-          → AreAllKnown (IsPointThere x) (if b then pattern_tree (n ∷ []) c.pattern ∷ trees_named y (n + 1) cs else trees_named y (n + 1) cs)
+      by_name : (b : Bool) → AreAllKnown types (IsPointThere x) (trees_named y (n + 1) cs)
+          → AreAllKnown types (IsPointThere x) (if b then pattern_tree (n ∷ []) c.pattern ∷ trees_named y (n + 1) cs else trees_named y (n + 1) cs)
       by_name true rest = (pattern_known x c.pattern (n ∷ []) (λ q i. record { component = c; there = has c here; written = i }), rest)
       by_name false rest = rest
 
-  body_known : (d : Definition) (a : Tree Point) → body s d ≡ Some a → IsKnownTree (IsPointThere d.place) a
+  body_known : (d : Definition) (a : Tree Point) → body s d ≡ Some a → IsKnownTree types (IsPointThere d.place) a
   unfolding body
   body_known d a e = at_components (s.components d.place) refl e
     where
-      at_components : (o : Option (List Component)) → s.components d.place ≡ o → body_among d.name o ≡ Some a → IsKnownTree (IsPointThere d.place) a
+      at_components : (o : Option (List Component)) → s.components d.place ≡ o → body_among d.name o ≡ Some a → IsKnownTree types (IsPointThere d.place) a
       at_components None f e = absurd (none-some _ e)
-      at_components (Some cs) f e = nested_known (IsPointThere d.place) (combining_connector d.name cs) (trees_named d.name 0 cs) a e
+      at_components (Some cs) f e = nested_known types (IsPointThere d.place) (combining_connector d.name cs) (trees_named d.name 0 cs) a e
           (trees_known d.place d.name 0 cs (λ c m. record { components = cs; there = f; among = m }))
 
   aimed : (x : Place) (l : Point) (m : Leaf) → IsPointThere x l → aim s x l ≡ to_element m → IsLeafThere m
@@ -215,7 +220,7 @@ module _ (s : Schema) (kept : ¬ (BreaksDatatype s)) where
   aimed x (a_grammar z) m w e = cc
 
   mutual
-    unfolded : {x : Place} {a : Tree Point} {b : Tree Leaf} → Unfolds s x a b → IsKnownTree (IsPointThere x) a → IsKnownTree IsLeafThere b
+    unfolded : {x : Place} {a : Tree Point} {b : Tree Leaf} → Unfolds s x a b → IsKnownTree types (IsPointThere x) a → IsKnownTree types IsLeafThere b
     unfolded (unfolding_of.element_is {x} {l} {m} e) h = aimed x l m h e
     unfolded (unfolding_of.found {x} {l} {d} {a} {b} e f u) h = unfolded u (body_known d a f)
     unfolded unfolding_of.not_allowed_is h = tt
@@ -232,25 +237,25 @@ module _ (s : Schema) (kept : ¬ (BreaksDatatype s)) where
     unfolded (unfolding_of.one_or_more_is u) h = unfolded u h
     unfolded (unfolding_of.joined_is u v us) h = (unfolded u (first h), (unfolded v (first (second h)), all_unfolded us (second (second h))))
 
-    all_unfolded : {x : Place} {ts : Trees Point} {us : Trees Leaf} → UnfoldAll s x ts us → AreKnownTrees (IsPointThere x) ts
-        → AreKnownTrees IsLeafThere us
+    all_unfolded : {x : Place} {ts : Trees Point} {us : Trees Leaf} → UnfoldAll s x ts us → AreKnownTrees types (IsPointThere x) ts
+        → AreKnownTrees types IsLeafThere us
     all_unfolded unfolding_of.none_is h = tt
     all_unfolded (unfolding_of.more_are u us) h = (unfolded u (first h), all_unfolded us (second h))
 
-  tree_known : (d : Definition) (t : Tree Leaf) → IsTreeOf s d t → IsKnownTree IsLeafThere t
+  tree_known : (d : Definition) (t : Tree Leaf) → IsTreeOf s d t → IsKnownTree types IsLeafThere t
   tree_known d t is = unfolded is.2 (body_known d is.0 is.1)
 
-  content_known : (m : Leaf) (t : Tree Leaf) → IsLeafThere m → IsBodyOf s m t → IsKnownTree IsLeafThere t
+  content_known : (m : Leaf) (t : Tree Leaf) → IsLeafThere m → IsBodyOf s m t → IsKnownTree types IsLeafThere t
   content_known m t w u = unfolded u (pattern_known m.place m.content (0 ∷ m.position) w)
 
   reached_there : {l : Leaf} → IsReachedBySimpleForms s l → IsLeafThere l
-  reached_there (from_simple_start {t} is f i) = leaf_of IsLeafThere i (steps_known IsLeafThere f.reached (tree_known (main_start s) t is))
+  reached_there (from_simple_start {t} is f i) = leaf_of types IsLeafThere i (steps_known types IsLeafThere f.reached (tree_known (main_start s) t is))
   reached_there (from_simple_body {m} {l} {t} r u f i) =
-      leaf_of IsLeafThere i (steps_known IsLeafThere f.reached (content_known m t (reached_there r) u))
+      leaf_of types IsLeafThere i (steps_known types IsLeafThere f.reached (content_known m t (reached_there r) u))
 
   -- ---- a grammar
 
-  simple_known : (element : ℕ → Leaf) (p : Simple ℕ) → IsKnownTree IsLeafThere (renamed element (as_tree p)) → AreDatatypesKnown p
+  simple_known : (element : ℕ → Leaf) (p : Simple ℕ) → IsKnownTree types IsLeafThere (renamed element (as_tree p)) → AreDatatypesKnown types p
   simple_known element s_not_allowed h = tt
   simple_known element s_empty h = tt
   simple_known element s_text h = tt
@@ -264,19 +269,20 @@ module _ (s : Schema) (kept : ¬ (BreaksDatatype s)) where
   simple_known element (s_joined k p q) h = (simple_known element p (first h), simple_known element q (first (second h)))
 
   module _ (g : Grammar) (f : SimpleForm) (form : IsSimpleFormOfSchema s f) (same : IsSameUpToNumbering g f) where
-    start_of : AreDatatypesKnown g.start
-    start_of = simple_known same.element g.start (subst (IsKnownTree IsLeafThere) same.start
-        (steps_known IsLeafThere form.start.reached (tree_known (main_start s) form.tree form.is_tree)))
+    start_of : AreDatatypesKnown types g.start
+    start_of = simple_known same.element g.start (subst (IsKnownTree types IsLeafThere) same.start
+        (steps_known types IsLeafThere form.start.reached (tree_known (main_start s) form.tree form.is_tree)))
 
-    body_of : (k : ℕ) (e : NameClass × Simple ℕ) → slice_get g.elements k ≡ Some e → AreDatatypesKnown e.1
+    body_of : (k : ℕ) (e : NameClass × Simple ℕ) → slice_get g.elements k ≡ Some e → AreDatatypesKnown types e.1
     body_of k e found =
         let listed = same.bodies k e.0 e.1 found in
         let is = All-contains (IsElementOf s) f.elements _ form.elements listed.0 in
-        simple_known same.element e.1 (steps_known IsLeafThere is.body.reached (content_known (same.element k) is.tree (reached_there is.reached) is.is_tree))
+        let content = content_known (same.element k) is.tree (reached_there is.reached) is.is_tree in
+        simple_known same.element e.1 (steps_known types IsLeafThere is.body.reached content)
 
-  pub grammar_known : (g : Grammar) → IsSimpleGrammarOf s g → AreGrammarDatatypesKnown g
+  pub grammar_known : (g : Grammar) → IsSimpleGrammarOf s g → AreGrammarDatatypesKnown types g
   grammar_known g is = record {
     start = start_of g is.0 is.1 is.2;
-    bodies = All-from_get_or (λ e. AreDatatypesKnown e.1) g.elements (any_name, s_not_allowed)
+    bodies = All-from_get_or (λ e. AreDatatypesKnown types e.1) g.elements (any_name, s_not_allowed)
         (λ i h. body_of g is.0 is.1 is.2 i (get_or g.elements i (any_name, s_not_allowed)) (slice_get-get_or g.elements i (any_name, s_not_allowed) h));
   }

@@ -10,14 +10,15 @@ use Rattle.rng_model.specs.datatypes.Texts.{Texts, texts_of}
 use Rattle.rng_model.specs.matching.Matching.{HasText}
 use Rattle.rng_model.specs.matching.GrammarMatching.{Nothing, IsListed, is_listed, grammar_leaves, IsValidBy}
 use Rattle.rng_model.specs.simple.Grammar.{Grammar}
-use Rattle.rng_model.specs.datatypes.Datatypes.{text_tests}
 use Rattle.rng_model.specs.simple.Leaves.{renamed}
 use Rattle.rng_model.specs.schema.Patterns.{Point}
 use Rattle.rng_model.specs.schema.Schema.{Schema, main_start, body}
 use Rattle.rng_model.specs.schema.Unfolding.{Leaf, Unfolds, IsBodyOf, IsReachedBySimpleForms, from_simple_start, from_simple_body}
 use Rattle.rng_model.specs.simple.SchemaForm.{SimpleForm, IsElementOf, IsSimpleFormOfSchema, IsSameUpToNumbering, IsSimpleGrammarOf}
 use Rattle.rng_model.specs.matching.SchemaMatching.{IsValidOver}
-use Rattle.rng_model.specs.simple.SimplifiedSchema.{AreSameDocuments}
+use Rattle.rng_model.specs.xsd.TypeSets.{tests_in}
+use Rattle.rng_model.specs.xsd.SchemasWith.{AreSameDocumentsWith}
+use Rattle.rng_model.specs.declared.type_set.TypeSet.{TypeSet}
 use Rattle.rng_model.proofs.Unfolding.{one_tree}
 use Rattle.rng_model.proofs.Options.{one_value}
 use Rattle.rng_simple.specs.plain.InTwos.{nested}
@@ -148,5 +149,5 @@ module _ (s : Schema) (texts : Texts) where
 pub same_documents_over : (s : Schema) (g : Grammar) → IsSimpleGrammarOf s g → (texts : Texts) (root : Item) → IsValidBy g texts root ↔ IsValidOver s texts root
 same_documents_over s g e texts root = (grammar_to_written s texts g e.0 e.1 e.2 root, written_to_grammar s texts g e.0 e.1 e.2 root)
 
-pub same_documents : (s : Schema) (g : Grammar) → IsSimpleGrammarOf s g → AreSameDocuments s g
-same_documents s g e root = same_documents_over s g e (texts_of text_tests) root
+pub same_documents : (types : TypeSet) (s : Schema) (g : Grammar) → IsSimpleGrammarOf s g → AreSameDocumentsWith types s g
+same_documents types s g e root = same_documents_over s g e (texts_of (tests_in types)) root

@@ -18,6 +18,7 @@ use Rattle.rng_model.specs.names.NameViews.{class_of}
 use Rattle.rng_model.specs.declared.name.NameClass.{NameClass}
 use Rattle.rng_model.specs.declared.simple.PatternId.{PatternId}
 use Rattle.rng_model.specs.declared.simple.Simple as declared
+use Rattle.rng_model.specs.declared.type_set.TypeSet.{TypeSet}
 use Rattle.rng_simple.specs.plain.Graph.{Graph}
 use Rattle.rng_simple.specs.declared.rows.Row.{Row}
 use Rattle.rng_simple.specs.declared.rows.Row.TheVariants as row
@@ -87,9 +88,9 @@ module _ (l : Labels) (rs : List Row) (rows : AreRows l rs) (contents : List ℕ
 
   module _ (places listed : List ℕ) (ps : List declared.Simple) (are : AreCopied l rs reached (length rs) places ps listed) (classes : List names.NameClass)
       (es : List (NameClass × PatternId)) (copies : AreElementCopies classes contents places listed es) (start : PatternId)
-      (is_start : start.0 ≡ place_of places first) where
+      (is_start : start.0 ≡ place_of places first) (types : TypeSet) where
     abbrev pub table : Table
-    table = record { patterns = ps; elements = es; start = start }
+    table = record { patterns = ps; elements = es; start = start; types = types }
 
     first_copied : IsCopied ps listed (place_of places first) (tree_at l rs first)
     first_copied = are.copied first first_below first_marked
@@ -120,7 +121,7 @@ module _ (l : Labels) (rs : List Row) (rows : AreRows l rs) (contents : List ℕ
     all_elements : (P : NameClass × PatternId → Type 0) → ((n : ℕ) (e : NameClass × PatternId) → slice_get es n ≡ Some e → P e) → All P es
     all_elements P f n d h = f n (slice_index_or es n d) (slice_get-get_or es n d h)
 
-    pub is_table : All IsDatatypeKnown ps → IsTable table
+    pub is_table : All (IsDatatypeKnown types) ps → IsTable table
     is_table known = record {
       start = subst (λ x. x < length ps) (sym is_start) first_copied.there;
       bodies = all_elements (λ e. e.1.0 < length ps) (λ n e is. (element_body n e is).there);

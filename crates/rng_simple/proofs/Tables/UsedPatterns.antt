@@ -22,6 +22,7 @@ use Rattle.rng_simple.specs.views.Rows.{Labels, row_tree, AreRows, AreChildrenBe
 use Rattle.rng_simple.specs.plain.SimpleParts.{AreRowsBelow}
 use Rattle.rng_model.specs.simple.SimplifiedSchema.{AreAllUsed}
 use Rattle.rng_labels.specs.plain.Queues.{IsReachedBy, at_start, onward}
+use Rattle.rng_model.specs.declared.type_set.TypeSet.{TypeSet}
 use Rattle.rng_simple.specs.declared.rows.Row.{Row}
 use Rattle.rng_simple.specs.declared.rows.Row.TheVariants as row
 use Rattle.rng_simple.proofs.Tables.RowReach.{one_of_two}
@@ -38,12 +39,12 @@ module _ (l : Labels) (rs : List Row) (rows : AreRows l rs) (contents : List ℕ
     (marks : (i : ℕ) → IsReachedBy (row_next rs (content_of contents)) (first ∷ []) i ↔ (slice_get reached i ≡ Some true))
     (places listed : List ℕ) (ps : List declared.Simple) (are : AreCopied l rs reached (length rs) places ps listed) (classes : List names.NameClass)
     (es : List (NameClass × PatternId)) (copies : AreElementCopies classes contents places listed es) (start : PatternId)
-    (is_start : start.0 ≡ place_of places first) where
+    (is_start : start.0 ≡ place_of places first) (types : TypeSet) where
   abbrev of : ℕ → Simple ℕ
   of a = tree_numbered ps (place_of places a)
 
   abbrev made_table : Table
-  made_table = record { patterns = ps; elements = es; start = start }
+  made_table = record { patterns = ps; elements = es; start = start; types = types }
 
   -- its pattern is in a part of the grammar
   abbrev Stands : ℕ → Type 0

@@ -82,8 +82,9 @@ returns-clause-table c =
     let copies = copies_as (map (λ k. class_of k.now) c.as_slice-6.result.now) classes c.as_slice-7.result.now contents c.as_slice-places.result.now places c.as_slice-8.result.now listed es
     all (c.as_slice-7.ensures.value ∙ sym c.as_slice-4.ensures.value) c.as_slice-places.ensures.value c.as_slice-8.ensures.value c.in_ok-elements.ensures in
     let is_start = c.row_of.ensures ∙ ap (λ xs. slice_index_or xs first 0) c.as_slice-places.ensures.value in
+    λ types known.
     is_table (labels_of u) rs grown.table.rows contents below first first_below reached marks
-    places listed ps copied classes es copies _ is_start
+    places listed ps copied classes es copies _ is_start types known
 
 pub returns-clause-made : goal.returns-clause-made
 returns-clause-made c =
@@ -124,18 +125,19 @@ returns-clause-made c =
     let bodies : (k : ℕ) → tree_of u (content_of contents k) ≡ content_simple g values k = λ k.
     ap (λ xs. tree_of u (slice_index_or xs k 0)) c.as_slice-4.ensures.value ∙ c.in_ok-contents.ensures.contents k
     ∙ ap (λ ds. content_simple g (values_in t ds) k) c.as_slice-2.ensures.value in
+    λ types.
     record {
       made = record {
         values = values;
         filled = subst (IsFilledBy g (spot_simple values) values) c.as_slice.ensures.value c.in_ok-definitions.ensures.filled;
         seen = listed;
         grammar = is_made (labels_of u) rs grown.table.rows contents below first first_below reached marks
-            places listed ps copied classes es copies _ is_start g values start_tree bodies;
+            places listed ps copied classes es copies _ is_start types g values start_tree bodies;
       };
       syntax = is_simple (labels_of u) rs grown.table.rows contents below first first_below reached marks
-          places listed ps copied classes es copies _ is_start;
+          places listed ps copied classes es copies _ is_start types;
       used = all_used (labels_of u) rs grown.table.rows contents below first first_below reached marks
-          places listed ps copied classes es copies _ is_start;
+          places listed ps copied classes es copies _ is_start types;
       apart = patterns_apart u grown.table reached places ps listed copied;
     }
 
