@@ -26,6 +26,10 @@ pub all_append : {A : Type 0} (P : A → Type 0) (xs ys : List A) → AllByRecur
 all_append P [] ys h i = i
 all_append P (x ∷ xs) ys h i = (h.0, all_append P xs ys h.1 i)
 
+pub all_parts : {A : Type 0} (P : A → Type 0) (xs ys : List A) → AllByRecursion P (xs ++ ys) → AllByRecursion P xs × AllByRecursion P ys
+all_parts P [] ys h = (tt, h)
+all_parts P (x ∷ xs) ys h = let r = all_parts P xs ys h.1 in ((h.0, r.0), r.1)
+
 pub all_contained : {A : Type 0} (P : A → Type 0) (xs : List A) → AllByRecursion P xs → (a : A) → Contains xs a → P a
 all_contained P [] h a c = absurd (not_in_none c)
 all_contained P (x ∷ xs) h a c = elim (first_or_later x xs a c) [ inl e ↦ subst P e h.0 | inr d ↦ all_contained P xs h.1 a d ]
@@ -238,10 +242,6 @@ module _ {A : Type 0} (same : A → A → Bool) (exact : (a b : A) → same a b 
         and_all (IsReached same start line) [] (start ++ flat_map line done) tt
         (all_append (IsReached same start line) start (flat_map line done) (all_each (IsReached same start line) start (λ a c. at_start c))
         (lines_reached done h))
-
-    all_parts : (P : A → Type 0) (xs ys : List A) → AllByRecursion P (xs ++ ys) → AllByRecursion P xs × AllByRecursion P ys
-    all_parts P [] ys h = (tt, h)
-    all_parts P (x ∷ xs) ys h = let r = all_parts P xs ys h.1 in ((h.0, r.0), r.1)
 
     line_reached : (done waiting : List A) (a : A) → written done ≡ done ++ a ∷ waiting → AllByRecursion (IsReached same start line) done
         → AllByRecursion (IsReached same start line) (done ++ a ∷ [])

@@ -1,5 +1,5 @@
 -- What is known of a document, event by event, and at its end.
-use Rattle.std.proofs.Common.{◌≡◌, ◌↔◌, ◌⊎◌, None, inl, inr, ◌&&◌, ◌||◌, true, false, ℕ, List, [], ◌∷◌, ◌++◌, map, refl, sym, ap, ◌∙◌, subst, All}
+use Rattle.std.proofs.Common.{◌≡◌, ◌↔◌, ◌⊎◌, None, inl, inr, ◌&&◌, true, false, ℕ, List, [], ◌∷◌, ◌++◌, map, refl, sym, ap, ◌∙◌, subst, All}
 use Rattle.std.proofs.Common.{Bool, Contains, append_assoc}
 use Rattle.std.specs.List.{list_all, list_any}
 use Rattle.std.proofs.lemmas.List.Elements.{All-push, All-nil, All-cons, All-contains, Contains-append_left, Contains-append_right, Contains-get_or}
@@ -25,6 +25,7 @@ use Rattle.rng_model.specs.matching.Outcomes.{KnowsName, IsValidByReading, Fails
 use Rattle.rng_deriv_events.specs.views.Positions.{Leads, AddsStep, HasCome}
 use Rattle.rng_deriv_events.specs.views.OpenPositions.{OpenPosition}
 use Rattle.rng_deriv_events.proofs.Numbers.{all_before}
+use Rattle.rng_deriv_events.proofs.LevelTests.{any_mapped}
 
 -- ---- tests over numbers, and their meaning for patterns
 
@@ -41,13 +42,9 @@ module _ (test : Simple ℕ → Bool) (f : PatternNumber → Simple ℕ) where
       let both = or_parts (test (f n)) (list_any (λ n. test (f n)) ns) e in
       All-cons (λ p. test p ≡ false) (f n) (map f ns) both.0 (all_fail ns both.1)
 
-  any_mapped : (ns : List PatternNumber) → list_any test (map f ns) ≡ list_any (λ n. test (f n)) ns
-  any_mapped [] = refl
-  any_mapped (n ∷ ns) = ap (λ b. test (f n) || b) (any_mapped ns)
-
   some_passes : (ns : List PatternNumber) → list_any (λ n. test (f n)) ns ≡ true → (p : Simple ℕ) × Contains (map f ns) p × (test p ≡ true)
   some_passes ns e =
-      let h = Any-from_list_any test (map f ns) (any_mapped ns ∙ e) in
+      let h = Any-from_list_any test (map f ns) (any_mapped test f ns ∙ e) in
       (h.1, subst (Contains (map f ns)) h.3 (Contains-get_or (map f ns) h.0 h.1 h.2), h.4)
 
   one_more : (b all : Bool) (p : Simple ℕ) (ps : List (Simple ℕ)) → test p ≡ b → (b && all) ≡ false

@@ -69,4 +69,3 @@ module _ (g : Reading) (keys : Keys) (old new : List (Simple ℕ)) (t u : LevelT
 
   pub sample_serves : AddsAfter (IsAfterText g s) old new ps u m
   sample_serves = by_tests l.tests_strings refl
-

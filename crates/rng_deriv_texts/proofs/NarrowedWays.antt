@@ -35,6 +35,7 @@ use Rattle.rng_deriv_ways.specs.declared.way.LeafWay.{LeafWay}
 use Rattle.rng_deriv_texts.specs.plain.After.{AreFor, AreRests, attributes_of, items_of}
 use Rattle.rng_deriv_texts.specs.plain.ValueWays.{AreNarrowed, AreNarrowedFor, ComparesTexts, IsKeptOrIs}
 use Rattle.rng_deriv_texts.specs.declared.first.First.{First}
+use Rattle.rng_deriv_ways.proofs.JoinedWays.{ways_among}
 
 -- ---- values whose texts are compared
 
@@ -204,14 +205,6 @@ module _ (f : ℕ → Simple ℕ) where
   numbered_way (v ∷ ws) _ here = (v, Contains-get_or (v ∷ ws) 0 v (omega arith), refl)
   numbered_way (v ∷ ws) w (there a) = let h = numbered_way ws w a in (h.0, Contains-append_right (v ∷ []) ws h.0 h.1, h.2)
 
-  way_there : (ws : List LeafWay) (v : LeafWay) → Contains ws v → Among (way_by f v) (ways_by f ws)
-  way_there [] v c = absurd (not_in_none c)
-  way_there (w ∷ ws) v c = ⊎_elim (λ a. subst (λ u. Among (way_by f u) (ways_by f (w ∷ ws))) (only a) here) (λ b. there (way_there ws v b))
-      (Contains-append_cases (w ∷ []) ws v c) where
-        only : Contains (w ∷ []) v → w ≡ v
-        only (zero, h, e) = e
-        only (suc k, h, e) = absurd (omega (arith, h))
-
   module _ (P Q : Simple ℕ → Type 0) where
     each_at : (ws : List LeafWay) → EachWay P Q (ways_by f ws) → (v : LeafWay) → Contains ws v → P (f v.leaf.0) × Q (f v.rest.0)
     each_at [] each v c = absurd (not_in_none c)
@@ -238,10 +231,10 @@ module _ (t : Table) (old new : List Node) (first : First) (ws few : List LeafWa
     inside = own.inside;
     takes = λ each xs ns. let law = own.takes (for_few each) xs ns in (
       λ h. let o = law.0 h in let v = numbered_way f few o.0 o.1 in
-          (o.0, subst (λ w. Among w (ways_by f ws)) v.2 (way_there f ws v.0 (narrow.within v.0 v.1)), o.2, o.3),
+          (o.0, subst (λ w. Among w (ways_by f ws)) v.2 (ways_among f ws v.0 (narrow.within v.0 v.1)), o.2, o.3),
       λ o. let v = numbered_way f ws o.0 o.1 in
           let taken = subst (λ (w : Way). Takes (reading_of t) w.leaf (attributes_of first) (items_of first)) (sym v.2) o.2 in
-          law.1 (o.0, subst (λ w. Among w (ways_by f few)) v.2 (way_there f few v.0 (narrow.all v.0 v.1 taken)), o.2, o.3),
+          law.1 (o.0, subst (λ w. Among w (ways_by f few)) v.2 (ways_among f few v.0 (narrow.all v.0 v.1 taken)), o.2, o.3),
     );
     kept = λ each. own.kept (for_few each);
   }

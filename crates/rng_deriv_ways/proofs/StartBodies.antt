@@ -18,6 +18,7 @@ use Rattle.rng_model.specs.simple.Table.{tree_at}
 use Rattle.rng_deriv_laws.specs.plain.Restricted.{IsRestricted, IsRestrictedBody}
 use Rattle.rng_deriv_laws.specs.plain.Ways.{AreItemWays, EachWay, IsItemLeaf}
 use Rattle.rng_deriv_laws.proofs.Starts.{bodies_in, bodies_out}
+use Rattle.rng_deriv_laws.proofs.SamePatterns.{same_back}
 use Rattle.rng_deriv_table.specs.views.PatternTable.{Longer}
 use Rattle.rng_deriv_table.specs.declared.pattern.PatternNumber.{PatternNumber}
 use Rattle.rng_deriv_table.proofs.Trees.{Longer-length, tree_stays}
@@ -70,12 +71,9 @@ weakly_same g p q s xs ns (t.as_is d) = t.as_is (s.to xs ns d)
 weakly_same g p q s xs ns (t.blank_text d b) = t.blank_text (s.to xs [] d) b
 weakly_same g p q s xs ns (t.nothing_there d) = t.nothing_there (s.to xs _ d)
 
-turned : (g : Reading) (p q : Simple ℕ) → Same g p q → Same g q p
-turned g p q s = record { to = s.back; back = s.to }
-
 pub one_opens : (g : Reading) (xs : List Attribute) (kids ns : List Item) (b c r : Simple ℕ) → Same g b c
     → Opens g xs kids ns (record { leaf = b; rest = r } ∷ []) ↔ Opens g xs kids ns (record { leaf = c; rest = r } ∷ [])
-one_opens g xs kids ns b c r s = (to b c s, to c b (turned g b c s)) where
+one_opens g xs kids ns b c r s = (to b c s, to c b (same_back g s)) where
   to : (b c : Simple ℕ) → Same g b c → Opens g xs kids ns (record { leaf = b; rest = r } ∷ []) → Opens g xs kids ns (record { leaf = c; rest = r } ∷ [])
   to b c s (inl h) = inl (weakly_same g b c s xs kids h.0, h.1)
   to b c s (inr h) = absurd h

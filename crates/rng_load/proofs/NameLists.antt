@@ -1,6 +1,6 @@
 -- Lists and their members.
 use Rattle.std.proofs.Common.{◌≡◌, refl, sym, subst, ap, ℕ, zero, suc, ◌≤◌, Bool, true, false, ◌||◌, List, [], ◌∷◌, ◌++◌, length, arith, ◌⊎◌, inl, inr, map}
-use Rattle.std.proofs.Common.{Some, slice_get, get_or, ◌<◌}
+use Rattle.std.proofs.Common.{get_or, ◌<◌}
 use Rattle.std.specs.List.{list_any}
 use Rattle.std.specs.Str.{bytes_eq}
 use Rattle.std.proofs.lemmas.Slice.Eq.{bytes_eq-Decides}
@@ -37,12 +37,6 @@ module _ {A : Type 0} where
   -- the members of a list with one more at its end
   pub in_more : {x y : A} (ns : List A) → Among x (ns ++ y ∷ []) → Among x ns ⊎ (x ≡ y)
   in_more ns p = elim (in_either ns p) [ inl a ↦ inl a | inr b ↦ elim (in_cons b) [ inl e ↦ inr e | inr c ↦ absurd (in_none c) ] ]
-
-  -- the item at an index is a member of the list
-  pub in_at : (xs : List A) (i : ℕ) {x : A} → slice_get xs i ≡ Some x → Among x xs
-  in_at [] i e = absurd cc
-  in_at (y ∷ ys) zero {x} e = let same : y ≡ x = cc in in_first ys (sym same)
-  in_at (y ∷ ys) (suc i) e = there (in_at ys i e)
 
   pub in_place : (xs : List A) (i : ℕ) (x : A) → i < length xs → x ≡ get_or xs i x → Among x xs
   in_place [] i x l is = absurd (omega (arith, l))

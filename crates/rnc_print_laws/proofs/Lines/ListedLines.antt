@@ -9,16 +9,13 @@ use Rattle.rncv_model.specs.printed.Items.{has, IsReached, at_start, in_line, Pr
 use Rattle.rnc_print.proofs.FailedTests.{false_true}
 use Rattle.rnc_print.proofs.SameTests.{item_exact, item_itself}
 use Rattle.rnc_print.proofs.Numberings.{AreNew, numbering_new, and_has_right}
+use Rattle.rng_load.proofs.NameLists.{in_right}
 
 -- ---- what is among a list
 
 pub among_left : {A : Type 0} {x : A} {xs : List A} (ys : List A) → Among x xs → Among x (xs ++ ys)
 among_left ys here = here
 among_left ys (there i) = there (among_left ys i)
-
-pub among_right : {A : Type 0} {x : A} (xs : List A) {ys : List A} → Among x ys → Among x (xs ++ ys)
-among_right [] i = i
-among_right (y ∷ xs) i = there (among_right xs i)
 
 pub among_has : {x : PrintedItem} {xs : List PrintedItem} → Among x xs → has same_item xs x ≡ true
 among_has {x} (here {xs}) = or_left (same_item x x) (has same_item xs x) (item_itself x)
@@ -38,7 +35,7 @@ contains_among (y ∷ xs) x (suc k, lt, e) = there (contains_among xs x (k, omeg
 
 flat_among : {A B : Type 0} (f : A → List B) {x : A} {xs : List A} {y : B} → Among x xs → Among y (f x) → Among y (flat_map f xs)
 flat_among f (here {xs}) j = among_left (flat_map f xs) j
-flat_among f (there {y = z} i) j = among_right (f z) (flat_among f i j)
+flat_among f (there {y = z} i) j = in_right (f z) (flat_among f i j)
 
 -- ---- the items of a grammar
 
@@ -56,7 +53,7 @@ module _ (g : Grammar) (items : List PrintedItem) (n : IsItemsOf g items) where
   start_among i a = written_among i (among_left (flat_map (mentions g) items) a)
 
   pub line_among : (j : PrintedItem) → Among j items → AreAmong items (mentions g j)
-  line_among j b i a = written_among i (among_right (named_item g.start) (flat_among (mentions g) b a))
+  line_among j b i a = written_among i (in_right (named_item g.start) (flat_among (mentions g) b a))
 
   pub each_once : AreNew same_item item_exact item_itself [] items
   each_once = numbering_new same_item item_exact item_itself (named_item g.start) (mentions g) items n

@@ -20,6 +20,7 @@ use Rattle.rnc_print_laws.specs.plain.Printable.{CanBeNamed}
 use Rattle.rnc_print_laws.specs.plain.LinesSyntax as lines
 use Rattle.rnc_print_laws.specs.plain.LinesTree as trees
 use Rattle.rnc_print.proofs.SameTests.{bytes_other_way}
+use Rattle.rnc_print.proofs.Numberings.{all_parts}
 use Rattle.rnc_print_laws.proofs.ReadBack.LineSentences.{KnowsType, KnowsTypes, KnowsItem}
 
 -- what a scope has for the prefix of a namespace
@@ -29,10 +30,6 @@ Knows s ns u = s.namespaces (prefix_of ns u) ≡ Some (given u)
 -- each of these namespaces is declared
 abbrev pub KnowsAll : Scope → List (List ℕ) → List (List ℕ) → Type 0
 KnowsAll s ns us = AllByRecursion (Knows s ns) us
-
-all_append : {A : Type 0} (P : A → Type 0) (xs ys : List A) → AllByRecursion P (xs ++ ys) → AllByRecursion P xs × AllByRecursion P ys
-all_append P [] ys h = (tt, h)
-all_append P (x ∷ xs) ys h = let r = all_append P xs ys h.1 in ((h.0, r.0), r.1)
 
 -- no prefix is `xml`
 prefix_in : (s : Scope) (ns : List (List ℕ)) (u : List ℕ) → Knows s ns u → namespace_in s (prefix_of ns u) ≡ Some (given u)
@@ -83,8 +80,8 @@ choice_found : (s : Scope) (ns : List (List ℕ)) (d : Namespace) (c e : names.N
     → Become s d (lines.members_in (lines.class_of ns c) ++ lines.class_of ns e ∷ lines.classes_of ns cs)
     (trees.members_in (trees.class_of d c) ++ trees.class_of d e ∷ trees.classes_of d cs)
 choice_found s ns d c e cs k first second others =
-    let a = all_append (Knows s ns) (namespaces_in c) (namespaces_in e ++ namespaces_among cs) k in
-    let b = all_append (Knows s ns) (namespaces_in e) (namespaces_among cs) a.1 in
+    let a = all_parts (Knows s ns) (namespaces_in c) (namespaces_in e ++ namespaces_among cs) k in
+    let b = all_parts (Knows s ns) (namespaces_in e) (namespaces_among cs) a.1 in
     both_become s d (lines.members_in (lines.class_of ns c)) (lines.class_of ns e ∷ lines.classes_of ns cs) (trees.members_in (trees.class_of d c))
     (trees.class_of d e ∷ trees.classes_of d cs) (first a.0) (second b.0, others b.1)
 
@@ -119,7 +116,7 @@ mutual
       → Become s d (lines.classes_of ns cs) (trees.classes_of d cs)
   classes_found s ns d names.no_classes k = tt
   classes_found s ns d (names.class_and c cs) k =
-      let a = all_append (Knows s ns) (namespaces_in c) (namespaces_among cs) k in
+      let a = all_parts (Knows s ns) (namespaces_in c) (namespaces_among cs) k in
       (class_found s ns d c a.0, classes_found s ns d cs a.1)
 
 -- ---- patterns

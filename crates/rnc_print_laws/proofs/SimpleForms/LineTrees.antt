@@ -15,10 +15,11 @@ use Rattle.rncv_model.specs.printed.Items.{PrintedItem, element, pattern, named_
 use Rattle.rncv_model.specs.printed.PrintedText.{item_name}
 use Rattle.rng_simple.specs.plain.Renamed.{simple_renamed}
 use Rattle.rnc_print_laws.specs.plain.LinesSchema.{flattened, reference_pattern, item_pattern, IsSchemaOfLines}
-use Rattle.rnc_print_laws.proofs.Lines.ListedLines.{AreAmong, among_left, among_right, start_among, line_among}
+use Rattle.rnc_print_laws.proofs.Lines.ListedLines.{AreAmong, among_left, start_among, line_among}
 use Rattle.rnc_print_laws.proofs.SimpleForms.FlattenedClasses.{with_flattened}
 use Rattle.rnc_print_laws.proofs.Lines.LinesFound.{line_number, item_found, start_found}
 use Rattle.rnc_print_laws.proofs.SimpleForms.GoodGrammars.{IsGoodTree}
+use Rattle.rng_load.proofs.NameLists.{in_right}
 
 pub plain_datatype : (d : Datatype) → d.parameters ≡ [] → without_parameters d.library d.name ≡ d
 plain_datatype d e = ap (λ ps. record { library = d.library; name = d.name; parameters = ps }) (sym e)
@@ -62,7 +63,7 @@ module _ (g : Grammar) (items : List PrintedItem) where
         leaf_among a k (λ j c. p j (among_left (named_item b) c)) i
     leaf_among (s_joined m a b) k h (at.of_second i) =
         let p = line_among g items numbered (pattern (s_joined m a b)) (h (pattern (s_joined m a b)) here) in
-        leaf_among b k (λ j c. p j (among_right (named_item a) c)) i
+        leaf_among b k (λ j c. p j (in_right (named_item a) c)) i
     leaf_among (s_joined m a b) k h (at.of_others i) = elim i [ ]
 
     module _ (few : length items < 2 ^ 64) (r : Schema) (lines : IsSchemaOfLines g items r) where
@@ -103,7 +104,7 @@ module _ (g : Grammar) (items : List PrintedItem) where
             let p = parts_among (s_joined k a b) (h i here) in
             through i (line_tree_of (s_joined k a b)) (h i here)
             (u.joined_is (reference_unfolds a _ f.0 (λ j c. p j (among_left (named_item b) c)))
-            (reference_unfolds b _ f.1.0 (λ j c. p j (among_right (named_item a) c))) u.none_is)
+            (reference_unfolds b _ f.1.0 (λ j c. p j (in_right (named_item a) c))) u.none_is)
 
         -- the start has its tree, and the body of an element has its own
         pub start_tree_is : IsGoodTree n g.start → IsTreeOf r (main_start r) (line_tree_of g.start)

@@ -22,7 +22,8 @@ use Rattle.rnc_print_laws.proofs.SimpleForms.GoodGrammars.{IsGoodData, IsGoodTre
 use Rattle.rnc_print_laws.proofs.Lines.ItemNames.{names_apart}
 use Rattle.rnc_print_laws.proofs.Lines.LinesFound.{AreItemsNew, not_again}
 use Rattle.rnc_print_laws.proofs.SimpleForms.LineTrees.{plain_datatype}
-use Rattle.rnc_print_laws.proofs.Lines.ListedLines.{AreAmong, among_left, among_right, start_among, line_among, each_once, each_item}
+use Rattle.rnc_print_laws.proofs.Lines.ListedLines.{AreAmong, among_left, start_among, line_among, each_once, each_item}
+use Rattle.rng_load.proofs.NameLists.{in_right}
 
 among_map : {A B : Type 0} (f : A → B) (xs : List A) (y : B) → Among y (map f xs) → (x : A) × Among x xs × (y ≡ f x)
 among_map f [] y a = elim a [ ]
@@ -158,7 +159,7 @@ module _ (g : Grammar) (items : List PrintedItem) (good : IsGoodGrammar g) (numb
   in_tree_line (s_one_or_more a) w h m q (written.in_one_or_more i) = in_reference a h m q i
   in_tree_line (s_joined k a b) w h m q written.itself = tt
   in_tree_line (s_joined k a b) w h m q (written.in_first i) = in_reference a h.0 (λ j c. m j (among_left (named_item b) c)) q i
-  in_tree_line (s_joined k a b) w h m q (written.in_second i) = in_reference b h.1.0 (λ j c. m j (among_right (named_item a) c)) q i
+  in_tree_line (s_joined k a b) w h m q (written.in_second i) = in_reference b h.1.0 (λ j c. m j (in_right (named_item a) c)) q i
   in_tree_line (s_joined k a b) w h m q (written.in_another i) = elim i [ ]
 
   in_element_line : (k : ℕ) → k < n → AreAmong items (mentions g (element k)) → (q : Pattern) → IsWrittenIn q (item_pattern g items (element k)) → Asked q

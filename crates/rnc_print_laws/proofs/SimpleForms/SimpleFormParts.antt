@@ -23,10 +23,10 @@ use Rattle.rng_model.specs.schema.Unfolding as unfolding_of
 use Rattle.rng_model.specs.schema.Unfolding.{Leaf, to_element, outside, aim, Unfolds, UnfoldAll, IsTreeOf, IsBodyOf, IsReachedBySimpleForms, from_simple_start}
 use Rattle.rng_model.specs.schema.Unfolding.{from_simple_body}
 
-first : {A B : Type 0} → A × B → A
+pub first : {A B : Type 0} → A × B → A
 first p = p.0
 
-second : {A B : Type 0} → A × B → B
+pub second : {A B : Type 0} → A × B → B
 second p = p.1
 
 -- ---- the conditions on the name classes of attributes, on datatypes, and on values

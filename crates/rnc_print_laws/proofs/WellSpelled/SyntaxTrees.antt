@@ -23,12 +23,7 @@ use Rattle.rnc_print_laws.proofs.WellSpelled.RoomForBrackets.{Keeps, both, in_br
 use Rattle.rnc_print_laws.proofs.WellSpelled.RoomForBrackets.{past_ns}
 use Rattle.rnc_print_laws.proofs.WellSpelled.RoomForBrackets.{past_segment, past_word, IsWellSpelledName, past_type, past_method, past_connector, past_sign}
 use Rattle.rnc_print_laws.proofs.WellSpelled.RoomForBrackets.{past_other}
-
-first : {A B : Type 0} → A × B → A
-first p = p.0
-
-second : {A B : Type 0} → A × B → B
-second p = p.1
+use Rattle.rnc_print_laws.proofs.SimpleForms.SimpleFormParts.{first, second}
 
 -- ---- name classes
 

@@ -17,13 +17,13 @@ use Rattle.rnc_model.specs.loading.Mentions.{MentionedFile, mention_of, mentions
 use Rattle.rnc_model.specs.loading.Mentions.{of_start, of_define, of_div, of_braces, of_file}
 use Rattle.std.proofs.lemmas.List.{map-append, take_all, take-append-le, length-map}
 use Rattle.std.proofs.lemmas.Option.{same_Some}
-use Rattle.rng_model.proofs.Places.{ends_before}
+use Rattle.rng_model.proofs.Places.{ends_before, at_among}
 use Rattle.rng_load.specs.plain.ComponentNames.{Names, gather, gather_component, gather_if, HasIt, no_names}
 use Rattle.rnc_model.specs.loading.Loading.{TakenFiles, with_name, tree_in, hrefs_of}
 use Rattle.rnc_model.specs.loading.FileGrammars.{grammar_if, grammar_in}
 use Rattle.rnc_model.specs.loading.SchemaFile.{FileName}
 use Rattle.rng_load.proofs.Overriding.MentionedNames.{tree_found}
-use Rattle.rng_load.proofs.NameLists.{any_in, in_any, from_map, false_true, in_cons, in_none, in_first, in_left, in_right, in_at, none_twice, no_more}
+use Rattle.rng_load.proofs.NameLists.{any_in, in_any, from_map, false_true, in_cons, in_none, in_first, in_left, in_right, none_twice, no_more}
 use Rattle.rng_load.proofs.LoadOrder.TakenFiles.{kept_name, added_name, name_origin, name_grows, name_differs}
 use Rattle.rng_load.proofs.LoadOrder.NameSets.{any_seen}
 use Rattle.rng_load.proofs.Patterns.PlainReading.{grammar_mentions}
@@ -305,10 +305,10 @@ module _ (read : TakenFiles) where
               (gather all gcs);
         })
       ];
-      names = λ y h. elim (names_sound gcs all y h) [ inl n ↦ g.names y n | inr n ↦ g.files f (in_at all.included looked at) gcs is y n ];
+      names = λ y h. elim (names_sound gcs all y h) [ inl n ↦ g.names y n | inr n ↦ g.files f (at_among all.included looked _ at) gcs is y n ];
       files = λ h a. elim (files_sound gcs all h a) [
         | inl n ↦ g.files h n
-        | inr v ↦ λ hcs i y n. g.files f (in_at all.included looked at) gcs is y
+        | inr v ↦ λ hcs i y n. g.files f (at_among all.included looked _ at) gcs is y
             (v hcs i y n)
       ];
       differ = files_differ gcs all g.differ;

@@ -7,7 +7,7 @@ use Rattle.std.proofs.lemmas.List.Elements.{Contains-push_cases}
 use Rattle.std.proofs.lemmas.List.Sums.{fold_push}
 use Rattle.std.proofs.lemmas.Option.{slice_get_within, get_or_from_slice_get, none-some}
 use Rattle.rng_model.proofs.Members.{not_in_none, one_or_none}
-use Rattle.rng_model.proofs.Places.{before_or_at_end, front_stays, contains_at, among_at, in_front}
+use Rattle.rng_model.proofs.Places.{before_or_at_end, front_stays, contains_at, among_at, in_front, at_among}
 use Rattle.rng_model.specs.names.Lists.{HasTwice, at_first, later}
 use Rattle.rng_model.specs.simple.Tree.{Tree}
 use Rattle.rng_model.specs.schema.Patterns.{Point, pattern_tree}
@@ -22,7 +22,7 @@ use Rattle.rng_simple.specs.plain.ReadySchema.{IsReady}
 use Rattle.rng_simple.specs.plain.ResolvedElements.{elements_of, with_elements_of}
 use Rattle.rng_simple.specs.plain.ResolvedBody.{resolved_body}
 use Rattle.rng_simple.specs.plain.Resolving.{Numbering}
-use Rattle.rng_load.proofs.NameLists.{in_at, no_more}
+use Rattle.rng_load.proofs.NameLists.{no_more}
 use Rattle.rng_simple.proofs.NumberedGraphs.GraphTables.{definition_same}
 use Rattle.rng_simple.proofs.NumberedGraphs.Graphs.{found}
 use Rattle.rng_simple.proofs.ListParts.{map_at}
@@ -177,6 +177,6 @@ fewer s ready t table same v bodies is =
     let k = among_at i in
     let a = ready.bodies d (is.numbering.met_definitions d (contains_at v.definitions k.0 d k.1)) in
     elim (asked d t.definitions) [
-      | is_there h e ↦ in_at t.definitions (number_of t.definitions d) e
+      | is_there h e ↦ at_among t.definitions (number_of t.definitions d) _ e
       | is_new h e n ↦ absurd (has_components s d a.0 a.1 (sym (same d) ∙ out_of_range t.components (number_of t.definitions d) (omega (arith, e, table))))
     ])

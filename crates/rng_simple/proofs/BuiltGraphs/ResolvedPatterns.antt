@@ -25,6 +25,7 @@ use Rattle.rng_simple.specs.plain.Graph.{Spot, IsSpotBelow, IsResolved, ArePairw
 use Rattle.rng_simple.specs.plain.Met.{Met, met_in_element}
 use Rattle.rng_simple.specs.plain.ResolvedElements.{with_elements, with_all_elements}
 use Rattle.rng_simple.specs.plain.Resolving.{Numbering, Resolved, resolve, resolve_all, looked_up, looked_up_outside, with_definition, with_element}
+use Rattle.rng_simple.proofs.LoopsAndDepths.PatternPoints.{only_leaf}
 use Rattle.rng_simple.proofs.NumberedGraphs.GraphTables.{definition_same}
 use Rattle.rng_simple.proofs.BuiltGraphs.GrowingGraphs.{resolved_more}
 
@@ -162,9 +163,6 @@ pub record AreAfter (s : Schema) (x : Place) (ls : List Leaf) (v : Numbering) (t
   pub numbering : IsNumbering s ks r.1
   pub same : all_renamed (aim s x) ts ≡ all_renamed (aim_at r.1.definitions ks) r.0
   pub below : (p : Spot) → LeafAmong p r.0 → IsSpotBelow (length r.1.definitions) (length ks) p
-
-only_leaf : {L : Type 0} (P : L → Type 0) {q : L} → P q → (p : L) → LeafIn p (leaf q) → P p
-only_leaf P h p at.here = h
 
 module _ (s : Schema) (x : Place) where
   -- ---- one kind of pattern after another

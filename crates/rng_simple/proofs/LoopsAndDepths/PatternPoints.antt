@@ -18,6 +18,10 @@ pub bound : {A B C : Type 0} → (A → C ⊎ B) → A ⊎ B → C ⊎ B
 bound f (inl a) = f a
 bound f (inr b) = inr b
 
+-- a leaf has no other leaf
+pub only_leaf : {L : Type 0} (P : L → Type 0) {q : L} → P q → (p : L) → LeafIn p (leaf q) → P p
+only_leaf P h p at.here = h
+
 -- a pattern has a tree if each of its points has one
 module _ (s : Schema) (x : Place) (B : Type 0) where
   mutual

@@ -16,20 +16,17 @@ use Rattle.rng_simple.specs.plain.Met.{Met, IsSettled, IsOrder, none_yet, and_th
 use Rattle.rng_model.proofs.Unfolding.{MentionsSome, none_of_stuck}
 use Rattle.rng_model.proofs.Options.{one_value}
 use Rattle.rng_simple.proofs.LoopsAndDepths.OrderAndRest.{IsSplit}
-use Rattle.rng_simple.proofs.LoopsAndDepths.PatternPoints.{mapped, bound}
+use Rattle.rng_simple.proofs.LoopsAndDepths.PatternPoints.{mapped, bound, only_leaf}
 use Rattle.rng_simple.proofs.LoopsAndDepths.LoopsOrOrder.{Covers, order_trees, breaks, leading_is_stuck}
 
 -- either all leaves have one property, or one leaf has the other
 module _ {L : Type 0} (P : L → Type 0) (Q : Type 0) where
-  only : (m : L) → P m → (l : L) → LeafIn l (leaf m) → P l
-  only m p l at.here = p
-
   mutual
     pub leaves_or : (a : Tree L) → ((l : L) → LeafIn l a → P l ⊎ Q) → ((l : L) → LeafIn l a → P l) ⊎ Q
     leaves_or not_allowed f = inl (λ l i. elim i [ ])
     leaves_or empty f = inl (λ l i. elim i [ ])
     leaves_or text f = inl (λ l i. elim i [ ])
-    leaves_or (leaf m) f = mapped (λ p. only m p) (f m at.here)
+    leaves_or (leaf m) f = mapped (λ p. only_leaf P p) (f m at.here)
     leaves_or (attribute c a) f = mapped (λ p l i. elim i [ at.of_attribute j ↦ p l j ]) (leaves_or a (λ l i. f l (at.of_attribute i)))
     leaves_or (list a) f = mapped (λ p l i. elim i [ at.of_list j ↦ p l j ]) (leaves_or a (λ l i. f l (at.of_list i)))
     leaves_or (data_of d) f = inl (λ l i. elim i [ ])
