@@ -15,9 +15,9 @@ bind_bind (Ok x) f g = refl
 bind_bind (Err e) f g = refl
 
 -- nothing before
-pub with_front-nil : {A : Type 0} (r : Outcome (List A)) → with_front [] r ≡ r
-with_front-nil (Ok x) = refl
-with_front-nil (Err e) = refl
+pub nothing_before : {A : Type 0} (r : Outcome (List A)) → with_front [] r ≡ r
+nothing_before (Ok x) = refl
+nothing_before (Err e) = refl
 
 module _ {A : Type 0} (next : List Lexeme → Option (List Lexeme)) (item : List Lexeme → Outcome A) where
   pub opened : (k : ℕ) (ts us : List Lexeme) → next ts ≡ Some us → many_with next item (suc k) ts ≡ (item us >>= λ x. many_with next item k x.1
@@ -39,7 +39,7 @@ pub record Goes {A : Type 0} (next : List Lexeme → Option (List Lexeme)) (item
 
 module _ {A : Type 0} (next : List Lexeme → Option (List Lexeme)) (item : List Lexeme → Outcome A) where
   pub begins : (ts : List Lexeme) → Goes next item [] ts (many next item ts)
-  begins ts = record { most = length ts; enough = omega arith; whole = with_front-nil (many_with next item (length ts) ts) }
+  begins ts = record { most = length ts; enough = omega arith; whole = nothing_before (many_with next item (length ts) ts) }
 
   pub begins_with : (front : List A) (ts : List Lexeme) → Goes next item front ts (with_front front (many next item ts))
   begins_with front ts = record { most = length ts; enough = omega arith; whole = refl }

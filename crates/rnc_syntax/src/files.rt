@@ -161,7 +161,7 @@ impl Reader {
     }
 
     /// Reads the body of a file.
-    #[tactic(auto, using(crate::proofs::JoinedRest::nothing_before), unfolding(crate::specs::plain::Productions::body_with, crate::specs::plain::Productions::bare_body_with))]
+    #[tactic(auto, using(crate::proofs::ReadItems::nothing_before), unfolding(crate::specs::plain::Productions::body_with, crate::specs::plain::Productions::bare_body_with))]
     fn body<'t, 'a>(
         self,
         levels: u8,

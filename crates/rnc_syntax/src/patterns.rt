@@ -57,7 +57,7 @@ impl Reader {
 
     /// Reads `"{" content* "}"` or `"{" over* "}"` into this list, which is empty.
     #[cycle(patterns)]
-    #[tactic(auto, using(crate::proofs::InsideBrackets::components_inside, crate::proofs::JoinedRest::nothing_before), unfolding(crate::specs::plain::Productions::contents_with, crate::specs::plain::Productions::in_braces_at))]
+    #[tactic(auto, using(crate::proofs::InsideBrackets::components_inside, crate::proofs::ReadItems::nothing_before), unfolding(crate::specs::plain::Productions::contents_with, crate::specs::plain::Productions::in_braces_at))]
     fn contents<'t, 'a>(
         self,
         levels: u8,

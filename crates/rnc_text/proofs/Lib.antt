@@ -15,6 +15,6 @@ mod FoundPieces
 mod LongestPiece
 mod OneCut
 pub mod MarksCut
-mod MarksDecoded
+pub mod MarksDecoded
 pub mod MarkScalars
 mod AsciiRuns

@@ -36,7 +36,6 @@ use Rattle.rng_deriv_ways.specs.declared.way.Candidates.{Candidates}
 use Rattle.rng_deriv_ways.specs.declared.way.Candidates.TheVariants as candidates
 use Rattle.rng_deriv_ways.specs.declared.way.Kind.{Kind}
 use Rattle.rng_deriv_ways.specs.declared.way.Kind.TheVariants as kinds
-use Rattle.rng_names.proofs.KeyLookups.{at_end}
 
 module _ (q : Name) where
   -- some attribute has this name
@@ -167,6 +166,14 @@ other_none t f (pattern.Element e) h i j k l q has = has
 other_none t f (pattern.Attribute a) h i j k l q has = l a refl
 other_none t f (pattern.Data d) h i j k l q has = string_none (found_string t (slice_get t.patterns d.0)) q has
 
+-- the elements of a list with one more at the end
+pub pushed_cases : {A : Type 0} (xs : List A) (x : A) (k : ℕ) (s : A) → slice_get (xs ++ x ∷ []) k ≡ Some s
+    → (slice_get xs k ≡ Some s) ⊎ ((k ≡ length xs) × (x ≡ s))
+pushed_cases [] x zero s at = inr (refl, cc)
+pushed_cases [] x (suc k) s at = absurd (cc)
+pushed_cases (y ∷ xs) x zero s at = inl at
+pushed_cases (y ∷ xs) x (suc k) s at = ⊎_elim (λ a. inl a) (λ b. inr (ap suc b.0, b.1)) (pushed_cases xs x k s at)
+
 -- one more span
 pub span_added : (t : Table) (ns : List Node) (spans : List Span) (n : ℕ) (span : Span) → n < length ns → n ≡ length spans
     → AreSpansOf t ns spans → IsSpanOf t (tree_of t ns n) span → AreSpansOf t ns (spans ++ span ∷ [])
@@ -176,7 +183,7 @@ span_added t ns spans n span inside last all own = λ k s at. ⊎_elim
       subst (λ i. i < length ns) (last ∙ sym new.0) inside,
       subst (λ (x : Span). IsSpanOf t (tree_of t ns k) x) new.1 (subst (λ i. IsSpanOf t (tree_of t ns i) span) (last ∙ sym new.0) own),
     ))
-    (at_end spans span k s at)
+    (pushed_cases spans span k s at)
 
 -- ---- by key
 

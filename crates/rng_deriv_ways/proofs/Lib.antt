@@ -1,7 +1,7 @@
 pub mod WayLists
 pub mod KeptRestrictions
 mod NumberedWays
-mod JoinedWays
+pub mod JoinedWays
 pub mod AddedWays
 pub mod PatternNodes
 pub mod GrammarRows

@@ -9,8 +9,8 @@ use Rattle.rng_model.specs.declared.simple.ElementId.{ElementId}
 use Rattle.rng_model.specs.declared.simple.PatternId.{PatternId}
 use Rattle.rng_names.specs.plain.Holding.{holds}
 use Rattle.rng_names.proofs.NameViews.{name_class_is}
-use Rattle.rng_names.proofs.KeyLookups.{at_end}
 use Rattle.rng_deriv_ways.specs.plain.Alike.{AreAlike, IsAlike}
+use Rattle.rng_deriv_ways.proofs.AttributeTakers.{pushed_cases}
 use Rattle.rng_deriv_ways.proofs.GrammarRows.{body_there, class_there}
 
 pub named_alike : (t : Table) (e f : ℕ) (n m : declared.Name) (b : PatternId) → slice_get t.elements e ≡ Some (classes.Name n, b)
@@ -30,4 +30,4 @@ alike_itself t e = record { names = λ q. refl; bodies = refl }
 pub alike_more : (t : Table) (all : List ElementId) (n : ℕ) (first : ElementId) → length all ≡ n → AreAlike t all → IsAlike t n first.0
     → AreAlike t (all ++ first ∷ [])
 alike_more t all n first count alike own e f h = ⊎_elim (λ a. alike e f a)
-    (λ b. subst (λ k. IsAlike t k f.0) (sym (b.0 ∙ count)) (subst (λ (g : ElementId). IsAlike t n g.0) b.1 own)) (at_end all first e f h)
+    (λ b. subst (λ k. IsAlike t k f.0) (sym (b.0 ∙ count)) (subst (λ (g : ElementId). IsAlike t n g.0) b.1 own)) (pushed_cases all first e f h)
