@@ -14,7 +14,7 @@ use Rattle.rng_deriv_ways.specs.declared.datatypes.Datatypes.{Datatypes}
 module _ (t : Table) (datatypes : Datatypes) where
   -- the meanings of the patterns below this position are kept
   pub record AreKeptBelow (n : ℕ) : Type 0 where
-    pub kept : (k : ℕ) (row : Simple) → k < n → slice_get t.patterns k ≡ Some row → meaning_at datatypes k ≡ meaning_named_by row
+    pub kept : (k : ℕ) (row : Simple) → k < n → slice_get t.patterns k ≡ Some row → meaning_at datatypes k ≡ meaning_named_by t.types row
     pub count : position_count datatypes ≡ n
 
   pub all_kept : (n : ℕ) → slice_get t.patterns n ≡ None → AreKeptBelow n → AreDatatypesOf t datatypes
@@ -24,15 +24,15 @@ module _ (t : Table) (datatypes : Datatypes) where
       below.kept k row (omega (arith, inside, past)) at
 
   module _ (all : AreDatatypesOf t datatypes) (k : ℕ) (row : Simple) (at : slice_get t.patterns k ≡ Some row) (s : List ℕ) where
-    pub allowed_there : known_allows (meaning_at datatypes k) s ≡ known_allows (meaning_named_by row) s
+    pub allowed_there : known_allows (meaning_at datatypes k) s ≡ known_allows (meaning_named_by t.types row) s
     allowed_there = ap (λ o. known_allows o s) (all k row at)
 
-    pub equal_there : (v : List ℕ) → known_equates (meaning_at datatypes k) v s ≡ known_equates (meaning_named_by row) v s
+    pub equal_there : (v : List ℕ) → known_equates (meaning_at datatypes k) v s ≡ known_equates (meaning_named_by t.types row) v s
     equal_there v = ap (λ o. known_equates o v s) (all k row at)
 
 -- one more pattern
 module _ (t : Table) (old new : Datatypes) (n : ℕ) (row : Simple) where
-  pub one_more_kept : slice_get t.patterns n ≡ Some row → position_count new ≡ position_count old + 1 → meaning_at new (position_count old) ≡ meaning_named_by row
+  pub one_more_kept : slice_get t.patterns n ≡ Some row → position_count new ≡ position_count old + 1 → meaning_at new (position_count old) ≡ meaning_named_by t.types row
       → ((k : ℕ) → k < position_count old → meaning_at new k ≡ meaning_at old k) → AreKeptBelow t old n → AreKeptBelow t new (n + 1)
   one_more_kept at more own others before = record {
     kept = λ k other less there. ⊎_elim
@@ -40,7 +40,7 @@ module _ (t : Table) (old new : Datatypes) (n : ℕ) (row : Simple) where
         (λ above.
         let same : k ≡ n = omega (arith, less, above) in
         let is : row ≡ other = same_Some _ _ (sym at ∙ subst (λ k. slice_get t.patterns k ≡ Some other) same there) in
-        subst (λ k. meaning_at new k ≡ meaning_named_by other) (before.count ∙ sym same) (own ∙ ap meaning_named_by is))
+        subst (λ k. meaning_at new k ≡ meaning_named_by t.types other) (before.count ∙ sym same) (own ∙ ap (meaning_named_by t.types) is))
         (cases_lt k n);
     count = omega (arith, more, before.count);
   }

@@ -1,23 +1,26 @@
 // The datatypes that a grammar names.
 ghost use Rattle.std.specs.Prelude.{◌≡◌, ◌+◌, ◌<◌, ℕ, IfOk, OnOk, Some, option_map};
-ghost use Rattle.rng_model.specs.datatypes.Datatypes.{known_allows, known_equates, meaning_of};
-ghost use Rattle.rng_types.specs.views.View.{meaning_by, datatype_at};
+ghost use Rattle.rng_model.specs.datatypes.Datatypes.{known_allows, known_equates};
+ghost use Rattle.rng_model.specs.datatypes.DatatypeViews.{datatype_of};
+ghost use Rattle.rng_model.specs.xsd.TypeSets.{meaning_in};
+ghost use Rattle.xsd_types.specs.views.View.{known_meaning};
 ghost use Rattle.rng_deriv_ways.specs.views.Datatypes.{AreDatatypesOf, position_count, meaning_at, meaning_kept, meaning_named_by};
 
-use rng_model::{OutOfMemory, PatternId, Simple, SimpleGrammar};
-use rng_types::{Builtin, Datatype as _};
+use rng_model::{Datatype, OutOfMemory, PatternId, Simple, SimpleGrammar, TypeSet};
+use rng_types::Datatype as _;
 use std::alloc::Global;
+use xsd_types::KnownDatatype;
 
-/// For each position of a grammar whose pattern names a known datatype, this datatype. So each is looked up by its
+/// For each position of a grammar whose pattern names a datatype of its set, this datatype. So each is looked up by its
 /// library and name only once.
 #[derive(Drop)]
 pub struct Datatypes {
-    by_position: Vec<Option<Box<Builtin>>>,
+    by_position: Vec<Option<Box<KnownDatatype>>>,
 }
 
 impl Datatypes {
-    /// Creates the map of a grammar. Fails only when out of memory. The cost is one look-up for each data and each
-    /// value.
+    /// Creates the map of a grammar, with the datatypes of its set. Fails only when out of memory. The cost is one look-up
+    /// for each data and each value.
     pub fn new(alloc: Global, grammar: &SimpleGrammar) -> Result<Self, OutOfMemory>
         ensures { IfOk result (AreDatatypesOf grammar.now) }
     {
@@ -28,28 +31,29 @@ impl Datatypes {
             let Some(pattern) = grammar.pattern(PatternId(position)) else {
                 return Ok(datatypes);
             };
-            datatypes.add(alloc, pattern)?;
+            datatypes.add(alloc, grammar.types(), pattern)?;
         }
         Err(OutOfMemory)
     }
 
     /// Adds what is kept at the next position, whose pattern this is. Fails only when out of memory.
-    fn add(&mut self, alloc: Global, pattern: &Simple) -> Result<(), OutOfMemory>
+    fn add(&mut self, alloc: Global, types: TypeSet, pattern: &Simple) -> Result<(), OutOfMemory>
         ensures count { OnOk result (position_count self.new ≡ position_count self.old + 1) }
-        ensures own { OnOk result (meaning_at self.new (position_count self.old) ≡ meaning_named_by pattern.now) }
+        ensures own { OnOk result (meaning_at self.new (position_count self.old) ≡ meaning_named_by types pattern.now) }
         ensures others { OnOk result ((k : ℕ) → k < position_count self.old → meaning_at self.new k ≡ meaning_at self.old k) }
     {
-        let builtin = boxed(alloc, named(pattern))?;
-        self.by_position.push(builtin)?;
+        let datatype = named(alloc, types, pattern)?;
+        let datatype = boxed(alloc, datatype)?;
+        self.by_position.push(datatype)?;
         Ok(())
     }
 
     /// Returns the datatype that the pattern at a position names, if it names a known one. Allocates nothing.
-    pub fn at(&self, position: PatternId) -> Option<&Builtin>
-        ensures { option_map (λ b. meaning_by b.now) result ≡ meaning_at self.now position.0 }
+    pub fn at(&self, position: PatternId) -> Option<&KnownDatatype>
+        ensures { option_map (λ d. known_meaning d.now) result ≡ meaning_at self.now position.0 }
     {
         match self.by_position.get(position.0) {
-            Some(Some(builtin)) => Some(builtin),
+            Some(Some(datatype)) => Some(datatype),
             _ => None,
         }
     }
@@ -61,7 +65,7 @@ impl Datatypes {
         ensures { result ≡ known_allows (meaning_at self.now position.0) text.now }
     {
         match self.at(position) {
-            Some(builtin) => builtin.allows(text),
+            Some(datatype) => datatype.allows(text),
             None => false,
         }
     }
@@ -74,43 +78,60 @@ impl Datatypes {
         ensures { result ≡ known_equates (meaning_at self.now position.0) value.now text.now }
     {
         match self.at(position) {
-            Some(builtin) => builtin.equal(value, text),
+            Some(datatype) => datatype.equal(value, text),
             None => false,
         }
     }
 }
 
 /// Puts a datatype into a box, if there is one. Fails only when out of memory.
-fn boxed(alloc: Global, builtin: Option<Builtin>) -> Result<Option<Box<Builtin>>, OutOfMemory>
-    ensures { IfOk result (λ boxed. meaning_kept (Some boxed) ≡ option_map meaning_by builtin) }
+fn boxed(
+    alloc: Global,
+    datatype: Option<KnownDatatype>,
+) -> Result<Option<Box<KnownDatatype>>, OutOfMemory>
+    ensures { IfOk result (λ boxed. meaning_kept (Some boxed) ≡ option_map known_meaning datatype) }
 {
-    match builtin {
-        Some(builtin) => Ok(Some(Box::new(alloc, builtin)?)),
+    match datatype {
+        Some(datatype) => Ok(Some(Box::new(alloc, datatype)?)),
         None => Ok(None),
     }
 }
 
-/// Returns the datatype that a pattern names, if it names a known one.
-fn named(pattern: &Simple) -> Option<Builtin>
-    ensures { option_map meaning_by result ≡ meaning_named_by pattern.now }
+/// Returns the datatype of a set that a pattern names, if it names one. Fails only when out of memory.
+fn named(
+    alloc: Global,
+    types: TypeSet,
+    pattern: &Simple,
+) -> Result<Option<KnownDatatype>, OutOfMemory>
+    ensures { IfOk result (λ found. option_map known_meaning found ≡ meaning_named_by types pattern.now) }
 {
     match pattern {
-        Simple::Data(datatype) | Simple::DataExcept(datatype, _) => found(
-            datatype.library.as_str(),
-            datatype.name.as_str(),
-            &datatype.parameters,
+        Simple::Data(datatype) => found(alloc, types, datatype),
+        Simple::DataExcept(datatype, _) => found(alloc, types, datatype),
+        Simple::Value(value) => KnownDatatype::find(
+            alloc,
+            types,
+            value.library.as_str(),
+            value.name.as_str(),
+            &[],
         ),
-        Simple::Value(value) => found(value.library.as_str(), value.name.as_str(), &[]),
-        _ => None,
+        _ => Ok(None),
     }
 }
 
-/// Returns the datatype of this library and name with these parameters, if it is known.
-fn found(library: &str, name: &str, parameters: &[(String, String)]) -> Option<Builtin>
-    ensures { option_map meaning_by result ≡ meaning_of (datatype_at library.now name.now parameters.now) }
+/// Returns a datatype of a grammar, if the set has it. Fails only when out of memory.
+fn found(
+    alloc: Global,
+    types: TypeSet,
+    datatype: &Datatype,
+) -> Result<Option<KnownDatatype>, OutOfMemory>
+    ensures { IfOk result (λ found. option_map known_meaning found ≡ meaning_in types (datatype_of datatype.now)) }
 {
-    match Builtin::find(library, name, parameters) {
-        Ok(builtin) => Some(builtin),
-        Err(_) => None,
-    }
+    KnownDatatype::find(
+        alloc,
+        types,
+        datatype.library.as_str(),
+        datatype.name.as_str(),
+        &datatype.parameters,
+    )
 }

@@ -9,6 +9,7 @@
 mod alike;
 mod by_key;
 mod closing;
+mod context;
 mod datatypes;
 mod deep_ways;
 mod fewer_ways;
@@ -26,6 +27,7 @@ mod way;
 mod ways;
 
 pub use closing::close;
+pub use context::Context;
 pub use datatypes::Datatypes;
 pub use known::{Known, KnownByKey, KnownWays, LastByPattern, LastWays, known_ways, last_ways};
 pub use leaf_ways::{attribute_ways, text_ways};

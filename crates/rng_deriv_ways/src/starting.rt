@@ -9,74 +9,70 @@ ghost use Rattle.rng_deriv_ways.specs.plain.Ways.{AreInside};
 ghost use Rattle.rng_deriv_ways.specs.plain.Starting.{AreBodies, AreStarts, IsBodyOf, IsReady};
 
 use crate::by_key::ways_by_key;
+use crate::context::Context;
 use crate::known::Known;
 use crate::leaves::element_takes;
 use crate::way::{Candidates, Kind, LeafWay, Search, Ways};
 use rng_deriv_table::{Pattern, PatternNumber, PatternTable};
-use rng_model::{Name, OutOfMemory, PatternId, SimpleGrammar};
-use rng_names::{NameKey, NameKeys};
+use rng_model::{Name, OutOfMemory, PatternId};
+use rng_names::NameKey;
 use smallvec::SmallVec;
-use std::alloc::Global;
 
 /// Returns the bodies by which a pattern takes an element with the representative name of a key, each with what is left
 /// after the element.
 ///
-/// RELAX NG Specification, section 6.2.7. `numbers` are those of the grammar's patterns, and `keys` those of its names.
-/// Fails only when out of memory. The ways of the pattern's parts are kept in `known`.
+/// RELAX NG Specification, section 6.2.7. Fails only when out of memory. The ways of the pattern's parts are kept in
+/// `known`.
 pub fn start(
-    alloc: Global,
-    grammar: &SimpleGrammar,
-    keys: &NameKeys,
+    context: &Context,
     table: &mut PatternTable,
     known: &mut Known,
-    numbers: &[PatternNumber],
     number: PatternNumber,
     key: NameKey,
 ) -> Result<Ways, OutOfMemory>
     requires inside { number.0 < length table.old }
-    requires key { key.0 < length keys.now.names }
-    requires ready { IsReady grammar.now table.old numbers.now }
-    requires known { AreAllKnown grammar.now keys.now table.old known.old }
+    requires key { key.0 < length context.now.keys.now.names }
+    requires ready { IsReady context.now.grammar.now table.old context.now.numbers.now }
+    requires known { AreAllKnown context.now.grammar.now context.now.keys.now table.old known.old }
     ensures longer { OnOk result (Longer table.old table.new) }
-    ensures known { OnOk result (AreAllKnown grammar.now keys.now table.new known.new) }
-    ensures starts { IfOk result (λ ws. AreStarts grammar.now table.new numbers.now (tree_of grammar.now table.old number.0)
-        (name_at keys.now key.0) ws.items) }
+    ensures known { OnOk result (AreAllKnown context.now.grammar.now context.now.keys.now table.new known.new) }
+    ensures starts { IfOk result (λ ws. AreStarts context.now.grammar.now table.new context.now.numbers.now
+        (tree_of context.now.grammar.now table.old number.0) (name_at context.now.keys.now key.0) ws.items) }
 {
-    known.skips.add(alloc, table)?;
-    let name = keys.name(key);
+    known.skips.add(context.alloc, table)?;
+    let name = context.keys.name(key);
     let takers = known.takers.of(key);
     let search = Search {
-        alloc,
-        grammar,
+        alloc: context.alloc,
+        grammar: context.grammar,
         candidates: Candidates::Elements(takers, known.alike.as_slice(), &known.skips),
         kind: Kind::Element(name),
     };
     let ways = ways_by_key(&search, table, &mut known.elements, key, number)?;
-    let mut starts = SmallVec::new(alloc);
-    add_starts(grammar, table, numbers, name, ways.as_slice(), &mut starts)?;
+    let mut starts = SmallVec::new(context.alloc);
+    add_starts(context, table, name, ways.as_slice(), &mut starts)?;
     Ok(starts)
 }
 
 /// Returns the body of a leaf that takes an element with this name.
 fn body(
-    grammar: &SimpleGrammar,
+    context: &Context,
     table: &PatternTable,
-    numbers: &[PatternNumber],
     leaf: PatternNumber,
     name: &Name,
 ) -> Option<PatternNumber>
     requires inside { leaf.0 < length table.now }
-    requires ready { IsReady grammar.now table.now numbers.now }
-    ensures { IsBodyOf grammar.now table.now numbers.now (tree_of grammar.now table.now leaf.0) (name_of name.now) result }
+    requires ready { IsReady context.now.grammar.now table.now context.now.numbers.now }
+    ensures { IsBodyOf context.now.grammar.now table.now context.now.numbers.now (tree_of context.now.grammar.now table.now leaf.0) (name_of name.now) result }
 {
     let Pattern::Element(element) = table.pattern(leaf) else {
         return None;
     };
-    if !element_takes(grammar, *element, Kind::Element(name)) {
+    if !element_takes(context.grammar, *element, Kind::Element(name)) {
         return None;
     }
-    match grammar.element(*element) {
-        Some((_, body)) => Some(number_at(numbers, *body)),
+    match context.grammar.element(*element) {
+        Some((_, body)) => Some(number_at(context.numbers, *body)),
         None => None,
     }
 }
@@ -91,20 +87,19 @@ pub fn number_at(numbers: &[PatternNumber], position: PatternId) -> PatternNumbe
 
 /// Adds the bodies of the leaves that take an element with this name.
 fn add_starts(
-    grammar: &SimpleGrammar,
+    context: &Context,
     table: &PatternTable,
-    numbers: &[PatternNumber],
     name: &Name,
     ways: &[LeafWay],
     starts: &mut Ways,
 ) -> Result<(), OutOfMemory>
-    requires ready { IsReady grammar.now table.now numbers.now }
+    requires ready { IsReady context.now.grammar.now table.now context.now.numbers.now }
     requires ways { AreInside table.now ways.now }
     requires none { starts.old.items ≡ [] }
-    ensures starts { OnOk result (AreBodies grammar.now table.now numbers.now (name_of name.now) ways.now starts.new.items) }
+    ensures starts { OnOk result (AreBodies context.now.grammar.now table.now context.now.numbers.now (name_of name.now) ways.now starts.new.items) }
 {
     'ways: for way in ways {
-        let Some(body) = body(grammar, table, numbers, way.leaf, name) else {
+        let Some(body) = body(context, table, way.leaf, name) else {
             continue;
         };
         starts.push(LeafWay {

@@ -13,7 +13,7 @@ use Rattle.rng_deriv_ways.proofs.leaf_ways.attribute_ways.Goals as goal
 
 pub ways_by_key-requires-clause-candidates : goal.ways_by_key-requires-clause-candidates
 ways_by_key-requires-clause-candidates c =
-    let t = c.args.grammar.now in
+    let t = c.args.context.now.grammar.now in
     let q = name_of c.name.result.now in (
       λ k at. c.of-takers.ensures k (subst (λ key. IsTold c.args.known.now.attribute_takers key k) c.name.ensures.own
           (c.requires.known.attribute_takers k q at)),
@@ -31,8 +31,8 @@ is_kept-requires c =
 
 pub returns-then-not-is_kept-clause-known : goal.returns-then-not-is_kept-clause-known
 returns-then-not-is_kept-clause-known c =
-    let t = c.args.grammar.now in
-    let keys = c.args.keys.now in
+    let t = c.args.context.now.grammar.now in
+    let keys = c.args.context.now.keys.now in
     let old = c.args.table.now in
     let new = c.ways_by_key.new.table in
     let told = c.in_ok-ways.ensures in
@@ -55,8 +55,8 @@ returns-then-not-is_kept-clause-known c =
 
 pub returns-clause-known : goal.returns-clause-known
 returns-clause-known c =
-    let t = c.args.grammar.now in
-    let keys = c.args.keys.now in
+    let t = c.args.context.now.grammar.now in
+    let keys = c.args.context.now.keys.now in
     let old = c.args.table.now in
     let new = c.ways_by_key.new.table in
     let told = c.in_ok-ways.ensures in
@@ -85,26 +85,26 @@ returns-clause-known c =
 
 pub returns-then-not-is_kept-clause-ways : goal.returns-then-not-is_kept-clause-ways
 returns-then-not-is_kept-clause-ways c =
-    let t = c.args.grammar.now in
+    let t = c.args.context.now.grammar.now in
     let old = c.args.table.now in
     let new = c.ways_by_key.new.table in
     let n = c.args.number.0 in
     let told = c.in_ok-ways.ensures in
     let is = tree_stays t old new n told.longer c.requires.inside in
     subst (λ p. AreWaysOf t new (kinds.Attribute c.args.name) p c.in_ok-ways.ways.items) is
-    (ways_alike t c.args.keys.now c.requires.known.serve (name_of c.name.result.now) (name_of c.args.name.now) (c.name.ensures.own ∙ c.key-key.ensures.key)
+    (ways_alike t c.args.context.now.keys.now c.requires.known.serve (name_of c.name.result.now) (name_of c.args.name.now) (c.name.ensures.own ∙ c.key-key.ensures.key)
     new n c.in_ok-ways.ways.items c.name.result c.args.name refl refl
     (subst (λ p. AreWaysOf t new (kinds.Attribute c.name.result) p c.in_ok-ways.ways.items) (sym is) told.ways))
 
 pub returns-clause-ways : goal.returns-clause-ways
 returns-clause-ways c =
-    let t = c.args.grammar.now in
+    let t = c.args.context.now.grammar.now in
     let old = c.args.table.now in
     let new = c.ways_by_key.new.table in
     let n = c.args.number.0 in
     let told = c.in_ok-ways.ensures in
     let is = tree_stays t old new n told.longer c.requires.inside in
     subst (λ p. AreWaysOf t new (kinds.Attribute c.args.name) p c.in_ok-ways.ways.items) is
-    (ways_alike t c.args.keys.now c.requires.known.serve (name_of c.name.result.now) (name_of c.args.name.now) (c.name.ensures.own ∙ c.key-key.ensures.key)
+    (ways_alike t c.args.context.now.keys.now c.requires.known.serve (name_of c.name.result.now) (name_of c.args.name.now) (c.name.ensures.own ∙ c.key-key.ensures.key)
     new n c.in_ok-ways.ways.items c.name.result c.args.name refl refl
     (subst (λ p. AreWaysOf t new (kinds.Attribute c.name.result) p c.in_ok-ways.ways.items) (sym is) told.ways))

@@ -17,8 +17,8 @@ use Rattle.rng_deriv_ways.proofs.starting.start.Goals as goal
 
 pub ways_by_key-requires-clause-candidates : goal.ways_by_key-requires-clause-candidates
 ways_by_key-requires-clause-candidates c =
-    let t = c.args.grammar.now in
-    let keys = c.args.keys.now in
+    let t = c.args.context.now.grammar.now in
+    let keys = c.args.context.now.keys.now in
     let takers : AreOfKey t keys c.args.key.0 c.of-takers.result = λ e q is has.
     c.of-takers.ensures e (subst (λ k. IsTold c.args.known.now.takers k e) is (c.requires.known.takers e q has)) in
     let own = subst (λ q. key_of keys q ≡ c.args.key.0) c.name-name.ensures.name c.name-name.ensures.own in (
@@ -32,38 +32,38 @@ ways_by_key-requires-clause-known c = c.requires.known.elements c.args.key (kind
 
 pub add_starts-requires : goal.add_starts-requires
 add_starts-requires c = record {
-  ready = ready_longer c.args.grammar.now c.args.table.now c.ways_by_key.new.table c.args.numbers.now c.in_ok-ways.ensures.longer c.requires.ready;
+  ready = ready_longer c.args.context.now.grammar.now c.args.table.now c.ways_by_key.new.table c.args.context.now.numbers.now c.in_ok-ways.ensures.longer c.requires.ready;
   ways = subst (AreInside c.ways_by_key.new.table) (sym c.as_slice-2.ensures) c.in_ok-ways.ensures.ways.inside;
   none = c.new-starts.ensures.items;
 }
 
 pub returns-clause-starts : goal.returns-clause-starts
 returns-clause-starts c =
-    let t = c.args.grammar.now in
+    let t = c.args.context.now.grammar.now in
     let new = c.ways_by_key.new.table in
     let p = tree_of t c.args.table.now c.args.number.0 in
-    let q = name_at c.args.keys.now c.args.key.0 in
+    let q = name_at c.args.context.now.keys.now c.args.key.0 in
     let kind = kinds.Element c.name-name.result in
     let named = c.name-name.ensures.name in
     let told = c.in_ok-ways.ensures.ways in
-    starts_made t new c.args.numbers.now p q c.in_ok-ways.ways.items c.add_starts.new.starts.items
+    starts_made t new c.args.context.now.numbers.now p q c.in_ok-ways.ways.items c.add_starts.new.starts.items
     (element_law t new q p c.in_ok-ways.ways.items kind named told)
     (λ o. element_kept t new q p c.in_ok-ways.ways.items kind named told places.Content o)
-    (subst (λ (ws : List numbered.LeafWay). AreBodies t new c.args.numbers.now q ws c.add_starts.new.starts.items)
-    c.as_slice-2.ensures (subst (λ q. AreBodies t new c.args.numbers.now q c.as_slice-2.result.now c.add_starts.new.starts.items) c.name-name.ensures.name
+    (subst (λ (ws : List numbered.LeafWay). AreBodies t new c.args.context.now.numbers.now q ws c.add_starts.new.starts.items)
+    c.as_slice-2.ensures (subst (λ q. AreBodies t new c.args.context.now.numbers.now q c.as_slice-2.result.now c.add_starts.new.starts.items) c.name-name.ensures.name
     c.in_ok-add_starts.ensures.starts))
 
 pub returns-clause-known : goal.returns-clause-known
 returns-clause-known c =
-    let t = c.args.grammar.now in
+    let t = c.args.context.now.grammar.now in
     let old = c.args.table.now in
     let new = c.ways_by_key.new.table in
     let told = c.in_ok-ways.ensures in
-    let more = all_longer t c.args.keys.now old new told.longer c.args.known.now c.requires.known in
+    let more = all_longer t c.args.context.now.keys.now old new told.longer c.args.known.now c.requires.known in
     record {
       serve = more.serve;
       texts = more.texts;
-      elements = by_key_changed IsElementKind t c.args.keys.now old new told.longer c.args.known.now.elements c.requires.known.elements
+      elements = by_key_changed IsElementKind t c.args.context.now.keys.now old new told.longer c.args.known.now.elements c.requires.known.elements
           same_elements c.args.key (kinds.Element c.name-name.result) c.ways_by_key.new.known c.name-name.ensures.name told.known told.others;
       attributes = more.attributes;
       rests = more.rests;
