@@ -4,11 +4,11 @@ use Rattle.std.proofs.lemmas.List.Elements.{All-nil, All-push}
 use Rattle.rng_model.specs.simple.Grammar.{Grammar}
 use Rattle.rng_model.specs.simple.Table.{grammar_of}
 use Rattle.rng_model.specs.datatypes.Texts.{TextTests}
-use Rattle.rng_model.specs.datatypes.Datatypes.{text_tests}
 use Rattle.rng_model.specs.documents.PyxTrees.{Event, EventKind, a_start, a_string, an_end, Placed, text_at, element_at, events_of, IsPyxDocument}
 use Rattle.rng_model.specs.matching.GrammarMatching.{Reading, reading_of}
 use Rattle.rng_model.specs.matching.Outcomes.{FailsAt, IsValidByReading, KnowsName}
 use Rattle.rng_model.specs.restrictions.Restrictions.{BreaksNone}
+use Rattle.rng_model.specs.xsd.TypeSets.{tests_in}
 use Rattle.rng_deriv_laws.specs.plain.Events.{Matcher, kinds, new, run, step, is_valid}
 use Rattle.rng_deriv_laws.specs.plain.Laws.{reading}
 use Rattle.rng_deriv_laws.specs.plain.States.{accepts, is_never}
@@ -60,11 +60,11 @@ module _ (m : Matching) (es : List Event) (e : Event) (obeys : BreaksNone (gramm
     kind = e.kind;
     behind = [];
     parts = refl;
-    cannot = λ more. never_is_invalid (grammar_of m.grammar) obeys text_tests (es ++ e ∷ []) more (ap (λ p. is_never p.state) (sym next_is) ∙ never);
+    cannot = λ more. never_is_invalid (grammar_of m.grammar) obeys (tests_in m.grammar.types) (es ++ e ∷ []) more (ap (λ p. is_never p.state) (sym next_is) ∙ never);
     known = told.0;
   }
   tells_first false some told =
-      (All-push (λ e. KnowsName (grammar_of m.grammar) e.kind) es e told.0 (known_kind (grammar_of m.grammar) text_tests m.position e.kind some), inr some)
+      (All-push (λ e. KnowsName (grammar_of m.grammar) e.kind) es e told.0 (known_kind (grammar_of m.grammar) (tests_in m.grammar.types) m.position e.kind some), inr some)
 
   knows_on : (b : Bool) → Tells b m es → Knows (failing b m e next) (es ++ e ∷ [])
   knows_on true told = record { obeys = obeys; position = next_is; tells = fails_on (reading_of m.grammar) es e m.line told }
@@ -105,11 +105,11 @@ module _ (m : Matching) (bytes : List ℕ) (d : Placed) (is : IsPyxDocument byte
   accepted = ap (λ p. accepts p.state) k.position
 
   pub accepted_is_valid : accepts m.position.state ≡ true → IsValidByReading (reading_of m.grammar) d
-  accepted_is_valid h = (accepts_valid_documents (grammar_of m.grammar) k.obeys text_tests bytes d is).0 (sym accepted ∙ h)
+  accepted_is_valid h = (accepts_valid_documents (grammar_of m.grammar) k.obeys (tests_in m.grammar.types) bytes d is).0 (sym accepted ∙ h)
 
   not_valid : accepts m.position.state ≡ false → IsValidByReading (reading_of m.grammar) d → ⊥
   not_valid h v =
-      let valid = (accepts_valid_documents (grammar_of m.grammar) k.obeys text_tests bytes d is).1 v in
+      let valid = (accepts_valid_documents (grammar_of m.grammar) k.obeys (tests_in m.grammar.types) bytes d is).1 v in
       let same = accepted in
       absurd (cc)
 
@@ -123,7 +123,7 @@ module _ (m : Matching) (bytes : List ℕ) (d : Placed) (is : IsPyxDocument byte
   rejected_is_invalid h = (
     not_valid h,
     told m.has_failed k.tells
-        (ap (λ p. is_never p.state) k.position ∙ invalid_is_never (grammar_of m.grammar) k.obeys text_tests bytes d is (not_valid h)),
+        (ap (λ p. is_never p.state) k.position ∙ invalid_is_never (grammar_of m.grammar) k.obeys (tests_in m.grammar.types) bytes d is (not_valid h)),
   )
 
 -- ---- before the first event

@@ -86,7 +86,7 @@ fn takes<'a>(context: &Context<'a>, first: First, leaf: &Tree<'a>) -> Result<boo
     ensures { IfOk result (λ takes. takes ≡ takes_first (reading_of context.now.grammar.now) first.entry (tree_of leaf.now)) }
 {
     match first {
-        First::Piece(text) => Ok(takes_piece(context, leaf, text)),
+        First::Piece(text) => takes_piece(context, leaf, text),
         First::Text(text) => takes_text(context, leaf, text),
         First::Attribute(attr) => takes_attribute(context, leaf, attr),
     }
@@ -109,7 +109,7 @@ fn takes_text<'a>(context: &Context<'a>, leaf: &Tree<'a>, text: &str) -> Result<
         | Tree::DataExcept(_, _)
         | Tree::Value(_)
         | Tree::OneOrMore(_)
-        | Tree::Joined(_, _, _) => Ok(takes_piece(context, leaf, text)),
+        | Tree::Joined(_, _, _) => takes_piece(context, leaf, text),
     }
 }
 
