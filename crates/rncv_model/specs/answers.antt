@@ -2,3 +2,4 @@
 pub mod Answer
 pub mod Run
 pub mod Verdict
+pub mod VerdictWith
