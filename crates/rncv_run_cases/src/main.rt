@@ -1,4 +1,4 @@
-//! Compares runs for the rows of six files.
+//! Compares runs and validators for the rows of seven files.
 //!
 //! In `cases.txt`, `sizes.txt`, `files.txt` and `worked.txt` the answer is the status that `run` returns and what it
 //! writes, with a reader that returns everything at once. Readers that return at most 1, 2, 3 and 4,096 bytes at a time
@@ -6,11 +6,13 @@
 //! fail returns, how many reads and writes failed, how many bytes are unread, and what is written. A row of
 //! `documents.txt` is a document, and the answer has a letter for each schema of `schemas.txt`: V for valid and I for
 //! invalid. If validators that judge all these documents one after the other, in pieces, differ, their letters follow.
+//! A row of `datatypes.txt` is a schema and a document, and the answer is what they give with each set of datatypes.
 //!
 //! The documents, the schemas and their letters come from a second program, `dev/rows/all_splits`.
 #![tactic(auto)]
 
 mod failures;
+mod type_sets;
 
 use case_rows::{Pace, Row, Source, compare_rows, rows};
 use failures::print_over_devices;
@@ -31,7 +33,8 @@ fn main(rt: HostRuntime) -> io::Result<()> {
     let mut validators = validators_of(rt.alloc(), schemas)?;
     compare_rows(&rt, "documents.txt", |to, row| {
         print_letters(to, schemas, &mut validators, row)
-    })
+    })?;
+    type_sets::compare(&rt)
 }
 
 /// Prints the result for a row with a schema, and a document in pieces.

@@ -3,7 +3,6 @@ use Rattle.std.proofs.Common.{◌≡◌, ◌<◌, ◌⊎◌, inl, inr, ℕ, List
 use Rattle.std.proofs.lemmas.List.{append-nil}
 use Rattle.std.proofs.lemmas.List.Elements.{All-weaker}
 use Rattle.rng_model.specs.documents.Lines.{lines}
-use Rattle.rng_model.specs.datatypes.Datatypes.{text_tests}
 use Rattle.rng_model.specs.datatypes.Texts.{texts_of}
 use Rattle.rng_model.specs.declared.fault.OutOfMemory.{OutOfMemory}
 use Rattle.rng_model.specs.declared.outcome.Outcome.{Outcome}
@@ -16,10 +15,14 @@ use Rattle.rng_model.specs.documents.PyxClauses.{IsFirstFault}
 use Rattle.rng_model.specs.documents.PyxTrees.{Event, EventKind, a_start, a_string, an_end, Placed, IsPyxDocument, events_of, item_of}
 use Rattle.rng_model.specs.matching.GrammarMatching.{reading_of, IsValidBy}
 use Rattle.rng_model.specs.matching.Outcomes.{FailsAt, IsOutcome, KnowsName}
-use Rattle.rng_model.specs.matching.SchemaMatching.{IsValidBySchema}
 use Rattle.rng_model.specs.schema.Schema.{Schema}
 use Rattle.rng_model.specs.simple.Table.{Table, grammar_of}
+use Rattle.rng_model.specs.xsd.SchemasWith.{IsValidBySchemaWith}
+use Rattle.rng_model.specs.xsd.TypeSets.{tests_in}
+use Rattle.rng_model.specs.declared.type_set.TypeSet.{TypeSet}
+use Rattle.rng_model.specs.declared.type_set.TypeSet.TheVariants.{Profile}
 use Rattle.rncv_model.specs.answers.Verdict.{IsUnknownIn, IsVerdictOn, IsMalformed, IsVerdict, StartsUnknown}
+use Rattle.rncv_model.specs.answers.VerdictWith.{IsVerdictOnWith}
 use Rattle.rncv_model.specs.declared.verdict.Verdict.{Verdict}
 use Rattle.rncv_model.specs.declared.verdict.Verdict.TheVariants.{Malformed, Invalid}
 use Rattle.pyx.specs.views.Calls as calls
@@ -38,21 +41,36 @@ use Rattle.rncv_validator.specs.declared.fault.DocumentFault.{DocumentFault}
 use Rattle.rncv_validator.specs.declared.fault.DocumentFault.TheVariants as faults
 use Rattle.rncv_validator.specs.views.Documents.{HaveEnded, IsFaultOfFed, IsHopelessFrom, KnowsStarts, UnlessMemory, failed_since, told_by}
 use Rattle.rncv_validator.specs.views.FedDocuments.{HasBeenFed, HasNotRunOut, IsFaultOfReader, IsKeptFault, IsReaderFault, Judging, matching_of, verdict_by}
-use Rattle.rncv_validator.specs.views.Validators.{Judges}
+use Rattle.rncv_validator.specs.views.Validators.{Judges, JudgesWith}
 use Rattle.rncv_validator.proofs.DocumentVerdict.{one_verdict, outcome_verdict, same_verdict}
 use Rattle.rncv_validator.proofs.UnknownNames.{unknown_to_grammar}
 
 -- ---- the verdict
 
-module _ (s : Schema) (bytes : List ℕ) where
+module _ (types : TypeSet) (s : Schema) (bytes : List ℕ) where
   -- the verdict is the only one
-  on_schema : (v : Verdict) → IsVerdict (IsValidBySchema s) (IsUnknownIn s) bytes v → IsVerdictOn s bytes v
-  on_schema v is = record { is = is; only = λ w. one_verdict (IsValidBySchema s) (IsUnknownIn s) bytes v w is }
+  on_schema : (v : Verdict) → IsVerdict (IsValidBySchemaWith types s) (IsUnknownIn s) bytes v → IsVerdictOnWith types s bytes v
+  on_schema v is = record { is = is; only = λ w. one_verdict (IsValidBySchemaWith types s) (IsUnknownIn s) bytes v w is }
 
   -- a verdict by the grammar is one by the schema
-  by_grammar : (g : Table) → Judges g s → (v : Verdict) → IsVerdict (IsValidBy (grammar_of g) (texts_of text_tests)) (IsUnknownTo (grammar_of g)) bytes v
-      → IsVerdictOn s bytes v
-  by_grammar g judges v is = on_schema v (same_verdict _ _ _ _ judges.documents (unknown_to_grammar s (grammar_of g) judges.only) bytes v is)
+  by_grammar : (g : Table) → JudgesWith types g s → (v : Verdict)
+      → IsVerdict (IsValidBy (grammar_of g) (texts_of (tests_in g.types))) (IsUnknownTo (grammar_of g)) bytes v → IsVerdictOnWith types s bytes v
+  by_grammar g judges v is =
+      let of_set = subst
+      (λ (set : TypeSet). IsVerdict (IsValidBy (grammar_of g) (texts_of (tests_in set))) (IsUnknownTo (grammar_of g)) bytes v) judges.set is in
+      on_schema v (same_verdict _ _ _ _ judges.documents (unknown_to_grammar s (grammar_of g) judges.only) bytes v of_set)
+
+-- the verdict is that by each schema of the grammar, with its set of datatypes
+abbrev pub HoldsWith : Judging → Verdict → Type 0
+HoldsWith d v = (types : TypeSet) (s : Schema) (bytes : List ℕ) → JudgesWith types d.grammar s → HasBeenFed d bytes → IsVerdictOnWith types s bytes v
+
+-- the same, with the set of the profile
+abbrev pub Holds : Judging → Verdict → Type 0
+Holds d v = (s : Schema) (bytes : List ℕ) → Judges d.grammar s → HasBeenFed d bytes → IsVerdictOn s bytes v
+
+pub holds_in_profile : (d : Judging) (r : Result Verdict OutOfMemory) → IfOk r (HoldsWith d) → IfOk r (Holds d)
+holds_in_profile d (Ok v) holds = λ s bytes judges fed. let on = holds Profile s bytes judges fed in record { is = on.is; only = on.only }
+holds_in_profile d (Err e) holds = tt
 
 -- the outcome of a matcher is right for each document with the events that it has had
 abbrev pub Says : Matching → Outcome → Type 0
@@ -62,30 +80,31 @@ Says m o = (bytes : List ℕ) (t : Placed) → IsPyxDocument bytes t → Knows m
 pub gone : (a b : Matching) (es : List Event) → Hands HasGoneOn a b es → HasGoneOn a b es
 gone a b es h = h a [] (record { grammar = refl; knows = λ before k. subst (Knows a) (sym (append-nil before)) k; failed = λ line f. f; kept = λ lost. lost })
 
-module _ (d : Judging) (old new : Matching) (there : old ≡ d.matching) (s : Schema) (judges : Judges d.grammar s) (bytes : List ℕ)
-    (fed : HasBeenFed d bytes) where
-  taken : (es : List Event) (o : Outcome) → Hands HasGoneOn old new es → IsTheDocument bytes (fed.events ++ es) → Says new o → IsVerdictOn s bytes (verdict_of o)
+module _ (d : Judging) (old new : Matching) (there : old ≡ d.matching) (types : TypeSet) (s : Schema) (judges : JudgesWith types d.grammar s)
+    (bytes : List ℕ) (fed : HasBeenFed d bytes) where
+  taken : (es : List Event) (o : Outcome) → Hands HasGoneOn old new es → IsTheDocument bytes (fed.events ++ es) → Says new o
+      → IsVerdictOnWith types s bytes (verdict_of o)
   taken es o handed document says =
       let t = document.tree in
       let on = gone old new es handed in
       let known = on.knows fed.events (subst (λ (m : Matching). Knows m fed.events) (sym there) fed.knows) in
       let outcome = says bytes t document.document (subst (Knows new) (sym document.events_are) known) in
       let same : new.grammar ≡ d.grammar = on.grammar ∙ ap (λ (m : Matching). m.grammar) there ∙ fed.by_grammar in
-      by_grammar s bytes d.grammar judges (verdict_of o)
+      by_grammar types s bytes d.grammar judges (verdict_of o)
       (outcome_verdict (reading_of d.grammar) bytes t document.document o (subst (λ (g : Table). IsOutcome (reading_of g) t o) same outcome))
 
 -- the verdict on a document that has ended
 pub ended_verdict : {A : Type 0} (d : Judging) (old new : Matching) → old ≡ d.matching → (ended : Result A PyxFault)
     (outcome : Result Outcome OutOfMemory) → calls.UnlessOutOfMemory ended (calls.Ends (Hands HasGoneOn old new) d.reader ended) → IfOk outcome (Says new)
-    → IfOk (verdict_by ended outcome) (λ v. (s : Schema) (bytes : List ℕ) → Judges d.grammar s → HasBeenFed d bytes → IsVerdictOn s bytes v)
-ended_verdict d old new there (Ok x) (Ok outcome.Valid) ends says = λ s bytes judges fed.
-    taken d old new there s judges bytes fed ends.0 outcome.Valid ends.1 (ends.2 bytes fed.events fed.reads) says
-ended_verdict d old new there (Ok x) (Ok (outcome.Invalid line)) ends says = λ s bytes judges fed.
-    taken d old new there s judges bytes fed ends.0 (outcome.Invalid line) ends.1 (ends.2 bytes fed.events fed.reads) says
+    → IfOk (verdict_by ended outcome) (HoldsWith d)
+ended_verdict d old new there (Ok x) (Ok outcome.Valid) ends says = λ types s bytes judges fed.
+    taken d old new there types s judges bytes fed ends.0 outcome.Valid ends.1 (ends.2 bytes fed.events fed.reads) says
+ended_verdict d old new there (Ok x) (Ok (outcome.Invalid line)) ends says = λ types s bytes judges fed.
+    taken d old new there types s judges bytes fed ends.0 (outcome.Invalid line) ends.1 (ends.2 bytes fed.events fed.reads) says
 ended_verdict d old new there (Ok x) (Err e) ends says = tt
 ended_verdict d old new there (Err pyx.Memory) o ends says = tt
-ended_verdict d old new there (Err (pyx.At clause line)) o ends says = λ s bytes judges fed.
-    on_schema s bytes (Malformed clause line) (ends.2 bytes fed.events fed.reads).first
+ended_verdict d old new there (Err (pyx.At clause line)) o ends says = λ types s bytes judges fed.
+    on_schema types s bytes (Malformed clause line) (ends.2 bytes fed.events fed.reads).first
 
 -- if there is a verdict, the matcher keeps its grammar
 pub ended_grammar : {A : Type 0} (k : Kept) (old new : Matching) (ended : Result A PyxFault) (outcome : Result Outcome OutOfMemory) (v : Verdict)
@@ -187,9 +206,9 @@ fault_of_fed d (faults.Malformed clause line) of = λ bytes rest fed.
 -- ---- the line after which no continuation is valid
 
 -- it is one of the lines that were fed, and no document with the same lines up to it is valid
-pub hopeless_from : (d : Judging) (line : ℕ) (s : Schema) (bytes : List ℕ) → failed_since d ≡ Some line → Judges d.grammar s → HasBeenFed d bytes
-    → IsHopelessFrom (IsValidBySchema s) bytes line
-hopeless_from d line s bytes f judges fed =
+pub hopeless_from : (d : Judging) (line : ℕ) (types : TypeSet) (s : Schema) (bytes : List ℕ) → failed_since d ≡ Some line
+    → JudgesWith types d.grammar s → HasBeenFed d bytes → IsHopelessFrom (IsValidBySchemaWith types s) bytes line
+hopeless_from d line types s bytes f judges fed =
     let m = d.matching in
     let fails : FailsAt (judges_by m) fed.events line = subst (λ p. IsKnown (judges_by m) (trees m.grammar m.patterns) p fed.events)
     (failed_at m.progress line f) fed.knows in
@@ -202,8 +221,9 @@ hopeless_from d line s bytes f judges fed =
           let t = valid.0 in
           let begins = fed_front d.reader bytes fed.events fed.reads fails.before e fails.behind fails.parts rest other t valid.1 same in
           let by_grammar = (judges.documents (item_of t)).1 valid.2 in
+          let of_set = subst (λ (set : TypeSet). IsValidBy (grammar_of d.grammar) (texts_of (tests_in set)) (item_of t)) (sym judges.set) by_grammar in
           fails.cannot begins.0 other t valid.1 begins.1
-          (subst (λ (g : Table). IsValidBy (grammar_of g) (texts_of text_tests) (item_of t)) (sym fed.by_grammar) by_grammar);
+          (subst (λ (g : Table). IsValidBy (grammar_of g) (texts_of (tests_in g.types)) (item_of t)) (sym fed.by_grammar) of_set);
     }
 
 -- where none is known and memory was there, the grammar has all names of the starts
@@ -221,19 +241,20 @@ all_known d bytes fed none kept = subst (λ (t : Table). All (λ (e : Event). Kn
     by_progress (progress.Failed line) e none = absurd (cc)
     by_progress progress.Lost e none = absurd (kept e)
 
-known_start : (g : Table) (s : Schema) → Judges g s → (kind : EventKind) → KnowsName (grammar_of g) kind → StartsUnknown (IsUnknownIn s) kind → ⊥
-known_start g s judges (a_start name attrs) known unknown = known (unknown_to_grammar s (grammar_of g) judges.only name unknown)
-known_start g s judges (a_string text) known unknown = unknown
-known_start g s judges an_end known unknown = unknown
+known_start : (g : Table) (types : TypeSet) (s : Schema) → JudgesWith types g s → (kind : EventKind) → KnowsName (grammar_of g) kind
+    → StartsUnknown (IsUnknownIn s) kind → ⊥
+known_start g types s judges (a_start name attrs) known unknown = known (unknown_to_grammar s (grammar_of g) judges.only name unknown)
+known_start g types s judges (a_string text) known unknown = unknown
+known_start g types s judges an_end known unknown = unknown
 
 -- and documents with the same ended lines have no other starts at these
-pub names_known : (d : Judging) (s : Schema) (bytes : List ℕ) (n : ℕ) → failed_since d ≡ None → ¬ (HasRunOut d.matching) → d.reader.fault ≡ None
-    → Judges d.grammar s → HasBeenFed d bytes → HaveEnded bytes n → KnowsStarts (IsUnknownIn s) bytes n
-names_known d s bytes n none kept works judges fed ended = λ other document same is.
+pub names_known : (d : Judging) (types : TypeSet) (s : Schema) (bytes : List ℕ) (n : ℕ) → failed_since d ≡ None → ¬ (HasRunOut d.matching)
+    → d.reader.fault ≡ None → JudgesWith types d.grammar s → HasBeenFed d bytes → HaveEnded bytes n → KnowsStarts (IsUnknownIn s) bytes n
+names_known d types s bytes n none kept works judges fed ended = λ other document same is.
     ended_events d.reader bytes fed.events fed.reads works n ended.within ended.ended other document is same
     (λ (e : Event). StartsUnknown (IsUnknownIn s) e.kind → n < e.line)
     (All-weaker (λ (e : Event). KnowsName (grammar_of d.grammar) e.kind) (λ (e : Event). StartsUnknown (IsUnknownIn s) e.kind → n < e.line)
-    (λ e known unknown. absurd (known_start d.grammar s judges e.kind known unknown)) fed.events (all_known d bytes fed none kept))
+    (λ e known unknown. absurd (known_start d.grammar types s judges e.kind known unknown)) fed.events (all_known d bytes fed none kept))
     (λ e late unknown. late)
 
 -- ---- what a document keeps
@@ -257,12 +278,11 @@ fault_there k (Some s) kept f e is = subst (IsReaderFault k) e is
 -- ---- the verdict at the end
 
 -- the verdict that reports a fault is the verdict on the bytes
-pub fault_verdict : (d : Judging) (f : DocumentFault) → IsFaultOfReader d.reader f
-    → IfOk (told_by f) (λ v. (s : Schema) (bytes : List ℕ) → Judges d.grammar s → HasBeenFed d bytes → IsVerdictOn s bytes v)
+pub fault_verdict : (d : Judging) (f : DocumentFault) → IsFaultOfReader d.reader f → IfOk (told_by f) (HoldsWith d)
 fault_verdict d faults.Memory of = tt
-fault_verdict d (faults.Malformed clause line) of = λ s bytes judges fed.
+fault_verdict d (faults.Malformed clause line) of = λ types s bytes judges fed.
     let first = fault_of_fed d (faults.Malformed clause line) of bytes [] fed in
-    on_schema s bytes (Malformed clause line)
+    on_schema types s bytes (Malformed clause line)
     (subst (λ b. IsFirstFault (lines b) (record { clause = clause; line = line })) (append-nil bytes) first)
 
 pub fault_since : (f : DocumentFault) (o : Option ℕ) → IfSome o (λ line. IfOk (told_by f) (λ v. IsMalformed v ⊎ (v ≡ Invalid line)))

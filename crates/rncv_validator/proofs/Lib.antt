@@ -3,4 +3,5 @@ pub mod DocumentVerdict
 pub mod FedDocuments
 pub mod FreshStates
 pub mod GoodSchemas
+pub mod ProfileSchemas
 pub mod UnknownNames

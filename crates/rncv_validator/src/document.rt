@@ -3,9 +3,12 @@ ghost use Rattle.std.specs.Prelude.{◌≡◌, ◌⊎◌, ◌+◌, ◌^◌, ◌<
 ghost use Rattle.std.specs.Bool.{OnTrue};
 ghost use Rattle.rng_model.specs.schema.Schema.{Schema};
 ghost use Rattle.rncv_model.specs.answers.Verdict.{IsUnknownIn, IsVerdictOn, IsMalformed};
+ghost use Rattle.rncv_model.specs.answers.VerdictWith.{IsVerdictOnWith};
 ghost use Rattle.rng_model.specs.matching.SchemaMatching.{IsValidBySchema};
+ghost use Rattle.rng_model.specs.xsd.SchemasWith.{IsValidBySchemaWith};
+ghost use Rattle.rng_model.specs.declared.type_set.TypeSet.{TypeSet};
 ghost use Rattle.rncv_model.specs.declared.verdict.Verdict.{Verdict};
-ghost use Rattle.rncv_validator.specs.views.Validators.{Judges};
+ghost use Rattle.rncv_validator.specs.views.Validators.{Judges, JudgesWith};
 ghost use Rattle.rncv_validator.specs.views.Documents.{HaveEnded, IsFaultOfFed, IsHopelessFrom, KnowsStarts, UnlessMemory};
 ghost use Rattle.rncv_validator.specs.views.FedDocuments.{HasBeenFed, IsFaultOfReader};
 ghost use Rattle.rncv_validator.specs.views.Documents.{failed_since, told_by};
@@ -112,8 +115,10 @@ impl Document {
         ensures value { result ≡ failed_since self.now }
         ensures hopeless { IfSome result (λ line. (s : Schema) (bytes : List ℕ) → Judges self.now.grammar s → HasBeenFed self.now bytes
             → IsHopelessFrom (IsValidBySchema s) bytes line) }
-        ensures known { result ≡ None → self.now.fault ≡ None → (s : Schema) (bytes : List ℕ) (n : ℕ) → Judges self.now.grammar s
-            → HasBeenFed self.now bytes → HaveEnded bytes n → KnowsStarts (IsUnknownIn s) bytes n }
+        ensures hopeless_with { IfSome result (λ line. (types : TypeSet) (s : Schema) (bytes : List ℕ) → JudgesWith types self.now.grammar s
+            → HasBeenFed self.now bytes → IsHopelessFrom (IsValidBySchemaWith types s) bytes line) }
+        ensures known { result ≡ None → self.now.fault ≡ None → (types : TypeSet) (s : Schema) (bytes : List ℕ) (n : ℕ)
+            → JudgesWith types self.now.grammar s → HasBeenFed self.now bytes → HaveEnded bytes n → KnowsStarts (IsUnknownIn s) bytes n }
     {
         self.state.as_ref()?.failed_at()
     }
@@ -122,13 +127,16 @@ impl Document {
     ///
     /// The verdict is `Malformed` with the first fault if the bytes that were fed are no document. Otherwise it is
     /// `Valid` exactly if the document matches the schema by the rules of section 6 of the RELAX NG Specification,
-    /// applied to the files as they are written. Otherwise it is `Invalid` with a line. No document that begins with
-    /// the lines up to this line is valid. No start that is reported before this line has a name that no element of the
-    /// schema's simple form may have. The verdict is an error only if this call, or an earlier call for the document,
-    /// ran out of memory. Costs what the events of the last tag or text cost.
+    /// applied to the files as they are written, with the set of datatypes that the schema was compiled with. Otherwise
+    /// it is `Invalid` with a line. No document that begins with the lines up to this line is valid. No start that is
+    /// reported before this line has a name that no element of the schema's simple form may have. The verdict is an error
+    /// only if this call, or an earlier call for the document, ran out of memory. Costs what the events of the last tag
+    /// or text cost.
     pub fn finish(self) -> (Validator, Result<Verdict, OutOfMemory>)
         ensures grammar { result.0 ≡ self.grammar }
         ensures verdict { IfOk result.1 (λ v. (s : Schema) (bytes : List ℕ) → Judges self.grammar s → HasBeenFed self bytes → IsVerdictOn s bytes v) }
+        ensures verdict_with { IfOk result.1 (λ v. (types : TypeSet) (s : Schema) (bytes : List ℕ) → JudgesWith types self.grammar s
+            → HasBeenFed self bytes → IsVerdictOnWith types s bytes v) }
         ensures sticky { IfSome self.fault (λ f. result.1 ≡ told_by f) }
         ensures since { IfSome (failed_since self) (λ line. IfOk result.1 (λ v. IsMalformed v ⊎ (v ≡ Verdict.Invalid line))) }
     {

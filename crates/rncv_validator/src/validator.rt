@@ -5,9 +5,10 @@ ghost use Rattle.rng_model.specs.simple.Table.{grammar_of};
 ghost use Rattle.rng_model.specs.restrictions.Restrictions.{BreaksNone};
 ghost use Rattle.rnc_model.specs.loading.SchemaFile.{named_files};
 ghost use Rattle.rncv_model.specs.answers.Verdict.{IsRefusal};
+ghost use Rattle.rncv_model.specs.answers.VerdictWith.{IsRefusalWith};
 ghost use Rattle.rncv_model.specs.answers.Run.{main_name};
 ghost use Rattle.rncv_model.specs.printed.SchemaText.{IsPrintedForm};
-ghost use Rattle.rncv_validator.specs.views.Validators.{IsOneFor, Judges};
+ghost use Rattle.rncv_validator.specs.views.Validators.{IsOneFor, IsOneForWith, JudgesWith};
 ghost use Rattle.rncv_validator.specs.views.FedDocuments.{HasBeenFed, IsFresh};
 ghost use Rattle.rncv_validator.specs.declared.fault.DocumentFault.{DocumentFault};
 ghost use Rattle.rng_deriv.specs.views.Matchers.{HasRunOut, IsStateBy};
@@ -19,7 +20,7 @@ use pyx::Reader;
 use rnc_print::printed_text;
 use rng_deriv::{Matcher, MatcherState};
 use rng_load::load;
-use rng_model::{OutOfMemory, SchemaFault, SimpleGrammar};
+use rng_model::{OutOfMemory, SchemaFault, SimpleGrammar, TypeSet};
 use std::alloc::Global;
 use std::marker::Model;
 use std::sync::Arc;
@@ -52,7 +53,8 @@ impl Model for Validator {
 }
 
 impl Validator {
-    /// Compiles the schema of these files, the first of which is the main one.
+    /// Compiles the schema of these files, the first of which is the main one, with the datatypes of the profile. It is
+    /// `compile_with` of the set `Profile`.
     ///
     /// Returns `Ok` exactly if the files are a schema that breaks no clause, unless out of memory. Fails with `File` if
     /// a file breaks a clause from 1 to 8 by itself: with the first such file in load order, and the first clause that
@@ -67,8 +69,26 @@ impl Validator {
         ensures compiled { IfOk result (λ v. IsOneFor (named_files files.now) (main_name files.now) v) }
         ensures refused { IfErr result (IsRefusal (named_files files.now) (main_name files.now)) }
     {
+        Validator::compile_with(alloc, TypeSet::Profile, files)
+    }
+
+    /// Compiles the schema of these files, the first of which is the main one, with this set of datatypes. Its documents
+    /// are judged with the same set.
+    ///
+    /// Returns `Ok` and fails as `compile` does; only clause 12 depends on the set. It is broken if a datatype is not one
+    /// of the set, or does not take its parameters, or if a text is no value of its datatype (RELAX NG Specification,
+    /// section 4.16). Requires at least one file. Costs what `load`, `simplify_with` and `restrict` cost.
+    pub fn compile_with(
+        alloc: Global,
+        types: TypeSet,
+        files: &[(String, Vec<u8>)],
+    ) -> Result<Validator, SchemaFault>
+        requires { 0 < length files.now }
+        ensures compiled { IfOk result (λ v. IsOneForWith types (named_files files.now) (main_name files.now) v) }
+        ensures refused { IfErr result (IsRefusalWith types (named_files files.now) (main_name files.now)) }
+    {
         let schema = load(alloc, files, first_name(files))?;
-        let grammar = good_grammar(alloc, schema)?;
+        let grammar = good_grammar(alloc, types, schema)?;
         match Arc::new(alloc, grammar) {
             Ok(grammar) => Ok(Validator {
                 grammar,
@@ -122,7 +142,7 @@ impl Validator {
     ///
     /// RELAX NG Specification, section 5.
     pub fn simple_text(&self, alloc: Global) -> Result<Vec<u8>, OutOfMemory>
-        ensures { IfOk result (λ text. (s : Schema) → Judges self.now s → IsPrintedForm s text.items) }
+        ensures { IfOk result (λ text. (types : TypeSet) (s : Schema) → JudgesWith types self.now s → IsPrintedForm s text.items) }
     {
         printed_text(alloc, &self.grammar)
     }

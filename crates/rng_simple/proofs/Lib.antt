@@ -1,7 +1,7 @@
 pub mod Forests
 pub mod ListParts
 pub mod MappedLists
-mod ProfileClauses
+pub mod ProfileClauses
 pub mod SimplifiedSchemas
 pub mod Trees
 pub mod Leaves

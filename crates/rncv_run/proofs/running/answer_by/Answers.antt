@@ -1,3 +1,4 @@
+use Rattle.rng_model.specs.declared.type_set.TypeSet.TheVariants.{Profile}
 use Rattle.rncv_model.specs.answers.Run.{document_judged, form_printed, schema_good}
 use Rattle.rncv_run.proofs.running.answer_by.Goals as goal
 
@@ -6,7 +7,7 @@ returns-in-Check-clause-answer g c = λ files main one. schema_good c.in-Check.i
 
 pub returns-in_ok-simple_text-in-Simple-clause-answer : goal.returns-in_ok-simple_text-in-Simple-clause-answer
 returns-in_ok-simple_text-in-Simple-clause-answer g c = λ files main one.
-    form_printed c.in-Simple.is one.are (c.in_ok-simple_text-in-Simple.ensures one.schema one.judges)
+    form_printed c.in-Simple.is one.are (c.in_ok-simple_text-in-Simple.ensures Profile one.schema one.judges)
 
 pub returns-in_ok-judge-in-Valid-clause-answer : goal.returns-in_ok-judge-in-Valid-clause-answer
 returns-in_ok-judge-in-Valid-clause-answer g c = λ files main one.

@@ -1,16 +1,15 @@
-use Rattle.std.proofs.Common.{◌≡◌, ◌⊎◌, ◌∙◌, ℕ, List, Result, IfOk, IfSome, subst, sym}
+use Rattle.std.proofs.Common.{◌≡◌, ◌⊎◌, ◌∙◌, Ok, Result, IfOk, IfSome, subst, sym}
 use Rattle.pyx.specs.views.Calls.{Ends, UnlessOutOfMemory}
 use Rattle.rng_model.specs.declared.fault.OutOfMemory.{OutOfMemory}
 use Rattle.rng_model.specs.documents.EventViews.{Hands}
-use Rattle.rng_model.specs.schema.Schema.{Schema}
-use Rattle.rncv_model.specs.answers.Verdict.{IsVerdictOn, IsMalformed}
+use Rattle.rncv_model.specs.answers.Verdict.{IsMalformed}
 use Rattle.rncv_model.specs.declared.verdict.Verdict.{Verdict}
 use Rattle.rncv_model.specs.declared.verdict.Verdict.TheVariants.{Invalid}
 use Rattle.rng_deriv.specs.views.Matchers.{HasGoneOn}
 use Rattle.rncv_validator.specs.views.Documents.{failed_since}
-use Rattle.rncv_validator.specs.views.FedDocuments.{HasBeenFed, IsFaultOfReader, Judging}
-use Rattle.rncv_validator.specs.views.Validators.{Judges}
-use Rattle.rncv_validator.proofs.FedDocuments.{ended_grammar, ended_since, ended_verdict, fault_there, fault_verdict, resumed, state_kept}
+use Rattle.rncv_validator.specs.views.FedDocuments.{IsFaultOfReader, Judging}
+use Rattle.rncv_validator.proofs.FedDocuments.{HoldsWith, ended_grammar, ended_since, ended_verdict, fault_there, fault_verdict, holds_in_profile}
+use Rattle.rncv_validator.proofs.FedDocuments.{resumed, state_kept}
 use Rattle.rncv_validator.proofs.document.Document.finish.Goals as goal
 
 pub invariant_of-result-in-Ok : goal.invariant_of-result-in-Ok
@@ -24,8 +23,8 @@ invariant_of-result-in-Ok c =
           (sym c.verdict.ensures ∙ c.in-Ok.is)) c.into_state.ensures.state,
     )
 
-pub returns-in-Ok-clause-verdict : goal.returns-in-Ok-clause-verdict
-returns-in-Ok-clause-verdict c =
+pub returns-in-Ok-clause-verdict_with : goal.returns-in-Ok-clause-verdict_with
+returns-in-Ok-clause-verdict_with c =
     let d = c.self.inside in
     let old = c.resume-matcher.result in
     let new = c.finish-ended.new.events in
@@ -33,9 +32,11 @@ returns-in-Ok-clause-verdict c =
     c.resume-matcher.ensures in
     let ends = subst (λ (j : Judging). UnlessOutOfMemory c.finish-ended.result (Ends (Hands HasGoneOn old new) j.reader c.finish-ended.result)) c.self.view_is
     c.finish-ended.ensures.document in
-    subst (λ (r : Result Verdict OutOfMemory). IfOk r (λ v. (s : Schema) (bytes : List ℕ) → Judges c.args.self.grammar s → HasBeenFed c.args.self bytes → IsVerdictOn s bytes v))
-    (sym c.verdict.ensures ∙ c.in-Ok.is)
+    subst (λ (r : Result Verdict OutOfMemory). IfOk r (HoldsWith c.args.self)) (sym c.verdict.ensures ∙ c.in-Ok.is)
     (ended_verdict c.args.self old new there c.finish-ended.result c.outcome.result ends c.outcome.ensures.outcome)
+
+pub returns-in-Ok-clause-verdict : goal.returns-in-Ok-clause-verdict
+returns-in-Ok-clause-verdict c = holds_in_profile c.args.self (Ok c.in-Ok.verdict) (returns-in-Ok-clause-verdict_with c)
 
 pub returns-in-Ok-clause-since : goal.returns-in-Ok-clause-since
 returns-in-Ok-clause-since c =
@@ -50,11 +51,13 @@ returns-in-Ok-clause-since c =
     (sym c.verdict.ensures ∙ c.in-Ok.is)
     (ended_since c.args.self old new there c.finish-ended.result c.outcome.result ends c.outcome.ensures.failed)
 
-pub returns-in-Some-fault-clause-verdict : goal.returns-in-Some-fault-clause-verdict
-returns-in-Some-fault-clause-verdict c =
+pub returns-in-Some-fault-clause-verdict_with : goal.returns-in-Some-fault-clause-verdict_with
+returns-in-Some-fault-clause-verdict_with c =
     let d = c.self.inside in
     let f = c.in-Some-fault.fault in
     let of = subst (λ (j : Judging). IsFaultOfReader j.reader f) c.self.view_is
     (fault_there d.reader d.state d.fault f c.in-Some-fault.is c.self.invariant.2) in
-    subst (λ (r : Result Verdict OutOfMemory). IfOk r (λ v. (s : Schema) (bytes : List ℕ) → Judges c.args.self.grammar s → HasBeenFed c.args.self bytes → IsVerdictOn s bytes v))
-    (sym c.told.ensures) (fault_verdict c.args.self f of)
+    subst (λ (r : Result Verdict OutOfMemory). IfOk r (HoldsWith c.args.self)) (sym c.told.ensures) (fault_verdict c.args.self f of)
+
+pub returns-in-Some-fault-clause-verdict : goal.returns-in-Some-fault-clause-verdict
+returns-in-Some-fault-clause-verdict c = holds_in_profile c.args.self c.told.result (returns-in-Some-fault-clause-verdict_with c)

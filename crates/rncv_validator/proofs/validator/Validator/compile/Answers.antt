@@ -1,16 +1,13 @@
-use Rattle.std.proofs.Common.{List, ℕ, IfSome, subst}
-use Rattle.std.proofs.lemmas.Result.{err_from_is_err_and}
-use Rattle.rnc_model.specs.loading.Loading.{verdict_of_fault, FilesHaveOnlyVerdict}
+use Rattle.std.proofs.lemmas.Result.{IfErr-weaker, IfOk-weaker}
 use Rattle.rnc_model.specs.loading.SchemaFile.{named_files}
 use Rattle.rncv_model.specs.answers.Run.{main_name}
-use Rattle.rncv_validator.proofs.RefusedFiles.{refused_files}
+use Rattle.rncv_validator.proofs.ProfileSchemas.{one_of_profile, refusal_of_profile}
 use Rattle.rncv_validator.proofs.validator.Validator.compile.Goals as goal
 
-pub returns-in_err-schema-clause-refused : goal.returns-in_err-schema-clause-refused
-returns-in_err-schema-clause-refused c =
-    let files = named_files c.args.files.now in
-    let fault = c.in_err-schema.field-0.0 in
-    let told = subst (λ (main : List ℕ). IfSome (verdict_of_fault fault) (FilesHaveOnlyVerdict files main)) c.first_name.ensures c.in_err-schema.ensures in
-    let refused = refused_files files (main_name c.args.files.now) fault told in
-    let p = err_from_is_err_and c.from_residual.result c.from_residual.ensures.1 in
-    rw (p.1, p.2) refused
+pub returns-clause-compiled : goal.returns-clause-compiled
+returns-clause-compiled c =
+    IfOk-weaker c.compile_with.result _ _ (one_of_profile (named_files c.args.files.now) (main_name c.args.files.now)) c.compile_with.ensures.compiled
+
+pub returns-clause-refused : goal.returns-clause-refused
+returns-clause-refused c =
+    IfErr-weaker c.compile_with.result _ _ (refusal_of_profile (named_files c.args.files.now) (main_name c.args.files.now)) c.compile_with.ensures.refused
