@@ -1,5 +1,6 @@
 mod AsBox
 mod Crossing
 mod JoinedNames
+mod ProfileCompiled
 mod RefusedNames
 mod Values

@@ -1,5 +1,6 @@
 -- What handles hold, and what calls on them return.
 pub mod Calls
+pub mod Datatypes
 pub mod Files
 pub mod Handles
 pub mod Held

@@ -5,17 +5,19 @@
 //! those of `code_of`.
 #![tactic(auto)]
 
-ghost use Rattle.std.specs.Prelude.{◌≡◌, ◌≢◌, ◌↔◌, pos, IfSome, IsSomeAnd};
+ghost use Rattle.std.specs.Prelude.{◌≡◌, ◌≢◌, ◌↔◌, pos, IfSome, IsSome, IsSomeAnd};
 ghost use Rattle.std.specs.declared.option.Option.TheVariants.{None};
 ghost use Rattle.rnc_model.specs.loading.SchemaFile.{FileName};
-ghost use Rattle.rncv_validator.specs.views.Validators.{IsOneFor};
+ghost use Rattle.rncv_validator.specs.views.Validators.{IsOneFor, IsOneForWith};
 ghost use Rattle.rncv_c.specs.views.Calls.{HasBegun, HasEnded, HasTaken, IsInvalidSince};
+ghost use Rattle.rncv_c.specs.views.Datatypes.{set_of};
 ghost use Rattle.rncv_c.specs.views.Files.{AreNamed, files_of, main_of};
 ghost use Rattle.rncv_c.specs.views.Held.{document_in, grammar_in, schema_in};
 ghost use Rattle.rncv_c.specs.views.Mentions.{AreMentionsOf, IsRefusedAlone};
 ghost use Rattle.rncv_c.specs.views.Texts.{IsTextOf, IsTooLong, IsWritten};
-ghost use Rattle.rncv_c.specs.views.Told.{AreRefused, IsRefusedName};
+ghost use Rattle.rncv_c.specs.views.Told.{AreRefused, AreRefusedWith, IsRefusedName};
 
+mod datatypes;
 mod documents;
 mod files;
 mod handle;
@@ -25,14 +27,15 @@ mod status;
 mod texts;
 mod told;
 
+use datatypes::set_of_number;
 use files::SchemaFile;
 use handle::Handle;
 use status::Status;
 use std::alloc::Global;
 use told::{Judgement, Refusal};
 
-/// Compiles the schema of these files, the first of which is the main one, and puts it into the handle. What the handle
-/// held is freed.
+/// Compiles the schema of these files, the first of which is the main one, with the datatypes of the profile, and puts it
+/// into the handle. What the handle held is freed. It is `rncv_compile_with` of 0.
 ///
 /// Returns 0 on success; 1 if the files break a clause, which `fault` reports; 3 when out of memory; 4 exactly if there
 /// is no file or a name is not UTF-8. Costs what `Validator::compile` costs, and a copy of the files.
@@ -52,6 +55,35 @@ pub extern "C" fn rncv_compile(
     ensures untold { result ≢ pos 1 → fault.new ≡ fault.old }
 {
     schemas::compile(alloc, files, schema, fault).code()
+}
+
+/// Compiles the schema of these files, as `rncv_compile` does, with a set of datatypes: 0 is that of the profile, and 1
+/// that of XML Schema. The set decides clause 12, and which texts are values when documents are judged.
+///
+/// Returns 0 on success; 1 if the files break a clause, which `fault` reports; 3 when out of memory; 4 exactly if there
+/// is no file, a name is not UTF-8, or `datatypes` is another number. Costs what `Validator::compile_with` costs, and a
+/// copy of the files. RELAX NG Specification, section 4.16.
+#[unsafe(no_mangle)]
+pub extern "C" fn rncv_compile_with(
+    alloc: Global,
+    files: &[SchemaFile<'_>],
+    datatypes: u32,
+    schema: &mut Handle,
+    fault: &mut Refusal,
+) -> i32
+    ensures done { IfSome (set_of datatypes) (λ types. result ≡ pos 0
+        → IsSomeAnd (schema_in schema.new.held) (IsOneForWith types (files_of files.now) (main_of files.now))) }
+    ensures refused { IfSome (set_of datatypes) (λ types. result ≡ pos 1 → AreRefusedWith types files.now fault.new) }
+    ensures misuse { result ≡ pos 4 → ¬ (AreNamed files.now × IsSome (set_of datatypes)) }
+    ensures named { result ≢ pos 4 → AreNamed files.now × IsSome (set_of datatypes) }
+    ensures others { result ≢ pos 0 → result ≢ pos 1 → result ≢ pos 4 → result ≡ pos 3 }
+    ensures failed { result ≢ pos 0 → schema.new ≡ schema.old }
+    ensures untold { result ≢ pos 1 → fault.new ≡ fault.old }
+{
+    match set_of_number(datatypes) {
+        Some(types) => schemas::compile_with(alloc, types, files, schema, fault).code(),
+        None => Status::Misuse.code(),
+    }
 }
 
 /// Writes the name of the file that breaks a clause by itself to the buffer if it fits, and reports its length in

@@ -2,12 +2,12 @@
 ghost use Rattle.std.specs.Prelude.{◌≡◌, ◌≢◌, ◌↔◌, IfErr, IfOk, IsErrOf, IsSomeAnd, string_bytes};
 ghost use Rattle.std.specs.declared.option.Option.TheVariants.{None, Some};
 ghost use Rattle.rnc_model.specs.loading.SchemaFile.{FileName};
-ghost use Rattle.rncv_model.specs.answers.Verdict.{IsRefusal};
-ghost use Rattle.rncv_validator.specs.views.Validators.{IsOneFor};
+ghost use Rattle.rncv_model.specs.answers.VerdictWith.{IsRefusalWith};
+ghost use Rattle.rncv_validator.specs.views.Validators.{IsOneFor, IsOneForWith};
 ghost use Rattle.rncv_c.specs.views.Files.{AreNamed, files_of, main_of};
 ghost use Rattle.rncv_c.specs.views.Held.{schema_in};
 ghost use Rattle.rncv_c.specs.views.Texts.{IsTextOf, IsTooLong, IsWritten};
-ghost use Rattle.rncv_c.specs.views.Told.{AreRefused, IsRefusedName};
+ghost use Rattle.rncv_c.specs.views.Told.{AreRefused, AreRefusedWith, IsRefusedName};
 
 use crate::files::{SchemaFile, are_named, copied_files};
 use crate::handle::{Handle, Held};
@@ -15,10 +15,11 @@ use crate::status::Status;
 use crate::texts::copied;
 use crate::told::{Refusal, refusal_to_tell};
 use rncv_validator::Validator;
-use rng_model::SchemaFault;
+use rng_model::{SchemaFault, TypeSet};
 use std::alloc::Global;
 
-/// Compiles the schema of these files, the first of which is the main one, and puts it into the handle.
+/// Compiles the schema of these files, the first of which is the main one, with the datatypes of the profile, and puts it
+/// into the handle.
 ///
 /// Returns `Misuse` exactly if there is no file or a name is not UTF-8; `Refused` if the files break a clause, which is
 /// reported with its place; `Memory` when out of memory. Costs what `Validator::compile` and `place_of` cost, and a
@@ -37,10 +38,29 @@ pub fn compile(
     ensures failed { result ≢ Status.Done → schema.new ≡ schema.old }
     ensures untold { result ≢ Status.Refused → fault.new ≡ fault.old }
 {
+    compile_with(alloc, TypeSet::Profile, files, schema, fault)
+}
+
+/// Compiles the schema of these files, as `compile` does, with this set of datatypes.
+pub fn compile_with(
+    alloc: Global,
+    types: TypeSet,
+    files: &[SchemaFile<'_>],
+    schema: &mut Handle,
+    fault: &mut Refusal,
+) -> Status
+    ensures done { result ≡ Status.Done → IsSomeAnd (schema_in schema.new.held) (IsOneForWith types (files_of files.now) (main_of files.now)) }
+    ensures refused { result ≡ Status.Refused → AreRefusedWith types files.now fault.new }
+    ensures misuse { result ≡ Status.Misuse → ¬ (AreNamed files.now) }
+    ensures named { result ≢ Status.Misuse → AreNamed files.now }
+    ensures others { (result ≢ Status.Malformed) × (result ≢ Status.Space) }
+    ensures failed { result ≢ Status.Done → schema.new ≡ schema.old }
+    ensures untold { result ≢ Status.Refused → fault.new ≡ fault.old }
+{
     if !are_named(files) {
         return Status::Misuse;
     }
-    match compiled(alloc, files) {
+    match compiled(alloc, types, files) {
         Ok(validator) => hold(alloc, validator, schema),
         Err(cause) => match refusal_to_tell(alloc, files, &cause) {
             Ok(told) => {
@@ -53,15 +73,19 @@ pub fn compile(
 }
 
 /// Returns the compiled schema of a copy of the files.
-fn compiled(alloc: Global, files: &[SchemaFile<'_>]) -> Result<Validator, SchemaFault>
+fn compiled(
+    alloc: Global,
+    types: TypeSet,
+    files: &[SchemaFile<'_>],
+) -> Result<Validator, SchemaFault>
     requires { AreNamed files.now }
-    ensures compiled { IfOk result (IsOneFor (files_of files.now) (main_of files.now)) }
-    ensures refused { IfErr result (IsRefusal (files_of files.now) (main_of files.now)) }
+    ensures compiled { IfOk result (IsOneForWith types (files_of files.now) (main_of files.now)) }
+    ensures refused { IfErr result (IsRefusalWith types (files_of files.now) (main_of files.now)) }
 {
     let Ok(copy) = copied_files(alloc, files) else {
         return Err(SchemaFault::Memory);
     };
-    Validator::compile(alloc, copy.as_slice())
+    Validator::compile_with(alloc, types, copy.as_slice())
 }
 
 /// Writes the name of the file that breaks a clause by itself to the buffer if it fits, and its length to `count`.
@@ -98,7 +122,8 @@ fn name_of_refused(alloc: Global, files: &[SchemaFile<'_>]) -> Result<String, St
     ensures fault { IfErr result (λ status. status ≢ Status.Misuse → status ≡ Status.Memory) }
     ensures misuse { IsErrOf result Status.Misuse → (name : FileName) → ¬ (IsRefusedName files.now name) }
 {
-    match compiled(alloc, files) {
+    // what a file breaks by itself depends on no set of datatypes
+    match compiled(alloc, TypeSet::Profile, files) {
         Ok(_) => Err(Status::Misuse),
         Err(SchemaFault::File { name, .. }) => Ok(name),
         Err(SchemaFault::Clause(_)) => Err(Status::Misuse),

@@ -5,6 +5,7 @@ import sys
 
 DONE, REFUSED, MALFORMED, MEMORY, MISUSE, SPACE = range(6)
 VALID, INVALID, BROKEN = range(3)
+PROFILE, XML_SCHEMA = range(2)
 
 
 class Schema(ctypes.Structure):
@@ -40,6 +41,7 @@ def library(path):
     schema, size = ctypes.POINTER(Schema), ctypes.c_size_t
     for name, kinds in {
         "rncv_compile": [ctypes.POINTER(File), size, schema, ctypes.POINTER(Fault)],
+        "rncv_compile_with": [ctypes.POINTER(File), size, ctypes.c_uint32, schema, ctypes.POINTER(Fault)],
         "rncv_refused_name": [ctypes.POINTER(File), size, ctypes.c_char_p, size, ctypes.POINTER(size)],
         "rncv_schema_share": [schema, schema],
         "rncv_document_begin": [schema],
@@ -74,6 +76,7 @@ def main():
     schema, fault, verdict = Schema(), Fault(), Verdict()
 
     assert lib.rncv_compile(None, 0, schema, fault) == MISUSE
+    assert lib.rncv_compile_with(None, 0, XML_SCHEMA, schema, fault) == MISUSE
     refused = files_of((b"s.rnc", b'include "b.rnc"'), (b"b.rnc", b"element a {"))
     assert lib.rncv_compile(refused, len(refused), schema, fault) == REFUSED
     assert (fault.clause, fault.file, fault.offset, fault.line, fault.column) == (6, 1, 11, 1, 12)
@@ -82,6 +85,8 @@ def main():
     assert refused_name(lib, files_of((b"s.rnc", b'include "b.rnc"'))) == b"b.rnc"
 
     files = files_of((b"s.rnc", b"element a { text }"))
+    for number in (2, 256, 2**32 - 1):
+        assert lib.rncv_compile_with(files, len(files), number, schema, fault) == MISUSE
     assert lib.rncv_compile(files, len(files), schema, fault) == DONE
     needed = ctypes.c_size_t()
     assert lib.rncv_simple(schema, None, 0, needed) == SPACE

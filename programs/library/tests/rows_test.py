@@ -10,7 +10,7 @@ import re
 import sys
 import urllib.parse
 
-from library_test import BROKEN, DONE, INVALID, REFUSED, SPACE, Fault, Schema, Verdict, files_of, library, refused_name
+from library_test import BROKEN, DONE, INVALID, PROFILE, REFUSED, SPACE, XML_SCHEMA, Fault, Schema, Verdict, files_of, library, refused_name
 
 CASES = os.path.abspath(f"{os.path.dirname(__file__)}/../../../crates/rncv_run_cases")
 
@@ -89,6 +89,17 @@ class Program:
         finally:
             self.lib.rncv_schema_free(schema)
 
+    def word(self, datatypes, text, document):
+        """What a schema and a document give with a set of datatypes: the clause that the schema breaks, or a letter for the verdict."""
+        schema, fault = Schema(), Fault()
+        status = self.lib.rncv_compile_with(files_of((b"s.rnc", text)), 1, datatypes, schema, fault)
+        assert status in (DONE, REFUSED), status
+        if status == REFUSED:
+            return f"S{fault.clause}"
+        letter = self.verdict(schema, document, 3)[0].replace("G", "V")
+        self.lib.rncv_schema_free(schema)
+        return letter
+
 
 def runs():
     """The place, the command, the files, the document and the answer of each row of a run."""
@@ -117,6 +128,8 @@ def answers(program):
     for place, command, files, document, answer in runs():
         yield place, program.answer(command, files, document), answer
     yield from letters(program, [*rows("schemas.txt")])
+    for place, (schema, document), answer in cases("datatypes.txt"):
+        yield place, " ".join(program.word(datatypes, schema, document) for datatypes in (PROFILE, XML_SCHEMA)) + "\n", answer
 
 
 def row_count():

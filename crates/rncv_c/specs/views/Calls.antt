@@ -2,13 +2,16 @@
 use Rattle.std.specs.Prelude.{◌≡◌, ◌⊎◌, ℕ, ℤ, List, [], ◌++◌, Some, None, Result, Ok, Err, IfErr, IfOk, IfSome, OnOk, unwrap_or}
 use Rattle.rng_model.specs.schema.Schema.{Schema}
 use Rattle.rng_model.specs.declared.fault.OutOfMemory.{OutOfMemory}
+use Rattle.rng_model.specs.declared.type_set.TypeSet.{TypeSet}
 use Rattle.rncv_model.specs.answers.Verdict.{IsUnknownIn, IsVerdictOn, IsMalformed}
+use Rattle.rncv_model.specs.answers.VerdictWith.{IsVerdictOnWith}
 use Rattle.rng_model.specs.matching.SchemaMatching.{IsValidBySchema}
+use Rattle.rng_model.specs.xsd.SchemasWith.{IsValidBySchemaWith}
 use Rattle.rncv_model.specs.declared.verdict.Verdict.{Verdict}
 use Rattle.rncv_model.specs.declared.verdict.Verdict.TheVariants.{Invalid}
 use Rattle.rncv_validator.specs.views.Documents.{HaveEnded, IsFaultOfFed, IsHopelessFrom, KnowsStarts, UnlessMemory, failed_since, told_by}
 use Rattle.rncv_validator.specs.views.FedDocuments.{HasBeenFed, Judging}
-use Rattle.rncv_validator.specs.views.Validators.{Judges}
+use Rattle.rncv_validator.specs.views.Validators.{Judges, JudgesWith}
 use Rattle.rncv_validator.specs.declared.fault.DocumentFault.{DocumentFault}
 use Rattle.rncv_validator.specs.declared.fault.DocumentFault.TheVariants as faults
 use Rattle.rncv_c.specs.views.Held.{code_of}
@@ -53,6 +56,8 @@ told_at_end old (Err e) = old
 pub record IsEndOf (document : Judging) (answer : Result Verdict OutOfMemory) : Type 0 where
   pub verdict : IfOk answer (λ v. (s : Schema) (bytes : List ℕ) → Judges document.grammar s → HasBeenFed document bytes
       → IsVerdictOn s bytes v)
+  pub verdict_with : IfOk answer (λ v. (types : TypeSet) (s : Schema) (bytes : List ℕ) → JudgesWith types document.grammar s
+      → HasBeenFed document bytes → IsVerdictOnWith types s bytes v)
   pub sticky : IfSome document.fault (λ f. answer ≡ told_by f)
   pub since : IfSome (failed_since document) (λ line. IfOk answer (λ v. IsMalformed v ⊎ (v ≡ Invalid line)))
 
@@ -70,5 +75,7 @@ pub record IsInvalidSince (line : ℕ) (document : Judging) : Type 0 where
   pub value : line ≡ unwrap_or (failed_since document) 0
   pub hopeless : IfSome (failed_since document) (λ since. (s : Schema) (bytes : List ℕ) → Judges document.grammar s → HasBeenFed document bytes
       → IsHopelessFrom (IsValidBySchema s) bytes since)
-  pub known : failed_since document ≡ None → document.fault ≡ None → (s : Schema) (bytes : List ℕ) (n : ℕ) → Judges document.grammar s
-      → HasBeenFed document bytes → HaveEnded bytes n → KnowsStarts (IsUnknownIn s) bytes n
+  pub hopeless_with : IfSome (failed_since document) (λ since. (types : TypeSet) (s : Schema) (bytes : List ℕ) → JudgesWith types document.grammar s
+      → HasBeenFed document bytes → IsHopelessFrom (IsValidBySchemaWith types s) bytes since)
+  pub known : failed_since document ≡ None → document.fault ≡ None → (types : TypeSet) (s : Schema) (bytes : List ℕ) (n : ℕ)
+      → JudgesWith types document.grammar s → HasBeenFed document bytes → HaveEnded bytes n → KnowsStarts (IsUnknownIn s) bytes n

@@ -2,11 +2,13 @@
 use Rattle.std.specs.Prelude.{◌≡◌, ◌^◌, ℕ, ℤ, pos, negsuc, nat_lt, if◌then◌else◌, List, Option, Some, None, string_bytes}
 use Rattle.rng_model.specs.declared.fault.SchemaFault.{SchemaFault}
 use Rattle.rng_model.specs.declared.fault.SchemaFault.TheVariants as faults
+use Rattle.rng_model.specs.declared.type_set.TypeSet.{TypeSet}
 use Rattle.rnc_model.specs.declared.file_place.FilePlace.{FilePlace}
 use Rattle.rnc_model.specs.loading.FaultPlaces.{BreaksClauseAt}
 use Rattle.rnc_model.specs.loading.Loading.{FilesHaveOnlyVerdict, file_breaks}
 use Rattle.rnc_model.specs.loading.SchemaFile.{BreaksFileClause, FileName}
 use Rattle.rncv_model.specs.answers.Verdict.{IsRefusal}
+use Rattle.rncv_model.specs.answers.VerdictWith.{IsRefusalWith}
 use Rattle.rncv_model.specs.declared.verdict.Verdict.{Verdict}
 use Rattle.rncv_model.specs.declared.verdict.Verdict.TheVariants as verdicts
 use Rattle.rncv_c.specs.views.Files.{files_of, first_file, index_of, main_of}
@@ -47,6 +49,12 @@ IsToldOf files faults.Memory told = ⊥
 pub record AreRefused (files : List SchemaFile) (told : Refusal) : Type 0 where
   pub fault : SchemaFault
   pub is : IsRefusal (files_of files) (main_of files) fault
+  pub told_is : IsToldOf files fault told
+
+-- the same, with this set of datatypes
+pub record AreRefusedWith (types : TypeSet) (files : List SchemaFile) (told : Refusal) : Type 0 where
+  pub fault : SchemaFault
+  pub is : IsRefusalWith types (files_of files) (main_of files) fault
   pub told_is : IsToldOf files fault told
 
 -- in load order the file of this name is the first that breaks a clause by itself, whether or not it was handed in
