@@ -1,5 +1,4 @@
 -- The simple form of the schema of the lines is the printed grammar, and the schema breaks no clause.
-pub mod SimpleFormParts
 pub mod RenamedSteps
 pub mod SimpleDepths
 pub mod ClassParts

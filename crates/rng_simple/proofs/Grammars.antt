@@ -4,6 +4,7 @@ pub mod PointSimples
 pub mod SimpleTables
 pub mod GrammarOf
 pub mod SimpleBodies
+pub mod SimpleFormParts
 pub mod KnownDatatypes
 mod RenamedRestrictions
 pub mod SameRestrictions

@@ -28,7 +28,7 @@ use Rattle.rng_simple.proofs.Leaves.Renamed.{as_tree_renamed}
 use Rattle.rng_simple.proofs.Trees.SimpleForms.{is_only_simple_form}
 use Rattle.rng_simple.proofs.Leaves.SimpleLeaves.{simply_is_reached}
 use Rattle.rng_model.proofs.SimpleTrees.{same_simple}
-use Rattle.rnc_print_laws.proofs.SimpleForms.SimpleFormParts.{IsFine, reached_there, start_fine, element_fine}
+use Rattle.rng_simple.proofs.Grammars.SimpleFormParts.{IsFine, reached_there, start_fine, element_fine}
 use Rattle.rnc_print_laws.proofs.SimpleForms.RenamedSteps.{step_renamed}
 use Rattle.rnc_print_laws.proofs.SimpleForms.ClassParts.{IsGoodClass, IsFreeOfDeclarations, good_nested, free_nested}
 use Rattle.rnc_print_laws.proofs.SimpleForms.SimpleDepths.{simple_depth, renamed_depth}

@@ -30,7 +30,7 @@ use Rattle.rng_simple.proofs.Leaves.Renamed.{as_tree_renamed, Origin, origin}
 use Rattle.rng_simple.proofs.Leaves.RenamedTwice.{renamed_twice, renamed_itself}
 use Rattle.rng_simple.proofs.Trees.SimpleForms.{has_simple_form}
 use Rattle.rnc_print_laws.specs.plain.LinesSchema.{flattened, IsSchemaOfLines}
-use Rattle.rnc_print_laws.proofs.SimpleForms.SimpleFormParts.{leaf_of}
+use Rattle.rng_simple.proofs.Grammars.SimpleFormParts.{leaf_of}
 use Rattle.rnc_print_laws.proofs.SimpleForms.FlattenedClasses.{nested_flattened, simple_flattened}
 use Rattle.rnc_print_laws.proofs.SimpleForms.GoodGrammars.{IsAttributeClass, IsGoodData, IsGoodValue, IsGoodTree, IsGoodGrammar, IsLastSimple}
 use Rattle.rnc_print_laws.proofs.Lines.LinesFound.{in_rest}

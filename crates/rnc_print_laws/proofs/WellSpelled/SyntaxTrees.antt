@@ -23,7 +23,7 @@ use Rattle.rnc_print_laws.proofs.WellSpelled.RoomForBrackets.{Keeps, both, in_br
 use Rattle.rnc_print_laws.proofs.WellSpelled.RoomForBrackets.{past_ns}
 use Rattle.rnc_print_laws.proofs.WellSpelled.RoomForBrackets.{past_segment, past_word, IsWellSpelledName, past_type, past_method, past_connector, past_sign}
 use Rattle.rnc_print_laws.proofs.WellSpelled.RoomForBrackets.{past_other}
-use Rattle.rnc_print_laws.proofs.SimpleForms.SimpleFormParts.{first, second}
+use Rattle.rng_simple.proofs.Grammars.SimpleFormParts.{first, second}
 
 -- ---- name classes
 
