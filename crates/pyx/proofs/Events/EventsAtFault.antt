@@ -35,7 +35,7 @@ use Rattle.pyx.proofs.States.OpenTags.{begins_none, is_kind, has_kind, marks, no
 use Rattle.pyx.proofs.States.JoinedText.{says_a_start, says_an_attribute}
 use Rattle.pyx.proofs.States.StateAfterLines.{Content, Within, Place, at_content, at_tag, content_first, marks_none, place_first}
 use Rattle.pyx.proofs.Documents.Broken.{at, TagBreaks, LineTells, goes_on, breaks_here, tag_breaks, within_few, bad_line, ended_silent, ended_closes}
-use Rattle.pyx.proofs.Documents.Broken.{no_tag_ended}
+use Rattle.pyx.proofs.Documents.Broken.{bad_closes, no_tag_ended}
 use Rattle.pyx.proofs.Documents.Broken.{not_kind, line_tells, next_place, EndTells, ends_well, ends_open, tag_ends_badly, fault_tag, end_tells, to_end}
 use Rattle.pyx.proofs.Documents.Broken.{tag_breaks_all, tag_broken, broken, ok_err, ended_fails}
 use Rattle.pyx.proofs.Documents.Least.{at_most, all_append, all_cons, all_nil, to_end_first}
