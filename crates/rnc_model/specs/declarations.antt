@@ -2,5 +2,6 @@
 pub mod AppliedDeclarations
 pub mod DeclarationRules
 pub mod Declarations
+pub mod TokenUses
 pub mod FaultyTokens
 pub mod FileTree

@@ -29,7 +29,7 @@ module _ (s : Scope) (m : Option Declarable) (ms : List (Option Declarable)) whe
   pub unknown_later : is_unknown s m ≡ false → unknown_number s (m ∷ ms) ≡ suc (unknown_number s ms)
   unknown_later e = by_test false e
 
-front_is : (ts : List Lexeme) (x : Lexeme) (us : List Lexeme) → Some (x, us) ≡ first_of ts → ts ≡ x ∷ us
+pub front_is : (ts : List Lexeme) (x : Lexeme) (us : List Lexeme) → Some (x, us) ≡ first_of ts → ts ≡ x ∷ us
 front_is [] x us e = absurd cc
 front_is (y ∷ ts) x us e =
     let whole : ◌≡◌ {A = Lexeme × List Lexeme} (x, us) (y, ts) = cc in

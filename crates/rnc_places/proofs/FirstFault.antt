@@ -9,7 +9,9 @@ use Rattle.rnc_grammar.proofs.DeclarationRules.{broken_where_stuck, declared_whe
 use Rattle.rnc_grammar.proofs.UsedPrefixes.{is_known}
 use Rattle.rnc_model.specs.declarations.DeclarationRules.{BreaksDeclarationRule, Declarable, datatype_prefix, default_namespace, namespace_prefix}
 use Rattle.rnc_model.specs.declarations.Declarations.{◌>>=◌, Scope, declare, declare_all, nothing_declared}
-use Rattle.rnc_model.specs.declarations.FaultyTokens.{BreakDeclarationRule, HasUndeclaredPrefix, IsBrokenDeclaration, declaration_numbers, in_body}
+use Rattle.rnc_model.specs.declarations.FaultyTokens.{BreakDeclarationRule, IsBrokenDeclaration, IsFirstAt, IsUndeclaredPrefix, declaration_numbers}
+use Rattle.rnc_model.specs.declarations.FaultyTokens.{prefixes_in}
+use Rattle.rnc_model.specs.declarations.TokenUses.{in_body}
 use Rattle.rnc_model.specs.loading.FaultPlaces.{BreaksDeclarationsAt, IsFaultyToken}
 use Rattle.rnc_model.specs.loading.SchemaFile.{BreaksDeclarations}
 use Rattle.rnc_model.specs.declared.token.Keyword.TheVariants as keywords
@@ -128,7 +130,7 @@ word_behind (identifier v) w ts e = refl
 word_behind (keyword k s) w ts e = refl
 word_behind _ w ts e = absurd cc
 
-declaration_behind : {ts : List Lexeme} {d : Declaration} → IsDeclaration ts d → (rest : List Lexeme) → follow Tilde rest ≡ None
+pub declaration_behind : {ts : List Lexeme} {d : Declaration} → IsDeclaration ts d → (rest : List Lexeme) → follow Tilde rest ≡ None
     → behind_declaration (ts ++ rest) ≡ rest
 declaration_behind (grammar.namespace {a = a} {x = x} {p = w} word p e) rest f = rw e (ap behind_value (word_behind x w (a ++ rest) word) ∙ uri_behind p rest f)
 declaration_behind (grammar.default_alone p e) rest f = rw e (uri_behind p rest f)
@@ -220,28 +222,28 @@ module _ {a b : List Lexeme} (f : File) (p : AreDeclarations a f.declarations) (
   }
 
   unknown_at : count ≡ length a + length b → (s : Scope) → declare_all nothing_declared f.declarations ≡ Some s
-      → number ≡ (count - length b) + unknown_number s (marks 0 Body b) → IsFirst s (in_body q) (unknown_number s (in_body q))
-      → HasUndeclaredPrefix f.declarations (length a) (in_body q) number
+      → number ≡ (count - length b) + unknown_number s (marks 0 Body b) → IsFirst s (prefixes_in (in_body q)) (unknown_number s (prefixes_in (in_body q)))
+      → IsFirstAt (IsUndeclaredPrefix f.declarations) (length a) (prefixes_in (in_body q)) number
   unknown_at size s applied is first =
-      let at : number ≡ (count - length b) + unknown_number s (in_body q) =
+      let at : number ≡ (count - length b) + unknown_number s (prefixes_in (in_body q)) =
       is ∙ ap (λ (ms : List (Option Declarable)). (count - length b) + unknown_number s ms) (marks_of_body q) in
       record {
         index = first.index;
         number_is = omega (arith, at, first.number_is, size);
-        prefix = first.prefix;
-        prefix_is = first.prefix_is;
-        undeclared = undeclared_where_unknown f.declarations s applied first.prefix first.unknown;
+        mark = first.prefix;
+        mark_is = first.prefix_is;
+        holds = undeclared_where_unknown f.declarations s applied first.prefix first.unknown;
         first = λ j other less is. declared_where_known f.declarations s applied other (first.first j other less is);
       }
 
-  first_unknown : (s : Scope) → declare_all nothing_declared f.declarations ≡ Some s → IsFirst s (in_body q) (unknown_number s (in_body q))
+  first_unknown : (s : Scope) → declare_all nothing_declared f.declarations ≡ Some s → IsFirst s (prefixes_in (in_body q)) (unknown_number s (prefixes_in (in_body q)))
   first_unknown s applied =
       let found = unknown_where_broken f.declarations s applied f refl broken in
-      is_first s (in_body q) found.0 (subst (Among found.0) (sym (present_in_body q)) found.1) found.2
+      is_first s (prefixes_in (in_body q)) found.0 (subst (Among found.0) (sym (present_in_body q)) found.1) found.2
 
   faulty_by : count ≡ length a + length b → Walked count (declaration_numbers 1 p) nothing_declared f.declarations b number
       → IsBrokenDeclaration (declaration_numbers 1 p) f.declarations number
-      ⊎ ((¬ (BreakDeclarationRule f.declarations)) × HasUndeclaredPrefix f.declarations (length a) (in_body q) number)
+      ⊎ ((¬ (BreakDeclarationRule f.declarations)) × IsFirstAt (IsUndeclaredPrefix f.declarations) (length a) (prefixes_in (in_body q)) number)
   faulty_by size (inl k) = inl (stuck_at k)
   faulty_by size (inr k) =
       inr (kept_where_applied f.declarations k.last k.applied, unknown_at size k.last k.applied k.number_is (first_unknown k.last k.applied))

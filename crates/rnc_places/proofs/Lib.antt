@@ -1,7 +1,10 @@
+mod BrokenDatatypes
+mod DatatypeSteps
 mod FaultSteps
 mod FilePieces
 mod FirstFault
 mod MentionedNames
 mod NestingNumber
 mod PrefixMarks
+mod ToldDatatypes
 mod ToldPlaces

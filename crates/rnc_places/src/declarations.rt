@@ -88,7 +88,7 @@ fn behind_value<'t, 'a>(tokens: &'t [Token<'a>]) -> &'t [Token<'a>]
 }
 
 /// The tokens after the declaration that begins here.
-fn behind_declaration<'t, 'a>(tokens: &'t [Token<'a>]) -> &'t [Token<'a>]
+pub fn behind_declaration<'t, 'a>(tokens: &'t [Token<'a>]) -> &'t [Token<'a>]
     ensures is { (total : ℕ) → lexemes_in total result.now ≡ plain.behind_declaration (lexemes_in total tokens.now) }
     ensures within { length result.now ≤ length tokens.now }
 {

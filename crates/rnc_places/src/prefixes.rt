@@ -91,7 +91,7 @@ fn part_after(part: Part, kind: TokenKind) -> Part
 }
 
 /// The number of open annotations after a token of this kind.
-fn depth_after(depth: usize, kind: TokenKind) -> usize
+pub fn depth_after(depth: usize, kind: TokenKind) -> usize
     requires { depth < 2 ^ 64 - 1 }
     ensures { (text : List ℕ) (number : ℕ) → result ≡ plain.depth_after depth (lexeme_at kind text number) }
 {
@@ -150,7 +150,7 @@ fn prefix_at<'a>(depth: usize, part: Part, token: &Token<'a>) -> Option<Prefix<'
 }
 
 /// Where the token after one of this kind is, inside so many annotations.
-fn part_at(depth: usize, part: Part, kind: TokenKind) -> Part
+pub fn part_at(depth: usize, part: Part, kind: TokenKind) -> Part
     ensures { (text : List ℕ) (number : ℕ) → result ≡ plain.part_at depth part (lexeme_at kind text number) }
 {
     match depth {
@@ -173,7 +173,7 @@ fn is_fault(
 }
 
 /// The first token, and the tokens after it.
-fn find_first<'t, 'a>(tokens: &'t [Token<'a>]) -> Option<(Token<'a>, &'t [Token<'a>])>
+pub fn find_first<'t, 'a>(tokens: &'t [Token<'a>]) -> Option<(Token<'a>, &'t [Token<'a>])>
     ensures reads { (total : ℕ) → option_map (λ x. (lexeme_at x.0.kind x.0.text.now (total - length x.1.now), lexemes_in total x.1.now)) result ≡ plain.first_of (lexemes_in total tokens.now) }
     ensures shorter { IfSome result (λ x. length x.1.now + 1 ≡ length tokens.now) }
 {

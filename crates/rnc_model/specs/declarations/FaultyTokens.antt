@@ -1,22 +1,15 @@
 -- The token at which a file breaks a rule about declarations: the first declaration that breaks one, or otherwise the
 -- first prefix that is not declared (RELAX NG Compact Syntax, "Declarations" and "Syntax").
-use Rattle.std.specs.Prelude.{◌≡◌, ◌≢◌, ℕ, suc, ◌+◌, ◌<◌, List, [], ◌∷◌, ◌++◌, length, map, take, slice_get, Option, Some, None, codes}
-use Rattle.rnc_model.specs.declared.token.Sign.{Sign}
+use Rattle.std.specs.Prelude.{◌≡◌, ◌≢◌, ℕ, suc, ◌+◌, ◌<◌, List, [], ◌∷◌, length, map, take, slice_get, Option, Some, None, codes}
 use Rattle.rnc_model.specs.declarations.DeclarationRules.{Declarable, namespace_prefix, datatype_prefix, IsUndeclared, BreaksDeclarationRule}
+use Rattle.rnc_model.specs.declarations.TokenUses.{Use, namespace_of, data_of, value_of}
 use Rattle.rnc_model.specs.grammar.Grammar as grammar
-use Rattle.rnc_model.specs.grammar.NameClasses as name_classes
-use Rattle.rnc_model.specs.grammar.NameClasses.{MayInherit, IsClass, AreMoreClasses, IsBasic, IsBareBasic}
-use Rattle.rnc_model.specs.grammar.Grammar.{IsPattern, AreMore, IsParticle, IsPrimary, IsBarePrimary}
-use Rattle.rnc_model.specs.grammar.Grammar.{IsBraced, Setting, AreComponents, IsComponent, IsBareComponent, MayOverride, AreDeclarations, IsBody}
+use Rattle.rnc_model.specs.grammar.Grammar.{AreDeclarations}
 use Rattle.rnc_model.specs.grammar.Syntax as syntax
 use Rattle.rnc_model.specs.grammar.Syntax.{written}
 use Rattle.rnc_model.specs.tokens.Cut.{Lexeme}
 
 -- ---- the prefix of each token of a body, if it has one that the file uses
-
--- tokens without a prefix
-abbrev pub no_prefixes : List Lexeme → List (Option Declarable)
-no_prefixes ts = map (λ x. None) ts
 
 -- the prefix of a datatype
 abbrev pub prefix_of_type : syntax.DatatypeName written → Option Declarable
@@ -24,91 +17,14 @@ prefix_of_type syntax.string_type = None
 prefix_of_type syntax.token_type = None
 prefix_of_type (syntax.prefixed_type p l) = Some (datatype_prefix p)
 
-abbrev pub in_inherit : {ts : List Lexeme} {p : Option (List ℕ)} → MayInherit ts p → List (Option Declarable)
-in_inherit (name_classes.without_inherit e) = []
-in_inherit (name_classes.with_inherit {w = w} is e) = None ∷ None ∷ Some (namespace_prefix w) ∷ []
+abbrev pub prefix_in : Option Use → Option Declarable
+prefix_in None = None
+prefix_in (Some (namespace_of p)) = Some (namespace_prefix p)
+prefix_in (Some (data_of d ps)) = prefix_of_type d
+prefix_in (Some (value_of d v)) = prefix_of_type d
 
-abbrev mutual
-  pub in_class : {ts : List Lexeme} {c : syntax.NameClass written} → IsClass ts c → List (Option Declarable)
-  in_class (name_classes.basic_class b) = in_basic b
-  in_class (name_classes.choice_class b more e f) = in_basic b ++ in_more_classes more
-  in_class (name_classes.any_except {n = n} may b e) = no_prefixes n ++ None ∷ None ∷ in_basic b
-  in_class (name_classes.ns_except {n = n} {p = p} may b e) = no_prefixes n ++ Some (namespace_prefix p) ∷ None ∷ in_basic b
-
-  pub in_more_classes : {ts : List Lexeme} {cs : List (syntax.NameClass written)} → AreMoreClasses ts cs → List (Option Declarable)
-  in_more_classes (name_classes.last_class b e) = None ∷ in_basic b
-  in_more_classes (name_classes.more_classes b more e) = None ∷ (in_basic b ++ in_more_classes more)
-
-  pub in_basic : {ts : List Lexeme} {c : syntax.NameClass written} → IsBasic ts c → List (Option Declarable)
-  in_basic (name_classes.annotated_basic {n = n} may b e) = no_prefixes n ++ in_bare_basic b
-
-  pub in_bare_basic : {ts : List Lexeme} {c : syntax.NameClass written} → IsBareBasic ts c → List (Option Declarable)
-  in_bare_basic (name_classes.word_class is e) = None ∷ []
-  in_bare_basic (name_classes.cname_class {p = p} e) = Some (namespace_prefix p) ∷ []
-  in_bare_basic (name_classes.ns_class {p = p} e) = Some (namespace_prefix p) ∷ []
-  in_bare_basic (name_classes.any_class e) = None ∷ []
-  in_bare_basic (name_classes.class_in_parens c e) = None ∷ (in_class c ++ None ∷ [])
-
-abbrev mutual
-  pub in_pattern : {ts : List Lexeme} {t : syntax.Pattern written} → IsPattern ts t → List (Option Declarable)
-  in_pattern (grammar.one_particle p) = in_particle p
-  in_pattern (grammar.particles is p more e f) = in_particle p ++ in_more more
-  in_pattern (grammar.data_except {n = n} {a = a} {d = d} x may is parameters p e) =
-      no_prefixes n ++ prefix_of_type d ∷ (no_prefixes a ++ None ∷ in_primary p)
-
-  pub in_more : {s : Sign} {ts : List Lexeme} {us : List (syntax.Pattern written)} → AreMore s ts us → List (Option Declarable)
-  in_more (grammar.last_particle p e) = None ∷ in_particle p
-  in_more (grammar.more_particles p more e) = None ∷ (in_particle p ++ in_more more)
-
-  pub in_particle : {ts : List Lexeme} {t : syntax.Pattern written} → IsParticle ts t → List (Option Declarable)
-  in_particle (grammar.once p) = in_primary p
-  in_particle (grammar.optional p e) = in_primary p ++ None ∷ []
-  in_particle (grammar.zero_or_more p e) = in_primary p ++ None ∷ []
-  in_particle (grammar.one_or_more p e) = in_primary p ++ None ∷ []
-
-  pub in_primary : {ts : List Lexeme} {t : syntax.Pattern written} → IsPrimary ts t → List (Option Declarable)
-  in_primary (grammar.annotated_primary {n = n} may p e) = no_prefixes n ++ in_bare_primary p
-
-  pub in_bare_primary : {ts : List Lexeme} {t : syntax.Pattern written} → IsBarePrimary ts t → List (Option Declarable)
-  in_bare_primary (grammar.element c p e) = None ∷ (in_class c ++ in_braced p)
-  in_bare_primary (grammar.attribute c p e) = None ∷ (in_class c ++ in_braced p)
-  in_bare_primary (grammar.list p e) = None ∷ in_braced p
-  in_bare_primary (grammar.mixed p e) = None ∷ in_braced p
-  in_bare_primary (grammar.ref e) = None ∷ []
-  in_bare_primary (grammar.parent_ref e) = None ∷ None ∷ []
-  in_bare_primary (grammar.empty e) = None ∷ []
-  in_bare_primary (grammar.text e) = None ∷ []
-  in_bare_primary (grammar.not_allowed e) = None ∷ []
-  in_bare_primary (grammar.untyped_value {ts} v) = no_prefixes ts
-  in_bare_primary (grammar.value {a = a} {d = d} is v e) = prefix_of_type d ∷ no_prefixes a
-  in_bare_primary (grammar.data_of {a = a} {d = d} is parameters e) = prefix_of_type d ∷ no_prefixes a
-  in_bare_primary (grammar.external {a = a} v may e f) = None ∷ (no_prefixes a ++ in_inherit may)
-  in_bare_primary (grammar.grammar cs e f) = None ∷ None ∷ (in_components cs ++ None ∷ [])
-  in_bare_primary (grammar.in_parens p e) = None ∷ (in_pattern p ++ None ∷ [])
-
-  pub in_braced : {ts : List Lexeme} {t : syntax.Pattern written} → IsBraced ts t → List (Option Declarable)
-  in_braced (grammar.in_braces p e) = None ∷ (in_pattern p ++ None ∷ [])
-
-  pub in_components : {w : Setting} {ts : List Lexeme} {cs : List (syntax.Component written)} → AreComponents w ts cs → List (Option Declarable)
-  in_components (grammar.no_components e) = []
-  in_components (grammar.and_component c cs e) = in_component c ++ in_components cs
-
-  pub in_component : {w : Setting} {ts : List Lexeme} {c : syntax.Component written} → IsComponent w ts c → List (Option Declarable)
-  in_component (grammar.annotated_component {n = n} may c e) = no_prefixes n ++ in_bare_component c
-
-  pub in_bare_component : {w : Setting} {ts : List Lexeme} {c : syntax.Component written} → IsBareComponent w ts c → List (Option Declarable)
-  in_bare_component (grammar.start is p e) = None ∷ None ∷ in_pattern p
-  in_bare_component (grammar.define is p e) = None ∷ None ∷ in_pattern p
-  in_bare_component (grammar.div cs e f) = None ∷ None ∷ (in_components cs ++ None ∷ [])
-  in_bare_component (grammar.include {a = a} is v may over e f) = None ∷ (no_prefixes a ++ (in_inherit may ++ in_overrides over))
-
-  pub in_overrides : {ts : List Lexeme} {cs : List (syntax.Component written)} → MayOverride ts cs → List (Option Declarable)
-  in_overrides (grammar.without_overrides e) = []
-  in_overrides (grammar.with_overrides cs e) = None ∷ (in_components cs ++ None ∷ [])
-
-abbrev pub in_body : {ts : List Lexeme} {b : syntax.Body} → IsBody ts b → List (Option Declarable)
-in_body (grammar.pattern_body p) = in_pattern p
-in_body (grammar.grammar_body cs e) = in_components cs
+abbrev pub prefixes_in : List (Option Use) → List (Option Declarable)
+prefixes_in uses = map prefix_in uses
 
 -- ---- the number of the first token of each declaration, if the first of them begins at the token with this number
 abbrev pub declaration_numbers : {ts : List Lexeme} {ds : List syntax.Declaration} → ℕ → AreDeclarations ts ds → List ℕ
@@ -134,12 +50,12 @@ pub data IsUndeclaredPrefix (ds : List syntax.Declaration) : Declarable → Type
   namespace : {p : List ℕ} → p ≢ codes "xml" → IsUndeclared (namespace_prefix p) ds → IsUndeclaredPrefix ds (namespace_prefix p)
   datatypes : {p : List ℕ} → p ≢ codes "xsd" → IsUndeclared (datatype_prefix p) ds → IsUndeclaredPrefix ds (datatype_prefix p)
 
--- The token with this number has a prefix that is not declared, and no token before it has one. The tokens before the
--- body are so many.
-pub record HasUndeclaredPrefix (ds : List syntax.Declaration) (before : ℕ) (prefixes : List (Option Declarable)) (number : ℕ) : Type 0 where
+-- The token with this number is the first one with a mark for which this holds. The tokens before the marked ones are so
+-- many.
+pub record IsFirstAt {A : Type 0} (Holds : A → Type 0) (before : ℕ) (marks : List (Option A)) (number : ℕ) : Type 0 where
   pub index : ℕ
   pub number_is : number ≡ before + suc index
-  pub prefix : Declarable
-  pub prefix_is : slice_get prefixes index ≡ Some (Some prefix)
-  pub undeclared : IsUndeclaredPrefix ds prefix
-  pub first : (k : ℕ) (other : Declarable) → k < index → slice_get prefixes k ≡ Some (Some other) → ¬ (IsUndeclaredPrefix ds other)
+  pub mark : A
+  pub mark_is : slice_get marks index ≡ Some (Some mark)
+  pub holds : Holds mark
+  pub first : (k : ℕ) (other : A) → k < index → slice_get marks k ≡ Some (Some other) → ¬ (Holds other)

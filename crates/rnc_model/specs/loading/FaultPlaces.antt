@@ -9,14 +9,15 @@ use Rattle.rnc_model.specs.grammar.Grammar as grammar
 use Rattle.rnc_model.specs.grammar.Grammar.{IsFile}
 use Rattle.rnc_model.specs.grammar.Syntax.{File}
 use Rattle.rnc_model.specs.tokens.Cut.{Lexeme, lexemes, Token, BreaksTokensAt}
-use Rattle.rnc_model.specs.declarations.FaultyTokens.{BreakDeclarationRule, IsBrokenDeclaration, HasUndeclaredPrefix, declaration_numbers, in_body}
+use Rattle.rnc_model.specs.declarations.FaultyTokens.{BreakDeclarationRule, IsBrokenDeclaration, IsUndeclaredPrefix, IsFirstAt, declaration_numbers, prefixes_in}
+use Rattle.rnc_model.specs.declarations.TokenUses.{in_body}
 use Rattle.rnc_model.specs.grammar.Sentence.{BreaksGrammarAt, nesting_limit, openings, closings}
 
 -- the first declaration that breaks a rule begins at the token with this number; or the declarations break none, and it
 -- is the first token whose prefix is not declared
 abbrev pub IsFaultyToken : {ts : List Lexeme} {f : File} → IsFile ts f → ℕ → Type 0
 IsFaultyToken (grammar.file {f = f} {a = a} ds body e) number = IsBrokenDeclaration (declaration_numbers 1 ds) f.declarations number
-    ⊎ ((¬ (BreakDeclarationRule f.declarations)) × HasUndeclaredPrefix f.declarations (length a) (in_body body) number)
+    ⊎ ((¬ (BreakDeclarationRule f.declarations)) × IsFirstAt (IsUndeclaredPrefix f.declarations) (length a) (prefixes_in (in_body body)) number)
 
 -- the tokens break a rule about declarations, and the first fault is at the token with this number
 pub record BreaksDeclarationsAt (ts : List Lexeme) (number : ℕ) : Type 0 where
