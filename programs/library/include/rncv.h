@@ -99,7 +99,15 @@ enum {
     RNCV_SPACE = 5      /* the buffer is too small */
 };
 
-/* Compiles the schema of `count` files, and puts it into `schema`. The first file is the main one. What `schema` held is freed.
+/* The sets of datatypes that a schema may name (docs/LANGUAGE.md). The URI that is empty has `string` and `token` in both. In the library of XML Schema: */
+enum rncv_datatypes {
+    RNCV_DATATYPES_PROFILE = 0,   /* string, token, NCName, NMTOKEN, boolean, and integer of at most 38 digits */
+    RNCV_DATATYPES_XML_SCHEMA = 1 /* these, with integers of any length; normalizedString, language, Name, NMTOKENS, ID, IDREF, IDREFS, ENTITY, ENTITIES,
+                                     anyURI, QName, NOTATION, and the twelve types of integers with bounds of their own; with more parameters */
+};
+
+/* Compiles the schema of `count` files, and puts it into `schema`. The first file is the main one. What `schema` held is freed. The datatypes are those
+ * of RNCV_DATATYPES_PROFILE.
  *
  * RNCV_REFUSED: the files break a clause, and `fault` says which. RNCV_MEMORY: out of memory. RNCV_MISUSE: `count` is 0, or a name is not UTF-8.
  * Unless the status is RNCV_DONE, `schema` is unchanged. Unless it is RNCV_REFUSED, `fault` is unchanged. `files` may be NULL if `count` is 0.
@@ -107,8 +115,14 @@ enum {
  * The caller keeps `files` and may free them after the call. Only one thread at a time may use `schema`. */
 int32_t rncv_compile(const rncv_file *files, size_t count, rncv_schema *schema, rncv_fault *fault);
 
+/* Does what rncv_compile does, for a schema that may name the datatypes of a set: one of `enum rncv_datatypes`. Only the clause S12 depends on it, and what
+ * texts a datatype takes. With RNCV_DATATYPES_PROFILE this is rncv_compile. The schema keeps its set: handles that share it have it too.
+ *
+ * The statuses are those of rncv_compile. RNCV_MISUSE: also if `datatypes` is no set. The rules for the caller are those of rncv_compile. */
+int32_t rncv_compile_with(const rncv_file *files, size_t count, uint32_t datatypes, rncv_schema *schema, rncv_fault *fault);
+
 /* Writes the name of the file that breaks a clause by itself, S1 to S8, to `buffer`, which has `size` bytes, and the name's length to `length`. The
- * clause is the one that rncv_compile reports of these files. For S1 the file may be one that was not handed in; its name is then the one by which
+ * clause is the one that rncv_compile reports of these files, and rncv_compile_with with any set. For S1 the file may be one that was not handed in; its name is then the one by which
  * another file mentions it. The name does not end in a zero. `buffer` may be NULL if `size` is 0. Each call compiles the files again.
  *
  * RNCV_SPACE: the name does not fit; nothing is written to `buffer`, and `length` is the number of bytes that it needs. RNCV_MEMORY: out of memory.

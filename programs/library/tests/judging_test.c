@@ -261,6 +261,36 @@ static void titles(void) {
     CHECK(strcmp(rncv_clause_title('P', 1), "each line is ended by a line feed (profile)") == 0);
 }
 
+/* The two sets of datatypes: which schemas are refused, and what texts are taken. Handles that share a schema have its set. */
+static void sets(void) {
+    static const char larger[] = "element a { attribute b { xsd:positiveInteger { maxExclusive = \"9\" } }, xsd:language }";
+    static const char both[] = "element a { attribute b { xsd:integer }, xsd:token }";
+    static const char long_number[] = "(a\nAb 1000000000000000000000000000000000000000\n-de-AT\n)a\n";
+    rncv_schema schema = RNCV_NOTHING;
+    rncv_schema other = RNCV_NOTHING;
+    rncv_fault fault = {0, 0, 0, 0, 0};
+    rncv_verdict verdict;
+    rncv_file file = file_of("s.rnc", larger);
+    CHECK(rncv_compile(&file, 1, &schema, &fault) == RNCV_REFUSED && fault.clause == 12 && fault.file == -1);
+    fault.clause = 0;
+    CHECK(rncv_compile_with(&file, 1, RNCV_DATATYPES_PROFILE, &schema, &fault) == RNCV_REFUSED && fault.clause == 12);
+    CHECK(rncv_compile_with(&file, 1, RNCV_DATATYPES_XML_SCHEMA, &schema, &fault) == RNCV_DONE);
+    CHECK(rncv_schema_share(&schema, &other) == RNCV_DONE);
+    rncv_schema_free(&schema);
+    CHECK(rncv_document_begin(&other) == RNCV_DONE && feed(&other, "(a\nAb +08\n-de-AT\n)a\n") == RNCV_DONE);
+    CHECK(rncv_document_end(&other, &verdict) == RNCV_DONE && verdict.kind == RNCV_VALID);
+    CHECK(rncv_document_begin(&other) == RNCV_DONE && feed(&other, "(a\nAb 9\n-de-AT\n)a\n") == RNCV_DONE);
+    CHECK(rncv_document_end(&other, &verdict) == RNCV_DONE && verdict.kind == RNCV_INVALID && verdict.line == 3);
+    file = file_of("s.rnc", both);
+    for (uint32_t set = RNCV_DATATYPES_PROFILE; set <= RNCV_DATATYPES_XML_SCHEMA; set++) {
+        CHECK(rncv_compile_with(&file, 1, set, &other, &fault) == RNCV_DONE);
+        CHECK(rncv_document_begin(&other) == RNCV_DONE && feed(&other, long_number) == RNCV_DONE);
+        CHECK(rncv_document_end(&other, &verdict) == RNCV_DONE);
+        CHECK(verdict.kind == (set == RNCV_DATATYPES_PROFILE ? RNCV_INVALID : RNCV_VALID));
+    }
+    rncv_schema_free(&other);
+}
+
 int main(void) {
     judges();
     refuses();
@@ -270,6 +300,7 @@ int main(void) {
     prints();
     knows_early();
     begins_anew();
+    sets();
     serves_many_documents();
     titles();
     return outcome("judging");

@@ -29,8 +29,12 @@ void *__wrap_realloc(void *block, size_t size) {
                "d = element d { list { \"x\", xsd:token* } }\n"
 #define DOCUMENT "(a\nAb 12\n(c\n-one\n)c\n(d\n-x y\n)d\n)a\n"
 
-/* One run: returns 1 if it reached its end, 0 if a call returned RNCV_MEMORY. Every other answer is right. */
-static int run_once(void) {
+/* The larger set has this too. */
+#define LARGER "start = element a { attribute b { xsd:byte { minInclusive = \"1\" maxExclusive = \"99\" } }?, (element c { xsd:NMTOKENS } | d)* }\n" \
+               "d = element d { list { \"x\", xsd:language* } }\n"
+
+/* One run, by the schema and with the datatypes of a set: returns 1 if it reached its end, 0 if a call returned RNCV_MEMORY. Every other answer is right. */
+static int run_once_with(const char *text, uint32_t datatypes) {
     rncv_schema schema = RNCV_NOTHING;
     rncv_schema other = RNCV_NOTHING;
     rncv_verdict verdict = {7, 7, 7};
@@ -39,7 +43,7 @@ static int run_once(void) {
     uint64_t line = 99;
     int32_t status;
 
-    status = compile(SCHEMA, &schema);
+    status = compile_with(text, datatypes, &schema);
     CHECK(status == RNCV_DONE || schema.hidden == NULL);
     if (status == RNCV_DONE) {
         status = rncv_schema_share(&schema, &other);
@@ -66,6 +70,14 @@ static int run_once(void) {
     rncv_schema_free(&other);
     rncv_schema_free(&schema);
     return status == RNCV_DONE;
+}
+
+static int run_once(void) {
+    return run_once_with(SCHEMA, RNCV_DATATYPES_PROFILE);
+}
+
+static int run_once_with_all_types(void) {
+    return run_once_with(LARGER, RNCV_DATATYPES_XML_SCHEMA);
 }
 
 /* Asks for the name of a file that is not there: returns 1 if it is written, 0 if the call ran out of memory. */
@@ -148,26 +160,31 @@ static void recovers(void) {
     rncv_schema_free(&schema);
 }
 
-int main(void) {
-    long count;
-    long step;
-
+/* Refuses each growth of a run in turn, and all from one on. Returns how many there are. */
+static long each_growth_of_a_run(int (*once)(void)) {
     growth = 0;
-    CHECK(run_once());
-    count = growth;
-    step = is_quick() ? 1 + count / 100 : 1;
+    first = last = -1;
+    CHECK(once());
+    long count = growth;
+    long step = is_quick() ? 1 + count / 100 : 1;
     CHECK(count > 10);
     for (long refused = 0; refused < count; refused += step) {
         growth = 0;
         first = last = refused;
-        run_once();
+        once();
         growth = 0;
         first = refused;
         last = refused + 1000000;
-        CHECK(!run_once() || refused > 0); /* a run can do without some later growths */
+        CHECK(!once() || refused > 0); /* a run can do without some later growths */
     }
     first = last = -1;
-    CHECK(run_once());
+    CHECK(once());
+    return count;
+}
+
+int main(void) {
+    long count = each_growth_of_a_run(run_once);
+    count += each_growth_of_a_run(run_once_with_all_types);
     recovers();
     each_growth_of(name_once);
     each_growth_of(mentions_once);

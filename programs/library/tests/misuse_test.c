@@ -86,11 +86,28 @@ static void on_files(void) {
     rncv_schema_free(&schema);
 }
 
+/* A number that is no set of datatypes is refused, whatever the files are, and nothing is changed. */
+static void on_sets(void) {
+    rncv_schema schema = RNCV_NOTHING;
+    rncv_fault fault = {7, 7, 7, 7, 7};
+    rncv_file good = file_of("s.rnc", "element a { empty }");
+    rncv_file bad = file_of("s.rnc", "element a {");
+    CHECK(rncv_compile_with(&good, 1, 2, &schema, &fault) == RNCV_MISUSE);
+    CHECK(rncv_compile_with(&bad, 1, UINT32_MAX, &schema, &fault) == RNCV_MISUSE);
+    CHECK(rncv_compile_with(NULL, 0, RNCV_DATATYPES_XML_SCHEMA, &schema, &fault) == RNCV_MISUSE);
+    CHECK(schema.hidden == NULL && fault.clause == 7 && fault.file == 7);
+    CHECK(rncv_compile_with(&good, 1, RNCV_DATATYPES_XML_SCHEMA, &schema, &fault) == RNCV_DONE && schema.hidden != NULL);
+    void *held = schema.hidden;
+    CHECK(rncv_compile_with(&good, 1, 2, &schema, &fault) == RNCV_MISUSE && schema.hidden == held);
+    rncv_schema_free(&schema);
+}
+
 int main(void) {
     rncv_schema schema = RNCV_NOTHING;
     on_nothing(&schema);
     on_a_schema();
     on_a_document();
     on_files();
+    on_sets();
     return outcome("misuse");
 }

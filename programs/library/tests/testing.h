@@ -24,6 +24,13 @@ static inline rncv_file file_of(const char *name, const char *text) {
     return file;
 }
 
+/* Compiles the schema of one file, which may name the datatypes of a set. */
+static inline int32_t compile_with(const char *text, uint32_t datatypes, rncv_schema *schema) {
+    rncv_file file = file_of("s.rnc", text);
+    rncv_fault fault = {0, 0, 0, 0, 0};
+    return rncv_compile_with(&file, 1, datatypes, schema, &fault);
+}
+
 /* Compiles the schema of one file. */
 static inline int32_t compile(const char *text, rncv_schema *schema) {
     rncv_file file = file_of("s.rnc", text);
