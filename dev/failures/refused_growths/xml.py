@@ -50,6 +50,7 @@ FILES = {
                "# rncv-profile: 2 ID-types marked, see ids.profile.txt\n",
     "unsound.rnc": 'element a { attribute x | y { xsd:NCName { minLength = "000000001" } } }\n# rncv-profile: 1 ID-type marked, see unsound.profile.txt\n',
     "ids.xml": '<a x="p"><b y="p"/></a>\n', "noid.xml": '<a xmlns:q="u" x="p"><b y="r"/></a>\n', "noids.xml": '<a x="p"/>\n',
+    "types.rnc": 'element a { attribute x { xsd:int { minInclusive = "1" maxExclusive = "9" } }, (xsd:QName | xsd:ENTITIES) }\n', "types.xml": '<a x="5">p:q</a>\n',
     "list": "good.xml\nbad.xml\n", "zeros": "good.xml\0none.xml\0", "large.xml": "<a>" + "<!-- some words -->\n" * 15_000 + "<b/></a>\n",
 }
 # What libxml2 writes to standard error where it has no memory for the values of a thread. Whether a thread has a document to read is a matter of time.
@@ -77,6 +78,9 @@ CASES = (
     (0, "rncv-xml -j2 --all t.rnc large.xml"),
     (1, "rncv-xml -j1 --all ids.rnc ids.xml noid.xml"),
     (0, "rncv-xml -j1 --all unsound.rnc noids.xml"),
+    (0, "rncv-xml -j1 --all types.rnc types.xml"),
+    (3, "rncv-xml --strict types.rnc types.xml"),
+    (3, "rncv-xml --datatypes profile types.rnc"),
     (0, "rncv-xml --map http://example.org/x=e.rnc mapped.rnc --"),
     (0, "rncv-xml --catalog c.cat mapped.rnc --"),
     (3, "rncv-xml missing.rnc good.xml"),

@@ -165,11 +165,17 @@ int32_t rncv_xml_files_explain(const rncv_xml_files *files, const rncv_fault *re
  * RNCV_MEMORY: out of memory. Then nothing is changed. */
 int32_t rncv_xml_annotations_blank(void *bytes, size_t length, int32_t *changed);
 
+/* The same for files that rncv_compile_with refuses, with the same `datatypes`. RNCV_MISUSE: also if `datatypes` is no set. */
+int32_t rncv_xml_files_explain_with(const rncv_xml_files *files, const rncv_fault *refused, uint32_t datatypes, rncv_xml_fault *fault);
+
 /* Looks for the place where files that rncv_compile refuses break this clause. The first file is the main one. There are hints about S1, about
  * S6 (a name in an annotation; if the place is not that of rncv_compile, there is another fault before it) and about S9 to S27, except S17. The files may have
  * their annotations, and then the place is the one in them. `paths` are the names of the files for people, in UTF-8; it may be NULL, and so may each of them:
  * then it is the name in the file. It takes a few times the memory of the files, and at most about a second. If memory runs out, there is no hint. */
 int32_t rncv_xml_hint_find(const rncv_file *files, const char *const *paths, size_t count, int32_t clause, rncv_xml_hint *hint);
+
+/* The same for files that rncv_compile_with refuses, with the same `datatypes`. RNCV_MISUSE: also if `datatypes` is no set. */
+int32_t rncv_xml_hint_find_with(const rncv_file *files, const char *const *paths, size_t count, int32_t clause, uint32_t datatypes, rncv_xml_hint *hint);
 
 void rncv_xml_files_free(rncv_xml_files *files);
 void rncv_xml_fault_free(rncv_xml_fault *fault);
@@ -180,12 +186,21 @@ void rncv_xml_fault_free(rncv_xml_fault *fault);
  * RNCV_XML_UNREAD, RNCV_REFUSED, RNCV_MEMORY: as for rncv_xml_files_find and rncv_compile. Then `judge` is unchanged. */
 int32_t rncv_xml_judge_open(const char *path, const rncv_xml_mapping *mappings, size_t count, rncv_xml_judge *judge, rncv_xml_fault *fault);
 
+/* The same by rncv_compile_with, for a schema that may name the datatypes of a set: one of `enum rncv_datatypes`. RNCV_MISUSE: also if `datatypes` is no set.
+ * With RNCV_DATATYPES_XML_SCHEMA texts of QName, NOTATION, ENTITY and ENTITIES are judged by their spelling: prefixes and entities are not looked up. */
+int32_t rncv_xml_judge_open_with(const char *path, const rncv_xml_mapping *mappings, size_t count, uint32_t datatypes, rncv_xml_judge *judge,
+                                 rncv_xml_fault *fault);
+
 /* Makes a judge by a compiled schema, which is shared and not copied. `schema` is of the librncv that this library is linked to. `files` are those of the
  * schema: to find what is wrong at a place, their literals are tried. `files` may be NULL if `count` is 0. Then other values are tried, and the verdicts are
  * the same. What `judge` held is freed.
  *
  * RNCV_MEMORY: out of memory. RNCV_MISUSE: also if a document is in progress. Unless the status is RNCV_DONE, `judge` is unchanged. */
 int32_t rncv_xml_judge_new(rncv_schema *schema, const rncv_file *files, size_t count, rncv_xml_judge *judge);
+
+/* The same for a schema of rncv_compile_with, with the same `datatypes`. With others, or by rncv_xml_judge_new, the verdicts are the same too, and the words
+ * about a place may be others. RNCV_MISUSE: also if `datatypes` is no set. */
+int32_t rncv_xml_judge_new_with(rncv_schema *schema, const rncv_file *files, size_t count, uint32_t datatypes, rncv_xml_judge *judge);
 
 /* Makes `other` a second judge by the same schema, for example for another thread. What `other` held is freed. RNCV_MEMORY: out of memory. Unless the status
  * is RNCV_DONE, `other` is unchanged. The two are different objects. */

@@ -57,6 +57,7 @@ struct shared {
     const char *const *values; /* texts to try instead of an attribute's value, to find a wrong one */
     size_t value_count;
     const struct id_types *ids; /* the attributes with an ID-type; NULL: IDs are not checked */
+    uint32_t datatypes; /* the set that the schema was compiled with; if it is another one, words about a place may be others */
     struct streams streams;
     atomic_ullong bytes_read;
     bool is_strict;    /* a document with a note is outside the profile */

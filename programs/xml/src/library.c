@@ -23,6 +23,7 @@ struct values {
     size_t count;
     struct id_types *ids;  /* NULL: there are none */
     struct bytes unsound;  /* why they are not checked; empty if they are */
+    uint32_t datatypes;    /* that the schema was compiled with */
 };
 
 /* What a judge's handle holds. */
@@ -51,6 +52,11 @@ struct reading {
     void *context;
 };
 
+/* Whether the number is a set of datatypes. */
+static bool is_set(uint32_t datatypes) {
+    return datatypes == RNCV_DATATYPES_PROFILE || datatypes == RNCV_DATATYPES_XML_SCHEMA;
+}
+
 static void no_tick(void *context) {
     (void)context;
 }
@@ -69,12 +75,13 @@ static void values_let_go(struct values *values) {
 }
 
 /* Takes the values out of the files of a schema, and reads its ID-types. NULL: out of memory. */
-static struct values *values_of(rncv_schema *schema, struct schema_files *files) {
+static struct values *values_of(rncv_schema *schema, uint32_t datatypes, struct schema_files *files) {
     struct values *values = calloc(1, sizeof *values);
     if (values == NULL) {
         return NULL;
     }
     atomic_init(&values->owners, 1);
+    values->datatypes = datatypes;
     values->list = files->values;
     values->count = files->value_count;
     files->values = NULL;
@@ -110,6 +117,7 @@ static int32_t hold(rncv_schema *schema, struct values *values, rncv_xml_judge *
     held->shared.values = (const char *const *)values->list;
     held->shared.value_count = values->count;
     held->shared.ids = values->ids;
+    held->shared.datatypes = values->datatypes;
     held->shared.tick = no_tick;
     atomic_init(&held->shared.bytes_read, 0);
     int32_t status = rncv_schema_share(schema, &held->shared.schema);
@@ -274,14 +282,16 @@ static struct schema_hint_file *hint_files(const rncv_file *files, const char *c
 }
 
 /* Looks for a hint in the list, and frees the list. */
-static void find_hint(struct schema_hint_file *list, size_t count, int32_t clause, rncv_xml_hint *hint) {
+static void find_hint(struct schema_hint_file *list, size_t count, int32_t clause, uint32_t datatypes, rncv_xml_hint *hint) {
     _Static_assert(RNCV_XML_HINT_BYTES == SCHEMA_HINT_BYTES, "a text fits");
+    _Static_assert((int)SCHEMA_HINT_PROFILE == (int)RNCV_DATATYPES_PROFILE, "sets are the same");
+    _Static_assert((int)SCHEMA_HINT_XML_SCHEMA == (int)RNCV_DATATYPES_XML_SCHEMA, "sets are the same");
     struct schema_hint found;
     hint->file = 0;
     hint->line = 0;
     hint->column = 0;
     hint->text[0] = '\0';
-    if (list != NULL && schema_hint_find(list, count, clause, &found)) {
+    if (list != NULL && schema_hint_find(list, count, clause, datatypes, &found)) {
         hint->file = found.file;
         hint->line = found.line;
         hint->column = found.column;
@@ -290,12 +300,16 @@ static void find_hint(struct schema_hint_file *list, size_t count, int32_t claus
     free(list);
 }
 
-int32_t rncv_xml_hint_find(const rncv_file *files, const char *const *paths, size_t count, int32_t clause, rncv_xml_hint *hint) {
-    if (files == NULL || count == 0 || hint == NULL) {
+int32_t rncv_xml_hint_find_with(const rncv_file *files, const char *const *paths, size_t count, int32_t clause, uint32_t datatypes, rncv_xml_hint *hint) {
+    if (files == NULL || count == 0 || hint == NULL || !is_set(datatypes)) {
         return RNCV_MISUSE;
     }
-    find_hint(hint_files(files, paths, count), count, clause, hint);
+    find_hint(hint_files(files, paths, count), count, clause, datatypes, hint);
     return RNCV_DONE;
+}
+
+int32_t rncv_xml_hint_find(const rncv_file *files, const char *const *paths, size_t count, int32_t clause, rncv_xml_hint *hint) {
+    return rncv_xml_hint_find_with(files, paths, count, clause, RNCV_DATATYPES_PROFILE, hint);
 }
 
 /* Says which mentioned file is not there. */
@@ -313,7 +327,7 @@ static void explain_missing(struct missing *missing, rncv_xml_fault *fault, stru
 }
 
 /* Looks for a hint in files that were found. Its places are those of the files that were read, also where the compact syntax was written of them. */
-static void find_own_hint(const rncv_xml_files *files, int32_t clause, rncv_xml_hint *hint) {
+static void find_own_hint(const rncv_xml_files *files, int32_t clause, uint32_t datatypes, rncv_xml_hint *hint) {
     const struct found *found = files->hidden;
     const struct schema_files *read = &found->files;
     struct schema_hint_file *list = calloc(read->count, sizeof *list);
@@ -322,20 +336,20 @@ static void find_own_hint(const rncv_xml_files *files, int32_t clause, rncv_xml_
         const struct bytes *written = schema_file_written(file);
         list[at] = (struct schema_hint_file){file->name.data, file->name.length, written->data, written->length, file->path.data, &file->origins};
     }
-    find_hint(list, read->count, clause, hint);
+    find_hint(list, read->count, clause, datatypes, hint);
 }
 
 /* Says what is wrong in an annotation, if that is at the place where the library refuses the file. */
 static void add_annotation_hint(const rncv_xml_files *files, uint64_t file, const rncv_xml_fault *fault, struct bytes *message) {
     rncv_xml_hint hint;
-    find_own_hint(files, 6, &hint);
+    find_own_hint(files, 6, RNCV_DATATYPES_PROFILE, &hint); /* the clause does not depend on the datatypes */
     if (hint.line > 0 && hint.line == fault->line && hint.column == fault->column && hint.file == file) {
         bytes_format(message, ": hint: %s", hint.text);
     }
 }
 
 /* Says where the file is refused, or else where a hint is. */
-static void explain_place(const rncv_xml_files *files, const rncv_fault *refused, rncv_xml_fault *fault, struct bytes *message) {
+static void explain_place(const rncv_xml_files *files, const rncv_fault *refused, uint32_t datatypes, rncv_xml_fault *fault, struct bytes *message) {
     struct schema_files *read = &((struct found *)files->hidden)->files;
     bool is_known = refused->file >= 0 && (uint64_t)refused->file < read->count;
     struct bytes path = NO_BYTES;
@@ -353,7 +367,7 @@ static void explain_place(const rncv_xml_files *files, const rncv_fault *refused
     } else {
         fault->line = 0;
         fault->column = 0;
-        find_own_hint(files, refused->clause, &hint);
+        find_own_hint(files, refused->clause, datatypes, &hint);
     }
     if (hint.line > 0) {
         bytes_format(message, ": hint: %s", hint.text);
@@ -365,8 +379,8 @@ static void explain_place(const rncv_xml_files *files, const rncv_fault *refused
     fault->path = taken(&path);
 }
 
-int32_t rncv_xml_files_explain(const rncv_xml_files *files, const rncv_fault *refused, rncv_xml_fault *fault) {
-    if (files == NULL || files->hidden == NULL || refused == NULL || fault == NULL) {
+int32_t rncv_xml_files_explain_with(const rncv_xml_files *files, const rncv_fault *refused, uint32_t datatypes, rncv_xml_fault *fault) {
+    if (files == NULL || files->hidden == NULL || refused == NULL || fault == NULL || !is_set(datatypes)) {
         return RNCV_MISUSE;
     }
     struct found *found = files->hidden;
@@ -379,43 +393,52 @@ int32_t rncv_xml_files_explain(const rncv_xml_files *files, const rncv_fault *re
     if (refused->clause == 1 && refused->file < 0 && found->files.missing.is_there) {
         explain_missing(&found->files.missing, fault, &message);
     } else {
-        explain_place(files, refused, fault, &message);
+        explain_place(files, refused, datatypes, fault, &message);
     }
     fault->message = taken(&message);
     return fault->path == NULL || fault->message == NULL ? RNCV_MEMORY : RNCV_DONE;
 }
 
+int32_t rncv_xml_files_explain(const rncv_xml_files *files, const rncv_fault *refused, rncv_xml_fault *fault) {
+    return rncv_xml_files_explain_with(files, refused, RNCV_DATATYPES_PROFILE, fault);
+}
+
 /* Compiles the files, and makes a judge. */
-static int32_t open_judge(rncv_xml_files *files, rncv_xml_judge *judge, rncv_xml_fault *fault) {
+static int32_t open_judge(rncv_xml_files *files, uint32_t datatypes, rncv_xml_judge *judge, rncv_xml_fault *fault) {
     rncv_schema schema = RNCV_NOTHING;
     rncv_fault refused;
-    int32_t status = schema_files_compile(&((struct found *)files->hidden)->files, &schema, &refused);
+    int32_t status = schema_files_compile(&((struct found *)files->hidden)->files, datatypes, &schema, &refused);
     if (status == RNCV_REFUSED && fault != NULL) {
-        rncv_xml_files_explain(files, &refused, fault);
+        rncv_xml_files_explain_with(files, &refused, datatypes, fault);
     }
     if (status == RNCV_DONE) {
-        struct values *values = values_of(&schema, &((struct found *)files->hidden)->files);
+        struct values *values = values_of(&schema, datatypes, &((struct found *)files->hidden)->files);
         status = values == NULL ? RNCV_MEMORY : hold(&schema, values, judge);
     }
     rncv_schema_free(&schema);
     return status;
 }
 
-int32_t rncv_xml_judge_open(const char *path, const rncv_xml_mapping *mappings, size_t count, rncv_xml_judge *judge, rncv_xml_fault *fault) {
-    if (judge == NULL || is_busy(judge)) {
+int32_t rncv_xml_judge_open_with(const char *path, const rncv_xml_mapping *mappings, size_t count, uint32_t datatypes, rncv_xml_judge *judge,
+                                 rncv_xml_fault *fault) {
+    if (judge == NULL || is_busy(judge) || !is_set(datatypes)) {
         return RNCV_MISUSE;
     }
     rncv_xml_files files = RNCV_XML_NO_FILES;
     int32_t status = rncv_xml_files_find(path, mappings, count, &files, fault);
     if (status == RNCV_DONE) {
-        status = open_judge(&files, judge, fault);
+        status = open_judge(&files, datatypes, judge, fault);
     }
     rncv_xml_files_free(&files);
     return status;
 }
 
-int32_t rncv_xml_judge_new(rncv_schema *schema, const rncv_file *files, size_t count, rncv_xml_judge *judge) {
-    if (schema == NULL || judge == NULL || is_busy(judge) || (files == NULL && count > 0)) {
+int32_t rncv_xml_judge_open(const char *path, const rncv_xml_mapping *mappings, size_t count, rncv_xml_judge *judge, rncv_xml_fault *fault) {
+    return rncv_xml_judge_open_with(path, mappings, count, RNCV_DATATYPES_PROFILE, judge, fault);
+}
+
+int32_t rncv_xml_judge_new_with(rncv_schema *schema, const rncv_file *files, size_t count, uint32_t datatypes, rncv_xml_judge *judge) {
+    if (schema == NULL || judge == NULL || is_busy(judge) || (files == NULL && count > 0) || !is_set(datatypes)) {
         return RNCV_MISUSE;
     }
     struct schema_files read;
@@ -430,12 +453,16 @@ int32_t rncv_xml_judge_new(rncv_schema *schema, const rncv_file *files, size_t c
         is_good = files[at].length == 0 || schema_files_add_values(&read, (const char *)files[at].bytes, files[at].length);
     }
     if (is_good) {
-        values = values_of(&own, &read);
+        values = values_of(&own, datatypes, &read);
     }
     schema_files_free(&read);
     status = values == NULL ? RNCV_MEMORY : hold(&own, values, judge);
     rncv_schema_free(&own);
     return status;
+}
+
+int32_t rncv_xml_judge_new(rncv_schema *schema, const rncv_file *files, size_t count, rncv_xml_judge *judge) {
+    return rncv_xml_judge_new_with(schema, files, count, RNCV_DATATYPES_PROFILE, judge);
 }
 
 int32_t rncv_xml_judge_share(rncv_xml_judge *judge, rncv_xml_judge *other) {

@@ -13,6 +13,7 @@ enum name {
     NAME_STDIN_NAME,
     NAME_MAP,
     NAME_CATALOG,
+    NAME_DATATYPES,
     NAME_ALL,
     NAME_VERBOSE,
     NAME_QUIET,
@@ -44,6 +45,7 @@ static const struct option known[] = {
     {"--stdin-name", 0, true, NAME_STDIN_NAME},
     {"--map", 0, true, NAME_MAP},
     {"--catalog", 0, true, NAME_CATALOG},
+    {"--datatypes", 0, true, NAME_DATATYPES},
     {"--all", 0, false, NAME_ALL},
     {"--verbose", 'v', false, NAME_VERBOSE},
     {"--quiet", 'q', false, NAME_QUIET},
@@ -80,6 +82,7 @@ const char *options_help(void) {
            "Schema:\n"
            "      --map HREF=FILE  the file that HREF means in an include or external; can be repeated\n"
            "      --catalog FILE   an XML catalog for URIs in an include or external; can be repeated. XML_CATALOG_FILES names others\n"
+           "      --datatypes SET  the datatypes that the schema may name: xml-schema, or the six of the profile (else xml-schema)\n"
            "      --print-schema   print what the proved library gets, in the compact syntax, and judge no document\n"
            "      --strict-profile  a schema that rncv-profile loosened or tightened is refused (status 3)\n"
            "Output:\n"
@@ -157,6 +160,16 @@ static bool take_mapping(struct options *options, const char *value) {
     return true;
 }
 
+static bool take_datatypes(struct options *options, const char *value) {
+    static const char *const sets[] = {"profile", "xml-schema", NULL};
+    int set = place_in(sets, value);
+    if (set < 0) {
+        return is_wrong(options, "--datatypes is xml-schema or profile, and not '%s'", value);
+    }
+    options->datatypes = set == 0 ? RNCV_DATATYPES_PROFILE : RNCV_DATATYPES_XML_SCHEMA;
+    return true;
+}
+
 static bool take_format(struct options *options, const char *value) {
     static const char *const formats[] = {"text", "json", "sarif", "github", NULL};
     int format = place_in(formats, value);
@@ -193,6 +206,8 @@ static bool take_value(struct options *options, enum name name, const char *valu
         return take_mapping(options, value);
     case NAME_CATALOG:
         return add_word(options, &options->catalogs, &options->catalog_count, value);
+    case NAME_DATATYPES:
+        return take_datatypes(options, value);
     case NAME_MOST_FILES:
         options->most_files = (size_t)strtoul(value, NULL, 10);
         return true;
@@ -335,6 +350,7 @@ bool options_read(struct options *options, int count, char **words) {
     struct sides sides = {{NULL, NULL}, {0, 0}, false};
     memset(options, 0, sizeof *options);
     options->input_name = "-";
+    options->datatypes = RNCV_DATATYPES_XML_SCHEMA;
     bool is_good = read_sides(options, count, words, &sides);
     is_good = is_good && (options->wants_help || options->wants_version || (part_words(options, &sides) && is_sound(options)));
     free(sides.list[0]);

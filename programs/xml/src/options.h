@@ -31,6 +31,7 @@ struct options {
     size_t mapping_count;
     const char **catalogs;
     size_t catalog_count;
+    uint32_t datatypes;     /* that the schema may name: RNCV_DATATYPES_PROFILE or RNCV_DATATYPES_XML_SCHEMA */
     size_t most_files;      /* that the library gets; 0: as many as it takes */
     const char *files_from;
     const char *input_name; /* the name of standard input in what is printed */

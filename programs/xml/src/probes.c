@@ -246,7 +246,7 @@ static void add_marked_line(struct bytes *marked, struct span line) {
 }
 
 /* Compiles the simple form with marks. False: it is too large, or it is no schema, since a class of names has the mark, or memory ran out. */
-static bool compile_marked(struct span simple, rncv_schema *schema) {
+static bool compile_marked(struct span simple, uint32_t datatypes, rncv_schema *schema) {
     struct bytes marked = NO_BYTES;
     rncv_fault fault;
     bytes_add_text(&marked, "namespace zz = \"" MARK_NAMESPACE "\"\n");
@@ -258,7 +258,7 @@ static bool compile_marked(struct span simple, rncv_schema *schema) {
     }
     bytes_add_text(&marked, "zt = (text | element zz:t { empty })*\n");
     rncv_file file = {(const uint8_t *)"", 0, (const uint8_t *)marked.data, marked.length};
-    bool is_good = !marked.failed && rncv_compile(&file, 1, schema, &fault) == RNCV_DONE;
+    bool is_good = !marked.failed && rncv_compile_with(&file, 1, datatypes, schema, &fault) == RNCV_DONE;
     bytes_free(&marked);
     return is_good;
 }
@@ -277,7 +277,7 @@ static bool has_marked(struct judge *judge) {
     }
     uint8_t *simple = malloc(length);
     bool is_good = simple != NULL && rncv_simple(&judge->schema, simple, length, &length) == RNCV_DONE &&
-                   compile_marked((struct span){(const char *)simple, length}, &judge->marked);
+                   compile_marked((struct span){(const char *)simple, length}, judge->shared->datatypes, &judge->marked);
     free(simple);
     return is_good;
 }

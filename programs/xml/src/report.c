@@ -133,7 +133,7 @@ void report_schema_note(struct report *report, const char *path, const struct by
     add_schema_note(report, path, note, false);
 }
 
-void report_ids_note(struct report *report, const char *path, const struct bytes *note) {
+void report_unchecked(struct report *report, const char *path, const struct bytes *note) {
     add_schema_note(report, path, note, true);
 }
 

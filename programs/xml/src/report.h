@@ -35,8 +35,8 @@ void report_schema(struct report *report, const struct schema_fault *fault);
 /* Reports what the file of this name says about the schema. Each later answer has it too. */
 void report_schema_note(struct report *report, const char *path, const struct bytes *note);
 
-/* Reports why IDs are not checked. Each later answer has it too. */
-void report_ids_note(struct report *report, const char *path, const struct bytes *note);
+/* Reports what is not checked of documents, in a line of its own. Each later answer has it too. */
+void report_unchecked(struct report *report, const char *path, const struct bytes *note);
 
 /* Writes a line for people to standard error. */
 void report_note(struct report *report, const char *line);

@@ -1,5 +1,6 @@
 /* rncv-xml: judges XML documents by a RELAX NG schema. */
 #include "jobs.h"
+#include "schema_context.h"
 #include "schema_hints.h"
 #include "schema_ids.h"
 
@@ -40,7 +41,7 @@ static void add_name(struct bytes *line, struct bytes *name) {
 }
 
 /* Adds a hint: where the schema most likely breaks the clause, and by what. */
-static void add_hint(struct bytes *message, struct schema_files *files, struct schema_fault *found) {
+static void add_hint(struct bytes *message, struct schema_files *files, uint32_t datatypes, struct schema_fault *found) {
     struct schema_hint_file *list = calloc(files->count, sizeof *list);
     struct schema_hint hint;
     for (size_t at = 0; list != NULL && at < files->count; at++) {
@@ -48,7 +49,8 @@ static void add_hint(struct bytes *message, struct schema_files *files, struct s
         const struct bytes *written = schema_file_written(file);
         list[at] = (struct schema_hint_file){file->name.data, file->name.length, written->data, written->length, bytes_text(&file->path), &file->origins};
     }
-    bool is_found = list != NULL && (found->place.line == 0 || found->clause == 6) && schema_hint_find(list, files->count, found->clause, &hint);
+    bool is_due = list != NULL && (found->place.line == 0 || found->clause == 6);
+    bool is_found = is_due && schema_hint_find(list, files->count, found->clause, datatypes, &hint);
     if (is_found && found->clause == 6) { /* the library knows the place: it may be another fault */
         is_found = hint.line == found->place.line && hint.column == found->place.column && found->path == list[hint.file].shown;
     }
@@ -81,7 +83,7 @@ static void report_refusal(struct report *report, struct schema_files *files, co
         add_name(&message, is_sought ? &missing->sought : &missing->name);
         bytes_add_text(&message, is_sought ? "" : ", and nothing is fetched (--map HREF=FILE)");
     }
-    add_hint(&message, files, &found);
+    add_hint(&message, files, report->options->datatypes, &found);
     bytes_format(&message, ", %s", page);
     report_message(report, &found, &message);
     bytes_free(&message);
@@ -168,12 +170,27 @@ static bool take_ids(struct report *report, struct schema_files *files, rncv_sch
         bytes_add_text(&note, "IDs are not checked: ");
         add_shown(&note, unsound.data, unsound.length, SIZE_MAX);
         note.failed |= unsound.failed;
-        report_ids_note(report, bytes_text(&files->list[0].path), &note);
+        report_unchecked(report, bytes_text(&files->list[0].path), &note);
         bytes_free(&note);
     }
     files->loosened += report->options->skips_ids || unsound.length > 0 ? files->marked : 0;
     bytes_free(&unsound);
     return !report->schema_note.failed || report_lost(report);
+}
+
+/* Says which texts are judged by their spelling alone, if the schema names such datatypes. False: such a schema is refused, or memory ran out. */
+static bool take_context(struct report *report, struct schema_files *files, rncv_schema *schema) {
+    struct bytes note = NO_BYTES;
+    struct schema_fault found = {bytes_text(&files->list[0].path), {0, 0}, 0, "", STATUS_REFUSED};
+    bool is_known = schema_context_read(schema, files, &note);
+    bool is_refused = is_known && note.length > 0 && report->options->refuses_notes;
+    if (is_refused) {
+        report_message(report, &found, &note);
+    } else if (note.length > 0) {
+        report_unchecked(report, found.path, &note);
+    }
+    bytes_free(&note);
+    return !is_refused && ((is_known && !report->schema_note.failed) || report_lost(report));
 }
 
 /* The first word after the main file that has the name of a schema; NULL: there is none. */
@@ -236,10 +253,10 @@ static bool compile(struct report *report, struct schema_files *files, rncv_sche
     if (options->prints_schema) {
         print_files(report, files);
     }
-    switch (schema_files_compile(files, schema, &fault)) {
+    switch (schema_files_compile(files, options->datatypes, schema, &fault)) {
     case RNCV_DONE:
         schema_files_forget(files);
-        return take_ids(report, files, schema, types) && is_strict_enough(report, files);
+        return take_context(report, files, schema) && take_ids(report, files, schema, types) && is_strict_enough(report, files);
     case RNCV_REFUSED:
         report_refusal(report, files, &fault);
         return false;
@@ -328,7 +345,8 @@ static int run(const struct options *options, struct streams streams) {
     struct progress progress;
     struct report report;
     struct documents documents;
-    struct shared shared = {.schema = RNCV_NOTHING, .streams = streams, .is_strict = options->refuses_notes, .loads_dtd = options->loads_dtd,
+    struct shared shared = {.schema = RNCV_NOTHING, .datatypes = options->datatypes, .streams = streams, .is_strict = options->refuses_notes,
+                            .loads_dtd = options->loads_dtd,
                             .tick = progress_tick, .context = &progress};
     atomic_init(&shared.bytes_read, 0);
     documents_open(&documents, options, streams);

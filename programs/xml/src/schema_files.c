@@ -522,7 +522,12 @@ static bool is_id_name(struct span name) {
     return ends_in(name, ":ID") || ends_in(name, ":IDREF") || ends_in(name, ":IDREFS");
 }
 
-/* Keeps the literals of a text, and whether it names a datatype of IDs. False: out of memory. */
+/* Whether the name with a prefix may be that of a datatype that depends on the document. */
+static bool is_context_name(struct span name) {
+    return ends_in(name, ":QName") || ends_in(name, ":NOTATION") || ends_in(name, ":ENTITY") || ends_in(name, ":ENTITIES");
+}
+
+/* Keeps the literals of a text, and whether it names a datatype of IDs, or one that depends on the document. False: out of memory. */
 static bool take_literals(struct schema_files *files, const char *text, size_t length) {
     struct tokens tokens;
     bool is_good = tokens_open(&tokens, text, length) || files_without_memory(files);
@@ -533,6 +538,7 @@ static bool take_literals(struct schema_files *files, const char *text, size_t l
             is_good = keep_value(files, &literal);
         } else {
             files->names_ids |= token.kind == TOKEN_NAME && is_id_name(token.text);
+            files->names_context |= token.kind == TOKEN_NAME && is_context_name(token.text);
             token = tokens_next(&tokens);
         }
         bytes_free(&literal);
@@ -694,7 +700,7 @@ int64_t schema_files_column(const struct schema_files *files, const rncv_fault *
     return is_blanked ? (int64_t)place_at(original->data, original->length, NULL, (size_t)fault->offset).column : fault->column;
 }
 
-int32_t schema_files_compile(const struct schema_files *files, rncv_schema *schema, rncv_fault *fault) {
+int32_t schema_files_compile(const struct schema_files *files, uint32_t datatypes, rncv_schema *schema, rncv_fault *fault) {
     rncv_file *list = calloc(files->handed, sizeof *list);
     if (list == NULL) {
         return RNCV_MEMORY;
@@ -705,7 +711,7 @@ int32_t schema_files_compile(const struct schema_files *files, rncv_schema *sche
         const char *text = handed->data == NULL ? "" : handed->data;
         list[at] = (rncv_file){(const uint8_t *)file->name.data, file->name.length, (const uint8_t *)text, handed->length};
     }
-    int32_t status = files->is_judged ? RNCV_REFUSED : rncv_compile(list, files->handed, schema, fault);
+    int32_t status = files->is_judged ? RNCV_REFUSED : rncv_compile_with(list, files->handed, datatypes, schema, fault);
     free(list);
     if (files->is_judged) {
         *fault = files->judged;

@@ -57,6 +57,7 @@ struct schema_files {
     unsigned long long tightened; /* .. and tightened */
     unsigned long long marked;    /* how many datatypes of IDs have a mark (id_types.h) */
     bool names_ids;         /* a file names a datatype of IDs itself */
+    bool names_context;     /* a file may name a datatype that depends on the document (schema_context.h) */
     bool failed;            /* memory ran out */
 };
 
@@ -82,8 +83,8 @@ bool schema_files_add_values(struct schema_files *files, const char *text, size_
 /* The column of a fault, in the file as it is written. Blanks for annotations have a column for each byte. */
 int64_t schema_files_column(const struct schema_files *files, const rncv_fault *fault);
 
-/* Compiles the files. Returns the status of the library, or RNCV_MEMORY if there is no memory for the call. */
-int32_t schema_files_compile(const struct schema_files *files, rncv_schema *schema, rncv_fault *fault);
+/* Compiles the files, which may name the datatypes of this set. Returns the status of the library, or RNCV_MEMORY if there is no memory for the call. */
+int32_t schema_files_compile(const struct schema_files *files, uint32_t datatypes, rncv_schema *schema, rncv_fault *fault);
 
 /* Frees the contents, which are not needed once the schema is compiled. */
 void schema_files_forget(struct schema_files *files);

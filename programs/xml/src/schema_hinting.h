@@ -7,6 +7,7 @@
 struct hinting {
     struct grammars grammars;
     int clause;
+    bool is_of_profile; /* the datatypes are those of the profile, and not those of the larger set */
     uint32_t node;      /* the place; 0: none is known */
     struct bytes text;  /* the sentence */
 };

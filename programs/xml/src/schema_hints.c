@@ -539,13 +539,14 @@ static void put_text(struct schema_hint *hint, struct bytes *text) {
     hint->text[end] = '\0';
 }
 
-int schema_hint_find(const struct schema_hint_file *files, size_t count, int clause, struct schema_hint *hint) {
+int schema_hint_find(const struct schema_hint_file *files, size_t count, int clause, uint32_t datatypes, struct schema_hint *hint) {
     struct hinting *hinting = clause == 1 || clause == 6 || (clause >= 9 && clause <= 27 && clause != 17) ? calloc(1, sizeof *hinting) : NULL;
     int found = 0;
     if (hinting == NULL) {
         return 0;
     }
     hinting->clause = clause;
+    hinting->is_of_profile = datatypes == SCHEMA_HINT_PROFILE;
     if (clause == 1) {
         found = find_missing(files, count, hint, &hinting->text);
     } else if (clause == 6) {

@@ -1,7 +1,7 @@
 /* Hints: where a schema most likely breaks a clause, and by what. The proved library reports the clause; a hint is a guess outside the proof.
  *
  * The interface is plain, so that a library and Python can use it: arrays of files, and a structure of fixed size. It needs origins, xml_names, schema_tree,
- * schema_grammars, schema_annotations, annotation_names, schema_tokens, paths and bytes, and nothing of the library. It keeps
+ * schema_types, schema_grammars, schema_annotations, annotation_names, schema_tokens, paths and bytes, and nothing of the library. It keeps
  * nothing, and any thread may call it. */
 #ifndef SCHEMA_HINTS_H
 #define SCHEMA_HINTS_H
@@ -35,9 +35,12 @@ struct schema_hint {
     char text[SCHEMA_HINT_BYTES]; /* a sentence without a full stop, in UTF-8, which ends in a zero; what is not UTF-8 is a question mark in it */
 };
 
-/* Looks for the place that breaks the clause (1, 6 and 9 to 27), in files whose first one is the main one. Returns 1, with the hint, or 0: none is known, or
- * memory ran out. It takes a few times the memory of the files, and at most about a second. */
-int schema_hint_find(const struct schema_hint_file *files, size_t count, int clause, struct schema_hint *hint);
+/* The datatypes of a schema, as in rncv.h. */
+enum { SCHEMA_HINT_PROFILE = 0, SCHEMA_HINT_XML_SCHEMA = 1 };
+
+/* Looks for the place that breaks the clause (1, 6 and 9 to 27), in files whose first one is the main one, which may name these datatypes. Returns 1, with the
+ * hint, or 0: none is known, or memory ran out. It takes a few times the memory of the files, and at most about a second. */
+int schema_hint_find(const struct schema_hint_file *files, size_t count, int clause, uint32_t datatypes, struct schema_hint *hint);
 
 #ifdef __cplusplus
 }

@@ -2,8 +2,7 @@
 
 #include <stdlib.h>
 
-/* Gets the simple form, which the caller frees. Returns the status of the library. */
-static int32_t form_of(rncv_schema *schema, uint8_t **form, size_t *length) {
+int32_t schema_form(rncv_schema *schema, uint8_t **form, size_t *length) {
     size_t size = 0;
     int32_t status = rncv_simple(schema, NULL, 0, &size);
     *form = status == RNCV_SPACE ? malloc(size) : NULL;
@@ -20,7 +19,7 @@ bool schema_ids_read(rncv_schema *schema, const struct schema_files *files, stru
     if (files->marked == 0 && !files->names_ids) {
         return true;
     }
-    *types = form_of(schema, &form, &length) != RNCV_DONE ? NULL : calloc(1, sizeof **types);
+    *types = schema_form(schema, &form, &length) != RNCV_DONE ? NULL : calloc(1, sizeof **types);
     bool is_good = *types != NULL && id_types_open(*types, (struct span){(const char *)form, length}, files->marked > 0, unsound);
     free(form);
     if (*types != NULL && (!is_good || unsound->length > 0 || (*types)->pairs.count == 0)) {

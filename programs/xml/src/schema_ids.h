@@ -10,4 +10,7 @@
 bool schema_ids_read(rncv_schema *schema, const struct schema_files *files, struct id_types **types, struct bytes *unsound);
 void schema_ids_free(struct id_types *types);
 
+/* Gets the simple form of a schema, which the caller frees. Returns the status of the library. */
+int32_t schema_form(rncv_schema *schema, uint8_t **form, size_t *length);
+
 #endif

@@ -1,9 +1,10 @@
 /* Hints about names and datatypes: S11 and S12. For a datatype or a parameter that is not served the hint says what to do. */
 #include "schema_hinting.h"
+#include "schema_types.h"
 
 #include <string.h>
 
-enum { MOST_CLASSES = 300, DIGITS = 38, MOST_PATH = 200 };
+enum { MOST_CLASSES = 300, LENGTH_DIGITS = 9, MOST_PATH = 200 };
 
 static const char xmlns_uri[] = "http://www.w3.org/2000/xmlns";
 static const char xsd_uri[] = "http://www.w3.org/2001/XMLSchema-datatypes";
@@ -69,37 +70,14 @@ void judge_names(struct hinting *hinting, struct spot spot) {
     }
 }
 
-/* Whether the text is an NCName, or with colons anywhere an NMTOKEN. */
-static bool is_name_text(struct span text, bool is_nmtoken) {
-    size_t size = 1;
-    for (size_t at = 0; at < text.length; at += size) {
-        uint32_t code = code_point(text, at, &size);
-        if (!is_name_character(code, at == 0 && !is_nmtoken) && !(is_nmtoken && code == ':')) {
-            return false;
-        }
-    }
-    return text.length > 0;
-}
-
-static bool is_digits(struct span text, size_t most, bool has_sign) {
-    size_t begin = has_sign && text.length > 0 && (text.data[0] == '+' || text.data[0] == '-');
-    for (size_t at = begin; at < text.length; at++) {
+/* Whether the text is 1 to 9 digits, which a length of the profile is. */
+static bool is_length(struct span text) {
+    for (size_t at = 0; at < text.length; at++) {
         if (text.data[at] < '0' || text.data[at] > '9') {
             return false;
         }
     }
-    return text.length > begin && text.length - begin <= most;
-}
-
-static bool allows(struct span type, struct span value) {
-    struct span text = without_blanks(value);
-    if (span_is(type, "boolean")) {
-        return span_is(text, "true") || span_is(text, "false") || span_is(text, "1") || span_is(text, "0");
-    }
-    if (span_is(type, "integer")) {
-        return is_digits(text, DIGITS, true);
-    }
-    return span_is(type, "NCName") || span_is(type, "NMTOKEN") ? is_name_text(text, span_is(type, "NMTOKEN")) : true;
+    return text.length > 0 && text.length <= LENGTH_DIGITS;
 }
 
 /* A datatype that is not served, and what rncv-profile writes in its place (programs/profile/profile_types.py has the same table). */
@@ -154,22 +132,29 @@ static void add_main(struct hinting *hinting) {
 /* Adds how to make a copy: from a schema in the XML syntax, by way of the compact one. */
 static void add_command(struct hinting *hinting) {
     const struct schema_hint_file *main = hinting->grammars.tree.files[0].given;
+    const char *profile = hinting->is_of_profile ? "rncv-profile " : "rncv-profile --datatypes xml-schema ";
     if (main->origins != NULL && main->origins->count > 0) {
         bytes_add_text(&hinting->text, "rng2rnc ");
         add_main(hinting);
-        bytes_add_text(&hinting->text, " -o RNC writes it in the compact syntax, of which rncv-profile -o DIR");
+        bytes_format(&hinting->text, " -o RNC writes it in the compact syntax, of which %s-o DIR", profile);
     } else {
-        bytes_add_text(&hinting->text, "rncv-profile ");
+        bytes_add_text(&hinting->text, profile);
         add_main(hinting);
         bytes_add_text(&hinting->text, " -o DIR");
     }
     bytes_add_text(&hinting->text, " writes a copy");
 }
 
+/* Says that the smaller set has it not, and, if that is so, that the larger one has it. */
+static void add_unserved(struct hinting *hinting, bool is_in_larger) {
+    static const char larger[] = " is of the datatypes xml-schema, and not of those of the profile: ";
+    bytes_add_text(&hinting->text, hinting->is_of_profile && is_in_larger ? larger : " is not served: ");
+}
+
 /* Says that a datatype is not served, and what a copy has in its place. */
-static void hint_unserved(struct hinting *hinting, uint32_t node, const struct nearest *nearest) {
+static void hint_unserved(struct hinting *hinting, uint32_t node, const struct nearest *nearest, bool is_in_larger) {
     bool is_value = hint_node(hinting, node)->kind == NODE_VALUE;
-    bytes_add_text(&hinting->text, " is not served: ");
+    add_unserved(hinting, is_in_larger);
     add_command(hinting);
     bytes_format(&hinting->text, " with %s there, ", nearest->with);
     if (is_value) {
@@ -179,52 +164,114 @@ static void hint_unserved(struct hinting *hinting, uint32_t node, const struct n
     }
 }
 
-/* Whether datatypes of XML Schema of that kind have the parameter, which is not served there. */
-static bool is_facet(struct span type, struct span name) {
-    bool is_integer = span_is(type, "integer");
-    bool is_of_integers = span_is(name, "minExclusive") || span_is(name, "maxExclusive") || span_is(name, "totalDigits") || span_is(name, "fractionDigits");
-    return span_is(name, "pattern") || (is_integer && is_of_integers) || (span_is(name, "length") && !is_integer && !span_is(type, "boolean"));
+/* What rncv-profile makes of a parameter that XML Schema has and the set has not. */
+enum copied { COPIED_NOT, COPIED_LEFT_OUT, COPIED_SAME };
+
+static enum copied copied_as(const struct hinting *hinting, const struct type *type, struct span name) {
+    bool is_same = type->kind == TYPE_INTEGER ? span_is(name, "fractionDigits") || (hinting->is_of_profile && type_takes(type, name))
+                                              : type->kind == TYPE_TEXT && hinting->is_of_profile && span_is(name, "length");
+    return span_is(name, "pattern") ? COPIED_LEFT_OUT : is_same ? COPIED_SAME : COPIED_NOT;
 }
 
-/* Says that a parameter is not served, and what a copy has in its place. */
-static void hint_facet(struct hinting *hinting, struct span written, struct span name) {
-    bool is_same = !span_is(name, "pattern");
+/* Says that the datatype has not the parameter, and what a copy has in its place. */
+static void hint_facet(struct hinting *hinting, struct span written, const struct type *type, struct span name) {
+    enum copied copied = copied_as(hinting, type, name);
+    if (copied == COPIED_NOT) {
+        add_part(hinting, written);
+        bytes_add_text(&hinting->text, " takes no parameter ");
+        add_part(hinting, name);
+        return;
+    }
     bytes_add_text(&hinting->text, "the parameter ");
     add_part(hinting, name);
     bytes_add_text(&hinting->text, " of ");
     add_part(hinting, written);
-    bytes_add_text(&hinting->text, " is not served: ");
+    add_unserved(hinting, type_takes(type, name));
     add_command(hinting);
-    bytes_add_text(&hinting->text, is_same ? " with others there, which accepts the same" : " without it, which also accepts what the pattern does not match");
+    bytes_add_text(&hinting->text, copied == COPIED_LEFT_OUT ? " without it, which also accepts what the pattern does not match"
+                                                             : " with others there, which accepts the same");
+}
+
+/* Whether the datatype has the parameter in the set. `type` is NULL for one that takes none. */
+static bool takes(const struct hinting *hinting, const struct type *type, struct span name) {
+    static const char *const larger[] = {"length", "minExclusive", "maxExclusive", "totalDigits"};
+    bool is_taken = type != NULL && type_takes(type, name);
+    for (size_t at = 0; at < sizeof larger / sizeof *larger; at++) {
+        is_taken &= !hinting->is_of_profile || !span_is(name, larger[at]);
+    }
+    return is_taken;
+}
+
+/* Says which texts the parameter has. */
+static void add_wanted(struct hinting *hinting, struct span written, const struct type *type, struct span name) {
+    bool is_bound = type->kind == TYPE_INTEGER && !span_is(name, "totalDigits");
+    if (hinting->is_of_profile) {
+        bytes_add_text(&hinting->text, is_bound ? "' is no integer of at most 38 digits" : "' is not 1 to 9 digits");
+    } else if (is_bound) {
+        bytes_add_text(&hinting->text, "' is no value of ");
+        add_part(hinting, written);
+    } else {
+        bytes_add_text(&hinting->text, type->kind == TYPE_INTEGER ? "' is no number from 1 on" : "' is no number from 0 on");
+    }
 }
 
 /* Says why a parameter does not fit its type, if it does not. */
-static void judge_param(struct hinting *hinting, struct span written, struct span type, uint32_t param) {
+static void judge_param(struct hinting *hinting, struct span written, const struct type *type, uint32_t param) {
     const struct node *here = hint_node(hinting, param);
-    bool is_length = span_is(here->text, "minLength") || span_is(here->text, "maxLength");
-    bool is_bound = span_is(here->text, "minInclusive") || span_is(here->text, "maxInclusive");
-    bool is_integer = span_is(type, "integer");
-    bool takes_lengths = !is_integer && !span_is(type, "boolean");
-    if (type.length == 0 || (is_length && !takes_lengths) || (is_bound && !is_integer) || (!is_length && !is_bound)) {
-        bool is_unserved = type.length > 0 && is_facet(type, here->text);
-        if (is_unserved && hint_begins(hinting, param)) {
-            hint_facet(hinting, written, here->text);
+    if (!takes(hinting, type, here->text)) {
+        if (type != NULL && hint_begins(hinting, param)) {
+            hint_facet(hinting, written, type, here->text);
         } else if (hint_begins(hinting, param)) {
             add_part(hinting, written);
             bytes_add_text(&hinting->text, " takes no parameter ");
             add_part(hinting, here->text);
         }
-    } else if (!(is_length ? is_digits(here->other, 9, false) : allows(type, here->other)) && hint_begins(hinting, param)) {
+        return;
+    }
+    bool is_good = !hinting->is_of_profile            ? type_takes_text(type, here->text, here->other)
+                   : type->kind == TYPE_INTEGER ? type_allows(type, true, here->other)
+                                                : is_length(here->other);
+    if (!is_good && hint_begins(hinting, param)) {
         bytes_add_text(&hinting->text, "the ");
         add_part(hinting, here->text);
         bytes_add_text(&hinting->text, " '");
         add_part(hinting, here->other);
-        bytes_add_text(&hinting->text, is_length ? "' is not 1 to 9 digits" : "' is no integer of at most 38 digits");
+        add_wanted(hinting, written, type, here->text);
     }
 }
 
-/* Looks at the parameters. Each may be there once; there are four. */
-static void judge_params(struct hinting *hinting, struct span written, struct span type, uint32_t first) {
+/* Says that two parameters of the larger set exclude each other, or that the lower one is above the upper one, if that is so. */
+static void judge_pair(struct hinting *hinting, uint32_t before, uint32_t param) {
+    static const struct {
+        const char *one;
+        const char *other;
+        int most; /* of the order of the first and the second; -2: they exclude each other */
+    } pairs[] = {{"length", "minLength", -2}, {"length", "maxLength", -2}, {"minLength", "maxLength", 0}, {"minInclusive", "minExclusive", -2},
+                 {"maxInclusive", "maxExclusive", -2}, {"minInclusive", "maxInclusive", 0}, {"minInclusive", "maxExclusive", -1},
+                 {"minExclusive", "maxInclusive", -1}, {"minExclusive", "maxExclusive", 0}};
+    const struct node *first = hint_node(hinting, before);
+    const struct node *second = hint_node(hinting, param);
+    for (size_t at = 0; at < sizeof pairs / sizeof *pairs; at++) {
+        bool is_turned = span_is(second->text, pairs[at].one) && span_is(first->text, pairs[at].other);
+        const struct node *one = is_turned ? second : first;
+        const struct node *other = is_turned ? first : second;
+        if (!span_is(one->text, pairs[at].one) || !span_is(other->text, pairs[at].other)) {
+            continue;
+        }
+        int order = numbers_compare(one->other, other->other);
+        bool is_good = pairs[at].most != -2 && (order < 0 ? -1 : order > 0) <= pairs[at].most;
+        if (!is_good && hint_begins(hinting, param)) {
+            bytes_add_text(&hinting->text, "the parameters ");
+            add_part(hinting, one->text);
+            bytes_add_text(&hinting->text, " and ");
+            add_part(hinting, other->text);
+            bytes_add_text(&hinting->text, pairs[at].most == -2 ? " exclude each other" : " leave no value between them");
+        }
+    }
+}
+
+/* Looks at the parameters. Each may be there once; there are nine. */
+static void judge_params(struct hinting *hinting, struct span written, const struct type *type, uint32_t first) {
     for (uint32_t param = first; param != 0 && hinting->node == 0 && tree_step(&hinting->grammars.tree, 1); param = hint_node(hinting, param)->next) {
         struct span name = hint_node(hinting, param)->text;
         judge_param(hinting, written, type, param);
@@ -233,6 +280,8 @@ static void judge_params(struct hinting *hinting, struct span written, struct sp
                 bytes_add_text(&hinting->text, "the parameter ");
                 add_part(hinting, name);
                 bytes_add_text(&hinting->text, " is there twice");
+            } else if (!hinting->is_of_profile) {
+                judge_pair(hinting, before, param);
             }
         }
     }
@@ -257,33 +306,55 @@ static void hint_library(struct hinting *hinting, uint32_t node) {
     }
 }
 
-/* Says that a type is not known, if it is not. */
-static bool is_known(struct hinting *hinting, uint32_t node, struct span library, struct span type) {
-    static const char *const served[] = {"string", "token", "NCName", "NMTOKEN", "boolean", "integer"};
+/* Says that a datatype of XML Schema, or of IDs, is not served. */
+static void hint_type(struct hinting *hinting, uint32_t node, struct span library, struct span type) {
+    static const struct nearest same[] = {{"ID", "xsd:ID", "the same"}, {"IDREF", "xsd:IDREF", "the same"}, {"IDREFS", "xsd:IDREFS", "the same"}};
     bool is_xsd = span_is(library, xsd_uri);
-    for (size_t at = 0; at < (is_xsd ? 6u : library.length == 0 ? 2u : 0u); at++) {
-        if (span_is(type, served[at])) {
-            return true;
+    const struct nearest *nearest = is_xsd ? nearest_of(type) : NULL;
+    for (size_t at = 0; at < sizeof same / sizeof *same && span_is(library, compatibility_uri); at++) {
+        if (span_is(type, same[at].type)) {
+            nearest = hinting->is_of_profile ? nearest_of(type) : &same[at];
         }
     }
-    if (library.data != NULL && hint_begins(hinting, node)) {
-        bool is_of_ids = span_is(library, compatibility_uri) && (span_is(type, "ID") || span_is(type, "IDREF") || span_is(type, "IDREFS"));
-        const struct nearest *nearest = is_xsd || is_of_ids ? nearest_of(type) : NULL;
-        add_part(hinting, hint_node(hinting, node)->text);
-        if (nearest != NULL) {
-            hint_unserved(hinting, node, nearest);
-        } else if (is_xsd) {
-            bytes_add_text(&hinting->text, " is no datatype of XML Schema");
-        } else if (library.length == 0) {
-            bytes_add_text(&hinting->text, " is not served; of the library with the empty uri string and token are");
-        } else {
-            bytes_add_text(&hinting->text, " is of the library ");
-            add_part(hinting, library);
-            bytes_add_text(&hinting->text, ", which is not served");
-            hint_library(hinting, node);
-        }
+    add_part(hinting, hint_node(hinting, node)->text);
+    if (nearest != NULL) {
+        hint_unserved(hinting, node, nearest, is_xsd && type_named(type) != NULL);
+    } else if (is_xsd) {
+        bytes_add_text(&hinting->text, " is no datatype of XML Schema");
+    } else if (library.length == 0) {
+        bytes_add_text(&hinting->text, " is not served; of the library with the empty uri string and token are");
+    } else {
+        bytes_add_text(&hinting->text, " is of the library ");
+        add_part(hinting, library);
+        bytes_add_text(&hinting->text, ", which is not served");
+        hint_library(hinting, node);
     }
-    return false;
+}
+
+/* The datatype, if it is one of the set. `string` and `token` of the library with the empty uri are as those of XML Schema, without parameters. */
+static const struct type *known_type(const struct hinting *hinting, struct span library, struct span name) {
+    bool is_xsd = span_is(library, xsd_uri);
+    const struct type *type = is_xsd || span_is(name, "string") || span_is(name, "token") ? type_named(name) : NULL;
+    bool is_library = is_xsd || (library.data != NULL && library.length == 0);
+    return type != NULL && is_library && (!hinting->is_of_profile || type_is_of_profile(type)) ? type : NULL;
+}
+
+/* Looks at a value of the type. */
+static void judge_value(struct hinting *hinting, uint32_t at, const struct type *type) {
+    const struct node *node = hint_node(hinting, at);
+    if (type_allows(type, hinting->is_of_profile, node->other) || !hint_begins(hinting, at)) {
+        return;
+    }
+    if (type->kind == TYPE_CONTEXT) {
+        bytes_add_text(&hinting->text, "a value of ");
+        add_part(hinting, node->text);
+        bytes_add_text(&hinting->text, " is not served, since it depends on the prefixes of the document");
+        return;
+    }
+    add_part(hinting, node->text);
+    bytes_add_text(&hinting->text, " does not allow the value '");
+    add_part(hinting, node->other);
+    bytes_add_text(&hinting->text, "'");
 }
 
 void judge_type(struct hinting *hinting, struct spot spot) {
@@ -293,18 +364,17 @@ void judge_type(struct hinting *hinting, struct spot spot) {
     }
     const char *colon = memchr(node->text.data, ':', node->text.length);
     struct span prefix = {node->text.data, colon == NULL ? 0 : (size_t)(colon - node->text.data)};
-    struct span type = colon == NULL ? node->text : (struct span){colon + 1, node->text.length - prefix.length - 1};
+    struct span name = colon == NULL ? node->text : (struct span){colon + 1, node->text.length - prefix.length - 1};
     struct span library = library_of(hinting, spot, prefix);
-    if (!is_known(hinting, spot.node, library, type)) {
-        return;
-    }
-    if (node->kind == NODE_DATA) {
+    const struct type *type = known_type(hinting, library, name);
+    if (type == NULL) {
+        if (library.data != NULL && hint_begins(hinting, spot.node)) {
+            hint_type(hinting, spot.node, library, name);
+        }
+    } else if (node->kind == NODE_DATA) {
         /* the types of the library with the empty uri take no parameters */
-        judge_params(hinting, node->text, library.length == 0 ? (struct span){"", 0} : type, node->class);
-    } else if (!allows(type, node->other) && hint_begins(hinting, spot.node)) {
-        add_part(hinting, node->text);
-        bytes_add_text(&hinting->text, " does not allow the value '");
-        add_part(hinting, node->other);
-        bytes_add_text(&hinting->text, "'");
+        judge_params(hinting, node->text, library.length == 0 ? NULL : type, node->class);
+    } else {
+        judge_value(hinting, spot.node, type);
     }
 }

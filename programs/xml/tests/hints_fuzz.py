@@ -24,8 +24,8 @@ HERE = pathlib.Path(__file__).resolve().parent
 TOP = HERE.parents[2]
 LIBRARY = pathlib.Path(os.environ.get("RNCV_LIBRARY", TOP / "build/library")) / "lib/librncv.so"
 SOURCES = [HERE.parent / "src" / f"{name}.c" for name in (
-    "schema_hints", "schema_restrictions", "schema_words", "schema_grammars", "schema_tree", "schema_annotations", "annotation_names", "schema_tokens",
-    "xml_names", "origins", "paths", "bytes")]
+    "schema_hints", "schema_restrictions", "schema_words", "schema_types", "schema_grammars", "schema_tree", "schema_annotations", "annotation_names",
+    "schema_tokens", "xml_names", "origins", "paths", "bytes")]
 # What finds out how a file is written needs the parser of XML. It is not called here.
 STUBS = """
 #include "conversion.h"
@@ -36,6 +36,12 @@ CLAUSES = range(9, 28)
 TOKEN = re.compile(r'"""(?:.|\n)*?"""|"[^"\n]*"|\'[^\'\n]*\'|[A-Za-z_][\w.:*-]*|\|=|&=|[^\s]|\s+')
 PIECES = ("empty|text|notAllowed|string|token|xsd:integer|\"v\"|element q { text }|attribute x { text }|attribute * { text }|list { token }|(empty, text)|"
           "mixed { empty }|xsd:date|x|y|parent x|grammar { start = text }|string - \"a\"|element * { text }|xsd:int \"1\"|text?|attribute y { text }*").split("|")
+TYPES = ("string normalizedString token language Name NCName NMTOKEN NMTOKENS ID IDREFS ENTITIES anyURI boolean QName integer nonPositiveInteger "
+         "negativeInteger long byte nonNegativeInteger unsignedLong unsignedByte positiveInteger decimal dates").split(" ")
+FACETS = "length minLength maxLength minInclusive maxInclusive minExclusive maxExclusive totalDigits".split(" ")
+NUMBERS = ["0", "1", "-1", "+5", "05", " 6 ", "100", "127", "128", "-128", "-129", "255", "256", "18446744073709551616", "9223372036854775807",
+           "9223372036854775808", "1" * 39, "", "x", "5 6", "1.0"]
+TEXTS = ["a", "a b", " a", "a:b", ":a", "a:b:c", "-a", "de-AT", "de-", "abcdefghi", "true", "\u00e9", "\\x{10000}", "0-a"]
 WORDS = ("attribute default datatypes div element empty external grammar include inherit list mixed namespace notAllowed parent start string text token a b c "
          "p:a p:* xsd:integer \\a { { } } ( ( ) ) , | & = |= &= - ? * + ~ [ ] >> # \" 'b.rnc' \"s.rnc\" \\x{61} \u00e9 \x01").split(" ")
 sys.path.insert(0, str(TOP / "dev/search/fuzz"))
@@ -66,22 +72,31 @@ class Bench:
     def __init__(self, hints):
         self.hints, self.library = ctypes.CDLL(hints), ctypes.CDLL(str(LIBRARY))
 
-    def hint(self, files, clause):
-        """The hint about a clause, or None. Its place has to be in the file."""
+    def hint(self, files, clause, datatypes):
+        """The hint about a clause, with a set of datatypes, or None. Its place has to be in the file."""
         array, hint = (File * len(files))(*(File(name, len(name), text, len(text), name) for name, text in files)), Hint()
-        if not self.hints.schema_hint_find(array, ctypes.c_size_t(len(files)), clause, ctypes.byref(hint)):
+        if not self.hints.schema_hint_find(array, ctypes.c_size_t(len(files)), clause, ctypes.c_uint32(datatypes), ctypes.byref(hint)):
             return None
         lines = re.split(b"\r\n|\r|\n", files[hint.file][1])
         assert hint.line <= len(lines) and 0 < hint.column <= len(lines[hint.line - 1]) + 1 and hint.text.decode(), (files, clause, hint.line, hint.column)
         return hint.line, hint.column, hint.text.decode()
 
-    def clause(self, files):
-        """The clause that the files break; 0: none."""
+    def clause(self, files, datatypes):
+        """The clause that the files break with a set of datatypes; 0: none."""
         array = (LibraryFile * len(files))(*(LibraryFile(name, len(name), text, len(text)) for name, text in files))
         schema, fault = ctypes.c_void_p(None), Fault()
-        status = self.library.rncv_compile(array, ctypes.c_size_t(len(files)), ctypes.byref(schema), ctypes.byref(fault))
+        status = self.library.rncv_compile_with(array, ctypes.c_size_t(len(files)), ctypes.c_uint32(datatypes), ctypes.byref(schema), ctypes.byref(fault))
         self.library.rncv_schema_free(ctypes.byref(schema))
         return fault.clause if status == 1 else 0
+
+
+def datatype(chance):
+    """A datatype of XML Schema with parameters, or with a value."""
+    name = f"xsd:{chance.choice(TYPES)}"
+    if chance.random() < 0.3:
+        return f'{name} "{chance.choice(NUMBERS + TEXTS)}"'
+    facets = " ".join(f'{chance.choice(FACETS)} = "{chance.choice(NUMBERS)}"' for _ in range(chance.choice([0, 1, 1, 2, 2, 3])))
+    return f"{name} {{ {facets} }}" if facets else name
 
 
 def mutant(text, chance):
@@ -91,7 +106,7 @@ def mutant(text, chance):
         at = chance.randrange(len(tokens))
         same = next((signs for signs in (",&|", "?*+", ("=", "|=", "&=")) if tokens[at] and tokens[at] in signs), None)
         words = [token for token in tokens if re.match("[a-z]", token)]
-        changes = [chance.choice(PIECES), chance.choice(words or [""]), f"{tokens[at]} {chance.choice(',&|')} {chance.choice(PIECES)} ",
+        changes = [chance.choice(PIECES), datatype(chance), chance.choice(words or [""]), f"{tokens[at]} {chance.choice(',&|')} {chance.choice(PIECES)} ",
                    tokens[at] + chance.choice("+*?")]
         tokens[at] = chance.choice(same) if same else chance.choice(changes)
     return "".join(tokens)
@@ -120,16 +135,21 @@ def run(bench, seconds, seed):
     broken, hinted, wrong = collections.Counter(), collections.Counter(), 0
     while time.monotonic() < end:
         for clause in (1, *CLAUSES):
-            bench.hint(odd(chance), clause)
+            bench.hint(odd(chance), clause, chance.randrange(2))
         for files in written(chance):
-            clause = bench.clause(files)
+            datatypes = chance.randrange(2)
+            clause = bench.clause(files, datatypes)
             broken[clause] += 1
-            hinted[clause] += clause in CLAUSES and bench.hint(files, clause) is not None
+            hint = bench.hint(files, clause, datatypes) if clause in CLAUSES else None
+            hinted[clause] += hint is not None
+            if clause == 12 and hint is None:
+                wrong += 1
+                print(f"S12 is broken, and there is no hint, with the set {datatypes}: {files}")
             for before in CLAUSES if clause == 0 else range(9, clause):
-                hint = bench.hint(files, before)
+                hint = bench.hint(files, before, datatypes)
                 if hint:
                     wrong += 1
-                    print(f"S{before} is not broken (S{clause} is): {hint} in {files}")
+                    print(f"S{before} is not broken (S{clause} is), with the set {datatypes}: {hint} in {files}")
     print(", ".join(f"S{clause}: {hinted[clause]} of {broken[clause]}" for clause in sorted(broken) if clause in CLAUSES), f"{wrong} wrong hints", sep="; ")
     return 1 if wrong else 0
 

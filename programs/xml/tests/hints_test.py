@@ -30,6 +30,7 @@ EXAMPLES = {
     "S27": ("1:20", "text is on both sides of & in element a (the other is at 1:13)"),
 }
 
+COPY = "rncv-profile --datatypes xml-schema s.rnc -o DIR"
 COMMON = """# what the schemas below share
 attlist.id = attribute id { xsd:NCName }?
 attlist.common = attlist.id, attribute class { xsd:token }?
@@ -87,33 +88,48 @@ SCHEMAS = [
      "s.rnc:4:10", "S16", "block refers to itself outside of elements: block -> quote -> block"),
     ("a datatype of XML Schema that is not served", {
         "s.rnc": "start = element event {\n  attribute on { xsd:date },\n  text\n}\n"},
-     "s.rnc:2:18", "S12", "xsd:date is not served: rncv-profile s.rnc -o DIR writes a copy with xsd:token there, which accepts any text"),
-    ("a datatype of integers", {"s.rnc": "start = element n { xsd:positiveInteger }\n"}, "s.rnc:1:21", "S12",
-     "xsd:positiveInteger is not served: rncv-profile s.rnc -o DIR writes a copy with xsd:integer there, which accepts the same but for numbers of more than "
-     "38 digits"),
+     "s.rnc:2:18", "S12", f"xsd:date is not served: {COPY} writes a copy with xsd:token there, which accepts any text"),
     ("a datatype of IDs, of another library", {
         "s.rnc": 'datatypes d = "http://relaxng.org/ns/compatibility/datatypes/1.0"\nstart = element n { attribute id { d:ID } }\n'},
-     "s.rnc:2:36", "S12", "d:ID is not served: rncv-profile s.rnc -o DIR writes a copy with xsd:NCName there, which accepts more, but rncv-xml checks the IDs"),
+     "s.rnc:2:36", "S12", f"d:ID is not served: {COPY} writes a copy with xsd:ID there, which accepts the same"),
     ("a value of a datatype that is not served", {"s.rnc": 'start = element n { xsd:decimal "1.0" }\n'}, "s.rnc:1:21", "S12",
-     "xsd:decimal is not served: rncv-profile s.rnc -o DIR writes a copy with xsd:token there, which compares the value as that does"),
+     f"xsd:decimal is not served: {COPY} writes a copy with xsd:token there, which compares the value as that does"),
     ("a datatype in a file that is included", {
-        "s.rnc": 'include "parts.rnc"\n', "parts.rnc": "start = element n { xsd:anyURI }\n"},
-     "parts.rnc:1:21", "S12", "xsd:anyURI is not served: rncv-profile s.rnc -o DIR writes a copy with xsd:token there, which accepts any text"),
+        "s.rnc": 'include "parts.rnc"\n', "parts.rnc": "start = element n { xsd:duration }\n"},
+     "parts.rnc:1:21", "S12", f"xsd:duration is not served: {COPY} writes a copy with xsd:token there, which accepts any text"),
     ("a datatype that is none", {"s.rnc": "start = element n { xsd:dateTimes }\n"}, "s.rnc:1:21", "S12", "xsd:dateTimes is no datatype of XML Schema"),
     ("a datatype of a library that is not served", {"s.rnc": 'datatypes q = "urn:q"\nstart = element n { q:speed { unit = "m" } }\n'}, "s.rnc:2:21", "S12",
-     "q:speed is of the library urn:q, which is not served: rncv-profile s.rnc -o DIR writes a copy with xsd:string there, which accepts any text"),
+     f"q:speed is of the library urn:q, which is not served: {COPY} writes a copy with xsd:string there, which accepts any text"),
     ("a parameter that a datatype has not", {"s.rnc": 'start = element n { xsd:boolean { length = "1" } }\n'}, "s.rnc:1:35", "S12",
      "xsd:boolean takes no parameter length"),
-    ("a parameter of integers", {"s.rnc": 'start = element n { xsd:integer { totalDigits = "1" } }\n'}, "s.rnc:1:35", "S12",
-     "the parameter totalDigits of xsd:integer is not served: rncv-profile s.rnc -o DIR writes a copy with others there, which accepts the same"),
+    ("a length of a qualified name", {"s.rnc": 'start = element n { xsd:QName { maxLength = "1" } }\n'}, "s.rnc:1:33", "S12",
+     "xsd:QName takes no parameter maxLength"),
+    ("a parameter of integers", {"s.rnc": 'start = element n { xsd:int { fractionDigits = "0" } }\n'}, "s.rnc:1:31", "S12",
+     f"the parameter fractionDigits of xsd:int is not served: {COPY} writes a copy with others there, which accepts the same"),
+    ("a bound that is no value", {"s.rnc": 'start = element n { xsd:byte { maxInclusive = "128" } }\n'}, "s.rnc:1:32", "S12",
+     "the maxInclusive '128' is no value of xsd:byte"),
+    ("a length that is no number", {"s.rnc": 'start = element n { xsd:NMTOKENS { length = "-1" } }\n'}, "s.rnc:1:36", "S12",
+     "the length '-1' is no number from 0 on"),
+    ("a number of digits", {"s.rnc": 'start = element n { xsd:long { totalDigits = "0" } }\n'}, "s.rnc:1:32", "S12",
+     "the totalDigits '0' is no number from 1 on"),
+    ("two lengths", {"s.rnc": 'start = element n { xsd:Name { maxLength = "1" length = "1" } }\n'}, "s.rnc:1:48", "S12",
+     "the parameters length and maxLength exclude each other"),
+    ("bounds in the wrong order", {"s.rnc": 'start = element n { xsd:integer { maxExclusive = "5" minInclusive = "+05" } }\n'}, "s.rnc:1:54", "S12",
+     "the parameters minInclusive and maxExclusive leave no value between them"),
+    ("a parameter twice", {"s.rnc": 'start = element n { xsd:anyURI { length = "5" length = "5" } }\n'}, "s.rnc:1:47", "S12",
+     "the parameter length is there twice"),
+    ("a value of a qualified name", {"s.rnc": 'start = element n { xsd:QName "a" }\n'}, "s.rnc:1:21", "S12",
+     "a value of xsd:QName is not served, since it depends on the prefixes of the document"),
+    ("a value that a datatype has not", {"s.rnc": 'start = element n { xsd:language "de-" }\n'}, "s.rnc:1:21", "S12",
+     "xsd:language does not allow the value 'de-'"),
     ("a schema in the XML syntax", {
         "s.rnc": '<element name="n" xmlns="http://relaxng.org/ns/structure/1.0" datatypeLibrary="http://www.w3.org/2001/XMLSchema-datatypes">\n'
-                 '  <data type="anyURI"/>\n</element>\n'},
-     "s.rnc:2:3", "S12", "xsd:anyURI is not served: rng2rnc s.rnc -o RNC writes it in the compact syntax, of which rncv-profile -o DIR writes a copy with "
-     "xsd:token there, which accepts any text"),
+                 '  <data type="date"/>\n</element>\n'},
+     "s.rnc:2:3", "S12", "xsd:date is not served: rng2rnc s.rnc -o RNC writes it in the compact syntax, of which rncv-profile --datatypes xml-schema -o DIR "
+     "writes a copy with xsd:token there, which accepts any text"),
     ("a parameter that is not served", {
         "s.rnc": 'zip = xsd:token {\n  pattern = "[0-9]{5}"\n}\nstart = element zip { zip }\n'},
-     "s.rnc:2:3", "S12", "the parameter pattern of xsd:token is not served: rncv-profile s.rnc -o DIR writes a copy without it, which also accepts "
+     "s.rnc:2:3", "S12", f"the parameter pattern of xsd:token is not served: {COPY} writes a copy without it, which also accepts "
      "what the pattern does not match"),
     ("a list of attributes in a repetition", {
         "s.rnc": 'include "common.rnc"\nstart = element row {\n  (attlist.common, cell)+\n}\ncell = element cell { text }\n', "common.rnc": COMMON},
@@ -157,6 +173,26 @@ SCHEMAS = [
      "s.rnc:1:38", "S21", "an option (?) is in the except of xsd:token, by the reference reserved"),
 ]
 
+LARGER = "is of the datatypes xml-schema, and not of those of the profile"
+# Patterns that break S12 with the six datatypes of the profile, where in the pattern, and the hint.
+OF_THE_PROFILE = [
+    ("xsd:date", 1, "xsd:date is not served: rncv-profile s.rnc -o DIR writes a copy with xsd:token there, which accepts any text"),
+    ("xsd:positiveInteger", 1, f"xsd:positiveInteger {LARGER}: rncv-profile s.rnc -o DIR writes a copy with xsd:integer there, which accepts the same but for "
+     "numbers of more than 38 digits"),
+    ("xsd:anyURI", 1, f"xsd:anyURI {LARGER}: rncv-profile s.rnc -o DIR writes a copy with xsd:token there, which accepts any text"),
+    ("xsd:ID", 1, f"xsd:ID {LARGER}: rncv-profile s.rnc -o DIR writes a copy with xsd:NCName there, which accepts more, but rncv-xml checks the IDs"),
+    ('xsd:Name "a"', 1, f"xsd:Name {LARGER}: rncv-profile s.rnc -o DIR writes a copy with xsd:NMTOKEN there, which compares the value as that does"),
+    ('xsd:integer { totalDigits = "1" }', 15, f"the parameter totalDigits of xsd:integer {LARGER}: rncv-profile s.rnc -o DIR writes a copy with others there, "
+     "which accepts the same"),
+    ('xsd:token { length = "1" }', 13, f"the parameter length of xsd:token {LARGER}: rncv-profile s.rnc -o DIR writes a copy with others there, which accepts "
+     "the same"),
+    ('xsd:token { pattern = "a" }', 13, "the parameter pattern of xsd:token is not served: rncv-profile s.rnc -o DIR writes a copy without it, which also "
+     "accepts what the pattern does not match"),
+    ('xsd:token { minLength = "+1" }', 13, "the minLength '+1' is not 1 to 9 digits"),
+    (f'xsd:integer "{"1" * 39}"', 1, f"xsd:integer does not allow the value '{'1' * 39}'"),
+    (f'xsd:integer {{ minInclusive = "{"1" * 39}" }}', 15, f"the minInclusive '{'1' * 39}' is no integer of at most 38 digits"),
+]
+
 # Schemas that break no clause, though they nearly do.
 GOOD = [
     "element a { (attribute b { text } | attribute b { xsd:integer }), attribute c { text } }",
@@ -193,9 +229,9 @@ class Hints(InFolder):
         self.assertEqual((errors, status), ("", 3))
         return out
 
-    def hinted(self, files):
+    def hinted(self, files, *options):
         """The place, the clause and the hint, each empty if it is not there."""
-        found = re.fullmatch(r"([^:\n]+(?::\d+:\d+)?): (S\d+) [^\n]*?(?:: hint: ([^\n]+))?, see docs/CLAUSES\.md\n", self.answer(files))
+        found = re.fullmatch(r"([^:\n]+(?::\d+:\d+)?): (S\d+) [^\n]*?(?:: hint: ([^\n]+))?, see docs/CLAUSES\.md\n", self.answer(files, *options))
         self.assertIsNotNone(found)
         return found[1], found[2], found[3] or ""
 
@@ -213,6 +249,11 @@ class Hints(InFolder):
         for name, files, place, clause, hint in SCHEMAS:
             with self.subTest(name):
                 self.assertEqual(self.hinted(files), (place, clause, hint))
+
+    def test_datatypes_of_the_profile(self):
+        for pattern, column, hint in OF_THE_PROFILE:
+            with self.subTest(pattern):
+                self.assertEqual(self.hinted({"s.rnc": f"element a {{\n{pattern} }}"}, "--datatypes", "profile"), (f"s.rnc:2:{column}", "S12", hint))
 
     def test_schemas_that_are_good(self):
         self.write("b.rnc", INCLUDED.replace("parent y", "empty"))

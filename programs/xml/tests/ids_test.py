@@ -95,32 +95,70 @@ SOUND = (
 )
 
 
-class Ids(InFolder):
+class OnCopies:
+    """Tests on copies that `rncv-profile` writes with the options MADE, by `rncv-xml` with the options JUDGED."""
+
+    MADE, JUDGED = (), ()
+
     def copied(self, schema):
         self.write("s.rnc", schema)
         shutil.rmtree(self.folder / "copy", ignore_errors=True)
-        self.assertIn(self.run_in(PROFILE, "-o", "copy", "s.rnc")[2], (0, 1))
+        self.assertIn(self.run_in(PROFILE, *self.MADE, "-o", "copy", "s.rnc")[2], (0, 1))
 
     def notes(self):
         """What is noted about the schema, and its status."""
-        out, errors, status = self.run_in(RNCV_XML, "copy/s.rnc")
+        out, errors, status = self.run_in(RNCV_XML, *self.JUDGED, "copy/s.rnc")
         self.assertEqual(out, "")
         return errors, status
-
-    def jing(self, *words):
-        """What jing prints, and its status."""
-        run = subprocess.run(["jing", "-c", *words], cwd=self.folder, capture_output=True, text=True, check=False, timeout=100)
-        return run.stdout, run.returncode
 
     def test_documents(self):
         self.copied(SCHEMA)
         for number, (document, wanted) in enumerate(DOCUMENTS):
             with self.subTest(document):
                 self.write("d.xml", document)
-                out, status = self.judge("copy/s.rnc", "d.xml")
+                out, status = self.judge(*self.JUDGED, "copy/s.rnc", "d.xml")
                 told = out.removeprefix("d.xml:").replace(": invalid: ", ": ").rstrip("\n")
                 self.assertEqual((told, status) if wanted != "malformed" else status, (wanted, int(wanted != "")) if wanted != "malformed" else 2)
-                self.assertIn(self.judge("--no-ids", "copy/s.rnc", "d.xml")[1], (0,) if "ID" in wanted or not wanted else (1, 2))
+                self.assertIn(self.judge(*self.JUDGED, "--no-ids", "copy/s.rnc", "d.xml")[1], (0,) if "ID" in wanted or not wanted else (1, 2))
+
+    def test_schemas_that_are_not_sound(self):
+        for schema, reason in UNSOUND:
+            with self.subTest(schema):
+                self.copied(HEAD + schema)
+                self.assertEqual(self.notes()[0].splitlines()[0], f"copy/s.rnc: note: IDs are not checked: {reason}")
+
+    def test_schemas_that_are_sound(self):
+        for schema in SOUND:
+            with self.subTest(schema):
+                self.copied(HEAD + schema)
+                self.assertEqual(self.notes(), ("rncv-xml: the schema is good; no document is named\n", 0))
+
+
+class Names(OnCopies, InFolder):
+    """The datatypes of IDs themselves, of the larger set. Those of the compatibility library become those of XML Schema in a copy."""
+
+    MADE = ("--datatypes", "xml-schema")
+
+    def test_a_schema_without_a_copy(self):
+        self.write("s.rnc", 'namespace n = "urn:n"\n' + PARTS.replace(" d:ID", " xsd:ID"))
+        self.write("d.xml", '<r id="x">\n<a id="x"/></r>')
+        self.assertEqual(self.run_in(RNCV_XML, "s.rnc", "d.xml"), ('d.xml:2:1: invalid: ID "x" is already at line 1\n', "", 1))
+        self.assertEqual(self.run_in(RNCV_XML, "--all", "--no-ids", "--strict", "--strict-profile", "s.rnc", "d.xml"), ("d.xml: valid\n", "", 0))
+
+
+class Marks(OnCopies, InFolder):
+    """The marks, with the six datatypes."""
+
+    JUDGED = ("--datatypes", "profile")
+
+
+class Ids(OnCopies, InFolder):
+    """The marks, with the larger set."""
+
+    def jing(self, *words):
+        """What jing prints, and its status."""
+        run = subprocess.run(["jing", "-c", *words], cwd=self.folder, capture_output=True, text=True, check=False, timeout=100)
+        return run.stdout, run.returncode
 
     def test_documents_beside_jing(self):
         self.wanted("jing")
@@ -143,18 +181,6 @@ class Ids(InFolder):
         for answer, (is_unsound, schema) in zip(answers, schemas):
             with self.subTest(schema):
                 self.assertEqual("ID-type" in answer, is_unsound, answer)
-
-    def test_schemas_that_are_not_sound(self):
-        for schema, reason in UNSOUND:
-            with self.subTest(schema):
-                self.copied(HEAD + schema)
-                self.assertEqual(self.notes()[0].splitlines()[0], f"copy/s.rnc: note: IDs are not checked: {reason}")
-
-    def test_schemas_that_are_sound(self):
-        for schema in SOUND:
-            with self.subTest(schema):
-                self.copied(HEAD + schema)
-                self.assertEqual(self.notes(), ("rncv-xml: the schema is good; no document is named\n", 0))
 
     def test_what_the_closing_line_says(self):
         self.copied(SCHEMA)

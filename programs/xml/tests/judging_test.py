@@ -413,7 +413,7 @@ class Words(InFolder):
 
     def test_wrong_words(self):
         for words in ((), ("--",), ("--bogus", "s.rnc"), ("-j",), ("-j", "x", "s.rnc"), ("-j", "-1", "s.rnc"), ("--format", "xml", "s.rnc"),
-                      ("--map", "x", "s.rnc"), ("--quiet", "--all", "s.rnc"), ("-", "good.xml"), ("--files-from", "-", "s.rnc", "-")):
+                      ("--map", "x", "s.rnc"), ("--datatypes", "all", "s.rnc"), ("--datatypes=", "s.rnc"), ("--quiet", "--all", "s.rnc"), ("-", "good.xml"), ("--files-from", "-", "s.rnc", "-")):
             out, errors, status = self.run_in(RNCV_XML, *words)
             self.assertEqual((out, status), ("", 5), words)
             self.assertRegex(errors, r"^rncv-xml: .*\nusage: rncv-xml .*\n$")

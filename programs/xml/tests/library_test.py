@@ -116,7 +116,7 @@ class Built(InLibrary):
     def test_what_it_does_not_do(self):
         for words in (["-D", self.library / "lib/librncv_xml.so"], [self.library / "lib/librncv_xml.a"]):
             used = [line.split()[-1] for line in self.run_good(["nm", "-u", *map(str, words)]).splitlines() if line.split()]
-            self.assertIn("rncv_compile", used)
+            self.assertIn("rncv_compile_with", used)
             self.assertEqual([name for name in used if FORBIDDEN.match(name)], [])
 
     def test_program(self):

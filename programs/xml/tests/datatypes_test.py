@@ -1,0 +1,135 @@
+#!/usr/bin/env python3
+"""Tests of `rncv-xml --datatypes`: which datatypes a schema may name, and what is noted of those that are judged by their spelling. See test.sh. What texts the
+datatypes take, `dev/check/datatypes` compares with jing."""
+import json
+import unittest
+
+from testing import HERE, RNCV_XML, InFolder
+
+LARGER = """start = element order { attribute number { xsd:positiveInteger { totalDigits = "5" } }, attribute see { xsd:anyURI { maxLength = "20" } }?, line+ }
+line = element line { attribute count { xsd:unsignedByte }, xsd:language }
+"""
+GOOD = '<order number="+00042" see="a b"><line count=" 7 ">de-AT</line></order>'
+# The same in the XML syntax.
+IN_XML = """<element name="order" xmlns="http://relaxng.org/ns/structure/1.0" datatypeLibrary="http://www.w3.org/2001/XMLSchema-datatypes">
+  <attribute name="number"><data type="positiveInteger"><param name="totalDigits">5</param></data></attribute>
+  <optional><attribute name="see"><data type="anyURI"><param name="maxLength">20</param></data></attribute></optional>
+  <oneOrMore><element name="line">
+    <attribute name="count"><data type="unsignedByte"/></attribute>
+    <data type="language"/>
+  </element></oneOrMore>
+</element>
+"""
+BAD = (
+    (GOOD.replace("+00042", "0"), "1:1: invalid: at attribute number"),
+    (GOOD.replace("+00042", "123456"), "1:1: invalid: at attribute number"),
+    (GOOD.replace("a b", "a" * 21), "1:1: invalid: at attribute see"),
+    (GOOD.replace(" 7 ", "256"), "1:34: invalid: at attribute count"),
+    (GOOD.replace("de-AT", "-"), '1:52: invalid: at text "-"'),
+)
+SPELLED = "are judged by their spelling"
+# Schemas with datatypes that depend on the document, and the note.
+NOTED = (
+    ("xsd:QName", f"texts of xsd:QName {SPELLED}: their prefixes are not looked up"),
+    ("xsd:NOTATION | xsd:QName", f"texts of xsd:QName and xsd:NOTATION {SPELLED}: their prefixes are not looked up"),
+    ("xsd:ENTITY", f"texts of xsd:ENTITY {SPELLED}: the entities are not looked up"),
+    ("xsd:ENTITIES | xsd:QName", f"texts of xsd:QName {SPELLED}: their prefixes are not looked up; "
+     f"texts of xsd:ENTITIES {SPELLED}: the entities are not looked up"),
+)
+# Schemas that name no such datatype, though they nearly do.
+NOT_NOTED = ('namespace xsd = "u" element xsd:QName { xsd:token }', "# xsd:QName\nelement a { text }", 'element a { attribute b { "xsd:QName" } }',
+             "element a { empty | (xsd:ENTITY, notAllowed) }", "start = element a { text } unused = element b { xsd:QName }")
+
+
+class Sets(InFolder):
+    """The two sets."""
+
+    def test_the_larger_set_is_the_default(self):
+        self.write("good.xml", GOOD)
+        self.write("s.rng", IN_XML)
+        for schema in (self.write("s.rnc", LARGER).name, "s.rng"):
+            for words in ((), ("--datatypes", "xml-schema"), ("--datatypes=xml-schema",), ("--datatypes", "profile", "--datatypes", "xml-schema")):
+                with self.subTest((schema, words)):
+                    self.assertEqual(self.run_in(RNCV_XML, *words, "--all", schema, "good.xml"), ("good.xml: valid\n", "", 0))
+            for document, wanted in BAD:
+                with self.subTest((schema, document)):
+                    self.write("bad.xml", document)
+                    self.assertEqual(self.run_in(RNCV_XML, schema, "bad.xml"), (f"bad.xml:{wanted}\n", "", 1))
+
+    def test_the_six_of_the_profile(self):
+        self.write("s.rnc", LARGER)
+        self.write("s.rng", IN_XML)
+        self.write("good.xml", GOOD)
+        for schema, place in (("s.rnc", "1:44"), ("s.rng", "2:28")):
+            out, errors, status = self.run_in(RNCV_XML, "--datatypes", "profile", schema, "good.xml")
+            self.assertEqual((errors, status), ("", 3))
+            self.assertRegex(out, rf"^s\.rn[cg]:{place}: S12 .*: hint: xsd:positiveInteger is of the datatypes xml-schema, and not of those of the profile: ")
+
+    def test_numbers(self):
+        """In the larger set a number may have any length, and bounds have an order."""
+        self.write("s.rnc", "element a { xsd:integer }")
+        self.write("long.xml", f"<a>{'9' * 39}</a>")
+        self.assertEqual(self.judge("--all", "s.rnc", "long.xml"), ("long.xml: valid\n", 0))
+        self.assertEqual(self.judge("--datatypes", "profile", "s.rnc", "long.xml"), (f'long.xml:1:4: invalid: at text "{"9" * 39}"\n', 1))
+        self.write("s.rnc", 'element a { xsd:integer { minInclusive = "5" maxInclusive = "4" } }')
+        self.assertEqual(self.run_in(RNCV_XML, "--datatypes", "profile", "s.rnc")[2], 0)
+        self.assertIn("leave no value between them", self.judge("s.rnc")[0])
+
+    def test_pattern_is_in_no_set(self):
+        self.write("s.rnc", 'element a { xsd:NCName { pattern = "a+" } }')
+        for words, profile in (((), "rncv-profile --datatypes xml-schema"), (("--datatypes", "profile"), "rncv-profile")):
+            out, status = self.judge(*words, "s.rnc")
+            self.assertEqual(status, 3)
+            self.assertIn(f": hint: the parameter pattern of xsd:NCName is not served: {profile} s.rnc -o DIR writes a copy without it, ", out)
+
+    def test_the_command_of_a_hint(self):
+        """What the hint says makes a copy that is served."""
+        self.write("s.rnc", 'element a { attribute b { xsd:NCName { pattern = "a+" length = "2" } }, attribute c { xsd:anyURI }, xsd:decimal }')
+        self.write("good.xml", '<a b="ab" c="/">1.0</a>')
+        command = self.judge("s.rnc")[0].split(" is not served: ")[1].split(" writes ")[0].replace("DIR", "copy").split(" ")
+        self.assertEqual(command[0], "rncv-profile")
+        self.run_in(HERE.parent / "profile/rncv-profile", *command[1:])
+        self.assertEqual(self.judge("--all", "copy/s.rnc", "good.xml"), ("good.xml: valid\n", 0))
+        self.assertIn("xsd:anyURI", (self.folder / "copy/s.rnc").read_text())
+
+
+class Spelled(InFolder):
+    """Datatypes whose texts depend on the document."""
+
+    def setUp(self):
+        super().setUp()
+        self.write("a.xml", "<a>x</a>")
+
+    def test_notes(self):
+        for pattern, note in NOTED:
+            with self.subTest(pattern):
+                self.write("s.rnc", f"element a {{ {pattern} }}")
+                self.assertEqual(self.run_in(RNCV_XML, "--all", "s.rnc", "a.xml", "a.xml"), ("a.xml: valid\na.xml: valid\n", f"s.rnc: note: {note}\n", 0))
+                self.assertEqual(self.run_in(RNCV_XML, "--quiet", "s.rnc", "a.xml"), ("", "", 0))
+                self.assertEqual(self.run_in(RNCV_XML, "--strict", "s.rnc", "a.xml"), (f"s.rnc: {note}\n", "", 3))
+
+    def test_other_formats(self):
+        self.write("s.rnc", "element a { xsd:QName }")
+        note = NOTED[0][1]
+        out, errors, status = self.run_in(RNCV_XML, "--format", "json", "s.rnc", "a.xml")
+        self.assertEqual((json.loads(out), errors, status), ({"file": "a.xml", "verdict": "valid", "notes": [{"message": note}]}, "", 0))
+        results = json.loads(self.judge("--format", "sarif", "s.rnc", "a.xml")[0])["runs"][0]["results"]
+        self.assertEqual([(each["level"], each["message"]["text"]) for each in results], [("note", note)])
+        self.assertEqual(self.judge("--format", "github", "s.rnc", "a.xml"), (f"::notice file=s.rnc,title=note::{note}\n", 0))
+
+    def test_schemas_without_a_note(self):
+        for schema in NOT_NOTED:
+            with self.subTest(schema):
+                self.write("s.rnc", schema)
+                self.assertEqual(self.run_in(RNCV_XML, "--strict", "s.rnc"), ("", "rncv-xml: the schema is good; no document is named\n", 0))
+
+    def test_prefixes_and_entities_are_not_looked_up(self):
+        self.write("s.rnc", "element a { attribute b { xsd:QName }, xsd:ENTITIES }")
+        for document, wanted in (('<a b="p:x">e f</a>', "valid"), ('<a b="p:x:y">e</a>', "invalid: at attribute b"),
+                                 ('<a b="p">:</a>', 'invalid: at text ":"')):
+            self.write("a.xml", document)
+            self.assertTrue(self.judge("--all", "s.rnc", "a.xml")[0].endswith(f": {wanted}\n"), document)
+
+
+if __name__ == "__main__":
+    unittest.main(verbosity=1)
