@@ -52,6 +52,9 @@ _TEXT_BYTES = 65_536
 # From S9 on a schema breaks a clause as a whole: the proved library knows no place. For S6 there are hints about names in annotations.
 _HINTED = (6, *range(9, 28))
 
+# The sets of datatypes that a schema may name, and their numbers in the library.
+_DATATYPES = {"profile": 0, "xml-schema": 1}
+
 _DONE, _REFUSED, _MALFORMED, _MEMORY, _MISUSE, _SPACE = range(6)
 _KINDS = ("valid", "invalid", "malformed")
 _NAMES = ("librncv.so", "librncv.so.0", "librncv.dylib")
@@ -181,14 +184,14 @@ class Validator:
     is freed with or without `close`. Every call on a closed validator raises ValueError.
     """
 
-    def __init__(self, handle: _Schema, texts: tuple[bytes, ...] = ()) -> None:
+    def __init__(self, handle: _Schema, texts: tuple[bytes, ...] = (), datatypes: int = 0) -> None:
         if not isinstance(handle, _Schema):
             raise TypeError("a validator is made by rncv.compile")
         self._library = _library()
         self._handle = handle
         # The first XML document makes the judge. From the files of the schema it takes values to try, and then they are not needed.
         self._judge: Optional[_xml.Judge] = None
-        self._texts = texts
+        self._texts, self._datatypes = texts, datatypes
         # Each call on the handle holds this lock. A destructor or a signal may make another call in the same thread, before or after such a call.
         self._lock = threading.RLock()
         self._document: Optional[Callable[[], Any]] = None
@@ -214,8 +217,8 @@ class Validator:
     def validate_xml(self, document: Union[Path, Bytes, BinaryIO], ids: bool = True) -> XmlVerdict:
         """Judges an XML document: the path of a file, bytes, or a binary file. A binary file is read from its position to its end, in pieces of 64 KiB.
 
-        If the schema is a copy by `rncv-profile` of one with the datatypes ID, IDREF and IDREFS, each ID has to be there once, and what refers to one has to
-        find it. `ids=False` leaves that out. It is not proved. If RELAX NG DTD Compatibility does not allow the schema, a note says why nothing is checked.
+        If the schema names the datatypes ID, IDREF and IDREFS, or is a copy by `rncv-profile` of one that does, each ID has to be there once, and what refers
+        to one has to find it. `ids=False` leaves that out. It is not proved. If RELAX NG DTD Compatibility does not allow the schema, a note says why nothing is checked.
 
         OSError: the file cannot be read. An exception from a binary file goes to the caller, and the validator can judge the next document. LibraryError:
         there is no library for XML. RuntimeError: another document is in progress. MemoryError: out of memory.
@@ -261,7 +264,7 @@ class Validator:
             self._let_go()
             other = _Schema()
             _want_done(self._library.rncv_schema_share(self._handle, other))
-            validator = Validator(other, self._texts)
+            validator = Validator(other, self._texts, self._datatypes)
             if self._judge is not None:
                 validator._keep_judge(self._judge.share())
             return validator
@@ -316,7 +319,7 @@ class Validator:
         library = _xml_library()
         self._let_go()
         files = (_File * len(self._texts))(*[_File(b"", 0, text, len(text)) for text in self._texts])
-        return self._keep_judge(_xml.Judge.of_schema(library, self._handle, files))
+        return self._keep_judge(_xml.Judge.of_schema(library, self._handle, files, self._datatypes))
 
     def _keep_judge(self, judge: _xml.Judge) -> _xml.Judge:
         self._judge, self._texts = judge, ()
@@ -407,14 +410,14 @@ class Document:
 
 
 @overload
-def compile(files: Mapping[str, Bytes], /, *, annotations: bool = False) -> Validator: ...
+def compile(files: Mapping[str, Bytes], /, *, annotations: bool = False, datatypes: str = "profile") -> Validator: ...
 
 
 @overload
-def compile(*paths: Path) -> Validator: ...
+def compile(*paths: Path, datatypes: str = "profile") -> Validator: ...
 
 
-def compile(*files: Any, annotations: bool = False) -> Validator:
+def compile(*files: Any, annotations: bool = False, datatypes: str = "profile") -> Validator:
     """Compiles the schema of these files. The first file is the main one.
 
     They are paths, or one mapping of names to bytes. With paths the main file is enough, whatever folder the process is in: a file that another one mentions
@@ -427,9 +430,14 @@ def compile(*files: Any, annotations: bool = False) -> Validator:
     the file as it is written. With `annotations=True` that is done for the files of a mapping too; else they are handed in as they are. It needs the library
     for XML: without it all files are handed in as they are, and S6 refuses those annotations.
 
-    SchemaError: the files break a clause. OSError: a file cannot be read. ValueError: there is no file, a name is not UTF-8, or a mention may mean several
-    files. MemoryError: out of memory. LibraryError: there is no library.
+    `datatypes` says which datatypes the schema may name (docs/LANGUAGE.md): "profile", the six that the program `rncv` has, or "xml-schema", the larger set
+    that is the default of `rncv-xml`. With "xml-schema" texts of QName, NOTATION, ENTITY and ENTITIES are judged by their spelling: prefixes and entities are
+    not looked up.
+
+    SchemaError: the files break a clause. OSError: a file cannot be read. ValueError: there is no file, a name is not UTF-8, a mention may mean several
+    files, or `datatypes` is none of the two. MemoryError: out of memory. LibraryError: there is no library.
     """
+    number = _number_of(datatypes)
     library = _library()
     if len(files) == 1 and isinstance(files[0], Mapping):
         sources = _sources_of(files[0], annotations)
@@ -439,11 +447,18 @@ def compile(*files: Any, annotations: bool = False) -> Validator:
         raise ValueError("a schema has at least one file")
     given = _array_of(sources.names, sources.texts)
     handle, fault = _Schema(), _Fault()
-    status = library.rncv_compile(given, len(given), handle, fault)
+    status = library.rncv_compile_with(given, len(given), number, handle, fault)
     if status == _REFUSED:
-        raise _refusal(fault, sources, given)
+        raise _refusal(fault, sources, given, number)
     _want_done(status)
-    return Validator(handle, tuple(sources.texts))
+    return Validator(handle, tuple(sources.texts), number)
+
+
+def _number_of(datatypes: Any) -> int:
+    """The number of a set of datatypes in the library."""
+    if not isinstance(datatypes, str) or datatypes not in _DATATYPES:
+        raise ValueError(f"datatypes is 'profile' or 'xml-schema', and not {datatypes!r}")
+    return _DATATYPES[datatypes]
 
 
 def mentions(file: Bytes) -> list[str]:
@@ -531,7 +546,7 @@ def _array_of(names: list[bytes], texts: list[bytes]) -> Any:
     return (_File * len(names))(*[_File(name, len(name), text, len(text)) for name, text in zip(names, texts)])
 
 
-def _refusal(fault: _Fault, sources: _Sources, given: Any) -> SchemaError:
+def _refusal(fault: _Fault, sources: _Sources, given: Any, datatypes: int) -> SchemaError:
     """The error for files that the library refuses; `given` is the files as it took them."""
     index = _known(fault.file)
     name = None if index is None else sources.shown[index]
@@ -541,7 +556,7 @@ def _refusal(fault: _Fault, sources: _Sources, given: Any) -> SchemaError:
         missing = sources.missing()
         reported = (name, None) if missing is None else (missing.what, (missing.file, missing.line, missing.column))
     title = clause_title("S", fault.clause) or ""
-    hint = _hint(fault, sources) if fault.clause in _HINTED else ()
+    hint = _hint(fault, sources, datatypes) if fault.clause in _HINTED else ()
     offset, line, column = _known(fault.offset), _known(fault.line), _known(fault.column)
     if index is not None and offset is not None and sources.written[index] is not sources.texts[index]:
         column = _schema_files.place_of(sources.written[index], offset)[1]  # a blank is a character for each byte
@@ -550,10 +565,10 @@ def _refusal(fault: _Fault, sources: _Sources, given: Any) -> SchemaError:
     return SchemaError(fault.clause, title, name, index, offset, line, column, *reported, *hint)
 
 
-def _hint(fault: _Fault, sources: _Sources) -> tuple[Any, ...]:
+def _hint(fault: _Fault, sources: _Sources, datatypes: int) -> tuple[Any, ...]:
     """The words and the place of a hint: the text, the file, the line and the column; nothing if there is none, or no library for XML."""
     try:
-        found = _xml.hint_of(_xml_library(), _array_of(sources.names, sources.written), sources.shown, fault.clause)
+        found = _xml.hint_of(_xml_library(), _array_of(sources.names, sources.written), sources.shown, fault.clause, datatypes)
     except (LibraryError, MemoryError):
         return ()
     return () if found is None else (found.text, sources.shown[found.file], found.line, found.column)
@@ -745,7 +760,7 @@ def _typed(library: ctypes.CDLL) -> ctypes.CDLL:
     """Returns the library with the types of its functions. Raises AttributeError if it lacks one."""
     schema, size, status = ctypes.POINTER(_Schema), ctypes.c_size_t, ctypes.c_int32
     for name, kinds, kind in [
-        ("rncv_compile", [ctypes.POINTER(_File), size, schema, ctypes.POINTER(_Fault)], status),
+        ("rncv_compile_with", [ctypes.POINTER(_File), size, ctypes.c_uint32, schema, ctypes.POINTER(_Fault)], status),
         ("rncv_refused_name", [ctypes.POINTER(_File), size, ctypes.c_char_p, size, ctypes.POINTER(size)], status),
         ("rncv_mentions", [ctypes.c_char_p, size, ctypes.c_char_p, size, ctypes.POINTER(size), ctypes.POINTER(_Fault)], status),
         ("rncv_schema_share", [schema, schema], status),

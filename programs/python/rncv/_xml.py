@@ -129,8 +129,8 @@ def typed(library: ctypes.CDLL) -> ctypes.CDLL:
     pointer, size, status = ctypes.c_void_p, ctypes.c_size_t, ctypes.c_int32
     for name, kinds, kind in [
         ("rncv_xml_annotations_blank", [pointer, size, pointer], status),
-        ("rncv_xml_hint_find", [pointer, pointer, size, status, pointer], status),
-        ("rncv_xml_judge_new", [pointer, pointer, size, pointer], status),
+        ("rncv_xml_hint_find_with", [pointer, pointer, size, status, ctypes.c_uint32, pointer], status),
+        ("rncv_xml_judge_new_with", [pointer, pointer, size, ctypes.c_uint32, pointer], status),
         ("rncv_xml_judge_share", [pointer, pointer], status),
         ("rncv_xml_judge_ids", [pointer, status], status),
         ("rncv_xml_judge_free", [pointer], None),
@@ -152,11 +152,12 @@ def blanked(library: ctypes.CDLL, written: bytes) -> bytes:
     return text.raw if changed.value else written
 
 
-def hint_of(library: ctypes.CDLL, files: Any, shown: Sequence[str], clause: int) -> Optional[Hint]:
-    """The hint about a clause that these files break, if one is known. The files are an array, as the other library takes them, and may have annotations."""
+def hint_of(library: ctypes.CDLL, files: Any, shown: Sequence[str], clause: int, datatypes: int) -> Optional[Hint]:
+    """The hint about a clause that these files break, if one is known. The files are an array, as the other library takes them, and may have annotations.
+    `datatypes` is the number of the set that they may name."""
     names = (ctypes.c_char_p * len(shown))(*[name.encode("utf-8", "replace") for name in shown])
     found = _Hint()
-    status = library.rncv_xml_hint_find(files, names, len(files), clause, ctypes.byref(found))
+    status = library.rncv_xml_hint_find_with(files, names, len(files), clause, datatypes, ctypes.byref(found))
     return Hint(_text(found.text), found.file, found.line, found.column) if status == _DONE and found.line > 0 else None
 
 
@@ -213,10 +214,11 @@ class Judge:
         self._checks_ids = True
 
     @classmethod
-    def of_schema(cls, library: ctypes.CDLL, schema: ctypes.Structure, files: Any) -> Judge:
-        """A judge by the schema with this handle. Its files are an array, as the other library takes them."""
+    def of_schema(cls, library: ctypes.CDLL, schema: ctypes.Structure, files: Any, datatypes: int) -> Judge:
+        """A judge by the schema with this handle, which may name the datatypes of the set of this number. Its files are an array, as the other library takes
+        them."""
         judge = cls(library)
-        _want_done(library.rncv_xml_judge_new(ctypes.byref(schema), files, len(files), judge._to_handle))
+        _want_done(library.rncv_xml_judge_new_with(ctypes.byref(schema), files, len(files), datatypes, judge._to_handle))
         return judge
 
     def share(self) -> Judge:

@@ -226,6 +226,27 @@ class Schemas(unittest.TestCase):
                 self.assertEqual(error.file, "b.rnc" if number == 1 else "s.rnc" if number <= 8 else None)
                 rncv.compile(schema_of(repair)).close()
 
+    def test_datatypes(self):
+        larger, number = {"s.rnc": b"element a { xsd:unsignedByte }"}, {"s.rnc": b"element a { xsd:integer }"}
+        self.assertEqual(self.refused(larger).clause, 12)
+        for words in ({}, {"datatypes": "profile"}):
+            with self.assertRaises(rncv.SchemaError):
+                rncv.compile(larger, **words)
+            with rncv.compile(number, **words) as validator:
+                self.assertFalse(validator.validate(b"(a\n-" + b"1" * 39 + b"\n)a\n"))
+        with rncv.compile(larger, datatypes="xml-schema") as validator, validator.share() as other:
+            for text, wanted in ((b"255", True), (b"256", False), (b"+07", True), (b"-0", True), (b"1.0", False)):
+                self.assertEqual([bool(each.validate(b"(a\n-" + text + b"\n)a\n")) for each in (validator, other)], [wanted] * 2, text)
+        with rncv.compile(number, datatypes="xml-schema") as validator:
+            self.assertTrue(validator.validate(b"(a\n-" + b"1" * 39 + b"\n)a\n"))
+        with folder() as room:
+            (room / "s.rnc").write_bytes(larger["s.rnc"])
+            rncv.compile("s.rnc", datatypes="xml-schema").close()
+            # it is looked at before a file is read
+            for wrong in ("", "xsd", "XML-SCHEMA", None, 1, b"profile", ["profile"]):
+                with self.assertRaisesRegex(ValueError, "^datatypes is 'profile' or 'xml-schema', and not "):
+                    rncv.compile("none.rnc", datatypes=wrong)
+
     def test_which_file(self):
         main = b'start = element book { empty }\ninclude "bad.rnc"\n'
         error = self.refused({"m.rnc": main, "other.rnc": b"x = empty", "bad.rnc": b"part = element part {"})

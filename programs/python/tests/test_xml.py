@@ -48,6 +48,31 @@ class Small(io.BytesIO):
 
 
 @unittest.skipUnless(has_library(), "no library for XML beside librncv (programs/xml/library.sh builds it)")
+class Datatypes(unittest.TestCase):
+    """Documents, IDs and hints with the larger set of datatypes."""
+
+    SCHEMA = {"s.rnc": b"element a { attribute n { xsd:ID }, attribute r { xsd:IDREFS }?, (xsd:language | element b { xsd:NMTOKENS }) }"}
+
+    def test_documents(self):
+        with rncv.compile(self.SCHEMA, datatypes="xml-schema") as validator, validator.share() as other:
+            for document, told in ((b"<a n='x' r=' x '>de-AT</a>", "valid"), (b"<a n='x'>de_AT</a>", '1:10: invalid: at text "de_AT"'),
+                                   (b"<a n='x'><b> </b></a>", "1:14: invalid: at the end of <b>"), (b"<a n='x' r='y'>de</a>", '1:1: invalid: no ID "y"')):
+                self.assertEqual([str(each.validate_xml(document)) for each in (validator, other)], [told] * 2, document)
+            self.assertTrue(validator.validate_xml(b"<a n='x' r='y'>de</a>", ids=False))
+
+    def test_hints(self):
+        hints = {}
+        for datatypes in ("profile", "xml-schema"):
+            with self.assertRaises(rncv.SchemaError) as caught:
+                rncv.compile({"s.rnc": b'element a { xsd:Name { pattern = "a" } }'}, datatypes=datatypes)
+            hints[datatypes] = (caught.exception.hint_column, caught.exception.hint)
+        self.assertEqual(hints["profile"][0], 13)
+        self.assertTrue(hints["profile"][1].startswith("xsd:Name is of the datatypes xml-schema, and not of those of the profile: rncv-profile s.rnc -o DIR "))
+        self.assertEqual(hints["xml-schema"][0], 24)
+        self.assertTrue(hints["xml-schema"][1].startswith("the parameter pattern of xsd:Name is not served: rncv-profile --datatypes xml-schema s.rnc -o DIR "))
+
+
+@unittest.skipUnless(has_library(), "no library for XML beside librncv (programs/xml/library.sh builds it)")
 class Annotations(unittest.TestCase):
     """Annotations in schemas that the library does not have become blanks, and places are those in the files as they are written."""
 
@@ -389,7 +414,7 @@ class Errors(unittest.TestCase):
                 self.validator.validate_xml(__file__ if name.endswith("file") else io.BytesIO(GOOD))
         with mock.patch.object(judge, "_judge_bytes", return_value=memory), self.assertRaises(MemoryError):
             self.validator.validate_xml(GOOD)
-        for name, call in (("rncv_xml_judge_share", self.validator.share), ("rncv_xml_judge_new", lambda: rncv.compile(SCHEMA).validate_xml(GOOD))):
+        for name, call in (("rncv_xml_judge_share", self.validator.share), ("rncv_xml_judge_new_with", lambda: rncv.compile(SCHEMA).validate_xml(GOOD))):
             with mock.patch.object(judge._library, name, return_value=memory), self.assertRaises(MemoryError):
                 call()
         self.assertTrue(self.validator.validate_xml(GOOD))
