@@ -1,3 +1,6 @@
 """The language server `rncv-lsp`. Nothing in this package is proved: the verdicts are those of the library (docs/LIBRARY.md)."""
 
 __version__ = "0.9.0"
+
+# The sets of datatypes that a schema may name, as `rncv.compile` takes them. The first is the default.
+DATATYPES = ("xml-schema", "profile")

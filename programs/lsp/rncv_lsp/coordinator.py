@@ -44,8 +44,9 @@ class Task:
 class Coordinator:
     """Judges the open documents, and publishes what is found."""
 
-    def __init__(self, documents: Documents, connection: Connection) -> None:
+    def __init__(self, documents: Documents, connection: Connection, datatypes: str) -> None:
         self.settings, self.roots = Settings(), ()  # type: Settings, Tuple[str, ...]
+        self._datatypes = datatypes
         self._documents, self._connection = documents, connection
         self._publisher = Publisher(connection)
         self._jobs = Jobs(lambda error: connection.log(1, described(error)))
@@ -114,7 +115,7 @@ class Coordinator:
     def _outcome(self, schema: SchemaSet) -> Outcome:
         """The result of compiling a schema; an empty result if there is no library or no memory."""
         try:
-            return self._schemas.outcome(schema)
+            return self._schemas.outcome(schema, self.settings.datatypes or self._datatypes)
         except rncv.LibraryError as error:
             self._report_once(f"rncv-lsp: cannot read schemas: {error}")
         except MemoryError as error:

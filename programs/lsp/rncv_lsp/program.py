@@ -5,7 +5,7 @@ import argparse
 import os
 import sys
 
-from rncv_lsp import __version__
+from rncv_lsp import DATATYPES, __version__
 
 # The threads that judge give way to the one that reads messages after this time.
 SWITCH_SECONDS = 0.001
@@ -24,10 +24,10 @@ def failed(why: str) -> int:
     return 1
 
 
-def parse_arguments(parser: argparse.ArgumentParser) -> None:
+def parse_arguments(parser: argparse.ArgumentParser) -> argparse.Namespace:
     """Parses the arguments, or ends the process. Output that cannot be written gives one line."""
     try:
-        parser.parse_args()
+        return parser.parse_args()
     except SystemExit:
         try:
             if sys.stdout is not None:
@@ -42,7 +42,9 @@ def main() -> None:
     parser = argparse.ArgumentParser(prog="rncv-lsp", description=DESCRIPTION)
     parser.add_argument("--version", action="version", version=f"rncv-lsp {__version__}")
     parser.add_argument("--stdio", action="store_true", help="use the standard streams (it always does)")
-    parse_arguments(parser)
+    parser.add_argument("--datatypes", choices=DATATYPES, default=DATATYPES[0],
+                        help="the datatypes that a schema may name, unless the client has a setting: xml-schema (the default), or the six of the profile")
+    given = parse_arguments(parser)
     try:
         from rncv_lsp.server import Server
     except ImportError as error:
@@ -55,7 +57,7 @@ def main() -> None:
     sys.stdout = sys.stderr
     sys.setswitchinterval(SWITCH_SECONDS)
     try:
-        status = Server(source, sink).run()
+        status = Server(source, sink, given.datatypes).run()
     except KeyboardInterrupt:
         status = 130
     except OSError as error:

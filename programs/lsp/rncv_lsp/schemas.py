@@ -29,9 +29,9 @@ class Outcome:
     copy: str = ""
 
 
-def name_of(schema: SchemaSet) -> str:
-    """A name that depends on the files' names and bytes: a hash."""
-    total = hashlib.sha256()
+def name_of(schema: SchemaSet, datatypes: str) -> str:
+    """A name that depends on the files' names and bytes and on the datatypes that they may name: a hash."""
+    total = hashlib.sha256(datatypes.encode())
     for name, file in schema.files.items():
         for part in (name.encode("utf-8", "surrogatepass"), file.content):
             total.update(b"%d:" % len(part) + part)
@@ -44,11 +44,11 @@ class Schemas:
     def __init__(self) -> None:
         self._known: Dict[str, Outcome] = {}
 
-    def outcome(self, schema: SchemaSet) -> Outcome:
-        """Compiles a schema, unless the result for exactly these files is known."""
-        name = name_of(schema)
+    def outcome(self, schema: SchemaSet, datatypes: str) -> Outcome:
+        """Compiles a schema, unless the result for exactly these files and datatypes is known."""
+        name = name_of(schema, datatypes)
         if name not in self._known:
-            self._known[name] = compiled(name, schema)
+            self._known[name] = compiled(name, schema, datatypes)
         return self._known[name]
 
     def keep(self, names: List[str]) -> None:
@@ -56,10 +56,10 @@ class Schemas:
         self._known = {name: outcome for name, outcome in self._known.items() if name in names}
 
 
-def compiled(name: str, schema: SchemaSet) -> Outcome:
-    """Compiles a schema."""
+def compiled(name: str, schema: SchemaSet, datatypes: str) -> Outcome:
+    """Compiles a schema, which may name these datatypes."""
     try:
-        validator = rncv.compile({each: file.content for each, file in schema.files.items()}, annotations=True)
+        validator = rncv.compile({each: file.content for each, file in schema.files.items()}, annotations=True, datatypes=datatypes)
     except rncv.SchemaError as fault:
         return Outcome(name, fault=fault)
     texts = tuple({file.key: file.lines.text for file in schema.files.values()}.values())

@@ -4,7 +4,7 @@ from __future__ import annotations
 import os
 from typing import Any, BinaryIO, List, Optional
 
-from rncv_lsp import __version__
+from rncv_lsp import DATATYPES, __version__
 from rncv_lsp.coordinator import Coordinator
 from rncv_lsp.documents import Documents, new_document, path_of
 from rncv_lsp.framing import FramingFault, MessageReader
@@ -22,11 +22,11 @@ class Exit(BaseException):
 class Server:
     """One client's server. `run` reads its messages until it ends."""
 
-    def __init__(self, source: BinaryIO, sink: BinaryIO) -> None:
+    def __init__(self, source: BinaryIO, sink: BinaryIO, datatypes: str = DATATYPES[0]) -> None:
         self._reader = MessageReader(source)
         self._connection = Connection(sink)
         self._documents = Documents()
-        self._coordinator = Coordinator(self._documents, self._connection)
+        self._coordinator = Coordinator(self._documents, self._connection, datatypes)
         self._state = "new"
         self._asks_settings = False
         self._dispatcher = Dispatcher(self._connection, self._allow)

@@ -7,6 +7,7 @@ import os
 import re
 from typing import Any, List, Optional, Pattern, Tuple
 
+from rncv_lsp import DATATYPES
 from rncv_lsp.documents import path_of
 
 GLOB = re.compile(r"(?P<folders>\*\*/)|(?P<all>\*\*)|(?P<some>\*)|(?P<one>\?)|(?P<set>\[[^]/]+\])|\{(?P<either>[^{}]*)\}|(?P<letter>.)", re.S)
@@ -23,10 +24,11 @@ class SchemaRule:
 
 @dataclasses.dataclass(frozen=True)
 class Settings:
-    """The settings."""
+    """The settings. Without `datatypes` the set is that of the command line."""
 
     schemas: Tuple[SchemaRule, ...] = ()
     clauses_url: str = ""
+    datatypes: str = ""
 
 
 def settings_of(value: Any) -> Tuple[Settings, List[str]]:
@@ -42,7 +44,11 @@ def settings_of(value: Any) -> Tuple[Settings, List[str]]:
     if not isinstance(url, str):
         faults.append("the setting clausesUrl is not a string")
         url = ""
-    return Settings(tuple(rule for rule in rules if rule is not None), url), faults
+    datatypes = section.get("datatypes") or ""
+    if datatypes and datatypes not in DATATYPES:
+        faults.append(f"the setting datatypes is none of {', '.join(DATATYPES)}")
+        datatypes = ""
+    return Settings(tuple(rule for rule in rules if rule is not None), url, datatypes), faults
 
 
 def rule_of(value: Any, faults: List[str]) -> Optional[SchemaRule]:

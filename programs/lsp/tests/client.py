@@ -42,8 +42,8 @@ def framed(message: Any) -> bytes:
 class Client:
     """A client and its server."""
 
-    def __init__(self, **environment: str) -> None:
-        self.process = subprocess.Popen([sys.executable, str(SERVER), "--stdio"], stdin=subprocess.PIPE, stdout=subprocess.PIPE, stderr=subprocess.PIPE,
+    def __init__(self, *words: str, **environment: str) -> None:
+        self.process = subprocess.Popen([sys.executable, str(SERVER), "--stdio", *words], stdin=subprocess.PIPE, stdout=subprocess.PIPE, stderr=subprocess.PIPE,
                                         env={**os.environ, **environment})
         self._messages: "queue.Queue[Optional[Dict[str, Any]]]" = queue.Queue()
         self.diagnostics: Dict[str, List[Dict[str, Any]]] = {}
@@ -218,9 +218,9 @@ class WithServer(unittest.TestCase):
         for uri in list(self.client.opened) if self.shared is not None else ():
             self.client.close(uri)
 
-    def started(self, **environment: str) -> Client:
+    def started(self, *words: str, **environment: str) -> Client:
         """A server."""
-        client = Client(**environment)
+        client = Client(*words, **environment)
         self.addCleanup(client.kill)
         return client
 

@@ -15,7 +15,8 @@ class Ends(WithServer):
     """The arguments of the program, and its exit statuses."""
 
     def test_words(self):
-        for words, status, shown in ((["--help"], 0, "RNCV_LIBRARY"), (["--version"], 0, "rncv-lsp 0."), (["--other"], 2, "")):
+        for words, status, shown in ((["--help"], 0, "RNCV_LIBRARY"), (["--version"], 0, "rncv-lsp 0."), (["--other"], 2, ""), (["--datatypes", "all"], 2, ""),
+                                     (["--datatypes"], 2, "")):
             run = subprocess.run([sys.executable, str(SERVER), *words], capture_output=True, text=True, timeout=120, check=False)
             self.assertEqual(run.returncode, status)
             self.assertIn(shown, run.stdout)

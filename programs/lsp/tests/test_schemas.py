@@ -324,6 +324,34 @@ class Settings(WithServer):
         self.assertEqual(span(client.found("file:///none/s.rnc", 2)[0]), (0, 16, 0, 20))
 
 
+class Datatypes(WithServer):
+    """The sets of datatypes: that of the command line, and that of the client."""
+
+    LARGER, OTHER = "element a { xsd:positiveInteger }", "element a { xsd:date }"
+
+    def codes_of(self, words, options):
+        """The codes for a schema of the larger set, and for one of neither, and the server's client."""
+        client = self.started(*words)
+        client.initialize(options)
+        for name, text, codes in (("s", self.LARGER, []), ("t", self.OTHER, ["S12"])):
+            client.open(f"file:///none/{name}.rnc", text)
+        return [[each["code"] for each in client.found(f"file:///none/{name}.rnc")] for name in "st"], client
+
+    def test_sets(self):
+        for words, options, refused in (((), None, []), (("--datatypes", "xml-schema"), None, []), (("--datatypes=profile",), None, ["S12"]),
+                                        (("--datatypes", "profile"), {"datatypes": "xml-schema"}, []), ((), {"rncv": {"datatypes": "profile"}}, ["S12"]),
+                                        ((), {"datatypes": "all"}, [])):
+            with self.subTest((words, options)):
+                self.assertEqual(self.codes_of(words, options)[0], [refused, ["S12"]])
+
+    def test_a_setting_that_changes(self):
+        _, client = self.codes_of((), None)
+        client.notify("workspace/didChangeConfiguration", settings={"rncv": {"datatypes": "profile"}})
+        client.codes("file:///none/s.rnc", ["S12"])
+        client.notify("workspace/didChangeConfiguration", settings={"rncv": {"datatypes": ""}})
+        client.codes("file:///none/s.rnc", [])
+
+
 class NoLibrary(WithServer):
     """The server without the library."""
 
