@@ -136,8 +136,9 @@ def judge_mentions(file, names):
             file.edits.append(Edit(mention.start, mention.end, text))
 
 
-def read_all(schemas):
-    """All files of a schema with what is found in them, and a line for each file that cannot be read."""
+def read_all(schemas, is_larger=False):
+    """All files of a schema with what is found in them, and a line for each file that cannot be read. `is_larger` says that the larger set of datatypes is
+    served."""
     files, missing = load(schemas)
     names = flat_names(files)
     traits = Traits()
@@ -146,7 +147,7 @@ def read_all(schemas):
     for file in files.values():
         file.name = names[file.path]
         if file.reader:
-            file.reader.judge_types(traits, MARK.search(file.text) is not None)
+            file.reader.judge_types(traits, MARK.search(file.text) is not None, is_larger)
         file.collect()
         judge_mentions(file, names)
     if len(files) > COUNT:

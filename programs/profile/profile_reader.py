@@ -6,6 +6,7 @@ import dataclasses
 import itertools
 
 from compact_tokens import KEYWORDS
+from profile_larger import judged_larger
 from profile_types import BOTH, MORE, SAME, TURNED, XSD, Param, TypeUse, Within, judged
 
 NESTING = 128
@@ -268,12 +269,12 @@ class Reader:
     def traits(self):
         return Traits(self.lists, self.excepts, self.except_refs)
 
-    def judge_types(self, traits, is_copy=False):
-        """Finds the datatypes that are not served, when the traits of all files are known. In an except more becomes less, and in one of that more again.
-        In a copy, its mark says what `integer` does not serve."""
+    def judge_types(self, traits, is_copy=False, is_larger=False):
+        """Finds the datatypes that are not served, when the traits of all files are known; `is_larger` says that those of the larger set are. In an except more
+        becomes less, and in one of that more again. In a copy, its mark says what `integer` does not serve."""
         for use, end, within in self.uses:
             reports_digits = not is_copy and (within.odd and not within.integers or traits.except_refs)
-            text, reported = judged(use, not (traits.lists or traits.excepts), reports_digits, is_copy)
+            text, reported = judged_larger(use) if is_larger else judged(use, not (traits.lists or traits.excepts), reports_digits, is_copy)
             for each in reported:
                 effect = TURNED[each.effect] if within.odd and each.effect else each.effect
                 effect = BOTH if traits.except_refs and effect not in ("", SAME) else effect

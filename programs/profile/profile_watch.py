@@ -35,8 +35,8 @@ def summary(names, files):
 class Watch:
     """The copies of a schema in a folder. A file that cannot be read leaves the copies as they are, and is reported once."""
 
-    def __init__(self, schemas, folder):
-        self.schemas, self.folder = schemas, folder
+    def __init__(self, schemas, folder, is_larger=False):
+        self.schemas, self.folder, self.is_larger = schemas, folder, is_larger
         self.stamps, self.reported, self.written = {}, None, set()
 
     def is_changed(self):
@@ -52,7 +52,7 @@ class Watch:
     def copy(self):
         """Makes the copies. A file's stamp is taken before the file is read, so that a change in between is seen as one."""
         before = {path: stamp(path) for path in self.stamps}
-        files, missing = read_all(self.schemas)
+        files, missing = read_all(self.schemas, self.is_larger)
         self.stamps = {path: before[path] if path in before else stamp(path) for path in paths_of(self.schemas, files)}
         if any(path not in before for path in self.stamps):
             return False

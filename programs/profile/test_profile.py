@@ -145,6 +145,53 @@ LEFT = [
 ]
 
 
+COMPATIBLE = b'datatypes d = "http://relaxng.org/ns/compatibility/datatypes/1.0"\n'
+# The same with --datatypes xml-schema: what is served, ..
+LARGER_SERVED = [
+    b'element a { xsd:anyURI { length = "3" } | xsd:NMTOKENS { minLength = " +2 " maxLength = "10000000000" } | xsd:Name "a:b" | xsd:QName | xsd:NOTATION }',
+    b'element a { xsd:int { minExclusive = "5" maxInclusive = "+10" totalDigits = "3" } | xsd:unsignedLong "18446744073709551615" | '
+    b'xsd:integer "%b" }' % (b"1" * 50),
+    b'element a { attribute b { xsd:ID }, attribute c { xsd:IDREFS }, attribute d { xsd:ENTITY "a" } } # ',
+    b'element a { xsd:token - (xsd:integer | xsd:language "de-AT" | xsd:IDREFS "a b" | xsd:boolean "1" | xsd:normalizedString "a\\x{9}b") }',
+    b'element a { xsd:NCName { minLength = "000000001" } | xsd:NCName "\\x{A}a" | xsd:byte { minInclusive = "5" maxInclusive = "5" } | string | token "" }',
+]
+# .. what is found, and the lines printed with --write, ..
+LARGER_FINDINGS = [
+    ("a pattern", b'element a { xsd:ID { pattern = "a" minLength = "2" } - (xsd:byte { pattern = "1" maxExclusive = " 7 " } | xsd:QName { pattern = "b" }) }',
+     ["1:22: the parameter pattern is not served; the copy has no pattern, and accepts more",
+      "1:68: the parameter pattern is not served; the copy has no pattern, and accepts less",
+      "1:119: the parameter pattern is not served; the copy has no pattern, and accepts less"]),
+    ("types of neither set", b'element a { xsd:decimal { totalDigits = "2" } | xsd:date "2000-01-01" }',
+     ["1:13: the datatype xsd:decimal is not served; the copy has xsd:token, and accepts more",
+      "1:27: the parameter totalDigits is not served; the copy has no totalDigits, and accepts more",
+      "1:49: the datatype xsd:date is not served; the copy has xsd:token, and accepts less"]),
+    ("qualified names", b'element a { xsd:QName "a:b" | xsd:NOTATION { maxLength = "3" } }',
+     ["1:13: a value of the datatype xsd:QName is not served; the copy has xsd:NMTOKEN, and accepts more and less",
+      "1:46: the parameter maxLength is not served; the copy has no maxLength, and accepts more"]),
+    ("digits of an integer", b'element a { xsd:long { fractionDigits = "0" } }',
+     ["1:24: the parameter fractionDigits is not served; the copy has no fractionDigits, and accepts the same"]),
+    ("IDs of the other library", COMPATIBLE + b'element a { attribute b { d:ID }, attribute c { d:IDREFS "x y" } }',
+     ["2:27: the datatype library 'http://relaxng.org/ns/compatibility/datatypes/1.0' is not served; the copy has xsd:ID, and accepts the same",
+      "2:49: the datatype library 'http://relaxng.org/ns/compatibility/datatypes/1.0' is not served; the copy has xsd:IDREFS, and accepts the same"]),
+    ("another library", b'datatypes d = "u" element a { d:t { p = "1" } }',
+     ["1:31: the datatype library 'u' is not served; the copy has xsd:string, and accepts more"]),
+]
+# .. and what cannot be brought over.
+LARGER_LEFT = [
+    (b'element a { xsd:byte "128" }', ["1:13: xsd:byte does not allow the value '128'"]),
+    (b'element a { xsd:language "de-" }', ["1:13: xsd:language does not allow the value 'de-'"]),
+    (b'element a { xsd:NMTOKENS "" }', ["1:13: xsd:NMTOKENS does not allow the value ''"]),
+    (b'element a { xsd:byte { maxInclusive = "128" } }', ["1:24: xsd:byte does not allow the maxInclusive '128'"]),
+    (b'element a { xsd:token { length = "-1" } }', ["1:25: xsd:token does not allow the length '-1'"]),
+    (b'element a { xsd:int { totalDigits = "0" } }', ["1:23: xsd:int does not allow the totalDigits '0'"]),
+    (b'element a { xsd:int { minLength = "0" } }', ["1:23: xsd:int takes no parameter minLength"]),
+    (b'element a { xsd:Name { length = "1" length = "1" } }', ["1:37: the parameter length appears twice"]),
+    (b'element a { xsd:Name { length = "1" maxLength = "1" } }', ["1:37: the parameters length and maxLength exclude each other"]),
+    (b'element a { xsd:integer { maxExclusive = "1" minInclusive = "1" } }', ["1:46: the parameters minInclusive and maxExclusive exclude each other"]),
+    (b"element a { xsd:integers }", ["1:13: xsd:integers is not a datatype of XML Schema"]),
+]
+
+
 class InFolder(unittest.TestCase):
     """The program, in a fresh folder."""
 
@@ -199,6 +246,46 @@ class Profile(InFolder):
                 self.assertEqual(self.profile("copy/s.rnc")[::2], ("".join(f"copy/s.rnc:{line}\n" for line in lines), 1))
                 if PROGRAM.exists():
                     self.assertRegex(self.run_in(PROGRAM.resolve(), "check", "s.rnc")[0], "^refused S")
+
+    def checked_by_library(self, is_good):
+        """Wants that the library says the same of `s.rnc`, or of its copy, with the larger set; where there is one."""
+        library = os.environ.get("RNCV_LIBRARY")
+        if library and pathlib.Path(library, "lib/librncv.so").exists():
+            code = "import rncv, sys; rncv.compile(sys.argv[1], datatypes='xml-schema')"
+            run = subprocess.run([sys.executable, "-c", code, "copy/s.rnc"], cwd=self.folder, capture_output=True, text=True, check=False,
+                                 env={**os.environ, "PYTHONPATH": str(TOP / "programs/python")})
+            self.assertEqual(run.returncode == 0, is_good, run.stderr)
+            self.assertTrue(is_good or "refused S12" in run.stderr, run.stderr)
+
+    def test_the_larger_set(self):
+        larger = ("--datatypes", "xml-schema", "--write", "copy", "s.rnc")
+        for source in LARGER_SERVED:
+            with self.subTest(source):
+                self.write("s.rnc", source)
+                self.assertEqual(self.profile(*larger), ("written: copy/s.rnc\n", "", 0))
+                self.assertEqual((self.folder / "copy/s.rnc").read_bytes(), source)
+                self.checked_by_library(True)
+        for name, source, lines in LARGER_FINDINGS:
+            with self.subTest(name):
+                self.write("s.rnc", source)
+                written = "written: copy/s.rnc" + " copy/s.profile.txt" * any(line.endswith((" more", " less")) for line in lines)
+                self.assertEqual(self.profile(*larger), ("".join(f"s.rnc:{line}\n" for line in lines) + written + "\n", "", 1))
+                self.assertEqual(self.profile("--datatypes=xml-schema", "copy/s.rnc"), ("", "", 0))
+                self.assertNotIn("marked", (self.folder / "copy/s.rnc").read_text())
+                self.checked_by_library(True)
+        for source, lines in LARGER_LEFT:
+            with self.subTest(source):
+                self.write("s.rnc", source)
+                self.assertEqual(self.profile(*larger)[0].splitlines()[:-1], [f"s.rnc:{line}; not brought over" for line in lines])
+                self.checked_by_library(False)
+
+    def test_sets_of_datatypes(self):
+        self.write("s.rnc", b"element a { xsd:anyURI }")
+        for words in ((), ("--datatypes", "profile")):
+            self.assertEqual(self.profile(*words, "s.rnc"), ("s.rnc:1:13: the datatype xsd:anyURI is not served\n", "", 1))
+        out, errors, status = self.profile("--datatypes", "all", "s.rnc")
+        self.assertEqual((out, status), ("", 4))
+        self.assertIn("invalid choice: 'all'", errors)
 
     def test_files_get_flat_names(self):
         self.write("schema/main.rnc", b'include "./a/x.rnc" { start = element a { n } }\nn = external "b/my%20x.rnc" | external "y.rnc"')
