@@ -12,6 +12,7 @@ complete -c rncv-xml -l dtd -d 'Read the external DTD and external entities, fro
 complete -c rncv-xml -l no-ids -d 'Do not check IDs'
 complete -c rncv-xml -l strict -d 'A document with a note is outside the profile'
 complete -c rncv-xml -l catalog -r -F -d 'An XML catalog'
+complete -c rncv-xml -l datatypes -x -a 'xml-schema profile' -d 'The datatypes that the schema may name'
 complete -c rncv-xml -l print-schema -d 'Print what the library gets of the schema'
 complete -c rncv-xml -l strict-profile -d 'Refuse a schema that rncv-profile loosened or tightened'
 complete -c rncv-xml -l all -d 'A line for each document'

@@ -33,12 +33,13 @@ _rncv_xml() {
     case $3 in
     --format) _rncv_words "text json sarif github" "$2"; return ;;
     --color) _rncv_words "auto always never" "$2"; return ;;
+    --datatypes) _rncv_words "xml-schema profile" "$2"; return ;;
     --files-from | --map | --catalog) _rncv_files "$2" '*'; return ;;
     --glob | --stdin-name | -j | --jobs) return ;;
     esac
     case $2 in
     -*)
-        _rncv_words "--recursive -r --glob --files-from --null -0 --stdin-name --jobs -j --map --catalog --dtd --no-ids --strict --print-schema --strict-profile --all --verbose -v --quiet -q --format --color --help -h --version" "$2"
+        _rncv_words "--recursive -r --glob --files-from --null -0 --stdin-name --jobs -j --map --catalog --datatypes --dtd --no-ids --strict --print-schema --strict-profile --all --verbose -v --quiet -q --format --color --help -h --version" "$2"
         return
         ;;
     esac
@@ -79,15 +80,19 @@ _xml2pyx() {
 _rncv_profile() {
     case $3 in
     -o | --write) compopt -o dirnames; COMPREPLY=(); return ;;
+    --datatypes) _rncv_words "profile xml-schema" "$2"; return ;;
     esac
     case $2 in
-    -*) _rncv_words "--watch --write -o --help -h" "$2" ;;
+    -*) _rncv_words "--datatypes --watch --write -o --help -h" "$2" ;;
     *) _rncv_files "$2" '*.rnc' ;;
     esac
 }
 
 _rncv_lsp() {
-    _rncv_words "--stdio --help -h --version" "$2"
+    case $3 in
+    --datatypes) _rncv_words "xml-schema profile" "$2"; return ;;
+    esac
+    _rncv_words "--datatypes --stdio --help -h --version" "$2"
 }
 
 complete -F _rncv rncv
