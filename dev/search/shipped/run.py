@@ -1,11 +1,13 @@
 #!/usr/bin/env python3
 """Tries schemas as they are shipped: which of them `rncv-xml` serves, and why it refuses the others.
 
-    dev/search/shipped/run.py [--program RNCV-XML] [--documents FILE|FOLDER].. [--jobs N] FOLDER..
+    dev/search/shipped/run.py [--program RNCV-XML] [--datatypes SET] [--documents FILE|FOLDER].. [--jobs N] FOLDER|PACKAGE..
 
-Each `.rnc` and `.rng` file in a folder is a schema. The table has a row for each folder that is named. Where jing is installed, it reads each schema too, and
-both judge the documents that are named by each schema that both take: they have to agree. A schema that is refused for a datatype (S12) is tried again with the
-nearest datatypes, as `rncv-profile` writes them, since S12 hides the clauses after it. The status is 1 if there is a difference or another reason.
+Each `.rnc` and `.rng` file in a folder is a schema. A word that is no folder is a package of Debian: `apt-get download` fetches it, and it is unpacked, with
+the schemas in its jars, into a folder of that name that is removed at the end. The table has a row for each word. Where jing is installed, it reads each schema
+too, and both judge the documents that are named by each schema that both take: they have to agree. A schema that is refused for a datatype (S12) is tried again
+with the nearest datatypes, as `rncv-profile` writes them, since S12 hides the clauses after it. SET is that of `rncv-xml`, `xml-schema` or `profile`, by default
+the first. The status is 1 if there is a difference or another reason.
 
 A document that names an external DTD is left out: jing would fetch it. jing's check of ID and IDREF is off, and so is that of rncv-xml.
 """
@@ -20,6 +22,7 @@ import shutil
 import subprocess
 import sys
 import tempfile
+import zipfile
 
 TOP = pathlib.Path(__file__).resolve().parents[3]
 sys.path.insert(0, str(TOP / "programs/profile"))
@@ -72,14 +75,16 @@ def output_of(words):
 class Rncv:
     """`rncv-xml`. It compares with jing without IDs."""
 
-    def __init__(self, program):
-        self.program = program
+    def __init__(self, program, datatypes="xml-schema"):
+        self.program, self.is_larger = program, datatypes == "xml-schema"
         self.options = ["--no-ids"] if "--no-ids" in output_of([program, "--help"])[0] else []
+        self.options += ["--datatypes", datatypes]
 
     def schema(self, path):
         out, status = output_of([self.program, *self.options, path])
         clause = CLAUSE.search(out)
-        return Tried(path, -1 if status is None else status, out.strip().split("\n")[0], int(clause[1]) if clause and status == 3 else 0)
+        lines = [line for line in out.strip().split("\n") if ": note: " not in line] or [""]
+        return Tried(path, -1 if status is None else status, lines[0], int(clause[1]) if clause and status == 3 else 0)
 
     def verdicts(self, schema, documents):
         """The verdict on each document: valid, invalid, malformed, or outside."""
@@ -92,7 +97,7 @@ class Rncv:
 
     def printed(self, schema):
         """What the library gets of a schema: texts by name, the main one first."""
-        out, status = output_of([self.program, "--print-schema", schema])
+        out, status = output_of([self.program, *self.options, "--print-schema", schema])
         out = re.sub(r"[^\n]*\n\Z", "", out) if status == 3 else out  # the last line says why it is refused
         found = [it for it in SECTION.finditer(out) if os.path.isfile(it[1])]
         ends = [it.start() for it in found[1:]] + [len(out)]
@@ -127,8 +132,8 @@ class Jing:
         return about, faults
 
 
-def files_of(texts):
-    """The texts as files of rncv-profile, with what it finds, and with names that have no folder."""
+def files_of(texts, is_larger):
+    """The texts as files of rncv-profile, with what it finds, and with names that have no folder. `is_larger` says which set is served."""
     names = {name: f"f{number}.rnc" for number, name in enumerate(texts)}
     files = [SchemaFile(names[name], text.encode()) for name, text in texts.items()]
     traits = Traits()
@@ -136,7 +141,7 @@ def files_of(texts):
         traits = traits.with_those_of(file.reader.traits()) if file.reader else traits
     for file in files:
         if file.reader:
-            file.reader.judge_types(traits)
+            file.reader.judge_types(traits, is_larger=is_larger)
         file.collect()
         file.edits += [Edit(it.start, it.end, f'"{names[it.href]}"') for it in file.mentions if it.href in names]
     return files
@@ -144,7 +149,7 @@ def files_of(texts):
 
 def look_behind(rncv, tried):
     """Finds what datatypes lack, and what else is refused once they are replaced."""
-    files = files_of(rncv.printed(tried.path))
+    files = files_of(rncv.printed(tried.path), rncv.is_larger)
     told = [LACKING.fullmatch(finding.what) for file in files for finding in file.findings]
     tried.lacks = tuple(sorted({it["name"] or it["other"] for it in told if not (it["other"] or "").startswith("integers of more than")}))
     with tempfile.TemporaryDirectory() as folder:
@@ -181,6 +186,18 @@ def documents_of(paths):
 
 def schemas_of(folder):
     return sorted(it for kind in ("rnc", "rng") for it in pathlib.Path(folder).rglob(f"*.{kind}") if it.is_file())
+
+
+def unpacked(package, room):
+    """Fetches a package of Debian and unpacks it. Returns its folder."""
+    (room / "fetched").mkdir(exist_ok=True)
+    subprocess.run(["apt-get", "download", "-q", package], cwd=room / "fetched", stdout=subprocess.DEVNULL, check=True)
+    folder = room / package
+    subprocess.run(["dpkg-deb", "-x", max((room / "fetched").glob(f"{package}_*.deb")), folder], check=True)
+    for jar in [it for it in folder.rglob("*.jar") if it.is_file()]:
+        with zipfile.ZipFile(jar) as inside:
+            inside.extractall(f"{jar}.unpacked", [name for name in inside.namelist() if name.endswith((".rnc", ".rng"))])
+    return folder
 
 
 COLUMNS = {"served": "served", "datatypes": "refused for datatypes alone", "no schema": "no schema by itself", "other": "refused for another reason",
@@ -220,15 +237,17 @@ def faults(rows):
 def run():
     given = argparse.ArgumentParser(description=__doc__.splitlines()[0])
     given.add_argument("--program", default=TOP / "build/xml/rncv-xml", type=pathlib.Path)
+    given.add_argument("--datatypes", choices=("xml-schema", "profile"), default="xml-schema")
     given.add_argument("--documents", action="append", default=[], metavar="FILE|FOLDER")
     given.add_argument("--jobs", type=int, default=2)
-    given.add_argument("folders", nargs="+", metavar="FOLDER")
+    given.add_argument("folders", nargs="+", metavar="FOLDER|PACKAGE")
     given = given.parse_args()
-    rncv, jing = Rncv(given.program.absolute()), Jing() if shutil.which("jing") else None
+    rncv, jing = Rncv(given.program.absolute(), given.datatypes), Jing() if shutil.which("jing") else None
     documents = documents_of(given.documents)
-    with concurrent.futures.ThreadPoolExecutor(given.jobs) as pool:
+    with concurrent.futures.ThreadPoolExecutor(given.jobs) as pool, tempfile.TemporaryDirectory() as room:
+        folders = [word if os.path.isdir(word) else unpacked(word, pathlib.Path(room)) for word in given.folders]
         rows = {os.path.basename(os.path.normpath(folder)): list(pool.map(lambda it: try_schema(rncv, jing, it, documents), schemas_of(folder)))
-                for folder in given.folders}
+                for folder in folders}
     for lines in (table(rows), [""], lacking(rows), [""], told := list(faults(rows))):
         for line in lines:
             print(line)

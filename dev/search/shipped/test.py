@@ -7,10 +7,12 @@ import io
 import os
 import pathlib
 import shutil
+import subprocess
 import sys
 import tempfile
 import unittest
 import unittest.mock
+import zipfile
 
 import run
 
@@ -70,6 +72,33 @@ class Shipped(unittest.TestCase):
         with unittest.mock.patch.object(run.Jing, "judge", lambda *_: (True, "", verdicts)):
             tried = run.try_schema(run.Rncv(PROGRAM), run.Jing(), self.folder / "served.rnc", list(verdicts))
         self.assertEqual(tried.differences, (f"{self.folder}/good.xml: valid, and by jing invalid",))
+
+    def test_sets_of_datatypes(self):
+        (self.folder / "larger.rnc").write_text("element a { attribute x { xsd:int { maxExclusive = \"5\" } }, xsd:QName }", encoding="utf-8")
+        self.assertIn("| some | 8 | 3 | 1 | 1 | 3 | 0 | 0, 0 | 0 |", self.report(self.folder)[0])
+        lines, _ = self.report("--datatypes", "profile", self.folder)
+        self.assertIn("| some | 8 | 2 | 2 | 1 | 3 | 0 | 0, 0 | 0 |", lines)
+        self.assertIn("| `xsd:QName` | 1 | 0 |", lines)
+
+    def test_packages(self):
+        """A package is fetched by apt-get, here by a script of that name, and a jar in it is looked into."""
+        if not shutil.which("dpkg-deb"):
+            self.skipTest("dpkg-deb is not installed")
+        room = self.folder.parent
+        for folder in ("package/DEBIAN", "package/usr", "bin"):
+            (room / folder).mkdir(parents=True)
+        control = "Package: some-schemas\nVersion: 1\nArchitecture: all\nMaintainer: nobody <n@example.org>\nDescription: none\n"
+        (room / "package/DEBIAN/control").write_text(control)
+        (room / "package/usr/a.rnc").write_text(FILES["part.rnc"].replace("b =", "start ="))
+        with zipfile.ZipFile(room / "package/usr/b.jar", "w") as jar:
+            jar.writestr("in/b.rng", FILES["same.rng"])
+            jar.writestr("in/b.txt", "x")
+        subprocess.run(["dpkg-deb", "-b", "package", "some-schemas_1_all.deb"], cwd=room, stdout=subprocess.DEVNULL, check=True)
+        (room / "bin/apt-get").write_text(f'#!/bin/sh\n[ "$*" = "download -q some-schemas" ] && cp "{room}/some-schemas_1_all.deb" .\n')
+        (room / "bin/apt-get").chmod(0o755)
+        with unittest.mock.patch.dict(os.environ, {"PATH": f"{room}/bin:{os.environ['PATH']}"}):
+            lines, status = self.report("some-schemas")
+        self.assertEqual((lines[2], status), ("| some-schemas | 2 | 2 | 0 | 0 | 0 | 0 | 0, 0 | 0 |", 0))
 
     def test_the_examples(self):
         lines, _ = self.report(run.TOP / "examples")
