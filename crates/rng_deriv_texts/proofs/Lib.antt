@@ -5,4 +5,5 @@ mod JoinedRests
 mod TagAttributes
 mod SettledRests
 mod PlannedRests
+mod ComparedTexts
 mod NarrowedWays

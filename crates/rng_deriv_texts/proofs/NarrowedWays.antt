@@ -12,13 +12,12 @@ use Rattle.std.proofs.lemmas.Slice.Eq.{bytes_eq-Decides}
 use Rattle.std.proofs.lemmas.Option.{same_Some, none-some}
 use Rattle.rng_model.proofs.Members.{not_in_none}
 use Rattle.smallvec.specs.SmallVec.{SmallVec}
-use Rattle.rng_model.specs.datatypes.Texts.{collapse, are_equal, text_if}
-use Rattle.rng_model.specs.datatypes.Datatypes.{Meaning, plain_string, plain_token, xsd_string, xsd_token, xsd_ncname, xsd_nmtoken}
-use Rattle.rng_model.specs.datatypes.Facets.{Lengths, fits}
-use Rattle.rng_model.specs.datatypes.Datatypes.{known_equates, meaning_of}
+use Rattle.rng_model.specs.datatypes.Texts.{collapse}
+use Rattle.rng_model.specs.datatypes.Datatypes.{Meaning, known_equates}
 use Rattle.rng_model.specs.matching.Document.{a_text}
 use Rattle.rng_model.specs.matching.GrammarMatching.{reading_of, Reading}
 use Rattle.rng_model.specs.names.Lists.{Among, here, there}
+use Rattle.rng_model.specs.xsd.TypeSets.{meaning_in}
 use Rattle.rng_model.specs.simple.Table.{Table}
 use Rattle.rng_model.specs.simple.Tree.{Simple, Datatype, s_value}
 use Rattle.rng_deriv_laws.specs.plain.Derivatives.{Way}
@@ -39,37 +38,12 @@ use Rattle.rng_deriv_ways.proofs.JoinedWays.{ways_among}
 
 -- ---- values whose texts are compared
 
--- texts that passed their tests, and are the same value
-same_text : (b c : Bool) (v w : List ℕ) → are_equal (text_if b v) (text_if c w) ≡ true → w ≡ v
-same_text true true v w e = sym ((bytes_eq-Decides v w).0 e)
-same_text true false v w e = search rules
-same_text false c v w e = search rules
-
-pub string_compares : ComparesTexts plain_string
-string_compares v w e = ap collapse (sym ((bytes_eq-Decides v w).0 e))
-
-pub token_compares : ComparesTexts plain_token
-token_compares v w e = sym ((bytes_eq-Decides (collapse v) (collapse w)).0 e)
-
-module _ (l : Lengths) where
-  pub xsd_string_compares : ComparesTexts (xsd_string l)
-  xsd_string_compares v w e = ap collapse (same_text (fits l v) (fits l w) v w e)
-
-  pub xsd_token_compares : ComparesTexts (xsd_token l)
-  xsd_token_compares v w e = same_text (fits l (collapse v)) (fits l (collapse w)) (collapse v) (collapse w) e
-
-  pub ncname_compares : ComparesTexts (xsd_ncname l)
-  ncname_compares v w e = same_text _ _ (collapse v) (collapse w) e
-
-  pub nmtoken_compares : ComparesTexts (xsd_nmtoken l)
-  nmtoken_compares v w e = same_text _ _ (collapse v) (collapse w) e
-
 -- a value of such a type takes one text, once blanks are collapsed
 as_value : (g : Reading) (d : Datatype) (v s : List ℕ) → Takes g (s_value d v) [] (a_text s ∷ []) → g.tests.equals d v s ≡ true
 as_value g d v s (t.value_is e) = e
 
 pub value_takes_only : (t : Table) (ns : List Node) (leaf : PatternNumber) (d : Datatype) (v : List ℕ) (meaning : Meaning) → leaf.0 < length ns
-    → tree_of t ns leaf.0 ≡ s_value d v → meaning_of d ≡ Some meaning → ComparesTexts meaning → TakesOnly t ns (collapse v) leaf
+    → tree_of t ns leaf.0 ≡ s_value d v → meaning_in t.types d ≡ Some meaning → ComparesTexts meaning → TakesOnly t ns (collapse v) leaf
 value_takes_only t ns leaf d v type inside is named compares = record {
   inside = inside;
   only = λ s taken. compares v s (sym (ap (λ o. known_equates o v s) named)

@@ -25,7 +25,6 @@ ghost use Rattle.rng_deriv_texts.specs.plain.Settling.{IsRestInside, IsSettled};
 ghost use Rattle.rng_deriv_texts.specs.declared.first.First.{First};
 ghost use Rattle.rng_deriv_texts.specs.declared.first.First.TheVariants as firsts;
 
-use crate::context::Context;
 use crate::first::First;
 use crate::joined_sides::with_sides_joined;
 use crate::leaf_tests::{data_takes, is_blank, is_leaf_for, list_body};
@@ -34,7 +33,7 @@ use crate::settled::{Rest, left_by_few, settled};
 use crate::value_index::ways_to_test;
 use rng_deriv_table::{Pattern, PatternNumber, PatternTable};
 use rng_deriv_ways::{
-    Known, LeafWay, Place, Plan, Rests, Tests, Ways, attribute_ways, close, number_at,
+    Context, Known, LeafWay, Place, Plan, Rests, Tests, Ways, attribute_ways, close, number_at,
     rest_of_leaf, text_ways,
 };
 use rng_model::{Attr, OutOfMemory, PatternId, Pieces, Simple};
@@ -58,22 +57,8 @@ fn ways_for(
         → AreWaysOf context.now.grammar.now table.new kind (tree_of context.now.grammar.now table.old number.0) ws.items) }
 {
     match first {
-        First::Text(_, _) => text_ways(
-            context.alloc,
-            context.grammar,
-            table,
-            &mut known.texts,
-            number,
-        ),
-        First::Attribute(attr) => attribute_ways(
-            context.alloc,
-            context.grammar,
-            context.keys,
-            table,
-            known,
-            &attr.name,
-            number,
-        ),
+        First::Text(_, _) => text_ways(context, table, &mut known.texts, number),
+        First::Attribute(attr) => attribute_ways(context, table, known, &attr.name, number),
     }
 }
 

@@ -11,11 +11,10 @@ ghost use Rattle.rng_deriv_ways.specs.views.Datatypes.{AreDatatypesOf};
 ghost use Rattle.rng_deriv_texts.specs.plain.After.{IsLeafFor, IsNoListIn, TellsTaken};
 ghost use Rattle.rng_deriv_texts.specs.declared.first.First.TheVariants as firsts;
 
-use crate::context::Context;
 use crate::first::First;
 use crate::texts::is_excepted;
 use rng_deriv_table::{Pattern, PatternNumber, PatternTable};
-use rng_deriv_ways::{Datatypes, Place};
+use rng_deriv_ways::{Context, Datatypes, Place};
 use rng_model::{OutOfMemory, PatternId, Simple, SimpleGrammar};
 
 /// Returns whether a text contains only spaces, tabs and line ends.

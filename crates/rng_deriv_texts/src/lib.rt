@@ -6,7 +6,6 @@
 #![tactic(auto)]
 
 mod after;
-mod context;
 mod first;
 mod joined_sides;
 mod leaf_tests;
@@ -16,4 +15,3 @@ mod texts;
 mod value_index;
 
 pub use after::{after_tag, after_text};
-pub use context::Context;

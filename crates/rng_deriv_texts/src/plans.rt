@@ -11,12 +11,11 @@ ghost use Rattle.rng_deriv_ways.specs.views.Plans.{AreRestsBy, IsIndex, IsOutcom
 ghost use Rattle.rng_deriv_ways.specs.declared.plans.Outcome.{Outcome};
 ghost use Rattle.rng_deriv_texts.specs.plain.Asking.{IsAskedBy};
 
-use crate::context::Context;
 use crate::first::First;
 use crate::value_index::index_of;
 use rng_deriv_table::{PatternNumber, PatternTable};
 use rng_deriv_ways::{
-    Asked, Datatypes, LeafWay, Leaves, Outcome, Plan, Rests, Tests, ValueIndex, Ways,
+    Asked, Context, Datatypes, LeafWay, Leaves, Outcome, Plan, Rests, Tests, ValueIndex, Ways,
 };
 use rng_model::OutOfMemory;
 use smallvec::SmallVec;

@@ -20,12 +20,11 @@ ghost use Rattle.rng_deriv_texts.specs.plain.After.{AreWaysFor, TellsTaken};
 ghost use Rattle.rng_deriv_texts.specs.plain.Settling.{AreLeft, IsCovered, IsSettled, with_told};
 ghost use Rattle.rng_deriv_texts.specs.declared.first.First.TheVariants as firsts;
 
-use crate::context::Context;
 use crate::first::First;
 use crate::leaf_tests::{is_blank, is_leaf_for};
 use rng_deriv_table::{Pattern, PatternNumber, PatternTable};
 use rng_deriv_ways::{
-    Datatypes, Known, LastWays, LeafWay, Place, known_ways, last_ways, number_at,
+    Context, Datatypes, Known, LastWays, LeafWay, Place, known_ways, last_ways, number_at,
 };
 use rng_model::{Attr, Name, PatternId, Simple, SimpleGrammar};
 use rng_names::{contains, is_same_name};

@@ -4,6 +4,8 @@ ghost use Rattle.std.specs.Global.{Global};
 ghost use Rattle.rng_model.specs.matching.Document.{a_text};
 ghost use Rattle.rng_model.specs.simple.Table.{Table};
 ghost use Rattle.rng_types.specs.views.View.{meaning_by};
+ghost use Rattle.xsd_types.specs.views.View.{known_meaning};
+ghost use Rattle.xsd_types.specs.views.View as xsd;
 ghost use Rattle.rng_deriv_table.specs.views.Node.{Node};
 ghost use Rattle.rng_deriv_ways.specs.plain.Ways.{AreInside};
 ghost use Rattle.rng_deriv_ways.specs.views.Datatypes.{AreDatatypesOf};
@@ -11,19 +13,45 @@ ghost use Rattle.rng_deriv_ways.specs.views.Plans.{IsIndex, IsKeptFor, IsPlan, T
 ghost use Rattle.rng_deriv_ways.specs.declared.way.LeafWay.{LeafWay};
 ghost use Rattle.rng_deriv_texts.specs.plain.ValueWays.{AreNarrowed, AreNarrowedFor, ComparesTexts, IsKeptOrIs};
 
-use crate::context::Context;
 use crate::first::First;
 use rng_deriv_table::{Pattern, PatternNumber, PatternTable};
-use rng_deriv_ways::{Datatypes, LeafWay, Plan, ValueIndex, Ways};
+use rng_deriv_ways::{Context, Datatypes, LeafWay, Plan, ValueIndex, Ways};
 use rng_model::{OutOfMemory, Simple, collapse};
 use rng_types::Builtin;
 use smallvec::SmallVec;
 use std::alloc::Global;
 use std::collections::HashMap;
+use xsd_types::{KnownDatatype, XsdType};
 
 /// Returns true only if texts that are equal by a datatype are one text once their blanks are collapsed. The integers
 /// `01` and `1` are equal, and so are the booleans `true` and `1`.
-fn compares_texts(datatype: &Builtin) -> bool
+fn compares_texts(datatype: &KnownDatatype) -> bool
+    ensures { result ≡ true → ComparesTexts (known_meaning datatype.now) }
+{
+    match datatype {
+        KnownDatatype::Builtin(datatype) => builtin_compares_texts(datatype),
+        KnownDatatype::Xsd(datatype) => xsd_compares_texts(datatype),
+    }
+}
+
+/// The same of a datatype of the library of XML Schema. Items that are equal are one text with a space between each two.
+fn xsd_compares_texts(datatype: &XsdType) -> bool
+    ensures { result ≡ true → ComparesTexts (xsd.meaning_by datatype.now) }
+{
+    match datatype {
+        XsdType::String(_) => true,
+        XsdType::NormalizedString(_) => true,
+        XsdType::Token(_) => true,
+        XsdType::NcName(_) => true,
+        XsdType::NmToken(_) => true,
+        XsdType::Word(_) => true,
+        XsdType::List(_) => true,
+        XsdType::Boolean(_) | XsdType::Integer(_) => false,
+    }
+}
+
+/// The same of a datatype of the profile, or one that is built in.
+fn builtin_compares_texts(datatype: &Builtin) -> bool
     ensures { result ≡ true → ComparesTexts (meaning_by datatype.now) }
 {
     match datatype {

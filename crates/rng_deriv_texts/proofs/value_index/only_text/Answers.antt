@@ -5,7 +5,7 @@ use Rattle.rng_model.specs.schema.Patterns.{without_parameters}
 use Rattle.rng_deriv_table.specs.views.Trees.{data_found}
 use Rattle.rng_deriv_ways.specs.views.Plans.{TakesOnly}
 use Rattle.rng_deriv_ways.proofs.PatternNodes.{is_over}
-use Rattle.rng_types.specs.views.View.{meaning_by}
+use Rattle.xsd_types.specs.views.View.{known_meaning}
 use Rattle.rng_deriv_texts.proofs.NarrowedWays.{value_takes_only}
 use Rattle.rng_deriv_texts.proofs.value_index.only_text.Goals as goal
 
@@ -20,4 +20,4 @@ returns-in_ok-collapse-in-Some c =
     let named = sym (c.requires.datatypes c.in-Data.position.0 _ found) ∙ sym c.in-Some.ensures in
     subst (λ s. TakesOnly t0 ns s c.args.leaf) (sym (c.in_ok-collapse-in-Some.ensures ∙ ap collapse text))
     (value_takes_only t0 ns c.args.leaf (without_parameters (string_bytes value.library) (string_bytes value.name)) (string_bytes value.text)
-    (meaning_by c.in-Some.datatype.now) c.requires.inside is named (c.compares_texts.ensures c.if-compares_texts.true))
+    (known_meaning c.in-Some.datatype.now) c.requires.inside is named (c.compares_texts.ensures c.if-compares_texts.true))

@@ -1,8 +1,8 @@
 use Rattle.std.proofs.Common.{⊎_elim, subst, sym}
 use Rattle.rng_types.specs.views.View.{meaning_by, lengths_of}
 use Rattle.rng_deriv_texts.specs.plain.ValueWays.{ComparesTexts}
-use Rattle.rng_deriv_texts.proofs.NarrowedWays.{ncname_compares, nmtoken_compares}
-use Rattle.rng_deriv_texts.proofs.value_index.compares_texts.Goals as goal
+use Rattle.rng_deriv_texts.proofs.ComparedTexts.{ncname_compares, nmtoken_compares}
+use Rattle.rng_deriv_texts.proofs.value_index.builtin_compares_texts.Goals as goal
 
 pub returns-in-NcName : goal.returns-in-NcName
 returns-in-NcName c = λ e. ⊎_elim
