@@ -11,8 +11,8 @@ use crate::pattern_renewal::{Selection, copied, count_start, limit_beside, renew
 use crate::starts::joined_ways;
 use rng_deriv_events::{Derivatives, Ways};
 use rng_deriv_table::{PatternNumber, PatternTable};
-use rng_deriv_texts::{Context, after_tag, after_text};
-use rng_deriv_ways::{Known, start};
+use rng_deriv_texts::{after_tag, after_text};
+use rng_deriv_ways::{Context, Known, start};
 use rng_model::{Attr, Name, OutOfMemory, SimpleGrammar};
 use rng_names::{NameKey, NameKeys};
 use std::alloc::Global;
@@ -204,13 +204,16 @@ impl Derivatives for GrammarDerivatives<'_> {
         self.learned.lost = true;
         count_start(alloc, &mut self.learned.known, &mut self.learned.starts);
         let numbers = self.learned.numbers.as_slice();
-        let ways = start(
+        let context = Context {
             alloc,
-            self.grammar,
-            &self.learned.keys,
+            grammar: self.grammar,
+            keys: &self.learned.keys,
+            numbers,
+        };
+        let ways = start(
+            &context,
             &mut self.learned.table,
             &mut self.learned.known,
-            numbers,
             pattern,
             key,
         )?;
