@@ -1,8 +1,9 @@
-//! Compares what the matcher returns for the rows of three files.
+//! Compares what the matcher returns for the rows of four files.
 //!
 //! A row of `cases.txt` has a schema and a document, possibly in pieces, each followed by how often it is repeated. The
 //! answer is the outcome. A matcher that begins anew must return the same, and so must the matcher over owned trees: any
-//! other outcome is printed after it. A row of `documents.txt` is a document. The answer has a letter for each schema of
+//! other outcome is printed after it. The rows of `xml_schema.txt` are the same for schemas that are compiled with the set
+//! `XmlSchema` of datatypes. A row of `documents.txt` is a document. The answer has a letter for each schema of
 //! `schemas.txt`: V for valid, I for invalid, and X if the two matchers differ. These schemas, the documents and the
 //! letters come from a second program, `dev/rows/all_splits`. The rows of `generated.txt` come from
 //! `dev/search/fuzz/matcher_rows.py`: a schema, a document and the verdict. Both matchers must have that verdict, and the
@@ -20,16 +21,25 @@ use case_rows::{Answer, Comparison, Row, compare_rows, rows};
 use compared::outcome_by_trees;
 use rng_deriv::{Matcher, Outcome};
 use rng_load::load;
-use rng_model::{SchemaFault, SimpleGrammar};
+use rng_model::{SchemaFault, SimpleGrammar, TypeSet};
 use rng_rules::restrict;
-use rng_simple::simplify;
+use rng_simple::simplify_with;
 use std::alloc::Global;
 use std::io;
 use std::rt::Files;
 use watched::taken;
 
 fn main(rt: HostRuntime) -> io::Result<()> {
-    compare_rows(&rt, "cases.txt", |to, row| print_case(to, row))?;
+    compare_rows(
+        &rt,
+        "cases.txt",
+        |to, row| print_case(to, TypeSet::Profile, row),
+    )?;
+    compare_rows(
+        &rt,
+        "xml_schema.txt",
+        |to, row| print_case(to, TypeSet::XmlSchema, row),
+    )?;
     compare_documents(&rt)?;
     compare_rows(&rt, "generated.txt", |to, row| print_verdict(to, row))
 }
@@ -49,7 +59,7 @@ fn compare_documents(rt: &(impl Files + Print + AllocGlobal)) -> io::Result<()> 
 /// Prints the verdict on a document, and the outcomes of both matchers if these differ. Or prints that the schema is
 /// refused.
 fn print_verdict(rt: &(impl Print + AllocGlobal), row: &Row) -> io::Result<()> {
-    let Some(grammar) = accepted(rt.alloc(), row.bytes(0)?)? else {
+    let Some(grammar) = accepted(rt.alloc(), TypeSet::Profile, row.bytes(0)?)? else {
         return println!(rt; "refused");
     };
     let document = row.bytes(1)?;
@@ -72,8 +82,8 @@ fn verdict_of(outcome: Outcome) -> &'static str {
 }
 
 /// Prints the outcome of a row: `valid`, or `invalid line N`.
-fn print_case(rt: &(impl Print + AllocGlobal), row: &Row) -> io::Result<()> {
-    let grammar = grammar_of_schema(rt.alloc(), row.bytes(0)?)?;
+fn print_case(rt: &(impl Print + AllocGlobal), types: TypeSet, row: &Row) -> io::Result<()> {
+    let grammar = grammar_of_schema(rt.alloc(), types, row.bytes(0)?)?;
     let document = joined(rt.alloc(), row)?;
     let outcome = judged(rt.alloc(), &grammar, document.as_slice(), false)?;
     print_outcome(rt, outcome)?;
@@ -113,23 +123,24 @@ fn joined(alloc: Global, row: &Row) -> io::Result<Vec<u8>> {
     Ok(all)
 }
 
-/// Returns the simple grammar of a schema of one file. The error is `InvalidData` if the schema breaks a clause.
-fn grammar_of_schema(alloc: Global, schema: &[u8]) -> io::Result<SimpleGrammar>
+/// Returns the simple grammar of a schema of one file, by a set of datatypes. The error is `InvalidData` if the schema
+/// breaks a clause.
+fn grammar_of_schema(alloc: Global, types: TypeSet, schema: &[u8]) -> io::Result<SimpleGrammar>
     ensures { IfOk result (λ g. BreaksNone (grammar_of g)) }
 {
-    match accepted(alloc, schema)? {
+    match accepted(alloc, types, schema)? {
         Some(grammar) => Ok(grammar),
         None => Err(io::Error::from(io::ErrorKind::InvalidData)),
     }
 }
 
-/// Returns the simple grammar of a schema of one file, or `None` if the schema breaks a clause.
-fn accepted(alloc: Global, schema: &[u8]) -> io::Result<Option<SimpleGrammar>>
+/// Returns the simple grammar of a schema of one file, by a set of datatypes, or `None` if the schema breaks a clause.
+fn accepted(alloc: Global, types: TypeSet, schema: &[u8]) -> io::Result<Option<SimpleGrammar>>
     ensures { IfOk result (λ found. IfSome found (λ g. BreaksNone (grammar_of g))) }
 {
     let name = String::from_str(alloc, "s.rnc")?;
     let bytes = Vec::from_slice(alloc, schema)?;
-    match compiled(alloc, &[(name, bytes)]) {
+    match compiled(alloc, types, &[(name, bytes)]) {
         Ok(grammar) => Ok(Some(grammar)),
         Err(SchemaFault::Memory) => Err(io::Error::from(io::ErrorKind::OutOfMemory)),
         Err(_) => Ok(None),
@@ -137,11 +148,15 @@ fn accepted(alloc: Global, schema: &[u8]) -> io::Result<Option<SimpleGrammar>>
 }
 
 /// Returns the simple grammar of files that break no clause.
-fn compiled(alloc: Global, files: &[(String, Vec<u8>)]) -> Result<SimpleGrammar, SchemaFault>
+fn compiled(
+    alloc: Global,
+    types: TypeSet,
+    files: &[(String, Vec<u8>)],
+) -> Result<SimpleGrammar, SchemaFault>
     ensures { IfOk result (λ g. BreaksNone (grammar_of g)) }
 {
     let schema = load(alloc, files, "s.rnc")?;
-    let grammar = simplify(alloc, &schema)?;
+    let grammar = simplify_with(alloc, types, &schema)?;
     restrict(alloc, &grammar)?;
     Ok(grammar)
 }
@@ -152,7 +167,8 @@ fn grammars_of(alloc: Global, schemas: &[Row]) -> io::Result<Vec<SimpleGrammar>>
 {
     let mut grammars = Vec::new(alloc);
     'schemas: for schema in schemas {
-        grammars.push(grammar_of_schema(alloc, schema.bytes(0)?)?)?;
+        let grammar = grammar_of_schema(alloc, TypeSet::Profile, schema.bytes(0)?)?;
+        grammars.push(grammar)?;
     }
     Ok(grammars)
 }
