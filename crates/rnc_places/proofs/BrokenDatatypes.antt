@@ -16,7 +16,6 @@ use Rattle.rng_model.specs.simple.Tree.{Datatype}
 use Rattle.rng_model.specs.xsd.TypeSets.{IsKnownIn, IsValueIn, meaning_in, takes_values_in, tests_in}
 use Rattle.rnc_grammar.proofs.AppliedTrees.{applied_where_made, made_where_applied}
 use Rattle.rnc_grammar.proofs.DeclarationRules.{undeclared_where_unknown}
-use Rattle.rnc_grammar.proofs.UsedPrefixes.{is_known}
 use Rattle.rnc_model.specs.declarations.AppliedDeclarations.{declared_library, library_by, tree_of_file, type_by}
 use Rattle.rnc_model.specs.declarations.DeclarationRules.{BreaksDeclarationRule, datatype_prefix, declared_in, IsUndeclared}
 use Rattle.rnc_model.specs.declarations.Declarations.{◌>>=◌, Scope, body_in, declare, declare_all, file_tree, library_in, nothing_declared, option_or}
@@ -38,8 +37,8 @@ use Rattle.rnc_model.specs.tokens.CutTokens.{tokens_of}
 use Rattle.rnc_model.specs.tokens.Cut.{Lexeme, lexemes}
 use Rattle.rng_model.specs.declared.fault.OutOfMemory.{OutOfMemory}
 use Rattle.rnc_places.specs.declared.prefixes.Part.TheVariants.{Body}
-use Rattle.rnc_places.specs.plain.BrokenDatatypes.{applied, broken_number, datatype_in, first_of_all, is_broken, is_refused, library_of}
-use Rattle.rnc_places.specs.plain.DatatypeNumbers.{is_last, kept_use, left_after, may_break, name_number, names, uses_of_body}
+use Rattle.rnc_places.specs.plain.BrokenDatatypes.{applied, broken_number, datatype_in, first_of_all, is_broken, library_of}
+use Rattle.rnc_places.specs.plain.DatatypeNumbers.{may_break, name_number, names, uses_of_body}
 use Rattle.rnc_places.specs.plain.FaultNumbers.{behind_declaration}
 use Rattle.rnc_places.specs.views.Told.{IsBrokenNumber}
 use Rattle.rnc_places.proofs.FirstFault.{declaration_behind}

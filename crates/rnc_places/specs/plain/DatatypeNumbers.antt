@@ -1,6 +1,6 @@
 -- The datatypes in a tree that may break the clause on datatypes, and the numbers of their names, found token by token.
 -- `string` and `token` allow every text, so they break the clause with parameters alone.
-use Rattle.std.specs.Prelude.{ℕ, zero, suc, ◌-◌, Bool, true, false, ◌||◌, List, [], ◌∷◌, ◌++◌, Option, Some, None, if◌then◌else◌}
+use Rattle.std.specs.Prelude.{ℕ, zero, suc, ◌-◌, Bool, true, false, ◌||◌, List, [], ◌∷◌, ◌++◌, if◌then◌else◌}
 use Rattle.rnc_model.specs.declared.token.Keyword.TheVariants as keywords
 use Rattle.rnc_model.specs.declared.token.Sign.TheVariants.{CloseBrace, OpenBrace}
 use Rattle.rnc_model.specs.declarations.TokenUses.{Use, namespace_of, data_of, value_of}

@@ -1,4 +1,4 @@
-use Rattle.std.proofs.Common.{◌≡◌, ◌∙◌, ap, length, map, option_map, sym, Some}
+use Rattle.std.proofs.Common.{◌∙◌, ap, length, map, option_map, sym}
 use Rattle.rnc_grammar.specs.views.Resolved.{scope_view}
 use Rattle.rnc_model.specs.declarations.Declarations.{nothing_declared}
 use Rattle.rnc_places.specs.plain.BrokenDatatypes.{applied}
