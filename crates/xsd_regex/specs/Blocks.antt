@@ -1,0 +1,100 @@
+-- The blocks of characters that a block escape names (XML Schema Part 2, Second Edition, section F.1.1, the table of block
+-- names): the name, and the first and the last character of each range. `PrivateUse` and `Specials` have several.
+use Rattle.std.specs.Prelude.{codes, ℕ, List, [], ◌∷◌}
+
+abbrev pub blocks : List (List ℕ × List (ℕ × ℕ))
+blocks =
+    (codes "BasicLatin", (0x0000, 0x007F) ∷ []) ∷
+    (codes "Latin-1Supplement", (0x0080, 0x00FF) ∷ []) ∷
+    (codes "LatinExtended-A", (0x0100, 0x017F) ∷ []) ∷
+    (codes "LatinExtended-B", (0x0180, 0x024F) ∷ []) ∷
+    (codes "IPAExtensions", (0x0250, 0x02AF) ∷ []) ∷
+    (codes "SpacingModifierLetters", (0x02B0, 0x02FF) ∷ []) ∷
+    (codes "CombiningDiacriticalMarks", (0x0300, 0x036F) ∷ []) ∷
+    (codes "Greek", (0x0370, 0x03FF) ∷ []) ∷
+    (codes "Cyrillic", (0x0400, 0x04FF) ∷ []) ∷
+    (codes "Armenian", (0x0530, 0x058F) ∷ []) ∷
+    (codes "Hebrew", (0x0590, 0x05FF) ∷ []) ∷
+    (codes "Arabic", (0x0600, 0x06FF) ∷ []) ∷
+    (codes "Syriac", (0x0700, 0x074F) ∷ []) ∷
+    (codes "Thaana", (0x0780, 0x07BF) ∷ []) ∷
+    (codes "Devanagari", (0x0900, 0x097F) ∷ []) ∷
+    (codes "Bengali", (0x0980, 0x09FF) ∷ []) ∷
+    (codes "Gurmukhi", (0x0A00, 0x0A7F) ∷ []) ∷
+    (codes "Gujarati", (0x0A80, 0x0AFF) ∷ []) ∷
+    (codes "Oriya", (0x0B00, 0x0B7F) ∷ []) ∷
+    (codes "Tamil", (0x0B80, 0x0BFF) ∷ []) ∷
+    (codes "Telugu", (0x0C00, 0x0C7F) ∷ []) ∷
+    (codes "Kannada", (0x0C80, 0x0CFF) ∷ []) ∷
+    (codes "Malayalam", (0x0D00, 0x0D7F) ∷ []) ∷
+    (codes "Sinhala", (0x0D80, 0x0DFF) ∷ []) ∷
+    (codes "Thai", (0x0E00, 0x0E7F) ∷ []) ∷
+    (codes "Lao", (0x0E80, 0x0EFF) ∷ []) ∷
+    (codes "Tibetan", (0x0F00, 0x0FFF) ∷ []) ∷
+    (codes "Myanmar", (0x1000, 0x109F) ∷ []) ∷
+    (codes "Georgian", (0x10A0, 0x10FF) ∷ []) ∷
+    (codes "HangulJamo", (0x1100, 0x11FF) ∷ []) ∷
+    (codes "Ethiopic", (0x1200, 0x137F) ∷ []) ∷
+    (codes "Cherokee", (0x13A0, 0x13FF) ∷ []) ∷
+    (codes "UnifiedCanadianAboriginalSyllabics", (0x1400, 0x167F) ∷ []) ∷
+    (codes "Ogham", (0x1680, 0x169F) ∷ []) ∷
+    (codes "Runic", (0x16A0, 0x16FF) ∷ []) ∷
+    (codes "Khmer", (0x1780, 0x17FF) ∷ []) ∷
+    (codes "Mongolian", (0x1800, 0x18AF) ∷ []) ∷
+    (codes "LatinExtendedAdditional", (0x1E00, 0x1EFF) ∷ []) ∷
+    (codes "GreekExtended", (0x1F00, 0x1FFF) ∷ []) ∷
+    (codes "GeneralPunctuation", (0x2000, 0x206F) ∷ []) ∷
+    (codes "SuperscriptsandSubscripts", (0x2070, 0x209F) ∷ []) ∷
+    (codes "CurrencySymbols", (0x20A0, 0x20CF) ∷ []) ∷
+    (codes "CombiningMarksforSymbols", (0x20D0, 0x20FF) ∷ []) ∷
+    (codes "LetterlikeSymbols", (0x2100, 0x214F) ∷ []) ∷
+    (codes "NumberForms", (0x2150, 0x218F) ∷ []) ∷
+    (codes "Arrows", (0x2190, 0x21FF) ∷ []) ∷
+    (codes "MathematicalOperators", (0x2200, 0x22FF) ∷ []) ∷
+    (codes "MiscellaneousTechnical", (0x2300, 0x23FF) ∷ []) ∷
+    (codes "ControlPictures", (0x2400, 0x243F) ∷ []) ∷
+    (codes "OpticalCharacterRecognition", (0x2440, 0x245F) ∷ []) ∷
+    (codes "EnclosedAlphanumerics", (0x2460, 0x24FF) ∷ []) ∷
+    (codes "BoxDrawing", (0x2500, 0x257F) ∷ []) ∷
+    (codes "BlockElements", (0x2580, 0x259F) ∷ []) ∷
+    (codes "GeometricShapes", (0x25A0, 0x25FF) ∷ []) ∷
+    (codes "MiscellaneousSymbols", (0x2600, 0x26FF) ∷ []) ∷
+    (codes "Dingbats", (0x2700, 0x27BF) ∷ []) ∷
+    (codes "BraillePatterns", (0x2800, 0x28FF) ∷ []) ∷
+    (codes "CJKRadicalsSupplement", (0x2E80, 0x2EFF) ∷ []) ∷
+    (codes "KangxiRadicals", (0x2F00, 0x2FDF) ∷ []) ∷
+    (codes "IdeographicDescriptionCharacters", (0x2FF0, 0x2FFF) ∷ []) ∷
+    (codes "CJKSymbolsandPunctuation", (0x3000, 0x303F) ∷ []) ∷
+    (codes "Hiragana", (0x3040, 0x309F) ∷ []) ∷
+    (codes "Katakana", (0x30A0, 0x30FF) ∷ []) ∷
+    (codes "Bopomofo", (0x3100, 0x312F) ∷ []) ∷
+    (codes "HangulCompatibilityJamo", (0x3130, 0x318F) ∷ []) ∷
+    (codes "Kanbun", (0x3190, 0x319F) ∷ []) ∷
+    (codes "BopomofoExtended", (0x31A0, 0x31BF) ∷ []) ∷
+    (codes "EnclosedCJKLettersandMonths", (0x3200, 0x32FF) ∷ []) ∷
+    (codes "CJKCompatibility", (0x3300, 0x33FF) ∷ []) ∷
+    (codes "CJKUnifiedIdeographsExtensionA", (0x3400, 0x4DB5) ∷ []) ∷
+    (codes "CJKUnifiedIdeographs", (0x4E00, 0x9FFF) ∷ []) ∷
+    (codes "YiSyllables", (0xA000, 0xA48F) ∷ []) ∷
+    (codes "YiRadicals", (0xA490, 0xA4CF) ∷ []) ∷
+    (codes "HangulSyllables", (0xAC00, 0xD7A3) ∷ []) ∷
+    (codes "PrivateUse", (0xE000, 0xF8FF) ∷ (0xF0000, 0xFFFFD) ∷ (0x100000, 0x10FFFD) ∷ []) ∷
+    (codes "CJKCompatibilityIdeographs", (0xF900, 0xFAFF) ∷ []) ∷
+    (codes "AlphabeticPresentationForms", (0xFB00, 0xFB4F) ∷ []) ∷
+    (codes "ArabicPresentationForms-A", (0xFB50, 0xFDFF) ∷ []) ∷
+    (codes "CombiningHalfMarks", (0xFE20, 0xFE2F) ∷ []) ∷
+    (codes "CJKCompatibilityForms", (0xFE30, 0xFE4F) ∷ []) ∷
+    (codes "SmallFormVariants", (0xFE50, 0xFE6F) ∷ []) ∷
+    (codes "ArabicPresentationForms-B", (0xFE70, 0xFEFE) ∷ []) ∷
+    (codes "Specials", (0xFEFF, 0xFEFF) ∷ (0xFFF0, 0xFFFD) ∷ []) ∷
+    (codes "HalfwidthandFullwidthForms", (0xFF00, 0xFFEF) ∷ []) ∷
+    (codes "OldItalic", (0x10300, 0x1032F) ∷ []) ∷
+    (codes "Gothic", (0x10330, 0x1034F) ∷ []) ∷
+    (codes "Deseret", (0x10400, 0x1044F) ∷ []) ∷
+    (codes "ByzantineMusicalSymbols", (0x1D000, 0x1D0FF) ∷ []) ∷
+    (codes "MusicalSymbols", (0x1D100, 0x1D1FF) ∷ []) ∷
+    (codes "MathematicalAlphanumericSymbols", (0x1D400, 0x1D7FF) ∷ []) ∷
+    (codes "CJKUnifiedIdeographsExtensionB", (0x20000, 0x2A6D6) ∷ []) ∷
+    (codes "CJKCompatibilityIdeographsSupplement", (0x2F800, 0x2FA1F) ∷ []) ∷
+    (codes "Tags", (0xE0000, 0xE007F) ∷ []) ∷
+    []

@@ -1,0 +1,5 @@
+pub mod Expressions
+pub mod Blocks
+pub mod Properties
+pub mod Symbols
+pub mod ExpressionGrammar
