@@ -136,21 +136,22 @@ impl Derivatives for GrammarDerivatives<'_> {
         if self.learned.lost {
             return Err(OutOfMemory);
         }
-        self.learned.lost = true;
+        let learned = &mut self.learned;
+        learned.lost = true;
         let context = Context {
             alloc,
             grammar: self.grammar,
-            keys: &self.learned.keys,
-            numbers: self.learned.numbers.as_slice(),
+            keys: &learned.keys,
+            numbers: learned.numbers.as_slice(),
         };
         let number = after_text(
             &context,
-            &mut self.learned.table,
-            &mut self.learned.known,
+            &mut learned.table,
+            &mut learned.known,
             pattern,
             text,
         )?;
-        self.learned.lost = false;
+        learned.lost = false;
         Ok(number)
     }
 
@@ -163,21 +164,22 @@ impl Derivatives for GrammarDerivatives<'_> {
         if self.learned.lost {
             return Err(OutOfMemory);
         }
-        self.learned.lost = true;
+        let learned = &mut self.learned;
+        learned.lost = true;
         let context = Context {
             alloc,
             grammar: self.grammar,
-            keys: &self.learned.keys,
-            numbers: self.learned.numbers.as_slice(),
+            keys: &learned.keys,
+            numbers: learned.numbers.as_slice(),
         };
         let number = after_tag(
             &context,
-            &mut self.learned.table,
-            &mut self.learned.known,
+            &mut learned.table,
+            &mut learned.known,
             body,
             attrs,
         )?;
-        self.learned.lost = false;
+        learned.lost = false;
         Ok(number)
     }
 
@@ -201,24 +203,25 @@ impl Derivatives for GrammarDerivatives<'_> {
         if self.learned.lost {
             return Err(OutOfMemory);
         }
-        self.learned.lost = true;
-        count_start(alloc, &mut self.learned.known, &mut self.learned.starts);
-        let numbers = self.learned.numbers.as_slice();
+        let learned = &mut self.learned;
+        learned.lost = true;
+        count_start(alloc, &mut learned.known, &mut learned.starts);
+        let numbers = learned.numbers.as_slice();
         let context = Context {
             alloc,
             grammar: self.grammar,
-            keys: &self.learned.keys,
+            keys: &learned.keys,
             numbers,
         };
         let ways = start(
             &context,
-            &mut self.learned.table,
-            &mut self.learned.known,
+            &mut learned.table,
+            &mut learned.known,
             pattern,
             key,
         )?;
-        let starts = joined_ways(alloc, &mut self.learned.table, ways.as_slice())?;
-        self.learned.lost = false;
+        let starts = joined_ways(alloc, &mut learned.table, ways.as_slice())?;
+        learned.lost = false;
         Ok(starts)
     }
 
@@ -238,22 +241,18 @@ impl Derivatives for GrammarDerivatives<'_> {
         if !self.is_crowded() {
             return copied(alloc, held);
         }
-        self.learned.lost = true;
+        let learned = &mut self.learned;
+        learned.lost = true;
         let Selection {
             table,
             numbers,
             held,
-        } = renewed(
-            alloc,
-            &self.learned.table,
-            self.learned.numbers.as_slice(),
-            held,
-        )?;
-        self.learned.known.forget(alloc);
-        self.learned.numbers = numbers;
-        self.learned.limit = limit_beside(table.len());
-        self.learned.table = table;
-        self.learned.lost = false;
+        } = renewed(alloc, &learned.table, learned.numbers.as_slice(), held)?;
+        learned.known.forget(alloc);
+        learned.numbers = numbers;
+        learned.limit = limit_beside(table.len());
+        learned.table = table;
+        learned.lost = false;
         Ok(held)
     }
 }
