@@ -6,6 +6,7 @@ import threading
 import time
 from typing import Any, Dict, List, Optional, Set, Tuple
 
+from rncv_lsp import DATATYPES
 from rncv_lsp.documents import Document, Documents, uri_of
 from rncv_lsp.findings import INFORMATION, Finding, diagnostic
 from rncv_lsp.jobs import Jobs, start_thread
@@ -44,7 +45,7 @@ class Task:
 class Coordinator:
     """Judges the open documents, and publishes what is found."""
 
-    def __init__(self, documents: Documents, connection: Connection, datatypes: str) -> None:
+    def __init__(self, documents: Documents, connection: Connection, datatypes: str = DATATYPES[0]) -> None:
         self.settings, self.roots = Settings(), ()  # type: Settings, Tuple[str, ...]
         self._datatypes = datatypes
         self._documents, self._connection = documents, connection

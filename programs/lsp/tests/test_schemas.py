@@ -73,7 +73,7 @@ class Places(WithServer):
                 ("element a { attribute \u00e9 { text }, attribute \u00e9 { text } }", "S24", (0, 34, 0, 43),
                  "attribute \u00e9 is there twice in element a (the other is at 1:13)"),
                 ("element a { xsd:date }", "S12", (0, 12, 0, 20),
-                 "xsd:date is not served: rncv-profile s.rnc -o DIR writes a copy with xsd:token there, which accepts any text"),
+                 "xsd:date is not served: rncv-profile --datatypes xml-schema s.rnc -o DIR writes a copy with xsd:token there, which accepts any text"),
                 ("start = grammar { b = text }", "S14", (0, 8, 0, 15), "the grammar that begins here has no start")):
             reported = self.one(text)
             self.assertEqual((reported["code"], reported["severity"], span(reported)), (code, 1, place), text)

@@ -314,6 +314,45 @@ static void ids(rncv_xml_judge *judge) {
     judge_row(judge, &rows[0]);
 }
 
+/* The sets of datatypes: schemas, hints, and numbers that are no set. */
+static void sets(rncv_xml_judge *judge) {
+    static const char larger[] = "element a { attribute b { xsd:positiveInteger }, (xsd:Name | empty) }";
+    static const char good[] = "<a b='+7'>x:y</a>", bad[] = "<a b='0'/>", text[] = "<a b='1'>-</a>";
+    rncv_file file = {(const uint8_t *)"larger.rnc", 10, (const uint8_t *)larger, strlen(larger)};
+    rncv_xml_judge own = RNCV_XML_NOTHING, other = RNCV_XML_NOTHING;
+    rncv_xml_files files = RNCV_XML_NO_FILES;
+    rncv_xml_fault fault = RNCV_XML_NO_FAULT;
+    rncv_xml_hint hint = {.line = 7};
+    rncv_schema schema = RNCV_NOTHING;
+    rncv_fault refused = {0, 0, 0, 0, 0};
+    write_file("larger.rnc", larger);
+    CHECK(rncv_xml_judge_open("larger.rnc", NULL, 0, &own, &fault) == RNCV_REFUSED && fault.clause == 12 && own.hidden == NULL);
+    CHECK(strstr(fault.message, ": hint: xsd:positiveInteger is of the datatypes xml-schema, and not of those of the profile: ") != NULL);
+    CHECK(rncv_xml_judge_open_with("larger.rnc", NULL, 0, RNCV_DATATYPES_XML_SCHEMA, &own, &fault) == RNCV_DONE && fault.message == NULL);
+    CHECK(says(&own, good, RNCV_XML_VALID, "") && says(&own, bad, RNCV_XML_INVALID, "invalid: at attribute b"));
+    CHECK(rncv_compile_with(&file, 1, RNCV_DATATYPES_XML_SCHEMA, &schema, &refused) == RNCV_DONE);
+    CHECK(rncv_xml_judge_new_with(&schema, &file, 1, RNCV_DATATYPES_XML_SCHEMA, &other) == RNCV_DONE && says(&other, good, RNCV_XML_VALID, ""));
+    CHECK(says(&other, text, RNCV_XML_INVALID, "invalid: at text \"-\""));
+    /* with another set the verdicts are the same */
+    CHECK(rncv_xml_judge_new(&schema, &file, 1, &other) == RNCV_DONE && says(&other, good, RNCV_XML_VALID, ""));
+    CHECK(says(&other, text, RNCV_XML_INVALID, "invalid: at text \"-\"") && says(&other, bad, RNCV_XML_INVALID, "invalid: at attribute b"));
+    CHECK(rncv_xml_hint_find(&file, NULL, 1, 12, &hint) == RNCV_DONE && hint.line == 1 && hint.column == 27);
+    CHECK(rncv_xml_hint_find_with(&file, NULL, 1, 12, RNCV_DATATYPES_XML_SCHEMA, &hint) == RNCV_DONE && hint.line == 0);
+    refused = (rncv_fault){12, -1, -1, -1, -1};
+    CHECK(rncv_xml_files_find("larger.rnc", NULL, 0, &files, &fault) == RNCV_DONE);
+    CHECK(rncv_xml_files_explain(&files, &refused, &fault) == RNCV_DONE && fault.line == 1 && fault.column == 27);
+    CHECK(rncv_xml_files_explain_with(&files, &refused, RNCV_DATATYPES_XML_SCHEMA, &fault) == RNCV_DONE && fault.line == 0);
+    CHECK(rncv_xml_files_explain_with(&files, &refused, 2, &fault) == RNCV_MISUSE && rncv_xml_hint_find_with(&file, NULL, 1, 12, 2, &hint) == RNCV_MISUSE);
+    CHECK(rncv_xml_judge_open_with("larger.rnc", NULL, 0, 2, &own, &fault) == RNCV_MISUSE && says(&own, good, RNCV_XML_VALID, ""));
+    CHECK(rncv_xml_judge_new_with(&schema, &file, 1, UINT32_MAX, &own) == RNCV_MISUSE && says(&own, good, RNCV_XML_VALID, ""));
+    rncv_xml_judge_free(&own);
+    rncv_xml_judge_free(&other);
+    rncv_xml_files_free(&files);
+    rncv_xml_fault_free(&fault);
+    rncv_schema_free(&schema);
+    judge_row(judge, &rows[0]);
+}
+
 /* A file with annotations, and the same with blanks; NULL: it is left as it is. */
 struct annotated {
     const char *file;
@@ -551,6 +590,7 @@ int main(int count, char **words) {
     refused_schemas(&judge);
     hints(&judge);
     ids(&judge);
+    sets(&judge);
     annotations(&judge);
     xml_schemas(&judge);
     odd_calls();
