@@ -1,1 +1,10 @@
 mod Examples
+mod RunExamples
+pub mod OneOf
+pub mod Nullable
+pub mod LinearForms
+pub mod FormSteps
+pub mod Runs
+pub mod StateTable
+pub mod TableRows
+pub mod SetTable

@@ -3,3 +3,4 @@ pub mod Blocks
 pub mod Properties
 pub mod Symbols
 pub mod ExpressionGrammar
+pub mod plain

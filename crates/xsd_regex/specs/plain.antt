@@ -1,0 +1,5 @@
+-- Plain functions that the code is proved against.
+pub mod LinearForms
+pub mod FormSteps
+pub mod StateTable
+pub mod SetTable
