@@ -8,3 +8,5 @@ pub mod Runs
 pub mod StateTable
 pub mod TableRows
 pub mod SetTable
+pub mod StepLoop
+pub mod NumberedWork

@@ -1,5 +1,6 @@
 -- The run over a table of sets has the result of the run over the states.
-use Rattle.std.proofs.Common.{◌≡◌, ◌↔◌, ◌<◌, ◌∙◌, ℕ, List, [], ◌∷◌, length, true, false, refl, sym}
+use Rattle.std.proofs.Common.{◌≡◌, ◌↔◌, ◌<◌, ◌∙◌, ℕ, List, [], ◌∷◌, length, Bool, true, false, refl, sym}
+use Rattle.std.specs.List.{AllByRecursion}
 use Rattle.rng_model.proofs.Truths.{same_truth}
 use Rattle.xsd_regex.specs.Expressions.{Regex, Matches}
 use Rattle.xsd_regex.specs.plain.LinearForms.{RegexState}
@@ -35,20 +36,28 @@ module _ (rows : List StateRow) where
   none_left [] = refl
   none_left (c ∷ s) = none_left s
 
-  module _ (group : ℕ → ℕ) (start : ℕ) (sets : List SetRow) (is : IsSetTable rows group start sets) where
-    run_is : (i : ℕ) (s : List ℕ) → i < length sets
-        → (set_at sets (run_sets rows group sets i s)).is_end ≡ one_ends rows (run_rows rows (set_at sets i).members s)
-    unfolding run_sets run_rows
-    run_is i [] h = (is.each i h).ends
-    run_is i (c ∷ s) h =
-        let row = is.each i h in
-        run_is (target_at sets i (group c)) s (row.within c)
-        ∙ answers_alike (set_at sets (target_at sets i (group c))).members (step_rows rows (set_at sets i).members c) s (row.steps c)
+  module _ (is_known : ℕ → Bool) (group : ℕ → ℕ) (start : ℕ) (sets : List SetRow) (is : IsSetTable rows is_known group start sets) where
+    -- one step from a set
+    pub set_step : (i : ℕ) (c : ℕ) (s : List ℕ) → i < length sets → is_known c ≡ true
+        → one_ends rows (run_rows rows (set_at sets i).members (c ∷ s))
+        ≡ one_ends rows (run_rows rows (set_at sets (target_at sets i (group c))).members s)
+    set_step i c s h k =
+        answer_behind (set_at sets i).members (set_at sets (target_at sets i (group c))).members c s ((is.each i h).steps c k)
 
-    pub sets_answer : (s : List ℕ) → (set_at sets (run_sets rows group sets 0 s)).is_end ≡ accepts rows start s
-    sets_answer s = run_is 0 s is.some ∙ answers_alike (set_at sets 0).members (start ∷ []) s is.first
+    pub first_set : (s : List ℕ) → one_ends rows (run_rows rows (set_at sets 0).members s) ≡ accepts rows start s
+    first_set s = answers_alike (set_at sets 0).members (start ∷ []) s is.first
+
+    run_is : (i : ℕ) (s : List ℕ) → i < length sets → AllByRecursion (λ c. is_known c ≡ true) s
+        → (set_at sets (run_sets group sets i s)).is_end ≡ one_ends rows (run_rows rows (set_at sets i).members s)
+    unfolding run_sets run_rows
+    run_is i [] h all = (is.each i h).ends
+    run_is i (c ∷ s) h all =
+        run_is (target_at sets i (group c)) s ((is.each i h).within c all.0) all.1 ∙ sym (set_step i c s h all.0)
+
+    pub sets_answer : (s : List ℕ) → AllByRecursion (λ c. is_known c ≡ true) s → (set_at sets (run_sets group sets 0 s)).is_end ≡ accepts rows start s
+    sets_answer s all = run_is 0 s is.some all ∙ first_set s
 
     pub matched_by_sets : (r : Regex) (states : List RegexState) → IsTableOf r start states rows → (s : List ℕ)
-        → Matches r s ↔ ((set_at sets (run_sets rows group sets 0 s)).is_end ≡ true)
-    matched_by_sets r states table s =
-        (λ m. sets_answer s ∙ table_if r start states rows table s m, λ e. table_then r start states rows table s (sym (sets_answer s) ∙ e))
+        → AllByRecursion (λ c. is_known c ≡ true) s → Matches r s ↔ ((set_at sets (run_sets group sets 0 s)).is_end ≡ true)
+    matched_by_sets r states table s all =
+        (λ m. sets_answer s all ∙ table_if r start states rows table s m, λ e. table_then r start states rows table s (sym (sets_answer s all) ∙ e))
