@@ -10,3 +10,4 @@ pub mod TableRows
 pub mod SetTable
 pub mod StepLoop
 pub mod NumberedWork
+pub mod GrowingTable

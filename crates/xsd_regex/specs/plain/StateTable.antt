@@ -1,6 +1,6 @@
 -- A table of the states of an expression, and its run over a text.
 use Rattle.std.specs.Prelude.{◌≡◌, ℕ, ◌<◌, List, [], ◌∷◌, ◌++◌, length, map, Bool, true, slice_index_or}
-use Rattle.std.specs.List.{fold, list_any}
+use Rattle.std.specs.List.{fold, list_any, AllByRecursion}
 use Rattle.xsd_regex.specs.Expressions.{Class, Regex}
 use Rattle.xsd_regex.specs.plain.LinearForms.{RegexState, Form, OneOf, Takes, forms, ends, rests_at}
 
@@ -35,6 +35,11 @@ pub record IsTableOf (r : Regex) (start : ℕ) (states : List RegexState) (rows 
   pub first : state_at states start ≡ r ∷ []
   pub as_many : length states ≡ length rows
   pub each : (i : ℕ) → i < length rows → IsRowOf states (state_at states i) (row_at rows i)
+
+-- the rows that are made so far, of the first states
+pub record AreRows (states : List RegexState) (rows : List StateRow) : Type 0 where
+  pub each : (i : ℕ) → i < length rows → IsRowOf states (state_at states i) (row_at rows i)
+  pub within : (i : ℕ) → i < length rows → AllByRecursion (λ a. a.1 < length states) (row_at rows i).arcs
 
 -- ---- states that share what they have in common
 
