@@ -2,5 +2,6 @@ mod AsBox
 mod Crossing
 mod JoinedNames
 mod ProfileCompiled
+mod WrittenTexts
 mod RefusedNames
 mod Values
