@@ -11,3 +11,11 @@ pub mod SetTable
 pub mod StepLoop
 pub mod NumberedWork
 pub mod GrowingTable
+pub mod Spelled
+pub mod CompleteClasses
+pub mod CompleteExpressions
+pub mod SoundClasses
+pub mod ReadSymbols
+pub mod SoundSteps
+pub mod SoundExpressions
+pub mod Regexes

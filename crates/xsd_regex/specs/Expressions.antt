@@ -1,6 +1,6 @@
 -- Classes of characters, regular expressions, and which texts they match (XML Schema Part 2, Second Edition, appendix F).
 -- A character is its Unicode number, and a text is a list of characters.
-use Rattle.std.specs.Prelude.{ℕ, suc, ◌≡◌, ◌≤◌, List, [], ◌∷◌, ◌++◌, Bool, true, not, ◌&&◌, ◌||◌, Option, Some, None, IfSome}
+use Rattle.std.specs.Prelude.{ℕ, suc, ◌≡◌, ◌≤◌, List, [], ◌∷◌, ◌++◌, Bool, true, not, ◌&&◌, ◌||◌, Option, IfSome}
 use Rattle.ucd_category.specs.declared.GeneralCategory.{GeneralCategory}
 use Rattle.ucd_category.specs.declared.GeneralCategoryGroup.{GeneralCategoryGroup}
 use Rattle.ucd_category.specs.GeneralCategory.{general_category, general_category_eq}

@@ -3,3 +3,7 @@ pub mod LinearForms
 pub mod FormSteps
 pub mod StateTable
 pub mod SetTable
+pub mod Spelling
+pub mod Held
+pub mod ClassSteps
+pub mod Machine

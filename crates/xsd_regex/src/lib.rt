@@ -2,3 +2,5 @@
 //!
 //! XML Schema Part 2, Second Edition, appendix F. The definitions are in `specs/`. No program uses this crate yet.
 #![tactic(auto)]
+
+mod mode;
