@@ -7,3 +7,5 @@ pub mod Spelling
 pub mod Held
 pub mod ClassSteps
 pub mod Machine
+pub mod Postfix
+pub mod Positions
