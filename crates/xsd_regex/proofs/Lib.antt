@@ -11,6 +11,7 @@ pub mod SetTable
 pub mod StepLoop
 pub mod NumberedWork
 pub mod GrowingTable
+pub mod Groups
 pub mod Spelled
 pub mod CompleteClasses
 pub mod CompleteExpressions

@@ -3,4 +3,5 @@ pub mod Blocks
 pub mod Properties
 pub mod Symbols
 pub mod ExpressionGrammar
+pub mod views
 pub mod plain

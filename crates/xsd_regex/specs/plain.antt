@@ -4,6 +4,7 @@ pub mod FormSteps
 pub mod StateTable
 pub mod SetTable
 pub mod Spelling
+pub mod Groups
 pub mod Held
 pub mod ClassSteps
 pub mod Machine

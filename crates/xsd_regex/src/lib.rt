@@ -3,4 +3,7 @@
 //! XML Schema Part 2, Second Edition, appendix F. The definitions are in `specs/`. No program uses this crate yet.
 #![tactic(auto)]
 
+mod class;
 mod mode;
+
+pub use class::{CharSet, Class, Leaf, Member};
