@@ -12,9 +12,11 @@ pub mod StepLoop
 pub mod NumberedWork
 pub mod GrowingTable
 pub mod Groups
+pub mod Properties
 pub mod Spelled
 pub mod CompleteClasses
 pub mod CompleteExpressions
+pub mod SymbolSteps
 pub mod SoundClasses
 pub mod ReadSymbols
 pub mod SoundSteps

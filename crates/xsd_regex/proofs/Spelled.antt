@@ -5,16 +5,18 @@ use Rattle.std.proofs.Math.Seq.{take-append_seam, drop-append_seam}
 use Rattle.std.specs.List.{list_all, prefix_len}
 use Rattle.std.specs.Option.{option_map}
 use Rattle.std.specs.Map.{lookup}
-use Rattle.std.specs.Str.{bytes_eq}
+use Rattle.std.specs.Char.{encode_utf8}
+use Rattle.std.specs.Str.{bytes_eq, chars, IsUtf8}
 use Rattle.std.proofs.lemmas.Bool.{and_parts}
 use Rattle.std.proofs.lemmas.Option.{none-some, same_Some}
+use Rattle.std.proofs.lemmas.Str.{chars_past_char}
 use Rattle.std.proofs.lemmas.List.{append_assoc, append-nil, take-append-drop, length-append}
 use Rattle.rng_model.proofs.Texts.{bytes_same}
 use Rattle.xsd_regex.specs.Expressions.{Class}
 use Rattle.xsd_regex.specs.Properties.{category_names, block_names, property_named}
 use Rattle.xsd_regex.specs.Symbols.{Symbol, char, class, short_escape, single_escapes, multi_escapes, IsSymbol, itself, short, has_property, has_not}
 use Rattle.xsd_regex.specs.Symbols.{AreSymbols, no_symbols, symbol_and}
-use Rattle.xsd_regex.specs.plain.Spelling.{Read, negated_if, is_in_name, behind_name, named_symbol, property_symbol, escape_symbol, next_symbol, HasNoSymbols}
+use Rattle.xsd_regex.specs.plain.Spelling.{Read, first_of, negated_if, is_in_name, behind_name, named_symbol, property_symbol, escape_symbol, next_symbol, HasNoSymbols}
 
 same_pair : {u v : Symbol} {s t : List ℕ} → ◌≡◌ {A = Read} (Some (u, s)) (Some (v, t)) → (u ≡ v) × (s ≡ t)
 same_pair e = let p = same_Some _ _ e in (ap (λ x. x.0) p, ap (λ x. x.1) p)
@@ -54,9 +56,23 @@ is_short c = cond (c == 0x70) false (cond (c == 0x50) false true)
 all_short : list_all (λ r. is_short r.0) (single_escapes ++ multi_escapes) ≡ true
 all_short = refl
 
+-- ---- the first character of a text
+
+pub first_is : (bs rest : List ℕ) (c : ℕ) → IsUtf8 bs → bs ≡ encode_utf8 c ++ rest
+    → ◌≡◌ {A = Option (ℕ × List ℕ)} (Some (c, chars rest)) (first_of (chars bs))
+first_is bs rest c u e = rw (chars_past_char bs rest c u e) refl
+
+pub first_there : (s t : List ℕ) (c : ℕ) → ◌≡◌ {A = Option (ℕ × List ℕ)} (Some (c, t)) (first_of s) → s ≡ c ∷ t
+first_there [] t c e = cc
+first_there (d ∷ s) t c e = let p = same_Some _ _ e in cc (ap (λ x. x.0) p, ap (λ x. x.1) p)
+
+pub none_there : (s : List ℕ) → ◌≡◌ {A = Option (ℕ × List ℕ)} None (first_of s) → s ≡ []
+none_there [] e = refl
+none_there (d ∷ s) e = cc
+
 -- ---- the name of a property
 
-named_length : (name rest : List ℕ) → list_all is_in_name name ≡ true → prefix_len is_in_name (name ++ 0x7D ∷ rest) ≡ length name
+pub named_length : (name rest : List ℕ) → list_all is_in_name name ≡ true → prefix_len is_in_name (name ++ 0x7D ∷ rest) ≡ length name
 named_length [] rest all = refl
 named_length (c ∷ cs) rest all =
     let both = and_parts (is_in_name c) (list_all is_in_name cs) all in

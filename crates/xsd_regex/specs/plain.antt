@@ -5,6 +5,7 @@ pub mod StateTable
 pub mod SetTable
 pub mod Spelling
 pub mod Groups
+pub mod PropertyParts
 pub mod Held
 pub mod ClassSteps
 pub mod Machine

@@ -5,5 +5,7 @@
 
 mod class;
 mod mode;
+mod property;
+mod symbol;
 
 pub use class::{CharSet, Class, Leaf, Member};

@@ -9,6 +9,11 @@ use Rattle.xsd_regex.specs.Symbols.{Symbol, char, class, short_escape, AreSymbol
 abbrev pub Read : Type 0
 Read = Option (Symbol × List ℕ)
 
+-- the first character, and what is behind it
+abbrev pub first_of : List ℕ → Option (ℕ × List ℕ)
+first_of [] = None
+first_of (c ∷ s) = Some (c, s)
+
 -- the class, or its complement
 abbrev pub negated_if : Bool → Class → Class
 negated_if neg k = if neg then complement k else k
