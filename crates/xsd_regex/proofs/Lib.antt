@@ -20,5 +20,8 @@ pub mod SymbolSteps
 pub mod SoundClasses
 pub mod ReadSymbols
 pub mod SoundSteps
+pub mod KeptRows
 pub mod SoundExpressions
 pub mod Regexes
+pub mod Progress
+pub mod ReadRows

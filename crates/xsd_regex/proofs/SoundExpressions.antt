@@ -279,7 +279,7 @@ in_parts us vs ws all u next parts r =
     ap (λ l. l ++ u ∷ []) parts ∙ append_assoc us (vs ++ ws) (u ∷ []) ∙ ap (λ l. us ++ l) (append_assoc vs ws (u ∷ [])) in
     subst (λ l. Leads l next) (sym text) r
 
-step_reads : {us : List Symbol} {ks : List Class} {qs : List Regex} {gs : List Bool} {b : Bool} {d : ℕ} {m : Mode} (u : Symbol) → Reads us ks qs gs b d m
+pub step_reads : {us : List Symbol} {ks : List Class} {qs : List Regex} {gs : List Bool} {b : Bool} {d : ℕ} {m : Mode} (u : Symbol) → Reads us ks qs gs b d m
     → Leads (us ++ u ∷ []) (step (st ks qs gs b d m) u)
 step_reads u (ready br) = piece_step mode.Ready u br
 step_reads u (atom at) = atom_step u at

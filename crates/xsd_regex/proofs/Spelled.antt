@@ -16,7 +16,8 @@ use Rattle.xsd_regex.specs.Expressions.{Class}
 use Rattle.xsd_regex.specs.Properties.{category_names, block_names, property_named}
 use Rattle.xsd_regex.specs.Symbols.{Symbol, char, class, short_escape, single_escapes, multi_escapes, IsSymbol, itself, short, has_property, has_not}
 use Rattle.xsd_regex.specs.Symbols.{AreSymbols, no_symbols, symbol_and}
-use Rattle.xsd_regex.specs.plain.Spelling.{Read, first_of, negated_if, is_in_name, behind_name, named_symbol, property_symbol, escape_symbol, next_symbol, HasNoSymbols}
+use Rattle.xsd_regex.specs.plain.Spelling.{Read, first_of, negated_if, is_in_name, behind_name, named_symbol, property_symbol, escape_symbol, next_symbol}
+use Rattle.xsd_regex.specs.plain.Spelling.{HasNoSymbols}
 
 same_pair : {u v : Symbol} {s t : List ℕ} → ◌≡◌ {A = Read} (Some (u, s)) (Some (v, t)) → (u ≡ v) × (s ≡ t)
 same_pair e = let p = same_Some _ _ e in (ap (λ x. x.0) p, ap (λ x. x.1) p)

@@ -10,4 +10,5 @@ pub mod Held
 pub mod ClassSteps
 pub mod Machine
 pub mod Postfix
+pub mod KeptSteps
 pub mod Positions

@@ -1,6 +1,7 @@
 // Classes of characters (XML Schema Part 2, Second Edition, section F.1).
 ghost use Rattle.std.specs.Prelude.{◌≡◌, map};
-ghost use Rattle.xsd_regex.specs.Expressions.{holds};
+ghost use Rattle.xsd_regex.specs.Expressions.{holds, only_char, char_from_to};
+ghost use Rattle.xsd_regex.specs.ExpressionGrammar.{wildcard};
 ghost use Rattle.xsd_regex.specs.views.Classes.{set_class, leaf_class, mark_of, class_of};
 ghost use Rattle.xsd_regex.specs.plain.Groups.{class_of_marks};
 ghost use Rattle.xsd_regex.specs.Symbols.{word_char};
@@ -139,4 +140,31 @@ fn is_word_char(c: char) -> bool
     !(GeneralCategoryGroup::Punctuation.contains(category)
         || GeneralCategoryGroup::Separator.contains(category)
         || GeneralCategoryGroup::Other.contains(category))
+}
+
+// the character alone
+pub(crate) fn only_char(c: char) -> Leaf
+    ensures { leaf_class result ≡ only_char c }
+{
+    char_from_to(c, c)
+}
+
+// the characters from one to another
+pub(crate) fn char_from_to(first: char, last: char) -> Leaf
+    ensures { leaf_class result ≡ char_from_to first last }
+{
+    Leaf {
+        set: CharSet::Range(first, last),
+        negated: false,
+    }
+}
+
+// all characters but line ends
+pub(crate) fn wildcard() -> Leaf
+    ensures { leaf_class result ≡ wildcard }
+{
+    Leaf {
+        set: CharSet::LineEnds,
+        negated: true,
+    }
 }

@@ -4,8 +4,13 @@
 #![tactic(auto)]
 
 mod class;
+mod class_reader;
+mod expression;
+mod fault;
 mod mode;
 mod property;
+mod reader;
 mod symbol;
 
 pub use class::{CharSet, Class, Leaf, Member};
+pub use expression::{Expression, Row, read};
