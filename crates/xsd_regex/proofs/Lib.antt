@@ -25,3 +25,4 @@ pub mod SoundExpressions
 pub mod Regexes
 pub mod Progress
 pub mod ReadRows
+pub mod Decided

@@ -4,4 +4,5 @@ pub mod Properties
 pub mod Symbols
 pub mod ExpressionGrammar
 pub mod views
+pub mod Patterns
 pub mod plain

@@ -12,3 +12,4 @@ pub mod Machine
 pub mod Postfix
 pub mod KeptSteps
 pub mod Positions
+pub mod Decided
