@@ -18,7 +18,7 @@ use case_rows::{Pace, Row, Source, compare_rows, rows};
 use failures::print_over_devices;
 use rncv_run::{Command, Status, run};
 use rncv_validator::{Validator, Verdict};
-use rng_model::Device;
+use rng_model::{Device, OutOfMemory};
 use std::alloc::Global;
 use std::io;
 
@@ -226,7 +226,9 @@ fn letters_by(
     for held in validators.iter_mut() {
         let letter = match held.take() {
             Some(validator) => {
-                let (validator, letter) = judged(alloc, validator, document)?;
+                let Ok((validator, letter)) = judged(alloc, validator, document) else {
+                    return Err(io::Error::from(io::ErrorKind::Other));
+                };
                 *held = Some(validator);
                 letter
             }
@@ -238,7 +240,11 @@ fn letters_by(
 }
 
 /// Returns the validator, and a letter for its verdict on a document, in pieces of three bytes.
-fn judged(alloc: Global, validator: Validator, bytes: &[u8]) -> io::Result<(Validator, char)> {
+fn judged(
+    alloc: Global,
+    validator: Validator,
+    bytes: &[u8],
+) -> Result<(Validator, char), OutOfMemory> {
     let mut document = validator.document(alloc);
     for piece in bytes.chunks(3) {
         if document.feed(piece).is_err() {
@@ -250,6 +256,6 @@ fn judged(alloc: Global, validator: Validator, bytes: &[u8]) -> io::Result<(Vali
         Ok(Verdict::Valid) => Ok((validator, 'V')),
         Ok(Verdict::Invalid(_)) => Ok((validator, 'I')),
         Ok(Verdict::Malformed { .. }) => Ok((validator, 'M')),
-        Err(_) => Err(io::Error::from(io::ErrorKind::Other)),
+        Err(OutOfMemory) => Err(OutOfMemory),
     }
 }

@@ -5,7 +5,8 @@
 use crate::judged;
 use case_rows::{Row, compare_rows};
 use rncv_validator::{CompileFault, Validator};
-use rng_model::TypeSet;
+use rng_model::{OutOfMemory, TypeSet};
+use std::alloc::Global;
 use std::io;
 use std::rt::Files;
 
@@ -14,27 +15,29 @@ pub fn compare(rt: &(impl Files + Print + AllocGlobal)) -> io::Result<()> {
     compare_rows(rt, "datatypes.txt", |to, row| print_by_sets(to, row))
 }
 
-/// Prints a word for each set.
+/// Prints a word for each set. After a call that is out of memory nothing more is printed.
 fn print_by_sets(rt: &(impl Print + AllocGlobal), row: &Row) -> io::Result<()> {
-    print_with(rt, TypeSet::Profile, row)?;
-    print!(rt; " ")?;
-    print_with(rt, TypeSet::XmlSchema, row)?;
-    println!(rt)
+    for (types, end) in [(TypeSet::Profile, " "), (TypeSet::XmlSchema, "\n")] {
+        match word_with(rt.alloc(), types, row)? {
+            Some(word) => print!(rt; "{word}{end}")?,
+            None => return println!(rt; "out of memory"),
+        }
+    }
+    Ok(())
 }
 
-/// Prints what a row gives with this set of datatypes.
-fn print_with(rt: &(impl Print + AllocGlobal), types: TypeSet, row: &Row) -> io::Result<()> {
-    let alloc = rt.alloc();
+/// Returns what a row gives with this set of datatypes, or none if a call is out of memory.
+fn word_with(alloc: Global, types: TypeSet, row: &Row) -> io::Result<Option<String>> {
     let name = String::from_str(alloc, "s.rnc")?;
     let schema = Vec::from_slice(alloc, row.bytes(0)?)?;
     match Validator::compile_with(alloc, types, &[(name, schema)]) {
-        Ok(validator) => {
-            let (_, letter) = judged(alloc, validator, row.bytes(1)?)?;
-            print!(rt; "{letter}")
-        }
+        Ok(validator) => match judged(alloc, validator, row.bytes(1)?) {
+            Ok((_, letter)) => Ok(Some(format!(in alloc; "{letter}")?)),
+            Err(OutOfMemory) => Ok(None),
+        },
         Err(CompileFault::File { clause, .. } | CompileFault::Clause(clause)) => {
-            print!(rt; "S{clause}")
+            Ok(Some(format!(in alloc; "S{clause}")?))
         }
-        Err(CompileFault::Memory) => print!(rt; "out of memory"),
+        Err(CompileFault::Memory) => Ok(None),
     }
 }

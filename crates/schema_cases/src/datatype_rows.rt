@@ -14,18 +14,16 @@ pub fn compare(rt: &(impl Files + Print + AllocGlobal)) -> io::Result<()> {
     compare_rows(rt, "datatypes.txt", |to, row| print_places(to, row))
 }
 
-/// Prints where the file of a row breaks the clause, with each set.
+/// Prints where the file of a row breaks the clause, with each set. After a call that is out of memory nothing more is
+/// printed.
 fn print_places(rt: &(impl Print + AllocGlobal), row: &Row) -> io::Result<()> {
     let file = file_of(rt.alloc(), row)?;
-    print_place(rt, TypeSet::Profile, file.as_slice())?;
-    print_place(rt, TypeSet::XmlSchema, file.as_slice())
-}
-
-/// Prints where a file breaks the clause with this set.
-fn print_place(rt: &(impl Print + AllocGlobal), types: TypeSet, file: &[u8]) -> io::Result<()> {
-    match datatype_place_of(rt.alloc(), types, file) {
-        Ok(None) => println!(rt; "none"),
-        Ok(Some(place)) => { println!(rt; "{} {}:{}", place.offset, place.line, place.column) }
-        Err(OutOfMemory) => println!(rt; "out of memory"),
+    for types in [TypeSet::Profile, TypeSet::XmlSchema] {
+        match datatype_place_of(rt.alloc(), types, file.as_slice()) {
+            Ok(None) => println!(rt; "none")?,
+            Ok(Some(place)) => println!(rt; "{} {}:{}", place.offset, place.line, place.column)?,
+            Err(OutOfMemory) => return println!(rt; "out of memory"),
+        }
     }
+    Ok(())
 }
