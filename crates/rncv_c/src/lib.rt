@@ -7,6 +7,7 @@
 
 ghost use Rattle.std.specs.Prelude.{◌≡◌, ◌≢◌, ◌↔◌, pos, IfSome, IsSome, IsSomeAnd};
 ghost use Rattle.std.specs.declared.option.Option.TheVariants.{None};
+ghost use Rattle.rnc_model.specs.loading.DatatypePlaces.{HasBrokenDatatype};
 ghost use Rattle.rnc_model.specs.loading.SchemaFile.{FileName};
 ghost use Rattle.rncv_validator.specs.views.Validators.{IsOneFor, IsOneForWith};
 ghost use Rattle.rncv_c.specs.views.Calls.{HasBegun, HasEnded, HasTaken, IsInvalidSince};
@@ -15,13 +16,14 @@ ghost use Rattle.rncv_c.specs.views.Files.{AreNamed, files_of, main_of};
 ghost use Rattle.rncv_c.specs.views.Held.{document_in, grammar_in, schema_in};
 ghost use Rattle.rncv_c.specs.views.Mentions.{AreMentionsOf, IsRefusedAlone};
 ghost use Rattle.rncv_c.specs.views.Texts.{IsTextOf, IsTooLong, IsWritten};
-ghost use Rattle.rncv_c.specs.views.Told.{AreRefused, AreRefusedWith, IsRefusedName};
+ghost use Rattle.rncv_c.specs.views.Told.{AreRefused, AreRefusedWith, IsPlaceOfDatatype, IsRefusedName};
 
 mod datatypes;
 mod documents;
 mod files;
 mod handle;
 mod mentions;
+mod places;
 mod schemas;
 mod status;
 mod texts;
@@ -133,6 +135,30 @@ pub extern "C" fn rncv_mentions(
     ensures untold { result ≢ pos 1 → fault.new ≡ fault.old }
 {
     mentions::mentions(alloc, file, buffer, count, fault).code()
+}
+
+/// Reports in `place` where the first datatype in a schema file breaks clause 12 with a set of datatypes, as
+/// `rncv_compile_with` has them. The place is that of the datatype's name. Other files do not count.
+///
+/// Returns 0 on success; 1 if the file has no such datatype, or breaks a clause from 3 to 8 by itself; 3 when out of memory;
+/// 4 exactly if `datatypes` is no set. Costs what `datatype_place_of` costs. RELAX NG Specification, section 4.16.
+#[unsafe(no_mangle)]
+pub extern "C" fn rncv_datatype_place(
+    alloc: Global,
+    file: &[u8],
+    datatypes: u32,
+    place: &mut Refusal,
+) -> i32
+    ensures done { IfSome (set_of datatypes) (λ types. result ≡ pos 0 → IsPlaceOfDatatype types file.now place.new) }
+    ensures refused { IfSome (set_of datatypes) (λ types. result ≡ pos 1 → ¬ (HasBrokenDatatype types file.now)) }
+    ensures misuse { (result ≡ pos 4) ↔ (set_of datatypes ≡ None) }
+    ensures others { result ≢ pos 0 → result ≢ pos 1 → result ≢ pos 4 → result ≡ pos 3 }
+    ensures untold { result ≢ pos 0 → place.new ≡ place.old }
+{
+    match set_of_number(datatypes) {
+        Some(types) => places::datatype_place(alloc, types, file, place).code(),
+        None => Status::Misuse.code(),
+    }
 }
 
 /// Makes `other` a second handle on the same schema, for another thread. What `other` held is freed.

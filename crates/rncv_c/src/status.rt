@@ -6,7 +6,7 @@ ghost use Rattle.rncv_c.specs.views.Held.{code_of};
 #[derive(Clone, Copy)]
 pub enum Status {
     Done,
-    /// The files of a schema break a clause.
+    /// The files of a schema break a clause, or a file has no place to report.
     Refused,
     /// A document breaks a clause.
     Malformed,

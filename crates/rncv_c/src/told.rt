@@ -1,4 +1,4 @@
-// What is reported to C of refused files, and of a document.
+// What is reported to C of refused files, of datatypes, and of a document.
 ghost use Rattle.std.specs.Prelude.{◌≡◌, ◌<◌, ◌^◌, IfOk, IfSome, Some, option_map};
 ghost use Rattle.rncv_validator.specs.views.Places.{file_clause};
 ghost use Rattle.rncv_c.specs.views.Files.{index_for_c};

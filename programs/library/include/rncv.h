@@ -69,9 +69,9 @@ typedef struct rncv_fault {
     int32_t clause; /* 1 to 27 */
     int64_t file;   /* the index of the first file with the name of the file that breaks the clause; -1 if the clause is not about one file,
                        or no file with that name was passed (rncv_refused_name writes that name) */
-    int64_t offset; /* where in that file, in bytes from 0, for the clauses 3 to 8; otherwise -1 */
-    int64_t line;   /* the line, from 1, for the clauses 3 to 8; otherwise -1. CR LF, CR and LF each end a line. */
-    int64_t column; /* the column, from 1, in characters as they are written, for the clauses 3 to 8; otherwise -1 */
+    int64_t offset; /* where in that file, in bytes from 0, for the clauses 3 to 8 and from rncv_datatype_place; otherwise -1 */
+    int64_t line;   /* the line, from 1, for the same; otherwise -1. CR LF, CR and LF each end a line. */
+    int64_t column; /* the column, from 1, in characters as they are written, for the same; otherwise -1 */
 } rncv_fault;
 
 /* The verdict on a document. */
@@ -92,7 +92,7 @@ enum {
 /* The statuses. The comment of each function names those that it returns besides RNCV_DONE. */
 enum {
     RNCV_DONE = 0,      /* the call did what it says */
-    RNCV_REFUSED = 1,   /* the files of the schema break a clause */
+    RNCV_REFUSED = 1,   /* the files of the schema break a clause; rncv_datatype_place: a file has no place to report */
     RNCV_MALFORMED = 2, /* the document breaks a clause */
     RNCV_MEMORY = 3,    /* out of memory */
     RNCV_MISUSE = 4,    /* the handle does not hold what the call needs, or an argument is wrong */
@@ -143,6 +143,17 @@ int32_t rncv_refused_name(const rncv_file *files, size_t count, uint8_t *buffer,
  * status is RNCV_DONE or RNCV_SPACE, and `fault` unless it is RNCV_REFUSED. The caller keeps `bytes` and `names`. Several threads may call this at the same
  * time, each with `names`, `needed` and `fault` of its own. */
 int32_t rncv_mentions(const uint8_t *bytes, size_t length, uint8_t *names, size_t size, size_t *needed, rncv_fault *fault);
+
+/* Writes to `place` where a schema file has its first datatype that breaks the clause S12 with a set of datatypes, one of `enum rncv_datatypes`: the set
+ * does not have it with its parameters, or it does not allow its value. `clause` is then 12, `file` is 0, and the place is that of the datatype's name. All
+ * datatypes of the file count, also in components that an `include` of another file overrides, or that nothing refers to. Other files do not. Where
+ * rncv_compile_with reports S12, a caller asks for each file, in the order of rncv_mentions. `bytes` may be NULL if `length` is 0. The size of the file is not
+ * limited. Each call reads the file again.
+ *
+ * RNCV_REFUSED: the file has no such datatype, or breaks a clause, S3 to S8, by itself (rncv_mentions says which). RNCV_MEMORY: out of memory. RNCV_MISUSE:
+ * `datatypes` is no set. Unless the status is RNCV_DONE, `place` is unchanged. The caller keeps `bytes`. Several threads may call this at the same time, each
+ * with a `place` of its own. */
+int32_t rncv_datatype_place(const uint8_t *bytes, size_t length, uint32_t datatypes, rncv_fault *place);
 
 /* Makes `other` a second handle on the same schema, for example for another thread. What `other` held is freed. Free each of the two by itself.
  * The schema is shared and not copied.

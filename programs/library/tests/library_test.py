@@ -43,6 +43,7 @@ def library(path):
         "rncv_compile": [ctypes.POINTER(File), size, schema, ctypes.POINTER(Fault)],
         "rncv_compile_with": [ctypes.POINTER(File), size, ctypes.c_uint32, schema, ctypes.POINTER(Fault)],
         "rncv_refused_name": [ctypes.POINTER(File), size, ctypes.c_char_p, size, ctypes.POINTER(size)],
+        "rncv_datatype_place": [ctypes.c_char_p, size, ctypes.c_uint32, ctypes.POINTER(Fault)],
         "rncv_schema_share": [schema, schema],
         "rncv_document_begin": [schema],
         "rncv_document_feed": [schema, ctypes.c_char_p, size],
@@ -83,6 +84,13 @@ def main():
     assert lib.rncv_clause_title(b"S", fault.clause).startswith(b"the tokens are a sentence")
     assert refused_name(lib, refused) == b"b.rnc"
     assert refused_name(lib, files_of((b"s.rnc", b'include "b.rnc"'))) == b"b.rnc"
+
+    text = b"element a {\n  xsd:byte | xsd:none }"
+    for datatypes, column in ((PROFILE, 3), (XML_SCHEMA, 14)):
+        assert lib.rncv_datatype_place(text, len(text), datatypes, fault) == DONE
+        assert (fault.clause, fault.file, fault.offset, fault.line, fault.column) == (12, 0, 11 + column, 2, column)
+    assert lib.rncv_datatype_place(b"", 0, PROFILE, fault) == REFUSED
+    assert lib.rncv_datatype_place(None, 0, 2, fault) == MISUSE
 
     files = files_of((b"s.rnc", b"element a { text }"))
     for number in (2, 256, 2**32 - 1):

@@ -115,6 +115,25 @@ static int refusal_once(void) {
     return status == RNCV_REFUSED;
 }
 
+/* Asks for the place of a datatype: returns 1 if it is written, 0 if the call ran out of memory. */
+static int datatype_place_once(void) {
+    const char *text = "datatypes d = \"u\" element a { xsd:string { maxLength = \"1\" } | xsd:byte \"7\" | attribute b { xsd:QName } | list { d:e } }";
+    rncv_fault place = {7, 7, 7, 7, 7};
+    int32_t status = rncv_datatype_place((const uint8_t *)text, strlen(text), RNCV_DATATYPES_XML_SCHEMA, &place);
+    CHECK(status == RNCV_MEMORY ? place.clause == 7 && place.file == 7 && place.column == 7 : status == RNCV_DONE);
+    CHECK(status == RNCV_MEMORY || (place.clause == 12 && place.file == 0 && place.offset == 113 && place.line == 1 && place.column == 114));
+    return status == RNCV_DONE;
+}
+
+/* The same for a file without one. */
+static int no_datatype_place_once(void) {
+    const char *text = "element a { xsd:string { maxLength = \"1\" } | xsd:byte \"7\" }";
+    rncv_fault place = {7, 7, 7, 7, 7};
+    int32_t status = rncv_datatype_place((const uint8_t *)text, strlen(text), RNCV_DATATYPES_XML_SCHEMA, &place);
+    CHECK(place.clause == 7 && place.column == 7 && (status == RNCV_MEMORY || status == RNCV_REFUSED));
+    return status == RNCV_REFUSED;
+}
+
 /* Refuses each growth of one call in turn. */
 static void each_growth_of(int (*once)(void)) {
     growth = 0;
@@ -189,6 +208,8 @@ int main(void) {
     each_growth_of(name_once);
     each_growth_of(mentions_once);
     each_growth_of(refusal_once);
+    each_growth_of(datatype_place_once);
+    each_growth_of(no_datatype_place_once);
     printf("growths: %ld\n", count);
     return outcome("memory");
 }

@@ -95,6 +95,8 @@ static void on_sets(void) {
     CHECK(rncv_compile_with(&good, 1, 2, &schema, &fault) == RNCV_MISUSE);
     CHECK(rncv_compile_with(&bad, 1, UINT32_MAX, &schema, &fault) == RNCV_MISUSE);
     CHECK(rncv_compile_with(NULL, 0, RNCV_DATATYPES_XML_SCHEMA, &schema, &fault) == RNCV_MISUSE);
+    CHECK(rncv_datatype_place(good.bytes, good.length, 2, &fault) == RNCV_MISUSE);
+    CHECK(rncv_datatype_place(NULL, 0, UINT32_MAX, &fault) == RNCV_MISUSE);
     CHECK(schema.hidden == NULL && fault.clause == 7 && fault.file == 7);
     CHECK(rncv_compile_with(&good, 1, RNCV_DATATYPES_XML_SCHEMA, &schema, &fault) == RNCV_DONE && schema.hidden != NULL);
     void *held = schema.hidden;

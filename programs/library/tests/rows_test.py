@@ -1,7 +1,7 @@
 """Rows of cases through the C library:   rows_test.py librncv.so
 
-For each row of crates/rncv_run_cases the library gives the answer in the row. The gate compares the program with the same answers. Documents are fed
-whole, and then in pieces of 4,096 bytes and of one byte, or of 97 if they are long.
+For each row of crates/rncv_run_cases, and of the places of datatypes in crates/schema_cases, the library gives the answer in the row. The gate compares the
+programs with the same answers. Documents are fed whole, and then in pieces of 4,096 bytes and of one byte, or of 97 if they are long.
 """
 
 import ctypes
@@ -12,20 +12,21 @@ import urllib.parse
 
 from library_test import BROKEN, DONE, INVALID, PROFILE, REFUSED, SPACE, XML_SCHEMA, Fault, Schema, Verdict, files_of, library, refused_name
 
-CASES = os.path.abspath(f"{os.path.dirname(__file__)}/../../../crates/rncv_run_cases")
+CRATES = os.path.abspath(f"{os.path.dirname(__file__)}/../../../crates")
+RUNS, SCHEMAS = "rncv_run_cases", "schema_cases"
 
 
-def rows(name):
+def rows(name, crate=RUNS):
     """The rows of a file of cases: the place of each, and its fields. The last field is `= ` and the answer, except in `schemas.txt`."""
-    with open(f"{CASES}/data/{name}", encoding="utf-8") as lines:
+    with open(f"{CRATES}/{crate}/data/{name}", encoding="utf-8") as lines:
         for number, line in enumerate(lines.read().split("\n"), 1):
             if line and not line.startswith("#"):
                 yield f"{name}:{number}", [urllib.parse.unquote_to_bytes(field) for field in line.split("\t")]
 
 
-def cases(name):
+def cases(name, crate=RUNS):
     """The rows of a file of cases: the place of each, its fields and its answer, as the program prints it."""
-    for place, (*fields, answer) in rows(name):
+    for place, (*fields, answer) in rows(name, crate):
         assert answer.startswith(b"= "), place
         yield place, fields, answer[2:].decode() + "\n"
 
@@ -100,6 +101,13 @@ class Program:
         self.lib.rncv_schema_free(schema)
         return letter
 
+    def datatype_place(self, datatypes, text):
+        """The line for the place where a file has the first datatype that breaks S12."""
+        fault = Fault()
+        status = self.lib.rncv_datatype_place(text, len(text), datatypes, fault)
+        assert status in (DONE, REFUSED), status
+        return "none\n" if status == REFUSED else f"{fault.offset} {fault.line}:{fault.column}\n"
+
 
 def runs():
     """The place, the command, the files, the document and the answer of each row of a run."""
@@ -130,13 +138,19 @@ def answers(program):
     yield from letters(program, [*rows("schemas.txt")])
     for place, (schema, document), answer in cases("datatypes.txt"):
         yield place, " ".join(program.word(datatypes, schema, document) for datatypes in (PROFILE, XML_SCHEMA)) + "\n", answer
+    for place, pieces, answer in cases("datatypes.txt", SCHEMAS):
+        yield place, "".join(program.datatype_place(datatypes, joined(pieces)) for datatypes in (PROFILE, XML_SCHEMA)), answer
+
+
+def counts_of(crate):
+    """How many rows of each file a program compares."""
+    with open(f"{CRATES}/{crate}/stdout", encoding="utf-8") as lines:
+        return {name: int(count) for name, count in re.findall(r"(\S+): (\d+) rows\n", lines.read())}
 
 
 def row_count():
-    """How many rows the program compares, without those of `devices.txt`."""
-    with open(f"{CASES}/stdout", encoding="utf-8") as lines:
-        counts = dict(re.findall(r"(\S+): (\d+) rows\n", lines.read()))
-    return sum(int(count) for name, count in counts.items() if name != "devices.txt")
+    """How many rows the programs compare that the library answers: all of the runs but those of `devices.txt`, and the places of datatypes."""
+    return sum(count for name, count in counts_of(RUNS).items() if name != "devices.txt") + counts_of(SCHEMAS)["datatypes.txt"]
 
 
 def main():

@@ -31,12 +31,12 @@ import threading
 import weakref
 from collections.abc import Callable, Generator, Iterable, Iterator, Mapping
 from types import TracebackType
-from typing import Any, BinaryIO, NoReturn, Optional, Type, Union, overload
+from typing import Any, BinaryIO, NamedTuple, NoReturn, Optional, Type, Union, overload
 
 from . import _schema_files, _xml
 from ._xml import XmlVerdict
 
-__all__ = ["Document", "LibraryError", "SchemaError", "Validator", "Verdict", "XmlVerdict", "clause_title", "compile", "mentions"]
+__all__ = ["Document", "LibraryError", "Place", "SchemaError", "Validator", "Verdict", "XmlVerdict", "clause_title", "compile", "datatype_place", "mentions"]
 __version__ = "0.9.0"
 
 Bytes = Union[bytes, bytearray, memoryview]
@@ -140,6 +140,14 @@ class Verdict:
         if self.kind == "malformed":
             return f"malformed P{self.clause} line {self.line}"
         return self.kind if self.valid else f"{self.kind} line {self.line}"
+
+
+class Place(NamedTuple):
+    """A place in a file: the offset in bytes from 0, and the line and the column from 1, in characters."""
+
+    offset: int
+    line: int
+    column: int
 
 
 class _Schema(ctypes.Structure):
@@ -473,6 +481,22 @@ def mentions(file: Bytes) -> list[str]:
     return [name.decode("utf-8") for name in _mentioned(_whole(file))]
 
 
+def datatype_place(file: Bytes, datatypes: str = "profile") -> Optional[Place]:
+    """Returns the place of the first datatype of a schema file that breaks S12, or None if the file has none. The place is that of the datatype's name.
+
+    `datatypes` is as in `compile`. All datatypes of the file count, also in components that an `include` of another file overrides, or that nothing refers to.
+    Other files do not, and a file that by itself breaks a clause, S3 to S8, has no place. The file may have any size.
+
+    ValueError: `datatypes` is no set. MemoryError: out of memory. LibraryError: there is no library.
+    """
+    number, text, place = _number_of(datatypes), _whole(file), _Fault()
+    status = _library().rncv_datatype_place(text, len(text), number, place)
+    if status == _REFUSED:
+        return None
+    _want_done(status)
+    return Place(place.offset, place.line, place.column)
+
+
 def clause_title(group: str, clause: int) -> Optional[str]:
     """Returns the title of a clause, in English: group "S" with 1 to 27, or group "P" with 1 to 13. None for any other."""
     if group not in ("S", "P") or not 0 < clause < 100:
@@ -763,6 +787,7 @@ def _typed(library: ctypes.CDLL) -> ctypes.CDLL:
         ("rncv_compile_with", [ctypes.POINTER(_File), size, ctypes.c_uint32, schema, ctypes.POINTER(_Fault)], status),
         ("rncv_refused_name", [ctypes.POINTER(_File), size, ctypes.c_char_p, size, ctypes.POINTER(size)], status),
         ("rncv_mentions", [ctypes.c_char_p, size, ctypes.c_char_p, size, ctypes.POINTER(size), ctypes.POINTER(_Fault)], status),
+        ("rncv_datatype_place", [ctypes.c_char_p, size, ctypes.c_uint32, ctypes.POINTER(_Fault)], status),
         ("rncv_schema_share", [schema, schema], status),
         ("rncv_schema_free", [schema], None),
         ("rncv_document_begin", [schema], status),

@@ -351,6 +351,25 @@ class Schemas(unittest.TestCase):
         for file in ('include "a.rnc"', None, [b"empty"]):
             self.assertRaises(TypeError, rncv.mentions, file)
 
+    def test_datatype_place(self):
+        text = "# é\r\nelement a { xsd:byte | xsd:none }".encode()
+        for file in (text, bytearray(text), memoryview(text)):
+            self.assertEqual(rncv.datatype_place(file), (18, 2, 13))
+            self.assertEqual(rncv.datatype_place(file, datatypes="xml-schema"), rncv.Place(offset=29, line=2, column=24))
+        self.assertEqual(rncv.datatype_place(b"element a { xsd:integer 'x' }", "profile").column, 13)
+        # none, and files that break a clause before
+        for file in (b"", b"element a { xsd:integer }", b"include 'b.rnc'", b"element a { xsd:none", b"element a:b { xsd:none }", b"xsd:none \xff", b"xsd:none \0"):
+            self.assertIsNone(rncv.datatype_place(file))
+        # a schema that is refused has one
+        larger = b"element a { xsd:unsignedByte }"
+        self.assertEqual(self.refused({"s.rnc": larger}).clause, 12)
+        self.assertEqual(rncv.datatype_place(larger), (12, 1, 13))
+        self.assertIsNone(rncv.datatype_place(larger, "xml-schema"))
+        for wrong in ("", "xsd", None, 1):
+            self.assertRaises(ValueError, rncv.datatype_place, text, wrong)
+        for file in ("xsd:none", None, [b"xsd:none"]):
+            self.assertRaises(TypeError, rncv.datatype_place, file)
+
     def test_titles(self):
         self.assertEqual(rncv.clause_title("P", 13), "a document has a root, and its elements are closed (XML 2.1)")
         for group, clause in [("S", 0), ("S", 28), ("P", 14), ("Q", 1), ("", 1), ("S", -1), ("S", 2 ** 40)]:

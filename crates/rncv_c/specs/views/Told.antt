@@ -1,9 +1,10 @@
--- What is reported to C of refused files, and of a document.
+-- What is reported to C of refused files, of datatypes, and of a document.
 use Rattle.std.specs.Prelude.{◌≡◌, ◌^◌, ℕ, ℤ, pos, negsuc, nat_lt, if◌then◌else◌, List, Option, Some, None, string_bytes}
 use Rattle.rng_model.specs.declared.fault.SchemaFault.{SchemaFault}
 use Rattle.rng_model.specs.declared.fault.SchemaFault.TheVariants as faults
 use Rattle.rng_model.specs.declared.type_set.TypeSet.{TypeSet}
 use Rattle.rnc_model.specs.declared.file_place.FilePlace.{FilePlace}
+use Rattle.rnc_model.specs.loading.DatatypePlaces.{BreaksDatatypeAt}
 use Rattle.rnc_model.specs.loading.FaultPlaces.{BreaksClauseAt}
 use Rattle.rnc_model.specs.loading.Loading.{FilesHaveOnlyVerdict, file_breaks}
 use Rattle.rnc_model.specs.loading.SchemaFile.{BreaksFileClause, FileName}
@@ -60,6 +61,12 @@ pub record AreRefusedWith (types : TypeSet) (files : List SchemaFile) (told : Re
 -- in load order the file of this name is the first that breaks a clause by itself, whether or not it was handed in
 abbrev pub IsRefusedName : List SchemaFile → FileName → Type 0
 IsRefusedName files name = (clause : ℕ) × FilesHaveOnlyVerdict (files_of files) (main_of files) (file_breaks name clause)
+
+-- the file breaks no clause by itself, this is reported of it, and the place is that of its first datatype that breaks clause 12
+pub record IsPlaceOfDatatype (types : TypeSet) (file : List ℕ) (told : Refusal) : Type 0 where
+  pub place : FilePlace
+  pub at : BreaksDatatypeAt types file place
+  pub told_is : told ≡ refusal_at (pos 0) 12 (Some place)
 
 -- a verdict in numbers: 0 for valid, 1 for invalid, 2 for malformed
 abbrev pub judgement_of : Verdict → Judgement
