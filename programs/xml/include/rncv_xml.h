@@ -151,7 +151,8 @@ typedef void (*rncv_xml_read)(rncv_xml_piece *piece);
 int32_t rncv_xml_files_find(const char *path, const rncv_xml_mapping *mappings, size_t count, rncv_xml_files *files, rncv_xml_fault *fault);
 
 /* Says in words and paths why rncv_compile refuses the files, with the place. If the clause has no place of its own, the place is that of a hint, if there is
- * one, and the message ends in `: hint: ` and the hint's text. What `fault` held is freed. RNCV_MEMORY: out of memory. */
+ * one, and the message ends in `: hint: ` and the hint's text. If there is no hint about S12, it is what rncv_datatype_place reports of the first file that has
+ * such a datatype. What `fault` held is freed. RNCV_MEMORY: out of memory. */
 int32_t rncv_xml_files_explain(const rncv_xml_files *files, const rncv_fault *refused, rncv_xml_fault *fault);
 
 /* Writes blanks over annotations in a file of a schema, in place: those that the compact syntax has and rncv_compile refuses, which are annotation elements

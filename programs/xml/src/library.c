@@ -4,6 +4,7 @@
 #include "judging.h"
 #include "paths.h"
 #include "schema_annotations.h"
+#include "schema_datatypes.h"
 #include "schema_files.h"
 #include "schema_hints.h"
 #include "schema_ids.h"
@@ -348,12 +349,13 @@ static void add_annotation_hint(const rncv_xml_files *files, uint64_t file, cons
     }
 }
 
-/* Says where the file is refused, or else where a hint is. */
+/* Says where the file is refused, or else where a hint is, or else where a datatype breaks S12. */
 static void explain_place(const rncv_xml_files *files, const rncv_fault *refused, uint32_t datatypes, rncv_xml_fault *fault, struct bytes *message) {
     struct schema_files *read = &((struct found *)files->hidden)->files;
     bool is_known = refused->file >= 0 && (uint64_t)refused->file < read->count;
     struct bytes path = NO_BYTES;
     rncv_xml_hint hint = {.line = 0};
+    struct datatype_place broken;
     uint64_t file = is_known ? (uint64_t)refused->file : 0;
     if (refused->line > 0) {
         int64_t column = schema_files_column(read, refused);
@@ -374,6 +376,10 @@ static void explain_place(const rncv_xml_files *files, const rncv_fault *refused
         file = hint.file;
         fault->line = hint.line;
         fault->column = hint.column;
+    } else if (refused->clause == 12 && schema_datatypes_find(read, datatypes, &broken)) {
+        file = broken.file;
+        fault->line = broken.place.line;
+        fault->column = broken.place.column;
     }
     bytes_add_text(&path, bytes_text(&read->list[file].path));
     fault->path = taken(&path);

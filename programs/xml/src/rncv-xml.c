@@ -1,6 +1,7 @@
 /* rncv-xml: judges XML documents by a RELAX NG schema. */
 #include "jobs.h"
 #include "schema_context.h"
+#include "schema_datatypes.h"
 #include "schema_hints.h"
 #include "schema_ids.h"
 
@@ -62,6 +63,15 @@ static void add_hint(struct bytes *message, struct schema_files *files, uint32_t
     free(list);
 }
 
+/* Takes the place of a datatype that breaks S12 from the library, which has no words about it. */
+static void find_datatype(struct schema_files *files, uint32_t datatypes, struct schema_fault *found) {
+    struct datatype_place broken;
+    if (schema_datatypes_find(files, datatypes, &broken)) {
+        found->path = bytes_text(&files->list[broken.file].path);
+        found->place = broken.place;
+    }
+}
+
 /* Reports which clause the schema breaks, where, and where the clause is explained. */
 static void report_refusal(struct report *report, struct schema_files *files, const rncv_fault *fault) {
     struct bytes message = NO_BYTES;
@@ -84,6 +94,9 @@ static void report_refusal(struct report *report, struct schema_files *files, co
         bytes_add_text(&message, is_sought ? "" : ", and nothing is fetched (--map HREF=FILE)");
     }
     add_hint(&message, files, report->options->datatypes, &found);
+    if (found.clause == 12 && found.place.line == 0) {
+        find_datatype(files, report->options->datatypes, &found);
+    }
     bytes_format(&message, ", %s", page);
     report_message(report, &found, &message);
     bytes_free(&message);

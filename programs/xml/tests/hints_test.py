@@ -219,6 +219,27 @@ SILENT = [("S17", "element a { empty" + " | text" * 1000 + " }"),
           ("S16", "start = x0\n" + "".join(f"x{number} = x{number + 1}\n" for number in range(9000)) + "x9000 = x0\n")]
 
 
+def deep(inside):
+    """Components in 110 divs. In four files in one another they are deeper than the search for a hint goes."""
+    return "div { " * 110 + inside + " }" * 110
+
+
+DEEP = {"s.rnc": "start = element a { x }\n" + deep('include "b.rnc"'), "b.rnc": deep('include "c.rnc"'), "c.rnc": deep('include "d.rnc"')}
+# What the innermost file of these has, and where the library finds the datatype. There are no words about it.
+WITHOUT_WORDS = [
+    ("a datatype that is not served", {"d.rnc": deep("x = text | xsd:date")}, "d.rnc:1:672"),
+    ("a parameter: the place is that of the datatype", {"d.rnc": deep('x = xsd:byte { maxInclusive = "128" }')}, "d.rnc:1:665"),
+    ("a value", {"d.rnc": deep('\r\nx = "a" | xsd:integer "\u00e9"')}, "d.rnc:2:11"),
+    ("a file that is mentioned last, and the others before it", {
+        "d.rnc": deep('x = e | f include "e.rnc" f = external "f.rnc"'), "e.rnc": "e = xsd:byte\nunused = \\x{78}sd:date", "f.rnc": "xsd:float"}, "e.rnc:2:10"),
+    ("a column after an annotation that is not handed in", {
+        "d.rnc": 'namespace n = "u"\n' + deep('n:\u00e9 [ "\u00e9" ] x = xsd:date')}, "d.rnc:2:677"),
+    ("a file in the XML syntax", {
+        "d.rnc": deep('include "e.rng"'), "e.rng": '<grammar xmlns="http://relaxng.org/ns/structure/1.0" datatypeLibrary='
+        '"http://www.w3.org/2001/XMLSchema-datatypes">\n<define name="x">\n  <data type="date"/></define></grammar>'}, "e.rng:3:3"),
+]
+
+
 class Hints(InFolder):
     """What `rncv-xml` says about a schema."""
 
@@ -297,6 +318,19 @@ class Hints(InFolder):
     def test_nothing_is_said_rather_than_something_wrong(self):
         for clause, schema in SILENT:
             self.assertEqual(self.hinted({"s.rnc": schema}), ("s.rnc", clause, ""))
+
+    def test_the_library_has_the_place_of_a_datatype(self):
+        for name, files, place in WITHOUT_WORDS:
+            with self.subTest(name):
+                self.assertEqual(self.hinted({**DEEP, **files}), (place, "S12", ""))
+        files = {**DEEP, "d.rnc": deep("x = xsd:byte")}
+        self.assertEqual(self.hinted(files, "--datatypes", "profile"), ("d.rnc:1:665", "S12", ""))
+        self.assertEqual(self.run_in(RNCV_XML, "s.rnc")[::2], ("", 0))
+        # a file that is given, and that none mentions, is not looked at
+        self.write("other.rnc", "x = xsd:date")
+        out, _, status = self.run_in(RNCV_XML, "--datatypes", "profile", "s.rnc", "other.rnc", "--")
+        self.assertRegex(out, r"^d\.rnc:1:665: S12 ")
+        self.assertEqual(status, 3)
 
     def test_faults_with_a_place_have_no_hint(self):
         self.assertEqual(self.hinted({"s.rnc": "element a { |"})[1:], ("S6", ""))

@@ -314,6 +314,34 @@ static void ids(rncv_xml_judge *judge) {
     judge_row(judge, &rows[0]);
 }
 
+/* Writes a file of components that are in 110 divs. */
+static void write_deep_file(const char *name, const char *first, const char *inside) {
+    char text[2000];
+    strcpy(text, first);
+    for (int at = 0; at < 110; at++) {
+        strcat(text, "div { ");
+    }
+    strcat(text, inside);
+    for (int at = 0; at < 110; at++) {
+        strcat(text, " }");
+    }
+    write_file(name, text);
+}
+
+/* Without a hint about S12 the library has the place. The search for a hint does not go so deep. */
+static void places_of_datatypes(rncv_xml_judge *judge) {
+    rncv_xml_fault fault = RNCV_XML_NO_FAULT;
+    write_deep_file("deep.rnc", "start = element a { x }\n", "include 'b.rnc'");
+    write_deep_file("b.rnc", "", "include 'c.rnc'");
+    write_deep_file("c.rnc", "", "include 'd.rnc'");
+    write_deep_file("d.rnc", "\n", "x = text | xsd:byte { maxInclusive = '128' }");
+    CHECK(rncv_xml_judge_open_with("deep.rnc", NULL, 0, RNCV_DATATYPES_XML_SCHEMA, judge, &fault) == RNCV_REFUSED && fault.clause == 12);
+    CHECK(fault.line == 2 && fault.column == 672 && strcmp(fault.path, "d.rnc") == 0 && begins(fault.message, "S12 "));
+    CHECK(strstr(fault.message, "hint") == NULL && fault.missing == NULL);
+    judge_row(judge, &rows[0]);
+    rncv_xml_fault_free(&fault);
+}
+
 /* The sets of datatypes: schemas, hints, and numbers that are no set. */
 static void sets(rncv_xml_judge *judge) {
     static const char larger[] = "element a { attribute b { xsd:positiveInteger }, (xsd:Name | empty) }";
@@ -589,6 +617,7 @@ int main(int count, char **words) {
     files_by_hand();
     refused_schemas(&judge);
     hints(&judge);
+    places_of_datatypes(&judge);
     ids(&judge);
     sets(&judge);
     annotations(&judge);
