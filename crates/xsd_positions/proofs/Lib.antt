@@ -1,0 +1,9 @@
+pub mod Steps
+pub mod WrittenOut
+pub mod Trees
+pub mod TreeSizes
+pub mod DraftRows
+pub mod LinkedRows
+pub mod PlacedRows
+pub mod PositionStates
+pub mod Wholes
