@@ -27,7 +27,7 @@ ODD = ("\t\n\r !\"#$%&'()*+,-./09:;<=>?@AZ[\\]^_`az{|}~\x80\xa0\xaa\xb2\xb5\xb7\
        "\ufb01\ufffd\U00010330\U0001d400\U00020000")
 REASONS = {
     "names": "`\\i` and `\\c` are those of XML 1.0, Fifth Edition. jing has those of the Second",
-    "categories": "jing has the categories of Java's `Character`, with exceptions",
+    "properties": "jing has the categories and the blocks of Java, with exceptions",
 }
 
 
@@ -118,7 +118,7 @@ def reason(pattern, text):
     if is_odd and any(f"\\{letter}" in pattern for letter in "iIcC"):
         return "names"
     if is_odd and any(f"\\{letter}" in pattern for letter in "pPwWdD"):
-        return "categories"
+        return "properties"
     return "?"
 
 
