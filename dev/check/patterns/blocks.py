@@ -3,9 +3,9 @@
 
     dev/check/patterns/blocks.py
 
-These are those of Python's `elementpath` (package python3-elementpath), which are for XML Schema 1.0 too; Unicode's `Blocks.txt` (package unicode-data), which is
-of a later version, with the blanks in its names left out; and jing's, which is asked whether the characters at the ends of each range are in the block, and those
-beside them. What differs for a reason is in a table here, and counted. The status is 1 if anything else differs, or if something of that table does not.
+These are those of Python's `elementpath` (package python3-elementpath), which are for XML Schema 1.0 too; Unicode's `Blocks.txt` (package unicode-data), which
+is of a later version, with the blanks in its names left out; and jing's, which is asked whether the characters at the ends of each range are in the block, and
+those beside them. What differs for a reason is in a table here, and counted. The status is 1 if anything else differs, or if something of that table does not.
 """
 import ast
 import importlib.util

@@ -1,11 +1,11 @@
-"""A second opinion on the facet `pattern`: a reader of the expressions of XML Schema Part 2 (Second Edition, appendix F), and a matcher. Nothing here is proved.
+"""A second opinion on the facet `pattern`: a reader of the expressions of XML Schema Part 2 (Second Edition, appendix F), and a matcher. Nothing is proved.
 
 The reader goes over the characters once, with a stack, and says which production an expression breaks. The matcher keeps the set of what may be left of the
 expression (partial derivatives), so it never goes back. Counts are not unrolled.
 
 Where the appendix leaves room, this is what the project takes. Normal characters are those of production 10 without `{` and `}`, as the text before it says. A
-block that is not in the table is no block. `\\i` and `\\c` are those of XML 1.0, Fifth Edition. Categories are those of Python's `unicodedata`: callers who want
-an answer that lasts ask `is_lasting` of the characters.
+block that is not in the table is no block. `\\i` and `\\c` are those of XML 1.0, Fifth Edition. Categories are those of Python's `unicodedata`: callers who
+want an answer that lasts ask `is_lasting` of the characters.
 """
 import bisect
 import functools

@@ -5,8 +5,8 @@
 
 A word that is no folder is a package, which is fetched and unpacked as `dev/search/shipped/run.py` does it, and removed at the end. Without words these are the
 fourteen packages of docs/perf/shipped.md, and three that have many expressions. Each `.rnc` and `.rng` file is read by itself. In the compact syntax an
-expression is the parameter `pattern` behind the name of a datatype: literals with `~` between them are one, and escapes `\\x{..}` are read. In the XML syntax it
-is the text of an element `param`. A file that cannot be read is named.
+expression is the parameter `pattern` behind the name of a datatype: literals with `~` between them are one, and escapes `\\x{..}` are read. In the XML syntax
+it is the text of an element `param`. A file that cannot be read is named.
 """
 import argparse
 import collections
@@ -14,6 +14,7 @@ import os
 import pathlib
 import sys
 import tempfile
+import textwrap
 import xml.etree.ElementTree
 
 HERE = pathlib.Path(__file__).resolve().parent
@@ -78,7 +79,8 @@ def main():
             for path in schemas_of(word if os.path.isdir(word) else unpacked(word, pathlib.Path(room))):
                 for text in patterns_of(path):
                     files[text].add(path)
-    head = [f"{len(files)} different expressions of the facet `pattern`, in the schemas of these packages of Debian: {' '.join(given.folders)}",
+    head = [f"{len(files)} different expressions of the facet `pattern`, in the schemas of these packages of Debian (bookworm):",
+            *textwrap.wrap(" ".join(given.folders), 150, break_on_hyphens=False),
             "real.py makes this file, and rows.py says how a field is written: the number of files that have the expression, and the expression"]
     write_rows(HERE / "real.txt", head, sorted(([str(len(paths)), text] for text, paths in files.items()), key=lambda row: row[1]))
     print(f"real.txt: {len(files)} expressions of {len(set().union(*files.values()))} files")

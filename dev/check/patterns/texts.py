@@ -3,9 +3,9 @@
 
     dev/check/patterns/texts.py
 
-The texts are walks over the expression, and these with one edit: a character taken away, put in, exchanged for one near it, or said twice. The seed is fixed, and
-each expression has its own, so that a new one changes no other row. The verdict is that of `expressions.py`. Beside it is jing's, where they differ with a word
-for the reason. Characters that have changed their category since Unicode 3.2 are left out. Without jing nothing is written.
+The texts are walks over the expression, and these with one edit: a character taken away, put in, exchanged for one near it, or said twice. The seed is fixed,
+and each expression has its own, so that a new one changes no other row. The verdict is that of `expressions.py`. Beside it is jing's, where they differ with a
+word for the reason. Characters that have changed their category since Unicode 3.2 are left out. Without jing nothing is written.
 """
 import pathlib
 import random
@@ -135,7 +135,7 @@ def main():
     for pattern, text, verdict in rows:
         ours, theirs = "valid" if verdict else "invalid", told.get((pattern, text), "refused")
         lines.append([pattern, text, ours, theirs, *([reason(pattern, text)] if theirs not in (ours, "refused") else [])])
-    head = ["an expression, a text, whether it matches the text, what jing 20220510 says (refused: it takes the expression for none), and why it says otherwise:",
+    head = ["an expression, a text, whether it matches the text, what jing 20220510 says (refused: it takes the expression for none), and why it differs:",
             *(f"{word}: {what}" for word, what in REASONS.items()), "texts.py makes this file, and rows.py says how a field is written"]
     write_rows(HERE / "texts.tsv", head, lines)
     unknown = [line for line in lines if line[-1] == "?"]
