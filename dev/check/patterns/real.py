@@ -21,7 +21,7 @@ HERE = pathlib.Path(__file__).resolve().parent
 TOP = HERE.parents[2]
 sys.path[:0] = [str(TOP / "programs/profile"), str(TOP / "dev/search/shipped")]
 from compact_tokens import NoToken, decoded, tokens  # noqa: E402  (the folder is known only here)
-from rows import write_rows  # noqa: E402
+from rows import HOW, write_rows  # noqa: E402
 from run import schemas_of, unpacked  # noqa: E402
 
 PACKAGES = ("apertium biber dblatex docbook-xsl-ns docbook5-xml emacs-common epubcheck jing-trang-doc kiwi lttoolbox-dev opendnssec-common tryton-server "
@@ -81,7 +81,7 @@ def main():
                     files[text].add(path)
     head = [f"{len(files)} different expressions of the facet `pattern`, in the schemas of these packages of Debian (bookworm):",
             *textwrap.wrap(" ".join(given.folders), 150, break_on_hyphens=False),
-            "real.py makes this file, and rows.py says how a field is written: the number of files that have the expression, and the expression"]
+            f"the number of files that have the expression, and the expression. real.py makes this file. {HOW}"]
     write_rows(HERE / "real.txt", head, sorted(([str(len(paths)), text] for text, paths in files.items()), key=lambda row: row[1]))
     print(f"real.txt: {len(files)} expressions of {len(set().union(*files.values()))} files")
 

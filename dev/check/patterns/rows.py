@@ -7,6 +7,7 @@ import pathlib
 import re
 import urllib.parse
 
+HOW = "In a field `%` with two hexadecimal digits is a byte of UTF-8 (rows.py)."
 WRITTEN = re.compile(r"[^ -~]|%|^[ #]| $", re.S)
 
 

@@ -13,7 +13,7 @@ import sys
 
 from expressions import LAST, holds, is_lasting, matches, parsed
 from judges import Jing
-from rows import rows_of, write_rows
+from rows import HOW, rows_of, write_rows
 
 HERE = pathlib.Path(__file__).resolve().parent
 SEED = "patterns 1"
@@ -26,7 +26,7 @@ USUAL = tuple((ord(low), ord(high)) for low, high in ("az", "AZ", "09", "--", "_
 ODD = ("\t\n\r !\"#$%&'()*+,-./09:;<=>?@AZ[\\]^_`az{|}~\x80\xa0\xaa\xb2\xb5\xb7\xd7\xe9\u0130\u0301\u0660\u0950\u0e33\u2028\u2160\u3007\u4e00\uac00\uf8ff"
        "\ufb01\ufffd\U00010330\U0001d400\U00020000")
 REASONS = {
-    "names": "`\\i` and `\\c` are those of XML 1.0, Fifth Edition. jing has those of the Second",
+    "names": "`\\i` and `\\c` are those of XML 1.0, Fifth Edition. jing has those of the editions before",
     "properties": "jing has the categories and the blocks of Java, with exceptions",
 }
 
@@ -136,7 +136,7 @@ def main():
         ours, theirs = "valid" if verdict else "invalid", told.get((pattern, text), "refused")
         lines.append([pattern, text, ours, theirs, *([reason(pattern, text)] if theirs not in (ours, "refused") else [])])
     head = ["an expression, a text, whether it matches the text, what jing 20220510 says (refused: it takes the expression for none), and why it differs:",
-            *(f"{word}: {what}" for word, what in REASONS.items()), "texts.py makes this file, and rows.py says how a field is written"]
+            *(f"{word}: {what}" for word, what in REASONS.items()), f"texts.py makes this file. {HOW}"]
     write_rows(HERE / "texts.tsv", head, lines)
     unknown = [line for line in lines if line[-1] == "?"]
     for line in unknown:
