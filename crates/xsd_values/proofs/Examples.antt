@@ -1,0 +1,8 @@
+-- Worked cases, by type.
+mod Tables
+mod Decimals
+mod Floats
+mod Octets
+mod Moments
+mod Durations
+mod Uris

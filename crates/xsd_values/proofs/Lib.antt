@@ -1,0 +1,9 @@
+mod Examples
+pub mod MatchedUris
+pub mod CalendarLaws
+pub mod ZoneLaws
+pub mod IntegerLimits
+pub mod CanonicalDecimals
+pub mod DigitLaws
+pub mod SameValues
+pub mod OrderLaws
