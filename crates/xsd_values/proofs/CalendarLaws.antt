@@ -1,5 +1,5 @@
 -- The calendar is one: years and months follow one another without a gap.
-use Rattle.std.proofs.Common.{◌≡◌, ◌≤◌, ◌<◌, ℕ, zero, suc, ◌+◌, ◌-◌, ◌*◌, ◌/◌, ◌%◌, Bool, true, false, refl, sym, ap, ◌∙◌, arith, not, ◌&&◌, ◌||◌, ◌==◌, cond}
+use Rattle.std.proofs.Common.{◌≡◌, ◌≤◌, ℕ, suc, ◌+◌, ◌-◌, ◌%◌, Bool, true, false, refl, ap, ◌∙◌, arith, not, ◌&&◌, ◌||◌, ◌==◌, cond}
 use Rattle.std.proofs.lemmas.Bool.{eqb-true, eqb-false}
 use Rattle.std.proofs.lemmas.Bool.Decides.{nat_tests}
 use Rattle.xsd_values.specs.Calendar.{year_numbered, is_leap, days_in_year, multiples_below, days_before_year, days_in_month, days_of_months, days_before}

@@ -1,7 +1,7 @@
 -- A decimal is written in one way: two that are canonical and denote the same number are the same, and the value of a text is
 -- canonical.
 use Rattle.std.proofs.Common.{◌≡◌, ◌≢◌, ◌⊎◌, inl, inr, ◌≤◌, ◌<◌, ℕ, zero, suc, ◌+◌, ◌-◌, ◌*◌, ◌%◌, ◌^◌, Bool, true, false, refl, sym, ap, ap₂, ◌∙◌, arith, rules}
-use Rattle.std.proofs.Common.{ℤ, pos, negsuc, neg_ℤ, ◌*ℤ◌, nat_abs, List, [], ◌∷◌, ◌++◌, length, Option, Some, None, subst, cond, ◌&&◌, append_assoc}
+use Rattle.std.proofs.Common.{ℤ, pos, negsuc, neg_ℤ, ◌*ℤ◌, nat_abs, List, [], ◌∷◌, ◌++◌, length, Some, None, subst, cond, ◌&&◌, append_assoc}
 use Rattle.std.proofs.Common.{pow-suc, pow-add, mul_assoc, mul_comm}
 use Rattle.std.proofs.Math.Nat.{one-le-pow, eq_of_mul-eq-mul_right}
 use Rattle.std.proofs.lemmas.Bool.{false≢true, cases_lt, and_parts}
@@ -16,13 +16,14 @@ use Rattle.xsd_values.specs.Decimals.{Decimal, IsCanonical, scaled, is_point, is
 
 -- ---- integers times a power of 10
 
-abs_negative : (n : ℕ) → nat_abs (neg_ℤ (pos n)) ≡ n
-abs_negative zero = refl
-abs_negative (suc n) = refl
+abs_negated : (a : ℤ) → nat_abs (neg_ℤ a) ≡ nat_abs a
+abs_negated (pos zero) = refl
+abs_negated (pos (suc n)) = refl
+abs_negated (negsuc n) = refl
 
 pub abs_times : (a : ℤ) (n : ℕ) → nat_abs (a *ℤ pos n) ≡ nat_abs a * n
 abs_times (pos m) n = refl
-abs_times (negsuc m) n = abs_negative (suc m * n)
+abs_times (negsuc m) n = abs_negated (pos (suc m * n))
 
 pub ten_pow : (n : ℕ) → 0 < 10 ^ n
 ten_pow n = one-le-pow n 10 (omega arith)
@@ -70,7 +71,7 @@ cancelled (pos m) (pos n) t h e = ap pos (eq_of_mul-eq-mul_right t h m n (ap nat
 cancelled (pos m) (negsuc n) t h e = absurd (unlike (m * t) n t h e)
 cancelled (negsuc m) (pos n) t h e = absurd (unlike (n * t) m t h (sym e))
 cancelled (negsuc m) (negsuc n) t h e =
-    let same : suc m ≡ suc n = eq_of_mul-eq-mul_right t h (suc m) (suc n) (sym (abs_negative (suc m * t)) ∙ (ap nat_abs e ∙ abs_negative (suc n * t))) in
+    let same : suc m ≡ suc n = eq_of_mul-eq-mul_right t h (suc m) (suc n) (sym (abs_negated (pos (suc m * t))) ∙ (ap nat_abs e ∙ abs_negated (pos (suc n * t)))) in
     ap negsuc (omega (arith, same))
 
 abbrev made : ℤ → ℕ → Decimal
@@ -79,7 +80,7 @@ made units places = record { units = units; places = places }
 pub one_decimal : (a b : Decimal) → IsCanonical a → IsCanonical b → scaled a b ≡ scaled b a → a ≡ b
 one_decimal a b is_a is_b e =
     let sizes : nat_abs a.units * 10 ^ b.places ≡ nat_abs b.units * 10 ^ a.places =
-          sym (abs_times a.units (10 ^ b.places)) ∙ (ap nat_abs e ∙ abs_times b.units (10 ^ a.places)) in
+    sym (abs_times a.units (10 ^ b.places)) ∙ (ap nat_abs e ∙ abs_times b.units (10 ^ a.places)) in
     let at_most : b.places ≤ a.places = no_more_places (nat_abs a.units) (nat_abs b.units) a.places b.places sizes is_b in
     let at_least : a.places ≤ b.places = no_more_places (nat_abs b.units) (nat_abs a.units) b.places a.places (sym sizes) is_a in
     let places : a.places ≡ b.places = omega (arith, at_most, at_least) in
@@ -112,8 +113,13 @@ ends_step : (d : ℕ) (ds : List ℕ) (b : Bool) → list_all is_zero_digit (d �
     → (cond b [] (d ∷ significant ds) ≡ []) ⊎ EndsIn (cond b [] (d ∷ significant ds))
 ends_step d ds true e digit rest = inl refl
 ends_step d ds false e digit (inl none) =
-    inr (record { front = []; last = d; is = ap (λ x. d ∷ x) none; digit = digit;
-      nonzero = first_fails (is_zero_digit d) (list_all is_zero_digit ds) e (none_significant ds none) })
+    inr (record {
+      front = [];
+      last = d;
+      is = ap (λ x. d ∷ x) none;
+      digit = digit;
+      nonzero = first_fails (is_zero_digit d) (list_all is_zero_digit ds) e (none_significant ds none);
+    })
 ends_step d ds false e digit (inr w) =
     inr (record { front = d ∷ w.front; last = w.last; is = ap (λ x. d ∷ x) w.is; digit = w.digit; nonzero = w.nonzero })
 
@@ -130,7 +136,7 @@ last_digit : (v d n : ℕ) → n ≡ v * 10 + d → 0 < d → d < 10 → n % 10 
 last_digit v d n e low high f = omega (arith, e, low, high, f)
 
 abs_signed : (minus : Bool) (n : ℕ) → nat_abs (signed minus n) ≡ n
-abs_signed true n = abs_negative n
+abs_signed true n = abs_negated (pos n)
 abs_signed false n = refl
 
 made_canonical : (minus : Bool) (whole fraction : List ℕ) → list_all is_ascii_digit fraction ≡ true → IsCanonical (decimal_with minus whole fraction)
@@ -138,6 +144,7 @@ made_canonical minus whole fraction digits h = elim (ends_in fraction digits) [ 
   where
     empty : significant fraction ≡ [] → ⊥
     empty none = omega (arith, h, ap length none)
+
     ends : EndsIn (significant fraction) → nat_abs (signed minus (digits_value 10 (whole ++ significant fraction))) % 10 ≢ 0
     ends w =
         let parts : whole ++ significant fraction ≡ (whole ++ w.front) ++ w.last ∷ [] = ap (λ x. whole ++ x) w.is ∙ sym (append_assoc whole w.front (w.last ∷ [])) in

@@ -3,7 +3,7 @@ use Rattle.std.proofs.Common.{◌≡◌, ℕ, List, Bool, true, false, Option, S
 use Rattle.std.specs.Option.{option_map}
 use Rattle.rng_model.specs.xsd.Numbers.{digit_count_of}
 use Rattle.rng_model.specs.datatypes.Facets.{Bounds, passes, Parameter}
-use Rattle.rng_model.specs.xsd.Facets.{NumberFacets, has_digits, is_within_facets, written, written_facets}
+use Rattle.rng_model.specs.xsd.Facets.{has_digits, is_within_facets, written, written_facets}
 use Rattle.xsd_values.specs.Limits.{Limits, limits_of, is_within_limits, written_limits}
 use Rattle.xsd_values.specs.Integers.{integers, total_facet, with_total, written_number_facets}
 

@@ -1,11 +1,10 @@
 -- The orders of moments and of durations are partial orders, and decimals are in one line (XML Schema Part 2, Second Edition,
 -- section 4.2.2).
-use Rattle.std.proofs.Common.{◌≡◌, ◌<◌, ℕ, ◌+◌, ◌*◌, List, [], ◌∷◌, length, Bool, true, false, refl, arith, rules, nat_lt, nat_le, not, ◌&&◌, cond, ℤ, pos, negsuc, int_lt, int_le}
+use Rattle.std.proofs.Common.{◌≡◌, ◌<◌, ℕ, ◌+◌, ◌*◌, List, [], ◌∷◌, length, Bool, true, false, refl, arith, nat_lt, nat_le, not, cond, ℤ, pos, negsuc, int_lt, int_le}
 use Rattle.std.specs.Bool.{beq}
 use Rattle.std.specs.List.{list_all}
-use Rattle.std.proofs.lemmas.Bool.{and_parts, and_from, ltb-true, lt-ltb, le-ltb}
+use Rattle.std.proofs.lemmas.Bool.{and_parts, and_from, and_left, ltb-true, lt-ltb, le-ltb}
 use Rattle.std.proofs.lemmas.Bool.Decides.{nat_tests}
-use Rattle.xsd_values.specs.Limits.{Ordered}
 use Rattle.xsd_values.specs.Calendar.{hour}
 use Rattle.xsd_values.specs.Decimals.{Decimal, scaled, decimals}
 use Rattle.xsd_values.specs.Zones.{Moment, is_before}
@@ -54,13 +53,9 @@ all_chain (k ∷ ks) f g h p q =
     let second = and_parts (nat_lt (g k) (h k)) (list_all (λ k. nat_lt (g k) (h k)) ks) q in
     and_from (nat_lt (f k) (h k)) (list_all (λ k. nat_lt (f k) (h k)) ks) (chain (f k) (g k) (h k) first.0 second.0) (all_chain ks f g h first.1 second.1)
 
-first_fails : (a b : Bool) → a ≡ false → (a && b) ≡ false
-first_fails true b e = search rules
-first_fails false b e = refl
-
 fails_on : (ks : List ℕ) (f : ℕ → ℕ) → 0 < length ks → list_all (λ k. nat_lt (f k) (f k)) ks ≡ false
 fails_on [] f h = absurd (omega (arith, h))
-fails_on (k ∷ ks) f h = first_fails (nat_lt (f k) (f k)) (list_all (λ k. nat_lt (f k) (f k)) ks) (self (f k))
+fails_on (k ∷ ks) f h = and_left (nat_lt (f k) (f k)) (list_all (λ k. nat_lt (f k) (f k)) ks) (self (f k))
 
 pub not_less_than_itself : (a : Duration) → is_less a a ≡ false
 not_less_than_itself a = fails_on four_months (λ k. added_to k a) (omega arith)

@@ -1,6 +1,6 @@
 -- Values pass the test exactly if they are the same.
-use Rattle.std.proofs.Common.{◌≡◌, ℕ, List, Bool, true, false, ℤ, refl, ap, ap₂, ◌∙◌, ◌==◌, ◌&&◌, rules, Float}
-use Rattle.std.specs.Bool.{beq}
+use Rattle.std.proofs.Common.{◌≡◌, ℕ, Bool, true, false, ℤ, refl, sym, ap, ap₂, ◌∙◌, ◌==◌, ◌&&◌, rules, Float}
+use Rattle.std.specs.Bool.{beq, Decides}
 use Rattle.std.specs.Ordering.{int_eq}
 use Rattle.std.specs.Float.{nan, inf, fin}
 use Rattle.std.proofs.lemmas.Bool.{and_parts, and_from}
@@ -10,17 +10,13 @@ use Rattle.xsd_values.specs.Decimals.{Decimal, same_decimal}
 use Rattle.xsd_values.specs.Floats.{same_float}
 use Rattle.xsd_values.specs.Zones.{Moment, same_moment}
 use Rattle.xsd_values.specs.Durations.{Duration, same_date_part, same_time_part, same_duration}
-use Rattle.xsd_values.specs.Values.{Value, text, decimal, float, moment, duration, same_value}
+use Rattle.xsd_values.specs.Values.{Value, text, decimal, float, moment, duration, have_same_value}
 
-same_truth : (a b : Bool) → beq a b ≡ true → a ≡ b
-same_truth true true e = refl
-same_truth true false e = search rules
-same_truth false true e = search rules
-same_truth false false e = refl
-
-truth_self : (a : Bool) → beq a a ≡ true
-truth_self true = refl
-truth_self false = refl
+truth_decides : (a b : Bool) → Decides (beq a b) (a ≡ b)
+truth_decides true true = (λ e. refl, λ e. refl)
+truth_decides true false = (λ e. sym e, λ e. sym e)
+truth_decides false true = (λ e. e, λ e. e)
+truth_decides false false = (λ e. refl, λ e. refl)
 
 -- ---- decimals
 
@@ -38,7 +34,7 @@ finite : (s t : Bool) (m n : ℕ) (e d : ℤ) → (beq s t && ((m == n) && int_e
 finite s t m n e d p =
     let sign = and_parts (beq s t) ((m == n) && int_eq e d) p in
     let rest = and_parts (m == n) (int_eq e d) sign.1 in
-    let same_sign : s ≡ t = same_truth s t sign.0 in
+    let same_sign : s ≡ t = (truth_decides s t).0 sign.0 in
     let same_m : m ≡ n = (Decides-eqb m n).0 rest.0 in
     let same_e : e ≡ d = (Decides-int_eq e d).0 rest.1 in
     cc
@@ -48,7 +44,7 @@ float_is nan nan e = refl
 float_is nan (inf t) e = search rules
 float_is nan (fin t n d) e = search rules
 float_is (inf s) nan e = search rules
-float_is (inf s) (inf t) e = ap inf (same_truth s t e)
+float_is (inf s) (inf t) e = ap inf ((truth_decides s t).0 e)
 float_is (inf s) (fin t n d) e = search rules
 float_is (fin s m x) nan e = search rules
 float_is (fin s m x) (inf t) e = search rules
@@ -56,19 +52,19 @@ float_is (fin s m x) (fin t n d) e = finite s t m n x d e
 
 pub float_self : (a : Float) → same_float a a ≡ true
 float_self nan = refl
-float_self (inf s) = truth_self s
+float_self (inf s) = (truth_decides s s).1 refl
 float_self (fin s m e) =
-    and_from (beq s s) ((m == m) && int_eq e e) (truth_self s) (and_from (m == m) (int_eq e e) ((Decides-eqb m m).1 refl) ((Decides-int_eq e e).1 refl))
+    and_from (beq s s) ((m == m) && int_eq e e) ((truth_decides s s).1 refl) (and_from (m == m) (int_eq e e) ((Decides-eqb m m).1 refl) ((Decides-int_eq e e).1 refl))
 
 -- ---- moments
 
 pub moment_is : (a b : Moment) → same_moment a b ≡ true → a ≡ b
 moment_is a b e =
     let both = and_parts (beq a.zoned b.zoned) (a.at == b.at) e in
-    ap₂ (λ z n. record { zoned = z; at = n }) (same_truth a.zoned b.zoned both.0) ((Decides-eqb a.at b.at).0 both.1)
+    ap₂ (λ z n. record { zoned = z; at = n }) ((truth_decides a.zoned b.zoned).0 both.0) ((Decides-eqb a.at b.at).0 both.1)
 
 pub moment_self : (a : Moment) → same_moment a a ≡ true
-moment_self a = and_from (beq a.zoned a.zoned) (a.at == a.at) (truth_self a.zoned) ((Decides-eqb a.at a.at).1 refl)
+moment_self a = and_from (beq a.zoned a.zoned) (a.at == a.at) ((truth_decides a.zoned a.zoned).1 refl) ((Decides-eqb a.at a.at).1 refl)
 
 -- ---- durations
 
@@ -97,16 +93,16 @@ duration_is a b e =
     let d = three a.years a.months a.days b.years b.months b.days both.0 in
     let t = three a.hours a.minutes a.seconds b.hours b.minutes b.seconds both.1 in
     ap₂ (made a.negative) d t ∙
-    ap (λ s. made s (triple b.years b.months b.days) (triple b.hours b.minutes b.seconds)) (same_truth a.negative b.negative parts.0)
+    ap (λ s. made s (triple b.years b.months b.days) (triple b.hours b.minutes b.seconds)) ((truth_decides a.negative b.negative).0 parts.0)
 
 pub duration_self : (a : Duration) → same_duration a a ≡ true
 duration_self a =
-    and_from (beq a.negative a.negative) (same_date_part a a && same_time_part a a) (truth_self a.negative)
+    and_from (beq a.negative a.negative) (same_date_part a a && same_time_part a a) ((truth_decides a.negative a.negative).1 refl)
     (and_from (same_date_part a a) (same_time_part a a) (three_self a.years a.months a.days) (three_self a.hours a.minutes a.seconds))
 
 -- ---- values
 
-pub value_is : (a b : Value) → same_value a b ≡ true → a ≡ b
+pub value_is : (a b : Value) → have_same_value a b ≡ true → a ≡ b
 value_is (text v) (text w) e = ap text ((bytes_eq-Decides v w).0 e)
 value_is (text v) (decimal b) e = search rules
 value_is (text v) (float b) e = search rules
@@ -133,7 +129,7 @@ value_is (duration a) (float b) e = search rules
 value_is (duration a) (moment b) e = search rules
 value_is (duration a) (duration b) e = ap duration (duration_is a b e)
 
-pub value_self : (a : Value) → same_value a a ≡ true
+pub value_self : (a : Value) → have_same_value a a ≡ true
 value_self (text v) = (bytes_eq-Decides v v).1 refl
 value_self (decimal a) = decimal_self a
 value_self (float a) = float_self a

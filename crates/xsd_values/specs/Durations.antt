@@ -1,5 +1,5 @@
 -- duration: which one a text writes, and which is less (XML Schema Part 2, Second Edition, section 3.2.6).
-use Rattle.std.specs.Prelude.{ℕ, ◌+◌, ◌-◌, ◌*◌, ◌/◌, ◌%◌, List, [], ◌∷◌, length, drop, Bool, true, false, not, ◌&&◌, ◌||◌, ◌==◌, nat_le, nat_lt, if◌then◌else◌}
+use Rattle.std.specs.Prelude.{ℕ, ◌+◌, ◌-◌, ◌*◌, ◌/◌, ◌%◌, List, [], ◌∷◌, length, Bool, true, false, not, ◌&&◌, ◌||◌, ◌==◌, nat_le, nat_lt, if◌then◌else◌}
 use Rattle.std.specs.Prelude.{Option, Some, None}
 use Rattle.std.specs.Bool.{beq}
 use Rattle.std.specs.List.{list_all}
@@ -74,7 +74,12 @@ is_zero t = (t.0 == 0) && ((t.1 == 0) && (t.2 == 0))
 abbrev pub duration_with : Bool → ℕ × ℕ × ℕ → ℕ × ℕ × ℕ → Duration
 duration_with minus d t = record {
   negative = minus && not (is_zero d && is_zero t);
-  years = d.0; months = d.1; days = d.2; hours = t.0; minutes = t.1; seconds = t.2;
+  years = d.0;
+  months = d.1;
+  days = d.2;
+  hours = t.0;
+  minutes = t.1;
+  seconds = t.2;
 }
 
 -- years, months and days, and the time of day behind them: one number at least

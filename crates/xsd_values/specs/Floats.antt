@@ -1,11 +1,11 @@
 -- float and double: which number a text writes, and how the numbers are ordered (XML Schema Part 2, Second Edition, sections
 -- 3.2.4 and 3.2.5). The values are those of the formats of IEEE 754 with one zero and one NaN.
-use Rattle.std.specs.Prelude.{codes, ℕ, List, Bool, true, false, not, ◌&&◌, ◌||◌, ◌==◌, if◌then◌else◌, Option, Some, None, ℤ, pos}
+use Rattle.std.specs.Prelude.{codes, ℕ, List, Bool, true, false, not, ◌&&◌, ◌||◌, ◌==◌, if◌then◌else◌, Option, Some, None}
 use Rattle.std.specs.Bool.{beq}
 use Rattle.std.specs.Option.{option_map}
 use Rattle.std.specs.Ordering.{int_eq}
 use Rattle.std.specs.Str.{bytes_eq}
-use Rattle.std.specs.Float.{Float, Format, binary32, binary64, nan, inf, fin}
+use Rattle.std.specs.Float.{Float, Format, nan, inf, fin}
 use Rattle.std.specs.Float.Parse.{completes_number, without_sign, parse_float}
 use lib.Ieee.{lt}
 use Rattle.rng_model.specs.datatypes.Texts.{collapse}

@@ -1,6 +1,6 @@
 -- What the front of a text writes, and the rest of the text: what dates, times and durations are made of (XML Schema Part 2,
 -- Second Edition, sections 3.2.6.1 and 3.2.7.1).
-use Rattle.std.specs.Prelude.{ℕ, ◌+◌, ◌-◌, List, [], ◌∷◌, ◌++◌, length, take, drop, replicate, Bool, ◌&&◌, ◌==◌, nat_le, if◌then◌else◌, Option, Some, None}
+use Rattle.std.specs.Prelude.{ℕ, ◌-◌, List, [], ◌∷◌, ◌++◌, length, take, drop, replicate, ◌&&◌, ◌==◌, nat_le, if◌then◌else◌, Option, Some, None}
 use Rattle.std.specs.Char.{is_ascii_digit}
 use Rattle.std.specs.List.{prefix_len}
 use Rattle.std.specs.Str.Parse.{digits_value}
@@ -10,7 +10,6 @@ abbrev pub Front : Type 0
 Front = ℕ × List ℕ
 
 infixl 10 ◌>>=◌
-
 abbrev pub ◌>>=◌ : {A B : Type 0} → Option A → (A → Option B) → Option B
 None >>= f = None
 Some a >>= f = f a

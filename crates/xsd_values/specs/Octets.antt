@@ -2,7 +2,7 @@
 -- 3.2.16 and 4.3.1). Octets are given by the text that writes them in one way, and texts are equal if their octets are.
 use Rattle.std.specs.Prelude.{codes, ℕ, ◌-◌, ◌*◌, ◌/◌, List, [], ◌∷◌, map, length, Bool, true, false, not, ◌&&◌, ◌||◌, ◌==◌, if◌then◌else◌}
 use Rattle.std.specs.Prelude.{Option, Some, None}
-use Rattle.std.specs.List.{list_all, list_any, filter}
+use Rattle.std.specs.List.{list_any, filter}
 use Rattle.rng_model.specs.names.Names.{is_in_ranges}
 use Rattle.rng_model.specs.datatypes.Texts.{is_blank_byte}
 

@@ -1,6 +1,6 @@
 -- anyURI: which texts are URI references once they are escaped (XML Schema Part 2, Second Edition, section 3.2.17; RFC 2396,
 -- appendix A, as RFC 2732 amends it; XLink 1.0, section 5.4). The productions have the names of the RFCs.
-use Rattle.std.specs.Prelude.{codes, ℕ, List, [], ◌∷◌, Option, Some, None}
+use Rattle.std.specs.Prelude.{codes, ℕ, List, [], ◌∷◌, Some}
 use Rattle.std.specs.Str.{chars}
 use Rattle.xsd_regex.specs.Expressions.{Regex, times, Matches}
 use Rattle.xsd_values.specs.UriCharacters.{in_order, any_of, many, some, optional, one_in, the}

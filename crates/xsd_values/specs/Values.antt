@@ -15,10 +15,10 @@ pub data Value : Type 0 where
   moment : Moment → Value
   duration : Duration → Value
 
-abbrev pub same_value : Value → Value → Bool
-same_value (text v) (text w) = bytes_eq v w
-same_value (decimal a) (decimal b) = same_decimal a b
-same_value (float a) (float b) = same_float a b
-same_value (moment a) (moment b) = same_moment a b
-same_value (duration a) (duration b) = same_duration a b
-same_value _ _ = false
+abbrev pub have_same_value : Value → Value → Bool
+have_same_value (text v) (text w) = bytes_eq v w
+have_same_value (decimal a) (decimal b) = same_decimal a b
+have_same_value (float a) (float b) = same_float a b
+have_same_value (moment a) (moment b) = same_moment a b
+have_same_value (duration a) (duration b) = same_duration a b
+have_same_value _ _ = false

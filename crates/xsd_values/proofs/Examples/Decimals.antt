@@ -1,12 +1,12 @@
 -- Worked cases of decimal, which the checker computes.
-use Rattle.std.proofs.Common.{codes, ◌≡◌, ℕ, List, [], ◌∷◌, refl, true, false, Bool, Option, Some, None, pos, negsuc, is_some}
+use Rattle.std.proofs.Common.{codes, ◌≡◌, ℕ, List, [], ◌∷◌, refl, true, false, Bool, Some, None, pos, negsuc, is_some}
 use Rattle.rng_model.specs.datatypes.Texts.{collapse, pieces}
 use Rattle.rng_model.specs.datatypes.Facets.{Parameter}
 use Rattle.rng_model.specs.datatypes.Facets as old
 use Rattle.rng_model.specs.xsd.Numbers.{integer_of}
-use Rattle.xsd_values.specs.Limits.{Ordered, written_limits}
+use Rattle.xsd_values.specs.Limits.{written_limits}
 use Rattle.xsd_values.specs.Integers.{written_integer_facets}
-use Rattle.xsd_values.specs.Decimals.{Decimal, decimal_of, decimals, written_decimal_facets}
+use Rattle.xsd_values.specs.Decimals.{decimal_of, written_decimal_facets}
 use Rattle.xsd_values.proofs.Examples.Tables.{allows, equates}
 
 -- ---- texts: the examples of section 3.2.3.1, and what has no digit or something else

@@ -1,12 +1,12 @@
 -- Worked cases of float and double, which the checker computes.
-use Rattle.std.proofs.Common.{codes, ◌≡◌, ℕ, List, [], ◌∷◌, refl, true, false, Bool, Option, Some, None, pos, negsuc, is_some}
-use Rattle.std.specs.Float.{Float, binary32, binary64, nan, inf, fin}
+use Rattle.std.proofs.Common.{codes, ◌≡◌, [], ◌∷◌, refl, true, false, Some, None, pos, is_some}
+use Rattle.std.specs.Float.{binary32, binary64, inf, fin}
 use Rattle.std.specs.Float.Numeral.{scan_numeral}
 use Rattle.std.specs.Float.Parse.{read_float}
 use lib.Ieee.{round, lt}
 use Rattle.rng_model.specs.datatypes.Texts.{collapse, pieces}
 use Rattle.xsd_values.specs.Limits.{written_limits}
-use Rattle.xsd_values.specs.Floats.{float_of, floats}
+use Rattle.xsd_values.specs.Floats.{float_of}
 use Rattle.xsd_values.proofs.Examples.Tables.{allows, equates}
 
 -- ---- texts: the examples of section 3.2.4.1, and words that are none of the type

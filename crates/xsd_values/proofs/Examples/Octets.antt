@@ -1,5 +1,5 @@
 -- Worked cases of hexBinary and base64Binary, which the checker computes.
-use Rattle.std.proofs.Common.{codes, ◌≡◌, ℕ, List, [], ◌∷◌, refl, true, false, Bool, Option, Some, None}
+use Rattle.std.proofs.Common.{codes, ◌≡◌, [], ◌∷◌, refl, true, false, Some, None}
 use Rattle.rng_model.specs.datatypes.Texts.{collapse, pieces}
 use Rattle.rng_model.specs.xsd.Numbers.{integer_of}
 use Rattle.rng_model.specs.xsd.Facets.{written_lengths}

@@ -1,7 +1,7 @@
 -- What the table of types allows and equates, for worked cases.
-use Rattle.std.specs.Prelude.{ℕ, List, [], Bool, false, Option, Some, None, is_some, IsTrue}
+use Rattle.std.specs.Prelude.{ℕ, List, [], Bool, false, Option, Some, None, is_some}
 use Rattle.rng_model.specs.datatypes.Facets.{Parameter}
-use Rattle.xsd_values.specs.Values.{Value, same_value}
+use Rattle.xsd_values.specs.Values.{Value, have_same_value}
 use Rattle.xsd_values.specs.Types.{Meaning, meaning_named}
 use Rattle.xsd_values.proofs.MatchedUris.{is_uri}
 
@@ -12,7 +12,7 @@ known_allows (Some meaning) s = is_some (meaning s)
 abbrev pub same : Option Value → Option Value → Bool
 same None b = false
 same (Some a) None = false
-same (Some a) (Some b) = same_value a b
+same (Some a) (Some b) = have_same_value a b
 
 abbrev pub known_equates : Option Meaning → List ℕ → List ℕ → Bool
 known_equates None v w = false
