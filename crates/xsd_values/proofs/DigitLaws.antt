@@ -1,9 +1,10 @@
 -- The facets on digits say what the standard says: that a number is an integer divided by a power of 10, within limits.
-use Rattle.std.proofs.Common.{◌≡◌, ◌≤◌, ◌<◌, ℕ, ◌*◌, ◌^◌, true, refl, sym, ap, ◌∙◌, arith, ℤ, pos, ◌*ℤ◌, nat_abs, nat_le, nat_lt, mul-le-mul_left, le_of_mul-le-mul_right}
+use Rattle.std.proofs.Common.{◌≡◌, ◌≤◌, ◌<◌, ℕ, ◌*◌, ◌^◌, true, refl, sym, ap, ◌∙◌, arith}
+use Rattle.std.proofs.Common.{ℤ, pos, ◌*ℤ◌, nat_abs, nat_le, nat_lt, mul-le-mul_left, le_of_mul-le-mul_right}
 use Rattle.std.proofs.Math.Nat.{pow-le-pow_right}
 use Rattle.std.proofs.lemmas.Bool.{and_parts, and_from, leb-true, le-leb, ltb-true, lt-ltb}
 use Rattle.xsd_values.specs.Decimals.{Decimal, IsCanonical, has_total_digits, has_fraction_digits}
-use Rattle.xsd_values.proofs.CanonicalDecimals.{abs_times, ten_pow, no_more_places}
+use Rattle.xsd_values.proofs.OneDecimal.{abs_times, ten_pow, no_more_places}
 
 -- the number is i / 10 ^ n
 abbrev pub IsQuotient : Decimal → ℤ → ℕ → Type 0

@@ -3,6 +3,7 @@ pub mod MatchedUris
 pub mod CalendarLaws
 pub mod ZoneLaws
 pub mod IntegerLimits
+pub mod OneDecimal
 pub mod CanonicalDecimals
 pub mod DigitLaws
 pub mod SameValues

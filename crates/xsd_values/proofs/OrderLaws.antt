@@ -1,6 +1,7 @@
 -- The orders of moments and of durations are partial orders, and decimals are in one line (XML Schema Part 2, Second Edition,
 -- section 4.2.2).
-use Rattle.std.proofs.Common.{◌≡◌, ◌<◌, ℕ, ◌+◌, ◌*◌, List, [], ◌∷◌, length, Bool, true, false, refl, arith, nat_lt, nat_le, not, cond, ℤ, pos, negsuc, int_lt, int_le}
+use Rattle.std.proofs.Common.{◌≡◌, ◌<◌, ℕ, ◌+◌, ◌*◌, List, [], ◌∷◌, length, Bool, true, false, refl, arith}
+use Rattle.std.proofs.Common.{nat_lt, nat_le, not, cond, ℤ, pos, negsuc, int_lt, int_le}
 use Rattle.std.specs.Bool.{beq}
 use Rattle.std.specs.List.{list_all}
 use Rattle.std.proofs.lemmas.Bool.{and_parts, and_from, and_left, ltb-true, lt-ltb, le-ltb}

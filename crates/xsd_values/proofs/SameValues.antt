@@ -54,7 +54,8 @@ pub float_self : (a : Float) → same_float a a ≡ true
 float_self nan = refl
 float_self (inf s) = (truth_decides s s).1 refl
 float_self (fin s m e) =
-    and_from (beq s s) ((m == m) && int_eq e e) ((truth_decides s s).1 refl) (and_from (m == m) (int_eq e e) ((Decides-eqb m m).1 refl) ((Decides-int_eq e e).1 refl))
+    and_from (beq s s) ((m == m) && int_eq e e) ((truth_decides s s).1 refl)
+    (and_from (m == m) (int_eq e e) ((Decides-eqb m m).1 refl) ((Decides-int_eq e e).1 refl))
 
 -- ---- moments
 
@@ -81,7 +82,8 @@ three a b c x y z e =
     ap₂ (λ u v. triple u v c) ((Decides-eqb a x).0 first.0) ((Decides-eqb b y).0 rest.0) ∙ ap (triple x y) ((Decides-eqb c z).0 rest.1)
 
 three_self : (a b c : ℕ) → ((a == a) && ((b == b) && (c == c))) ≡ true
-three_self a b c = and_from (a == a) ((b == b) && (c == c)) ((Decides-eqb a a).1 refl) (and_from (b == b) (c == c) ((Decides-eqb b b).1 refl) ((Decides-eqb c c).1 refl))
+three_self a b c =
+    and_from (a == a) ((b == b) && (c == c)) ((Decides-eqb a a).1 refl) (and_from (b == b) (c == c) ((Decides-eqb b b).1 refl) ((Decides-eqb c c).1 refl))
 
 abbrev made : Bool → Three → Three → Duration
 made s d t = record { negative = s; years = d.0; months = d.1; days = d.2; hours = t.0; minutes = t.1; seconds = t.2 }

@@ -1,5 +1,6 @@
 -- Worked cases of duration, which the checker computes.
-use Rattle.std.proofs.Common.{codes, ◌≡◌, ℕ, List, [], ◌∷◌, refl, true, false, Bool, Option, Some, None, is_some}
+use Rattle.std.proofs.Common.{codes, ◌≡◌, ℕ, List, [], ◌∷◌, refl, true, false, Bool, Option, Some, None, is_some, is_none}
+use Rattle.std.specs.List.{list_all}
 use Rattle.rng_model.specs.datatypes.Texts.{collapse, pieces}
 use Rattle.xsd_values.specs.Limits.{written_limits}
 use Rattle.xsd_values.specs.Durations.{Duration, duration_of, is_less, durations}
@@ -7,64 +8,33 @@ use Rattle.xsd_values.proofs.Examples.Tables.{allows, equates}
 
 -- ---- texts: the examples of section 3.2.6.1
 
-abbrev is_duration : List ℕ → Bool
-is_duration s = is_some (duration_of s)
-
-all_six : is_duration (codes "P1Y2M3DT10H30M") ≡ true
+are_durations : list_all (λ s. is_some (duration_of s)) (
+    codes "P1Y2M3DT10H30M" ∷
+    codes "-P120D" ∷
+    codes "P0Y1347M0D" ∷
+    codes "P1347Y" ∷
+    codes "P1Y2MT2H" ∷
+    codes "PT0.5S" ∷
+    []) ≡ true
 unfolding duration_of
-all_six = refl
+are_durations = refl
 
-negative : is_duration (codes "-P120D") ≡ true
+are_none : list_all (λ s. is_none (duration_of s)) (
+    codes "P-1347M" ∷  -- a minus inside
+    codes "P1Y2MT" ∷  -- no time behind T
+    codes "P" ∷  -- no number
+    codes "PT" ∷
+    codes "PT.5S" ∷  -- no digit before the point
+    codes "PT5.S" ∷  -- and none behind it
+    codes "P1.5D" ∷  -- a fraction of a day
+    codes "P1M1Y" ∷  -- out of order
+    codes "PT1H1D" ∷
+    codes "+P1D" ∷
+    codes "p1y" ∷
+    codes "P1234567890Y" ∷  -- more than nine digits
+    []) ≡ true
 unfolding duration_of
-negative = refl
-
-zero_years : is_duration (codes "P0Y1347M0D") ≡ true
-unfolding duration_of
-zero_years = refl
-
-minus_inside : is_duration (codes "P-1347M") ≡ false
-unfolding duration_of
-minus_inside = refl
-
-no_time : is_duration (codes "P1Y2MT") ≡ false
-unfolding duration_of
-no_time = refl
-
-no_number : is_duration (codes "P") ≡ false
-unfolding duration_of
-no_number = refl
-
-no_number_of_time : is_duration (codes "PT") ≡ false
-unfolding duration_of
-no_number_of_time = refl
-
-fraction : is_duration (codes "PT0.5S") ≡ true
-unfolding duration_of
-fraction = refl
-
-nothing_before : is_duration (codes "PT.5S") ≡ false
-unfolding duration_of
-nothing_before = refl
-
-nothing_behind : is_duration (codes "PT5.S") ≡ false
-unfolding duration_of
-nothing_behind = refl
-
-fraction_of_day : is_duration (codes "P1.5D") ≡ false
-unfolding duration_of
-fraction_of_day = refl
-
-out_of_order : is_duration (codes "P1M1Y") ≡ false
-unfolding duration_of
-out_of_order = refl
-
-plus : is_duration (codes "+P1D") ≡ false
-unfolding duration_of
-plus = refl
-
-small_letters : is_duration (codes "p1y") ≡ false
-unfolding duration_of
-small_letters = refl
+are_none = refl
 
 -- ---- equality: each of the six numbers, and no sign at zero
 
