@@ -8,3 +8,5 @@ pub mod CanonicalDecimals
 pub mod DigitLaws
 pub mod SameValues
 pub mod OrderLaws
+pub mod Base64Grammar
+pub mod Base64Spaces

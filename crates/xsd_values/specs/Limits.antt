@@ -22,8 +22,15 @@ pub record Limits (A : Type 0) : Type 0 where
   pub max_inclusive : Option A
   pub max_exclusive : Option A
 
+-- one bound at each end (sections 4.3.8.4 and 4.3.9.4)
+abbrev pub is_one : {A : Type 0} → Option A → Option A → Bool
+is_one a b = is_none a || is_none b
+
+abbrev pub are_single : {A : Type 0} → Limits A → Bool
+are_single l = is_one l.min_inclusive l.min_exclusive && is_one l.max_inclusive l.max_exclusive
+
 module _ {A : Type 0} (t : Ordered A) where
-  -- ---- which values are within the bounds: a value that is not comparable with a bound is not (sections 3.2.4.1 and 3.2.6.3)
+  -- ---- which values are within the bounds: a value that is not comparable with a bound is not (sections 3.2.4 and 3.2.6.3)
 
   abbrev pub is_above_lower : Limits A → A → Bool
   is_above_lower l a = passes (λ b. t.is_at_most b a) l.min_inclusive && passes (λ b. t.is_less b a) l.min_exclusive
@@ -35,13 +42,6 @@ module _ {A : Type 0} (t : Ordered A) where
   is_within_limits l a = is_above_lower l a && is_below_upper l a
 
   -- ---- which bounds may stand together
-
-  -- one bound at each end (sections 4.3.8.4 and 4.3.9.4)
-  abbrev pub is_one : Option A → Option A → Bool
-  is_one a b = is_none a || is_none b
-
-  abbrev pub are_single : Limits A → Bool
-  are_single l = is_one l.min_inclusive l.min_exclusive && is_one l.max_inclusive l.max_exclusive
 
   -- the lower bound is at most the upper one (sections 4.3.7.4 to 4.3.10.4)
   abbrev pub is_inclusive_in_order : Limits A → Bool

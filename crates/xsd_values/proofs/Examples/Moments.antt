@@ -113,7 +113,7 @@ are_unequal name ps = list_all (λ p. not (equates name p.0 p.1)) ps
 same_instant : are_equal (codes "dateTime") (
     (codes "2000-01-01T00:00:00Z", codes "1999-12-31T19:00:00.0-05:00") ∷
     (codes "2000-01-01T24:00:00", codes "2000-01-02T00:00:00") ∷
-    (codes "2000-03-04T23:00:00+03:00", codes "2000-03-04T20:00:00Z") ∷  -- of section 3.2.7.3
+    (codes "2000-03-04T23:00:00+03:00", codes "2000-03-04T20:00:00Z") ∷  -- of section 3.2.7.4
     []) ≡ true
 unfolding date_time_of collapse pieces written_limits
 same_instant = refl
