@@ -1,9 +1,8 @@
 -- The grammar of base64Binary, production by production (XML Schema Part 2, Second Edition, section 3.2.16), and that the
 -- collapsed texts of it are those that have groups of characters once the blanks are taken out.
-use Rattle.std.proofs.Common.{codes, ◌≡◌, ◌⊎◌, inl, inr, ◌↔◌, ℕ, List, [], ◌∷◌, ◌++◌, Bool, true, false, refl, sym, ap, subst, ◌∙◌, rules, cond, not, ◌&&◌, ◌||◌, ◌==◌, filter}
-use Rattle.std.specs.List.{concat, join_with_byte}
-use Rattle.std.proofs.lemmas.Bool.{and_parts, and_from, or_cases, eqb-true, cases_Bool, false≢true}
-use Rattle.rng_model.specs.datatypes.Texts.{is_blank_byte, pieces, collapse}
+use Rattle.std.proofs.Common.{codes, ◌≡◌, ◌⊎◌, inl, inr, ℕ, List, [], ◌∷◌, Bool, true, false, refl, sym, ap, ◌∙◌, cond, not, ◌&&◌, ◌||◌, ◌==◌}
+use Rattle.std.proofs.lemmas.Bool.{and_from, or_cases, or_left, or_right, eqb-true, cases_Bool, false≢true}
+use Rattle.rng_model.specs.datatypes.Texts.{is_blank_byte}
 use Rattle.xsd_values.specs.Octets.{is_b64, is_b16, is_b04, is_padding, is_full, is_last, are_base64_groups, without_blanks}
 
 -- ---- the grammar
@@ -80,14 +79,6 @@ record HasGroups (s : List ℕ) : Type 0 where
   is : without_blanks s ≡ first ∷ rest
   good : are_base64_groups (first ∷ rest) ≡ true
 
-either_true : (a b : Bool) → a ≡ true → (a || b) ≡ true
-either_true true b e = refl
-either_true false b e = search rules
-
-or_second : (a b : Bool) → b ≡ true → (a || b) ≡ true
-or_second true b e = refl
-or_second false b e = e
-
 has_groups : {s : List ℕ} → AreGroups s → HasGroups s
 has_groups (group_and p q r k more) =
     let a = taken b64_no_blank p in
@@ -110,7 +101,7 @@ has_groups (three_octets {d = d} p q r e) =
       first = a.0;
       rest = b.0 ∷ c.0 ∷ d ∷ [];
       is = cc (a.2, b.2, c.2, k);
-      good = either_true (is_full a.0 b.0 c.0 d) (is_last a.0 b.0 c.0 d) (four a.0 b.0 c.0 d a.1 b.1 c.1 e);
+      good = or_left (is_full a.0 b.0 c.0 d) (is_last a.0 b.0 c.0 d) (four a.0 b.0 c.0 d a.1 b.1 c.1 e);
     }
 has_groups (two_octets p q r e) =
     let a = taken b64_no_blank p in
@@ -121,13 +112,13 @@ has_groups (two_octets p q r e) =
       first = a.0;
       rest = b.0 ∷ c.0 ∷ 0x3D ∷ [];
       is = cc (a.2, b.2, c.2, k);
-      good = or_second (is_full a.0 b.0 c.0 0x3D) (is_last a.0 b.0 c.0 0x3D) (ending_two a.0 b.0 c.0 a.1 b.1 c.1);
+      good = or_right (is_full a.0 b.0 c.0 0x3D) (is_last a.0 b.0 c.0 0x3D) (ending_two a.0 b.0 c.0 a.1 b.1 c.1);
     }
   where
     ending_two : (a b c : ℕ) → is_b64 a ≡ true → is_b64 b ≡ true → is_b16 c ≡ true → is_last a b c 0x3D ≡ true
     ending_two a b c p q r =
         and_from (is_b64 a && is_padding 0x3D) ((is_b64 b && is_b16 c) || (is_b04 b && is_padding c)) (and_from (is_b64 a) true p refl)
-        (either_true (is_b64 b && is_b16 c) (is_b04 b && is_padding c) (and_from (is_b64 b) (is_b16 c) q r))
+        (or_left (is_b64 b && is_b16 c) (is_b04 b && is_padding c) (and_from (is_b64 b) (is_b16 c) q r))
 has_groups (one_octet p q e) =
     let a = taken b64_no_blank p in
     let b = taken b04_no_blank q in
@@ -136,7 +127,7 @@ has_groups (one_octet p q e) =
       first = a.0;
       rest = b.0 ∷ 0x3D ∷ 0x3D ∷ [];
       is = cc (a.2, b.2, k);
-      good = or_second (is_full a.0 b.0 0x3D 0x3D) (is_last a.0 b.0 0x3D 0x3D) (ending_one a.0 b.0 a.1 b.1);
+      good = or_right (is_full a.0 b.0 0x3D 0x3D) (is_last a.0 b.0 0x3D 0x3D) (ending_one a.0 b.0 a.1 b.1);
     }
   where
     padded : {u : List ℕ} → (u ≡ codes "==") ⊎ (u ≡ codes "= =") → without_blanks u ≡ 0x3D ∷ 0x3D ∷ []
@@ -146,7 +137,7 @@ has_groups (one_octet p q e) =
     ending_one : (a b : ℕ) → is_b64 a ≡ true → is_b04 b ≡ true → is_last a b 0x3D 0x3D ≡ true
     ending_one a b p q =
         and_from (is_b64 a && is_padding 0x3D) ((is_b64 b && is_b16 0x3D) || (is_b04 b && is_padding 0x3D)) (and_from (is_b64 a) true p refl)
-        (or_second (is_b64 b && is_b16 0x3D) (is_b04 b && is_padding 0x3D) (and_from (is_b04 b) true q refl))
+        (or_right (is_b64 b && is_b16 0x3D) (is_b04 b && is_padding 0x3D) (and_from (is_b04 b) true q refl))
 
 pub groups_if_grammar : {s : List ℕ} → IsBase64Binary s → are_base64_groups (without_blanks s) ≡ true
 groups_if_grammar nothing = refl

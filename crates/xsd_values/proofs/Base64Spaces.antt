@@ -1,7 +1,7 @@
 -- A collapsed text has no blanks but single spaces between characters, so one that has groups of characters without them is of
 -- the grammar of base64Binary.
-use Rattle.std.proofs.Common.{codes, ◌≡◌, ◌⊎◌, inl, inr, ◌↔◌, ℕ, List, [], ◌∷◌, ◌++◌, Bool, true, false, refl, sym, ap, subst, ◌∙◌, rules, cond, not, ◌&&◌, ◌||◌, ◌==◌}
-use Rattle.std.proofs.Common.{append-nil}
+use Rattle.std.proofs.Common.{codes, ◌≡◌, ◌⊎◌, inl, inr, ◌↔◌, ℕ, List, [], ◌∷◌, ◌++◌, Bool, true, false}
+use Rattle.std.proofs.Common.{refl, sym, ap, subst, ◌∙◌, rules, append-nil, ◌&&◌, ◌||◌}
 use Rattle.std.specs.Prelude.{⊤}
 use Rattle.std.specs.List.{list_all, concat, join_with_byte}
 use Rattle.std.proofs.lemmas.Bool.{and_parts, or_cases, not-true, eqb-true}
@@ -9,8 +9,8 @@ use Rattle.rng_model.specs.datatypes.Texts.{is_blank_byte, pieces, collapse}
 use Rattle.rng_model.specs.plain.BlankRuns.{is_run_byte, is_run, HasRuns, no_run, then_run}
 use Rattle.rng_model.proofs.BlankRuns.{HasRuns-pieces}
 use Rattle.xsd_values.specs.Octets.{is_b64, is_b16, is_b04, is_padding, is_full, is_last, are_base64_groups, without_blanks}
-use Rattle.xsd_values.proofs.Base64Grammar.{Takes, alone, with_space, AreGroups, group_and, three_octets, two_octets, one_octet, IsBase64Binary, nothing, groups}
-use Rattle.xsd_values.proofs.Base64Grammar.{kept, groups_if_grammar}
+use Rattle.xsd_values.proofs.Base64Grammar.{Takes, alone, with_space, AreGroups, group_and, three_octets, two_octets, one_octet}
+use Rattle.xsd_values.proofs.Base64Grammar.{IsBase64Binary, nothing, groups, kept, groups_if_grammar}
 
 -- ---- characters with single spaces between them, and the characters
 

@@ -1,6 +1,7 @@
 -- dateTime, time, date, gYearMonth, gYear, gMonthDay, gDay and gMonth: the moment that a text writes (XML Schema Part 2, Second
 -- Edition, sections 3.2.7 to 3.2.14).
-use Rattle.std.specs.Prelude.{ℕ, ◌+◌, ◌*◌, ◌%◌, List, [], ◌∷◌, length, Bool, true, false, not, ◌&&◌, ◌||◌, ◌==◌, nat_le, nat_lt, if◌then◌else◌, Option, Some, None}
+use Rattle.std.specs.Prelude.{ℕ, ◌+◌, ◌*◌, ◌%◌, List, [], ◌∷◌, length, Bool, true, false, not, ◌&&◌, ◌||◌, ◌==◌}
+use Rattle.std.specs.Prelude.{nat_le, nat_lt, if◌then◌else◌, Option, Some, None}
 use Rattle.std.specs.Str.Parse.{digits_value}
 use Rattle.xsd_values.specs.Calendar.{year_one, year_numbered, days_in_month, begins, second, minute, hour, day}
 use Rattle.xsd_values.specs.Fronts.{Front, ◌>>=◌, after, two_digits, first_digits, past_digits, fraction_at}
