@@ -1,0 +1,6 @@
+pub mod Walks
+pub mod Trees
+pub mod Sent
+pub mod Taken
+pub mod DistinctNames
+pub mod Kept

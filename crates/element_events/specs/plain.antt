@@ -1,0 +1,2 @@
+-- The plain functions of the code, one call after another.
+pub mod Calls

@@ -1,0 +1,156 @@
+// Calls one by one.
+ghost use Rattle.std.specs.Prelude.{◌≡◌, ◌↔◌, ◌&&◌, ◌==◌, [], ◌∷◌, IfOk, OnOk, true};
+ghost use Rattle.rng_model.specs.documents.EventViews.{Hands};
+ghost use Rattle.rng_model.specs.documents.PyxTrees.{a_string, an_end};
+ghost use Rattle.element_events.specs.Telling.{IsGood, string_at};
+ghost use Rattle.element_events.specs.plain.Calls.{nothing_taken};
+ghost use Rattle.element_events.specs.views.Told.{call, start_told};
+ghost use Rattle.element_events.specs.views.Kept.{Takes, state_of};
+
+use crate::characters::{are_good_attributes, are_xml_chars, is_blank, is_good_name};
+use crate::fault::EventFault;
+use crate::names::{Attribute, ExpandedName};
+use crate::repeats::are_distinct;
+use crate::tag::Tag;
+use rng_model::{Event, EventKind, Events, OutOfMemory};
+use std::alloc::Global;
+
+/// The state between two calls.
+#[derive(Drop)]
+pub struct State {
+    alloc: Global,
+    /// How many elements are open.
+    depth: u64,
+    /// Whether the root has begun.
+    root: bool,
+    /// The text behind which no start or end has come.
+    text: String,
+    tag: Tag,
+}
+
+impl State {
+    /// Creates the state before the first call. Allocates nothing.
+    pub fn new(alloc: Global) -> Self
+        ensures { state_of result ≡ nothing_taken }
+    {
+        State {
+            alloc,
+            depth: 0,
+            root: false,
+            text: String::new(alloc),
+            tag: Tag::new(alloc),
+        }
+    }
+
+    /// Returns whether the root has ended.
+    pub fn is_whole(&self) -> bool
+        ensures { result ≡ ((state_of self.now).root && (state_of self.now).depth == 0) }
+    {
+        self.root && self.depth == 0
+    }
+
+    /// Hands out the text, unless it is empty, as a string with this place.
+    fn end_text<E: Events>(&mut self, place: u64, events: &mut E) -> Result<(), OutOfMemory>
+        ensures text { OnOk result (Hands E.stands events.old events.new (string_at place (state_of self.old).text)) }
+        ensures state { OnOk result (state_of self.new ≡ record (state_of self.old) { text = [] }) }
+    {
+        if !self.text.is_empty() {
+            events.event(Event {
+                line: place,
+                kind: EventKind::Text(self.text.as_str()),
+            })?;
+            self.text.clear();
+        }
+        Ok(())
+    }
+
+    /// Hands out the start of an element, which is the tag.
+    fn start_tag<E: Events>(
+        &mut self,
+        place: u64,
+        name: ExpandedName<'_>,
+        attributes: &[Attribute<'_>],
+        events: &mut E,
+    ) -> Result<(), OutOfMemory>
+        ensures start { OnOk result (Hands E.stands events.old events.new (call place (start_told name.entry attributes.now) ∷ [])) }
+        ensures state { state_of self.new ≡ state_of self.old }
+    {
+        self.tag.set(self.alloc, name, attributes)?;
+        let kind = EventKind::Start {
+            name: &self.tag.name,
+            attrs: self.tag.attrs.as_slice(),
+        };
+        events.event(Event { line: place, kind })
+    }
+
+    /// Returns whether a tag may be in a document.
+    fn is_good_tag(
+        &self,
+        name: ExpandedName<'_>,
+        attributes: &[Attribute<'_>],
+    ) -> Result<bool, OutOfMemory>
+        ensures { IfOk result (λ b. (b ≡ true) ↔ IsGood (start_told name.entry attributes.now)) }
+    {
+        if !is_good_name(name) || !are_good_attributes(attributes) {
+            return Ok(false);
+        }
+        are_distinct(self.alloc, attributes)
+    }
+
+    /// Takes the start of an element.
+    pub fn start<E: Events>(
+        &mut self,
+        place: u64,
+        name: ExpandedName<'_>,
+        attributes: &[Attribute<'_>],
+        events: &mut E,
+    ) -> Result<(), EventFault>
+        ensures { Takes result (call place (start_told name.entry attributes.now)) (state_of self.old) (state_of self.new) (Hands E.stands events.old events.new) }
+    {
+        if self.is_whole() || !self.is_good_tag(name, attributes)? {
+            return Err(EventFault::NotWellFormed);
+        }
+        let Some(depth) = self.depth.checked_add(1) else {
+            return Err(EventFault::Memory);
+        };
+        self.end_text(place, events)?;
+        self.start_tag(place, name, attributes, events)?;
+        self.depth = depth;
+        self.root = true;
+        Ok(())
+    }
+
+    /// Takes a text.
+    pub fn text(&mut self, place: u64, text: &str) -> Result<(), EventFault>
+        ensures { Takes result (call place (a_string text.now)) (state_of self.old) (state_of self.new) (λ es. es ≡ []) }
+    {
+        if !are_xml_chars(text) {
+            return Err(EventFault::NotWellFormed);
+        }
+        if self.depth > 0 {
+            self.text.push_str(text)?;
+            return Ok(());
+        }
+        if is_blank(text) {
+            Ok(())
+        } else {
+            Err(EventFault::NotWellFormed)
+        }
+    }
+
+    /// Takes the end of the innermost element.
+    pub fn end<E: Events>(&mut self, place: u64, events: &mut E) -> Result<(), EventFault>
+        ensures { Takes result (call place an_end) (state_of self.old) (state_of self.new) (Hands E.stands events.old events.new) }
+    {
+        if self.depth == 0 {
+            return Err(EventFault::NotWellFormed);
+        }
+        self.end_text(place, events)?;
+        events.event(Event {
+            line: place,
+            kind: EventKind::End,
+        })?;
+        self.depth -= 1;
+        Ok(())
+    }
+}
