@@ -1,9 +1,11 @@
 -- Attributes that come one after another, and names that occur twice.
-use Rattle.std.proofs.Common.{Bor, ◌≡◌, ◌≢◌, ◌↔◌, ℕ, ◌+◌, ◌<◌, ◌∙◌, Bool, true, false, cond, not, ◌&&◌, ◌||◌, List, [], ◌∷◌, ◌++◌, map, take, drop, get_or, length, refl, sym, ap, subst}
+use Rattle.std.proofs.Common.{Bor, ◌≡◌, ◌≢◌, ◌↔◌, ℕ, ◌+◌, ◌<◌, ◌∙◌, Bool, true, false, cond, not, ◌&&◌, ◌||◌, List, [], ◌∷◌, ◌++◌, map, take, drop}
+use Rattle.std.proofs.Common.{get_or, length, refl, sym, ap, subst}
 use Rattle.std.specs.Str.{bytes_eq}
 use Rattle.std.specs.List.{list_any}
 use Rattle.std.proofs.lemmas.Bool.{and_parts}
 use Rattle.std.proofs.lemmas.List.{take_more, map-append, take-append-drop}
+use Rattle.rng_model.proofs.Truths.{no_truth, not_both}
 use Rattle.rng_model.proofs.Texts.{bytes_same, bytes_itself}
 use Rattle.rng_model.specs.names.Names.{Name}
 use Rattle.rng_model.specs.matching.Document.{Attribute, HasNoName, nothing_named, another_name, Distinct, none, one_more}
@@ -65,16 +67,7 @@ module _ {A : Type 0} (view : A → Attribute) (xs : List A) (i : ℕ) (d : A) (
 
 -- the answer that a fact does not hold
 pub says_not : {P : Type 0} → (P → ⊥) → (false ≡ true) ↔ P
-says_not n = (λ e. absurd (apart e), λ p. absurd (n p)) where
-  apart : false ≡ true → ⊥
-  apart e = cc
-
--- the answer that it holds
-pub says_so : {P : Type 0} → P → (true ≡ true) ↔ P
-says_so p = (λ e. p, λ q. refl)
-
-pub differ : {b : Bool} → b ≡ true → b ≡ false → ⊥
-differ e f = cc
+says_not n = (λ e. no_truth e, λ p. absurd (n p))
 
 -- ---- names in a set
 
@@ -107,29 +100,21 @@ heads x y xs ys e = (cc, cc)
 pub not_among : (ks : List ExpandedName) (xs : List Attribute) (n : ExpandedName) → map name_told ks ≡ names_in xs → list_any (same_told n) ks ≡ false →
     HasNoName (name_told n) xs
 not_among [] [] n e f = nothing_named
-not_among [] (x ∷ xs) n e f = absurd (apart e) where
-  apart : [] ≡ names_in (x ∷ xs) → ⊥
-  apart e = cc
-not_among (k ∷ ks) [] n e f = absurd (apart e) where
-  apart : map name_told (k ∷ ks) ≡ [] → ⊥
-  apart e = cc
+not_among [] (x ∷ xs) n e f = absurd (cc)
+not_among (k ∷ ks) [] n e f = absurd (cc)
 not_among (k ∷ ks) (x ∷ xs) n e f = go (same_told n k) refl f (not_among ks xs n ((heads _ _ _ _ e).1)) where
   apart : true ≡ false → ⊥
   apart e = cc
 
   go : (b : Bool) → same_told n k ≡ b → (b || list_any (same_told n) ks) ≡ false → (list_any (same_told n) ks ≡ false → HasNoName (name_told n) xs) →
       HasNoName (name_told n) (x ∷ xs)
-  go true s f h = absurd (apart f)
-  go false s f h = another_name (λ p. apart (sym (told_itself n k (sym p ∙ sym ((heads _ _ _ _ e).0))) ∙ s)) (h f)
+  go true s f h = no_truth (sym f)
+  go false s f h = another_name (λ p. not_both (told_itself n k (sym p ∙ sym ((heads _ _ _ _ e).0))) s) (h f)
 
 pub among : (ks : List ExpandedName) (xs : List Attribute) (n : ExpandedName) → map name_told ks ≡ names_in xs → list_any (same_told n) ks ≡ true →
     HasNoName (name_told n) xs → ⊥
-among [] xs n e f h = apart f where
-  apart : false ≡ true → ⊥
-  apart e = cc
-among (k ∷ ks) [] n e f h = apart e where
-  apart : map name_told (k ∷ ks) ≡ [] → ⊥
-  apart e = cc
+among [] xs n e f h = no_truth f
+among (k ∷ ks) [] n e f h = cc
 among (k ∷ ks) (x ∷ xs) n e f (another_name d h) = go (same_told n k) refl f (λ g. among ks xs n ((heads _ _ _ _ e).1) g h) where
   go : (b : Bool) → same_told n k ≡ b → (b || list_any (same_told n) ks) ≡ true → (list_any (same_told n) ks ≡ true → ⊥) → ⊥
   go true s f m = d (sym ((heads _ _ _ _ e).0) ∙ sym (told_same n k s))
@@ -137,10 +122,10 @@ among (k ∷ ks) (x ∷ xs) n e f (another_name d h) = go (same_told n k) refl f
 
 pub not_false : (b : Bool) → not b ≡ false → b ≡ true
 not_false true e = refl
-not_false false e = absurd (differ refl e)
+not_false false e = no_truth (sym e)
 
 pub not_true : (b : Bool) → not b ≡ true → b ≡ false
-not_true true e = absurd (differ e refl)
+not_true true e = no_truth e
 not_true false e = refl
 
 -- a new name goes last

@@ -1,21 +1,17 @@
 -- What is kept stands for the calls so far.
 use Rattle.std.proofs.Common.{◌≡◌, ℕ, ◌==◌, ◌∙◌, true, false, ◌&&◌, List, [], ◌∷◌, ◌++◌, Option, Some, None, Err, inl, inr, refl, sym, subst}
 use Rattle.std.proofs.lemmas.Bool.{and_parts}
-use Rattle.std.proofs.lemmas.List.{append-nil}
 use Rattle.std.proofs.Math.Dec.{eqb-suc-zero}
 use Rattle.std.specs.Prelude.{zero, suc}
+use Rattle.rng_model.proofs.Truths.{no_truth}
 use Rattle.rng_model.specs.documents.PyxTrees.{Event, Placed}
-use Rattle.rng_model.specs.documents.EventViews.{Hands}
 use Rattle.element_events.specs.Telling.{events_at, BeginsDocument, NoneBegins, TellsTheDocument, TellsDocument}
 use Rattle.element_events.specs.plain.Calls as plain
 use Rattle.element_events.specs.plain.Calls.{AreTaken, none_taken, one_more, nothing_taken}
 use Rattle.element_events.specs.views.Kept.{Kept, Stands, IsAfter, IsTaken, IsRefused, Takes, Extends, UnlessOutOfMemory, IsVerdict}
 use Rattle.element_events.specs.declared.fault.EventFault.{EventFault}
 use Rattle.element_events.specs.declared.fault.EventFault.TheVariants as faults
-use Rattle.element_events.proofs.Taken.{begins, whole, misplaced, not_good, none_more, none_tells, unfinished}
-
-pub hands_nothing : {E : Type 0} (stands : E → E → List Event → Type 0) (e : E) → Hands stands e e []
-hands_nothing stands e first sent h = rw append-nil h
+use Rattle.element_events.proofs.Taken.{begins, whole, misplaced, not_good, none_tells, unfinished}
 
 pub stands_new : (k : Kept) → k.state ≡ nothing_taken → k.fault ≡ None → Stands k [] []
 stands_new k e f = rw (f, e) none_taken
@@ -55,16 +51,6 @@ refused A handed h k c old new faults.NotWellFormed p f g t = (
       (refused_begins calls sent c old (subst (λ (y : plain.State). AreTaken calls y sent) (sym p) (working h calls sent f s)) t.0),
 )
 
-pub stuck : (A : Type 0) (handed : List Event → Type 0) (h : Kept) (c : Event) (x : EventFault) → h.fault ≡ Some x → handed [] →
-    UnlessOutOfMemory {A = A} (Err x) (Extends handed h h c)
-stuck A handed h c faults.Memory f n = tt
-stuck A handed h c faults.NotWellFormed f n = (
-  [],
-  n,
-  λ calls sent s. subst (λ (o : Option EventFault). IsAfter o h.state (calls ++ c ∷ []) (sent ++ [])) (sym f)
-      (none_more calls c (subst (λ (o : Option EventFault). IsAfter o h.state calls sent) f s)),
-)
-
 pub verdict_stuck : (A : Type 0) (k : Kept) (x : EventFault) → k.fault ≡ Some x → (calls sent : List Event) → Stands k calls sent →
     IsVerdict {A = A} (Err x) calls sent
 verdict_stuck A k faults.Memory f calls sent s = tt
@@ -73,9 +59,7 @@ verdict_stuck A k faults.NotWellFormed f calls sent s =
 
 none_open : (d : ℕ) → (d == 0) ≡ true → d ≡ 0
 none_open zero e = refl
-none_open (suc d) e = absurd (apart (sym (eqb-suc-zero d) ∙ e)) where
-  apart : false ≡ true → ⊥
-  apart e = cc
+none_open (suc d) e = no_truth (sym (eqb-suc-zero d) ∙ e)
 
 pub verdict_whole : (k : Kept) (s : plain.State) → s ≡ k.state → k.fault ≡ None → (s.root && s.depth == 0) ≡ true → (calls sent : List Event) →
     Stands k calls sent → TellsTheDocument calls sent

@@ -3,6 +3,7 @@ use Rattle.std.proofs.Common.{◌≡◌, ℕ, ◌+◌, ◌-◌, ◌==◌, ◌∙
 use Rattle.std.specs.Prelude.{zero, suc}
 use Rattle.std.proofs.lemmas.List.{append-nil}
 use Rattle.std.specs.List.{AllByRecursion}
+use Rattle.rng_model.proofs.Truths.{no_truth}
 use Rattle.rng_model.specs.names.Names.{Name}
 use Rattle.rng_model.specs.datatypes.Texts.{is_blank}
 use Rattle.rng_model.specs.matching.Document.{Attribute, Distinct}
@@ -19,9 +20,6 @@ pub data IsSent : ℕ → Bool → List ℕ → List Event → Type 0 where
       Leads 1 false es d false → (d ≡ 0 → text ≡ []) → IsSent d true text (e ∷ es)
 
 -- ---- tests
-
-true_false : (P : Type 0) → true ≡ false → P
-true_false P e = cc
 
 inside : (d : ℕ) → suc d ≡ 0 → ⊥
 inside d e = absurd (omega arith)
@@ -40,14 +38,15 @@ string_end n (c ∷ cs) d m = at_string refl (λ e. cc) (at_end refl stays)
 sent_start : (n : ℕ) (q : Name) (xs : List Attribute) (d : ℕ) (root : Bool) (text : List ℕ) (sent : List Event) → Distinct xs → (root && d == 0) ≡ false →
     IsSent d root text sent → IsSent (d + 1) true [] (sent ++ (string_at n text ++ at_line n (a_start q xs) ∷ []))
 sent_start n q xs zero false text sent x m unbegun = begun (at_line n (a_start q xs)) refl x stays (λ e. refl)
-sent_start n q xs zero root text sent x m (begun e i y l z) = true_false _ m
+sent_start n q xs zero root text sent x m (begun e i y l z) = no_truth (sym m)
 sent_start n q xs (suc d) root text sent x m (begun {es = es} e i y l z) =
     let more : suc d + 1 ≡ suc (suc d) = omega arith in
-    begun e i y (subst (λ (k : ℕ). Leads 1 false (es ++ (string_at n text ++ at_line n (a_start q xs) ∷ [])) k false) (sym more) (lead_on l (string_start n text d n q xs x))) (λ e. refl)
+    begun e i y (subst (λ (k : ℕ). Leads 1 false (es ++ (string_at n text ++ at_line n (a_start q xs) ∷ [])) k false) (sym more) (lead_on l
+    (string_start n text d n q xs x))) (λ e. refl)
 
 blank_told : (b : Bool) (s : List ℕ) → not b ≡ false → cond b [] s ≡ []
 blank_told true s e = refl
-blank_told false s e = true_false _ e
+blank_told false s e = no_truth (sym e)
 
 sent_text : (s : List ℕ) (d : ℕ) (root : Bool) (text : List ℕ) (sent : List Event) → (d == 0 && not (is_blank s)) ≡ false → IsSent d root text sent →
     IsSent d root (text ++ text_told d s) sent
@@ -57,10 +56,11 @@ sent_text s (suc d) root text sent m (begun e i x l z) = begun e i x l (λ e. ab
 
 sent_end : (n : ℕ) (d : ℕ) (root : Bool) (text : List ℕ) (sent : List Event) → (d == 0) ≡ false → IsSent d root text sent →
     IsSent (d - 1) root [] (sent ++ (string_at n text ++ at_line n an_end ∷ []))
-sent_end n zero root text sent m s = true_false _ m
+sent_end n zero root text sent m s = no_truth (sym m)
 sent_end n (suc d) root text sent m (begun {es = es} e i x l z) =
     let less : suc d - 1 ≡ d = omega arith in
-    begun e i x (subst (λ (k : ℕ). Leads 1 false (es ++ (string_at n text ++ at_line n an_end ∷ [])) k false) (sym less) (lead_on l (string_end n text d n))) (λ e. refl)
+    begun e i x (subst (λ (k : ℕ). Leads 1 false (es ++ (string_at n text ++ at_line n an_end ∷ [])) k false) (sym less) (lead_on l
+    (string_end n text d n))) (λ e. refl)
 
 sent_more : (n : ℕ) (k : EventKind) (s : State) (sent : List Event) → IsGood k → is_misplaced k s.depth s.root ≡ false → IsSent s.depth s.root s.text sent →
     IsSent (depth_after k s.depth) (root_after k s.root) (text_after k s.depth s.text) (sent ++ events_at n k s.text)

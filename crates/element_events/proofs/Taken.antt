@@ -1,15 +1,18 @@
 -- Calls that were taken begin a document, and no document begins with a call that is refused.
-use Rattle.std.proofs.Common.{◌≡◌, ℕ, ◌-◌, ◌==◌, ◌∙◌, Bool, true, false, cond, ◌&&◌, not, List, [], ◌∷◌, ◌++◌, Option, Some, None, refl, sym, ap, subst, append_assoc, arith}
+use Rattle.std.proofs.Common.{◌≡◌, ℕ, ◌-◌, ◌==◌, ◌∙◌, Bool, true, false, cond, ◌&&◌, not, List, [], ◌∷◌, ◌++◌, Option, Some, None, refl, sym, ap}
+use Rattle.std.proofs.Common.{subst, append_assoc, arith}
 use Rattle.std.specs.Prelude.{zero, suc}
 use Rattle.std.proofs.lemmas.List.{append-nil}
 use Rattle.std.proofs.Math.Dec.{eqb-suc-zero}
 use Rattle.std.specs.Str.{chars}
+use Rattle.rng_model.proofs.Truths.{no_truth}
 use Rattle.rng_model.specs.names.Names.{Name}
 use Rattle.rng_model.specs.datatypes.Texts.{is_blank}
 use Rattle.rng_model.specs.matching.Document.{Attribute, none}
 use Rattle.rng_model.specs.plain.WellFormed as w
 use Rattle.rng_model.specs.documents.PyxTrees.{Placed, text_at, element_at, none_placed, Event, EventKind, a_start, a_string, an_end, events_of}
-use Rattle.element_events.specs.Telling.{IsGood, text_told, depth_after, text_after, events_at, events_behind, events_told, IsElement, TellsDocument, NoneBegins, BeginsDocument, TellsTheDocument}
+use Rattle.element_events.specs.Telling.{IsGood, text_told, depth_after, text_after, events_at, events_behind, events_told, IsElement, TellsDocument}
+use Rattle.element_events.specs.Telling.{NoneBegins, BeginsDocument, TellsTheDocument}
 use Rattle.element_events.specs.plain.Calls.{State, is_misplaced, AreTaken}
 use Rattle.element_events.proofs.Walks.{at_line, ends_at, content_ends, same_item}
 use Rattle.element_events.proofs.Trees.{Leads, stays, lead_on, leads_ends, root_of}
@@ -91,9 +94,7 @@ no_string d text e = rw e refl
 
 whole_by : (calls sent : List Event) (d : ℕ) (root : Bool) (text : List ℕ) → AreGood calls → Tells calls d text sent → IsSent d root text sent →
     d ≡ 0 → root ≡ true → TellsTheDocument calls sent
-whole_by calls sent d root text g h unbegun o b = absurd (apart b) where
-  apart : false ≡ true → ⊥
-  apart e = cc
+whole_by calls sent d root text g h unbegun o b = no_truth b
 whole_by calls sent d root text g h (begun {es = es} {q = q} {xs = xs} e i x l z) o b =
     let r = root_of e q xs es false i x (subst (λ (k : ℕ). Leads 1 false es k false) o l) in
     let told : events_told calls ≡ e ∷ es = ap events_told (sym (append-nil calls)) ∙ h [] ∙ ap (λ (x : List Event). (e ∷ es) ++ x) (no_string d text (z o))
@@ -102,7 +103,8 @@ whole_by calls sent d root text g h (begun {es = es} {q = q} {xs = xs} e i x l z
       document = record { good = g; element = tt; formed = r.formed; events = told ∙ sym r.walk };
       events = r.walk;
       only = λ other t. (same_item other (element_at e.line r.name r.attributes r.kids r.last) [] []
-          (append-nil (events_of other) ∙ sym t.events ∙ told ∙ sym r.walk ∙ sym (append-nil (events_of (element_at e.line r.name r.attributes r.kids r.last))))).0;
+          (append-nil (events_of other) ∙ sym t.events ∙ told ∙ sym r.walk ∙ sym (append-nil (events_of
+          (element_at e.line r.name r.attributes r.kids r.last))))).0;
     }
 
 pub whole : {calls sent : List Event} {s : State} → AreTaken calls s sent → s.depth ≡ 0 → s.root ≡ true → TellsTheDocument calls sent
@@ -158,15 +160,11 @@ told_string d c cs (e ∷ more) = go e.kind (λ d s. told_string d c s more) whe
   go an_end f = record { n = e.line; t = c ∷ cs; rest = _; parts = refl }
 
 shown : (b : Bool) (s : List ℕ) → not b ≡ true → cond b [] s ≡ s
-shown true s e = absurd (apart e) where
-  apart : false ≡ true → ⊥
-  apart e = cc
+shown true s e = no_truth e
 shown false s e = refl
 
 not_blank : (s : List ℕ) → not (is_blank s) ≡ true → s ≡ [] → ⊥
-not_blank [] e p = apart e where
-  apart : false ≡ true → ⊥
-  apart e = cc
+not_blank [] e p = no_truth e
 not_blank (c ∷ cs) e p = cc
 
 string_wrong : (root : Bool) (s : List ℕ) (more : List Event) → (s ≡ [] → ⊥) → Wrong root (events_behind 0 s more)
@@ -213,12 +211,8 @@ outside (a_start q xs) (suc d) root m = absurd (apart root (d_is d m)) where
   apart : (b : Bool) → (b && false) ≡ true → ⊥
   apart true e = cc
   apart false e = cc
-outside (a_string s) (suc d) root m = absurd (apart (rw eqb-suc-zero at m)) where
-  apart : false ≡ true → ⊥
-  apart e = cc
-outside an_end (suc d) root m = absurd (apart (sym (eqb-suc-zero d) ∙ m)) where
-  apart : false ≡ true → ⊥
-  apart e = cc
+outside (a_string s) (suc d) root m = no_truth (rw eqb-suc-zero at m)
+outside an_end (suc d) root m = no_truth (sym (eqb-suc-zero d) ∙ m)
 
 no_text : (d : ℕ) (root : Bool) (text : List ℕ) (sent : List Event) → IsSent d root text sent → d ≡ 0 → text ≡ []
 no_text d root text sent unbegun o = refl
@@ -242,7 +236,8 @@ misplaced_by calls sent d root text c h s m more tree t =
       behind_wrong : is_misplaced c.kind 0 root ≡ true → Wrong root (events_behind 0 [] (c ∷ more))
       behind_wrong e = subst (Wrong root) (sym (behind_is c more)) (wrong c.line c.kind root more e)
 
-pub misplaced : {calls sent : List Event} {s : State} → AreTaken calls s sent → (c : Event) → is_misplaced c.kind s.depth s.root ≡ true → NoneBegins (calls ++ c ∷ [])
+pub misplaced : {calls sent : List Event} {s : State} → AreTaken calls s sent → (c : Event) → is_misplaced c.kind s.depth s.root ≡ true →
+    NoneBegins (calls ++ c ∷ [])
 misplaced {calls} {sent} {s} a c m = misplaced_by calls sent s.depth s.root s.text c (told_more a) (is_sent a) m
 
 pub not_good : (calls : List Event) (c : Event) → (IsGood c.kind → ⊥) → NoneBegins (calls ++ c ∷ [])
@@ -277,12 +272,11 @@ unfinished_by calls sent zero root text h unbegun u (element_at n q xs kids m) b
     nowhere (sym (ap events_told (sym (append-nil calls)) ∙ h [] ∙ no_string 0 [] refl) ∙ p) where
       nowhere : [] ≡ events_of (element_at n q xs kids m) → ⊥
       nowhere e = cc
-unfinished_by calls sent zero root text h (begun e i x l z) u (element_at n q xs kids m) b p = absurd (apart u) where
-  apart : true ≡ false → ⊥
-  apart e = cc
+unfinished_by calls sent zero root text h (begun e i x l z) u (element_at n q xs kids m) b p = no_truth (sym u)
 unfinished_by calls sent (suc d) root text h (begun {es = inner} e i x l z) u (element_at n q xs kids m) b p =
     some_zero d (sym (open_still d text) ∙ sym (leads_ends l (events_behind (suc d) text []))
     ∙ ap (ends_at 1) (tails e _ (inner ++ events_behind (suc d) text []) _ (sym (ap events_told (sym (append-nil calls)) ∙ h []) ∙ p)) ∙ content_ends kids m)
 
-pub unfinished : {calls sent : List Event} {s : State} → AreTaken calls s sent → (s.root && s.depth == 0) ≡ false → (tree : Placed) → TellsDocument calls tree → ⊥
+pub unfinished : {calls sent : List Event} {s : State} → AreTaken calls s sent → (s.root && s.depth == 0) ≡ false → (tree : Placed) →
+    TellsDocument calls tree → ⊥
 unfinished {calls} {sent} {s} a u tree t = unfinished_by calls sent s.depth s.root s.text (told_more a) (is_sent a) u tree t.element t.events

@@ -1,9 +1,11 @@
 -- The tree whose walk is a list of events that opens and closes elements, and has no two strings in a row.
 use Rattle.std.proofs.Common.{◌≡◌, ◌≢◌, ℕ, ◌∙◌, Bool, true, false, List, [], ◌∷◌, ◌++◌, refl, sym, ap, append_assoc}
 use Rattle.std.specs.Prelude.{⊤, zero, suc}
+use Rattle.rng_model.proofs.Truths.{no_truth}
 use Rattle.rng_model.specs.names.Names.{Name}
 use Rattle.rng_model.specs.matching.Document.{Attribute, Distinct, a_text, an_element, Item, Items, list_of}
-use Rattle.rng_model.specs.documents.PyxTrees.{text_at, element_at, PlacedItems, none_placed, placed_and, items_of, Event, EventKind, a_start, a_string, an_end, events_of, events_in}
+use Rattle.rng_model.specs.documents.PyxTrees.{text_at, element_at, PlacedItems, none_placed, placed_and, items_of, Event, EventKind, a_start}
+use Rattle.rng_model.specs.documents.PyxTrees.{a_string, an_end, events_of, events_in}
 use Rattle.rng_model.specs.plain.WellFormed.{Separate, AreWellFormed, IsWellFormed}
 use Rattle.rng_model.specs.plain.WellFormed as w
 use Rattle.element_events.proofs.Walks.{at_line, ends_at}
@@ -56,9 +58,6 @@ text_before s none_placed o a = w.string
 text_before s (placed_and (text_at n t) ts) o a = absurd o
 text_before s (placed_and (element_at n q xs kids m) ts) o a = w.string_element (element_apart a)
 
-apart_false : (P : Type 0) → false ≡ true → P
-apart_false P e = cc
-
 event_is : (e : Event) (k : EventKind) → e.kind ≡ k → e ≡ at_line e.line k
 event_is e k i = ap (λ (x : EventKind). at_line e.line x) i
 
@@ -69,7 +68,7 @@ close_end {es = es} e i c =
 close_string : {d : ℕ} {es : List Event} (e : Event) (s : List ℕ) → e.kind ≡ a_string s → s ≢ [] → Closes (suc d) true es → Closes (suc d) false (e ∷ es)
 close_string e s i some (content {es = es} {all = all} kids m f o c p) =
     content (placed_and (text_at e.line s) kids) m (record { formed = (some, f.formed); apart = text_before s kids (o refl) f.apart })
-    (apart_false _) c (joined (event_is e (a_string s) i) p) where
+    (λ e. no_truth e) c (joined (event_is e (a_string s) i) p) where
       joined : e ≡ at_line e.line (a_string s) → all ≡ events_in kids ++ at_line m an_end ∷ es →
           e ∷ all ≡ at_line e.line (a_string s) ∷ (events_in kids ++ at_line m an_end ∷ es)
       joined i p = cc
@@ -120,5 +119,6 @@ root_closed e q xs es i x (content kids m f o none_open p) = record {
   joined i p = cc
 
 -- the start of a root, and events that lead to its end
-pub root_of : (e : Event) (q : Name) (xs : List Attribute) (es : List Event) (b : Bool) → e.kind ≡ a_start q xs → Distinct xs → Leads 1 false es 0 b → IsRootOf e es
+pub root_of : (e : Event) (q : Name) (xs : List Attribute) (es : List Event) (b : Bool) → e.kind ≡ a_start q xs → Distinct xs →
+    Leads 1 false es 0 b → IsRootOf e es
 root_of e q xs es b i x l = root_closed e q xs es i x (closes l)

@@ -3,7 +3,8 @@ use Rattle.std.proofs.Common.{◌≡◌, ℕ, ◌∙◌, List, [], ◌∷◌, �
 use Rattle.std.specs.Prelude.{zero, suc}
 use Rattle.rng_model.specs.names.Names.{Name}
 use Rattle.rng_model.specs.matching.Document.{Attribute}
-use Rattle.rng_model.specs.documents.PyxTrees.{Placed, text_at, element_at, PlacedItems, none_placed, placed_and, Event, EventKind, a_start, a_string, an_end, events_of, events_in}
+use Rattle.rng_model.specs.documents.PyxTrees.{Placed, text_at, element_at, PlacedItems, none_placed, placed_and, Event, EventKind, a_start, a_string}
+use Rattle.rng_model.specs.documents.PyxTrees.{an_end, events_of, events_in}
 
 abbrev pub at_line : ℕ → EventKind → Event
 at_line n kind = record { line = n; kind = kind }
@@ -32,7 +33,8 @@ mutual
 
   pub items_end : (kids : PlacedItems) (d : ℕ) (es : List Event) → ends_at (suc d) (events_in kids ++ es) ≡ ends_at (suc d) es
   items_end none_placed d es = refl
-  items_end (placed_and t ts) d es = ap (ends_at (suc d)) (append_assoc (events_of t) (events_in ts) es) ∙ item_ends t d (events_in ts ++ es) ∙ items_end ts d es
+  items_end (placed_and t ts) d es = ap (ends_at (suc d)) (append_assoc (events_of t) (events_in ts) es) ∙ item_ends t d
+      (events_in ts ++ es) ∙ items_end ts d es
 
 -- the content of an element leads to its end
 pub content_ends : (kids : PlacedItems) (m : ℕ) → ends_at 1 (events_in kids ++ at_line m an_end ∷ []) ≡ Some 0
@@ -86,7 +88,8 @@ mutual
         join : n ≡ m → q ≡ p → ps ≡ bs → kids ≡ others → l ≡ k → element_at n q ps kids l ≡ element_at m p bs others k
         join a b c d e = rw (a, b, c, d, e) refl
 
-  same_items : (kids others : PlacedItems) (l k : ℕ) (xs ys : List Event) → events_in kids ++ at_line l an_end ∷ xs ≡ events_in others ++ at_line k an_end ∷ ys →
+  same_items : (kids others : PlacedItems) (l k : ℕ)
+      (xs ys : List Event) → events_in kids ++ at_line l an_end ∷ xs ≡ events_in others ++ at_line k an_end ∷ ys →
       (kids ≡ others) × (l ≡ k) × (xs ≡ ys)
   same_items none_placed none_placed l k xs ys e = let h = head_same _ _ _ _ e in (refl, h.1, h.2)
   same_items none_placed (placed_and t ts) l k xs ys e =

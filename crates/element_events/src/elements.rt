@@ -1,5 +1,5 @@
 // The checker of calls.
-ghost use Rattle.std.specs.Prelude.{◌≡◌, [], List, OnOk, IfErr, IfSome, IfNone, IsErrOf, Some, None, Err};
+ghost use Rattle.std.specs.Prelude.{◌≡◌, ℕ, [], List, OnOk, IfErr, IfSome, IfNone, IsErrOf, Some, None, Err};
 ghost use Rattle.rng_model.specs.documents.EventViews.{Hands};
 ghost use Rattle.rng_model.specs.documents.PyxTrees.{Event, a_string, an_end};
 ghost use Rattle.element_events.specs.Telling.{BeginsDocument};
@@ -54,7 +54,7 @@ impl ElementEvents {
     ///
     /// Fails with `EventFault::NotWellFormed` exactly if no document begins with the calls so far, or with
     /// `EventFault::Memory`. Costs one pass over the names and values, and one look-up by hashing for each of more than
-    /// 8 attributes. Takes memory only for those look-ups, and where a name, a value or a namespace does not fit the
+    /// 16 attributes. Takes memory only for those look-ups, and where a name, a value or a namespace does not fit the
     /// buffers that are there. RELAX NG Specification, section 2.
     pub fn start<E: Events>(
         &mut self,
@@ -82,14 +82,13 @@ impl ElementEvents {
         }
     }
 
-    /// Takes a text, with a place that the caller chooses. It may be empty, and may be a part of a string. Hands out
-    /// nothing.
+    /// Takes a text. It may be empty, and may be a part of a string. It needs no place, and hands out nothing.
     ///
     /// Fails with `EventFault::NotWellFormed` exactly if no document begins with the calls so far, or with
     /// `EventFault::Memory`. Costs one pass over the text, which is copied into a buffer. RELAX NG Specification,
     /// section 2.
-    pub fn text(&mut self, place: u64, text: &str) -> Result<(), EventFault>
-        ensures stands { UnlessOutOfMemory result (Extends (λ es. es ≡ []) self.old self.new (call place (a_string text.now))) }
+    pub fn text(&mut self, text: &str) -> Result<(), EventFault>
+        ensures stands { (place : ℕ) → UnlessOutOfMemory result (Extends (λ es. es ≡ []) self.old self.new (call place (a_string text.now))) }
         ensures begins { OnOk result ((calls sent : List Event) → Stands self.new calls sent → BeginsDocument calls sent) }
         ensures fault { IfErr result (λ f. self.new.fault ≡ Some f) }
         ensures working { OnOk result (self.new.fault ≡ None) }
@@ -98,7 +97,7 @@ impl ElementEvents {
         if let Some(fault) = self.fault {
             return Err(fault);
         }
-        match self.state.text(place, text) {
+        match self.state.text(text) {
             Ok(()) => Ok(()),
             Err(fault) => {
                 self.fault = Some(fault);

@@ -9,12 +9,12 @@ use rng_model::OutOfMemory;
 use std::alloc::Global;
 
 /// The most names that are compared in pairs.
-const PAIRED_LIMIT: usize = 8;
+const PAIRED_LIMIT: usize = 16;
 
 fn is_same(a: ExpandedName<'_>, b: ExpandedName<'_>) -> bool
     ensures { (result ≡ true) ↔ (name_told a.entry ≡ name_told b.entry) }
 {
-    a == b
+    a.local == b.local && a.namespace == b.namespace
 }
 
 /// Returns whether no attribute has this name.

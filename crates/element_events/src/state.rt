@@ -1,5 +1,5 @@
 // Calls one by one.
-ghost use Rattle.std.specs.Prelude.{◌≡◌, ◌↔◌, ◌&&◌, ◌==◌, [], ◌∷◌, IfOk, OnOk, true};
+ghost use Rattle.std.specs.Prelude.{◌≡◌, ◌↔◌, ◌&&◌, ◌==◌, ℕ, [], ◌∷◌, IfOk, OnOk, true};
 ghost use Rattle.rng_model.specs.documents.EventViews.{Hands};
 ghost use Rattle.rng_model.specs.documents.PyxTrees.{a_string, an_end};
 ghost use Rattle.element_events.specs.Telling.{IsGood, string_at};
@@ -105,7 +105,8 @@ impl State {
         attributes: &[Attribute<'_>],
         events: &mut E,
     ) -> Result<(), EventFault>
-        ensures { Takes result (call place (start_told name.entry attributes.now)) (state_of self.old) (state_of self.new) (Hands E.stands events.old events.new) }
+        ensures { Takes result (call place (start_told name.entry attributes.now)) (state_of self.old) (state_of self.new)
+            (Hands E.stands events.old events.new) }
     {
         if self.is_whole() || !self.is_good_tag(name, attributes)? {
             return Err(EventFault::NotWellFormed);
@@ -121,8 +122,8 @@ impl State {
     }
 
     /// Takes a text.
-    pub fn text(&mut self, place: u64, text: &str) -> Result<(), EventFault>
-        ensures { Takes result (call place (a_string text.now)) (state_of self.old) (state_of self.new) (λ es. es ≡ []) }
+    pub fn text(&mut self, text: &str) -> Result<(), EventFault>
+        ensures { (place : ℕ) → Takes result (call place (a_string text.now)) (state_of self.old) (state_of self.new) (λ es. es ≡ []) }
     {
         if !are_xml_chars(text) {
             return Err(EventFault::NotWellFormed);

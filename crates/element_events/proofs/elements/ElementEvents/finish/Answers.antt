@@ -8,8 +8,10 @@ returns-in-Some-clause-document c = verdict_stuck (Unit {0}) c.args.self c.in-So
 
 pub returns-then-is_whole-clause-document : goal.returns-then-is_whole-clause-document
 returns-then-is_whole-clause-document c =
-    verdict_whole c.args.self (state_of c.self.inside.state) (ap (λ (k : Kept). k.state) c.self.view_is) (search rules) (sym c.is_whole.ensures ∙ c.if-is_whole.true)
+    verdict_whole c.args.self (state_of c.self.inside.state) (ap (λ (k : Kept). k.state) c.self.view_is) (search rules)
+    (sym c.is_whole.ensures ∙ c.if-is_whole.true)
 
 pub returns-clause-document : goal.returns-clause-document
 returns-clause-document c =
-    verdict_none c.args.self (state_of c.self.inside.state) (ap (λ (k : Kept). k.state) c.self.view_is) (search rules) (sym c.is_whole.ensures ∙ c.if-is_whole.false)
+    verdict_none c.args.self (state_of c.self.inside.state) (ap (λ (k : Kept). k.state) c.self.view_is) (search rules)
+    (sym c.is_whole.ensures ∙ c.if-is_whole.false)

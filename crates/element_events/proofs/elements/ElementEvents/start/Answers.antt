@@ -6,12 +6,14 @@ use Rattle.element_events.proofs.Kept.{refused, stands_begins, taken}
 use Rattle.element_events.proofs.elements.ElementEvents.start.Goals as goal
 
 pub returns-in-Ok-clause-stands : goal.returns-in-Ok-clause-stands
-returns-in-Ok-clause-stands g c = taken (Hands g.E.Events.stands c.args.events.now c.start.new.events) c.args.self.now _ (call c.args.place (start_told c.args.name c.args.attributes.now))
+returns-in-Ok-clause-stands g c = taken (Hands g.E.Events.stands c.args.events.now c.start.new.events) c.args.self.now _ (call c.args.place
+    (start_told c.args.name c.args.attributes.now))
     (state_of c.self.inside.state) (state_of c.start.new.self) (ap (λ (k : Kept). k.state) c.self.view_is) refl (search rules) (search rules) c.in-Ok.ensures
 
 pub returns-in-Ok-clause-begins : goal.returns-in-Ok-clause-begins
 returns-in-Ok-clause-begins g c = stands_begins _ (search rules)
 
 pub returns-in-Err-clause-stands : goal.returns-in-Err-clause-stands
-returns-in-Err-clause-stands g c = refused (Unit {0}) (Hands g.E.Events.stands c.args.events.now c.start.new.events) c.args.self.now _ (call c.args.place (start_told c.args.name c.args.attributes.now))
+returns-in-Err-clause-stands g c = refused (Unit {0}) (Hands g.E.Events.stands c.args.events.now c.start.new.events) c.args.self.now _
+    (call c.args.place (start_told c.args.name c.args.attributes.now))
     (state_of c.self.inside.state) (state_of c.start.new.self) c.in-Err.fault (ap (λ (k : Kept). k.state) c.self.view_is) (search rules) refl c.in-Err.ensures
