@@ -4,3 +4,4 @@ pub mod Sent
 pub mod Taken
 pub mod DistinctNames
 pub mod Kept
+pub mod AsciiChars
