@@ -18,7 +18,8 @@ use std::marker::Model;
 /// The start and the end of an element have the place of their call, and a string has the place of the start or end that
 /// follows it. Texts that follow each other are one string, and an empty one is none. Where no element is open, white
 /// space is passed over. There is no limit but memory on how deep elements nest, how many attributes a tag has and how
-/// long a text is. Only the text that is joined, the number of open elements and buffers are kept.
+/// long a text is. More than 2^64 - 1 open elements count as out of memory. Only the text that is joined, the number of
+/// open elements and buffers are kept. The buffers are those of the last tag and the longest text, and some for names.
 ///
 /// A call fails with `EventFault::NotWellFormed` exactly if no document begins with the calls so far: characters are
 /// those of XML, local names are NCNames, the attributes of a tag have distinct expanded names, ends match starts, and
