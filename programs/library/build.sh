@@ -3,7 +3,8 @@
 #
 # FOLDER, by default build/library at the top of the repository, then has include/rncv.h, lib/librncv.a, lib/librncv.so and lib/pkgconfig/rncv.pc.
 # BACKEND is `llvm` or `rattle`, the compiler of the proved code. PREFIX says where the files will be installed. Without it rncv.pc names FOLDER.
-# The script needs `rt`, a C compiler and binutils. What has changed is proved (archive.sh).
+# The script needs `rt`, a C compiler and binutils. What has changed is proved (archive.sh). A library of an archive that unproved.sh built says in its
+# version that it is not proved.
 set -eu
 
 here=$(cd "$(dirname "$0")" && pwd)
@@ -13,6 +14,10 @@ backend=${2:-llvm}
 cc=${CC:-cc}
 kit=$(dirname "$(rt doc)")
 
+# RNCV_ARCHIVE names a built librncv_c.a, and then nothing is proved here.
+archive=${RNCV_ARCHIVE:-}
+[ -z "$archive" ] || archive=$(cd "$(dirname "$archive")" && pwd)/$(basename "$archive")
+
 rm -rf "$folder"
 mkdir -p "$folder/include" "$folder/lib/pkgconfig" "$folder/objects"
 folder=$(cd "$folder" && pwd)
@@ -21,18 +26,20 @@ prefix=${PREFIX:-$folder}
 number() { sed -n "s/^#define RNCV_VERSION_$1 //p" "$here/include/rncv.h"; }
 version=$(number MAJOR).$(number MINOR).$(number PATCH)
 
-# RNCV_ARCHIVE names a built librncv_c.a, and then nothing is proved here.
-archive=${RNCV_ARCHIVE:-}
 if [ -z "$archive" ]; then
     archive=$folder/librncv_c.a
     "$here/archive.sh" "$backend" "$archive" > "$folder/archive.log" 2>&1 || { cat "$folder/archive.log"; exit 1; }
 fi
 
-# One object: the proved code, the kit's three functions over malloc, realloc and free, and the titles of the clauses. It exports only the names of
-# the header.
+# One object: the proved code, the kit's three functions over malloc, realloc and free, the titles of the clauses, and the version. It exports only the
+# names of the header.
 (cd "$folder/objects" && ar x "$archive" && ar x "$kit/c/liblibc_c.a" heap.pic.o)
 python3 -B "$here/clause_titles.py" "$top/docs/CLAUSES.md" > "$folder/clause_titles.c"
-$cc -std=c11 -Wall -Wextra -Wconversion -Werror -O2 -fPIC -I"$here/include" -c -o "$folder/objects/clause_titles.o" "$folder/clause_titles.c"
+mark=
+! nm "$archive" | grep -q ' unproved_rncv_c$' || mark=-DRNCV_NOT_PROVED
+flags="-std=c11 -Wall -Wextra -Wconversion -Werror -O2 -fPIC"
+$cc $flags -I"$here/include" -c -o "$folder/objects/clause_titles.o" "$folder/clause_titles.c"
+$cc $flags $mark -I"$here/include" -c -o "$folder/objects/version.o" "$here/version.c"
 ld -r -o "$folder/rncv.o" "$folder/objects"/*.o
 objcopy --wildcard --keep-global-symbol='rncv_*' "$folder/rncv.o"
 

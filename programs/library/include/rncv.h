@@ -206,6 +206,10 @@ int32_t rncv_simple(rncv_schema *schema, uint8_t *buffer, size_t size, size_t *l
  * zero, and is never freed. Any thread may call this at any time. */
 const char *rncv_clause_title(char group, int32_t clause);
 
+/* The version of the library that is loaded, RNCV_VERSION of the header that it was built with. If the library was built without proofs (`make try`),
+ * " (not proved)" comes after it. The text is constant, ends in a zero, and is never freed. Any thread may call this at any time. */
+const char *rncv_version(void);
+
 #ifdef __cplusplus
 }
 #endif

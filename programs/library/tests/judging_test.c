@@ -261,6 +261,14 @@ static void titles(void) {
     CHECK(strcmp(rncv_clause_title('P', 1), "each line is ended by a line feed (profile)") == 0);
 }
 
+/* The version is that of the header. A library without proofs says so behind it. */
+static void version(void) {
+    const char *text = rncv_version();
+    size_t length = strlen(RNCV_VERSION);
+    CHECK(strncmp(text, RNCV_VERSION, length) == 0);
+    CHECK(text[length] == 0 || strcmp(text + length, " (not proved)") == 0);
+}
+
 /* The two sets of datatypes: which schemas are refused, and what texts are taken. Handles that share a schema have its set. */
 static void sets(void) {
     static const char larger[] = "element a { attribute b { xsd:positiveInteger { maxExclusive = \"9\" } }, xsd:language }";
@@ -303,5 +311,6 @@ int main(void) {
     sets();
     serves_many_documents();
     titles();
+    version();
     return outcome("judging");
 }

@@ -4,6 +4,7 @@ from __future__ import annotations
 import argparse
 import os
 import sys
+from typing import Any
 
 from rncv_lsp import DATATYPES, __version__
 
@@ -24,10 +25,33 @@ def failed(why: str) -> int:
     return 1
 
 
+def mark_of_library() -> str:
+    """What follows the number of the version: a mark if the library was built without proofs, else nothing. Without a library nothing is judged."""
+    try:
+        from rncv_lsp.outside import rncv
+        found = rncv.version().partition(" ")
+    except (ImportError, OSError):
+        return ""
+    return found[1] + found[2]
+
+
+class PrintVersion(argparse.Action):
+    """Prints the version, and ends the process. Only then is the library loaded."""
+
+    def __init__(self, option_strings: Any, dest: str, **others: Any) -> None:
+        super().__init__(option_strings, dest, nargs=0, help="show program's version number and exit")
+
+    def __call__(self, parser: argparse.ArgumentParser, *others: Any) -> None:
+        print(f"rncv-lsp {__version__}{mark_of_library()}")
+        parser.exit()
+
+
 def parse_arguments(parser: argparse.ArgumentParser) -> argparse.Namespace:
     """Parses the arguments, or ends the process. Output that cannot be written gives one line."""
     try:
         return parser.parse_args()
+    except OSError as error:
+        os._exit(failed(f"standard output: {error.strerror}"))
     except SystemExit:
         try:
             if sys.stdout is not None:
@@ -40,7 +64,7 @@ def parse_arguments(parser: argparse.ArgumentParser) -> argparse.Namespace:
 def main() -> None:
     """Runs the server, and ends the process with its status."""
     parser = argparse.ArgumentParser(prog="rncv-lsp", description=DESCRIPTION)
-    parser.add_argument("--version", action="version", version=f"rncv-lsp {__version__}")
+    parser.add_argument("--version", action=PrintVersion)
     parser.add_argument("--stdio", action="store_true", help="use the standard streams (it always does)")
     parser.add_argument("--datatypes", choices=DATATYPES, default=DATATYPES[0],
                         help="the datatypes that a schema may name, unless the client has a setting: xml-schema (the default), or the six of the profile")

@@ -19,6 +19,7 @@ from rncv_lsp.findings import slug  # noqa: E402
 from rncv_lsp.framing import MessageReader  # noqa: E402
 from rncv_lsp.jobs import Jobs  # noqa: E402
 from rncv_lsp.outside import rncv  # noqa: E402
+from rncv_lsp.program import mark_of_library  # noqa: E402
 from rncv_lsp.rpc import Connection, Dispatcher  # noqa: E402
 from rncv_lsp.schemas import Outcome  # noqa: E402
 from rncv_lsp.settings import matches  # noqa: E402
@@ -124,6 +125,13 @@ class Units(unittest.TestCase):
         for clause, title in headings.items():
             self.assertEqual(slug(f"{clause}: {rncv.clause_title(clause[0], int(clause[1:]))}"), slug(f"{clause}: {title}"))
         self.assertEqual(slug("P5: the escapes are `\\n`, `\\t` and `\\\\` (profile)"), "p5-the-escapes-are-n-t-and--profile")
+
+    def test_version(self):
+        for library, mark in (("0.9.0", ""), ("0.9.0 (not proved)", " (not proved)")):
+            with unittest.mock.patch.object(rncv, "version", return_value=library):
+                self.assertEqual(mark_of_library(), mark)
+        with unittest.mock.patch.object(rncv, "version", side_effect=rncv.LibraryError("none")):
+            self.assertEqual(mark_of_library(), "")
 
 
 @unittest.skipUnless(has_xml_library(), NO_XML_LIBRARY)

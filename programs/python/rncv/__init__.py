@@ -36,7 +36,8 @@ from typing import Any, BinaryIO, NamedTuple, NoReturn, Optional, Type, Union, o
 from . import _schema_files, _xml
 from ._xml import XmlVerdict
 
-__all__ = ["Document", "LibraryError", "Place", "SchemaError", "Validator", "Verdict", "XmlVerdict", "clause_title", "compile", "datatype_place", "mentions"]
+__all__ = ["Document", "LibraryError", "Place", "SchemaError", "Validator", "Verdict", "XmlVerdict", "clause_title", "compile", "datatype_place", "mentions",
+           "version"]
 __version__ = "0.9.0"
 
 Bytes = Union[bytes, bytearray, memoryview]
@@ -505,6 +506,12 @@ def clause_title(group: str, clause: int) -> Optional[str]:
     return None if title is None else title.decode("utf-8")
 
 
+def version() -> str:
+    """Returns the version of the library that is loaded, as `0.9.0`. If it was built without proofs, `0.9.0 (not proved)`."""
+    text: bytes = _library().rncv_version()
+    return text.decode("ascii")
+
+
 @dataclasses.dataclass
 class _Sources:
     """The files of a schema: their names for the library, their names for people, their texts as they are written, and as the library gets them. `missing`
@@ -796,6 +803,7 @@ def _typed(library: ctypes.CDLL) -> ctypes.CDLL:
         ("rncv_document_end", [schema, ctypes.POINTER(_Verdict)], status),
         ("rncv_simple", [schema, ctypes.c_char_p, size, ctypes.POINTER(size)], status),
         ("rncv_clause_title", [ctypes.c_char, ctypes.c_int32], ctypes.c_char_p),
+        ("rncv_version", [], ctypes.c_char_p),
     ]:
         call = getattr(library, name)
         call.argtypes, call.restype = kinds, kind

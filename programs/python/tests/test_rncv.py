@@ -376,6 +376,9 @@ class Schemas(unittest.TestCase):
             self.assertIsNone(rncv.clause_title(group, clause))
         self.assertIsNone(VALID.title)
 
+    def test_version(self):
+        self.assertIn(rncv.version(), (rncv.__version__, f"{rncv.__version__} (not proved)"))
+
 
 class Progress(unittest.TestCase):
     """Documents in progress, and documents that are abandoned."""

@@ -382,6 +382,17 @@ static int print(const char *text, struct streams streams) {
     return STATUS_VALID;
 }
 
+/* Prints the version, and that of the library, which says if it is not proved. */
+static int print_version(struct streams streams) {
+    struct bytes text = NO_BYTES;
+    bytes_add_text(&text, "rncv-xml " PROGRAM_VERSION " (librncv ");
+    bytes_add_text(&text, rncv_version());
+    bytes_add_text(&text, ")\n");
+    int status = print(bytes_text(&text), streams);
+    bytes_free(&text);
+    return status;
+}
+
 /* Says what is wrong with the words, or that memory ran out. Returns the exit status. */
 static int report_wrong(struct options *options) {
     struct bytes line = NO_BYTES;
@@ -404,7 +415,7 @@ int main(int count, char **words) {
     } else if (options.wants_help) {
         status = print(options_help(), streams);
     } else if (options.wants_version) {
-        status = print("rncv-xml " PROGRAM_VERSION " (librncv " RNCV_VERSION ")\n", streams);
+        status = print_version(streams);
     } else {
         status = run(&options, streams);
     }
