@@ -1,9 +1,9 @@
 # rncv: build, test, install. The repository's own scripts do the work; GNU make calls them.
 #
 #   make            prove and build the program, the library and the programs for XML; this wants the toolchain (README.md)
-#   make try        look before the proofs are made; this proves nothing
+#   make try        build the same without proofs, in minutes, below build/unproved, and judge an example; OPT is the optimisation, else -O2
 #   make test       all proofs and tests (.ci/run)
-#   make install    install what is built; this builds nothing. It uses PREFIX (else /usr/local) and DESTDIR
+#   make install    install what `make` built, or else what `make try` built; this builds nothing. It uses PREFIX (else /usr/local) and DESTDIR
 #   make uninstall  remove what `make install` with the same PREFIX and DESTDIR installed
 #   make deb        build/package/rncv_VERSION_ARCHITECTURE.deb, without the network
 #
@@ -12,6 +12,7 @@
 # Each of these is taken from the command line, else from the environment: packagers write `DESTDIR=/stage make install`.
 PREFIX ?= /usr/local
 DESTDIR ?=
+OPT ?= -O2
 # Where things are built.
 PROGRAM ?= crates/rncv/out/rncv
 LIBRARY ?= build/library
@@ -20,6 +21,7 @@ XML_PROGRAMS ?= build/xml
 # Commands see these by their environment, so that blanks in them need no care.
 export DESTDIR PROGRAM LIBRARY XML_PROGRAMS
 install uninstall: export PREFIX := $(PREFIX)
+try: export OPT := $(OPT)
 
 .PHONY: all build try test install uninstall deb clean
 all: build
@@ -31,7 +33,14 @@ build:
 	RNCV_LIBRARY="$$LIBRARY" programs/xml/build.sh "$$XML_PROGRAMS"
 
 try:
-	cd crates/rncv && rt try --data s.rnc=../../examples/letter/s.rnc -- valid s.rnc < ../../examples/letter/document.pyx
+	dev/setup.sh
+	programs/library/unproved.sh build/unproved
+	PREFIX= RNCV_ARCHIVE=build/unproved/librncv_c.a programs/library/build.sh build/unproved/library
+	PREFIX= RNCV_LIBRARY= programs/xml/library.sh build/unproved/library
+	RNCV_LIBRARY=build/unproved/library programs/xml/build.sh build/unproved/xml
+	build/unproved/rncv valid examples/letter/s.rnc < examples/letter/document.pyx
+	build/unproved/xml/rncv-xml --all examples/letter/s.rnc examples/letter/letter.xml
+	build/unproved/xml/rncv-xml --version
 
 # PREFIX of the environment is for `make install`; what tests build names the folder where it is
 test:

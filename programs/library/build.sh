@@ -38,7 +38,9 @@ python3 -B "$here/clause_titles.py" "$top/docs/CLAUSES.md" > "$folder/clause_tit
 mark=
 ! nm "$archive" | grep -q ' unproved_rncv_c$' || mark=-DRNCV_NOT_PROVED
 flags="-std=c11 -Wall -Wextra -Wconversion -Werror -O2 -fPIC"
+# shellcheck disable=SC2086  # flags are words
 $cc $flags -I"$here/include" -c -o "$folder/objects/clause_titles.o" "$folder/clause_titles.c"
+# shellcheck disable=SC2086
 $cc $flags $mark -I"$here/include" -c -o "$folder/objects/version.o" "$here/version.c"
 ld -r -o "$folder/rncv.o" "$folder/objects"/*.o
 objcopy --wildcard --keep-global-symbol='rncv_*' "$folder/rncv.o"

@@ -36,6 +36,11 @@ RNCV_REQUIRED=1 PREFIX=/usr DESTDIR=$root LIBDIR=$libdir PYTHONDIR=$python ZSHDI
     [ "$(grep -c '^  ' "$room/log")" = 1 ] && grep -q '^  rncv-lsp:' "$room/log" || exit 1
 }
 
+if grep -qF ' (not proved)' "$root/usr/$libdir/librncv.so.$version"; then
+    echo "deb.sh: the library was built without proofs (make try), and the package says that it is proved. Run \`make\` first" >&2
+    exit 1
+fi
+
 # only those who build need symbols, and pages are compressed
 elf() { [ "$(head -c 4 "$1" | tr -d '\177')" = ELF ]; }
 if command -v strip > /dev/null; then

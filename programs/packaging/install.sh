@@ -2,7 +2,7 @@
 # Installs what is built, or removes it:   programs/packaging/install.sh install|uninstall      (`make install`, `make uninstall`)
 #
 # It builds nothing. What is not built is left out, and reported at the end. That is a failure if the variable RNCV_REQUIRED is set, or if nothing is
-# built. Variables, each with its default:
+# built. If nothing is at the default places, what `make try` built is installed, and a line says that it is not proved. Variables, each with its default:
 #   PREFIX        /usr/local
 #   DESTDIR       empty; it comes before each path, and is in no file
 #   PROGRAM       crates/rncv/out/rncv, the built program
@@ -44,7 +44,15 @@ version=$(cat VERSION)
 doc=share/doc/rncv
 lacking=
 
-if [ "$action" = install ] && [ ! -f "$program" ] && [ ! -f "$xml/xml2pyx" ] && [ ! -f "$library/lib/librncv.a" ]; then
+is_built() { [ -f "$program" ] || [ -f "$xml/xml2pyx" ] || [ -f "$library/lib/librncv.a" ]; }
+
+tried=build/unproved
+if [ "$program $library $xml" = "crates/rncv/out/rncv build/library build/xml" ] && ! is_built && [ -f "$tried/rncv" ]; then
+    program=$tried/rncv
+    library=$tried/library
+    xml=$tried/xml
+fi
+if [ "$action" = install ] && ! is_built; then
     echo "install.sh: nothing is built: no $program, no $xml/xml2pyx, no $library/lib/librncv.a. Run \`make\` first. Nothing was installed" >&2
     exit 1
 fi
@@ -225,6 +233,10 @@ find examples -type f | while IFS= read -r source; do
     put 644 "$source" "$doc/$source"
 done
 
+# the version of the library says so, whoever names its place
+if [ "$action" = install ] && { [ "$program" = "$tried/rncv" ] || grep -qsF ' (not proved)' "$library/lib/librncv.so.$version"; }; then
+    echo "install.sh: what is installed was built without proofs (make try)" >&2
+fi
 if [ -n "$lacking" ]; then
     echo "install.sh: not built, and so not installed:$lacking" >&2
     [ -z "${RNCV_REQUIRED:-}" ] || exit 1

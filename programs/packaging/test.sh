@@ -74,6 +74,10 @@ fi
 [ -x "$xml/rncv-xml" ] || { built=0; skip "what wants rncv-xml, since it is not in $xml"; }
 [ ! -d "$xml" ] || xml=$(absolute "$xml")
 
+# what the version of a library that was built without proofs has behind its number
+mark=
+! grep -qsF ' (not proved)' "$library/lib/librncv.so.$version" || mark=' (not proved)'
+
 # The variables of the Makefile and of install.sh are those that a test gives, and none of the environment.
 unset PREFIX DESTDIR PROGRAM LIBRARY XML_PROGRAMS LIBDIR PYTHONDIR ZSHDIR
 
@@ -111,6 +115,10 @@ installs_in() {
 debian_package() {
     if [ "$built" = 0 ] || [ "$has_xml_library" = 0 ] || ! has dpkg-deb; then
         skip "the Debian package, since dpkg-deb or what is to be in it is not there"
+        return
+    fi
+    if [ -n "$mark" ]; then
+        skip "the Debian package, since the library is not proved"
         return
     fi
     if ! env -u MAKEFLAGS -u MAKELEVEL PROGRAM="$program" LIBRARY="$library" XML_PROGRAMS="$xml" "$here/deb.sh" "$room/deb" > "$room/name" 2> "$room/deb.log"; then
@@ -354,7 +362,7 @@ if [ -e "$installed/bin/rncv-lsp" ]; then
     grep -q '"capabilities"' "$room/out" || fail "the installed rncv-lsp does not answer: $(cat "$room/out")"
 fi
 if [ "$built" = 1 ]; then
-    same "rncv-xml --version" "rncv-xml $version (librncv $version)" "$(inside rncv-xml --version)"
+    same "rncv-xml --version" "rncv-xml $version (librncv $version$mark)" "$(inside rncv-xml --version)"
     same "rng2rnc --version" "rng2rnc $version" "$(inside rng2rnc --version)"
     same "xml2pyx --version" "xml2pyx $version" "$(inside xml2pyx --version)"
     same "rncv-xml" "letter.xml: valid" "$(cd "$examples/letter" && inside rncv-xml --all s.rnc letter.xml)"
@@ -437,6 +445,70 @@ print(rncv.compile({"s.rnc": b"element a { text }"}).validate_xml(b"<a/>"))' 2>&
     makes install PREFIX="$room/home/.local" || fail "make install PREFIX=\$HOME/.local fails: $(cat "$room/said")"
     runs_judges "$room/home/.local/share/doc/rncv/README.md" "$room/home" || fail "the programs of README.md behind make install PREFIX=\$HOME/.local"
 fi
+
+# --- what is not proved: a library that says so, in a checkout where only `make try` has built
+
+# marked_library FOLDER: a copy of the library, whose version says that it is not proved
+marked_library() {
+    cp -R "$library" "$1"
+    ar p "$library/lib/librncv.a" rncv.o > "$room/rncv.o"
+    objcopy --localize-symbol=rncv_version "$room/rncv.o"
+    "${CC:-cc}" -DRNCV_NOT_PROVED -fPIC -I"$library/include" -c -o "$room/version.o" "$top/programs/library/version.c"
+    ld -r -o "$room/both.o" "$room/rncv.o" "$room/version.o"
+    "${CC:-cc}" -shared -o "$1/lib/librncv.so.$version" "$room/both.o" -Wl,-soname,"librncv.so.${version%%.*}"
+}
+
+if [ "$built" = 1 ] && has "${CC:-cc}" && has objcopy; then
+    checkout=$room/checkout
+    mkdir -p "$checkout/build/unproved"
+    for name in Makefile VERSION README.md CHANGELOG.md docs examples man programs; do
+        cp -R "$top/$name" "$checkout/"
+    done
+    marked_library "$checkout/build/unproved/library"
+    cp "$program" "$checkout/build/unproved/rncv"
+    cp -R "$xml" "$checkout/build/unproved/xml"
+    prefix=$room/tried
+    if env -u MAKEFLAGS -u MAKELEVEL make -s -C "$checkout" install PREFIX="$prefix" > "$room/said" 2>&1; then
+        same "what make install says behind make try" "install.sh: what is installed was built without proofs (make try)" "$(cat "$room/said")"
+        same "rncv-lsp --version, not proved" "rncv-lsp $version (not proved)" "$(env -i PATH=/usr/bin:/bin "$prefix/bin/rncv-lsp" --version)"
+        same "rncv.version, not proved" "$version (not proved)" \
+            "$(env -i PATH=/usr/bin:/bin PYTHONPATH="$prefix/share/rncv/python" python3 -c 'import rncv; print(rncv.version())' 2>&1)"
+    else
+        fail "make install behind make try fails: $(cat "$room/said")"
+    fi
+    if has dpkg-deb; then
+        if env -u MAKEFLAGS -u MAKELEVEL make -s -C "$checkout" deb > "$room/said" 2>&1; then
+            fail "make deb makes a package of what is not proved"
+        fi
+        grep -q "was built without proofs" "$room/said" || fail "make deb does not say that the library is not proved: $(cat "$room/said")"
+    fi
+    # what `make` has built comes first
+    mkdir -p "$checkout/build/xml"
+    cp "$xml/xml2pyx" "$checkout/build/xml/"
+    env -u MAKEFLAGS -u MAKELEVEL -u RNCV_REQUIRED make -s -C "$checkout" install PREFIX="$room/proved" > "$room/said" 2>&1 || fail "make install: $(cat "$room/said")"
+    same "what make install takes of make try where make has built" "rncv-lsp rncv-profile xml2pyx" \
+        "$(cd "$room/proved/bin" && echo *)"
+else
+    skip "what make install says of what is not proved, since no library, C compiler or objcopy is there"
+fi
+
+# a machine without the toolchain, or with one that compiles nothing without proofs
+mkdir -p "$room/few" "$room/kit/bin"
+ln -s "$(command -v dirname)" "$room/few/dirname"
+shell=$(command -v sh)
+# refuses WORDS: unproved.sh ends with status 2 and one line with these words
+refuses() {
+    ended=0
+    PATH=$room/few "$shell" "$top/programs/library/unproved.sh" "$room/unproved" > "$room/said" 2>&1 || ended=$?
+    same "the status of unproved.sh: $1" 2 "$ended"
+    same "the lines of unproved.sh: $1" 1 "$(wc -l < "$room/said" | tr -d ' ')"
+    grep -qF "$1" "$room/said" || fail "unproved.sh does not say '$1': $(cat "$room/said")"
+    [ ! -e "$room/unproved" ] || fail "unproved.sh leaves a folder: $1"
+}
+refuses "no rt: install the toolchain"
+printf '#!%s\necho "%s"\n' "$shell" "$room/kit/PAGE.md" > "$room/few/rt"
+chmod 755 "$room/few/rt"
+refuses "no $room/kit/bin/rt"
 
 # --- make uninstall, where others have files and folders
 
