@@ -485,9 +485,9 @@ if [ "$built" = 1 ] && has "${CC:-cc}" && has objcopy; then
     # what `make` has built comes first
     mkdir -p "$checkout/build/xml"
     cp "$xml/xml2pyx" "$checkout/build/xml/"
-    env -u MAKEFLAGS -u MAKELEVEL -u RNCV_REQUIRED make -s -C "$checkout" install PREFIX="$room/proved" > "$room/said" 2>&1 || fail "make install: $(cat "$room/said")"
-    same "what make install takes of make try where make has built" "rncv-lsp rncv-profile xml2pyx" \
-        "$(cd "$room/proved/bin" && echo *)"
+    env -u MAKEFLAGS -u MAKELEVEL -u RNCV_REQUIRED make -s -C "$checkout" install PREFIX="$room/proved" > "$room/said" 2>&1 ||
+        fail "make install where make has built: $(cat "$room/said")"
+    same "what make install takes where make has built" "rncv-lsp rncv-profile xml2pyx" "$(cd "$room/proved/bin" && echo *)"
 else
     skip "what make install says of what is not proved, since no library, C compiler or objcopy is there"
 fi
