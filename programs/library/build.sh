@@ -53,5 +53,6 @@ $cc -shared -o "$folder/lib/librncv.so.$version" "$folder/rncv.o" -Wl,-soname,"l
     $("$top/programs/packaging/hardening.sh" library)
 ln -sf "librncv.so.$version" "$folder/lib/librncv.so.$major"
 ln -sf "librncv.so.$major" "$folder/lib/librncv.so"
-sed -e "s|@prefix@|$prefix|" -e "s|@version@|$version|" "$here/rncv.pc.in" > "$folder/lib/pkgconfig/rncv.pc"
+sed -e "s|@prefix@|$prefix|" -e "s|@version@|$version|" ${mark:+-e "s|A proved .*|& (not proved)|" -e "s|A proved|A|"} "$here/rncv.pc.in" \
+    > "$folder/lib/pkgconfig/rncv.pc"
 rm -rf "$folder/objects" "$folder/rncv.o" "$folder/librncv_c.a"

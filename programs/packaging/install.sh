@@ -156,8 +156,8 @@ if [ "$action" = uninstall ] || [ -f "$library/lib/librncv.so.$version" ]; then
     put 644 "$library/lib/librncv.a" "$libdir/librncv.a"
     put 644 "$library/include/rncv.h" include/rncv.h
     if room_for "$root/$libdir/pkgconfig/rncv.pc"; then
-        sed -e "s|@prefix@|$(for_pkg_config "$prefix")|" -e "s|@version@|$version|" -e "s|^\(libdir=.*/\)lib\$|\1$(for_pkg_config "$libdir")|" \
-            programs/library/rncv.pc.in > "$root/$libdir/pkgconfig/rncv.pc"
+        sed -e "s|^prefix=.*|prefix=$(for_pkg_config "$prefix")|" -e "s|^\(libdir=.*/\)lib\$|\1$(for_pkg_config "$libdir")|" \
+            "$library/lib/pkgconfig/rncv.pc" > "$root/$libdir/pkgconfig/rncv.pc"
         chmod 644 "$root/$libdir/pkgconfig/rncv.pc"
     fi
 elif [ -f "$library/lib/librncv.a" ]; then

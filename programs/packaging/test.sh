@@ -290,6 +290,9 @@ fi
 if [ "$built" = 1 ]; then
     same "the prefix of rncv.pc" "prefix=/usr/local" "$(sed -n 1p "$installed/lib/pkgconfig/rncv.pc")"
     same "the version of rncv.pc" "Version: $version" "$(grep '^Version' "$installed/lib/pkgconfig/rncv.pc")"
+    wanted="Description: A proved RELAX NG validator"
+    [ -z "$mark" ] || wanted="Description: A RELAX NG validator$mark"
+    same "the description of rncv.pc" "$wanted" "$(grep '^Description' "$installed/lib/pkgconfig/rncv.pc")"
 fi
 
 # --- variables in the environment, as packagers write them: DESTDIR=/stage make install

@@ -6,7 +6,8 @@ import os
 import sys
 from typing import Any
 
-from rncv_lsp import DATATYPES, __version__
+from rncv_lsp import DATATYPES
+from rncv_lsp.versions import shown_version
 
 # The threads that judge give way to the one that reads messages after this time.
 SWITCH_SECONDS = 0.001
@@ -25,16 +26,6 @@ def failed(why: str) -> int:
     return 1
 
 
-def mark_of_library() -> str:
-    """What follows the number of the version: a mark if the library was built without proofs, else nothing. Without a library nothing is judged."""
-    try:
-        from rncv_lsp.outside import rncv
-        found = rncv.version().partition(" ")
-    except (ImportError, OSError):
-        return ""
-    return found[1] + found[2]
-
-
 class PrintVersion(argparse.Action):
     """Prints the version, and ends the process. Only then is the library loaded."""
 
@@ -42,7 +33,7 @@ class PrintVersion(argparse.Action):
         super().__init__(option_strings, dest, nargs=0, help="show program's version number and exit")
 
     def __call__(self, parser: argparse.ArgumentParser, *others: Any) -> None:
-        print(f"rncv-lsp {__version__}{mark_of_library()}")
+        print(f"rncv-lsp {shown_version()}")
         parser.exit()
 
 

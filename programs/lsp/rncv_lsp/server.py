@@ -4,13 +4,14 @@ from __future__ import annotations
 import os
 from typing import Any, BinaryIO, List, Optional
 
-from rncv_lsp import DATATYPES, __version__
+from rncv_lsp import DATATYPES
 from rncv_lsp.coordinator import Coordinator
 from rncv_lsp.documents import Documents, new_document, path_of
 from rncv_lsp.framing import FramingFault, MessageReader
 from rncv_lsp.rpc import INTERNAL_ERROR, INVALID_REQUEST, NOT_INITIALIZED, PARSE_ERROR, Connection, Dispatcher, RpcFault, member
 from rncv_lsp.settings import settings_of
 from rncv_lsp.texts import CODECS
+from rncv_lsp.versions import shown_version
 
 INCREMENTAL = 2
 
@@ -92,7 +93,7 @@ class Server:
                 "textDocumentSync": {"openClose": True, "change": INCREMENTAL, "save": {"includeText": False}},
                 "workspace": {"workspaceFolders": {"supported": True, "changeNotifications": True}},
             },
-            "serverInfo": {"name": "rncv-lsp", "version": __version__},
+            "serverInfo": {"name": "rncv-lsp", "version": shown_version()},
         }
 
     def _shutdown(self, params: Any) -> None:

@@ -19,11 +19,11 @@ from rncv_lsp.findings import slug  # noqa: E402
 from rncv_lsp.framing import MessageReader  # noqa: E402
 from rncv_lsp.jobs import Jobs  # noqa: E402
 from rncv_lsp.outside import rncv  # noqa: E402
-from rncv_lsp.program import mark_of_library  # noqa: E402
 from rncv_lsp.rpc import Connection, Dispatcher  # noqa: E402
 from rncv_lsp.schemas import Outcome  # noqa: E402
 from rncv_lsp.settings import matches  # noqa: E402
 from rncv_lsp.texts import CODECS, PIECE_LENGTH, Text, units  # noqa: E402
+from rncv_lsp.versions import shown_version  # noqa: E402
 from rncv_lsp.xml_judging import judged  # noqa: E402
 from xml_feed import OutsideProfile  # noqa: E402
 
@@ -127,11 +127,13 @@ class Units(unittest.TestCase):
         self.assertEqual(slug("P5: the escapes are `\\n`, `\\t` and `\\\\` (profile)"), "p5-the-escapes-are-n-t-and--profile")
 
     def test_version(self):
-        for library, mark in (("0.9.0", ""), ("0.9.0 (not proved)", " (not proved)")):
-            with unittest.mock.patch.object(rncv, "version", return_value=library):
-                self.assertEqual(mark_of_library(), mark)
+        with unittest.mock.patch.object(rncv, "version", return_value="9.9.9"):
+            own = shown_version()
+        self.assertRegex(own, r"^\d+\.\d+\.\d+$")
+        with unittest.mock.patch.object(rncv, "version", return_value="9.9.9 (not proved)"):
+            self.assertEqual(shown_version(), f"{own} (not proved)")
         with unittest.mock.patch.object(rncv, "version", side_effect=rncv.LibraryError("none")):
-            self.assertEqual(mark_of_library(), "")
+            self.assertEqual(shown_version(), own)
 
 
 @unittest.skipUnless(has_xml_library(), NO_XML_LIBRARY)
