@@ -5,7 +5,8 @@
 
 The texts are walks over the expression, and these with one edit: a character taken away, put in, exchanged for one near it, or said twice. The seed is fixed,
 and each expression has its own, so that a new one changes no other row. The verdict is that of `expressions.py`. Beside it is jing's, where they differ with a
-word for the reason. Characters that have changed their category since Unicode 3.2 are left out. Without jing nothing is written.
+word for the reason. Characters that have changed their category since Unicode 3.2, or may get one, are left out. Without jing nothing is written. Another
+version of Python may have other texts of classes that Unicode decides: it has other ends of their ranges.
 """
 import pathlib
 import random
@@ -25,6 +26,7 @@ XML = ((0x9, 0xA), (0xD, 0xD), (0x20, 0xD7FF), (0xE000, 0xFFFD), (0x10000, LAST)
 USUAL = tuple((ord(low), ord(high)) for low, high in ("az", "AZ", "09", "--", "__", "..", "  "))
 ODD = ("\t\n\r !\"#$%&'()*+,-./09:;<=>?@AZ[\\]^_`az{|}~\x80\xa0\xaa\xb2\xb5\xb7\xd7\xe9\u0130\u0301\u0660\u0950\u0e33\u2028\u2160\u3007\u4e00\uac00\uf8ff"
        "\ufb01\ufffd\U00010330\U0001d400\U00020000")
+NONCHARACTER = "\ufdd0"        # Unicode will never give it a category
 REASONS = {
     "names": "`\\i` and `\\c` are those of XML 1.0, Fifth Edition. jing has those of the editions before",
     "properties": "jing has the categories and the blocks of Java, with exceptions",
@@ -109,6 +111,8 @@ def texts_of(pattern):
         kept = found[matches(pattern, text)]
         if text not in kept and len(kept) < WANTED[kept is found[True]]:
             kept.append(text)
+    if not found[True] and matches(pattern, NONCHARACTER):
+        found[True].append(NONCHARACTER)
     return found
 
 
