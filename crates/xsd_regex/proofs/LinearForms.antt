@@ -88,20 +88,20 @@ module _ (c : ℕ) where
 
   -- ---- and back
 
-  both_back : {p q : Regex} {k : RegexState} {s : List ℕ} → AcceptsState (p ∷ q ∷ k) s → AcceptsState (both p q ∷ k) s
+  pub both_back : {p q : Regex} {k : RegexState} {s : List ℕ} → AcceptsState (p ∷ q ∷ k) s → AcceptsState (both p q ∷ k) s
   both_back (next_is {s = u} mp (next_is {s = x} {t = y} mq a e) parts) =
       next_is (both_are mp mq refl) a (parts ∙ ap (λ l. u ++ l) e ∙ sym (append_assoc u x y))
 
-  second_back : {p q : Regex} {k : RegexState} {s : List ℕ} → is_nullable p ≡ true → AcceptsState (q ∷ k) s → AcceptsState (both p q ∷ k) s
+  pub second_back : {p q : Regex} {k : RegexState} {s : List ℕ} → is_nullable p ≡ true → AcceptsState (q ∷ k) s → AcceptsState (both p q ∷ k) s
   second_back {p} e (next_is m a parts) = next_is (both_are (nullable_then p e) m refl) a parts
 
-  left_back : {p q : Regex} {k : RegexState} {s : List ℕ} → AcceptsState (p ∷ k) s → AcceptsState (either p q ∷ k) s
+  pub left_back : {p q : Regex} {k : RegexState} {s : List ℕ} → AcceptsState (p ∷ k) s → AcceptsState (either p q ∷ k) s
   left_back (next_is m a parts) = next_is (first_is m) a parts
 
-  right_back : {p q : Regex} {k : RegexState} {s : List ℕ} → AcceptsState (q ∷ k) s → AcceptsState (either p q ∷ k) s
+  pub right_back : {p q : Regex} {k : RegexState} {s : List ℕ} → AcceptsState (q ∷ k) s → AcceptsState (either p q ∷ k) s
   right_back (next_is m a parts) = next_is (second_is m) a parts
 
-  times_back : (l : ℕ) (m : Option ℕ) {p : Regex} {k : RegexState} {s : List ℕ} → is_none_left m ≡ false
+  pub times_back : (l : ℕ) (m : Option ℕ) {p : Regex} {k : RegexState} {s : List ℕ} → is_none_left m ≡ false
       → AcceptsState (p ∷ times (l - 1) (one_less m) p ∷ k) s → AcceptsState (times l m p ∷ k) s
   times_back l m h (next_is {s = u} mp (next_is {s = x} {t = y} (so_often n copies least most) a e) parts) =
       next_is (so_often (suc n) (copy_and mp copies refl) (omega (arith, least)) (more n m h most)) a (parts ∙ ap (λ l. u ++ l) e ∙ sym (append_assoc u x y))

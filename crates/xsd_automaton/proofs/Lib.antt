@@ -1,0 +1,10 @@
+pub mod Edges
+pub mod Marks
+pub mod Added
+pub mod WorkList
+pub mod FoundPositions
+pub mod ReadTexts
+pub mod SetTables
+pub mod AlikeChars
+pub mod GrownSets
+pub mod Within

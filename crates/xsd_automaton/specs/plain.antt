@@ -1,0 +1,3 @@
+-- Plain functions that the code is proved against.
+pub mod Closures
+pub mod Sets

@@ -1,0 +1,5 @@
+-- What contracts see of the types of the code.
+pub mod Classes
+pub mod Reached
+pub mod Sets
+pub mod Automaton

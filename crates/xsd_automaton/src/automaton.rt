@@ -1,0 +1,62 @@
+// The automaton of an expression.
+ghost use Rattle.std.specs.Prelude.{◌≡◌, ◌≤◌, ◌↔◌, IfOk, IsTrue, length};
+ghost use Rattle.std.specs.Str.{chars};
+ghost use Rattle.xsd_regex.specs.Expressions.{Matches, Regex};
+ghost use Rattle.xsd_regex.specs.plain.Positions.{ArePositionsOf};
+ghost use Rattle.xsd_positions.specs.views.Positions.{positions_of};
+
+use crate::found_sets::set_rows;
+use crate::sets::{SetRow, accepts_by_sets};
+use crate::steps::accepts_from_first;
+use rng_model::OutOfMemory;
+use std::alloc::Global;
+use std::marker::Model;
+use xsd_positions::Positions;
+
+/// An automaton that says which texts an expression matches as a whole.
+///
+/// It has the positions of the expression, and a table of at most 255 sets of them, which texts of ASCII lead to.
+#[derive(Drop)]
+pub struct Automaton {
+    positions: Positions,
+    sets: Vec<SetRow>,
+}
+
+impl Model for Automaton {
+    ghost use Rattle.xsd_positions.specs.declared.position.Positions.{Positions};
+    ghost use Rattle.xsd_positions.specs.views.Positions.{positions_of};
+    ghost use Rattle.xsd_automaton.specs.views.Automaton.{IsAutomaton};
+
+    ghost Value = { Positions };
+
+    ghost view = { λ a. a.positions };
+
+    ghost invariant = { λ a. IsAutomaton a.positions.first (positions_of a.positions) a.sets.items };
+}
+
+impl Automaton {
+    /// Returns the automaton of an expression with these positions, of which there are at most 12,288.
+    ///
+    /// Fails only when out of memory. The cost is linear in the positions, with a bound on what is spent on the table of sets.
+    pub fn new(alloc: Global, positions: Positions) -> Result<Self, OutOfMemory>
+        requires few { length positions.positions.items ≤ 12288 }
+        requires are { (r : Regex) × ArePositionsOf r positions.first (positions_of positions) }
+        ensures { IfOk result (λ a. a ≡ positions) }
+    {
+        let sets = set_rows(alloc, &positions)?;
+        Ok(Automaton { positions, sets })
+    }
+
+    /// Returns whether the expression matches the text as a whole.
+    ///
+    /// XML Schema Part 2, Second Edition, appendix F. Allocates nothing. A text of ASCII mostly costs one look-up for each
+    /// character, and another text one pass over the positions for each character.
+    pub fn accepts(&self, text: &str) -> bool
+        ensures { (r : Regex) → ArePositionsOf r self.now.first (positions_of self.now) → IsTrue result ↔ Matches r (chars text.now) }
+    {
+        match accepts_by_sets(self.sets.as_slice(), text) {
+            Some(answer) => answer,
+            None => accepts_from_first(&self.positions, text),
+        }
+    }
+}

@@ -1,0 +1,169 @@
+// The sets of positions that texts of ASCII lead to.
+ghost use Rattle.std.specs.Prelude.{◌≡◌, ◌<◌, ◌≤◌, [], IfOk, IfSome, OnOk, length};
+ghost use Rattle.xsd_automaton.specs.plain.Closures.{AreWithin, LeadsTo, has_number};
+ghost use Rattle.xsd_automaton.specs.plain.Sets.{AreAlikeChars, AreSets, IsLonger, IsNumbered, IsRow, HasTarget, members_at};
+ghost use Rattle.xsd_positions.specs.views.Positions.{positions_of};
+ghost use Rattle.xsd_automaton.specs.views.Sets.{IsSetTable, lists_of, sets_of};
+
+use crate::alike::alike_chars;
+use crate::reached::{MOST, Reached};
+use crate::sets::{ASCII, SetRow};
+use crate::steps::{enter, find_nexts, start};
+use arrayvec::ArrayVec;
+use rng_model::OutOfMemory;
+use std::alloc::Global;
+use xsd_positions::Positions;
+
+// no set has this number
+const NO_SET: u8 = 255;
+
+// how many positions are gone through before no further row is made
+const MOST_WORK: usize = 1_000_000;
+
+// the sets that are found so far, with room to find more
+#[derive(Drop)]
+pub(crate) struct FoundSets {
+    pub(crate) sets: Vec<Vec<u16>>,
+    reached: Reached,
+    nexts: ArrayVec<u16, MOST>,
+    work: usize,
+}
+
+// Rows for the set that the first position leads to, and for those that texts of ASCII lead to from there. Some have none, if
+// there are more than 255 or if it takes too long.
+pub(crate) fn set_rows(alloc: Global, positions: &Positions) -> Result<Vec<SetRow>, OutOfMemory>
+    requires within { AreWithin (positions_of positions.now) }
+    requires room { length (positions_of positions.now) < 12289 }
+    requires first { positions.now.first ≤ length (positions_of positions.now) }
+    ensures { IfOk result (λ rows. IsSetTable (positions_of positions.now) positions.now.first rows.items) }
+{
+    let alike = alike_chars(positions);
+    let mut found = FoundSets::new(alloc, positions)?;
+    let mut rows = Vec::new(alloc);
+    'rows: while rows.len() < found.sets.len() && found.work < MOST_WORK {
+        let row = found.row(alloc, positions, &alike, rows.len())?;
+        rows.push(row)?;
+    }
+    Ok(rows)
+}
+
+impl FoundSets {
+    // the set that the first position leads to
+    fn new(alloc: Global, positions: &Positions) -> Result<Self, OutOfMemory>
+        requires within { AreWithin (positions_of positions.now) }
+        requires room { length (positions_of positions.now) < 12289 }
+        requires first { positions.now.first ≤ length (positions_of positions.now) }
+        ensures sets { IfOk result (λ f. AreSets (positions_of positions.now) (sets_of f)) }
+        ensures start { IfOk result (λ f. LeadsTo (positions_of positions.now) positions.now.first [] (members_at (sets_of f) 0)) }
+    {
+        let mut reached = Reached::new();
+        start(positions, &mut reached);
+        let mut sets = Vec::new(alloc);
+        sets.push(Vec::from_slice(alloc, reached.numbers())?)?;
+        Ok(FoundSets {
+            sets,
+            reached,
+            nexts: ArrayVec::new(),
+            work: 0,
+        })
+    }
+
+    // the row of the set with this number
+    fn row(
+        &mut self,
+        alloc: Global,
+        positions: &Positions,
+        alike: &[bool; ASCII],
+        set: usize,
+    ) -> Result<SetRow, OutOfMemory>
+        requires within { AreWithin (positions_of positions.now) }
+        requires room { length (positions_of positions.now) < 12289 }
+        requires alike { AreAlikeChars (positions_of positions.now) alike.now }
+        requires sets { AreSets (positions_of positions.now) (sets_of self.old) }
+        requires set { set < length (sets_of self.old) }
+        ensures sets { OnOk result (AreSets (positions_of positions.now) (sets_of self.new)) }
+        ensures longer { OnOk result (IsLonger (sets_of self.old) (sets_of self.new)) }
+        ensures row { IfOk result (λ row. IsRow (positions_of positions.now) (sets_of self.new) (members_at (sets_of self.old) set) row.targets row.is_end) }
+    {
+        let mut targets = [NO_SET; ASCII];
+        let mut target = NO_SET;
+        for c in 0..128u8 {
+            if !alike[usize::from(c)] {
+                target = self.target(alloc, positions, set, char::from(c))?;
+            }
+            targets[usize::from(c)] = target;
+        }
+        let is_end = contains(
+            members_of(self.sets.as_slice(), set),
+            positions.positions.len() as u16,
+        );
+        Ok(SetRow { targets, is_end })
+    }
+
+    // the number of the set behind the character, if it has one
+    fn target(
+        &mut self,
+        alloc: Global,
+        positions: &Positions,
+        set: usize,
+        c: char,
+    ) -> Result<u8, OutOfMemory>
+        requires within { AreWithin (positions_of positions.now) }
+        requires room { length (positions_of positions.now) < 12289 }
+        requires sets { AreSets (positions_of positions.now) (sets_of self.old) }
+        requires set { set < length (sets_of self.old) }
+        ensures sets { OnOk result (AreSets (positions_of positions.now) (sets_of self.new)) }
+        ensures longer { OnOk result (IsLonger (sets_of self.old) (sets_of self.new)) }
+        ensures target { IfOk result (λ t. HasTarget (positions_of positions.now) (sets_of self.new) (members_at (sets_of self.old) set) c t) }
+    {
+        let members = members_of(self.sets.as_slice(), set);
+        self.work = self.work.saturating_add(members.len());
+        find_nexts(positions, c, members, &mut self.nexts);
+        enter(positions, self.nexts.as_slice(), &mut self.reached);
+        self.work = self.work.saturating_add(self.reached.numbers().len());
+        number_of(alloc, &mut self.sets, self.reached.numbers())
+    }
+}
+
+// the positions of the set with this number
+fn members_of(sets: &[Vec<u16>], set: usize) -> &[u16]
+    requires { set < length sets.now }
+    ensures { result.now ≡ members_at (lists_of sets.now) set }
+{
+    sets[set].as_slice()
+}
+
+// the number of the set of these positions, which is added if it is new
+fn number_of(alloc: Global, sets: &mut Vec<Vec<u16>>, numbers: &[u16]) -> Result<u8, OutOfMemory>
+    requires { length sets.old.items ≤ 255 }
+    ensures { IfOk result (λ t. IsNumbered numbers.now (lists_of sets.old.items) (lists_of sets.new.items) t) }
+{
+    if let Some(place) = place_of(sets.as_slice(), numbers) {
+        return Ok(place as u8);
+    }
+    let number = sets.len();
+    if number >= usize::from(NO_SET) {
+        return Ok(NO_SET);
+    }
+    sets.push(Vec::from_slice(alloc, numbers)?)?;
+    Ok(number as u8)
+}
+
+// the number of the set of these positions, if it is there
+fn place_of(sets: &[Vec<u16>], numbers: &[u16]) -> Option<usize>
+    ensures { IfSome result (λ i. i < length sets.now × (members_at (lists_of sets.now) i ≡ numbers.now)) }
+{
+    for (place, set) in sets.iter().enumerate() {
+        if set.as_slice() == numbers {
+            return Some(place);
+        }
+    }
+    None
+}
+
+// whether the number is one of these
+fn contains(numbers: &[u16], number: u16) -> bool
+    ensures { result ≡ has_number numbers.now number }
+{
+    numbers.iter().any(|other| number == *other)
+}

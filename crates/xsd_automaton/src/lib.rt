@@ -1,0 +1,17 @@
+//! An automaton that says which texts a regular expression of XML Schema matches (XML Schema Part 2, Second Edition,
+//! appendix F).
+//!
+//! A text is judged by the positions of the expression, without memory and in one pass. The positions that it may be at
+//! are closed by a work list, each at most once. For texts of ASCII a table has such sets of positions, so that a
+//! character costs one look-up. No program uses this crate yet.
+#![tactic(auto)]
+
+mod alike;
+mod automaton;
+mod closing;
+mod found_sets;
+mod reached;
+mod sets;
+mod steps;
+
+pub use automaton::Automaton;
