@@ -4,5 +4,7 @@ mod Decimals
 mod Floats
 mod Octets
 mod Moments
+mod MomentOrder
 mod Durations
+mod DurationOrder
 mod Uris

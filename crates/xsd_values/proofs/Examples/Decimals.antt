@@ -1,7 +1,6 @@
 -- Worked cases of decimal, which the checker computes.
 use Rattle.std.proofs.Common.{codes, ◌≡◌, ℕ, List, [], ◌∷◌, refl, true, false, Bool, Some, None, pos, negsuc, is_some}
 use Rattle.rng_model.specs.datatypes.Texts.{collapse, pieces}
-use Rattle.rng_model.specs.datatypes.Facets.{Parameter}
 use Rattle.rng_model.specs.datatypes.Facets as old
 use Rattle.rng_model.specs.xsd.Numbers.{integer_of}
 use Rattle.xsd_values.specs.Limits.{written_limits}

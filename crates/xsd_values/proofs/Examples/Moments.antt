@@ -1,11 +1,8 @@
 -- Worked cases of moments, which the checker computes.
-use Rattle.std.proofs.Common.{codes, ◌≡◌, ℕ, List, [], ◌∷◌, refl, true, false, Bool, Option, Some, None, is_some, is_none, ◌&&◌, not}
+use Rattle.std.proofs.Common.{codes, ◌≡◌, ℕ, List, [], ◌∷◌, refl, true, Bool, Option, is_some, is_none}
 use Rattle.std.specs.List.{list_all}
-use Rattle.rng_model.specs.datatypes.Texts.{collapse, pieces}
-use Rattle.xsd_values.specs.Limits.{written_limits}
-use Rattle.xsd_values.specs.Zones.{Moment, is_before}
+use Rattle.xsd_values.specs.Zones.{Moment}
 use Rattle.xsd_values.specs.Moments.{date_time_of, time_of, date_of, year_month_of, year_of, month_day_of, day_of, month_of}
-use Rattle.xsd_values.proofs.Examples.Tables.{allows, equates}
 
 abbrev are_moments : (List ℕ → Option Moment) → List (List ℕ) → Bool
 are_moments moment_of texts = list_all (λ s. is_some (moment_of s)) texts
@@ -101,91 +98,3 @@ days = refl
 no_days : are_none day_of (codes "---32" ∷ codes "---00" ∷ codes "--31" ∷ []) ≡ true
 unfolding day_of
 no_days = refl
-
--- ---- equality
-
-abbrev are_equal : List ℕ → List (List ℕ × List ℕ) → Bool
-are_equal name ps = list_all (λ p. equates name p.0 p.1) ps
-
-abbrev are_unequal : List ℕ → List (List ℕ × List ℕ) → Bool
-are_unequal name ps = list_all (λ p. not (equates name p.0 p.1)) ps
-
-same_instant : are_equal (codes "dateTime") (
-    (codes "2000-01-01T00:00:00Z", codes "1999-12-31T19:00:00.0-05:00") ∷
-    (codes "2000-01-01T24:00:00", codes "2000-01-02T00:00:00") ∷
-    (codes "2000-03-04T23:00:00+03:00", codes "2000-03-04T20:00:00Z") ∷  -- of section 3.2.7.4
-    []) ≡ true
-unfolding date_time_of collapse pieces written_limits
-same_instant = refl
-
-another_instant : are_unequal (codes "dateTime") (
-    (codes "2000-01-01T00:00:00Z", codes "2000-01-01T00:00:00") ∷  -- a time zone, and none
-    (codes "2000-01-01T00:00:00.0001", codes "2000-01-01T00:00:00.0") ∷  -- less than a millisecond
-    []) ≡ true
-unfolding date_time_of collapse pieces written_limits
-another_instant = refl
-
-same_day : are_equal (codes "date") (
-    (codes "2002-10-10+13:00", codes "2002-10-09-11:00") ∷  -- of section 3.2.9
-    []) ≡ true
-unfolding date_of collapse pieces written_limits
-same_day = refl
-
-another_day : are_unequal (codes "date") (
-    (codes "2000-01-01Z", codes "2000-01-01+12:00") ∷ (codes "2000-01-01", codes "2000-01-01Z") ∷ []) ≡ true
-unfolding date_of collapse pieces written_limits
-another_day = refl
-
-same_time : are_equal (codes "time") (
-    (codes "00:00:00Z", codes "05:00:00+05:00") ∷
-    (codes "00:00:00Z", codes "19:00:00-05:00") ∷  -- the same time of day
-    (codes "00:00:00Z", codes "24:00:00Z") ∷ []) ≡ true
-unfolding time_of collapse pieces written_limits
-same_time = refl
-
-another_year : are_unequal (codes "gYear") (
-    (codes "2000", codes "2000Z") ∷ []) ≡ true
-unfolding year_of collapse pieces written_limits
-another_year = refl
-
--- ---- order: the table of section 3.2.7.4
-
-abbrev tested : (Moment → Moment → Bool) → Option Moment → Option Moment → Bool
-tested test None b = false
-tested test (Some a) None = false
-tested test (Some a) (Some b) = test a b
-
-abbrev are_before : List (List ℕ × List ℕ) → Bool
-are_before ps = list_all (λ p. tested is_before (date_time_of p.0) (date_time_of p.1)) ps
-
-abbrev are_neither : List (List ℕ × List ℕ) → Bool
-are_neither ps = list_all (λ p. tested (λ a b. not (is_before a b) && not (is_before b a)) (date_time_of p.0) (date_time_of p.1)) ps
-
-determinate : are_before (
-    (codes "2000-01-15T00:00:00", codes "2000-02-15T00:00:00") ∷
-    (codes "2000-01-15T12:00:00", codes "2000-01-16T12:00:00Z") ∷
-    (codes "2000-01-01T00:00:00Z", codes "2000-01-01T14:00:00.001") ∷ []) ≡ true
-unfolding date_time_of
-determinate = refl
-
-indeterminate : are_neither (
-    (codes "2000-01-01T12:00:00", codes "1999-12-31T23:00:00Z") ∷
-    (codes "2000-01-16T12:00:00", codes "2000-01-16T12:00:00Z") ∷
-    (codes "2000-01-16T00:00:00", codes "2000-01-16T12:00:00Z") ∷
-    (codes "2000-01-01T00:00:00Z", codes "2000-01-01T14:00:00") ∷ []) ≡ true
-unfolding date_time_of
-indeterminate = refl
-
--- ---- bounds
-
-at_bound : allows (codes "dateTime") ((codes "minInclusive", codes "2000-01-01T00:00:00Z") ∷ []) (codes "1999-12-31T19:00:00-05:00") ≡ true
-unfolding date_time_of collapse pieces written_limits
-at_bound = refl
-
-undecided : allows (codes "dateTime") ((codes "minInclusive", codes "2000-01-01T00:00:00Z") ∷ []) (codes "2000-01-01T14:00:00") ≡ false
-unfolding date_time_of collapse pieces written_limits
-undecided = refl
-
-decided : allows (codes "dateTime") ((codes "maxExclusive", codes "2000-01-01T00:00:00") ∷ []) (codes "1999-12-31T09:59:59Z") ≡ true
-unfolding date_time_of collapse pieces written_limits
-decided = refl
