@@ -495,6 +495,10 @@ else
     skip "what make install says of what is not proved, since no library, C compiler or objcopy is there"
 fi
 
+# `make try` has the functions of rncv.h, but for two that are C
+same "what programs/library/calls.py calls" "$(grep -oE '\brncv_[a-z_]+\(' "$header" | grep -vxE 'rncv_(clause_title|version)\(' | LC_ALL=C sort -u)" \
+    "$(python3 -B "$top/programs/library/calls.py" "$top/crates/rncv_c/src/lib.rt" | grep -oE '\brncv_[a-z_]+\(' | LC_ALL=C sort)"
+
 # a machine without the toolchain, or with one that compiles nothing without proofs
 mkdir -p "$room/few" "$room/kit/bin"
 ln -s "$(command -v dirname)" "$room/few/dirname"
