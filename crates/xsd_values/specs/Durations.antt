@@ -38,7 +38,7 @@ most_field_digits = 9
 abbrev pub is_number : List ℕ → Bool
 is_number ds = nat_le 1 (length ds) && nat_le (length ds) most_field_digits
 
--- A number is left out where it is 0 (section 3.2.6.1).
+-- A number that is 0 may be left out (section 3.2.6.1).
 abbrev pub number_if : Bool → ℕ → List ℕ → Option (List ℕ) → Front
 number_if right n s None = (0, s)
 number_if right n s (Some rest) = if right then (n, rest) else (0, s)
