@@ -5,7 +5,9 @@
 #   make test       all proofs and tests (.ci/run)
 #   make install    install what `make` built, or else what `make try` built; this builds nothing. It uses PREFIX (else /usr/local) and DESTDIR
 #   make uninstall  remove what `make install` with the same PREFIX and DESTDIR installed
-#   make deb        build/package/rncv_VERSION_ARCHITECTURE.deb, without the network
+#   make dist       build/package/rncv-VERSION.tar.gz, the sources of the last commit, without the network
+#   make deb        build/package/rncv_VERSION_ARCHITECTURE.deb, of what is built, without the network
+#   make wheel      build/package/rncv-VERSION-py3-none-PLATFORM.whl, the Python package with the built libraries, without the network
 #
 # docs/INSTALL.md says what is installed where.
 
@@ -23,7 +25,7 @@ export DESTDIR PROGRAM LIBRARY XML_PROGRAMS
 install uninstall: export PREFIX := $(PREFIX)
 try: export OPT := $(OPT)
 
-.PHONY: all build try test install uninstall deb clean
+.PHONY: all build try test install uninstall dist deb wheel clean
 all: build
 
 build:
@@ -52,8 +54,17 @@ install:
 uninstall:
 	@programs/packaging/install.sh uninstall
 
+dist:
+	@programs/packaging/dist.sh
+	@programs/packaging/sums.sh
+
 deb:
 	@programs/packaging/deb.sh
+	@programs/packaging/sums.sh
+
+wheel:
+	@programs/packaging/wheel.py
+	@programs/packaging/sums.sh
 
 clean:
 	rm -rf build

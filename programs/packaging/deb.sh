@@ -1,8 +1,9 @@
 #!/bin/sh
 # Makes a Debian package of what is built:   programs/packaging/deb.sh [FOLDER]      (`make deb`; FOLDER, else build/package)
 #
-# It needs dpkg-deb and no network, and builds nothing. The variables PROGRAM, LIBRARY and XML_PROGRAMS are those of install.sh. The date in the
-# package is SOURCE_DATE_EPOCH, else that of the last commit, so the same files make the same package. MAINTAINER names the package's maintainer.
+# It needs dpkg-deb and no network, and builds nothing. The variables PROGRAM, LIBRARY and XML_PROGRAMS are those of install.sh. Each date in the
+# package is that of date.sh, so the same files make the same package. MAINTAINER names the package's maintainer. What was built without proofs is packaged
+# only if the variable RNCV_NOT_PROVED is set. Then the version ends with `~unproved`, so a proved package of that version replaces it.
 set -eu
 umask 022
 
@@ -14,7 +15,7 @@ for tool in dpkg dpkg-deb; do
 done
 architecture=$(dpkg --print-architecture)
 maintainer=${MAINTAINER:-rncv maintainers <maintainers@users.noreply.pamstwier.example>}
-date=${SOURCE_DATE_EPOCH:-$(git -C "$top" log -1 --format=%ct 2> /dev/null || date +%s)}
+date=$("$top/programs/packaging/date.sh")
 SOURCE_DATE_EPOCH=$date
 export SOURCE_DATE_EPOCH
 
@@ -36,9 +37,20 @@ RNCV_REQUIRED=1 PREFIX=/usr DESTDIR=$root LIBDIR=$libdir PYTHONDIR=$python ZSHDI
     [ "$(grep -c '^  ' "$room/log")" = 1 ] && grep -q '^  rncv-lsp:' "$room/log" || exit 1
 }
 
+release=$version
+title="proved RELAX NG validator"
+claim=" It is written in Rattle, which is Rust with contracts, and its answers are
+ proved to be those of the standard."
 if grep -qF ' (not proved)' "$root/usr/$libdir/librncv.so.$version"; then
-    echo "deb.sh: the library was built without proofs (make try), and the package says that it is proved. Run \`make\` first" >&2
-    exit 1
+    if [ -z "${RNCV_NOT_PROVED:-}" ]; then
+        echo "deb.sh: the library was built without proofs (make try), and the package says that it is proved. Run \`make\` first," \
+            "or set RNCV_NOT_PROVED=1 for a package that says that it is not" >&2
+        exit 1
+    fi
+    release=$version~unproved
+    title="RELAX NG validator, built without proofs"
+    claim=" It is written in Rattle, which is Rust with contracts. This package was built
+ without the proofs of these contracts, to try it."
 fi
 
 # only those who build need symbols, and pages are compressed
@@ -67,7 +79,7 @@ This version names no licence: its repository has no file LICENSE.
 Ask the owner of the repository before you pass the package on.
 END
 fi
-printf 'rncv (%s) unstable; urgency=medium\n\n  * Version %s.\n\n -- %s  %s\n' "$version" "$version" "$maintainer" \
+printf 'rncv (%s) unstable; urgency=medium\n\n  * Version %s.\n\n -- %s  %s\n' "$release" "$release" "$maintainer" \
     "$(LC_ALL=C date -u -d "@$date" '+%a, %d %b %Y %H:%M:%S +0000')" | gzip -9nc > "$doc/changelog.gz"
 
 # What is intended, and lintian would warn of: programs, the library and what is needed to link it are in one small package.
@@ -86,7 +98,7 @@ fi
 
 mkdir -p "$root/DEBIAN"
 for name in librncv librncv_xml; do
-    echo "$name ${version%%.*} rncv (>= $version)"
+    echo "$name ${version%%.*} rncv (>= $release)"
 done > "$root/DEBIAN/shlibs"
 
 # The packages from which the programs load libraries. dpkg-shlibdeps knows which versions are needed. Without it, the oldest that work are named.
@@ -106,19 +118,20 @@ if command -v dpkg-shlibdeps > /dev/null; then
 fi
 [ -n "$depends" ] || depends="libc6 (>= 2.36), libxml2 (>= 2.9.10)"
 
+# in KiB, as Debian counts it: file systems count otherwise
+size=$(find "$root/usr" \( -type f -printf '%s\n' -o -printf '1\n' \) | awk '{ sum += int(($1 + 1023) / 1024) } END { print sum }')
 cat > "$root/DEBIAN/control" << END
 Package: rncv
-Version: $version
+Version: $release
 Architecture: $architecture
 Maintainer: $maintainer
-Installed-Size: $(du -k -s "$root/usr" | cut -f 1)
+Installed-Size: $size
 Depends: $depends, python3 (>= 3.9)
 Section: text
 Priority: optional
-Description: proved RELAX NG validator
+Description: $title
  rncv validates documents by RELAX NG schemas in the compact syntax.
- It is written in Rattle, which is Rust with contracts, and its answers are
- proved to be those of the standard.
+$claim
  .
  The package has rncv, rncv-xml for XML documents, rng2rnc, xml2pyx,
  rncv-profile, the language server rncv-lsp, and the libraries librncv and
@@ -136,6 +149,8 @@ END
 chmod 755 "$root/DEBIAN/prerm"
 (cd "$root" && find usr -type f | LC_ALL=C sort | while IFS= read -r file; do md5sum "$file"; done > DEBIAN/md5sums)
 
-package=$folder/rncv_${version}_$architecture.deb
+# dpkg-deb changes only those dates that are later
+find "$root" -exec touch -h -d "@$date" {} +
+package=$folder/rncv_${release}_$architecture.deb
 dpkg-deb --root-owner-group -Zxz --build "$root" "$package" > "$room/log" || { cat "$room/log" >&2; exit 1; }
 echo "$package"
