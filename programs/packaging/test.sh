@@ -1,11 +1,13 @@
 #!/bin/sh
 # Tests of what is installed, in less than half a minute:   programs/packaging/test.sh [PROGRAM]     (PROGRAM: the built rncv, else crates/rncv/out/rncv)
 #
-# It installs into empty folders, some with a blank in their names, and uses what is there. It makes, checks and unpacks the Debian package.
+# It installs into empty folders, some with a blank in their names, and uses what is there. It makes, checks and unpacks the Debian package, the wheel and
+# the source tarball, each of them twice, since they are to be the same.
 # RNCV_LIBRARY names the folder of the library, by default build/library or build/library-tests/llvm. RNCV_XML_PROGRAMS names that of rncv-xml and
 # xml2pyx. Without it they are built. If the program is not built, a stub replaces it, and what needs its answers is skipped with a message. So is what
 # needs another program that is not installed. If the variable RNCV_REQUIRED is set, a missing program or library is a failure.
-# The image of the Dockerfile is built only if RNCV_BUILDER names a builder (docker, podman), since that needs the network.
+# The image of the Dockerfile is built only if RNCV_BUILDER names a builder (docker, podman), since that needs the network. If RNCV_IMAGE_STEPS is set instead,
+# image_steps.py runs its instructions.
 set -eu
 
 here=$(cd "$(dirname "$0")" && pwd)
@@ -117,16 +119,16 @@ debian_package() {
         skip "the Debian package, since dpkg-deb or what is to be in it is not there"
         return
     fi
-    if [ -n "$mark" ]; then
-        skip "the Debian package, since the library is not proved"
-        return
-    fi
-    if ! env -u MAKEFLAGS -u MAKELEVEL PROGRAM="$program" LIBRARY="$library" XML_PROGRAMS="$xml" "$here/deb.sh" "$room/deb" > "$room/name" 2> "$room/deb.log"; then
-        fail "programs/packaging/deb.sh fails: $(cat "$room/deb.log")"
-        return
-    fi
+    # packs FOLDER: makes the package there; its path is in `name`
+    packs() {
+        env -u MAKEFLAGS -u MAKELEVEL RNCV_NOT_PROVED="$mark" PROGRAM="$program" LIBRARY="$library" XML_PROGRAMS="$xml" "$here/deb.sh" "$1" \
+            > "$room/name" 2> "$room/deb.log" || { fail "programs/packaging/deb.sh fails: $(cat "$room/deb.log")"; return 1; }
+    }
+    packs "$room/deb" || return 0
     package=$(cat "$room/name")
-    same "the name of the package" "rncv_${version}_$(dpkg --print-architecture).deb" "$(basename "$package")"
+    same "the name of the package" "rncv_${version}${mark:+~unproved}_$(dpkg --print-architecture).deb" "$(basename "$package")"
+    (umask 077; TZ=Asia/Tokyo; export TZ; packs "$room/deb again") || { status=1; return 0; }
+    cmp "$package" "$room/deb again/$(basename "$package")" || fail "a second package of the same files is another one"
     for name in libc6 libxml2 python3; do
         dpkg-deb -f "$package" Depends | grep -qE "(^|, )$name( |,|\$)" || fail "the package does not depend on $name"
     done
@@ -158,12 +160,79 @@ $room/empty root"
     fi
     if [ -n "${RNCV_BUILDER:-}" ]; then
         "$RNCV_BUILDER" build -t rncv-test -f "$here/Dockerfile" "$room/deb" || fail "the image is not built"
+    elif [ -n "${RNCV_IMAGE_STEPS:-}" ]; then
+        "$here/image_steps.py" "$room/deb" || fail "the instructions of Dockerfile"
     else
         skip "the image of Dockerfile, since RNCV_BUILDER names no builder"
     fi
 }
 
+# --- the wheel, beside what follows
+
+wheel() {
+    if [ ! -f "$library/lib/librncv.so.$version" ]; then
+        skip "the wheel, since the library is not built"
+        return
+    fi
+    if ! LIBRARY=$library "$here/wheel.py" "$room/wheel" > "$room/wheel.name" 2> "$room/wheel.log"; then
+        fail "programs/packaging/wheel.py fails: $(cat "$room/wheel.log")"
+        return
+    fi
+    wheel=$(cat "$room/wheel.name")
+    (umask 077; TZ=Asia/Tokyo LIBRARY=$library "$here/wheel.py" "$room/wheel again") > "$room/wheel.log" 2>&1 ||
+        fail "a second wheel: $(cat "$room/wheel.log")"
+    cmp "$wheel" "$room/wheel again/$(basename "$wheel")" || fail "a second wheel of the same files is another one"
+    # pip can be outside the environment, which is quicker than a pip inside
+    if ! python3 -m venv --without-pip "$room/venv" > "$room/venv.log" 2>&1 ||
+        ! python3 -m pip --python "$room/venv/bin/python" --version >> "$room/venv.log" 2>&1; then
+        skip "the installation of the wheel, since venv, or pip 22.3 or later, is not installed"
+        return
+    fi
+    # pips WORD..: pip, for that environment and without the network
+    pips() {
+        env -u PYTHONPATH PIP_NO_INDEX=1 PIP_DISABLE_PIP_VERSION_CHECK=1 python3 -m pip --python "$room/venv/bin/python" "$@" > "$room/pip" 2>&1 ||
+            fail "pip $1: $(cat "$room/pip")"
+    }
+    pips install "$wheel"
+    wanted="$version$mark valid"
+    [ "$has_xml_library" = 0 ] || wanted="$wanted valid"
+    same "the Python package of the wheel" "$wanted" "$(cd "$top/examples/letter" && env -i PATH=/usr/bin:/bin XML="$has_xml_library" "$room/venv/bin/python" -c '
+import os, rncv
+schema, xml = rncv.compile("s.rnc"), os.environ["XML"] == "1"
+print(rncv.version(), schema.validate(open("document.pyx", "rb")), *([schema.validate_xml("letter.xml")] if xml else []))' 2>&1)"
+    pips uninstall -y rncv
+    same "what pip uninstall leaves" "" "$(find "$room/venv" -name '*rncv*')"
+}
+
 (debian_package; exit "$status") > "$room/debian" 2>&1 & debian=$!
+(wheel; exit "$status") > "$room/wheel.said" 2>&1 & packing=$!
+# ends the two above, and prints what they said
+beside() {
+    wait "$debian" || status=1
+    wait "$packing" || status=1
+    cat "$room/debian" "$room/wheel.said"
+}
+
+# --- the source tarball, of this checkout and of a clone
+
+if [ -e "$top/.git" ] && has git; then
+    git clone -q --shared --no-checkout "$top" "$room/clone"
+    mkdir "$room/clone/programs"
+    cp -R "$here" "$room/clone/programs/"
+    "$here/dist.sh" "$room/dist" > "$room/said" 2>&1 || fail "programs/packaging/dist.sh fails: $(cat "$room/said")"
+    (umask 077; TZ=Asia/Tokyo "$room/clone/programs/packaging/dist.sh" "$room/dist again") > "$room/said" 2>&1 ||
+        fail "dist.sh in a clone fails: $(cat "$room/said")"
+    tarball=rncv-$(git -C "$top" show HEAD:VERSION).tar.gz
+    cmp "$room/dist/$tarball" "$room/dist again/$tarball" || fail "the tarball of a clone is another one"
+    git -C "$top" -c core.quotePath=false ls-tree -r --name-only HEAD | LC_ALL=C sort > "$room/wanted"
+    tar --quoting-style=literal -tzf "$room/dist/$tarball" | sed -n "/[^/]\$/s|^${tarball%.tar.gz}/||p" | LC_ALL=C sort > "$room/found"
+    diff "$room/wanted" "$room/found" || fail "the tarball does not have the files of the commit"
+    "$here/sums.sh" "$room/dist"
+    same "the files of SHA256SUMS" "$tarball" "$(sed 's/^[0-9a-f]*  //' "$room/dist/SHA256SUMS")"
+    (cd "$room/dist" && sha256sum -c --quiet SHA256SUMS) || fail "SHA256SUMS"
+else
+    skip "the source tarball, since this is no checkout, or there is no git"
+fi
 
 # --- one version
 
@@ -183,8 +252,7 @@ done
 # --- make install
 
 if ! has make; then
-    wait "$debian" || status=1
-    cat "$room/debian"
+    beside
     skip "all that \`make install\` installs, since there is no make"
     exit "$status"
 fi
@@ -484,7 +552,13 @@ if [ "$built" = 1 ] && has "${CC:-cc}" && has objcopy; then
             fail "make deb makes a package of what is not proved"
         fi
         grep -q "was built without proofs" "$room/said" || fail "make deb does not say that the library is not proved: $(cat "$room/said")"
+        env -u MAKEFLAGS -u MAKELEVEL make -s -C "$checkout" deb RNCV_NOT_PROVED=1 > "$room/said" 2>&1 || fail "make deb RNCV_NOT_PROVED=1: $(cat "$room/said")"
     fi
+    env -u MAKEFLAGS -u MAKELEVEL make -s -C "$checkout" wheel > "$room/said" 2>&1 || fail "make wheel behind make try: $(cat "$room/said")"
+    wanted="rncv-$version.dev0+unproved-py3-none-*.whl"
+    ! has dpkg-deb || wanted="$wanted rncv_$version~unproved_$(dpkg --print-architecture).deb"
+    same "what SHA256SUMS has behind make try" "$wanted" \
+        "$(sed -e 's/^[0-9a-f]*  //' -e 's/none-.*\.whl$/none-*.whl/' "$checkout/build/package/SHA256SUMS" | xargs)"
     # what `make` has built comes first
     mkdir -p "$checkout/build/xml"
     cp "$xml/xml2pyx" "$checkout/build/xml/"
@@ -673,7 +747,7 @@ fi
 # --- what is written for a shell
 
 if has shellcheck; then
-    shellcheck "$top/dev/setup.sh" "$here/hardening.sh" "$here/install.sh" "$here/deb.sh" "$here/test.sh" || fail "shellcheck"
+    shellcheck "$top/dev/setup.sh" "$here"/*.sh || fail "shellcheck"
     shellcheck -s bash "$here/completions/rncv.bash" || fail "shellcheck"
 else
     skip "shellcheck, which is not installed"
@@ -713,7 +787,6 @@ sets_up 0 "$room/none"
 same "what dev/setup.sh asks of apt-get" "install update" "$(grep -oE '(install|update)( |$)' "$room/asked" | tr -d ' ' | tr '\n' ' ' | sed 's/ $//')"
 grep -q "apt-get did not install it" "$room/said" || fail "dev/setup.sh does not say that apt-get failed: $(cat "$room/said")"
 
-wait "$debian" || status=1
-cat "$room/debian"
+beside
 [ "$status" = 0 ] && echo "programs/packaging/test.sh: ok" || echo "programs/packaging/test.sh: FAILED"
 exit "$status"
