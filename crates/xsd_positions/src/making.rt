@@ -24,7 +24,7 @@ pub const MOST_POSITIONS: usize = 12_286;
 /// in the positions.
 pub fn positions(alloc: Global, expression: Expression) -> Result<Option<Positions>, OutOfMemory>
     ensures exact { IfOk result (λ o. (r : Regex) → rows_of expression ≡ postfix r
-        → MatchOption o (most_size < size r) (λ p. ArePositionsOf r p.first (positions_of p))) }
+        → MatchOption o (most_size < size r) (λ p. (size r ≤ most_size) × ArePositionsOf r p.first (positions_of p))) }
     ensures few { IfOk result (λ o. IfSome o (λ p. length p.positions.items ≤ MOST_POSITIONS)) }
 {
     positions_of_rows(alloc, expression.into_rows())
@@ -33,7 +33,7 @@ pub fn positions(alloc: Global, expression: Expression) -> Result<Option<Positio
 // The same by its rows. Rows of no expression may have no positions.
 fn positions_of_rows(alloc: Global, rows: Vec<Row>) -> Result<Option<Positions>, OutOfMemory>
     ensures exact { IfOk result (λ o. (r : Regex) → map row_of rows.items ≡ postfix r
-        → MatchOption o (most_size < size r) (λ p. ArePositionsOf r p.first (positions_of p))) }
+        → MatchOption o (most_size < size r) (λ p. (size r ≤ most_size) × ArePositionsOf r p.first (positions_of p))) }
     ensures few { IfOk result (λ o. IfSome o (λ p. length p.positions.items ≤ MOST_POSITIONS)) }
 {
     let Some(draft) = written_out(alloc, rows)? else {

@@ -47,4 +47,4 @@ returns-clause-exact c r is =
     let all : length c.in-Some-2.links.positions.items ≡ c.len-count.result = search rules in
     let before = c.in-Some-checked_sub.ensures in
     let first : c.in-Some-checked_sub.first + 1 ≡ c.len-count.result = omega arith in
-    are_placed r _ _ are (λ v. v.items) _ _ all c.in_ok-positions.ensures.same _ _ c.in-Some-3.is first
+    (draft.small, are_placed r _ _ are (λ v. v.items) _ _ all c.in_ok-positions.ensures.same _ _ c.in-Some-3.is first)
