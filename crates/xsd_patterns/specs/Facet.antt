@@ -1,0 +1,18 @@
+-- Expressions that are taken, and what they match. An expression is given as the text that writes it.
+use Rattle.std.specs.Prelude.{◌≡◌, ℕ, List, Bool, false, Option, Some, None}
+use Rattle.std.specs.Str.{chars}
+use Rattle.xsd_regex.specs.Expressions.{Regex}
+use Rattle.xsd_regex.specs.Patterns.{pattern_of}
+use Rattle.xsd_regex.specs.plain.Decided.{is_match}
+
+-- the text is an expression, and small enough
+abbrev pub IsTaken : List ℕ → Type 0
+IsTaken text = (r : Regex) × (pattern_of text ≡ Some r)
+
+abbrev pub is_match_of : Option Regex → List ℕ → Bool
+is_match_of None s = false
+is_match_of (Some r) s = is_match r s
+
+-- the text writes an expression that is taken, and it matches the other text as a whole
+abbrev pub is_matched : List ℕ → List ℕ → Bool
+is_matched text s = is_match_of (pattern_of text) (chars s)

@@ -1,0 +1,2 @@
+pub mod Facet
+pub mod views

@@ -1,0 +1,67 @@
+// One expression, ready to be matched.
+ghost use Rattle.std.specs.Prelude.{◌≡◌, IfOk, MatchOption, None};
+ghost use Rattle.xsd_regex.specs.Patterns.{pattern_of};
+ghost use Rattle.xsd_patterns.specs.Facet.{IsTaken, is_matched};
+
+use rng_model::OutOfMemory;
+use std::alloc::Global;
+use std::marker::Model;
+use xsd_automaton::Automaton;
+use xsd_positions::positions;
+use xsd_regex::read;
+
+/// A regular expression of XML Schema, ready to be matched.
+#[derive(Drop)]
+pub struct Pattern {
+    expression: String,
+    automaton: Automaton,
+}
+
+impl Model for Pattern {
+    ghost use Rattle.std.specs.Prelude.{ℕ, List, string_bytes};
+    ghost use Rattle.xsd_positions.specs.views.Positions.{positions_of};
+    ghost use Rattle.xsd_patterns.specs.views.Patterns.{IsPattern};
+
+    ghost Value = { List ℕ };
+
+    ghost view = { λ p. string_bytes p.expression };
+
+    ghost invariant = { λ p. IsPattern (string_bytes p.expression) p.automaton.first (positions_of p.automaton) };
+}
+
+impl Pattern {
+    /// Makes an expression ready to be matched. Returns `None` if the text is no expression, or one that is too large: if its
+    /// size with its counts written out is above 4,096.
+    ///
+    /// XML Schema Part 2, Second Edition, appendix F. Linear in the length of the text and in that size, with a bound on what is
+    /// spent on a table for texts of ASCII.
+    ///
+    /// # Errors
+    ///
+    /// Returns `OutOfMemory` if memory is out, and in no other case.
+    pub fn compile(alloc: Global, text: &str) -> Result<Option<Pattern>, OutOfMemory>
+        ensures { IfOk result (λ o. MatchOption o (pattern_of text.now ≡ None) (λ p. (p ≡ text.now) × IsTaken p)) }
+    {
+        let Some(expression) = read(alloc, text)? else {
+            return Ok(None);
+        };
+        let Some(positions) = positions(alloc, expression)? else {
+            return Ok(None);
+        };
+        let automaton = Automaton::new(alloc, positions)?;
+        let expression = String::from_str(alloc, text)?;
+        Ok(Some(Pattern {
+            expression,
+            automaton,
+        }))
+    }
+    /// Returns whether the expression matches the text as a whole.
+    ///
+    /// XML Schema Part 2, Second Edition, appendix F. Allocates nothing. A text of ASCII mostly costs one look-up for each
+    /// character, and another text one pass over the positions of the expression for each character.
+    pub fn matches(&self, text: &str) -> bool
+        ensures { result ≡ is_matched self.now text.now }
+    {
+        self.automaton.accepts(text)
+    }
+}
