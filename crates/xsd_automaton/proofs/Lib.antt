@@ -8,3 +8,5 @@ pub mod SetTables
 pub mod AlikeChars
 pub mod GrownSets
 pub mod Within
+pub mod TreatedParts
+pub mod TreatedRuns

@@ -3,3 +3,4 @@ pub mod Classes
 pub mod Reached
 pub mod Sets
 pub mod Automaton
+pub mod WhiteSpace

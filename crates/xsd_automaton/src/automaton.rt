@@ -4,10 +4,13 @@ ghost use Rattle.std.specs.Str.{chars};
 ghost use Rattle.xsd_regex.specs.Expressions.{Matches, Regex};
 ghost use Rattle.xsd_regex.specs.plain.Positions.{ArePositionsOf};
 ghost use Rattle.xsd_positions.specs.views.Positions.{positions_of};
+ghost use Rattle.xsd_automaton.specs.views.WhiteSpace.{treated};
 
 use crate::found_sets::set_rows;
 use crate::sets::{SetRow, accepts_by_sets};
 use crate::steps::accepts_from_first;
+use crate::treated::{accepts_treated_by_sets, accepts_treated_from_first};
+use crate::white_space::WhiteSpace;
 use rng_model::OutOfMemory;
 use std::alloc::Global;
 use std::marker::Model;
@@ -57,6 +60,20 @@ impl Automaton {
         match accepts_by_sets(self.sets.as_slice(), text) {
             Some(answer) => answer,
             None => accepts_from_first(&self.positions, text),
+        }
+    }
+
+    /// Returns whether the expression matches the text as a whole once its white space is treated.
+    ///
+    /// XML Schema Part 2, Second Edition, section 4.3.6 and appendix F. Allocates nothing: the treated text is not built. The
+    /// cost is that of `accepts`, and one more pass over the text.
+    pub fn accepts_treated(&self, white_space: WhiteSpace, text: &str) -> bool
+        ensures { (r : Regex) → ArePositionsOf r self.now.first (positions_of self.now)
+            → IsTrue result ↔ Matches r (chars (treated white_space text.now)) }
+    {
+        match accepts_treated_by_sets(self.sets.as_slice(), white_space, text) {
+            Some(answer) => answer,
+            None => accepts_treated_from_first(&self.positions, white_space, text),
         }
     }
 }

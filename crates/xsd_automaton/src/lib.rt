@@ -13,5 +13,8 @@ mod found_sets;
 mod reached;
 mod sets;
 mod steps;
+mod treated;
+mod white_space;
 
 pub use automaton::Automaton;
+pub use white_space::WhiteSpace;

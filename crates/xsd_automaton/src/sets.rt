@@ -39,7 +39,7 @@ pub(crate) fn accepts_by_sets(sets: &[SetRow], text: &str) -> Option<bool>
 
 // the row of the set with this number, if it has one
 #[inline(always)]
-fn row_of(sets: &[SetRow], set: usize) -> Option<&SetRow>
+pub(crate) fn row_of(sets: &[SetRow], set: usize) -> Option<&SetRow>
     ensures { option_copied result ≡ slice_get sets.now set }
 {
     sets.get(set)
@@ -48,7 +48,7 @@ fn row_of(sets: &[SetRow], set: usize) -> Option<&SetRow>
 impl SetRow {
     // the number of the set behind the character, if that is of ASCII
     #[inline(always)]
-    fn target(&self, byte: u8) -> Option<u8>
+    pub(crate) fn target(&self, byte: u8) -> Option<u8>
         ensures value { result ≡ slice_get self.now.targets byte }
         ensures ascii { IfSome result (λ _. byte < 128) }
     {

@@ -1,5 +1,5 @@
 -- The rows of a table of sets.
-use Rattle.std.specs.Prelude.{◌≡◌, ℕ, ◌≤◌, List, [], length, map, Some, slice_get}
+use Rattle.std.specs.Prelude.{◌≡◌, ℕ, ◌<◌, ◌≤◌, List, [], length, map, Some, slice_get}
 use Rattle.std.specs.Prelude.{Vec}
 use Rattle.xsd_automaton.specs.declared.found_sets.FoundSets.{FoundSets}
 use Rattle.xsd_regex.specs.plain.Positions.{Position}
@@ -24,3 +24,7 @@ lists_of vs = map (λ v. v.items) vs
 
 abbrev pub sets_of : FoundSets → List (List ℕ)
 sets_of f = lists_of f.sets.items
+
+-- the text so far leads to the set, if the set has a row
+abbrev pub LeadsToSet : (ps : List Position) (first : ℕ) (rows : List SetRow) → IsSetTable ps first rows → ℕ → List ℕ → Type 0
+LeadsToSet ps first rows table set read = set < length rows → LeadsTo ps first read (members_at table.sets set)
