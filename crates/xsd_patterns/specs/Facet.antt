@@ -1,5 +1,6 @@
 -- Expressions that are taken, and what they match. An expression is given as the text that writes it.
-use Rattle.std.specs.Prelude.{◌≡◌, ℕ, List, Bool, false, Option, Some, None}
+use Rattle.std.specs.Prelude.{◌≡◌, ℕ, List, [], ◌∷◌, Bool, false, Option, Some, None}
+use Rattle.std.specs.Option.{option_map, option_and_then}
 use Rattle.std.specs.Str.{chars}
 use Rattle.xsd_regex.specs.Expressions.{Regex}
 use Rattle.xsd_regex.specs.Patterns.{pattern_of}
@@ -16,3 +17,8 @@ is_match_of (Some r) s = is_match r s
 -- the text writes an expression that is taken, and it matches the other text as a whole
 abbrev pub is_matched : List ℕ → List ℕ → Bool
 is_matched text s = is_match_of (pattern_of text) (chars s)
+
+-- the expressions that the texts write, if each is taken
+abbrev pub expressions_of : List (List ℕ) → Option (List Regex)
+expressions_of [] = Some []
+expressions_of (t ∷ ts) = option_and_then (λ r. option_map (λ rs. r ∷ rs) (expressions_of ts)) (pattern_of t)

@@ -7,3 +7,4 @@
 mod pattern;
 
 pub use pattern::Pattern;
+pub use xsd_automaton::WhiteSpace;

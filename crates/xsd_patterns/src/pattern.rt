@@ -1,12 +1,13 @@
 // One expression, ready to be matched.
 ghost use Rattle.std.specs.Prelude.{◌≡◌, IfOk, MatchOption, None};
 ghost use Rattle.xsd_regex.specs.Patterns.{pattern_of};
+ghost use Rattle.xsd_automaton.specs.views.WhiteSpace.{treated};
 ghost use Rattle.xsd_patterns.specs.Facet.{IsTaken, is_matched};
 
 use rng_model::OutOfMemory;
 use std::alloc::Global;
 use std::marker::Model;
-use xsd_automaton::Automaton;
+use xsd_automaton::{Automaton, WhiteSpace};
 use xsd_positions::positions;
 use xsd_regex::read;
 
@@ -55,13 +56,14 @@ impl Pattern {
             automaton,
         }))
     }
-    /// Returns whether the expression matches the text as a whole.
+    /// Returns whether the expression matches the text as a whole once its white space is treated.
     ///
-    /// XML Schema Part 2, Second Edition, appendix F. Allocates nothing. A text of ASCII mostly costs one look-up for each
-    /// character, and another text one pass over the positions of the expression for each character.
-    pub fn matches(&self, text: &str) -> bool
-        ensures { result ≡ is_matched self.now text.now }
+    /// XML Schema Part 2, Second Edition, section 4.3.6 and appendix F. Allocates nothing: the treated text is not built. A text of
+    /// ASCII mostly costs one look-up for each character, and another text one pass over the positions of the expression for each
+    /// character.
+    pub fn matches(&self, white_space: WhiteSpace, text: &str) -> bool
+        ensures { result ≡ is_matched self.now (treated white_space text.now) }
     {
-        self.automaton.accepts(text)
+        self.automaton.accepts_treated(white_space, text)
     }
 }
