@@ -56,6 +56,7 @@ impl Pattern {
             automaton,
         }))
     }
+
     /// Returns whether the expression matches the text as a whole once its white space is treated.
     ///
     /// XML Schema Part 2, Second Edition, section 4.3.6 and appendix F. Allocates nothing: the treated text is not built. A text of
