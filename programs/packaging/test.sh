@@ -1,5 +1,5 @@
 #!/bin/sh
-# Tests of what is installed, in less than half a minute:   programs/packaging/test.sh [PROGRAM]     (PROGRAM: the built rncv, else crates/rncv/out/rncv)
+# Tests of what is installed, in less than a minute:   programs/packaging/test.sh [PROGRAM]     (PROGRAM: the built rncv, else crates/rncv/out/rncv)
 #
 # It installs into empty folders, some with a blank in their names, and uses what is there. It makes, checks and unpacks the Debian package, the wheel and
 # the source tarball, each of them twice, since they are to be the same.
