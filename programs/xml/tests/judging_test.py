@@ -395,7 +395,8 @@ class Formats(InFolder):
         environment = {name: value for name, value in os.environ.items() if name != "NO_COLOR"}
         plain = "bad.xml:3:3: invalid: at <c>\n"
         for more, wanted in (({}, colored), ({"NO_COLOR": "1"}, plain), ({"TERM": "dumb"}, plain)):
-            run = subprocess.run(["script", "-qec", f"{RNCV_XML} s.rnc bad.xml", "/dev/null"], cwd=self.folder, stdin=subprocess.DEVNULL,
+            # without a terminal for errors, on which a slow run shows its progress
+            run = subprocess.run(["script", "-qec", f"{RNCV_XML} s.rnc bad.xml 2> /dev/null", "/dev/null"], cwd=self.folder, stdin=subprocess.DEVNULL,
                                  capture_output=True, check=False, env={**environment, "TERM": "xterm", **more})
             self.assertEqual(run.stdout.decode().replace("\r\n", "\n"), wanted)
 
