@@ -7,7 +7,7 @@ use Rattle.std.specs.Str.{IsAscii}
 use Rattle.std.proofs.lemmas.Str.{chars-IsAscii}
 use Rattle.std.proofs.lemmas.Str.Ascii.{IsAscii-nil, IsAscii-cons}
 use Rattle.rng_model.specs.names.Names.{is_xml_char}
-use Rattle.element_events.specs.Telling.{are_xml_chars}
+use Rattle.rng_model.specs.documents.Telling.{are_xml_chars}
 use Rattle.element_events.specs.plain.AsciiChars.{is_ascii_char}
 
 char_of : (b : ℕ) → is_ascii_char b ≡ true → is_xml_char b ≡ true

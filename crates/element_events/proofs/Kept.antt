@@ -5,7 +5,7 @@ use Rattle.std.proofs.Math.Dec.{eqb-suc-zero}
 use Rattle.std.specs.Prelude.{zero, suc}
 use Rattle.rng_model.proofs.Truths.{no_truth}
 use Rattle.rng_model.specs.documents.PyxTrees.{Event, Placed}
-use Rattle.element_events.specs.Telling.{events_at, BeginsDocument, NoneBegins, TellsTheDocument, TellsDocument}
+use Rattle.rng_model.specs.documents.Telling.{events_at, BeginsDocument, NoneBegins, TellsTheDocument, TellsDocument}
 use Rattle.element_events.specs.plain.Calls as plain
 use Rattle.element_events.specs.plain.Calls.{AreTaken, none_taken, one_more, nothing_taken}
 use Rattle.element_events.specs.views.Kept.{Kept, Stands, IsAfter, IsTaken, IsRefused, Takes, Extends, UnlessOutOfMemory, IsVerdict}
@@ -17,7 +17,7 @@ pub stands_new : (k : Kept) → k.state ≡ nothing_taken → k.fault ≡ None �
 stands_new k e f = rw (f, e) none_taken
 
 -- a state without a fault
-working : (k : Kept) (calls sent : List Event) → k.fault ≡ None → Stands k calls sent → AreTaken calls k.state sent
+pub working : (k : Kept) (calls sent : List Event) → k.fault ≡ None → Stands k calls sent → AreTaken calls k.state sent
 working k calls sent f s = subst (λ (o : Option EventFault). IsAfter o k.state calls sent) f s
 
 pub still_working : (k : Kept) (calls sent : List Event) → k.fault ≡ None → AreTaken calls k.state sent → Stands k calls sent

@@ -8,7 +8,7 @@ use Rattle.rng_model.specs.names.Names.{Name}
 use Rattle.rng_model.specs.datatypes.Texts.{is_blank}
 use Rattle.rng_model.specs.matching.Document.{Attribute, Distinct}
 use Rattle.rng_model.specs.documents.PyxTrees.{Event, EventKind, a_start, a_string, an_end}
-use Rattle.element_events.specs.Telling.{IsGood, string_at, text_told, depth_after, text_after, events_at, events_behind, events_told}
+use Rattle.rng_model.specs.documents.Telling.{IsGood, string_at, text_told, depth_after, text_after, events_at, events_behind, events_told}
 use Rattle.element_events.specs.plain.Calls.{State, after, root_after, is_misplaced, AreTaken, none_taken, one_more}
 use Rattle.element_events.proofs.Walks.{at_line}
 use Rattle.element_events.proofs.Trees.{Leads, stays, at_start, at_string, at_end, lead_on}

@@ -11,8 +11,8 @@ use Rattle.rng_model.specs.datatypes.Texts.{is_blank}
 use Rattle.rng_model.specs.matching.Document.{Attribute, none}
 use Rattle.rng_model.specs.plain.WellFormed as w
 use Rattle.rng_model.specs.documents.PyxTrees.{Placed, text_at, element_at, none_placed, Event, EventKind, a_start, a_string, an_end, events_of}
-use Rattle.element_events.specs.Telling.{IsGood, text_told, depth_after, text_after, events_at, events_behind, events_told, IsElement, TellsDocument}
-use Rattle.element_events.specs.Telling.{NoneBegins, BeginsDocument, TellsTheDocument}
+use Rattle.rng_model.specs.documents.Telling.{IsGood, text_told, depth_after, text_after, events_at, events_behind, events_told, IsElement, TellsDocument}
+use Rattle.rng_model.specs.documents.Telling.{NoneBegins, BeginsDocument, TellsTheDocument}
 use Rattle.element_events.specs.plain.Calls.{State, is_misplaced, AreTaken}
 use Rattle.element_events.proofs.Walks.{at_line, ends_at, content_ends, same_item}
 use Rattle.element_events.proofs.Trees.{Leads, stays, lead_on, leads_ends, root_of}

@@ -2,7 +2,7 @@
 ghost use Rattle.std.specs.Prelude.{◌≡◌, map};
 ghost use Rattle.std.specs.List.{list_all};
 ghost use Rattle.rng_model.specs.datatypes.Texts.{is_blank};
-ghost use Rattle.element_events.specs.Telling.{are_xml_chars, is_good_attribute, is_good_name};
+ghost use Rattle.rng_model.specs.documents.Telling.{are_xml_chars, is_good_attribute, is_good_name};
 ghost use Rattle.element_events.specs.plain.AsciiChars.{flaw, is_ascii_char};
 ghost use Rattle.element_events.specs.views.Told.{attribute_told, name_told};
 

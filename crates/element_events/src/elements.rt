@@ -2,7 +2,7 @@
 ghost use Rattle.std.specs.Prelude.{◌≡◌, ℕ, [], List, OnOk, IfErr, IfSome, IfNone, IsErrOf, Some, None, Err};
 ghost use Rattle.rng_model.specs.documents.EventViews.{Hands};
 ghost use Rattle.rng_model.specs.documents.PyxTrees.{Event, a_string, an_end};
-ghost use Rattle.element_events.specs.Telling.{BeginsDocument};
+ghost use Rattle.rng_model.specs.documents.Telling.{BeginsDocument};
 ghost use Rattle.element_events.specs.views.Kept.{Extends, IsVerdict, Kept, Stands, UnlessOutOfMemory, state_of};
 ghost use Rattle.element_events.specs.views.Told.{call, start_told};
 

@@ -2,7 +2,7 @@
 ghost use Rattle.std.specs.Prelude.{◌≡◌, ◌↔◌, ◌&&◌, ◌==◌, ℕ, [], ◌∷◌, IfOk, OnOk, true};
 ghost use Rattle.rng_model.specs.documents.EventViews.{Hands};
 ghost use Rattle.rng_model.specs.documents.PyxTrees.{a_string, an_end};
-ghost use Rattle.element_events.specs.Telling.{IsGood, string_at};
+ghost use Rattle.rng_model.specs.documents.Telling.{IsGood, string_at};
 ghost use Rattle.element_events.specs.plain.Calls.{nothing_taken};
 ghost use Rattle.element_events.specs.views.Told.{call, start_told};
 ghost use Rattle.element_events.specs.views.Kept.{Takes, state_of};

@@ -10,7 +10,9 @@ use Rattle.rng_model.specs.names.Names.{Name}
 use Rattle.rng_model.specs.documents.PyxClauses.{Breaks}
 use Rattle.rng_model.specs.documents.PyxTrees.{Event, EventKind, a_start, a_string, an_end, Placed, item_of, events_of, IsPyxDocument}
 use Rattle.rng_model.specs.matching.GrammarMatching.{Reading, IsValidBy}
-use Rattle.rng_model.specs.matching.Outcomes.{IsOutcome, FailsAt, KnowsName}
+use Rattle.rng_model.specs.matching.Outcomes.{KnowsName}
+use Rattle.rng_deriv_laws.specs.plain.Outcomes.{IsOutcome, FailsAt}
+use Rattle.rng_deriv_laws.proofs.PyxDocuments.{document_formed}
 use Rattle.rng_model.specs.declared.outcome.Outcome.{Outcome}
 use Rattle.rng_model.specs.declared.outcome.Outcome.TheVariants as outcome
 use Rattle.rng_model.specs.datatypes.Texts.{texts_of}
@@ -78,7 +80,7 @@ module _ (g : Reading) (bytes : List ℕ) (d : Placed) (is : IsPyxDocument bytes
     cannot other same valid =
         let long = as_long line (lines other) (lines bytes) same at.1 in
         let more = same_front bytes other d valid.0 line f.before failing f.behind is valid.1 at.1 long (sym same) f.parts (omega arith) in
-        f.cannot more.0 other valid.0 valid.1 more.1 valid.2
+        f.cannot more.0 valid.0 (document_formed valid.1) more.1 valid.2
 
     abbrev Later : Event → Type 0
     Later e = StartsUnknown IsUnknown e.kind → line ≤ e.line

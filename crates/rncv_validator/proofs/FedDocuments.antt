@@ -12,9 +12,12 @@ use Rattle.rng_model.specs.declared.pyx_fault.PyxFault.TheVariants as pyx
 use Rattle.rng_model.specs.documents.Documents.{IsTheDocument}
 use Rattle.rng_model.specs.documents.EventViews.{Hands}
 use Rattle.rng_model.specs.documents.PyxClauses.{IsFirstFault}
-use Rattle.rng_model.specs.documents.PyxTrees.{Event, EventKind, a_start, a_string, an_end, Placed, IsPyxDocument, events_of, item_of}
+use Rattle.rng_model.specs.documents.ElementTrees.{IsElementTree}
+use Rattle.rng_model.specs.documents.PyxTrees.{Event, EventKind, a_start, a_string, an_end, Placed, events_of, item_of}
 use Rattle.rng_model.specs.matching.GrammarMatching.{reading_of, IsValidBy}
-use Rattle.rng_model.specs.matching.Outcomes.{FailsAt, IsOutcome, KnowsName}
+use Rattle.rng_model.specs.matching.Outcomes.{KnowsName}
+use Rattle.rng_deriv_laws.specs.plain.Outcomes.{FailsAt, IsOutcome}
+use Rattle.rng_deriv_laws.proofs.PyxDocuments.{document_formed}
 use Rattle.rng_model.specs.schema.Schema.{Schema}
 use Rattle.rng_model.specs.simple.Table.{Table, grammar_of}
 use Rattle.rng_model.specs.xsd.SchemasWith.{IsValidBySchemaWith}
@@ -74,7 +77,7 @@ holds_in_profile d (Err e) holds = tt
 
 -- the outcome of a matcher is right for each document with the events that it has had
 abbrev pub Says : Matching → Outcome → Type 0
-Says m o = (bytes : List ℕ) (t : Placed) → IsPyxDocument bytes t → Knows m (events_of t) → IsOutcome (judges_by m) t o
+Says m o = (t : Placed) → IsElementTree t → Knows m (events_of t) → IsOutcome (judges_by m) t o
 
 -- a taker that was given the events has taken them
 pub gone : (a b : Matching) (es : List Event) → Hands HasGoneOn a b es → HasGoneOn a b es
@@ -88,7 +91,7 @@ module _ (d : Judging) (old new : Matching) (there : old ≡ d.matching) (types 
       let t = document.tree in
       let on = gone old new es handed in
       let known = on.knows fed.events (subst (λ (m : Matching). Knows m fed.events) (sym there) fed.knows) in
-      let outcome = says bytes t document.document (subst (Knows new) (sym document.events_are) known) in
+      let outcome = says t (document_formed document.document) (subst (Knows new) (sym document.events_are) known) in
       let same : new.grammar ≡ d.grammar = on.grammar ∙ ap (λ (m : Matching). m.grammar) there ∙ fed.by_grammar in
       by_grammar types s bytes d.grammar judges (verdict_of o)
       (outcome_verdict (reading_of d.grammar) bytes t document.document o (subst (λ (g : Table). IsOutcome (reading_of g) t o) same outcome))
@@ -222,7 +225,7 @@ hopeless_from d line types s bytes f judges fed =
           let begins = fed_front d.reader bytes fed.events fed.reads fails.before e fails.behind fails.parts rest other t valid.1 same in
           let by_grammar = (judges.documents (item_of t)).1 valid.2 in
           let of_set = subst (λ (set : TypeSet). IsValidBy (grammar_of d.grammar) (texts_of (tests_in set)) (item_of t)) (sym judges.set) by_grammar in
-          fails.cannot begins.0 other t valid.1 begins.1
+          fails.cannot begins.0 t (document_formed valid.1) begins.1
           (subst (λ (g : Table). IsValidBy (grammar_of g) (texts_of (tests_in g.types)) (item_of t)) (sym fed.by_grammar) of_set);
     }
 
@@ -241,7 +244,7 @@ all_known d bytes fed none kept = subst (λ (t : Table). All (λ (e : Event). Kn
     by_progress (progress.Failed line) e none = absurd (cc)
     by_progress progress.Lost e none = absurd (kept e)
 
-known_start : (g : Table) (types : TypeSet) (s : Schema) → JudgesWith types g s → (kind : EventKind) → KnowsName (grammar_of g) kind
+pub known_start : (g : Table) (types : TypeSet) (s : Schema) → JudgesWith types g s → (kind : EventKind) → KnowsName (grammar_of g) kind
     → StartsUnknown (IsUnknownIn s) kind → ⊥
 known_start g types s judges (a_start name attrs) known unknown = known (unknown_to_grammar s (grammar_of g) judges.only name unknown)
 known_start g types s judges (a_string text) known unknown = unknown

@@ -124,6 +124,32 @@ impl Validator {
         }
     }
 
+    /// Returns the grammar, and the state of a matcher by it that has had no event yet, for a caller that hands the events
+    /// of a document to a matcher itself. The state is `None` when out of memory.
+    ///
+    /// RELAX NG Specification, sections 5 and 7. Allocates and costs as `document` does.
+    pub fn into_parts(self, alloc: Global) -> (Arc<SimpleGrammar>, Option<MatcherState>)
+        ensures grammar { result.0.value ≡ self }
+        ensures restricted { BreaksNone (grammar_of result.0.value) }
+        ensures fresh { IfSome result.1 (IsFresh result.0.value) }
+    {
+        let Validator { grammar, state } = self;
+        let state = fresh_state(alloc, &grammar, state);
+        (grammar, state)
+    }
+
+    /// Returns the validator of a grammar that `into_parts` returned, with the state of a matcher by it, which may have
+    /// had events, or with `None`.
+    ///
+    /// RELAX NG Specification, sections 5 and 7. Allocates nothing.
+    pub fn of_parts(grammar: Arc<SimpleGrammar>, state: Option<MatcherState>) -> Validator
+        requires restricted { BreaksNone (grammar_of grammar.value) }
+        requires state { IfSome state (IsStateBy grammar.value) }
+        ensures { result ≡ grammar.value }
+    {
+        Validator { grammar, state }
+    }
+
     /// Returns another validator for the same schema, for example for another thread. The schema is shared, and what
     /// the matcher has learned is not. Fails only when out of memory.
     pub fn share(&self) -> Result<Validator, OutOfMemory>

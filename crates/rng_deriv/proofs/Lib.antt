@@ -1,5 +1,5 @@
 mod Matchers
-mod JoinedStarts
+pub mod JoinedStarts
 mod ServedTables
 mod NamesOfOneKey
 mod KeptStarts

@@ -3,10 +3,11 @@ ghost use Rattle.std.specs.Prelude.{◌≡◌, ℕ, List, [], ◌∷◌, ◌++�
 ghost use Rattle.rng_model.specs.simple.Table.{grammar_of};
 ghost use Rattle.rng_model.specs.restrictions.Restrictions.{BreaksNone};
 ghost use Rattle.rng_model.specs.documents.EventViews.{event_of, Hands};
+ghost use Rattle.rng_model.specs.documents.ElementTrees.{IsElementTree};
 ghost use Rattle.rng_model.specs.documents.PyxTrees as trees;
-ghost use Rattle.rng_model.specs.documents.PyxTrees.{IsPyxDocument, Placed, events_of};
+ghost use Rattle.rng_model.specs.documents.PyxTrees.{Placed, events_of};
 ghost use Rattle.rng_model.specs.matching.GrammarMatching.{reading_of};
-ghost use Rattle.rng_model.specs.matching.Outcomes.{IsOutcome};
+ghost use Rattle.rng_deriv_laws.specs.plain.Outcomes.{IsOutcome};
 ghost use Rattle.rng_deriv.specs.views.Matchers.{HasFailedAt, HasGoneOn, HasRunOut, IsStateBy, Knows, judges_by, matching_in};
 ghost use Rattle.rng_model.specs.declared.outcome.Outcome.{Outcome};
 
@@ -98,7 +99,7 @@ impl<'a> Matcher<'a> {
     /// The line need not be the first one of this kind. RELAX NG Specification, section 6.3. Fails exactly if a call of
     /// `event` ran out of memory. Allocates nothing. Costs a test of each alternative.
     pub fn outcome(&self) -> Result<Outcome, OutOfMemory>
-        ensures outcome { IfOk result (λ o. (bytes : List ℕ) (d : Placed) → IsPyxDocument bytes d → Knows self.now (events_of d)
+        ensures outcome { IfOk result (λ o. (d : Placed) → IsElementTree d → Knows self.now (events_of d)
             → IsOutcome (judges_by self.now) d o) }
         ensures failed { (line : ℕ) → HasFailedAt self.now line → IfOk result (λ o. o ≡ Outcome.Invalid line) }
         ensures lost { OnErr result (HasRunOut self.now) }
@@ -112,7 +113,7 @@ impl<'a> Matcher<'a> {
     ///
     /// RELAX NG Specification, section 6.3.
     pub fn finish(self) -> Result<Outcome, OutOfMemory>
-        ensures outcome { IfOk result (λ o. (bytes : List ℕ) (d : Placed) → IsPyxDocument bytes d → Knows self.entry (events_of d)
+        ensures outcome { IfOk result (λ o. (d : Placed) → IsElementTree d → Knows self.entry (events_of d)
             → IsOutcome (judges_by self.entry) d o) }
         ensures failed { (line : ℕ) → HasFailedAt self.entry line → IfOk result (λ o. o ≡ Outcome.Invalid line) }
         ensures lost { OnErr result (HasRunOut self.entry) }

@@ -39,11 +39,16 @@ pub fn taken<'a>(
         matcher,
         has_run_out: false,
     };
-    match read(alloc, document, &mut watched) {
-        Ok(()) => Ok(watched.matcher),
+    let end = read(alloc, document, &mut watched);
+    let Watched {
+        matcher,
+        has_run_out,
+    } = watched;
+    match end {
+        Ok(()) => Ok(matcher),
         Err(PyxFault::At { .. }) => Err(io::Error::from(io::ErrorKind::InvalidData)),
         Err(PyxFault::Memory) => {
-            let fails = !watched.has_run_out || fails_again(watched.matcher, anew);
+            let fails = !has_run_out || fails_again(matcher, anew);
             let kind = if fails {
                 io::ErrorKind::OutOfMemory
             } else {

@@ -8,9 +8,8 @@ use Rattle.std.proofs.lemmas.List.Folds.{Any-from_list_any}
 use Rattle.std.proofs.lemmas.Bool.{or_parts, and_parts}
 use Rattle.rng_model.specs.simple.Tree.{Simple}
 use Rattle.rng_model.specs.matching.Document.{Item}
-use Rattle.rng_model.specs.documents.PyxLines.{Said}
-use Rattle.rng_model.specs.documents.PyxNamespaces.{NamespaceScope}
-use Rattle.rng_model.specs.documents.PyxTrees.{Event, EventKind, a_start, a_string, an_end, Placed, events_of, IsPyxDocument, IsElement, element}
+use Rattle.rng_model.specs.documents.ElementTrees.{IsElementTree}
+use Rattle.rng_model.specs.documents.PyxTrees.{Event, EventKind, a_start, a_string, an_end, Placed, events_of}
 use Rattle.rng_model.specs.matching.GrammarMatching.{Reading}
 use Rattle.rng_deriv_laws.specs.plain.Taking.{Takes}
 use Rattle.rng_deriv_laws.specs.plain.Derivatives.{is_nullable, is_not_allowed}
@@ -21,7 +20,8 @@ use Rattle.rng_deriv_laws.proofs.Levels.Events.{stands_on, stands_first, levels_
 use Rattle.rng_deriv_table.specs.declared.pattern.PatternNumber.{PatternNumber}
 use Rattle.rng_deriv_events.specs.views.Numbers.{tree_of}
 use Rattle.rng_deriv_events.specs.views.Strings.{IsHeld}
-use Rattle.rng_model.specs.matching.Outcomes.{KnowsName, IsValidByReading, FailsAt}
+use Rattle.rng_model.specs.matching.Outcomes.{KnowsName, IsValidByReading}
+use Rattle.rng_deriv_laws.specs.plain.Outcomes.{FailsAt}
 use Rattle.rng_deriv_events.specs.views.Positions.{Leads, AddsStep, HasCome}
 use Rattle.rng_deriv_events.specs.views.OpenPositions.{OpenPosition}
 use Rattle.rng_deriv_events.proofs.Numbers.{all_before}
@@ -120,8 +120,8 @@ module _ (g : Reading) where
       kind = e.kind;
       behind = [];
       parts = refl;
-      cannot = λ more bytes d is parts. no_levels_are_invalid g.grammar g.tests lead.matcher (es ++ e ∷ []) more stands
-          (subst (All (λ p. is_not_allowed p ≡ true)) (sym now) (all_pass is_not_allowed (tree_of new) q.state.now all)) bytes d is parts;
+      cannot = λ more d is parts. no_levels_are_invalid g.grammar g.tests lead.matcher (es ++ e ∷ []) more stands
+          (subst (All (λ p. is_not_allowed p ≡ true)) (sym now) (all_pass is_not_allowed (tree_of new) q.state.now all)) d is parts;
       known = come.known;
     }
 
@@ -138,26 +138,26 @@ module _ (g : Reading) where
 
 -- ---- the end of a document
 
-not_empty : {room n : ℕ} {outer : NamespaceScope} {all : List Said} {d : Placed} → IsElement room outer n all d → events_of d ≡ [] → ⊥
-not_empty (element t c a e) none = let first = ap events_of (sym e) ∙ none in absurd (cc)
+not_empty : {d : Placed} → IsElementTree d → events_of d ≡ [] → ⊥
+not_empty t none = let first = ap events_of (sym t.is) ∙ none in absurd (cc)
 
-fails_behind : (g : Reading) (es : List Event) (line : ℕ) (f : FailsAt g es line) (bytes : List ℕ) (d : Placed) → IsPyxDocument bytes d → events_of d ≡ es
+fails_behind : (g : Reading) (es : List Event) (line : ℕ) (f : FailsAt g es line) (d : Placed) → IsElementTree d → events_of d ≡ es
     → ¬ (IsValidByReading g d)
-fails_behind g es line f bytes d is same =
-    f.cannot f.behind bytes d is (same ∙ f.parts ∙ sym (append_assoc f.before (record { line = line; kind = f.kind } ∷ []) f.behind))
+fails_behind g es line f d is same =
+    f.cannot f.behind d is (same ∙ f.parts ∙ sym (append_assoc f.before (record { line = line; kind = f.kind } ∷ []) f.behind))
 
-pub failed : (g : Reading) (d : Placed) (line : ℕ) (bytes : List ℕ) → IsPyxDocument bytes d → FailsAt g (events_of d) line
+pub failed : (g : Reading) (d : Placed) (line : ℕ) → IsElementTree d → FailsAt g (events_of d) line
     → ¬ (IsValidByReading g d) × FailsAt g (events_of d) line
-failed g d line bytes is f = (fails_behind g (events_of d) line f bytes d is refl, f)
+failed g d line is f = (fails_behind g (events_of d) line f d is refl, f)
 
-module _ (g : Reading) (trees : List (Simple ℕ)) (p : OpenPosition) (line : ℕ) (bytes : List ℕ) (d : Placed) (is : IsPyxDocument bytes d)
+module _ (g : Reading) (trees : List (Simple ℕ)) (p : OpenPosition) (line : ℕ) (d : Placed) (is : IsElementTree d)
     (come : HasCome g trees p line (events_of d)) where
   now_is : come.matcher.state.now ≡ map (tree_of trees) p.state.now
   now_is = ap (λ s. s.now) come.position.state
 
   pub ends_valid : list_any (λ n. is_nullable (tree_of trees n)) p.state.now ≡ true → IsValidByReading g d
   ends_valid some =
-      (levels_answer g.grammar g.tests come.matcher bytes d is come.stands).0
+      (levels_answer g.grammar g.tests come.matcher d is come.stands).0
       (subst (λ ps. (p : Simple ℕ) × Contains ps p × (is_nullable p ≡ true)) (sym now_is) (some_passes is_nullable (tree_of trees) p.state.now some))
 
   none_ends : list_any (λ n. is_nullable (tree_of trees n)) p.state.now ≡ false → (q : Simple ℕ) → Contains come.matcher.state.now q
@@ -172,18 +172,18 @@ module _ (g : Reading) (trees : List (Simple ℕ)) (p : OpenPosition) (line : �
   ends_invalid none = last come.last where
     last : (events_of d ≡ []) ⊎ ((front : List Event) × (kind : EventKind) × (events_of d ≡ front ++ record { line = line; kind = kind } ∷ []))
         → ¬ (IsValidByReading g d) × FailsAt g (events_of d) line
-    last (inl nothing) = absurd (not_empty is.is_root nothing)
+    last (inl nothing) = absurd (not_empty is nothing)
     last (inr (front, kind, parts)) =
         let f : FailsAt g (events_of d) line = record {
           before = front;
           kind = kind;
           behind = [];
           parts = parts;
-          cannot = λ more bytes' d' is' parts'. no_end_is_invalid g.grammar g.tests come.matcher bytes d is come.stands (none_ends none) more bytes' d' is'
+          cannot = λ more d' is' parts'. no_end_is_invalid g.grammar g.tests come.matcher d is come.stands (none_ends none) more d' is'
               (parts' ∙ ap (λ l. l ++ more) (sym parts));
           known = front_known front kind parts;
         } in
-        failed g d line bytes is f where
+        failed g d line is f where
           front_known : (front : List Event) (kind : EventKind) → events_of d ≡ front ++ record { line = line; kind = kind } ∷ []
               → All (λ e. KnowsName g.grammar e.kind) front
           front_known front kind parts = all_before (λ e. KnowsName g.grammar e.kind) front (record { line = line; kind = kind })

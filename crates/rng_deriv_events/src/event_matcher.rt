@@ -6,9 +6,10 @@ ghost use Rattle.rng_model.specs.matching.GrammarMatching.{Reading};
 ghost use Rattle.rng_deriv_events.specs.views.Basis.{HoldsBy, reading_by};
 ghost use Rattle.rng_deriv_events.specs.views.KeptLevels.{AreKept};
 ghost use Rattle.rng_model.specs.documents.EventViews.{event_of};
+ghost use Rattle.rng_model.specs.documents.ElementTrees.{IsElementTree};
 ghost use Rattle.rng_model.specs.documents.PyxTrees as trees;
-ghost use Rattle.rng_model.specs.documents.PyxTrees.{IsPyxDocument, Placed, events_of};
-ghost use Rattle.rng_model.specs.matching.Outcomes.{IsOutcome};
+ghost use Rattle.rng_model.specs.documents.PyxTrees.{Placed, events_of};
+ghost use Rattle.rng_deriv_laws.specs.plain.Outcomes.{IsOutcome};
 ghost use Rattle.rng_deriv_events.specs.views.Positions.{IsFailed, IsKnown, IsLost, IsProgressInside};
 ghost use Rattle.rng_model.specs.declared.outcome.Outcome.{Outcome};
 
@@ -141,7 +142,7 @@ impl<D: Derivatives + Drop> EventMatcher<D> {
     /// Returns the outcome of the document with the events that were taken. Fails only if an earlier call ran out of
     /// memory.
     pub fn outcome(&self) -> Result<Outcome, OutOfMemory>
-        ensures outcome { IfOk result (λ o. (bytes : List ℕ) (d : Placed) → IsPyxDocument bytes d
+        ensures outcome { IfOk result (λ o. (d : Placed) → IsElementTree d
             → IsKnown (reading_by (D.basis self.now.0)) (D.trees self.now.0) self.now.1 (events_of d) → IsOutcome (reading_by (D.basis self.now.0)) d o) }
         ensures failed { (line : ℕ) → IsFailed line self.now.1 → IfOk result (λ o. o ≡ Outcome.Invalid line) }
         ensures lost { OnErr result (IsLost self.now.1) }

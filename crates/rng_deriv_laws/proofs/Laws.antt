@@ -22,7 +22,6 @@ use Rattle.rng_deriv_laws.proofs.Restricted.{start_may_start, start_restricted, 
 use Rattle.rng_deriv_laws.proofs.Document.{root_in, root_out}
 use Rattle.rng_deriv_laws.proofs.Events.{kinds_append, kinds_of_document, run_root, never_accepts}
 use Rattle.rng_deriv_laws.proofs.InvalidAt.{unknown_is_never, root_accepts}
-use Rattle.rng_deriv_laws.proofs.PyxDocuments.{document_formed}
 
 module _ (g : Grammar) (keeps : BreaksNone g) (tests : TextTests) where
   -- the state after an element as a document
@@ -57,16 +56,15 @@ module _ (g : Grammar) (keeps : BreaksNone g) (tests : TextTests) where
       (ap accepts s ∙ root_accepts (reading g tests) g.start (start_may_start g keeps) q xs (items_of kids) (ap is_never (sym s) ∙ e))))
 
 pub accepts_valid_documents : AcceptsValidDocuments
-accepts_valid_documents g keeps tests bytes d is =
-    let t = document_formed is in
+accepts_valid_documents g keeps tests d t =
     subst (λ x. (is_valid (reading g tests) (kinds (events_of x)) ≡ true) ↔ IsValidBy g (texts_of tests) (item_of x)) (sym t.is) (
       element_valid_in g keeps tests t.line t.name t.attributes t.kids t.last t.formed,
       element_valid_out g keeps tests t.line t.name t.attributes t.kids t.last t.formed,
     )
 
 pub never_is_invalid : NeverIsInvalid
-never_is_invalid g keeps tests es more h bytes d is parts v =
-    let e : is_valid (reading g tests) (kinds (events_of d)) ≡ true = (accepts_valid_documents g keeps tests bytes d is).1 v in
+never_is_invalid g keeps tests es more h d is parts v =
+    let e : is_valid (reading g tests) (kinds (events_of d)) ≡ true = (accepts_valid_documents g keeps tests d is).1 v in
     never_accepts (reading g tests) (kinds es) (kinds more) h
     (subst (λ l. is_valid (reading g tests) l ≡ true) (ap kinds parts ∙ kinds_append es more) e)
 
@@ -80,7 +78,6 @@ unknown_name_is_never g tests m q xs none =
     unknown_is_never (reading g tests) q (λ k. not_named g q none k (slice_get g.elements k) refl) m xs
 
 pub invalid_is_never : InvalidIsNever
-invalid_is_never g keeps tests bytes d is =
-    let t = document_formed is in
+invalid_is_never g keeps tests d t =
     subst (λ x. (IsValidBy g (texts_of tests) (item_of x) → ⊥) → is_never (run (reading g tests) (new g.start) (kinds (events_of x))).state ≡ true) (sym t.is)
     (λ not. element_invalid g keeps tests t.line t.name t.attributes t.kids t.last t.formed not _ refl)

@@ -8,8 +8,8 @@ use Rattle.rng_model.specs.plain.WellFormed as w
 use Rattle.rng_model.specs.datatypes.Texts.{is_blank, TextTests, texts_of}
 use Rattle.rng_model.specs.matching.GrammarMatching.{IsValidBy}
 use Rattle.rng_model.specs.simple.Grammar.{Grammar}
+use Rattle.rng_model.specs.documents.ElementTrees.{IsElementTree}
 use Rattle.rng_model.specs.documents.PyxTrees.{Event, EventKind, a_start, a_string, an_end, Placed, PlacedItems, element_at, item_of, items_of, events_of}
-use Rattle.rng_model.specs.documents.PyxTrees.{IsPyxDocument}
 use Rattle.rng_deriv_laws.specs.plain.Blanks.{Every, nil, cons, IsNotBlank, has_element, without_blanks}
 use Rattle.rng_deriv_laws.specs.plain.Events.{kinds, events_of_items}
 use Rattle.rng_deriv_laws.specs.plain.Laws.{reading}
@@ -19,7 +19,6 @@ use Rattle.rng_deriv_laws.specs.plain.Meanings.{stays, at_start, at_string, at_e
 use Rattle.rng_deriv_laws.proofs.TakesAndMatches.{takes_in, takes_out}
 use Rattle.rng_deriv_laws.proofs.PutBlanks.{without_is_clean}
 use Rattle.rng_deriv_laws.proofs.Events.{kinds_of_document, kinds_append}
-use Rattle.rng_deriv_laws.proofs.PyxDocuments.{document_formed}
 
 -- from the first to the third
 pub through : {A B C : Type 0} → A ↔ B → B ↔ C → A ↔ C
@@ -153,10 +152,9 @@ module _ {S : Type 0} (means : S → Meaning) where
         ))
 
     -- from the start, the events of a document lead to a meaning that allows the end exactly if the document is valid
-    run_of_document : (m o : S) (c : Bool) (u : List ℕ) (bytes : List ℕ) (d : Placed) → IsPyxDocument bytes d → IsStart (reading g tests) (means m) →
+    run_of_document : (m o : S) (c : Bool) (u : List ℕ) (d : Placed) → IsElementTree d → IsStart (reading g tests) (means m) →
         Runs means m false [] (kinds (events_of d)) o c u → (means o).holds ([] ∷ []) ↔ IsValidBy g (texts_of tests) (item_of d)
-    run_of_document m o c u bytes d is start r =
-        let t = document_formed is in
+    run_of_document m o c u d t start r =
         subst (λ x. Runs means m false [] (kinds (events_of x)) o c u → (means o).holds ([] ∷ []) ↔ IsValidBy g (texts_of tests) (item_of x)) (sym t.is)
         (element_valid m o c u t.line t.name t.attributes t.kids t.last t.formed start) r
 
@@ -202,18 +200,18 @@ module _ {S : Type 0} (means : S → Meaning) where
 
     -- no document that begins with events that lead to an empty meaning is valid
     empty_is_invalid : (m n : S) (c : Bool) (t : List ℕ) (es more : List Event) → IsStart (reading g tests) (means m) → Runs means m false [] (kinds es) n c t →
-        IsEmpty (means n) → (bytes : List ℕ) (d : Placed) → IsPyxDocument bytes d → events_of d ≡ es ++ more → IsValidBy g (texts_of tests) (item_of d) → ⊥
-    empty_is_invalid m n c t es more start r none bytes d is parts v =
+        IsEmpty (means n) → (d : Placed) → IsElementTree d → events_of d ≡ es ++ more → IsValidBy g (texts_of tests) (item_of d) → ⊥
+    empty_is_invalid m n c t es more start r none d is parts v =
         let rest = empty_runs n none c t (kinds more) in
         let all : kinds (events_of d) ≡ kinds es ++ kinds more = ap kinds parts ∙ kinds_append es more in
         none.holds ([] ∷ [])
-        ((run_of_document m n rest.begun rest.held bytes d is start
+        ((run_of_document m n rest.begun rest.held d is start
         (subst (λ l. Runs means m false [] l n rest.begun rest.held) (sym all) (run_on r rest.runs))).1 v)
 
   -- ---- the laws
 
   pub runs_answer : RunsAnswer means
-  runs_answer g tests m n b held bytes d is start r = run_of_document g tests m n b held bytes d is start r
+  runs_answer g tests m n b held d is start r = run_of_document g tests m n b held d is start r
 
   pub empty_stays_invalid : EmptyIsInvalid means
-  empty_stays_invalid g tests m n b held es more start r none bytes d is parts v = empty_is_invalid g tests m n b held es more start r none bytes d is parts v
+  empty_stays_invalid g tests m n b held es more start r none d is parts v = empty_is_invalid g tests m n b held es more start r none d is parts v

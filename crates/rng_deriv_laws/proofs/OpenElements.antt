@@ -3,10 +3,10 @@ use Rattle.std.proofs.Common.{◌≡◌, ◌≢◌, ℕ, zero, suc, List, [], �
 use Rattle.std.proofs.lemmas.List.{append-nil}
 use Rattle.rng_model.specs.names.Names.{Name}
 use Rattle.rng_model.specs.matching.Document.{Attribute, a_text, an_element, Items, no_items, item_and}
-use Rattle.rng_model.specs.documents.PyxTrees.{EventKind, a_start, a_string, an_end, Placed, text_at, element_at, item_of, items_of, events_of, IsPyxDocument}
+use Rattle.rng_model.specs.documents.ElementTrees.{IsElementTree}
+use Rattle.rng_model.specs.documents.PyxTrees.{EventKind, a_start, a_string, an_end, Placed, text_at, element_at, item_of, items_of, events_of}
 use Rattle.rng_deriv_laws.specs.plain.Events.{kinds, events_of_items, open_after}
 use Rattle.rng_deriv_laws.proofs.Events.{kinds_of_document}
-use Rattle.rng_deriv_laws.proofs.PyxDocuments.{document_formed}
 
 -- this many elements are open between two parts of the events
 pub record Between (n : ℕ) (es fs : List EventKind) (m : ℕ) : Type 0 where
@@ -54,14 +54,14 @@ alone_close : (ns : Items) → open_after 0 (events_of_items ns) ≡ Some 0
 alone_close ns = ap (open_after 0) (sym (append-nil (events_of_items ns))) ∙ items_close ns 0 []
 
 -- after the events of a document no element is open
-pub document_closes : (bytes : List ℕ) (d : Placed) → IsPyxDocument bytes d → open_after 0 (kinds (events_of d)) ≡ Some 0
-document_closes bytes d is = ap (open_after 0) (kinds_of_document d) ∙ alone_close (item_and (item_of d) no_items)
+pub document_closes : (d : Placed) → IsElementTree d → open_after 0 (kinds (events_of d)) ≡ Some 0
+document_closes d is = ap (open_after 0) (kinds_of_document d) ∙ alone_close (item_and (item_of d) no_items)
 
 -- an element ends only if one is open
-pub ends_open : (bytes : List ℕ) (d : Placed) → IsPyxDocument bytes d → (es fs : List EventKind) → kinds (events_of d) ≡ es ++ fs
+pub ends_open : (d : Placed) → IsElementTree d → (es fs : List EventKind) → kinds (events_of d) ≡ es ++ fs
     → (n : ℕ) × (open_after 0 es ≡ Some n)
-ends_open bytes d is es fs e =
-    let b = count_between 0 es fs 0 (ap (open_after 0) (sym e) ∙ document_closes bytes d is) in (b.count, b.before)
+ends_open d is es fs e =
+    let b = count_between 0 es fs 0 (ap (open_after 0) (sym e) ∙ document_closes d is) in (b.count, b.before)
 
 -- if another event follows, either no event has come or an element is open
 
@@ -88,21 +88,20 @@ root_open q xs kids (a_start q' xs' ∷ es) fs f e some =
 root_open q xs kids (a_string s ∷ es) fs f e some = absurd (cc)
 root_open q xs kids (an_end ∷ es) fs f e some = absurd (cc)
 
-pub inside_root : (bytes : List ℕ) (d : Placed) → IsPyxDocument bytes d → (es fs : List EventKind) (f : EventKind) → kinds (events_of d) ≡ es ++ f ∷ fs
+pub inside_root : (d : Placed) → IsElementTree d → (es fs : List EventKind) (f : EventKind) → kinds (events_of d) ≡ es ++ f ∷ fs
     → es ≢ [] → (n : ℕ) × (open_after 0 es ≡ Some (suc n))
-inside_root bytes d is es fs f e some =
-    let t = document_formed is in
+inside_root d t es fs f e some =
     root_open t.name t.attributes (items_of t.kids) es fs f
     (ap (λ i. events_of_items (item_and i no_items)) (ap item_of (sym t.is)) ∙ sym (kinds_of_document d) ∙ e) some
 
 -- no document is a proper beginning of another
-pub nothing_behind_document : (bytes bytes' : List ℕ) (d d' : Placed) → IsPyxDocument bytes d → IsPyxDocument bytes' d' → (fs : List EventKind)
+pub nothing_behind_document : (d d' : Placed) → IsElementTree d → IsElementTree d' → (fs : List EventKind)
     → kinds (events_of d') ≡ kinds (events_of d) ++ fs → fs ≡ []
-nothing_behind_document bytes bytes' d d' is is' [] e = refl
-nothing_behind_document bytes bytes' d d' is is' (f ∷ fs) e =
-    let k = inside_root bytes' d' is' (kinds (events_of d)) fs f e (some_event d) in
+nothing_behind_document d d' is is' [] e = refl
+nothing_behind_document d d' is is' (f ∷ fs) e =
+    let k = inside_root d' is' (kinds (events_of d)) fs f e (some_event d) in
     let more = k.1 in
-    let none = document_closes bytes d is in
+    let none = document_closes d is in
     absurd (cc) where
       some_event : (d : Placed) → kinds (events_of d) ≢ []
       some_event (text_at n s) e = cc

@@ -1,6 +1,6 @@
 -- A PYX document is an element tree with distinct attribute names in each tag, without empty strings and without
 -- adjacent strings.
-use Rattle.std.proofs.Common.{◌≡◌, ℕ, List, [], ◌∷◌, subst, sym}
+use Rattle.std.proofs.Common.{ℕ, List, [], ◌∷◌, subst, sym}
 use Rattle.rng_model.specs.names.Names.{Name}
 use Rattle.rng_model.specs.matching.Document.{Attribute, an_element, list_of}
 use Rattle.rng_model.specs.plain.WellFormed.{Separate, IsWellFormed, AreWellFormed}
@@ -9,17 +9,8 @@ use Rattle.rng_model.specs.documents.PyxLines.{Said}
 use Rattle.rng_model.specs.documents.PyxNamespaces.{NamespaceScope}
 use Rattle.rng_model.specs.documents.PyxTrees.{Placed, PlacedItems, element_at, none_placed, placed_and, items_of, string_before, IsElement, IsContent}
 use Rattle.rng_model.specs.documents.PyxTrees.{IsPyxDocument}
+use Rattle.rng_model.specs.documents.ElementTrees.{IsElementTree}
 use Rattle.rng_model.specs.documents.PyxTrees as p
-
--- the tree is an element, and is well-formed
-pub record IsElementTree (tree : Placed) : Type 0 where
-  pub line : ℕ
-  pub name : Name
-  pub attributes : List Attribute
-  pub kids : PlacedItems
-  pub last : ℕ
-  pub is : tree ≡ element_at line name attributes kids last
-  pub formed : IsWellFormed (an_element name attributes (items_of kids))
 
 record AreFormed (kids : PlacedItems) : Type 0 where
   formed : AreWellFormed (items_of kids)

@@ -6,7 +6,7 @@ use Rattle.rng_model.specs.names.Names.{NameClass}
 use Rattle.rng_model.specs.simple.Tree.{Simple, Datatype, Connector, choice, group, interleave, s_not_allowed, s_empty, s_text, s_leaf, s_attribute, s_list}
 use Rattle.rng_model.specs.simple.Tree.{s_data}
 use Rattle.rng_model.specs.simple.Tree.{s_data_except, s_value, s_one_or_more, s_joined}
-use Rattle.rng_model.specs.simple.Grammar.{Grammar, Kind, kind_of, StandsIn, Inside, itself, of_list, attribute_kind, list_kind, data_kind, one_or_more_kind}
+use Rattle.rng_model.specs.simple.Grammar.{Grammar, Kind, kind_of, StandsIn, Inside, itself, attribute_kind, list_kind, data_kind, one_or_more_kind}
 use Rattle.rng_model.specs.simple.Grammar.{group_kind, interleave_kind}
 use Rattle.rng_model.proofs.Inside.{in_attribute, in_list, in_except, in_one_or_more, in_left, in_right, inside_list, inside_one_or_more, inside_left}
 use Rattle.rng_model.proofs.Inside.{inside_right}

@@ -1,10 +1,10 @@
 //! Matching by derivatives equals the rules of matching (RELAX NG Specification, section 6.2), over pure values.
 //!
-//! The laws hold for every grammar that breaks none of the restrictions S18 to S27, and for every PYX document. A
-//! matcher that takes the document's events one by one accepts them exactly if the document is valid by the one
-//! definition of matching. Once the matcher's state is `never`, no document that begins with the events so far is
-//! valid. No code of this crate runs: a matcher over tables, memos and sets of alternatives cites its definitions and
-//! lemmas.
+//! The laws hold for every grammar that breaks none of the restrictions S18 to S27, and for every document that is a
+//! well-formed tree, whatever it is read from. A matcher that takes the document's events one by one accepts them
+//! exactly if the document is valid by the one definition of matching. Once the matcher's state is `never`, no document
+//! that begins with the events so far is valid. No code of this crate runs: a matcher over tables, memos and sets of
+//! alternatives cites its definitions and lemmas.
 //!
 //! Order of reading, in `specs/`:
 //!
@@ -17,6 +17,7 @@
 //! - `States`: patterns inside open elements.
 //! - `Events`: the matcher as a fold.
 //! - `Laws`: the theorems.
+//! - `Outcomes`: the outcome of a document, and its line.
 //! - `Meanings`: the same for any matcher whose events change what it matches as the rules require.
 //! - `LevelStates`: open elements as levels of alternatives with their ways out, and what each event must do to them.
 //! - `LevelEvents`: a matcher of level states, with its theorems.

@@ -4,7 +4,7 @@ ghost use Rattle.std.specs.Global.{Global};
 ghost use Rattle.rng_model.specs.matching.Document.{a_text};
 ghost use Rattle.rng_model.specs.simple.Table.{Table};
 ghost use Rattle.rng_types.specs.views.View.{meaning_by};
-ghost use Rattle.xsd_types.specs.views.View.{known_meaning};
+ghost use Rattle.xsd_types.specs.views.View.{known_meaning, plain_meaning};
 ghost use Rattle.xsd_types.specs.views.View as xsd;
 ghost use Rattle.rng_deriv_table.specs.views.Node.{Node};
 ghost use Rattle.rng_deriv_ways.specs.plain.Ways.{AreInside};
@@ -21,7 +21,7 @@ use rng_types::Builtin;
 use smallvec::SmallVec;
 use std::alloc::Global;
 use std::collections::HashMap;
-use xsd_types::{KnownDatatype, XsdType};
+use xsd_types::{KnownDatatype, PlainType, XsdType};
 
 /// Returns true only if texts that are equal by a datatype are one text once their blanks are collapsed. The integers
 /// `01` and `1` are equal, and so are the booleans `true` and `1`.
@@ -38,15 +38,22 @@ fn compares_texts(datatype: &KnownDatatype) -> bool
 fn xsd_compares_texts(datatype: &XsdType) -> bool
     ensures { result ≡ true → ComparesTexts (xsd.meaning_by datatype.now) }
 {
+    plain_compares_texts(&datatype.plain)
+}
+
+/// The same of a datatype without its patterns.
+fn plain_compares_texts(datatype: &PlainType) -> bool
+    ensures { result ≡ true → ComparesTexts (plain_meaning datatype.now) }
+{
     match datatype {
-        XsdType::String(_) => true,
-        XsdType::NormalizedString(_) => true,
-        XsdType::Token(_) => true,
-        XsdType::NcName(_) => true,
-        XsdType::NmToken(_) => true,
-        XsdType::Word(_) => true,
-        XsdType::List(_) => true,
-        XsdType::Boolean(_) | XsdType::Integer(_) => false,
+        PlainType::String(_) => true,
+        PlainType::NormalizedString(_) => true,
+        PlainType::Token(_) => true,
+        PlainType::NcName(_) => true,
+        PlainType::NmToken(_) => true,
+        PlainType::Word(_) => true,
+        PlainType::List(_) => true,
+        PlainType::Boolean(_) | PlainType::Integer(_) => false,
     }
 }
 

@@ -1,5 +1,5 @@
 -- A pattern has at most one tree, and no tree if its expansion goes on forever.
-use Rattle.std.proofs.Common.{◌≡◌, refl, ap, ◌∙◌, subst, Some, Option}
+use Rattle.std.proofs.Common.{◌≡◌, refl, ap, ◌∙◌, subst, Some}
 use Rattle.rng_model.specs.simple.Tree.{Tree, leaf, attribute, list, data_except, mixed, optional, zero_or_more, one_or_more, Trees}
 use Rattle.rng_model.specs.schema.Patterns.{Place, Point}
 use Rattle.rng_model.specs.schema.Schema.{Schema, Definition, body}

@@ -3,7 +3,7 @@ use Rattle.std.proofs.Common.{◌≡◌, ℕ, List, Bool, true, false, Option, S
 use Rattle.std.specs.Bool.{beq}
 use Rattle.std.proofs.lemmas.Slice.Eq.{bytes_eq-Decides}
 use Rattle.std.proofs.lemmas.Bool.Decides.{Decides-int_eq}
-use Rattle.rng_model.specs.datatypes.Texts.{Value, text, truth, number, same_value, are_equal}
+use Rattle.rng_model.specs.datatypes.Texts.{Value, text, truth, number, numbers, same_value, are_equal}
 use Rattle.rng_model.specs.datatypes.Datatypes.{Meaning, is_allowed_by, are_equal_by, known_allows}
 
 -- what allows a text is known
@@ -28,12 +28,20 @@ same_value-is (truth a) (number n) e = search rules
 same_value-is (number m) (text w) e = search rules
 same_value-is (number m) (truth b) e = search rules
 same_value-is (number m) (number n) e = ap number ((Decides-int_eq m n).0 e)
+same_value-is (text v) (numbers w) e = search rules
+same_value-is (truth a) (numbers w) e = search rules
+same_value-is (number m) (numbers w) e = search rules
+same_value-is (numbers v) (text w) e = search rules
+same_value-is (numbers v) (truth b) e = search rules
+same_value-is (numbers v) (number n) e = search rules
+same_value-is (numbers v) (numbers w) e = ap numbers ((bytes_eq-Decides v w).0 e)
 
 pub same_value-self : (a : Value) → same_value a a ≡ true
 same_value-self (text v) = (bytes_eq-Decides v v).1 refl
 same_value-self (truth true) = refl
 same_value-self (truth false) = refl
 same_value-self (number m) = (Decides-int_eq m m).1 refl
+same_value-self (numbers v) = (bytes_eq-Decides v v).1 refl
 
 -- two equal texts have the same value
 pub are_equal-is : (a b : Option Value) → are_equal a b ≡ true → a ≡ b

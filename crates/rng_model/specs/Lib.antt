@@ -4,6 +4,7 @@ pub mod documents
 pub mod matching
 pub mod names
 pub mod plain
+pub mod regexes
 pub mod restrictions
 pub mod schema
 pub mod simple

@@ -7,3 +7,5 @@ pub mod PyxLines
 pub mod PyxNamespaces
 pub mod PyxTrees
 pub mod EventViews
+pub mod ElementTrees
+pub mod Telling

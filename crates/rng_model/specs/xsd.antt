@@ -2,6 +2,8 @@
 pub mod Names
 pub mod Numbers
 pub mod Facets
+pub mod Limits
+pub mod Integers
 pub mod Types
 pub mod Datatypes
 pub mod TypeSets

@@ -11,7 +11,8 @@ use Rattle.rng_names.specs.views.Alternatives.{AddsExcept, AreTables, Grows, Has
 use Rattle.rng_names.specs.declared.alternatives.Alternatives.{Alternatives}
 use Rattle.rng_names.specs.declared.alternatives.Excepted.{Excepted}
 use Rattle.rng_names.proofs.HeldByAlternatives.{stands}
-use Rattle.rng_names.proofs.KeyLookups.{at_end, last_at}
+use Rattle.rng_model.proofs.Places as places
+use Rattle.rng_names.proofs.KeyLookups.{at_end}
 
 -- ---- tables stay where they are
 
@@ -63,7 +64,7 @@ module _ (xs : List Alternatives) (inner : Alternatives) where
       record { longer = omega (arith, long); kept = kept_in_front; tables = one_more_table stands linked }
 
   pub the_last : slice_get more (length xs) ≡ Some inner
-  the_last = last_at xs inner
+  the_last = places.at_end xs inner
 
 pub grows_by_except : (xs ys : List Alternatives) (old new inner : Alternatives) → AddsExcept xs ys old new inner → Stands inner → Linked xs inner → Grows xs ys
 grows_by_except xs ys old new inner adds stands linked = subst (Grows xs) (sym adds.tables) (grows_by_one xs inner stands linked)

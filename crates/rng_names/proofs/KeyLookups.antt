@@ -51,10 +51,6 @@ module _ {A : Type 0} where
     by (inl a) = inl a
     by (inr b) = inr (omega (arith, b.0), b.1)
 
-  pub last_at : (xs : List A) (x : A) → slice_get (xs ++ x ∷ []) (length xs) ≡ Some x
-  last_at [] x = refl
-  last_at (z ∷ xs) x = last_at xs x
-
 -- ---- one more name
 
 stays_by : (ks : List Name) (n : Name) (b : Bool) (k : ℕ) (q : names.Name) → slice_get (map name_of ks) k ≡ Some q

@@ -9,7 +9,8 @@ use Rattle.rng_model.specs.names.Names.{Name}
 use Rattle.rng_names.specs.plain.Holding.{pair}
 use Rattle.rng_names.specs.plain.SharedKeys.{AddsPlace, AreLed, AreMade, AreShared, IsKeyIn, IsLed, SameRegion, Sharing, following, leading}
 use Rattle.rng_names.specs.declared.shared_keys.SharedKeys.{SharedKeys}
-use Rattle.rng_names.proofs.KeyLookups.{at_end, last_at}
+use Rattle.rng_model.proofs.Places as places
+use Rattle.rng_names.proofs.KeyLookups.{at_end}
 
 found_region : (rs : List ℕ) (k r : ℕ) → slice_index_or rs k 0 ≡ r → 0 < r → slice_get rs k ≡ Some r
 found_region [] k r e counts = absurd (omega (arith, e, counts))
@@ -38,7 +39,7 @@ module _ (names : List Name) (s : Sharing) (made : AreMade names s) where
     led = leading (record { regions = s.regions; newest = newest; keys = s.keys; leaders = s.leaders })
 
     own_led : (k key : ℕ) → (k ≡ length s.keys) × (length s.leaders ≡ key) → IsLed names s.regions led.leaders k key
-    own_led k key e = (length s.keys, subst (λ j. slice_get led.leaders j ≡ Some (length s.keys)) e.1 (last_at s.leaders (length s.keys)), inl (sym e.0))
+    own_led k key e = (length s.keys, subst (λ j. slice_get led.leaders j ≡ Some (length s.keys)) e.1 (places.at_end s.leaders (length s.keys)), inl (sym e.0))
 
     old_led : (k key : ℕ) → IsLed names s.regions s.leaders k key → IsLed names s.regions led.leaders k key
     old_led k key is = (is.0, in_front s.leaders (length s.keys ∷ []) key is.0 is.1, is.2)
@@ -50,7 +51,7 @@ module _ (names : List Name) (s : Sharing) (made : AreMade names s) where
       led = λ k key e. ⊎_elim (λ f. old_led k key (made.led k key f)) (own_led k key) (at_end s.keys (length s.leaders) k key e);
       own = λ key p e. ⊎_elim
           (λ f. in_front s.keys (length s.leaders ∷ []) p key (made.own key p f))
-          (λ f. subst (λ j. slice_get led.keys j ≡ Some key) f.1 (last_at s.keys (length s.leaders) ∙ ap Some (sym f.0)))
+          (λ f. subst (λ j. slice_get led.keys j ≡ Some key) f.1 (places.at_end s.keys (length s.leaders) ∙ ap Some (sym f.0)))
           (at_end s.leaders (length s.keys) key p e);
     }
 

@@ -4,9 +4,11 @@ use Rattle.std.proofs.lemmas.List.Elements.{All-nil, All-push}
 use Rattle.rng_model.specs.simple.Grammar.{Grammar}
 use Rattle.rng_model.specs.simple.Table.{grammar_of}
 use Rattle.rng_model.specs.datatypes.Texts.{TextTests}
-use Rattle.rng_model.specs.documents.PyxTrees.{Event, EventKind, a_start, a_string, an_end, Placed, text_at, element_at, events_of, IsPyxDocument}
+use Rattle.rng_model.specs.documents.ElementTrees.{IsElementTree}
+use Rattle.rng_model.specs.documents.PyxTrees.{Event, EventKind, a_start, a_string, an_end, Placed, text_at, element_at, events_of}
 use Rattle.rng_model.specs.matching.GrammarMatching.{Reading, reading_of}
-use Rattle.rng_model.specs.matching.Outcomes.{FailsAt, IsValidByReading, KnowsName}
+use Rattle.rng_model.specs.matching.Outcomes.{IsValidByReading, KnowsName}
+use Rattle.rng_deriv_laws.specs.plain.Outcomes.{FailsAt}
 use Rattle.rng_model.specs.restrictions.Restrictions.{BreaksNone}
 use Rattle.rng_model.specs.xsd.TypeSets.{tests_in}
 use Rattle.rng_deriv_laws.specs.plain.Events.{Matcher, kinds, new, run, step, is_valid}
@@ -100,16 +102,16 @@ some_event : (d : Placed) → events_of d ≢ []
 some_event (text_at n s) e = cc
 some_event (element_at n q xs kids last) e = cc
 
-module _ (m : Matching) (bytes : List ℕ) (d : Placed) (is : IsPyxDocument bytes d) (k : Knows m (events_of d)) where
+module _ (m : Matching) (d : Placed) (is : IsElementTree d) (k : Knows m (events_of d)) where
   accepted : accepts m.position.state ≡ is_valid (reading_of m.grammar) (kinds (events_of d))
   accepted = ap (λ p. accepts p.state) k.position
 
   pub accepted_is_valid : accepts m.position.state ≡ true → IsValidByReading (reading_of m.grammar) d
-  accepted_is_valid h = (accepts_valid_documents (grammar_of m.grammar) k.obeys (tests_in m.grammar.types) bytes d is).0 (sym accepted ∙ h)
+  accepted_is_valid h = (accepts_valid_documents (grammar_of m.grammar) k.obeys (tests_in m.grammar.types) d is).0 (sym accepted ∙ h)
 
   not_valid : accepts m.position.state ≡ false → IsValidByReading (reading_of m.grammar) d → ⊥
   not_valid h v =
-      let valid = (accepts_valid_documents (grammar_of m.grammar) k.obeys (tests_in m.grammar.types) bytes d is).1 v in
+      let valid = (accepts_valid_documents (grammar_of m.grammar) k.obeys (tests_in m.grammar.types) d is).1 v in
       let same = accepted in
       absurd (cc)
 
@@ -123,7 +125,7 @@ module _ (m : Matching) (bytes : List ℕ) (d : Placed) (is : IsPyxDocument byte
   rejected_is_invalid h = (
     not_valid h,
     told m.has_failed k.tells
-        (ap (λ p. is_never p.state) k.position ∙ invalid_is_never (grammar_of m.grammar) k.obeys (tests_in m.grammar.types) bytes d is (not_valid h)),
+        (ap (λ p. is_never p.state) k.position ∙ invalid_is_never (grammar_of m.grammar) k.obeys (tests_in m.grammar.types) d is (not_valid h)),
   )
 
 -- ---- before the first event

@@ -3,10 +3,11 @@ ghost use Rattle.std.specs.Prelude.{◌≡◌, ℕ, List, [], ◌∷◌, ◌++�
 ghost use Rattle.rng_model.specs.simple.Table.{grammar_of};
 ghost use Rattle.rng_model.specs.restrictions.Restrictions.{BreaksNone};
 ghost use Rattle.rng_model.specs.documents.EventViews.{event_of};
+ghost use Rattle.rng_model.specs.documents.ElementTrees.{IsElementTree};
 ghost use Rattle.rng_model.specs.documents.PyxTrees as trees;
-ghost use Rattle.rng_model.specs.documents.PyxTrees.{IsPyxDocument, Placed, events_of};
+ghost use Rattle.rng_model.specs.documents.PyxTrees.{Placed, events_of};
 ghost use Rattle.rng_model.specs.matching.GrammarMatching.{reading_of};
-ghost use Rattle.rng_model.specs.matching.Outcomes.{IsOutcome};
+ghost use Rattle.rng_deriv_laws.specs.plain.Outcomes.{IsOutcome};
 ghost use Rattle.rng_plain_matcher.specs.views.Matchers.{HasGoneOn, Knows, after_event, grammar_in, matching_of};
 
 use crate::context::Context;
@@ -71,7 +72,7 @@ impl<'a> PlainMatcher<'a> {
     /// No continuation after that event is valid, and each start before it has a name that the grammar has. RELAX NG
     /// Specification, section 6.3. Allocates nothing.
     pub fn outcome(&self) -> Outcome
-        ensures { (bytes : List ℕ) (d : Placed) → IsPyxDocument bytes d → Knows (matching_of self.now) (events_of d)
+        ensures { (d : Placed) → IsElementTree d → Knows (matching_of self.now) (events_of d)
             → IsOutcome (reading_of (grammar_in self.now)) d result }
     {
         if accepts(&self.position.state) {

@@ -21,7 +21,7 @@ past_run : (run rest : List ℕ) → is_run run ≡ true → past_blanks (run ++
 past_run [] rest e = search rules
 past_run (x ∷ xs) rest e = rw (not-true (is_blank_byte x) (and_parts (is_run_byte x) (list_all is_run_byte xs) e).0) refl
 
-run_then : (run rest : List ℕ) → list_all is_run_byte run ≡ true → from_run (run ++ rest) ≡ run ++ from_run rest
+pub run_then : (run rest : List ℕ) → list_all is_run_byte run ≡ true → from_run (run ++ rest) ≡ run ++ from_run rest
 run_then [] rest e = refl
 run_then (x ∷ xs) rest e =
     let both = and_parts (is_run_byte x) (list_all is_run_byte xs) e in
@@ -84,22 +84,32 @@ blank-past (b ∷ s) = by_byte (is_blank_byte b) refl (blank-past s)
     by_byte true e h = rw e h
     by_byte false e h = rw e (search rules)
 
+-- ---- the front of a text whose bytes pass a test, where it is all but blanks
+
+module _ (p : ℕ → Bool) (apart : (b : ℕ) → is_blank_byte b ≡ true → p b ≡ false) where
+  -- the rest passes the test if the rest of the text is blank
+  pub alone : (s : List ℕ) → list_all p (from_run s) ≡ is_blank (drop (prefix_len p s) s)
+  alone [] = refl
+  alone (b ∷ s) = by_byte (p b) (is_blank_byte b) refl refl (apart b) (alone s)
+    where
+      by_blank : (c : Bool) → is_blank s ≡ c → list_all p (cond (is_blank s) [] (32 ∷ collapse s)) ≡ is_blank s
+      by_blank true e = rw e refl
+      by_blank false e = rw (e, apart 32 refl) refl
+
+      by_byte : (d c : Bool) → p b ≡ d → is_blank_byte b ≡ c → (c ≡ true → d ≡ false) → list_all p (from_run s) ≡ is_blank (drop (prefix_len p s) s)
+          → list_all p (from_run (b ∷ s)) ≡ is_blank (drop (prefix_len p (b ∷ s)) (b ∷ s))
+      by_byte true true d c other h = absurd (true≢false (other refl))
+      by_byte true false d c other h = rw (d, c, one-add) (rw d h)
+      by_byte false true d c other h = rw (d, c) (by_blank (is_blank s) refl)
+      by_byte false false d c other h = rw (d, c) (rw d refl)
+
 -- ---- numerals
 
-digits_alone : (s : List ℕ) → list_all is_ascii_digit (from_run s) ≡ is_blank (drop (prefix_len is_ascii_digit s) s)
-digits_alone [] = refl
-digits_alone (b ∷ s) = by_byte (is_ascii_digit b) (is_blank_byte b) refl refl (digits_alone s)
-  where
-    by_blank : (c : Bool) → is_blank s ≡ c → list_all is_ascii_digit (cond (is_blank s) [] (32 ∷ collapse s)) ≡ is_blank s
-    by_blank true e = rw e refl
-    by_blank false e = rw e refl
+pub no_digit : (b : ℕ) → is_blank_byte b ≡ true → is_ascii_digit b ≡ false
+no_digit b e = search (rules, tests, arith)
 
-    by_byte : (d c : Bool) → is_ascii_digit b ≡ d → is_blank_byte b ≡ c → list_all is_ascii_digit (from_run s) ≡ is_blank (drop (prefix_len is_ascii_digit s) s)
-        → list_all is_ascii_digit (from_run (b ∷ s)) ≡ is_blank (drop (prefix_len is_ascii_digit (b ∷ s)) (b ∷ s))
-    by_byte true true d c h = search (rules, tests, arith)
-    by_byte true false d c h = rw (d, c, one-add) (rw d h)
-    by_byte false true d c h = rw (d, c) (by_blank (is_blank s) refl)
-    by_byte false false d c h = rw (d, c) (rw d refl)
+pub digits_alone : (s : List ℕ) → list_all is_ascii_digit (from_run s) ≡ is_blank (drop (prefix_len is_ascii_digit s) s)
+digits_alone s = alone is_ascii_digit no_digit s
 
 counted_by : (b : ℕ) (s : List ℕ) (d c : Bool) → is_ascii_digit b ≡ d → is_blank_byte b ≡ c
     → (is_blank (drop (prefix_len is_ascii_digit s) s) ≡ true → length (from_run s) ≡ prefix_len is_ascii_digit s)

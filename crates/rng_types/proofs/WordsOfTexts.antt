@@ -10,8 +10,9 @@ use Rattle.rng_model.specs.names.Names.{is_name_char, is_name_start, is_colon, i
 use Rattle.rng_model.specs.datatypes.Texts.{is_blank_byte, is_blank, collapse, text_if}
 use Rattle.rng_model.specs.datatypes.Facets.{Lengths, fits, is_within}
 use Rattle.rng_model.specs.datatypes.Datatypes.{is_nmtoken}
-use Rattle.rng_types.specs.plain.Runs.{from_run}
+use Rattle.rng_types.specs.plain.Runs.{past_blanks, from_run}
 use Rattle.rng_types.specs.plain.Words.{IsWordOf, is_start_byte, is_word_byte, starts_name}
+use Rattle.rng_types.proofs.CollapsedBytes.{alone, collapse-past}
 use Rattle.rng_types.proofs.TextValues.{is_some-text_if}
 
 -- ---- the front of a text whose bytes pass a test, where it is all but blanks
@@ -94,6 +95,18 @@ all_without_colon (b ∷ w) e =
     let both = and_parts (is_word_byte b) (list_all is_word_byte w) e in
     and_from _ _ (and_from _ _ (continues b both.0) (ap not (no_colon b both.0))) (all_without_colon w both.1)
 
+pub chars-word : (w : List ℕ) → list_all is_word_byte w ≡ true → chars w ≡ w
+chars-word w e = chars-IsAscii w (all_low w e)
+
+-- the front of a text that collapses to a word, and what is behind it
+pub word_front : (s bytes w : List ℕ) → bytes ≡ past_blanks s → IsWordOf s w
+    → ((length (take (prefix_len is_word_byte bytes) bytes) == 0) ≡ false) × (is_blank (drop (prefix_len is_word_byte bytes) bytes) ≡ true)
+word_front s bytes w past word =
+    let run : from_run bytes ≡ w = ap from_run past ∙ sym (collapse-past s) ∙ word.is in
+    let blank = sym (alone is_word_byte no_blank bytes) ∙ ap (list_all is_word_byte) run ∙ word.bytes in
+    let front : take (prefix_len is_word_byte bytes) bytes ≡ w = sym (run_front is_word_byte no_blank bytes blank) ∙ run in
+    (ap (λ t. length t == 0) front ∙ word.some, blank)
+
 -- ---- as values
 
 pub nmtoken-word : (w : List ℕ) → (length w == 0) ≡ false → list_all is_word_byte w ≡ true → is_nmtoken w ≡ true
@@ -110,7 +123,7 @@ ncname-word (b ∷ w) starts e =
 pub word_allowed : (is_good : List ℕ → Bool) (l : Lengths) (s w : List ℕ) → IsWordOf s w → is_good w ≡ true
     → is_within l (length w) ≡ is_some (text_if (is_good (chars (collapse s)) && fits l (collapse s)) (collapse s))
 word_allowed is_good l s w word good =
-    let spelled : chars (collapse s) ≡ w = ap chars word.is ∙ chars-IsAscii w (all_low w word.bytes) in
+    let spelled : chars (collapse s) ≡ w = ap chars word.is ∙ chars-word w word.bytes in
     sym (
     is_some-text_if (is_good (chars (collapse s)) && fits l (collapse s)) (collapse s)
     ∙ ap (λ t. is_good t && is_within l (length t)) spelled

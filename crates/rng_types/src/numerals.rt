@@ -139,8 +139,8 @@ fn is_digit_count(count: usize) -> bool
     0 < count && count <= MOST_DIGITS
 }
 
-// how many digits the bytes begin with
-fn digits_len(bytes: &[u8]) -> usize
+/// Returns how many digits the bytes begin with. One pass over these. Allocates nothing.
+pub fn digits_len(bytes: &[u8]) -> usize
     ensures { result ≡ prefix_len is_ascii_digit bytes.now }
 {
     bytes

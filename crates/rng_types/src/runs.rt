@@ -12,16 +12,16 @@ fn is_blank_byte(byte: u8) -> bool
     byte <= b' ' && matches!(byte, b' ' | b'\t' | b'\n' | b'\r')
 }
 
-// whether all bytes are blanks
-pub(crate) fn is_blank(bytes: &[u8]) -> bool
+/// Returns whether all bytes are blanks: spaces, tabs, line feeds or carriage returns. One pass over them. Allocates nothing.
+pub fn is_blank(bytes: &[u8]) -> bool
     ensures { result ≡ is_blank bytes.now }
 {
     bytes.iter().all(|byte| is_blank_byte(*byte))
 }
 
-// the bytes without the blanks that they begin with
+/// Returns the bytes without the blanks that they begin with. One pass over these. Allocates nothing.
 #[inline(always)]
-pub(crate) fn past_blanks(bytes: &[u8]) -> &[u8]
+pub fn past_blanks(bytes: &[u8]) -> &[u8]
     ensures past { result.now ≡ past_blanks bytes.now }
     ensures within { length result.now ≤ length bytes.now }
 {

@@ -4,7 +4,7 @@ use Rattle.std.proofs.Common.{true, false, true≢false, refl, sym, ap, subst, g
 use Rattle.std.proofs.Common.{eq-eqb, eqb-true}
 use Rattle.std.proofs.lemmas.Bool.{cases_lt}
 use Rattle.std.proofs.lemmas.List.{get_or-set_other, get_or_past}
-use Rattle.xsd_regex.specs.Expressions.{Class, no_char, holds}
+use Rattle.rng_model.specs.regexes.Expressions.{Class, no_char, holds}
 use Rattle.xsd_regex.specs.plain.Positions as plain
 use Rattle.xsd_positions.specs.declared.position.Part.{Part}
 use Rattle.xsd_positions.specs.declared.position.Part.TheVariants as part
@@ -12,7 +12,7 @@ use Rattle.xsd_positions.specs.declared.position.Position.{Position}
 use Rattle.xsd_positions.specs.views.Positions.{part_of, position_of}
 use Rattle.xsd_positions.specs.views.Positions.{class_at}
 use Rattle.xsd_automaton.specs.plain.Closures.{IsClosed, next_of, next_at, nexts, AcceptsFrom, StepsTo}
-use Rattle.xsd_automaton.specs.plain.Sets.{AreAlike, HasTarget, members_at}
+use Rattle.xsd_automaton.specs.plain.Sets.{AreAlike, HasTarget, no_target, to_empty, to_set, members_at}
 use Rattle.xsd_automaton.proofs.Edges.{behind_char}
 
 unset : (xs : List Bool) (n : ℕ) → get_or (set xs n false) n false ≡ false
@@ -97,5 +97,6 @@ module _ (ps : List plain.Position) (c d : ℕ) (alike : AreAlike ps c d) where
       )
 
   pub target_alike : (sets : List (List ℕ)) (is : List ℕ) (t : ℕ) → IsClosed ps is → HasTarget ps sets is d t → HasTarget ps sets is c t
-  target_alike sets is t closed (inl e) = inl e
-  target_alike sets is t closed (inr h) = inr (h.0, step_alike is (members_at sets t) closed h.1)
+  target_alike sets is t closed (no_target e) = no_target e
+  target_alike sets is t closed (to_empty e steps) = to_empty e (step_alike is [] closed steps)
+  target_alike sets is t closed (to_set lt steps) = to_set lt (step_alike is (members_at sets t) closed steps)

@@ -4,8 +4,8 @@ use Rattle.std.proofs.Common.{inl, inr, arith}
 use Rattle.std.proofs.Common.{None, ◌⊎◌}
 use Rattle.std.proofs.lemmas.Bool.{cases_lt}
 use Rattle.std.proofs.lemmas.List.{append_assoc, get_or_past}
-use Rattle.xsd_regex.specs.Expressions.{Class, holds, Regex, times, Matches, one_is, both_are, first_is, second_is, so_often}
-use Rattle.xsd_regex.specs.plain.LinearForms.{RegexState, AcceptsState, nothing_left, next_is, is_nullable}
+use Rattle.rng_model.specs.regexes.Expressions.{Class, holds, Regex, times, Matches, one_is, both_are, first_is, second_is, so_often}
+use Rattle.rng_model.specs.regexes.plain.LinearForms.{RegexState, AcceptsState, nothing_left, next_is, is_nullable}
 use Rattle.xsd_regex.specs.plain.StateTable.{state_at, Has}
 use Rattle.xsd_regex.specs.plain.Positions.{Part, class_part}
 use Rattle.xsd_regex.specs.plain.Positions.{Position, position_at, IsPart, is_nothing, is_class, is_both, is_either, is_optional}

@@ -7,7 +7,7 @@ use Rattle.xsd_automaton.specs.plain.Closures.{no_position, next_of, next_at}
 use Rattle.std.specs.List.{slice_get}
 use Rattle.std.proofs.lemmas.Option.{slice_get-map, get_or_from_slice_get}
 use Rattle.std.specs.Option.{option_map}
-use Rattle.xsd_regex.specs.Expressions.{Class, holds}
+use Rattle.rng_model.specs.regexes.Expressions.{Class, holds}
 use Rattle.xsd_positions.specs.declared.position.Part.{Part}
 use Rattle.xsd_positions.specs.declared.position.Part.TheVariants as part
 use Rattle.xsd_positions.specs.declared.position.Position.{Position}

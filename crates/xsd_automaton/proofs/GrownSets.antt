@@ -5,8 +5,8 @@ use Rattle.std.proofs.lemmas.Bool.{cases_lt}
 use Rattle.std.proofs.lemmas.List.{get_or_append_left, get_or_push, get_or-set_same, get_or-set_other, length-append}
 use Rattle.xsd_regex.specs.plain.Positions.{Position}
 use Rattle.xsd_automaton.specs.plain.Closures.{IsClosed, StepsTo}
-use Rattle.xsd_automaton.specs.plain.Sets.{no_set, members_at, AreSets, IsLonger, HasTarget, AreTargets, IsRow, IsNumbered}
-use Rattle.xsd_automaton.specs.plain.Sets.{is_there, is_added, has_none}
+use Rattle.xsd_automaton.specs.plain.Sets.{no_set, members_at, AreSets, IsLonger, HasTarget, AreTargets, IsNumbered}
+use Rattle.xsd_automaton.specs.plain.Sets.{no_target, to_empty, to_set, is_empty, is_there, is_added, has_none}
 
 -- ---- one more set
 
@@ -29,6 +29,7 @@ module _ (ps : List Position) (is : List ℕ) (sets more : List (List ℕ)) wher
       ]
 
   pub numbered_sets : (t : ℕ) → AreSets ps sets → IsClosed ps is → length is ≤ 12289 → IsNumbered is sets more t → AreSets ps more
+  numbered_sets t are closed short (is_empty same none e) = subst (AreSets ps) (sym same) are
   numbered_sets t are closed short (is_there same lt e) = subst (AreSets ps) (sym same) are
   numbered_sets t are closed short (is_added e at few) = record {
     few = let one = length-append sets (is ∷ []) in let len = ap (λ l. length l) e in omega (arith, at, few, one, len);
@@ -38,27 +39,23 @@ module _ (ps : List Position) (is : List ℕ) (sets more : List (List ℕ)) wher
   numbered_sets t are closed short (has_none same none) = subst (AreSets ps) (sym same) are
 
   pub numbered_target : (t c : ℕ) (from : List ℕ) → StepsTo ps c from is → IsNumbered is sets more t → HasTarget ps more from c t
+  numbered_target t c from steps (is_empty same none e) = to_empty e (subst (StepsTo ps c from) none steps)
   numbered_target t c from steps (is_there same lt e) =
-      inr (subst (λ l. t < length l) (sym same) lt, subst (StepsTo ps c from) (sym (ap (λ l. members_at l t) same ∙ e)) steps)
+      to_set (subst (λ l. t < length l) (sym same) lt) (subst (StepsTo ps c from) (sym (ap (λ l. members_at l t) same ∙ e)) steps)
   numbered_target t c from steps (is_added e at few) =
       let one = length-append sets (is ∷ []) in
       let len = ap (λ l. length l) e in
-      inr (omega (arith, at, one, len), subst (StepsTo ps c from) (sym (ap (members_at more) at ∙ members_pushed e)) steps)
-  numbered_target t c from steps (has_none same none) = inl none
+      to_set (omega (arith, at, one, len)) (subst (StepsTo ps c from) (sym (ap (members_at more) at ∙ members_pushed e)) steps)
+  numbered_target t c from steps (has_none same none) = no_target none
 
 -- ---- more sets
 
 module _ (ps : List Position) (sets more : List (List ℕ)) (longer : IsLonger sets more) where
   pub longer_target : (from : List ℕ) (c t : ℕ) → HasTarget ps sets from c t → HasTarget ps more from c t
-  longer_target from c t (inl none) = inl none
-  longer_target from c t (inr h) =
-      let many = longer.many in
-      let lt = h.0 in
-      inr (omega (arith, many, lt), subst (StepsTo ps c from) (sym (longer.same t lt)) h.1)
-
-  pub longer_row : (from targets : List ℕ) (end : _) → IsRow ps sets from targets end → IsRow ps more from targets end
-  longer_row from targets end row =
-      record { behind = λ c lt. longer_target from c (get_or targets c no_set) (row.behind c lt); end = row.end }
+  longer_target from c t (no_target none) = no_target none
+  longer_target from c t (to_empty none steps) = to_empty none steps
+  longer_target from c t (to_set lt steps) =
+      let many = longer.many in to_set (omega (arith, many, lt)) (subst (StepsTo ps c from) (sym (longer.same t lt)) steps)
 
 pub longer_trans : (a b c : List (List ℕ)) → IsLonger a b → IsLonger b c → IsLonger a c
 longer_trans a b c p q =

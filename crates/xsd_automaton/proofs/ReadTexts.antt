@@ -3,8 +3,8 @@ use Rattle.std.proofs.Common.{◌≡◌, ◌↔◌, ◌∙◌, ◌<◌, ◌≤�
 use Rattle.std.proofs.Common.{subst, inl, inr}
 use Rattle.std.proofs.lemmas.List.{append_assoc, append-nil, take_more}
 use Rattle.std.proofs.lemmas.List.Sums.{fold-append}
-use Rattle.xsd_regex.specs.Expressions.{Regex, Matches}
-use Rattle.xsd_regex.specs.plain.LinearForms.{AcceptsState}
+use Rattle.rng_model.specs.regexes.Expressions.{Regex, Matches}
+use Rattle.rng_model.specs.regexes.plain.LinearForms.{AcceptsState}
 use Rattle.xsd_regex.specs.plain.StateTable.{state_at, Has}
 use Rattle.xsd_regex.specs.plain.Positions.{Position, ArePositionsOf}
 use Rattle.xsd_regex.proofs.OneOf.{one_among}
@@ -84,3 +84,14 @@ module _ (ps : List Position) where
     λ m. has_if is (length ps) ((at_end ps is closed of.states of.are).0 ((leads of.states of.are []).0
         (subst (AcceptsState (state_at of.states first)) (sym (append-nil s)) (of.to s m)))),
   )
+
+  -- behind positions of which there are none, there are none
+  pub empty_on : (first : ℕ) (read more : List ℕ) → LeadsTo ps first read [] → LeadsTo ps first (read ++ more) []
+  empty_on first read more leads states are s = (
+    λ a. (leads states are (more ++ s)).0 (subst (AcceptsState (state_at states first)) (append_assoc read more s) a),
+    λ h. absurd h,
+  )
+
+  pub empty_rejects : (r : Regex) (first : ℕ) (s : List ℕ) → ArePositionsOf r first ps → LeadsTo ps first s [] → Matches r s → ⊥
+  empty_rejects r first s of leads m =
+      (leads of.states of.are []).0 (subst (AcceptsState (state_at of.states first)) (sym (append-nil s)) (of.to s m))

@@ -44,12 +44,6 @@ replaced_run (x ∷ xs) rest e =
     let both = and_parts (is_run_byte x) (list_all is_run_byte xs) e in
     rw (not-true (is_blank_byte x) both.0) (ap (λ t. x ∷ t) (replaced_run xs rest both.1))
 
-pub from_run_run : (run rest : List ℕ) → list_all is_run_byte run ≡ true → from_run (run ++ rest) ≡ run ++ from_run rest
-from_run_run [] rest e = refl
-from_run_run (x ∷ xs) rest e =
-    let both = and_parts (is_run_byte x) (list_all is_run_byte xs) e in
-    rw (not-true (is_blank_byte x) both.0) (ap (λ t. x ∷ t) (from_run_run xs rest both.1))
-
 pub shorter : (s run after : List ℕ) → s ≡ run ++ after → (length run == 0) ≡ false → length after < length s
 shorter s [] after e some = absurd (true≢false some)
 shorter s (x ∷ xs) after e some = omega (arith, ap length e, length-append xs after)

@@ -2,8 +2,8 @@
 use Rattle.std.proofs.Common.{◌≡◌, ◌≤◌, ◌-◌, ℕ, List, [], ◌∷◌, length, subst, inl, inr, arith}
 use Rattle.std.proofs.lemmas.Bool.{cases_lt}
 use Rattle.std.proofs.lemmas.List.{get_or_past}
-use Rattle.xsd_regex.specs.Expressions.{holds, Regex}
-use Rattle.xsd_regex.specs.plain.LinearForms.{RegexState}
+use Rattle.rng_model.specs.regexes.Expressions.{holds, Regex}
+use Rattle.rng_model.specs.regexes.plain.LinearForms.{RegexState}
 use Rattle.xsd_regex.specs.plain.StateTable.{Has}
 use Rattle.xsd_regex.specs.plain.Positions.{Part, nothing_part, class_part, both_part, either_part, optional_part, repeated_part}
 use Rattle.xsd_regex.specs.plain.Positions.{Position, position_at, IsPart, is_nothing, is_class, is_both, is_either, is_optional}

@@ -1,6 +1,6 @@
 // Characters of ASCII that are in the same classes.
 ghost use Rattle.std.specs.Prelude.{◌≡◌, ◌-◌, ℕ, true, false, slice_index_or};
-ghost use Rattle.xsd_regex.specs.Expressions.{holds};
+ghost use Rattle.rng_model.specs.regexes.Expressions.{holds};
 ghost use Rattle.xsd_automaton.specs.plain.Sets.{AreAlikeChars};
 ghost use Rattle.xsd_positions.specs.views.Positions.{positions_of};
 ghost use Rattle.xsd_regex.specs.views.Classes.{class_of};

@@ -1,13 +1,13 @@
 // The automaton of an expression.
 ghost use Rattle.std.specs.Prelude.{◌≡◌, ◌≤◌, ◌↔◌, IfOk, IsTrue, length};
 ghost use Rattle.std.specs.Str.{chars};
-ghost use Rattle.xsd_regex.specs.Expressions.{Matches, Regex};
+ghost use Rattle.rng_model.specs.regexes.Expressions.{Matches, Regex};
 ghost use Rattle.xsd_regex.specs.plain.Positions.{ArePositionsOf};
 ghost use Rattle.xsd_positions.specs.views.Positions.{positions_of};
 ghost use Rattle.xsd_automaton.specs.views.WhiteSpace.{treated};
 
-use crate::found_sets::set_rows;
-use crate::sets::{SetRow, accepts_by_sets};
+use crate::found_sets::set_table;
+use crate::sets::{SetTable, accepts_by_sets};
 use crate::steps::accepts_from_first;
 use crate::treated::{accepts_treated_by_sets, accepts_treated_from_first};
 use crate::white_space::WhiteSpace;
@@ -18,11 +18,11 @@ use xsd_positions::Positions;
 
 /// An automaton that says which texts an expression matches as a whole.
 ///
-/// It has the positions of the expression, and a table of at most 255 sets of them, which texts of ASCII lead to.
+/// It has the positions of the expression, and a table of at most 254 sets of them, which texts of ASCII lead to.
 #[derive(Drop)]
 pub struct Automaton {
     positions: Positions,
-    sets: Vec<SetRow>,
+    sets: SetTable,
 }
 
 impl Model for Automaton {
@@ -34,7 +34,7 @@ impl Model for Automaton {
 
     ghost view = { λ a. a.positions };
 
-    ghost invariant = { λ a. IsAutomaton a.positions.first (positions_of a.positions) a.sets.items };
+    ghost invariant = { λ a. IsAutomaton a.positions.first (positions_of a.positions) a.sets.rows.items a.sets.ends.items };
 }
 
 impl Automaton {
@@ -46,7 +46,7 @@ impl Automaton {
         requires are { (r : Regex) × ArePositionsOf r positions.first (positions_of positions) }
         ensures { IfOk result (λ a. a ≡ positions) }
     {
-        let sets = set_rows(alloc, &positions)?;
+        let sets = set_table(alloc, &positions)?;
         Ok(Automaton { positions, sets })
     }
 
@@ -57,7 +57,7 @@ impl Automaton {
     pub fn accepts(&self, text: &str) -> bool
         ensures { (r : Regex) → ArePositionsOf r self.now.first (positions_of self.now) → IsTrue result ↔ Matches r (chars text.now) }
     {
-        match accepts_by_sets(self.sets.as_slice(), text) {
+        match accepts_by_sets(&self.sets, text) {
             Some(answer) => answer,
             None => accepts_from_first(&self.positions, text),
         }
@@ -71,7 +71,10 @@ impl Automaton {
         ensures { (r : Regex) → ArePositionsOf r self.now.first (positions_of self.now)
             → IsTrue result ↔ Matches r (chars (treated white_space text.now)) }
     {
-        match accepts_treated_by_sets(self.sets.as_slice(), white_space, text) {
+        if let WhiteSpace::Preserve = white_space {
+            return self.accepts(text);
+        }
+        match accepts_treated_by_sets(&self.sets, white_space, text) {
             Some(answer) => answer,
             None => accepts_treated_from_first(&self.positions, white_space, text),
         }

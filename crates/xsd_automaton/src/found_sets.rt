@@ -3,19 +3,16 @@ ghost use Rattle.std.specs.Prelude.{◌≡◌, ◌<◌, ◌≤◌, [], IfOk, IfS
 ghost use Rattle.xsd_automaton.specs.plain.Closures.{AreWithin, LeadsTo, has_number};
 ghost use Rattle.xsd_automaton.specs.plain.Sets.{AreAlikeChars, AreSets, IsLonger, IsNumbered, IsRow, HasTarget, members_at};
 ghost use Rattle.xsd_positions.specs.views.Positions.{positions_of};
-ghost use Rattle.xsd_automaton.specs.views.Sets.{IsSetTable, lists_of, sets_of};
+ghost use Rattle.xsd_automaton.specs.views.Sets.{AreTables, lists_of, sets_of};
 
 use crate::alike::alike_chars;
 use crate::reached::{MOST, Reached};
-use crate::sets::{ASCII, SetRow};
+use crate::sets::{ASCII, EMPTY_SET, NO_SET, SetRow, SetTable};
 use crate::steps::{enter, find_nexts, start};
 use arrayvec::ArrayVec;
 use rng_model::OutOfMemory;
 use std::alloc::Global;
 use xsd_positions::Positions;
-
-// no set has this number
-const NO_SET: u8 = 255;
 
 // how many positions are gone through before no further row is made
 const MOST_WORK: usize = 1_000_000;
@@ -30,21 +27,24 @@ pub(crate) struct FoundSets {
 }
 
 // Rows for the set that the first position leads to, and for those that texts of ASCII lead to from there. Some have none, if
-// there are more than 255 or if it takes too long.
-pub(crate) fn set_rows(alloc: Global, positions: &Positions) -> Result<Vec<SetRow>, OutOfMemory>
+// there are more than 254 or if it takes too long.
+pub(crate) fn set_table(alloc: Global, positions: &Positions) -> Result<SetTable, OutOfMemory>
     requires within { AreWithin (positions_of positions.now) }
     requires room { length (positions_of positions.now) < 12289 }
     requires first { positions.now.first ≤ length (positions_of positions.now) }
-    ensures { IfOk result (λ rows. IsSetTable (positions_of positions.now) positions.now.first rows.items) }
+    ensures { IfOk result (λ t. AreTables (positions_of positions.now) positions.now.first t.rows.items t.ends.items) }
 {
     let alike = alike_chars(positions);
     let mut found = FoundSets::new(alloc, positions)?;
     let mut rows = Vec::new(alloc);
+    let mut ends = Vec::new(alloc);
     'rows: while rows.len() < found.sets.len() && found.work < MOST_WORK {
-        let row = found.row(alloc, positions, &alike, rows.len())?;
+        let set = rows.len();
+        ends.push(found.is_end(positions, set))?;
+        let row = found.row(alloc, positions, &alike, set)?;
         rows.push(row)?;
     }
-    Ok(rows)
+    Ok(SetTable { rows, ends })
 }
 
 impl FoundSets {
@@ -83,7 +83,7 @@ impl FoundSets {
         requires set { set < length (sets_of self.old) }
         ensures sets { OnOk result (AreSets (positions_of positions.now) (sets_of self.new)) }
         ensures longer { OnOk result (IsLonger (sets_of self.old) (sets_of self.new)) }
-        ensures row { IfOk result (λ row. IsRow (positions_of positions.now) (sets_of self.new) (members_at (sets_of self.old) set) row.targets row.is_end) }
+        ensures row { IfOk result (λ row. IsRow (positions_of positions.now) (sets_of self.new) (members_at (sets_of self.old) set) row.targets) }
     {
         let mut targets = [NO_SET; ASCII];
         let mut target = NO_SET;
@@ -93,11 +93,19 @@ impl FoundSets {
             }
             targets[usize::from(c)] = target;
         }
-        let is_end = contains(
+        Ok(SetRow { targets })
+    }
+
+    // whether the end is in the set with this number
+    fn is_end(&self, positions: &Positions, set: usize) -> bool
+        requires room { length (positions_of positions.now) < 12289 }
+        requires set { set < length (sets_of self.now) }
+        ensures { result ≡ has_number (members_at (sets_of self.now) set) (length (positions_of positions.now)) }
+    {
+        contains(
             members_of(self.sets.as_slice(), set),
             positions.positions.len() as u16,
-        );
-        Ok(SetRow { targets, is_end })
+        )
     }
 
     // the number of the set behind the character, if it has one
@@ -135,14 +143,17 @@ fn members_of(sets: &[Vec<u16>], set: usize) -> &[u16]
 
 // the number of the set of these positions, which is added if it is new
 fn number_of(alloc: Global, sets: &mut Vec<Vec<u16>>, numbers: &[u16]) -> Result<u8, OutOfMemory>
-    requires { length sets.old.items ≤ 255 }
+    requires { length sets.old.items ≤ 254 }
     ensures { IfOk result (λ t. IsNumbered numbers.now (lists_of sets.old.items) (lists_of sets.new.items) t) }
 {
+    if numbers.is_empty() {
+        return Ok(EMPTY_SET);
+    }
     if let Some(place) = place_of(sets.as_slice(), numbers) {
         return Ok(place as u8);
     }
     let number = sets.len();
-    if number >= usize::from(NO_SET) {
+    if number >= usize::from(EMPTY_SET) {
         return Ok(NO_SET);
     }
     sets.push(Vec::from_slice(alloc, numbers)?)?;

@@ -2,12 +2,12 @@
 use Rattle.std.proofs.Common.{◌≡◌, ◌∙◌, ◌↔◌, ◌<◌, ◌≤◌, ℕ, List, Bool, true, false, Option, Some, None, MatchOption, nat_le, refl, sym, ap, subst, tests, arith}
 use Rattle.std.specs.Option.{option_and_then}
 use Rattle.std.specs.Str.{chars}
-use Rattle.xsd_regex.specs.Expressions.{Regex, Matches}
-use Rattle.xsd_regex.specs.ExpressionGrammar.{IsRegex}
+use Rattle.rng_model.specs.regexes.Expressions.{Regex, Matches}
+use Rattle.rng_model.specs.regexes.ExpressionGrammar.{IsRegex}
 use Rattle.xsd_regex.specs.views.Readings.{IsNoRegex}
-use Rattle.xsd_regex.specs.plain.Postfix.{size, most_size}
-use Rattle.xsd_regex.specs.plain.Decided.{regex_of, is_match}
-use Rattle.xsd_regex.specs.Patterns.{if_small, pattern_of}
+use Rattle.rng_model.specs.regexes.plain.Postfix.{size, most_size}
+use Rattle.rng_model.specs.regexes.plain.Decided.{regex_of, is_match}
+use Rattle.rng_model.specs.regexes.Patterns.{if_small, pattern_of}
 use Rattle.xsd_regex.proofs.Decided.{regexes_are_decided, matches_are_decided}
 use Rattle.xsd_patterns.specs.Facet.{is_matched, is_match_of}
 

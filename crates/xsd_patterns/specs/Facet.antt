@@ -2,9 +2,9 @@
 use Rattle.std.specs.Prelude.{◌≡◌, ℕ, List, [], ◌∷◌, Bool, false, Option, Some, None}
 use Rattle.std.specs.Option.{option_map, option_and_then}
 use Rattle.std.specs.Str.{chars}
-use Rattle.xsd_regex.specs.Expressions.{Regex}
-use Rattle.xsd_regex.specs.Patterns.{pattern_of}
-use Rattle.xsd_regex.specs.plain.Decided.{is_match}
+use Rattle.rng_model.specs.regexes.Expressions.{Regex}
+use Rattle.rng_model.specs.regexes.Patterns.{pattern_of, matches_all}
+use Rattle.rng_model.specs.regexes.plain.Decided.{is_match}
 
 -- the text is an expression, and small enough
 abbrev pub IsTaken : List ℕ → Type 0
@@ -22,3 +22,8 @@ is_matched text s = is_match_of (pattern_of text) (chars s)
 abbrev pub expressions_of : List (List ℕ) → Option (List Regex)
 expressions_of [] = Some []
 expressions_of (t ∷ ts) = option_and_then (λ r. option_map (λ rs. r ∷ rs) (expressions_of ts)) (pattern_of t)
+
+-- the text matches all expressions once its white space is treated, if each is taken
+abbrev pub all_match : Option (List Regex) → (List ℕ → List ℕ) → List ℕ → Bool
+all_match None treated s = false
+all_match (Some rs) treated s = matches_all treated rs s

@@ -1,2 +1,3 @@
 -- What values of the code stand for.
 pub mod Patterns
+pub mod Compiled

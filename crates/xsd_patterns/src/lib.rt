@@ -4,7 +4,11 @@
 //! `xsd_regex` says what expressions are and what they match, in `specs/Patterns.antt`. No program uses this crate yet.
 #![tactic(auto)]
 
+mod parameters;
 mod pattern;
+mod patterns;
 
+pub use parameters::{have_no_pattern, other_parameters};
 pub use pattern::Pattern;
+pub use patterns::Patterns;
 pub use xsd_automaton::WhiteSpace;

@@ -1,6 +1,6 @@
 // One expression, ready to be matched.
 ghost use Rattle.std.specs.Prelude.{◌≡◌, IfOk, MatchOption, None};
-ghost use Rattle.xsd_regex.specs.Patterns.{pattern_of};
+ghost use Rattle.rng_model.specs.regexes.Patterns.{pattern_of};
 ghost use Rattle.xsd_automaton.specs.views.WhiteSpace.{treated};
 ghost use Rattle.xsd_patterns.specs.Facet.{IsTaken, is_matched};
 

@@ -3,8 +3,8 @@ use Rattle.std.proofs.Common.{◌≡◌, ◌≤◌, ◌<◌, ◌∙◌, ℕ, suc
 use Rattle.std.proofs.Common.{None, refl, sym, ap, subst, arith, inl, inr}
 use Rattle.std.proofs.lemmas.Bool.{cases_lt}
 use Rattle.std.proofs.lemmas.List.{append_assoc, length-append, length-map, map-append, get_or_at, get_or_past, append-nil}
-use Rattle.xsd_regex.specs.Expressions.{Class, Regex, nothing_more, times}
-use Rattle.xsd_regex.specs.plain.LinearForms.{RegexState, AcceptsState}
+use Rattle.rng_model.specs.regexes.Expressions.{Class, Regex, nothing_more, times}
+use Rattle.rng_model.specs.regexes.plain.LinearForms.{RegexState, AcceptsState}
 use Rattle.xsd_regex.specs.plain.StateTable.{state_at}
 use Rattle.xsd_regex.specs.plain.Positions as spec
 use Rattle.xsd_regex.specs.plain.Positions.{IsPart, is_nothing, is_class, is_both, is_either, is_optional, is_repeated}

@@ -3,8 +3,8 @@ use Rattle.std.proofs.Common.{◌≡◌, ◌∙◌, ℕ, zero, suc, ◌+◌, ◌
 use Rattle.std.proofs.Common.{Option, Some, None, refl, sym, ap}
 use Rattle.std.specs.Prelude.{nat_le}
 use Rattle.std.proofs.lemmas.List.{append_assoc, append-nil, length-append, get_or_at}
-use Rattle.xsd_regex.specs.Expressions.{Class, no_char, Regex, nothing_more, one_of, both, either, times}
-use Rattle.xsd_regex.specs.plain.LinearForms as forms
+use Rattle.rng_model.specs.regexes.Expressions.{Class, no_char, Regex, nothing_more, one_of, both, either, times}
+use Rattle.rng_model.specs.regexes.plain.LinearForms as forms
 use Rattle.xsd_positions.specs.plain.WrittenOut.{copies_then, at_most, counted, written_out}
 use Rattle.xsd_positions.specs.plain.Trees as tree
 use Rattle.xsd_positions.specs.plain.Trees.{Tree}

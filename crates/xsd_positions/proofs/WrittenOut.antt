@@ -3,8 +3,8 @@ use Rattle.std.proofs.Common.{◌≡◌, ◌≤◌, ◌↔◌, ◌∙◌, ℕ, z
 use Rattle.std.proofs.Common.{Option, Some, None, refl, sym, ap, subst, arith, le-leb, leb-true}
 use Rattle.std.specs.Prelude.{nat_le}
 use Rattle.std.proofs.lemmas.List.{append_assoc}
-use Rattle.xsd_regex.specs.Expressions.{no_char, Regex, nothing_more, one_of, both, either, times}
-use Rattle.xsd_regex.specs.Expressions.{Matches, nothing_is, one_is, both_are, first_is, second_is, so_often, AreCopies, no_copy, copy_and}
+use Rattle.rng_model.specs.regexes.Expressions.{no_char, Regex, nothing_more, one_of, both, either, times}
+use Rattle.rng_model.specs.regexes.Expressions.{Matches, nothing_is, one_is, both_are, first_is, second_is, so_often, AreCopies, no_copy, copy_and}
 use Rattle.xsd_positions.specs.plain.WrittenOut.{copies_then, at_most, counted, written_out}
 
 -- ---- copies

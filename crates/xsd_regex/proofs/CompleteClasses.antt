@@ -3,22 +3,22 @@ use Rattle.std.proofs.Common.{◌≡◌, ◌∙◌, ◌≤◌, ℕ, suc, List, [
 use Rattle.std.proofs.Common.{refl, sym, ap, true≢false, eqb-true, le-leb}
 use Rattle.std.specs.List.{list_any}
 use Rattle.std.proofs.lemmas.List.{append_assoc}
-use Rattle.xsd_regex.specs.declared.mode.Mode.{Mode}
-use Rattle.xsd_regex.specs.declared.mode.Mode.TheVariants as mode
-use Rattle.xsd_regex.specs.declared.mode.Place.{Place}
-use Rattle.xsd_regex.specs.declared.mode.Place.TheVariants as place
-use Rattle.xsd_regex.specs.Expressions.{Class, no_char, only_char, char_from_to, either_class, complement, minus, Regex}
-use Rattle.xsd_regex.specs.Symbols.{Symbol, char, escaped, class}
-use Rattle.xsd_regex.specs.ExpressionGrammar.{IsEnd, plain_end, escaped_end, IsMember, range, one_char, class_escape}
-use Rattle.xsd_regex.specs.ExpressionGrammar.{AreMembers, first_member, first_dash, member_and, IsPositive, members, last_dash, begins_with_caret}
-use Rattle.xsd_regex.specs.ExpressionGrammar.{IsPlainGroup, positive, negative, IsGroup, plain, without, bracketed}
-use Rattle.xsd_regex.specs.plain.ClassSteps.{State, is_end, is_caret, dash, ended_at}
-use Rattle.xsd_regex.specs.plain.Machine.{run}
-use Rattle.xsd_regex.specs.plain.ClassSteps.{behind_dash, behind_last, behind_member, behind_first, behind_char, behind_range, behind_open}
-use Rattle.xsd_regex.specs.plain.ClassSteps.{behind_closed, subtracted}
+use Rattle.rng_model.specs.declared.regex_mode.RegexMode.{RegexMode}
+use Rattle.rng_model.specs.declared.regex_mode.RegexMode.TheVariants as mode
+use Rattle.rng_model.specs.declared.regex_mode.ClassPlace.{ClassPlace}
+use Rattle.rng_model.specs.declared.regex_mode.ClassPlace.TheVariants as place
+use Rattle.rng_model.specs.regexes.Expressions.{Class, no_char, only_char, char_from_to, either_class, complement, minus, Regex}
+use Rattle.rng_model.specs.regexes.Symbols.{Symbol, char, escaped, class}
+use Rattle.rng_model.specs.regexes.ExpressionGrammar.{IsEnd, plain_end, escaped_end, IsMember, range, one_char, class_escape}
+use Rattle.rng_model.specs.regexes.ExpressionGrammar.{AreMembers, first_member, first_dash, member_and, IsPositive, members, last_dash, begins_with_caret}
+use Rattle.rng_model.specs.regexes.ExpressionGrammar.{IsPlainGroup, positive, negative, IsGroup, plain, without, bracketed}
+use Rattle.rng_model.specs.regexes.plain.ClassSteps.{State, is_end, is_caret, dash, ended_at}
+use Rattle.rng_model.specs.regexes.plain.Machine.{run}
+use Rattle.rng_model.specs.regexes.plain.ClassSteps.{behind_dash, behind_last, behind_member, behind_first, behind_char, behind_range, behind_open}
+use Rattle.rng_model.specs.regexes.plain.ClassSteps.{behind_closed, subtracted}
 
 -- a state by its parts
-abbrev pub st : List Class → List Regex → List Bool → Bool → ℕ → Mode → State
+abbrev pub st : List Class → List Regex → List Bool → Bool → ℕ → RegexMode → State
 st ks rs gs b d m = record { held = record { classes = ks; regexes = rs }; groups = gs; alternative = b; depth = d; mode = m }
 
 -- ---- what may follow a character that begins no range
@@ -56,15 +56,15 @@ member_no_range _ _ rest class_escape = refl
 -- ---- members
 
 module _ (rs : List Regex) (gs : List Bool) (b : Bool) (neg : Bool) where
-  abbrev at_place : ℕ → List Class → Place → State
+  abbrev at_place : ℕ → List Class → ClassPlace → State
   at_place d ks p = st ks rs gs b d (mode.Group neg p)
 
   -- where the next member may begin
-  data IsStart : Place → Type 0 where
+  data IsStart : ClassPlace → Type 0 where
     at_first : IsStart place.First
     at_member : IsStart place.Member
 
-  starts : (d : ℕ) (ks : List Class) (p : Place) (u : Symbol) (c : ℕ) (us : List Symbol) → IsStart p → IsEnd u c
+  starts : (d : ℕ) (ks : List Class) (p : ClassPlace) (u : Symbol) (c : ℕ) (us : List Symbol) → IsStart p → IsEnd u c
       → run (at_place d ks p) (u ∷ us) ≡ run (at_place d ks (place.Char c)) us
   unfolding run behind_first behind_member
   starts d ks _ _ _ us at_first (plain_end {c} e) = rw e refl
@@ -110,13 +110,13 @@ module _ (rs : List Regex) (gs : List Bool) (b : Bool) (neg : Bool) where
   unfolding run behind_char
   to_dash d ks c us = refl
 
-  class_read : (d : ℕ) (k : Class) (ks : List Class) (p : Place) (l : Class) (us : List Symbol) → IsStart p
+  class_read : (d : ℕ) (k : Class) (ks : List Class) (p : ClassPlace) (l : Class) (us : List Symbol) → IsStart p
       → run (at_place d (k ∷ ks) p) (class l ∷ us) ≡ run (at_place d (either_class k l ∷ ks) place.Member) us
   unfolding run behind_first behind_member
   class_read d k ks _ l us at_first = refl
   class_read d k ks _ l us at_member = refl
 
-  member_read : (d : ℕ) (k : Class) (ks : List Class) (p : Place) (vs : List Symbol) (l : Class) (us : List Symbol) → IsStart p → IsMember vs l
+  member_read : (d : ℕ) (k : Class) (ks : List Class) (p : ClassPlace) (vs : List Symbol) (l : Class) (us : List Symbol) → IsStart p → IsMember vs l
       → no_range us ≡ true → run (at_place d (k ∷ ks) p) (vs ++ us) ≡ run (at_place d (either_class k l ∷ ks) place.Member) us
   member_read d k ks p _ _ us s (range {u} {v} {low} {high} first last le) e =
       starts d (k ∷ ks) p u low (char 0x2D ∷ v ∷ us) s first ∙ to_dash d (k ∷ ks) low (v ∷ us) ∙ second_end d k ks low v high us last le

@@ -5,23 +5,23 @@ use Rattle.std.specs.List.{list_any}
 use Rattle.std.specs.Char.{digit_value}
 use Rattle.std.specs.Str.Parse.{AllDigits, IsNumeral, digits_value, digits_value_after}
 use Rattle.std.proofs.lemmas.List.{append_assoc, append-nil}
-use Rattle.xsd_regex.specs.declared.mode.Mode.{Mode}
-use Rattle.xsd_regex.specs.declared.mode.Mode.TheVariants as mode
-use Rattle.xsd_regex.specs.Expressions.{Class, no_char, only_char, Regex, nothing_more, one_of, both, times}
-use Rattle.xsd_regex.specs.Symbols.{Symbol, char, escaped, class}
-use Rattle.xsd_regex.specs.ExpressionGrammar.{chars_of, most_count, is_meta, wildcard, IsCount, count, IsQuantifier, optional, any_number}
-use Rattle.xsd_regex.specs.ExpressionGrammar.{one_or_more, exactly, at_least, between}
-use Rattle.xsd_regex.specs.ExpressionGrammar.{IsClassExpression, bracketed, IsExpression, branch, or_branch, IsBranch, no_piece, piece_and, IsPiece}
-use Rattle.xsd_regex.specs.ExpressionGrammar.{once, quantified}
-use Rattle.xsd_regex.specs.ExpressionGrammar.{IsAtom, normal, anything, single_escape, class_escape, class_group, grouped}
-use Rattle.xsd_regex.specs.plain.ClassSteps.{State}
-use Rattle.xsd_regex.specs.plain.Machine.{run, start, piece, sign, closed_in, behind_atom, quantifier, opens_quantifier, in_least, in_most}
-use Rattle.xsd_regex.specs.plain.ClassSteps.{ended_at}
-use Rattle.xsd_regex.specs.plain.Machine.{behind_least, behind_most, with_alternative, value_or_zero}
+use Rattle.rng_model.specs.declared.regex_mode.RegexMode.{RegexMode}
+use Rattle.rng_model.specs.declared.regex_mode.RegexMode.TheVariants as mode
+use Rattle.rng_model.specs.regexes.Expressions.{Class, no_char, only_char, Regex, nothing_more, one_of, both, times}
+use Rattle.rng_model.specs.regexes.Symbols.{Symbol, char, escaped, class}
+use Rattle.rng_model.specs.regexes.ExpressionGrammar.{chars_of, most_count, is_meta, wildcard, IsCount, count, IsQuantifier, optional, any_number}
+use Rattle.rng_model.specs.regexes.ExpressionGrammar.{one_or_more, exactly, at_least, between}
+use Rattle.rng_model.specs.regexes.ExpressionGrammar.{IsClassExpression, bracketed, IsExpression, branch, or_branch, IsBranch, no_piece, piece_and, IsPiece}
+use Rattle.rng_model.specs.regexes.ExpressionGrammar.{once, quantified}
+use Rattle.rng_model.specs.regexes.ExpressionGrammar.{IsAtom, normal, anything, single_escape, class_escape, class_group, grouped}
+use Rattle.rng_model.specs.regexes.plain.ClassSteps.{State}
+use Rattle.rng_model.specs.regexes.plain.Machine.{run, start, piece, sign, closed_in, behind_atom, quantifier, opens_quantifier, in_least, in_most}
+use Rattle.rng_model.specs.regexes.plain.ClassSteps.{ended_at}
+use Rattle.rng_model.specs.regexes.plain.Machine.{behind_least, behind_most, with_alternative, value_or_zero}
 use Rattle.xsd_regex.proofs.CompleteClasses.{st, group_read}
 
 -- outside of classes
-abbrev pub top : List Regex → List Bool → Bool → Mode → State
+abbrev pub top : List Regex → List Bool → Bool → RegexMode → State
 top rs gs b m = st [] rs gs b 0 m
 
 -- ---- what may follow an atom that has no quantifier

@@ -1,12 +1,12 @@
 -- The functions that read and match say what the relations say.
 use Rattle.std.proofs.Common.{◌≡◌, ◌∙◌, ◌≤◌, ℕ, zero, suc, List, [], ◌∷◌, length, Option, Some, None, refl, sym, ap, subst, arith}
 use Rattle.std.specs.Option.{option_map, option_and_then}
-use Rattle.xsd_regex.specs.Expressions.{Regex}
-use Rattle.xsd_regex.specs.Symbols.{Symbol, AreSymbols, no_symbols}
-use Rattle.xsd_regex.specs.ExpressionGrammar.{IsRegex}
-use Rattle.xsd_regex.specs.plain.Spelling.{next_symbol}
-use Rattle.xsd_regex.specs.plain.Machine.{run, start}
-use Rattle.xsd_regex.specs.plain.Decided.{symbols_in, regex_of, is_match, RegexesAreDecided, MatchesAreDecided}
+use Rattle.rng_model.specs.regexes.Expressions.{Regex}
+use Rattle.rng_model.specs.regexes.Symbols.{Symbol, AreSymbols, no_symbols}
+use Rattle.rng_model.specs.regexes.ExpressionGrammar.{IsRegex}
+use Rattle.rng_model.specs.regexes.plain.Spelling.{next_symbol}
+use Rattle.rng_model.specs.regexes.plain.Machine.{run, start}
+use Rattle.rng_model.specs.regexes.plain.Decided.{symbols_in, regex_of, is_match, RegexesAreDecided, MatchesAreDecided}
 use Rattle.xsd_regex.proofs.Runs.{matched_by_run}
 use Rattle.xsd_regex.proofs.Spelled.{symbol_in_front, symbols_behind, symbol_shortens, no_symbols_of, symbols_same}
 use Rattle.xsd_regex.proofs.Regexes.{read_by, read_is}

@@ -2,14 +2,14 @@
 use Rattle.std.proofs.Common.{◌≡◌, [], ◌∷◌, ◌++◌, codes, length, refl, arith, true, false, Some, None, not, ◌==◌, nat_le}
 use Rattle.std.specs.List.{list_all}
 use Rattle.ucd_category.specs.declared.GeneralCategory.TheVariants as one
-use Rattle.xsd_regex.specs.Expressions.{category, either_class, minus, no_char, only_char, char_from_to, holds}
-use Rattle.xsd_regex.specs.Expressions.{nothing_more, one_of, both, times, Matches, one_is, so_often, no_copy, copy_and}
-use Rattle.xsd_regex.specs.Blocks.{blocks}
-use Rattle.xsd_regex.specs.Properties.{category_names, block_names}
-use Rattle.xsd_regex.specs.Symbols.{escaped, class, IsSymbol, short, has_property, AreSymbols, no_symbols, symbol_and}
-use Rattle.xsd_regex.specs.ExpressionGrammar.{chars_of, wildcard, IsExpression, branch, no_piece, piece_and, quantified, normal, one_or_more}
-use Rattle.xsd_regex.specs.ExpressionGrammar.{IsClassExpression, bracketed, without, plain, IsPositive, positive, members, last_dash}
-use Rattle.xsd_regex.specs.ExpressionGrammar.{first_member, first_dash, range, one_char, plain_end}
+use Rattle.rng_model.specs.regexes.Expressions.{category, either_class, minus, no_char, only_char, char_from_to, holds}
+use Rattle.rng_model.specs.regexes.Expressions.{nothing_more, one_of, both, times, Matches, one_is, so_often, no_copy, copy_and}
+use Rattle.rng_model.specs.regexes.Blocks.{blocks}
+use Rattle.rng_model.specs.regexes.Properties.{category_names, block_names}
+use Rattle.rng_model.specs.regexes.Symbols.{escaped, class, IsSymbol, short, has_property, AreSymbols, no_symbols, symbol_and}
+use Rattle.rng_model.specs.regexes.ExpressionGrammar.{chars_of, wildcard, IsExpression, branch, no_piece, piece_and, quantified, normal, one_or_more}
+use Rattle.rng_model.specs.regexes.ExpressionGrammar.{IsClassExpression, bracketed, without, plain, IsPositive, positive, members, last_dash}
+use Rattle.rng_model.specs.regexes.ExpressionGrammar.{first_member, first_dash, range, one_char, plain_end}
 
 -- `\d\.`
 symbols : AreSymbols (codes "\\d\\.") (class (category one.DecimalNumber) ∷ escaped 0x2E ∷ [])

@@ -1,8 +1,8 @@
 -- A step of the forms of an expression keeps what they are in all.
 use Rattle.std.proofs.Common.{◌≡◌, ◌∙◌, List, [], ◌∷◌, ◌++◌, Bool, true, false, cond, refl, sym, ap}
 use Rattle.std.proofs.lemmas.List.{append_assoc, append-nil}
-use Rattle.xsd_regex.specs.Expressions.{Regex, nothing_more, one_of, both, either, times}
-use Rattle.xsd_regex.specs.plain.LinearForms.{RegexState, Form, is_nullable, is_none_left, forms_of}
+use Rattle.rng_model.specs.regexes.Expressions.{Regex, nothing_more, one_of, both, either, times}
+use Rattle.rng_model.specs.regexes.plain.LinearForms.{RegexState, Form, is_nullable, is_none_left, forms_of}
 use Rattle.xsd_regex.specs.plain.FormSteps.{Work, own_form, work_of, forms_left}
 
 pub left_of_both : (ws vs : List Work) → forms_left (ws ++ vs) ≡ forms_left ws ++ forms_left vs

@@ -6,8 +6,8 @@ use Rattle.std.proofs.lemmas.List.{drop_all, length-map}
 use Rattle.xsd_regex.specs.declared.class.Member.{Member}
 use Rattle.xsd_regex.specs.declared.class.Member.TheVariants as members
 use Rattle.xsd_regex.specs.views.Classes.{mark_of}
-use Rattle.xsd_regex.specs.Expressions.{Class, holds, no_char, either_class}
-use Rattle.xsd_regex.specs.plain.Spelling.{negated_if}
+use Rattle.rng_model.specs.regexes.Expressions.{Class, holds, no_char, either_class}
+use Rattle.rng_model.specs.regexes.plain.Spelling.{negated_if}
 use Rattle.xsd_regex.specs.plain.Groups.{Mark, member, ends, class_with, class_of_marks, holds_with}
 
 negated_holds : (neg : Bool) (k : Class) (c : ℕ) → holds (negated_if neg k) c ≡ cond neg (not (holds k c)) (holds k c)

@@ -3,8 +3,8 @@ use Rattle.std.proofs.Common.{◌≡◌, ◌<◌, ◌≤◌, ℕ, List, [], ◌�
 use Rattle.std.specs.List.{AllByRecursion}
 use Rattle.std.proofs.lemmas.Bool.{cases_lt}
 use Rattle.std.proofs.lemmas.List.{get_or_append_left, get_or_push, length-append}
-use Rattle.xsd_regex.specs.Expressions.{Class, Regex}
-use Rattle.xsd_regex.specs.plain.LinearForms.{RegexState}
+use Rattle.rng_model.specs.regexes.Expressions.{Class, Regex}
+use Rattle.rng_model.specs.regexes.plain.LinearForms.{RegexState}
 use Rattle.xsd_regex.specs.plain.StateTable.{StateRow, last_row, row_at, state_at, IsRowOf, AreRows, IsTableOf}
 use Rattle.xsd_regex.proofs.TableRows.{state_stays, row_stays}
 

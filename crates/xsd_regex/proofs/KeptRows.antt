@@ -5,21 +5,21 @@ use Rattle.std.specs.Bool.{⊤}
 use Rattle.std.specs.Option.{option_and_then}
 use Rattle.std.specs.Char.{digit_value}
 use Rattle.std.proofs.lemmas.List.{append_assoc}
-use Rattle.xsd_regex.specs.declared.mode.Mode.{Mode}
-use Rattle.xsd_regex.specs.declared.mode.Mode.TheVariants as mode
-use Rattle.xsd_regex.specs.declared.mode.Place.{Place}
-use Rattle.xsd_regex.specs.declared.mode.Place.TheVariants as place
-use Rattle.xsd_regex.specs.Expressions.{Class, no_char, only_char, char_from_to, either_class, complement, minus}
-use Rattle.xsd_regex.specs.Expressions.{Regex, nothing_more, one_of, both, either, times}
-use Rattle.xsd_regex.specs.Symbols.{Symbol, char, escaped, class}
-use Rattle.xsd_regex.specs.ExpressionGrammar.{is_meta}
+use Rattle.rng_model.specs.declared.regex_mode.RegexMode.{RegexMode}
+use Rattle.rng_model.specs.declared.regex_mode.RegexMode.TheVariants as mode
+use Rattle.rng_model.specs.declared.regex_mode.ClassPlace.{ClassPlace}
+use Rattle.rng_model.specs.declared.regex_mode.ClassPlace.TheVariants as place
+use Rattle.rng_model.specs.regexes.Expressions.{Class, no_char, only_char, char_from_to, either_class, complement, minus}
+use Rattle.rng_model.specs.regexes.Expressions.{Regex, nothing_more, one_of, both, either, times}
+use Rattle.rng_model.specs.regexes.Symbols.{Symbol, char, escaped, class}
+use Rattle.rng_model.specs.regexes.ExpressionGrammar.{is_meta}
 use Rattle.xsd_regex.specs.plain.Groups.{Mark, member, ends, class_with, class_of_marks}
-use Rattle.xsd_regex.specs.plain.Spelling.{negated_if}
-use Rattle.xsd_regex.specs.plain.Postfix.{Row, nothing_row, class_row, both_row, either_row, times_row, postfix}
-use Rattle.xsd_regex.specs.plain.ClassSteps as machine
-use Rattle.xsd_regex.specs.plain.ClassSteps.{State, dash, is_end}
-use Rattle.xsd_regex.specs.plain.Machine as steps
-use Rattle.xsd_regex.specs.plain.Machine.{opens_quantifier}
+use Rattle.rng_model.specs.regexes.plain.Spelling.{negated_if}
+use Rattle.rng_model.specs.regexes.plain.Postfix.{Row, nothing_row, class_row, both_row, either_row, times_row, postfix}
+use Rattle.rng_model.specs.regexes.plain.ClassSteps as machine
+use Rattle.rng_model.specs.regexes.plain.ClassSteps.{State, dash, is_end}
+use Rattle.rng_model.specs.regexes.plain.Machine as steps
+use Rattle.rng_model.specs.regexes.plain.Machine.{opens_quantifier}
 use Rattle.xsd_regex.specs.plain.KeptSteps as kept
 use Rattle.xsd_regex.specs.plain.KeptSteps.{Kept}
 use Rattle.xsd_regex.proofs.CompleteClasses.{st}
@@ -29,7 +29,7 @@ use Rattle.xsd_regex.proofs.ReadSymbols.{Outer, no_outer, after_bar, InBranch, i
 use Rattle.xsd_regex.proofs.ReadSymbols.{open_class, in_class, closed, ReadsTo}
 
 -- what is kept, by its parts
-abbrev pub kp : List Mark → List Row → List Bool → Bool → ℕ → Mode → Kept
+abbrev pub kp : List Mark → List Row → List Bool → Bool → ℕ → RegexMode → Kept
 kp ms rs gs b d m = record { members = ms; rows = rs; groups = gs; alternative = b; depth = d; mode = m }
 
 -- the rows of expressions, the last one first
@@ -54,7 +54,7 @@ abbrev pub MeansClosed : List Mark → List Class → Type 0
 MeansClosed ms [] = ⊥
 MeansClosed ms (k ∷ ks) = all_minus k ks ≡ class_of_marks ms
 
-abbrev pub Means : Mode → List Mark → List Class → Type 0
+abbrev pub Means : RegexMode → List Mark → List Class → Type 0
 Means mode.Ready ms ks = ms ≡ []
 Means mode.Atom ms ks = ms ≡ []
 Means (mode.Least n) ms ks = ms ≡ []
@@ -115,7 +115,7 @@ times_rows n o rs x qs e = ap (λ l. l ++ times_row n o ∷ []) e ∙ append_ass
 
 -- ---- where a piece may begin
 
-new_atom : (k : Class) (m l : Mode) (rs : List Row) (qs : List Regex) (gs : List Bool) (b : Bool) → rs ≡ posts qs
+new_atom : (k : Class) (m l : RegexMode) (rs : List Row) (qs : List Regex) (gs : List Bool) (b : Bool) → rs ≡ posts qs
     → Same (kept.atom_of k (kp [] rs gs b 0 m)) (steps.atom_of k (st [] qs gs b 0 l))
 new_atom k m l rs qs gs b e = record { rows = class_rows k rs qs e; members = refl; control = refl }
 
@@ -123,7 +123,7 @@ opened : Within [] no_char []
 unfolding all_minus
 opened = record { goes = λ k rest. refl }
 
-module _ (m l : Mode) (rs : List Row) where
+module _ (m l : RegexMode) (rs : List Row) where
   bars : {us : List Symbol} {gs : List Bool} {b : Bool} {qs : List Regex} → InBranch us gs b qs → rs ≡ posts qs
       → Same (kept.next_branch (kp [] rs gs b 0 m)) (steps.next_branch (st [] qs gs b 0 l))
   bars (in_branch no_outer br p) e = record { rows = nothing_rows rs _ e; members = refl; control = refl }
@@ -157,7 +157,7 @@ module _ (m l : Mode) (rs : List Row) where
 
 -- ---- behind an atom
 
-module _ (m l : Mode) (rs : List Row) where
+module _ (m l : RegexMode) (rs : List Row) where
   often : (n : ℕ) (o : Option ℕ) {us : List Symbol} {gs : List Bool} {b : Bool} {qs : List Regex} → AtAtom us gs b qs → rs ≡ posts qs
       → Same (kept.quantified n o (kp [] rs gs b 0 m)) (steps.quantified n o (st [] qs gs b 0 l))
   often n o (at_atom {x} (in_branch {rs = qs} {a} out br p) at q) e =
@@ -196,7 +196,7 @@ module _ (m l : Mode) (rs : List Row) where
   limits n None at e = often n None at e
   limits n (Some k) at e = on_test (nat_le n k) _ _ _ _ (often n (Some k) at e) tt
 
-  digit_read : (o : Option ℕ) (to : ℕ → Mode) (gs : List Bool) (b : Bool) (qs : List Regex) → ((n : ℕ) → Means (to n) [] []) → rs ≡ posts qs
+  digit_read : (o : Option ℕ) (to : ℕ → RegexMode) (gs : List Bool) (b : Bool) (qs : List Regex) → ((n : ℕ) → Means (to n) [] []) → rs ≡ posts qs
       → Follows (option_and_then (λ n. Some (kept.in_mode (to n) (kp [] rs gs b 0 m))) o) (option_and_then (λ n. Some (st [] qs gs b 0 (to n))) o)
   digit_read None to gs b qs h e = tt
   digit_read (Some n) to gs b qs h e = record { rows = e; members = h n; control = refl }
@@ -237,8 +237,8 @@ goes_inside neg ms k w =
     record { goes = λ n rest. w.goes (ends neg) (n ∷ rest) ∙ ap class_of_marks (sym (append_assoc ms (ends neg ∷ []) (n ∷ rest))) }
 
 module _ (gs : List Bool) (b : Bool) (qs : List Regex) {vs : List Symbol} {d : ℕ} {ks : List Class} (cl : InClass vs d ks) (rs : List Row)
-    (e : rs ≡ posts qs) (m l : Mode) where
-  ended : (n : Mode) (ms : List Mark) (k : Class) → all_minus k ks ≡ class_of_marks ms
+    (e : rs ≡ posts qs) (m l : RegexMode) where
+  ended : (n : RegexMode) (ms : List Mark) (k : Class) → all_minus k ks ≡ class_of_marks ms
       → Same (kept.ended_at d (kp ms rs gs b d m)) (machine.ended_at d (st (k ∷ ks) qs gs b d n))
   unfolding machine.ended_at all_minus
   ended n ms k w = ended_by ms k cl w
@@ -262,7 +262,7 @@ module _ (gs : List Bool) (b : Bool) (qs : List Regex) {vs : List Symbol} {d : �
 
   -- ---- the next symbol of a group
 
-  at_place : (neg : Bool) (p : Place) (ms : List Mark) (k : Class) → Within ms k ks
+  at_place : (neg : Bool) (p : ClassPlace) (ms : List Mark) (k : Class) → Within ms k ks
       → Same (kp ms rs gs b d (mode.Group neg p)) (st (k ∷ ks) qs gs b d (mode.Group neg p))
   at_place neg p ms k w = record { rows = e; members = w; control = refl }
 
@@ -315,7 +315,7 @@ module _ (gs : List Bool) (b : Bool) (qs : List Regex) {vs : List Symbol} {d : �
   closed_ends (char c) ms k w = on_test (c == 0x5D) _ _ _ _ (ended l ms k w) tt
 
 module _ (gs : List Bool) (b : Bool) (qs : List Regex) {vs : List Symbol} {d : ℕ} {ks : List Class} (cl : InClass vs d ks) (rs : List Row)
-    (e : rs ≡ posts qs) (m l : Mode) where
+    (e : rs ≡ posts qs) (m l : RegexMode) where
   chars : (neg : Bool) (a : ℕ) (u : Symbol) (ms : List Mark) (k : Class) → Within ms k ks
       → Follows (kept.behind_char neg a u (kp ms rs gs b d m)) (machine.behind_char neg a (st (k ∷ ks) qs gs b d l) u)
   unfolding machine.behind_char
@@ -340,7 +340,7 @@ module _ (gs : List Bool) (b : Bool) (qs : List Regex) {vs : List Symbol} {d : �
       (dashes _ _ _ cl rs e m (mode.Group neg place.Dash) neg (char c) (ms ++ member (only_char a) ∷ []) (either_class k (only_char a))
       (with_leaf ms k (only_char a) w))
 
-  groups : (neg : Bool) (p : Place) (u : Symbol) (ms : List Mark) (k : Class) → Within ms k ks
+  groups : (neg : Bool) (p : ClassPlace) (u : Symbol) (ms : List Mark) (k : Class) → Within ms k ks
       → Follows (kept.in_group neg p u (kp ms rs gs b d m)) (machine.in_group neg p (st (k ∷ ks) qs gs b d l) u)
   groups neg place.First u ms k w = firsts _ _ _ cl rs e m l neg u ms k w
   groups neg place.Member u ms k w = members _ _ _ cl rs e m l neg u ms k w
@@ -359,7 +359,7 @@ module _ (gs : List Bool) (b : Bool) (qs : List Regex) {vs : List Symbol} {d : �
 -- ---- all steps
 
 steps_follow : (u : Symbol) (ms : List Mark) (rs : List Row) {us : List Symbol} {ks : List Class} {qs : List Regex} {gs : List Bool} {b : Bool}
-    {d : ℕ} {m : Mode} → Reads us ks qs gs b d m → rs ≡ posts qs → Means m ms ks
+    {d : ℕ} {m : RegexMode} → Reads us ks qs gs b d m → rs ≡ posts qs → Means m ms ks
     → Follows (kept.step_in m u (kp ms rs gs b d m)) (steps.step (st ks qs gs b d m) u)
 steps_follow u ms rs (ready br) e n = rw n (pieces mode.Ready mode.Ready rs u br e)
 steps_follow u ms rs (atom at) e n = rw n (atoms mode.Atom mode.Atom rs u at e)
@@ -375,14 +375,14 @@ follows us u w s is same =
 
 -- ---- the end of the text
 
-module _ (m l : Mode) (rs : List Row) where
+module _ (m l : RegexMode) (rs : List Row) where
   wholes : (gs : List Bool) {us : List Symbol} {b : Bool} {qs : List Regex} → InBranch us gs b qs → rs ≡ posts qs
       → IsWhole (kept.whole_in gs (kp [] rs gs b 0 m)) (steps.whole_in gs (st [] qs gs b 0 l))
   wholes (c ∷ gs) br e = tt
   wholes [] (in_branch {a} no_outer br p) e = e ∙ alone a
   wholes [] (in_branch {a} (after_bar {x} no_outer ex inside) br p) e = either_rows rs a x [] e ∙ alone (either x a)
 
-ends_follow : (ms : List Mark) (rs : List Row) {us : List Symbol} {ks : List Class} {qs : List Regex} {gs : List Bool} {b : Bool} {d : ℕ} {m : Mode}
+ends_follow : (ms : List Mark) (rs : List Row) {us : List Symbol} {ks : List Class} {qs : List Regex} {gs : List Bool} {b : Bool} {d : ℕ} {m : RegexMode}
     → Reads us ks qs gs b d m → rs ≡ posts qs → Means m ms ks
     → IsWhole (kept.finished_in m (kp ms rs gs b d m)) (steps.finished (st ks qs gs b d m))
 ends_follow ms rs (ready {gs} br) e n = rw n (wholes mode.Ready mode.Ready rs gs br e)

@@ -5,9 +5,9 @@ use Rattle.std.proofs.Common.{eq-eqb, eqb-true}
 use Rattle.std.proofs.lemmas.Bool.{false_from_ne_true}
 use Rattle.std.proofs.lemmas.List.{append_assoc}
 use Rattle.rng_model.proofs.Truths.{not_both}
-use Rattle.xsd_regex.specs.Expressions.{Regex, nothing_more, one_of, both, either, times, Matches, one_is, both_are, first_is, second_is, so_often}
-use Rattle.xsd_regex.specs.Expressions.{AreCopies, no_copy, copy_and}
-use Rattle.xsd_regex.specs.plain.LinearForms.{is_nullable, one_less, is_none_left, forms_of, forms, RegexState, AcceptsState, next_is, OneOf, Takes}
+use Rattle.rng_model.specs.regexes.Expressions.{Regex, nothing_more, one_of, both, either, times, Matches, one_is, both_are, first_is, second_is, so_often}
+use Rattle.rng_model.specs.regexes.Expressions.{AreCopies, no_copy, copy_and}
+use Rattle.rng_model.specs.regexes.plain.LinearForms.{is_nullable, one_less, is_none_left, forms_of, forms, RegexState, AcceptsState, next_is, OneOf, Takes}
 use Rattle.xsd_regex.proofs.OneOf.{in_first, in_second, of_both, under_in, under_out, unless_in, unless_out}
 use Rattle.xsd_regex.proofs.Nullable.{nullable_if, nullable_then}
 

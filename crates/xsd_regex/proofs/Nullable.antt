@@ -3,9 +3,9 @@ use Rattle.std.proofs.Common.{◌≡◌, ◌≤◌, ◌⊎◌, ◌↔◌, ℕ, z
 use Rattle.std.proofs.Common.{Option, Some, None, IfSome, refl, sym, subst, inl, inr, arith}
 use Rattle.std.proofs.Common.{eq-eqb, eqb-true, le-leb, leb-true}
 use Rattle.std.proofs.lemmas.Bool.{and_from, and_parts, or_left, or_right, or_cases}
-use Rattle.xsd_regex.specs.Expressions.{Regex, nothing_more, one_of, both, either, times, Matches, nothing_is, both_are, first_is, second_is, so_often}
-use Rattle.xsd_regex.specs.Expressions.{AreCopies, no_copy, copy_and}
-use Rattle.xsd_regex.specs.plain.LinearForms.{is_at_most, is_nullable, ends, RegexState, AcceptsState, nothing_left, next_is}
+use Rattle.rng_model.specs.regexes.Expressions.{Regex, nothing_more, one_of, both, either, times, Matches, nothing_is, both_are, first_is, second_is, so_often}
+use Rattle.rng_model.specs.regexes.Expressions.{AreCopies, no_copy, copy_and}
+use Rattle.rng_model.specs.regexes.plain.LinearForms.{is_at_most, is_nullable, ends, RegexState, AcceptsState, nothing_left, next_is}
 
 -- the parts of the empty text
 pub none_before : (s t : List ℕ) → [] ≡ s ++ t → s ≡ []

@@ -3,8 +3,8 @@
 use Rattle.std.proofs.Common.{◌≡◌, ◌∙◌, ℕ, ◌<◌, ◌-◌, List, [], ◌∷◌, ◌++◌, length, map, Bool, true, false, cond, Option, refl, sym, ap}
 use Rattle.std.specs.List.{AllByRecursion}
 use Rattle.std.proofs.lemmas.List.{append_assoc, map-append}
-use Rattle.xsd_regex.specs.Expressions.{Class, Regex, nothing_more, one_of, both, either, times}
-use Rattle.xsd_regex.specs.plain.LinearForms.{RegexState, Form, is_nullable, one_less, is_none_left, forms_of}
+use Rattle.rng_model.specs.regexes.Expressions.{Class, Regex, nothing_more, one_of, both, either, times}
+use Rattle.rng_model.specs.regexes.plain.LinearForms.{RegexState, Form, is_nullable, one_less, is_none_left, forms_of}
 use Rattle.xsd_regex.specs.plain.FormSteps.{Work, forms_left}
 use Rattle.xsd_regex.specs.plain.StateTable.{state_at, forms_at}
 use Rattle.xsd_regex.proofs.TableRows.{state_stays, forms_stay}

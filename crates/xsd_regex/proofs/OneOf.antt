@@ -2,7 +2,7 @@
 use Rattle.std.proofs.Common.{◌≡◌, ◌⊎◌, List, [], ◌∷◌, ◌++◌, map, Bool, true, false, cond, refl, subst, inl, inr}
 use Rattle.std.specs.List.{list_any}
 use Rattle.std.proofs.lemmas.Bool.{or_left, or_right, or_cases}
-use Rattle.xsd_regex.specs.plain.LinearForms.{OneOf}
+use Rattle.rng_model.specs.regexes.plain.LinearForms.{OneOf}
 
 module _ {A : Type 0} (P : A → Type 0) where
   pub in_first : (xs ys : List A) → OneOf P xs → OneOf P (xs ++ ys)

@@ -3,18 +3,18 @@ use Rattle.std.proofs.Common.{◌≡◌, ◌∙◌, ℕ, ◌<◌, List, [], ◌�
 use Rattle.std.specs.Option.{option_and_then}
 use Rattle.std.specs.Str.{chars, IsUtf8}
 use Rattle.std.proofs.lemmas.List.{append_assoc, append-nil}
-use Rattle.xsd_regex.specs.Expressions.{Regex}
-use Rattle.xsd_regex.specs.Symbols.{Symbol}
-use Rattle.xsd_regex.specs.plain.Spelling.{next_symbol}
-use Rattle.xsd_regex.specs.plain.Postfix.{Row, postfix}
-use Rattle.xsd_regex.specs.plain.ClassSteps.{State, Next}
-use Rattle.xsd_regex.specs.plain.Machine.{run, start, finished, step}
+use Rattle.rng_model.specs.regexes.Expressions.{Regex}
+use Rattle.rng_model.specs.regexes.Symbols.{Symbol}
+use Rattle.rng_model.specs.regexes.plain.Spelling.{next_symbol}
+use Rattle.rng_model.specs.regexes.plain.Postfix.{Row, postfix}
+use Rattle.rng_model.specs.regexes.plain.ClassSteps.{State, Next}
+use Rattle.rng_model.specs.regexes.plain.Machine.{run, start, finished, step}
 use Rattle.xsd_regex.specs.plain.KeptSteps as kept
 use Rattle.xsd_regex.specs.plain.KeptSteps.{Kept}
 use Rattle.xsd_regex.specs.views.Readings.{AreRowsOf, IsNoRegex}
 use Rattle.xsd_regex.proofs.Spelled.{Joined, joined_start, joined_next, joined_end, joined_stuck, symbols_behind}
 use Rattle.xsd_regex.proofs.ReadSymbols.{ReadsTo, ready, in_branch, no_outer}
-use Rattle.xsd_regex.specs.ExpressionGrammar.{no_piece}
+use Rattle.rng_model.specs.regexes.ExpressionGrammar.{no_piece}
 use Rattle.xsd_regex.proofs.SoundExpressions.{step_reads}
 use Rattle.xsd_regex.proofs.CompleteExpressions.{is_complete}
 use Rattle.xsd_regex.proofs.Regexes.{read_is, read_none, unread_none}

@@ -8,7 +8,7 @@ use Rattle.std.proofs.lemmas.Str.{chars-IsAscii, encodes-IsAscii, encodes-chars}
 use Rattle.std.proofs.lemmas.Str.Ascii.{IsAscii-nil, IsAscii-cons}
 use Rattle.rng_model.specs.datatypes.Facets.{named}
 use Rattle.rng_model.proofs.Texts.{bytes_same, bytes_itself}
-use Rattle.xsd_regex.specs.Properties.{category_names, block_names}
+use Rattle.rng_model.specs.regexes.Properties.{category_names, block_names}
 
 -- ---- names of ASCII characters, by characters and by bytes
 

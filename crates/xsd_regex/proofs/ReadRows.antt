@@ -6,8 +6,8 @@ use Rattle.std.proofs.lemmas.Str.{chars-nil, encodes-chars}
 use Rattle.xsd_regex.specs.declared.expression.Row.{Row}
 use Rattle.xsd_regex.specs.declared.fault.ReadFault.{ReadFault}
 use Rattle.xsd_regex.specs.declared.fault.ReadFault.TheVariants as faults
-use Rattle.xsd_regex.specs.Symbols.{Symbol}
-use Rattle.xsd_regex.specs.plain.Spelling.{next_symbol}
+use Rattle.rng_model.specs.regexes.Symbols.{Symbol}
+use Rattle.rng_model.specs.regexes.plain.Spelling.{next_symbol}
 use Rattle.xsd_regex.specs.plain.KeptSteps as kept
 use Rattle.xsd_regex.specs.plain.KeptSteps.{Kept}
 use Rattle.xsd_regex.specs.views.Steps.{IsRefused, IsFinish, AreRead, IsUnread}

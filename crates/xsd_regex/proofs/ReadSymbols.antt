@@ -3,15 +3,15 @@ use Rattle.std.proofs.Common.{◌≡◌, ◌∙◌, ◌≤◌, ℕ, zero, List, 
 use Rattle.std.proofs.Common.{Option, Some, None, refl, ap}
 use Rattle.std.specs.Str.Parse.{IsNumeral, digits_value}
 use Rattle.std.proofs.lemmas.List.{append_assoc}
-use Rattle.xsd_regex.specs.declared.mode.Mode.{Mode}
-use Rattle.xsd_regex.specs.declared.mode.Mode.TheVariants as mode
-use Rattle.xsd_regex.specs.declared.mode.Place.{Place}
-use Rattle.xsd_regex.specs.Expressions.{Class, no_char, Regex, both, times}
-use Rattle.xsd_regex.specs.Symbols.{Symbol, char}
-use Rattle.xsd_regex.specs.ExpressionGrammar.{chars_of, most_count, IsCount, IsQuantifier, IsGroup}
-use Rattle.xsd_regex.specs.ExpressionGrammar.{IsExpression, IsBranch, piece_and, once, quantified, IsAtom}
-use Rattle.xsd_regex.specs.plain.Held.{with_last, with_last_two}
-use Rattle.xsd_regex.specs.plain.ClassSteps.{State}
+use Rattle.rng_model.specs.declared.regex_mode.RegexMode.{RegexMode}
+use Rattle.rng_model.specs.declared.regex_mode.RegexMode.TheVariants as mode
+use Rattle.rng_model.specs.declared.regex_mode.ClassPlace.{ClassPlace}
+use Rattle.rng_model.specs.regexes.Expressions.{Class, no_char, Regex, both, times}
+use Rattle.rng_model.specs.regexes.Symbols.{Symbol, char}
+use Rattle.rng_model.specs.regexes.ExpressionGrammar.{chars_of, most_count, IsCount, IsQuantifier, IsGroup}
+use Rattle.rng_model.specs.regexes.ExpressionGrammar.{IsExpression, IsBranch, piece_and, once, quantified, IsAtom}
+use Rattle.rng_model.specs.regexes.plain.Held.{with_last, with_last_two}
+use Rattle.rng_model.specs.regexes.plain.ClassSteps.{State}
 use Rattle.xsd_regex.proofs.SoundClasses.{Group, InClass}
 
 -- what is before the branch that is read
@@ -49,7 +49,7 @@ pub data Digits : Option ℕ → List ℕ → Type 0 where
   digits : {n : ℕ} {ds : List ℕ} → IsNumeral 10 ds → n ≡ digits_value 10 ds → n ≤ most_count → Digits (Some n) ds
 
 -- what is read so far
-pub data Reads : List Symbol → List Class → List Regex → List Bool → Bool → ℕ → Mode → Type 0 where
+pub data Reads : List Symbol → List Class → List Regex → List Bool → Bool → ℕ → RegexMode → Type 0 where
   ready : {us : List Symbol} {gs : List Bool} {b : Bool} {qs : List Regex} → InBranch us gs b qs → Reads us [] qs gs b zero mode.Ready
   atom : {us : List Symbol} {gs : List Bool} {b : Bool} {qs : List Regex} → AtAtom us gs b qs → Reads us [] qs gs b zero mode.Atom
   least : {us all : List Symbol} {gs : List Bool} {b : Bool} {qs : List Regex} {o : Option ℕ} {ds : List ℕ} → AtAtom us gs b qs → Digits o ds
@@ -58,7 +58,7 @@ pub data Reads : List Symbol → List Class → List Regex → List Bool → Boo
       → Digits o ds → all ≡ us ++ char 0x7B ∷ (ns ++ char 0x2C ∷ chars_of ds) → Reads all [] qs gs b zero (mode.Most n o)
   open_class : {us vs all : List Symbol} {gs : List Bool} {b : Bool} {qs : List Regex} {d : ℕ} {ks : List Class} → InBranch us gs b qs → InClass vs d ks
       → all ≡ us ++ vs → Reads all (no_char ∷ ks) qs gs b d mode.Open
-  in_class : {us vs ws all : List Symbol} {gs : List Bool} {b : Bool} {qs : List Regex} {d : ℕ} {ks : List Class} {neg : Bool} {p : Place} {k : Class}
+  in_class : {us vs ws all : List Symbol} {gs : List Bool} {b : Bool} {qs : List Regex} {d : ℕ} {ks : List Class} {neg : Bool} {p : ClassPlace} {k : Class}
       → InBranch us gs b qs → InClass vs d ks → Group neg p ws k → all ≡ us ++ (vs ++ ws)
       → Reads all (k ∷ ks) qs gs b d (mode.Group neg p)
   closed : {us vs ws all : List Symbol} {gs : List Bool} {b : Bool} {qs : List Regex} {d : ℕ} {ks : List Class} {k : Class}

@@ -1,10 +1,10 @@
 -- What is read from a text is the expression that it writes.
 use Rattle.std.proofs.Common.{◌≡◌, ◌∙◌, ℕ, List, Some, None, sym, ap}
-use Rattle.xsd_regex.specs.Expressions.{Regex}
-use Rattle.xsd_regex.specs.Symbols.{Symbol, AreSymbols}
-use Rattle.xsd_regex.specs.ExpressionGrammar.{IsRegex}
-use Rattle.xsd_regex.specs.plain.Spelling.{HasNoSymbols}
-use Rattle.xsd_regex.specs.plain.Machine.{run, start}
+use Rattle.rng_model.specs.regexes.Expressions.{Regex}
+use Rattle.rng_model.specs.regexes.Symbols.{Symbol, AreSymbols}
+use Rattle.rng_model.specs.regexes.ExpressionGrammar.{IsRegex}
+use Rattle.rng_model.specs.regexes.plain.Spelling.{HasNoSymbols}
+use Rattle.rng_model.specs.regexes.plain.Machine.{run, start}
 use Rattle.xsd_regex.proofs.Spelled.{symbols_same}
 use Rattle.xsd_regex.proofs.CompleteExpressions.{is_complete}
 use Rattle.xsd_regex.proofs.SoundExpressions.{is_sound}

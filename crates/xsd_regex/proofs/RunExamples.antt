@@ -1,8 +1,8 @@
 -- Worked cases: runs of states over texts, and a table with its run.
 use Rattle.std.proofs.Common.{◌≡◌, ℕ, List, [], ◌∷◌, codes, refl, Bool, true, false, Some, None}
 use Rattle.std.specs.List.{list_any}
-use Rattle.xsd_regex.specs.Expressions.{Regex, nothing_more, one_of, both, times, only_char}
-use Rattle.xsd_regex.specs.plain.LinearForms.{is_nullable, forms, forms_of, states_behind, ends}
+use Rattle.rng_model.specs.regexes.Expressions.{Regex, nothing_more, one_of, both, times, only_char}
+use Rattle.rng_model.specs.regexes.plain.LinearForms.{is_nullable, forms, forms_of, states_behind, ends}
 use Rattle.xsd_regex.specs.plain.StateTable.{StateRow, row_at, state_at, forms_at, Link, linked, run_rows, accepts}
 
 -- `a`, `a{1,3}b`, `(a?){2}`, `(a*)*b`, and one with a limit below its least number

@@ -2,9 +2,9 @@
 use Rattle.std.proofs.Common.{◌≡◌, ◌↔◌, ℕ, List, [], ◌∷◌, true, sym, subst, ◌∙◌, inl, inr}
 use Rattle.std.specs.List.{list_any}
 use Rattle.std.proofs.lemmas.List.{append-nil}
-use Rattle.xsd_regex.specs.Expressions.{Class, holds, Regex, Matches}
-use Rattle.xsd_regex.specs.plain.LinearForms.{RegexState, AcceptsState, nothing_left, next_is, OneOf, forms, ends}
-use Rattle.xsd_regex.specs.plain.LinearForms.{rests_at, next_states, states_behind, AcceptsOne}
+use Rattle.rng_model.specs.regexes.Expressions.{Class, holds, Regex, Matches}
+use Rattle.rng_model.specs.regexes.plain.LinearForms.{RegexState, AcceptsState, nothing_left, next_is, OneOf, forms, ends}
+use Rattle.rng_model.specs.regexes.plain.LinearForms.{rests_at, next_states, states_behind, AcceptsOne}
 use Rattle.xsd_regex.proofs.OneOf.{in_first, in_second, of_both, kept_in, passed_in, kept_out, one_to, one_test_if, one_test_then}
 use Rattle.xsd_regex.proofs.Nullable.{ends_if, ends_then}
 use Rattle.xsd_regex.proofs.LinearForms.{state_forms_if, state_forms_then}

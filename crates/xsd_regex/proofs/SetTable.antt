@@ -2,8 +2,8 @@
 use Rattle.std.proofs.Common.{◌≡◌, ◌↔◌, ◌<◌, ◌∙◌, ℕ, List, [], ◌∷◌, length, Bool, true, false, refl, sym}
 use Rattle.std.specs.List.{AllByRecursion}
 use Rattle.rng_model.proofs.Truths.{same_truth}
-use Rattle.xsd_regex.specs.Expressions.{Regex, Matches}
-use Rattle.xsd_regex.specs.plain.LinearForms.{RegexState}
+use Rattle.rng_model.specs.regexes.Expressions.{Regex, Matches}
+use Rattle.rng_model.specs.regexes.plain.LinearForms.{RegexState}
 use Rattle.xsd_regex.specs.plain.StateTable.{StateRow, IsTableOf, step_rows, run_rows, one_ends, accepts, AreSame}
 use Rattle.xsd_regex.specs.plain.SetTable.{SetRow, set_at, target_at, IsSetTable, run_sets}
 use Rattle.xsd_regex.proofs.StateTable.{step_same, one_ends_same, table_if, table_then}

@@ -2,14 +2,14 @@
 use Rattle.std.proofs.Common.{◌≡◌, ◌≢◌, ◌∙◌, ◌≤◌, ℕ, zero, suc, List, [], ◌∷◌, ◌++◌, codes, Bool, true, false, cond, not, ◌==◌}
 use Rattle.std.proofs.Common.{refl, ap, eqb-true}
 use Rattle.std.specs.List.{list_any}
-use Rattle.xsd_regex.specs.declared.mode.Place.{Place}
-use Rattle.xsd_regex.specs.declared.mode.Place.TheVariants as place
-use Rattle.xsd_regex.specs.Expressions.{Class, no_char, only_char, char_from_to, either_class, complement}
-use Rattle.xsd_regex.specs.Symbols.{Symbol, char, escaped, class}
-use Rattle.xsd_regex.specs.ExpressionGrammar.{IsEnd, plain_end, IsMember, range, one_char}
-use Rattle.xsd_regex.specs.ExpressionGrammar.{AreMembers, first_member, member_and, IsPositive, begins_with_caret}
-use Rattle.xsd_regex.specs.ExpressionGrammar.{IsPlainGroup, positive, negative}
-use Rattle.xsd_regex.specs.plain.ClassSteps.{is_end, is_dash, is_caret}
+use Rattle.rng_model.specs.declared.regex_mode.ClassPlace.{ClassPlace}
+use Rattle.rng_model.specs.declared.regex_mode.ClassPlace.TheVariants as place
+use Rattle.rng_model.specs.regexes.Expressions.{Class, no_char, only_char, char_from_to, either_class, complement}
+use Rattle.rng_model.specs.regexes.Symbols.{Symbol, char, escaped, class}
+use Rattle.rng_model.specs.regexes.ExpressionGrammar.{IsEnd, plain_end, IsMember, range, one_char}
+use Rattle.rng_model.specs.regexes.ExpressionGrammar.{AreMembers, first_member, member_and, IsPositive, begins_with_caret}
+use Rattle.rng_model.specs.regexes.ExpressionGrammar.{IsPlainGroup, positive, negative}
+use Rattle.rng_model.specs.regexes.plain.ClassSteps.{is_end, is_dash, is_caret}
 
 -- ---- members, or none yet
 
@@ -54,7 +54,7 @@ plain_group (without_caret e) is = positive is e
 
 -- ---- what is behind `[` at a place
 
-pub data Group : Bool → Place → List Symbol → Class → Type 0 where
+pub data Group : Bool → ClassPlace → List Symbol → Class → Type 0 where
   at_first : Group true place.First (char 0x5E ∷ []) no_char
   at_member : {neg : Bool} {ws xs : List Symbol} {k : Class} → Headed neg ws xs → AreMembers xs k → Group neg place.Member ws k
   at_char : {neg : Bool} {ws xs ys : List Symbol} {u : Symbol} {c : ℕ} {k : Class} → Headed neg ws xs → Members ys k → IsEnd u c → xs ≡ ys ++ u ∷ []

@@ -7,22 +7,22 @@ use Rattle.std.specs.Char.{digit_value}
 use Rattle.std.specs.Str.Parse.{AllDigits, digits_value_after}
 use Rattle.std.proofs.lemmas.List.{append_assoc, append-nil}
 use Rattle.std.proofs.lemmas.Option.{same_Some}
-use Rattle.xsd_regex.specs.declared.mode.Mode.{Mode}
-use Rattle.xsd_regex.specs.declared.mode.Mode.TheVariants as mode
-use Rattle.xsd_regex.specs.Expressions.{Class, no_char, only_char, Regex, nothing_more, one_of, either}
-use Rattle.xsd_regex.specs.Symbols.{Symbol, char, escaped, class}
-use Rattle.xsd_regex.specs.ExpressionGrammar.{chars_of, most_count, is_meta, wildcard, IsCount, count, IsQuantifier, optional, any_number}
-use Rattle.xsd_regex.specs.ExpressionGrammar.{one_or_more, exactly, at_least, between}
-use Rattle.xsd_regex.specs.ExpressionGrammar.{IsExpression, branch, or_branch, IsBranch, no_piece, IsAtom, normal, anything, single_escape}
-use Rattle.xsd_regex.specs.ExpressionGrammar.{class_escape, grouped}
-use Rattle.xsd_regex.specs.plain.ClassSteps.{State, Next}
-use Rattle.xsd_regex.specs.plain.Machine.{run, start, finished, step, piece, sign, closed_in, behind_atom, quantifier}
-use Rattle.xsd_regex.specs.plain.ClassSteps.{behind_open}
-use Rattle.xsd_regex.specs.plain.Machine.{opens_quantifier}
-use Rattle.xsd_regex.specs.plain.Machine.{in_least, in_most, behind_least, behind_most, limited, with_digit, with_alternative}
-use Rattle.xsd_regex.specs.plain.Machine.{quantified, next_branch, open_group, atom_of}
-use Rattle.xsd_regex.specs.plain.Machine.{whole_in}
-use Rattle.xsd_regex.specs.plain.Held.{Held}
+use Rattle.rng_model.specs.declared.regex_mode.RegexMode.{RegexMode}
+use Rattle.rng_model.specs.declared.regex_mode.RegexMode.TheVariants as mode
+use Rattle.rng_model.specs.regexes.Expressions.{Class, no_char, only_char, Regex, nothing_more, one_of, either}
+use Rattle.rng_model.specs.regexes.Symbols.{Symbol, char, escaped, class}
+use Rattle.rng_model.specs.regexes.ExpressionGrammar.{chars_of, most_count, is_meta, wildcard, IsCount, count, IsQuantifier, optional, any_number}
+use Rattle.rng_model.specs.regexes.ExpressionGrammar.{one_or_more, exactly, at_least, between}
+use Rattle.rng_model.specs.regexes.ExpressionGrammar.{IsExpression, branch, or_branch, IsBranch, no_piece, IsAtom, normal, anything, single_escape}
+use Rattle.rng_model.specs.regexes.ExpressionGrammar.{class_escape, grouped}
+use Rattle.rng_model.specs.regexes.plain.ClassSteps.{State, Next}
+use Rattle.rng_model.specs.regexes.plain.Machine.{run, start, finished, step, piece, sign, closed_in, behind_atom, quantifier}
+use Rattle.rng_model.specs.regexes.plain.ClassSteps.{behind_open}
+use Rattle.rng_model.specs.regexes.plain.Machine.{opens_quantifier}
+use Rattle.rng_model.specs.regexes.plain.Machine.{in_least, in_most, behind_least, behind_most, limited, with_digit, with_alternative}
+use Rattle.rng_model.specs.regexes.plain.Machine.{quantified, next_branch, open_group, atom_of}
+use Rattle.rng_model.specs.regexes.plain.Machine.{whole_in}
+use Rattle.rng_model.specs.regexes.plain.Held.{Held}
 use Rattle.xsd_regex.proofs.CompleteClasses.{st}
 use Rattle.xsd_regex.proofs.SoundClasses.{outermost}
 use Rattle.xsd_regex.proofs.ReadSymbols.{Outer, no_outer, after_bar, in_group, InBranch, in_branch, AtAtom, at_atom, settled, settled_times}
@@ -36,7 +36,7 @@ last_is us c n next e r = subst (λ x. Leads (us ++ char x ∷ []) next) (sym (e
 -- ---- a whole expression
 
 -- all that is before the expression that the last branch ends, and this expression
-record Whole (all : List Symbol) (gs : List Bool) (b : Bool) (qs : List Regex) (m : Mode) : Type 0 where
+record Whole (all : List Symbol) (gs : List Bool) (b : Bool) (qs : List Regex) (m : RegexMode) : Type 0 where
   pub before : List Symbol
   pub regexes : List Regex
   pub outer : Outer before gs false regexes
@@ -46,7 +46,7 @@ record Whole (all : List Symbol) (gs : List Bool) (b : Bool) (qs : List Regex) (
   pub parts : all ≡ before ++ these
   pub left : with_alternative (st [] qs gs b 0 m) ≡ record { classes = []; regexes = of ∷ regexes }
 
-whole_by : (m : Mode) {us vs all : List Symbol} {gs : List Bool} {b : Bool} {rs : List Regex} {a : Regex} → Outer us gs b rs → IsBranch vs a → all ≡ us ++ vs
+whole_by : (m : RegexMode) {us vs all : List Symbol} {gs : List Bool} {b : Bool} {rs : List Regex} {a : Regex} → Outer us gs b rs → IsBranch vs a → all ≡ us ++ vs
     → Whole all gs b (a ∷ rs) m
 whole_by m {vs} {a} no_outer br parts =
     record { before = []; regexes = []; outer = no_outer; these = vs; of = a; is = branch br; parts = parts; left = refl }
@@ -64,7 +64,7 @@ whole_by m {vs} {a} (after_bar {us} {vs = ws} {rs} {x} o ex inside) br parts =
       left = refl;
     }
 
-whole : (m : Mode) {us : List Symbol} {gs : List Bool} {b : Bool} {qs : List Regex} → InBranch us gs b qs → Whole us gs b qs m
+whole : (m : RegexMode) {us : List Symbol} {gs : List Bool} {b : Bool} {qs : List Regex} → InBranch us gs b qs → Whole us gs b qs m
 whole m (in_branch o br parts) = whole_by m o br parts
 
 -- ---- where a piece may begin
@@ -79,7 +79,7 @@ close_group ws x (in_group {us} {vs} o br inside) is =
     ∙ ap (λ l. us ++ l) (append_assoc vs (char 0x28 ∷ []) (ws ++ char 0x29 ∷ []))
     ∙ sym (append_assoc us vs (char 0x28 ∷ (ws ++ char 0x29 ∷ [])))))
 
-module _ (m : Mode) where
+module _ (m : RegexMode) where
   closes : (gs : List Bool) {us : List Symbol} {b : Bool} {qs : List Regex} → InBranch us gs b qs
       → Leads (us ++ char 0x29 ∷ []) (closed_in gs (st [] qs gs b 0 m))
   unfolding closed_in
@@ -129,7 +129,7 @@ module _ (m : Mode) where
 
 -- ---- behind an atom
 
-times_step : {us all : List Symbol} {gs : List Bool} {b : Bool} {qs : List Regex} {n : ℕ} {o : Option ℕ} (m : Mode) (vs : List Symbol) → AtAtom us gs b qs
+times_step : {us all : List Symbol} {gs : List Bool} {b : Bool} {qs : List Regex} {n : ℕ} {o : Option ℕ} (m : RegexMode) (vs : List Symbol) → AtAtom us gs b qs
     → IsQuantifier vs n o → all ≡ us ++ vs → Leads all (Some (quantified n o (st [] qs gs b 0 m)))
 times_step m vs at is parts = leads_to _ _ (ready (settled_times vs at is parts))
 
@@ -279,7 +279,7 @@ in_parts us vs ws all u next parts r =
     ap (λ l. l ++ u ∷ []) parts ∙ append_assoc us (vs ++ ws) (u ∷ []) ∙ ap (λ l. us ++ l) (append_assoc vs ws (u ∷ [])) in
     subst (λ l. Leads l next) (sym text) r
 
-pub step_reads : {us : List Symbol} {ks : List Class} {qs : List Regex} {gs : List Bool} {b : Bool} {d : ℕ} {m : Mode} (u : Symbol) → Reads us ks qs gs b d m
+pub step_reads : {us : List Symbol} {ks : List Class} {qs : List Regex} {gs : List Bool} {b : Bool} {d : ℕ} {m : RegexMode} (u : Symbol) → Reads us ks qs gs b d m
     → Leads (us ++ u ∷ []) (step (st ks qs gs b d m) u)
 step_reads u (ready br) = piece_step mode.Ready u br
 step_reads u (atom at) = atom_step u at
@@ -303,7 +303,7 @@ top_level no_outer = refl
 top_rest : {us : List Symbol} {rs : List Regex} → Outer us [] false rs → rs ≡ []
 top_rest no_outer = refl
 
-ends : (m : Mode) (gs : List Bool) {us : List Symbol} {b : Bool} {qs : List Regex} (r : Regex) → InBranch us gs b qs → whole_in gs (st [] qs gs b 0 m) ≡ Some r
+ends : (m : RegexMode) (gs : List Bool) {us : List Symbol} {b : Bool} {qs : List Regex} (r : Regex) → InBranch us gs b qs → whole_in gs (st [] qs gs b 0 m) ≡ Some r
     → IsExpression us r
 ends m [] r br e =
     let w = whole m br in
@@ -311,7 +311,7 @@ ends m [] r br e =
     subst (λ l. IsExpression l r) (sym (w.parts ∙ ap (λ l. l ++ w.these) (top_level w.outer))) (subst (λ x. IsExpression w.these x) same w.is)
 ends m (c ∷ gs) r br e = cc
 
-end_reads : {us : List Symbol} {ks : List Class} {qs : List Regex} {gs : List Bool} {b : Bool} {d : ℕ} {m : Mode} (r : Regex) → Reads us ks qs gs b d m
+end_reads : {us : List Symbol} {ks : List Class} {qs : List Regex} {gs : List Bool} {b : Bool} {d : ℕ} {m : RegexMode} (r : Regex) → Reads us ks qs gs b d m
     → finished (st ks qs gs b d m) ≡ Some r → IsExpression us r
 end_reads r (ready {gs} br) e = ends mode.Ready gs r br e
 end_reads r (atom {gs} at) e = ends mode.Ready gs r (settled at) e

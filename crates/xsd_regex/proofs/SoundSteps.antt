@@ -2,15 +2,15 @@
 use Rattle.std.proofs.Common.{◌≡◌, ◌∙◌, ℕ, suc, List, [], ◌∷◌, ◌++◌, Bool, true, false, cond, ◌==◌, nat_le}
 use Rattle.std.proofs.Common.{Some, None, refl, sym, ap, subst, eqb-true, leb-true}
 use Rattle.std.proofs.lemmas.List.{append_assoc}
-use Rattle.xsd_regex.specs.declared.mode.Mode.TheVariants as mode
-use Rattle.xsd_regex.specs.declared.mode.Place.{Place}
-use Rattle.xsd_regex.specs.declared.mode.Place.TheVariants as place
-use Rattle.xsd_regex.specs.Expressions.{Class, no_char, only_char, char_from_to, either_class, Regex}
-use Rattle.xsd_regex.specs.Symbols.{Symbol, char, escaped, class}
-use Rattle.xsd_regex.specs.ExpressionGrammar.{IsEnd, escaped_end, class_escape, AreMembers, first_dash, IsPositive, members, last_dash}
-use Rattle.xsd_regex.specs.ExpressionGrammar.{IsGroup, plain, without, bracketed, class_group}
-use Rattle.xsd_regex.specs.plain.ClassSteps.{State, Next, is_end, is_dash, is_caret, dash, ended_at, ended_range, end_group, subtracted, in_group}
-use Rattle.xsd_regex.specs.plain.ClassSteps.{behind_dash, behind_last, behind_member, behind_first, behind_char, behind_range, behind_open, behind_closed}
+use Rattle.rng_model.specs.declared.regex_mode.RegexMode.TheVariants as mode
+use Rattle.rng_model.specs.declared.regex_mode.ClassPlace.{ClassPlace}
+use Rattle.rng_model.specs.declared.regex_mode.ClassPlace.TheVariants as place
+use Rattle.rng_model.specs.regexes.Expressions.{Class, no_char, only_char, char_from_to, either_class, Regex}
+use Rattle.rng_model.specs.regexes.Symbols.{Symbol, char, escaped, class}
+use Rattle.rng_model.specs.regexes.ExpressionGrammar.{IsEnd, escaped_end, class_escape, AreMembers, first_dash, IsPositive, members, last_dash}
+use Rattle.rng_model.specs.regexes.ExpressionGrammar.{IsGroup, plain, without, bracketed, class_group}
+use Rattle.rng_model.specs.regexes.plain.ClassSteps.{State, Next, is_end, is_dash, is_caret, dash, ended_at, ended_range, end_group, subtracted, in_group}
+use Rattle.rng_model.specs.regexes.plain.ClassSteps.{behind_dash, behind_last, behind_member, behind_first, behind_char, behind_range, behind_open, behind_closed}
 use Rattle.xsd_regex.proofs.CompleteClasses.{st, members_there}
 use Rattle.xsd_regex.proofs.SoundClasses.{Members, none_yet, some, more_members, Headed, with_caret, headed_more, headed_first}
 use Rattle.xsd_regex.proofs.SoundClasses.{negated, plain_group}
@@ -49,10 +49,10 @@ module _ {us vs : List Symbol} {gs : List Bool} {b : Bool} {qs : List Regex} {d 
   abbrev pub upto : List Symbol → List Symbol
   upto ws = us ++ (vs ++ ws)
 
-  abbrev pub at_place : Bool → Class → Place → State
+  abbrev pub at_place : Bool → Class → ClassPlace → State
   at_place neg k p = st (k ∷ ks) qs gs b d (mode.Group neg p)
 
-  goes_to : (neg : Bool) (ws : List Symbol) (p : Place) (k : Class) → Group neg p ws k → Leads (upto ws) (Some (at_place neg k p))
+  goes_to : (neg : Bool) (ws : List Symbol) (p : ClassPlace) (k : Class) → Group neg p ws k → Leads (upto ws) (Some (at_place neg k p))
   goes_to neg ws p k g = leads_to _ _ (in_class br cl g refl)
 
   -- `]` behind the members
@@ -60,7 +60,7 @@ module _ {us vs : List Symbol} {gs : List Bool} {b : Bool} {qs : List Regex} {d 
       → ReadsTo (upto (ws ++ char 0x5D ∷ [])) (ended_at d (st (negated neg k ∷ ks) qs gs b d mode.Closed))
   closes neg ws xs k h is = ended_reads br cl (plain (plain_group h is)) refl
 
-  closes_at : (neg : Bool) (k : Class) (p : Place) (us : List Symbol) → ReadsTo us (ended_at d (st (negated neg k ∷ ks) qs gs b d mode.Closed))
+  closes_at : (neg : Bool) (k : Class) (p : ClassPlace) (us : List Symbol) → ReadsTo us (ended_at d (st (negated neg k ∷ ks) qs gs b d mode.Closed))
       → ReadsTo us (end_group neg (at_place neg k p))
   closes_at true k p us r = r
   closes_at false k p us r = r
@@ -71,7 +71,7 @@ module _ {us vs : List Symbol} {gs : List Bool} {b : Bool} {qs : List Regex} {d 
   subtracts neg ws xs k h is =
       open_class br (inner {us = vs} {vs = ws} cl (plain_group h is) refl) refl
 
-  subtracts_at : (neg : Bool) (k : Class) (p : Place) (us : List Symbol) → ReadsTo us (st (no_char ∷ negated neg k ∷ ks) qs gs b (suc d) mode.Open)
+  subtracts_at : (neg : Bool) (k : Class) (p : ClassPlace) (us : List Symbol) → ReadsTo us (st (no_char ∷ negated neg k ∷ ks) qs gs b (suc d) mode.Open)
       → ReadsTo us (subtracted neg (at_place neg k p))
   unfolding subtracted
   subtracts_at true k p us r = r
@@ -192,7 +192,7 @@ module _ {us vs : List Symbol} {gs : List Bool} {b : Bool} {qs : List Regex} {d 
 
   -- the first symbol of the members; in a class without `^` it is no `^`
   first_step : (neg : Bool) (ws : List Symbol) (u : Symbol) → Headed neg (ws ++ u ∷ []) (u ∷ [])
-      → (p : Place) → Leads (upto (ws ++ u ∷ [])) (behind_first neg (st (no_char ∷ ks) qs gs b d (mode.Group neg p)) u)
+      → (p : ClassPlace) → Leads (upto (ws ++ u ∷ [])) (behind_first neg (st (no_char ∷ ks) qs gs b d (mode.Group neg p)) u)
   unfolding behind_first
   first_step neg ws (escaped c) h p = goes_to neg _ (place.Char c) no_char (at_char h none_yet escaped_end refl)
   first_step neg ws (class l) h p = goes_to neg _ place.Member (either_class no_char l) (at_member h (more_members (class l ∷ []) l none_yet class_escape))
@@ -217,7 +217,7 @@ module _ {us vs : List Symbol} {gs : List Bool} {b : Bool} {qs : List Regex} {d 
       no_caret (class l) r = r
       no_caret (char c) r = r
 
-  pub class_step : (neg : Bool) (p : Place) (ws : List Symbol) (k : Class) (u : Symbol) → Group neg p ws k
+  pub class_step : (neg : Bool) (p : ClassPlace) (ws : List Symbol) (k : Class) (u : Symbol) → Group neg p ws k
       → Leads (upto (ws ++ u ∷ [])) (in_group neg p (at_place neg k p) u)
   class_step _ _ _ _ u at_first = first_step true (char 0x5E ∷ []) u with_caret place.First
   class_step neg _ ws k u (at_member {xs} h is) = member_step neg ws xs k u h is

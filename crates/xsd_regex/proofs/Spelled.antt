@@ -12,12 +12,12 @@ use Rattle.std.proofs.lemmas.Option.{none-some, same_Some}
 use Rattle.std.proofs.lemmas.Str.{chars_past_char}
 use Rattle.std.proofs.lemmas.List.{append_assoc, append-nil, take-append-drop, length-append}
 use Rattle.rng_model.proofs.Texts.{bytes_same}
-use Rattle.xsd_regex.specs.Expressions.{Class}
-use Rattle.xsd_regex.specs.Properties.{category_names, block_names, property_named}
-use Rattle.xsd_regex.specs.Symbols.{Symbol, char, class, short_escape, single_escapes, multi_escapes, IsSymbol, itself, short, has_property, has_not}
-use Rattle.xsd_regex.specs.Symbols.{AreSymbols, no_symbols, symbol_and}
-use Rattle.xsd_regex.specs.plain.Spelling.{Read, first_of, negated_if, is_in_name, behind_name, named_symbol, property_symbol, escape_symbol, next_symbol}
-use Rattle.xsd_regex.specs.plain.Spelling.{HasNoSymbols}
+use Rattle.rng_model.specs.regexes.Expressions.{Class}
+use Rattle.rng_model.specs.regexes.Properties.{category_names, block_names, property_named}
+use Rattle.rng_model.specs.regexes.Symbols.{Symbol, char, class, short_escape, single_escapes, multi_escapes, IsSymbol, itself, short, has_property, has_not}
+use Rattle.rng_model.specs.regexes.Symbols.{AreSymbols, no_symbols, symbol_and}
+use Rattle.rng_model.specs.regexes.plain.Spelling.{Read, first_of, negated_if, is_in_name, behind_name, named_symbol, property_symbol, escape_symbol, next_symbol}
+use Rattle.rng_model.specs.regexes.plain.Spelling.{HasNoSymbols}
 
 same_pair : {u v : Symbol} {s t : List ℕ} → ◌≡◌ {A = Read} (Some (u, s)) (Some (v, t)) → (u ≡ v) × (s ≡ t)
 same_pair e = let p = same_Some _ _ e in (ap (λ x. x.0) p, ap (λ x. x.1) p)

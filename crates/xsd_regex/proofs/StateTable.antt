@@ -3,8 +3,8 @@ use Rattle.std.proofs.Common.{◌≡◌, ◌↔◌, ◌≤◌, ◌∙◌, ℕ, L
 use Rattle.std.specs.List.{list_any, AllByRecursion}
 use Rattle.std.proofs.lemmas.Bool.{or_left, or_right, or_cases, cases_lt}
 use Rattle.std.proofs.lemmas.List.{get_or_past}
-use Rattle.xsd_regex.specs.Expressions.{Class, holds, Regex, Matches}
-use Rattle.xsd_regex.specs.plain.LinearForms.{RegexState, AcceptsState, OneOf, Takes, forms, rests_at, ends}
+use Rattle.rng_model.specs.regexes.Expressions.{Class, holds, Regex, Matches}
+use Rattle.rng_model.specs.regexes.plain.LinearForms.{RegexState, AcceptsState, OneOf, Takes, forms, rests_at, ends}
 use Rattle.xsd_regex.specs.plain.StateTable.{StateRow, last_row, row_at, state_at, forms_at, IsRowOf, IsTableOf}
 use Rattle.xsd_regex.specs.plain.StateTable.{step_rows, run_rows, one_ends, accepts, Has, AreSame}
 use Rattle.xsd_regex.proofs.OneOf.{in_first, in_second, of_both, each_to, each_from, one_to, one_test_if, one_test_then}

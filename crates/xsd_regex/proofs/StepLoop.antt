@@ -2,8 +2,8 @@
 use Rattle.std.proofs.Common.{◌≡◌, ◌∙◌, ℕ, List, [], ◌∷◌, ◌++◌, Bool, true, false, cond, refl, sym, ap, subst, inl, inr}
 use Rattle.std.specs.List.{AllByRecursion}
 use Rattle.std.proofs.lemmas.List.{append_assoc, append-nil}
-use Rattle.xsd_regex.specs.Expressions.{Class, holds}
-use Rattle.xsd_regex.specs.plain.LinearForms.{OneOf, rests_at}
+use Rattle.rng_model.specs.regexes.Expressions.{Class, holds}
+use Rattle.rng_model.specs.regexes.plain.LinearForms.{OneOf, rests_at}
 use Rattle.xsd_regex.specs.plain.StateTable.{StateRow, row_at, step_rows, Has, AreSame}
 use Rattle.xsd_regex.proofs.OneOf.{in_first, in_second, of_both}
 use Rattle.xsd_regex.proofs.StateTable.{step_alike}

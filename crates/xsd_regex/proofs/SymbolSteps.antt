@@ -9,10 +9,10 @@ use Rattle.std.proofs.lemmas.Bool.{and_parts}
 use Rattle.std.proofs.lemmas.List.{length-append, drop_all}
 use Rattle.std.proofs.lemmas.Str.{encode_ascii, chars-append, chars_from_encodes, chars_past_char, IsUtf8-take, IsUtf8-drop, IsCharBoundary-before_ascii}
 use Rattle.std.proofs.lemmas.Str.Pattern.{IsSplitOnceResult, split_parts, drop_at_char}
-use Rattle.xsd_regex.specs.Expressions.{Class}
-use Rattle.xsd_regex.specs.Properties.{property_named}
-use Rattle.xsd_regex.specs.Symbols.{Symbol, char, class, short_escape}
-use Rattle.xsd_regex.specs.plain.Spelling.{first_of, negated_if, is_in_name, behind_name, named_symbol, property_symbol, escape_symbol, next_symbol}
+use Rattle.rng_model.specs.regexes.Expressions.{Class}
+use Rattle.rng_model.specs.regexes.Properties.{property_named}
+use Rattle.rng_model.specs.regexes.Symbols.{Symbol, char, class, short_escape}
+use Rattle.rng_model.specs.regexes.plain.Spelling.{first_of, negated_if, is_in_name, behind_name, named_symbol, property_symbol, escape_symbol, next_symbol}
 use Rattle.xsd_regex.proofs.Spelled.{first_there, none_there, named_length}
 
 abbrev First : ℕ → List ℕ → List ℕ → Type 0

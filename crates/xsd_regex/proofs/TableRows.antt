@@ -3,8 +3,8 @@ use Rattle.std.proofs.Common.{◌≡◌, ◌∙◌, ◌<◌, ◌+◌, ℕ, suc, 
 use Rattle.std.specs.List.{fold, AllByRecursion}
 use Rattle.std.proofs.lemmas.List.{get_or_append_left, get_or_push, map-append, length-append}
 use Rattle.std.proofs.lemmas.List.Sums.{fold-append}
-use Rattle.xsd_regex.specs.Expressions.{Class, Regex}
-use Rattle.xsd_regex.specs.plain.LinearForms.{RegexState, OneOf, Takes, forms, forms_of, is_nullable}
+use Rattle.rng_model.specs.regexes.Expressions.{Class, Regex}
+use Rattle.rng_model.specs.regexes.plain.LinearForms.{RegexState, OneOf, Takes, forms, forms_of, is_nullable}
 use Rattle.xsd_regex.specs.plain.StateTable.{StateRow, state_at, forms_at, IsRowOf, Link, with_link, linked}
 use Rattle.xsd_regex.proofs.OneOf.{in_first, in_second, of_both, each_to, each_from, one_among}
 

@@ -1,10 +1,10 @@
 // Classes of characters (XML Schema Part 2, Second Edition, section F.1).
 ghost use Rattle.std.specs.Prelude.{◌≡◌, map};
-ghost use Rattle.xsd_regex.specs.Expressions.{holds, only_char, char_from_to};
-ghost use Rattle.xsd_regex.specs.ExpressionGrammar.{wildcard};
+ghost use Rattle.rng_model.specs.regexes.Expressions.{holds, only_char, char_from_to};
+ghost use Rattle.rng_model.specs.regexes.ExpressionGrammar.{wildcard};
 ghost use Rattle.xsd_regex.specs.views.Classes.{set_class, leaf_class, mark_of, class_of};
 ghost use Rattle.xsd_regex.specs.plain.Groups.{class_of_marks};
-ghost use Rattle.xsd_regex.specs.Symbols.{word_char};
+ghost use Rattle.rng_model.specs.regexes.Symbols.{word_char};
 
 use rng_model::{is_name_char, is_name_start};
 use ucd_category::{GeneralCategory, GeneralCategoryGroup};

@@ -1,6 +1,6 @@
 // A class in brackets read symbol by symbol.
 ghost use Rattle.std.specs.Prelude.{◌≡◌, IfOk};
-ghost use Rattle.xsd_regex.specs.plain.ClassSteps.{is_end};
+ghost use Rattle.rng_model.specs.regexes.plain.ClassSteps.{is_end};
 ghost use Rattle.xsd_regex.specs.plain.KeptSteps as kept;
 ghost use Rattle.xsd_regex.specs.views.Classes.{leaf_class};
 ghost use Rattle.xsd_regex.specs.views.Steps.{kept_of, IsStep};
@@ -9,10 +9,9 @@ ghost use Rattle.xsd_regex.specs.views.Symbols.{symbol_of};
 use crate::class::{Class, Leaf, Member, char_from_to, only_char};
 use crate::expression::Row;
 use crate::fault::ReadFault;
-use crate::mode::{Mode, Place};
 use crate::reader::Reader;
 use crate::symbol::Symbol;
-use rng_model::OutOfMemory;
+use rng_model::{ClassPlace, OutOfMemory, RegexMode};
 use std::mem;
 
 impl Reader {
@@ -22,12 +21,12 @@ impl Reader {
     {
         if self.depth > 0 {
             self.depth -= 1;
-            self.mode = Mode::Closed;
+            self.mode = RegexMode::Closed;
             return Ok(());
         }
         let members = mem::replace(&mut self.members, Vec::new(self.alloc));
         self.write(Row::OneOf(Class::Groups(members)))?;
-        self.mode = Mode::Atom;
+        self.mode = RegexMode::Atom;
         Ok(())
     }
 
@@ -46,7 +45,7 @@ impl Reader {
         self.mark(Member::End(negated))?;
         // no more classes are open than there are members, so this is always a number
         self.depth = self.depth.checked_add(1).ok_or(OutOfMemory)?;
-        self.mode = Mode::Open;
+        self.mode = RegexMode::Open;
         Ok(())
     }
 
@@ -55,7 +54,7 @@ impl Reader {
         ensures { IfOk result (λ _. kept_of self.new ≡ kept.with_member negated (leaf_class leaf) (kept_of self.old)) }
     {
         self.mark(Member::Leaf(leaf))?;
-        self.mode = Mode::Group(negated, Place::Member);
+        self.mode = RegexMode::Group(negated, ClassPlace::Member);
         Ok(())
     }
 
@@ -82,7 +81,7 @@ impl Reader {
             Symbol::Char('[') => Ok(self.subtract(negated)?),
             Symbol::Char('-') => {
                 self.mark(Member::Leaf(only_char('-')))?;
-                self.mode = Mode::Group(negated, Place::Last);
+                self.mode = RegexMode::Group(negated, ClassPlace::Last);
                 Ok(())
             }
             _ => Err(ReadFault::NoExpression),
@@ -105,17 +104,17 @@ impl Reader {
     {
         match symbol {
             Symbol::Escaped(c) => {
-                self.mode = Mode::Group(negated, Place::Char(c));
+                self.mode = RegexMode::Group(negated, ClassPlace::Char(c));
                 Ok(())
             }
             Symbol::Class(leaf) => Ok(self.add(negated, leaf)?),
             Symbol::Char(']') => Ok(self.end_group(negated)?),
             Symbol::Char('-') => {
-                self.mode = Mode::Group(negated, Place::Dash);
+                self.mode = RegexMode::Group(negated, ClassPlace::Dash);
                 Ok(())
             }
             Symbol::Char(c) if is_end(c) => {
-                self.mode = Mode::Group(negated, Place::Char(c));
+                self.mode = RegexMode::Group(negated, ClassPlace::Char(c));
                 Ok(())
             }
             Symbol::Char(_) => Err(ReadFault::NoExpression),
@@ -128,13 +127,13 @@ impl Reader {
     {
         match symbol {
             Symbol::Escaped(c) => {
-                self.mode = Mode::Group(negated, Place::Char(c));
+                self.mode = RegexMode::Group(negated, ClassPlace::Char(c));
                 Ok(())
             }
             Symbol::Class(leaf) => Ok(self.add(negated, leaf)?),
             Symbol::Char('-') => Ok(self.add(negated, only_char('-'))?),
             Symbol::Char(c) if is_end(c) => {
-                self.mode = Mode::Group(negated, Place::Char(c));
+                self.mode = RegexMode::Group(negated, ClassPlace::Char(c));
                 Ok(())
             }
             Symbol::Char(_) => Err(ReadFault::NoExpression),
@@ -147,7 +146,7 @@ impl Reader {
     {
         match symbol {
             Symbol::Char('-') => {
-                self.mode = Mode::Group(negated, Place::Range(first));
+                self.mode = RegexMode::Group(negated, ClassPlace::Range(first));
                 Ok(())
             }
             _ => {
@@ -176,18 +175,18 @@ impl Reader {
     pub(crate) fn in_group(
         &mut self,
         negated: bool,
-        place: Place,
+        place: ClassPlace,
         symbol: Symbol,
     ) -> Result<(), ReadFault>
         ensures { IsStep result (kept_of self.new) (kept.in_group negated place (symbol_of symbol) (kept_of self.old)) }
     {
         match place {
-            Place::First => self.behind_first(negated, symbol),
-            Place::Member => self.behind_member(negated, symbol),
-            Place::Char(first) => self.behind_char(negated, first, symbol),
-            Place::Range(first) => self.behind_range(negated, first, symbol),
-            Place::Dash => self.behind_dash(negated, symbol),
-            Place::Last => self.behind_last(negated, symbol),
+            ClassPlace::First => self.behind_first(negated, symbol),
+            ClassPlace::Member => self.behind_member(negated, symbol),
+            ClassPlace::Char(first) => self.behind_char(negated, first, symbol),
+            ClassPlace::Range(first) => self.behind_range(negated, first, symbol),
+            ClassPlace::Dash => self.behind_dash(negated, symbol),
+            ClassPlace::Last => self.behind_last(negated, symbol),
         }
     }
 
@@ -197,7 +196,7 @@ impl Reader {
     {
         match symbol {
             Symbol::Char('^') => {
-                self.mode = Mode::Group(true, Place::First);
+                self.mode = RegexMode::Group(true, ClassPlace::First);
                 Ok(())
             }
             _ => self.behind_first(false, symbol),

@@ -7,7 +7,6 @@ mod class;
 mod class_reader;
 mod expression;
 mod fault;
-mod mode;
 mod property;
 mod reader;
 mod symbol;

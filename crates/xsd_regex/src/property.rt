@@ -2,7 +2,7 @@
 ghost use Rattle.std.specs.Prelude.{◌≡◌, option_map};
 ghost use Rattle.std.specs.Str.{chars};
 ghost use Rattle.rng_model.specs.datatypes.Facets.{named};
-ghost use Rattle.xsd_regex.specs.Properties.{category_names, block_names, property_named};
+ghost use Rattle.rng_model.specs.regexes.Properties.{category_names, block_names, property_named};
 ghost use Rattle.xsd_regex.specs.views.Classes.{set_class};
 ghost use Rattle.xsd_regex.specs.plain.PropertyParts.{letter_names, number_names, other_names, block_part};
 

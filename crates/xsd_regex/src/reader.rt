@@ -1,9 +1,9 @@
 // An expression read symbol by symbol: what is kept, and the step outside of classes.
 ghost use Rattle.std.specs.Prelude.{◌≡◌, ◌<◌, IfOk};
-ghost use Rattle.xsd_regex.specs.ExpressionGrammar.{is_meta};
+ghost use Rattle.rng_model.specs.regexes.ExpressionGrammar.{is_meta};
 ghost use Rattle.xsd_regex.specs.plain.KeptSteps as kept;
 ghost use Rattle.xsd_regex.specs.plain.KeptSteps.{written, marked, number_with};
-ghost use Rattle.xsd_regex.specs.plain.Machine.{opens_quantifier};
+ghost use Rattle.rng_model.specs.regexes.plain.Machine.{opens_quantifier};
 ghost use Rattle.xsd_regex.specs.views.Classes.{class_of, mark_of};
 ghost use Rattle.xsd_regex.specs.views.Rows.{row_of};
 ghost use Rattle.xsd_regex.specs.views.Steps.{kept_of, IsStep, IsFinish};
@@ -12,9 +12,8 @@ ghost use Rattle.xsd_regex.specs.views.Symbols.{symbol_of};
 use crate::class::{Class, Member, only_char, wildcard};
 use crate::expression::Row;
 use crate::fault::ReadFault;
-use crate::mode::Mode;
 use crate::symbol::Symbol;
-use rng_model::OutOfMemory;
+use rng_model::{OutOfMemory, RegexMode};
 use std::alloc::Global;
 
 /// What is read so far of an expression.
@@ -31,7 +30,7 @@ pub(crate) struct Reader {
     pub(crate) alternative: bool,
     // the number of classes that subtract the class that is open
     pub(crate) depth: usize,
-    pub(crate) mode: Mode,
+    pub(crate) mode: RegexMode,
 }
 
 impl Reader {
@@ -56,7 +55,7 @@ impl Reader {
         ensures { IfOk result (λ _. kept_of self.new ≡ kept.atom_of (class_of class) (kept_of self.old)) }
     {
         self.write(Row::OneOf(class))?;
-        self.mode = Mode::Atom;
+        self.mode = RegexMode::Atom;
         Ok(())
     }
 
@@ -65,7 +64,7 @@ impl Reader {
         ensures { IfOk result (λ _. kept_of self.new ≡ kept.joined (kept_of self.old)) }
     {
         self.write(Row::Both)?;
-        self.mode = Mode::Ready;
+        self.mode = RegexMode::Ready;
         Ok(())
     }
 
@@ -95,7 +94,7 @@ impl Reader {
         self.end_branch()?;
         self.write(Row::Nothing)?;
         self.alternative = true;
-        self.mode = Mode::Ready;
+        self.mode = RegexMode::Ready;
         Ok(())
     }
 
@@ -106,7 +105,7 @@ impl Reader {
         self.write(Row::Nothing)?;
         self.groups.push(self.alternative)?;
         self.alternative = false;
-        self.mode = Mode::Ready;
+        self.mode = RegexMode::Ready;
         Ok(())
     }
 
@@ -118,7 +117,7 @@ impl Reader {
             Some(alternative) => {
                 self.end_branch()?;
                 self.alternative = alternative;
-                self.mode = Mode::Atom;
+                self.mode = RegexMode::Atom;
                 Ok(())
             }
             None => Err(ReadFault::NoExpression),
@@ -134,7 +133,7 @@ impl Reader {
             ')' => self.close_group(),
             '|' => Ok(self.next_branch()?),
             '[' => {
-                self.mode = Mode::Open;
+                self.mode = RegexMode::Open;
                 Ok(())
             }
             '.' => Ok(self.atom(Class::Leaf(wildcard()))?),
@@ -163,7 +162,7 @@ impl Reader {
             '*' => self.quantify(0, None),
             '+' => self.quantify(1, None),
             _ => {
-                self.mode = Mode::Least(None);
+                self.mode = RegexMode::Least(None);
                 Ok(())
             }
         }
@@ -188,7 +187,7 @@ impl Reader {
     {
         match (least, c) {
             (Some(least), ',') => {
-                self.mode = Mode::Most(least, None);
+                self.mode = RegexMode::Most(least, None);
                 Ok(())
             }
             (Some(least), '}') => Ok(self.quantify(least, Some(least))?),
@@ -217,7 +216,7 @@ impl Reader {
         match c.to_digit(10) {
             Some(digit) => match number_with(least, digit) {
                 Some(number) => {
-                    self.mode = Mode::Least(Some(number));
+                    self.mode = RegexMode::Least(Some(number));
                     Ok(())
                 }
                 None => Err(ReadFault::NoExpression),
@@ -236,7 +235,7 @@ impl Reader {
         match c.to_digit(10) {
             Some(digit) => match number_with(most, digit) {
                 Some(number) => {
-                    self.mode = Mode::Most(least, Some(number));
+                    self.mode = RegexMode::Most(least, Some(number));
                     Ok(())
                 }
                 None => Err(ReadFault::NoExpression),
@@ -250,13 +249,13 @@ impl Reader {
         ensures { IsStep result (kept_of self.new) (kept.step_in (kept_of self.old).mode (symbol_of symbol) (kept_of self.old)) }
     {
         match self.mode {
-            Mode::Ready => self.piece(symbol),
-            Mode::Atom => self.behind_atom(symbol),
-            Mode::Least(least) => self.in_least(least, symbol),
-            Mode::Most(least, most) => self.in_most(least, most, symbol),
-            Mode::Open => self.behind_open(symbol),
-            Mode::Group(negated, place) => self.in_group(negated, place, symbol),
-            Mode::Closed => self.behind_closed(symbol),
+            RegexMode::Ready => self.piece(symbol),
+            RegexMode::Atom => self.behind_atom(symbol),
+            RegexMode::Least(least) => self.in_least(least, symbol),
+            RegexMode::Most(least, most) => self.in_most(least, most, symbol),
+            RegexMode::Open => self.behind_open(symbol),
+            RegexMode::Group(negated, place) => self.in_group(negated, place, symbol),
+            RegexMode::Closed => self.behind_closed(symbol),
         }
     }
 
@@ -265,8 +264,8 @@ impl Reader {
         ensures { IsFinish result (kept.finished_in (kept_of self).mode (kept_of self)) }
     {
         match self.mode {
-            Mode::Ready => self.whole(),
-            Mode::Atom => {
+            RegexMode::Ready => self.whole(),
+            RegexMode::Atom => {
                 self.join()?;
                 self.whole()
             }
@@ -296,7 +295,7 @@ impl Reader {
             groups: Vec::new(alloc),
             alternative: false,
             depth: 0,
-            mode: Mode::Ready,
+            mode: RegexMode::Ready,
         };
         reader.write(Row::Nothing)?;
         Ok(reader)

@@ -1,8 +1,8 @@
 // What an expression is written with: characters, and escapes (XML Schema Part 2, Second Edition, section F.1.1).
 ghost use Rattle.std.specs.Prelude.{◌≡◌, option_map};
 ghost use Rattle.std.specs.Str.{chars};
-ghost use Rattle.xsd_regex.specs.Symbols.{class, short_escape};
-ghost use Rattle.xsd_regex.specs.plain.Spelling.{first_of, negated_if, escape_symbol, property_symbol, named_symbol, next_symbol};
+ghost use Rattle.rng_model.specs.regexes.Symbols.{class, short_escape};
+ghost use Rattle.rng_model.specs.regexes.plain.Spelling.{first_of, negated_if, escape_symbol, property_symbol, named_symbol, next_symbol};
 ghost use Rattle.xsd_regex.specs.views.Symbols.{symbol_of};
 ghost use Rattle.xsd_regex.specs.views.Classes.{set_class};
 

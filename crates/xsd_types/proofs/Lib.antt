@@ -6,3 +6,6 @@ pub mod CountedNumbers
 pub mod Items
 pub mod Values
 pub mod SpacedWords
+pub mod Restricted
+pub mod NumeralRuns
+pub mod AsciiWords

@@ -3,11 +3,12 @@ ghost use Rattle.std.specs.Prelude.{◌≡◌, not};
 ghost use Rattle.std.specs.Option.{option_map};
 ghost use Rattle.rng_model.specs.datatypes.Facets.{named};
 ghost use Rattle.rng_model.specs.xsd.Datatypes.{depends_on_context, from_to, from, up_to, unbounded, text_types, number_types, complete_types};
-ghost use Rattle.xsd_types.specs.views.Kinds.{maker_of};
+ghost use Rattle.xsd_types.specs.views.Kinds.{maker_of, white_space_of};
 
 use crate::lists::ItemKind;
-use crate::range::Range;
+use crate::range::WrittenRange;
 use crate::words::WordKind;
+use xsd_patterns::WhiteSpace;
 
 /// The kind of a type: what its values are, and which parameters it takes.
 #[derive(Clone, Copy)]
@@ -15,7 +16,7 @@ pub(crate) enum Kind {
     Text(TextKind),
     Boolean,
     QName,
-    Integer(Range),
+    Integer(WrittenRange),
 }
 
 /// The kind of a type whose values are texts of a number of characters, or lists of a number of items.
@@ -28,6 +29,17 @@ pub(crate) enum TextKind {
     NmToken,
     Word(WordKind),
     List(ItemKind),
+}
+
+// how the white space of a text is treated before anything else is asked of it
+pub(crate) fn white_space_of(kind: &Kind) -> WhiteSpace
+    ensures { result ≡ white_space_of kind.now }
+{
+    match kind {
+        Kind::Text(TextKind::String) => WhiteSpace::Preserve,
+        Kind::Text(TextKind::NormalizedString) => WhiteSpace::Replace,
+        _ => WhiteSpace::Collapse,
+    }
 }
 
 // the kind of the type of that name
@@ -95,7 +107,7 @@ pub fn takes_values(name: &str) -> bool
 fn from_to(least: &'static str, greatest: &'static str) -> Kind
     ensures { maker_of result ≡ from_to least.now greatest.now }
 {
-    Kind::Integer(Range {
+    Kind::Integer(WrittenRange {
         least: Some(least),
         greatest: Some(greatest),
     })
@@ -104,7 +116,7 @@ fn from_to(least: &'static str, greatest: &'static str) -> Kind
 fn from(least: &'static str) -> Kind
     ensures { maker_of result ≡ from least.now }
 {
-    Kind::Integer(Range {
+    Kind::Integer(WrittenRange {
         least: Some(least),
         greatest: None,
     })
@@ -113,7 +125,7 @@ fn from(least: &'static str) -> Kind
 fn up_to(greatest: &'static str) -> Kind
     ensures { maker_of result ≡ up_to greatest.now }
 {
-    Kind::Integer(Range {
+    Kind::Integer(WrittenRange {
         least: None,
         greatest: Some(greatest),
     })
@@ -122,7 +134,7 @@ fn up_to(greatest: &'static str) -> Kind
 fn unbounded() -> Kind
     ensures { maker_of result ≡ unbounded }
 {
-    Kind::Integer(Range {
+    Kind::Integer(WrittenRange {
         least: None,
         greatest: None,
     })

@@ -1,9 +1,10 @@
 //! The datatypes of the sets with which a schema is compiled: which texts each allows, and which texts are equal in it.
 //!
 //! Each datatype follows the table of `rng_model/specs/xsd/Datatypes.antt`, and proves the laws of `rng_types::Datatype`. A
-//! text is judged without memory. A search copies the texts of bounds.
+//! text is judged without memory. A search compiles the patterns.
 #![tactic(auto)]
 
+mod bound;
 mod counts;
 mod fault;
 mod integers;
@@ -11,22 +12,27 @@ mod kind;
 mod known;
 mod languages;
 mod lengths;
+mod limits;
 mod lists;
 mod names;
 mod normalized;
 mod number_facets;
 mod numerals;
+mod plain_type;
 mod range;
 mod words;
 mod xsd_type;
 
+pub use bound::Bound;
 pub use fault::TypeFault;
 pub use integers::Integer;
 pub use kind::takes_values;
 pub use known::{KnownDatatype, takes_values_in};
+pub use limits::Limits;
 pub use lists::{ItemKind, List};
 pub use normalized::NormalizedString;
 pub use number_facets::NumberFacets;
+pub use plain_type::PlainType;
 pub use range::Range;
 pub use words::{Word, WordKind};
 pub use xsd_type::XsdType;

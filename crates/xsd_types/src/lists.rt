@@ -7,8 +7,9 @@ ghost use Rattle.rng_types.specs.views.View.{lengths_of};
 ghost use Rattle.rng_model.specs.xsd.Types.{xsd_list};
 ghost use Rattle.xsd_types.specs.views.View.{item_test};
 
-use rng_model::{Pieces, is_ncname};
-use rng_types::{Lengths, is_nmtoken, is_same_collapsed};
+use crate::names::{is_ncname, is_nmtoken};
+use rng_model::Pieces;
+use rng_types::{Lengths, is_same_collapsed};
 
 /// What the items of a list are.
 #[derive(Clone, Copy, Debug)]

@@ -1,14 +1,15 @@
 // Integers of any number of digits, as a sign and digits of a text.
-ghost use Rattle.std.specs.Prelude.{◌≡◌, ◌==◌, ◌&&◌, not, int_le, int_lt, length, option_copied, IfSome};
+ghost use Rattle.std.specs.Prelude.{◌≡◌, ◌==◌, ◌&&◌, not, int_le, int_lt, length, true, false, IfSome, MatchOption};
 ghost use Rattle.std.specs.Ordering.{int_cmp, int_eq, nat_cmp};
-ghost use Rattle.std.specs.Option.{option_map, option_and_then};
+ghost use Rattle.std.specs.Option.{option_map};
 ghost use Rattle.std.specs.Str.Parse.{starts_with_minus, digits_value};
 ghost use Rattle.rng_model.specs.datatypes.Facets.{passes};
 ghost use Rattle.rng_model.specs.xsd.Numbers.{are_digits, integer_of, written_integer};
-ghost use Rattle.rng_model.specs.xsd.Facets.{has_digits};
+ghost use Rattle.rng_model.specs.xsd.Integers.{has_digits};
+ghost use Rattle.rng_types.specs.plain.Runs.{from_run};
 ghost use Rattle.xsd_types.specs.plain.Digits.{past_zeros, AreSignificant, IsNumeral, value_of};
 
-use rng_types::{are_digits, only_piece, without_sign};
+use rng_types::{digits_len, is_blank, past_blanks, without_sign};
 use std::cmp::Ordering;
 
 /// An integer: whether it is negative, and its digits, without zeros in front. Zero has no digits and is not negative.
@@ -23,33 +24,41 @@ pub(crate) fn read_numeral(text: &str) -> Option<Numeral<'_>>
     ensures value { option_map value_of result ≡ written_integer text.now }
     ensures numeral { IfSome result IsNumeral }
 {
-    match only_piece(text) {
-        Some(piece) => numeral_in(piece.as_bytes()),
+    numeral_in(past_blanks(text.as_bytes()))
+}
+
+// the integer that the collapsed text writes, without the blanks that it begins with
+fn numeral_in(bytes: &[u8]) -> Option<Numeral<'_>>
+    ensures value { option_map value_of result ≡ integer_of (from_run bytes.now) }
+    ensures numeral { IfSome result IsNumeral }
+{
+    match only_digits(without_sign(bytes)) {
+        Some(digits) => Some(signed(is_negative(bytes), past_zeros(digits))),
         None => None,
     }
 }
 
-// the integer that the text writes
-fn numeral_in(bytes: &[u8]) -> Option<Numeral<'_>>
-    ensures value { option_map value_of result ≡ integer_of bytes.now }
-    ensures numeral { IfSome result IsNumeral }
+// the digits that the bytes are, but for blanks behind them
+fn only_digits(bytes: &[u8]) -> Option<&[u8]>
+    ensures { MatchOption result (are_digits (from_run bytes.now) ≡ false)
+        (λ digits. (are_digits digits.now ≡ true) × (from_run bytes.now ≡ digits.now)) }
 {
-    let digits = without_sign(bytes);
-    if !is_some_digits(digits) {
+    let (digits, after) = bytes.split_at(digits_len(bytes));
+    if digits.is_empty() || !is_blank(after) {
         return None;
     }
-    let significant = past_zeros(digits);
-    Some(Numeral {
-        negative: is_below_zero(is_negative(bytes), significant),
-        digits: significant,
-    })
+    Some(digits)
 }
 
-// whether a minus makes a number negative: zero has no digits that count
-fn is_below_zero(minus: bool, digits: &[u8]) -> bool
-    ensures { result ≡ (minus && not (length digits.now == 0)) }
+// the number of these digits; zero has none, and is not negative
+fn signed(minus: bool, digits: &[u8]) -> Numeral<'_>
+    ensures sign { result.negative ≡ (minus && not (length result.digits.now == 0)) }
+    ensures digits { result.digits.now ≡ digits.now }
 {
-    minus && !digits.is_empty()
+    Numeral {
+        negative: minus && !digits.is_empty(),
+        digits,
+    }
 }
 
 fn is_negative(bytes: &[u8]) -> bool
@@ -59,13 +68,6 @@ fn is_negative(bytes: &[u8]) -> bool
         [b'-', ..] => true,
         _ => false,
     }
-}
-
-// whether there is a digit, and nothing else
-fn is_some_digits(bytes: &[u8]) -> bool
-    ensures { result ≡ are_digits bytes.now }
-{
-    !bytes.is_empty() && are_digits(bytes)
 }
 
 // the digits without the zeros in front
@@ -130,58 +132,6 @@ fn compare_digits(a: &[u8], b: &[u8]) -> Ordering
         a.cmp(b)
     } else {
         a.len().cmp(&b.len())
-    }
-}
-
-// whether the number is at least the bound that a text writes, if there is one
-pub(crate) fn is_no_less(n: &Numeral<'_>, least: Option<&str>) -> bool
-    requires { IsNumeral n.now }
-    ensures { result ≡ passes (λ b. int_le b (value_of n.now)) (option_and_then written_integer (option_copied least.entry)) }
-{
-    match bound(least) {
-        Some(least) => is_at_most(&least, n),
-        None => true,
-    }
-}
-
-pub(crate) fn is_no_more(n: &Numeral<'_>, greatest: Option<&str>) -> bool
-    requires { IsNumeral n.now }
-    ensures { result ≡ passes (λ b. int_le (value_of n.now) b) (option_and_then written_integer (option_copied greatest.entry)) }
-{
-    match bound(greatest) {
-        Some(greatest) => is_at_most(n, &greatest),
-        None => true,
-    }
-}
-
-pub(crate) fn is_more(n: &Numeral<'_>, below: Option<&str>) -> bool
-    requires { IsNumeral n.now }
-    ensures { result ≡ passes (λ b. int_lt b (value_of n.now)) (option_and_then written_integer (option_copied below.entry)) }
-{
-    match bound(below) {
-        Some(below) => is_below(&below, n),
-        None => true,
-    }
-}
-
-pub(crate) fn is_less(n: &Numeral<'_>, above: Option<&str>) -> bool
-    requires { IsNumeral n.now }
-    ensures { result ≡ passes (λ b. int_lt (value_of n.now) b) (option_and_then written_integer (option_copied above.entry)) }
-{
-    match bound(above) {
-        Some(above) => is_below(n, &above),
-        None => true,
-    }
-}
-
-// the number that a bound writes, if there is one
-pub(crate) fn bound(text: Option<&str>) -> Option<Numeral<'_>>
-    ensures value { option_map value_of result ≡ option_and_then written_integer (option_copied text.entry) }
-    ensures numeral { IfSome result IsNumeral }
-{
-    match text {
-        Some(text) => read_numeral(text),
-        None => None,
     }
 }
 

@@ -1,13 +1,15 @@
 // Types whose values are the collapsed texts that pass a test.
-ghost use Rattle.std.specs.Prelude.{◌≡◌};
+ghost use Rattle.std.specs.Prelude.{◌≡◌, true};
+ghost use Rattle.std.specs.List.{list_all};
 ghost use Rattle.rng_model.specs.datatypes.Datatypes.{is_allowed_by, are_equal_by};
+ghost use Rattle.rng_types.specs.plain.Words.{is_word_byte};
 ghost use Rattle.rng_types.specs.views.View.{lengths_of};
 ghost use Rattle.rng_model.specs.xsd.Types.{xsd_word};
 ghost use Rattle.xsd_types.specs.views.View.{word_test};
 
 use crate::languages::is_language;
 use crate::names::{is_name, is_qname};
-use rng_types::{Lengths, char_count, is_same_collapsed, only_piece};
+use rng_types::{Lengths, ascii_word, char_count, is_same_collapsed, only_piece, starts_name};
 
 /// Which texts a type allows whose values are collapsed texts without a blank.
 #[derive(Clone, Copy, Debug)]
@@ -33,6 +35,11 @@ impl Word {
     pub(crate) fn allows(&self, text: &str) -> bool
         ensures { result ≡ is_allowed_by (xsd_word (word_test self.now.kind) (lengths_of self.now.lengths)) text.now }
     {
+        if let Some(word) = ascii_word(text)
+            && self.kind.is_ascii(word)
+        {
+            return self.lengths.allow(word.len());
+        }
         match only_piece(text) {
             Some(word) => self.kind.is_word(word) && self.lengths.allow(char_count(word)),
             None => false,
@@ -48,6 +55,19 @@ impl Word {
 }
 
 impl WordKind {
+    // whether the word of ASCII letters, digits, `_`, `-` and `.` is one of these
+    #[tactic(auto, using(crate::proofs::AsciiWords::name_ascii, crate::proofs::AsciiWords::qname_ascii))]
+    fn is_ascii(&self, word: &[u8]) -> bool
+        requires { list_all is_word_byte word.now ≡ true }
+        ensures { result ≡ true → word_test self.now word.now ≡ true }
+    {
+        match self {
+            WordKind::Language => is_language(word),
+            WordKind::Name => starts_name(word),
+            WordKind::QName => starts_name(word),
+        }
+    }
+
     fn is_word(&self, word: &str) -> bool
         ensures { result ≡ word_test self.now word.now }
     {

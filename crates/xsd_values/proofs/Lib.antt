@@ -2,7 +2,6 @@ mod Examples
 pub mod MatchedUris
 pub mod CalendarLaws
 pub mod ZoneLaws
-pub mod IntegerLimits
 pub mod OneDecimal
 pub mod CanonicalDecimals
 pub mod DigitLaws

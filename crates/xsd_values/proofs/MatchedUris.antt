@@ -2,7 +2,7 @@
 use Rattle.std.proofs.Common.{◌≡◌, ◌↔◌, ℕ, List, [], ◌∷◌, Bool, true}
 use Rattle.std.specs.List.{list_any}
 use Rattle.std.specs.Str.{chars}
-use Rattle.xsd_regex.specs.plain.LinearForms.{ends, states_behind}
+use Rattle.rng_model.specs.regexes.plain.LinearForms.{ends, states_behind}
 use Rattle.xsd_regex.proofs.Runs.{matched_by_run}
 use Rattle.xsd_values.specs.Uris.{uri_reference, IsUri}
 

@@ -1,16 +1,17 @@
--- Values pass the test exactly if they are the same.
-use Rattle.std.proofs.Common.{◌≡◌, ℕ, Bool, true, false, ℤ, refl, sym, ap, ap₂, ◌∙◌, ◌==◌, ◌&&◌, rules, Float}
+-- Decimals, floats, moments and durations pass the test exactly if they are the same, and so do their values.
+use Rattle.std.proofs.Common.{◌≡◌, ℕ, zero, suc, Bool, true, false, ℤ, pos, negsuc, List, [], ◌∷◌, refl, sym, ap, ap₂, subst, ◌∙◌, ◌==◌, ◌&&◌, rules, Float}
 use Rattle.std.specs.Bool.{beq, Decides}
 use Rattle.std.specs.Ordering.{int_eq}
 use Rattle.std.specs.Float.{nan, inf, fin}
 use Rattle.std.proofs.lemmas.Bool.{and_parts, and_from}
 use Rattle.std.proofs.lemmas.Bool.Decides.{Decides-eqb, Decides-int_eq}
-use Rattle.std.proofs.lemmas.Slice.Eq.{bytes_eq-Decides}
+use Rattle.rng_model.specs.datatypes.Texts.{Value, text, truth, number, numbers, same_value}
+use Rattle.rng_model.proofs.ValueLaws.{same_value-is, same_value-self}
 use Rattle.xsd_values.specs.Decimals.{Decimal, same_decimal}
 use Rattle.xsd_values.specs.Floats.{same_float}
 use Rattle.xsd_values.specs.Zones.{Moment, same_moment}
 use Rattle.xsd_values.specs.Durations.{Duration, same_date_part, same_time_part, same_duration}
-use Rattle.xsd_values.specs.Values.{Value, text, decimal, float, moment, duration, have_same_value}
+use Rattle.xsd_values.specs.Values.{of_truth, of_integer, decimal, float, moment, duration}
 
 truth_decides : (a b : Bool) → Decides (beq a b) (a ≡ b)
 truth_decides true true = (λ e. refl, λ e. refl)
@@ -102,38 +103,94 @@ duration_self a =
     and_from (beq a.negative a.negative) (same_date_part a a && same_time_part a a) ((truth_decides a.negative a.negative).1 refl)
     (and_from (same_date_part a a) (same_time_part a a) (three_self a.years a.months a.days) (three_self a.hours a.minutes a.seconds))
 
--- ---- values
+-- ---- values: a test of the things themselves, and their values, from which each can be had again
 
-pub value_is : (a b : Value) → have_same_value a b ≡ true → a ≡ b
-value_is (text v) (text w) e = ap text ((bytes_eq-Decides v w).0 e)
-value_is (text v) (decimal b) e = search rules
-value_is (text v) (float b) e = search rules
-value_is (text v) (moment b) e = search rules
-value_is (text v) (duration b) e = search rules
-value_is (decimal a) (text w) e = search rules
-value_is (decimal a) (decimal b) e = ap decimal (decimal_is a b e)
-value_is (decimal a) (float b) e = search rules
-value_is (decimal a) (moment b) e = search rules
-value_is (decimal a) (duration b) e = search rules
-value_is (float a) (text w) e = search rules
-value_is (float a) (decimal b) e = search rules
-value_is (float a) (float b) e = ap float (float_is a b e)
-value_is (float a) (moment b) e = search rules
-value_is (float a) (duration b) e = search rules
-value_is (moment a) (text w) e = search rules
-value_is (moment a) (decimal b) e = search rules
-value_is (moment a) (float b) e = search rules
-value_is (moment a) (moment b) e = ap moment (moment_is a b e)
-value_is (moment a) (duration b) e = search rules
-value_is (duration a) (text w) e = search rules
-value_is (duration a) (decimal b) e = search rules
-value_is (duration a) (float b) e = search rules
-value_is (duration a) (moment b) e = search rules
-value_is (duration a) (duration b) e = ap duration (duration_is a b e)
+both_ways : (p q : Bool) → (p ≡ true → q ≡ true) → (q ≡ true → p ≡ true) → p ≡ q
+both_ways true q on back = sym (on refl)
+both_ways false true on back = back refl
+both_ways false false on back = refl
 
-pub value_self : (a : Value) → have_same_value a a ≡ true
-value_self (text v) = (bytes_eq-Decides v v).1 refl
-value_self (decimal a) = decimal_self a
-value_self (float a) = float_self a
-value_self (moment a) = moment_self a
-value_self (duration a) = duration_self a
+module _ {A : Type 0} (value : A → Value) (from : Value → A) (again : (a : A) → from (value a) ≡ a) where
+  same_thing : (a b : A) → same_value (value a) (value b) ≡ true → a ≡ b
+  same_thing a b e = sym (again a) ∙ (ap from (same_value-is (value a) (value b) e) ∙ again b)
+
+  module _ (same : A → A → Bool) (is : (a b : A) → same a b ≡ true → a ≡ b) (self : (a : A) → same a a ≡ true) where
+    same_if : (a b : A) → same_value (value a) (value b) ≡ same a b
+    same_if a b =
+        both_ways (same_value (value a) (value b)) (same a b)
+        (λ e. subst (λ x. same a x ≡ true) (same_thing a b e) (self a))
+        (λ e. subst (λ x. same_value (value a) (value x) ≡ true) (is a b e) (same_value-self (value a)))
+
+-- ---- the numbers of a value, and what they were made of
+
+abbrev parts : Value → List ℕ
+parts (text s) = []
+parts (truth b) = []
+parts (number n) = []
+parts (numbers ns) = ns
+
+abbrev truth_from : ℕ → Bool
+truth_from zero = false
+truth_from (suc n) = true
+
+truth_again : (b : Bool) → truth_from (of_truth b) ≡ b
+truth_again true = refl
+truth_again false = refl
+
+abbrev integer_from : List ℕ → ℤ
+integer_from [] = pos 0
+integer_from (s ∷ []) = pos 0
+integer_from (zero ∷ n ∷ ns) = pos n
+integer_from (suc s ∷ n ∷ ns) = negsuc n
+
+integer_again : (n : ℤ) → integer_from (of_integer n) ≡ n
+integer_again (pos n) = refl
+integer_again (negsuc n) = refl
+
+abbrev decimal_from : List ℕ → Decimal
+decimal_from [] = record { units = pos 0; places = 0 }
+decimal_from (n ∷ ns) = record { units = integer_from ns; places = n }
+
+pub same_decimal_value : (a b : Decimal) → same_value (decimal a) (decimal b) ≡ same_decimal a b
+same_decimal_value =
+    same_if decimal (λ v. decimal_from (parts v)) (λ d. ap (λ u. record { units = u; places = d.places }) (integer_again d.units))
+    same_decimal decimal_is decimal_self
+
+abbrev float_from : List ℕ → Float
+float_from [] = nan
+float_from (s ∷ []) = inf (truth_from s)
+float_from (s ∷ m ∷ ns) = fin (truth_from s) m (integer_from ns)
+
+float_again : (x : Float) → float_from (parts (float x)) ≡ x
+float_again nan = refl
+float_again (inf s) = ap inf (truth_again s)
+float_again (fin s m e) = ap₂ (λ t d. fin t m d) (truth_again s) (integer_again e)
+
+pub same_float_value : (a b : Float) → same_value (float a) (float b) ≡ same_float a b
+same_float_value = same_if float (λ v. float_from (parts v)) float_again same_float float_is float_self
+
+abbrev moment_from : List ℕ → Moment
+moment_from [] = record { zoned = false; at = 0 }
+moment_from (z ∷ []) = record { zoned = false; at = 0 }
+moment_from (z ∷ n ∷ ns) = record { zoned = truth_from z; at = n }
+
+pub same_moment_value : (a b : Moment) → same_value (moment a) (moment b) ≡ same_moment a b
+same_moment_value =
+    same_if moment (λ v. moment_from (parts v)) (λ m. ap (λ z. record { zoned = z; at = m.at }) (truth_again m.zoned))
+    same_moment moment_is moment_self
+
+abbrev nothing_long : Duration
+nothing_long = record { negative = false; years = 0; months = 0; days = 0; hours = 0; minutes = 0; seconds = 0 }
+
+abbrev duration_from : List ℕ → Duration
+duration_from (s ∷ y ∷ m ∷ d ∷ h ∷ n ∷ t ∷ ns) =
+    record { negative = truth_from s; years = y; months = m; days = d; hours = h; minutes = n; seconds = t }
+duration_from _ = nothing_long
+
+duration_again : (d : Duration) → duration_from (parts (duration d)) ≡ d
+duration_again d =
+    ap (λ s. record { negative = s; years = d.years; months = d.months; days = d.days; hours = d.hours; minutes = d.minutes; seconds = d.seconds })
+    (truth_again d.negative)
+
+pub same_duration_value : (a b : Duration) → same_value (duration a) (duration b) ≡ same_duration a b
+same_duration_value = same_if duration (λ v. duration_from (parts v)) duration_again same_duration duration_is duration_self

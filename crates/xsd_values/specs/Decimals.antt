@@ -10,7 +10,7 @@ use Rattle.rng_model.specs.datatypes.Texts.{collapse}
 use Rattle.rng_model.specs.datatypes.Facets.{passes, Parameter}
 use Rattle.rng_model.specs.xsd.Numbers.{are_digits, count_of, digit_count_of}
 use Rattle.rng_model.specs.xsd.Facets.{Facets, written, is_read, clash}
-use Rattle.xsd_values.specs.Limits.{Ordered, Limits, is_within_limits, written_limits}
+use Rattle.rng_model.specs.xsd.Limits.{Ordered, Limits, is_within_limits, written_limits}
 
 -- A decimal number: an integer, divided by 10 to the number of places behind the point.
 pub record Decimal : Type 0 where

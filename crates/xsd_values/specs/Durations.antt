@@ -5,7 +5,7 @@ use Rattle.std.specs.Bool.{beq}
 use Rattle.std.specs.List.{list_all}
 use Rattle.std.specs.Str.Parse.{digits_value}
 use Rattle.rng_model.specs.datatypes.Texts.{has_bytes, collapse}
-use Rattle.xsd_values.specs.Limits.{Ordered}
+use Rattle.rng_model.specs.xsd.Limits.{Ordered}
 use Rattle.xsd_values.specs.Calendar.{year_one, begins, second, minute, hour, day}
 use Rattle.xsd_values.specs.Fronts.{Front, ◌>>=◌, after, first_digits, past_digits, fraction_at}
 

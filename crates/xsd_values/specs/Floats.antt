@@ -9,7 +9,7 @@ use Rattle.std.specs.Float.{Float, Format, nan, inf, fin}
 use Rattle.std.specs.Float.Parse.{completes_number, without_sign, parse_float}
 use lib.Ieee.{lt}
 use Rattle.rng_model.specs.datatypes.Texts.{collapse}
-use Rattle.xsd_values.specs.Limits.{Ordered}
+use Rattle.rng_model.specs.xsd.Limits.{Ordered}
 
 -- the zeros are one value (section 3.2.4: a value is m × 2 ^ e for integers m and e)
 abbrev pub one_zero : Float → Float

@@ -1,5 +1,3 @@
-pub mod Limits
-pub mod Integers
 pub mod Decimals
 pub mod Floats
 pub mod Octets

@@ -3,24 +3,18 @@
 use Rattle.std.specs.Prelude.{codes, ℕ, List, [], ◌∷◌, Bool, Option, Some, None, ◌&&◌, if◌then◌else◌}
 use Rattle.std.specs.Option.{option_map, option_and_then}
 use Rattle.std.specs.Float.{binary32, binary64}
-use Rattle.rng_model.specs.datatypes.Texts.{collapse}
+use Rattle.rng_model.specs.datatypes.Texts.{collapse, Value, text}
 use Rattle.rng_model.specs.datatypes.Facets.{fits, is_within, Parameter, named}
+use Rattle.rng_model.specs.datatypes.Datatypes.{Meaning, Maker}
 use Rattle.rng_model.specs.xsd.Facets.{written_lengths}
-use Rattle.xsd_values.specs.Limits.{Ordered, is_within_limits, written_limits}
+use Rattle.rng_model.specs.xsd.Limits.{Ordered, is_within_limits, written_limits}
 use Rattle.xsd_values.specs.Decimals.{decimals, is_within_decimal_facets, written_decimal_facets}
 use Rattle.xsd_values.specs.Floats.{floats}
 use Rattle.xsd_values.specs.Octets.{hex_length, hex_binary_of, base64_length, base64_binary_of}
 use Rattle.xsd_values.specs.Zones.{ordered_by}
 use Rattle.xsd_values.specs.Moments.{date_time_of, time_of, date_of, year_month_of, year_of, month_day_of, day_of, month_of}
 use Rattle.xsd_values.specs.Durations.{durations}
-use Rattle.xsd_values.specs.Values.{Value, text, decimal, float, moment, duration}
-
--- the value of each text that has one, and what a type makes of its parameters
-abbrev pub Meaning : Type 0
-Meaning = List ℕ → Option Value
-
-abbrev pub Maker : Type 0
-Maker = List Parameter → Option Meaning
+use Rattle.xsd_values.specs.Values.{decimal, float, moment, duration}
 
 -- ---- with facets
 

@@ -1,7 +1,7 @@
 -- The characters of URI references, and of texts that become URI references once they are escaped (RFC 2396, section 2 and
 -- appendix A, as RFC 2732 amends it; XLink 1.0, section 5.4). The productions have the names of the RFCs.
 use Rattle.std.specs.Prelude.{codes, ℕ, List, [], ◌∷◌, map, Some, None}
-use Rattle.xsd_regex.specs.Expressions.{ranges, no_char, Regex, nothing_more, one_of, both, either, times}
+use Rattle.rng_model.specs.regexes.Expressions.{ranges, no_char, Regex, nothing_more, one_of, both, either, times}
 
 -- ---- the notation of the RFC: one after the other, one of several, any number, one or more, and one or none
 

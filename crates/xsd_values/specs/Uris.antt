@@ -2,7 +2,7 @@
 -- appendix A, as RFC 2732 amends it; XLink 1.0, section 5.4). The productions have the names of the RFCs.
 use Rattle.std.specs.Prelude.{codes, ℕ, List, [], ◌∷◌, Some}
 use Rattle.std.specs.Str.{chars}
-use Rattle.xsd_regex.specs.Expressions.{Regex, times, Matches}
+use Rattle.rng_model.specs.regexes.Expressions.{Regex, times, Matches}
 use Rattle.xsd_values.specs.UriCharacters.{in_order, any_of, many, some, optional, one_in, the}
 use Rattle.xsd_values.specs.UriCharacters.{digit, alpha, alphanum, hex, unreserved, escaped, uric, uric_no_slash, pchar}
 

@@ -1,24 +1,30 @@
--- Values of all the types that are defined here, and when two are the same (XML Schema Part 2, Second Edition, section 2.2).
-use Rattle.std.specs.Prelude.{ℕ, List, Bool, false}
-use Rattle.std.specs.Str.{bytes_eq}
-use Rattle.std.specs.Float.{Float}
-use Rattle.xsd_values.specs.Decimals.{Decimal, same_decimal}
-use Rattle.xsd_values.specs.Floats.{same_float}
-use Rattle.xsd_values.specs.Zones.{Moment, same_moment}
-use Rattle.xsd_values.specs.Durations.{Duration, same_duration}
+-- The values of these types, each by the numbers that it consists of (XML Schema Part 2, Second Edition, section 2.2). Two
+-- values of a type have the same numbers exactly if they are the same (`proofs/SameValues.antt`).
+use Rattle.std.specs.Prelude.{ℕ, List, [], ◌∷◌, Bool, true, false, ℤ, pos, negsuc}
+use Rattle.std.specs.Float.{Float, nan, inf, fin}
+use Rattle.rng_model.specs.datatypes.Texts.{Value, numbers}
+use Rattle.xsd_values.specs.Decimals.{Decimal}
+use Rattle.xsd_values.specs.Zones.{Moment}
+use Rattle.xsd_values.specs.Durations.{Duration}
 
-pub data Value : Type 0 where
-  -- a URI, or the text that writes octets
-  text : List ℕ → Value
-  decimal : Decimal → Value
-  float : Float → Value
-  moment : Moment → Value
-  duration : Duration → Value
+abbrev pub of_truth : Bool → ℕ
+of_truth false = 0
+of_truth true = 1
 
-abbrev pub have_same_value : Value → Value → Bool
-have_same_value (text v) (text w) = bytes_eq v w
-have_same_value (decimal a) (decimal b) = same_decimal a b
-have_same_value (float a) (float b) = same_float a b
-have_same_value (moment a) (moment b) = same_moment a b
-have_same_value (duration a) (duration b) = same_duration a b
-have_same_value _ _ = false
+abbrev pub of_integer : ℤ → List ℕ
+of_integer (pos n) = 0 ∷ n ∷ []
+of_integer (negsuc n) = 1 ∷ n ∷ []
+
+abbrev pub decimal : Decimal → Value
+decimal d = numbers (d.places ∷ of_integer d.units)
+
+abbrev pub float : Float → Value
+float nan = numbers []
+float (inf minus) = numbers (of_truth minus ∷ [])
+float (fin minus m e) = numbers (of_truth minus ∷ m ∷ of_integer e)
+
+abbrev pub moment : Moment → Value
+moment m = numbers (of_truth m.zoned ∷ m.at ∷ [])
+
+abbrev pub duration : Duration → Value
+duration d = numbers (of_truth d.negative ∷ d.years ∷ d.months ∷ d.days ∷ d.hours ∷ d.minutes ∷ d.seconds ∷ [])

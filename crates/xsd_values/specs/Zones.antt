@@ -3,7 +3,7 @@ use Rattle.std.specs.Prelude.{ℕ, ◌+◌, ◌-◌, ◌*◌, List, [], ◌∷�
 use Rattle.std.specs.Bool.{beq}
 use Rattle.std.specs.Option.{option_map}
 use Rattle.rng_model.specs.datatypes.Texts.{collapse}
-use Rattle.xsd_values.specs.Limits.{Ordered}
+use Rattle.rng_model.specs.xsd.Limits.{Ordered}
 use Rattle.xsd_values.specs.Calendar.{minute, hour}
 use Rattle.xsd_values.specs.Fronts.{Front, ◌>>=◌, after, two_digits}
 

@@ -2,7 +2,7 @@
 use Rattle.std.specs.Prelude.{◌≡◌, ℕ, ◌==◌, Bool, true, false, ◌&&◌, not, List, [], ◌∷◌, ◌++◌}
 use Rattle.rng_model.specs.datatypes.Texts.{is_blank}
 use Rattle.rng_model.specs.documents.PyxTrees.{Event, EventKind, a_start, a_string, an_end}
-use Rattle.element_events.specs.Telling.{IsGood, depth_after, text_after, events_at}
+use Rattle.rng_model.specs.documents.Telling.{IsGood, depth_after, text_after, events_at}
 
 pub record State : Type 0 where
   -- how many elements are open

@@ -1,7 +1,7 @@
 -- What is kept between calls, and the calls and events that it stands for.
 use Rattle.std.specs.Prelude.{◌≡◌, ⊤, List, [], ◌∷◌, ◌++◌, false, true, Option, Some, None, Result, Ok, Err, ◌⊎◌, string_bytes}
 use Rattle.rng_model.specs.documents.PyxTrees.{Event, Placed}
-use Rattle.element_events.specs.Telling.{IsGood, events_at, NoneBegins, TellsTheDocument, TellsDocument}
+use Rattle.rng_model.specs.documents.Telling.{IsGood, events_at, NoneBegins, TellsTheDocument, TellsDocument}
 use Rattle.element_events.specs.plain.Calls as plain
 use Rattle.element_events.specs.plain.Calls.{after, is_misplaced, AreTaken}
 use Rattle.element_events.specs.declared.state.State.{State}

@@ -12,7 +12,8 @@ use Rattle.rng_deriv_events.specs.views.Numbers.{Longer}
 use Rattle.rng_deriv_events.specs.views.States.{state_of, IsStateInside}
 use Rattle.rng_deriv_events.specs.views.Strings.{IsHeld, IsHeldInside}
 use Rattle.rng_deriv_events.specs.views.OpenPositions.{OpenPosition, IsPositionKept, open_position}
-use Rattle.rng_model.specs.matching.Outcomes.{KnowsName, FailsAt}
+use Rattle.rng_model.specs.matching.Outcomes.{KnowsName}
+use Rattle.rng_deriv_laws.specs.plain.Outcomes.{FailsAt}
 use Rattle.rng_deriv_events.specs.declared.position.Position.{Position}
 use Rattle.rng_deriv_events.specs.declared.progress.Progress.{Progress}
 use Rattle.rng_deriv_events.specs.declared.progress.Progress.TheVariants as progress

@@ -113,25 +113,25 @@ module _ (g : Reading) where
 -- ---- the laws
 
 pub levels_answer : LevelsAnswer
-levels_answer g tests m bytes d is s =
-    let r = s.runs 0 (document_closes bytes d is) in
-    let a = runs_answer (level_meaning (reading g tests)) g tests s.first m.state m.has_begun m.held bytes d is s.start r.1 in
+levels_answer g tests m d is s =
+    let r = s.runs 0 (document_closes d is) in
+    let a = runs_answer (level_meaning (reading g tests)) g tests s.first m.state m.has_begun m.held d is s.start r.1 in
     let e = ended (reading g tests) m.state r.0 in
     (λ h. a.0 (e.1 h), λ v. e.0 (a.1 v))
 
 pub no_levels_are_invalid : NoLevelsAreInvalid
-no_levels_are_invalid g tests m es more s all bytes d is parts =
-    let o = ends_open bytes d is (kinds es) (kinds more) (ap kinds parts ∙ kinds_append es more) in
+no_levels_are_invalid g tests m es more s all d is parts =
+    let o = ends_open d is (kinds es) (kinds more) (ap kinds parts ∙ kinds_append es more) in
     let r = s.runs o.0 o.1 in
     empty_stays_invalid (level_meaning (reading g tests)) g tests s.first m.state m.has_begun m.held es more s.start r.1
-    (none_allowed (reading g tests) m.state all) bytes d is parts
+    (none_allowed (reading g tests) m.state all) d is parts
 
 pub no_end_is_invalid : NoEndIsInvalid
-no_end_is_invalid g tests m bytes d is s none more bytes' d' is' parts v =
+no_end_is_invalid g tests m d is s none more d' is' parts v =
     let all : kinds (events_of d') ≡ kinds (events_of d) ++ kinds more = ap kinds parts ∙ kinds_append (events_of d) more in
-    let nothing = nothing_behind_document bytes bytes' d d' is is' (kinds more) all in
+    let nothing = nothing_behind_document d d' is is' (kinds more) all in
     let same : kinds (events_of d') ≡ kinds (events_of d) = all ∙ ap (λ l. kinds (events_of d) ++ l) nothing ∙ append-nil (kinds (events_of d)) in
-    let h = (levels_answer g tests m bytes' d' is' (subst (StandsFor (reading g tests) m) (sym same) s)).1 v in
+    let h = (levels_answer g tests m d' is' (subst (StandsFor (reading g tests) m) (sym same) s)).1 v in
     none h.0 h.1 h.2
 
 pub unknown_name_leaves_none : UnknownNameLeavesNone

@@ -7,7 +7,8 @@ use Rattle.rng_model.specs.matching.GrammarMatching.{IsValidBy, Reading}
 use Rattle.rng_model.specs.simple.Grammar.{Grammar}
 use Rattle.rng_model.specs.restrictions.Restrictions.{ClassIn}
 use Rattle.rng_model.specs.datatypes.Texts.{is_blank, TextTests, texts_of}
-use Rattle.rng_model.specs.documents.PyxTrees.{Event, EventKind, a_start, a_string, an_end, Placed, item_of, events_of, IsPyxDocument}
+use Rattle.rng_model.specs.documents.ElementTrees.{IsElementTree}
+use Rattle.rng_model.specs.documents.PyxTrees.{Event, EventKind, a_start, a_string, an_end, Placed, item_of, events_of}
 use Rattle.rng_deriv_laws.specs.plain.Derivatives.{is_nullable, is_not_allowed}
 use Rattle.rng_deriv_laws.specs.plain.Events.{kinds, open_after}
 use Rattle.rng_deriv_laws.specs.plain.Laws.{reading}
@@ -50,21 +51,21 @@ module _ (g : Reading) where
 
 -- after the events of a document some alternative is nullable exactly if the document is valid (section 6.3)
 abbrev pub LevelsAnswer : Type 0
-LevelsAnswer = (g : Grammar) (tests : TextTests) (m : LevelMatcher) (bytes : List ℕ) (d : Placed) → IsPyxDocument bytes d →
+LevelsAnswer = (g : Grammar) (tests : TextTests) (m : LevelMatcher) (d : Placed) → IsElementTree d →
     StandsFor (reading g tests) m (kinds (events_of d)) →
     ((p : Simple ℕ) × Contains m.state.now p × (is_nullable p ≡ true)) ↔ IsValidBy g (texts_of tests) (item_of d)
 
 -- if all alternatives are notAllowed, no document that begins with the events so far is valid
 abbrev pub NoLevelsAreInvalid : Type 0
 NoLevelsAreInvalid = (g : Grammar) (tests : TextTests) (m : LevelMatcher) (es more : List Event) → StandsFor (reading g tests) m (kinds es) →
-    All (λ p. is_not_allowed p ≡ true) m.state.now → (bytes : List ℕ) (d : Placed) → IsPyxDocument bytes d → events_of d ≡ es ++ more
+    All (λ p. is_not_allowed p ≡ true) m.state.now → (d : Placed) → IsElementTree d → events_of d ≡ es ++ more
     → ¬ (IsValidBy g (texts_of tests) (item_of d))
 
 -- if no alternative is nullable after the events of a document, no document that begins with these events is valid
 abbrev pub NoEndIsInvalid : Type 0
-NoEndIsInvalid = (g : Grammar) (tests : TextTests) (m : LevelMatcher) (bytes : List ℕ) (d : Placed) → IsPyxDocument bytes d →
+NoEndIsInvalid = (g : Grammar) (tests : TextTests) (m : LevelMatcher) (d : Placed) → IsElementTree d →
     StandsFor (reading g tests) m (kinds (events_of d)) → ((p : Simple ℕ) → Contains m.state.now p → ¬ (is_nullable p ≡ true)) →
-    (more : List Event) (bytes' : List ℕ) (d' : Placed) → IsPyxDocument bytes' d' → events_of d' ≡ events_of d ++ more
+    (more : List Event) (d' : Placed) → IsElementTree d' → events_of d' ≡ events_of d ++ more
     → ¬ (IsValidBy g (texts_of tests) (item_of d'))
 
 -- no alternative is left after a start whose name is in the class of no element

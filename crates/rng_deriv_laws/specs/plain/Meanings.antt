@@ -8,7 +8,8 @@ use Rattle.rng_model.specs.plain.WellFormed.{Separate}
 use Rattle.rng_model.specs.matching.GrammarMatching.{IsValidBy, Reading}
 use Rattle.rng_model.specs.simple.Grammar.{Grammar}
 use Rattle.rng_model.specs.datatypes.Texts.{is_blank, TextTests, texts_of}
-use Rattle.rng_model.specs.documents.PyxTrees.{Event, EventKind, a_start, a_string, an_end, Placed, item_of, events_of, IsPyxDocument}
+use Rattle.rng_model.specs.documents.ElementTrees.{IsElementTree}
+use Rattle.rng_model.specs.documents.PyxTrees.{Event, EventKind, a_start, a_string, an_end, Placed, item_of, events_of}
 use Rattle.rng_deriv_laws.specs.plain.Taking.{Takes}
 use Rattle.rng_deriv_laws.specs.plain.Blanks.{Every, IsNotBlank, has_element, without_blanks, string_of}
 use Rattle.rng_deriv_laws.specs.plain.Events.{kinds}
@@ -73,12 +74,12 @@ module _ {S : Type 0} (means : S → Meaning) where
   -- from the start, the events of a document lead to a state that allows the end of the document exactly if the
   -- document is valid
   abbrev pub RunsAnswer : Type 0
-  RunsAnswer = (g : Grammar) (tests : TextTests) (m n : S) (b : Bool) (held : List ℕ) (bytes : List ℕ) (d : Placed) → IsPyxDocument bytes d →
+  RunsAnswer = (g : Grammar) (tests : TextTests) (m n : S) (b : Bool) (held : List ℕ) (d : Placed) → IsElementTree d →
       IsStart (reading g tests) (means m) → Runs m false [] (kinds (events_of d)) n b held
       → (means n).holds ([] ∷ []) ↔ IsValidBy g (texts_of tests) (item_of d)
 
   -- if events lead to a state with an empty meaning, no document that begins with them is valid
   abbrev pub EmptyIsInvalid : Type 0
   EmptyIsInvalid = (g : Grammar) (tests : TextTests) (m n : S) (b : Bool) (held : List ℕ) (es more : List Event) → IsStart (reading g tests) (means m) →
-      Runs m false [] (kinds es) n b held → IsEmpty (means n) → (bytes : List ℕ) (d : Placed) → IsPyxDocument bytes d → events_of d ≡ es ++ more
+      Runs m false [] (kinds es) n b held → IsEmpty (means n) → (d : Placed) → IsElementTree d → events_of d ≡ es ++ more
       → ¬ (IsValidBy g (texts_of tests) (item_of d))

@@ -56,11 +56,14 @@ pub data Value : Type 0 where
   text : List ℕ → Value
   truth : Bool → Value
   number : ℤ → Value
+  -- a value of another type of XML Schema, by the numbers that it consists of
+  numbers : List ℕ → Value
 
 abbrev pub same_value : Value → Value → Bool
 same_value (text v) (text w) = bytes_eq v w
 same_value (truth a) (truth b) = beq a b
 same_value (number m) (number n) = int_eq m n
+same_value (numbers v) (numbers w) = bytes_eq v w
 same_value _ _ = false
 
 -- of the values of two texts: both texts have a value, and the values are the same

@@ -1,20 +1,23 @@
 -- The set `XmlSchema` of datatypes: a table of the types of XML Schema, each with the parameters that it takes and the value
 -- of each text (XML Schema Part 2, Second Edition, section 3; RELAX NG Specification, sections 4.16, 6.2.8 and 6.2.9).
 --
--- A type that is not in the table is not served yet: decimal, the floats, dates, durations and octets. Nor is the
--- parameter `pattern`, which each type is to take besides its own (section 4.3.4).
+-- A type that is not in the table is not served yet: decimal, the floats, dates, durations and octets.
 use Rattle.std.specs.Prelude.{codes, ℕ, List, [], ◌∷◌, ◌++◌, Bool, Option, None, not, ◌||◌}
 use Rattle.std.specs.Option.{option_map, option_and_then}
 use Rattle.std.specs.Str.{bytes_eq}
 use Rattle.rng_model.specs.simple.Tree.{Datatype}
+use Rattle.rng_model.specs.datatypes.Texts.{collapse}
 use Rattle.rng_model.specs.datatypes.Facets.{Lengths, Bounds, Parameter, named}
 use Rattle.rng_model.specs.datatypes.Datatypes.{Meaning, Maker, without, plain_types, xsd_uri}
 use Rattle.rng_model.specs.datatypes.Datatypes.{xsd_string, xsd_token, xsd_ncname, xsd_nmtoken, xsd_boolean}
+use Rattle.rng_model.specs.regexes.Patterns.{with_patterns}
+use Rattle.rng_model.specs.xsd.Names.{replaced}
 use Rattle.rng_model.specs.xsd.Numbers.{written_integer}
-use Rattle.rng_model.specs.xsd.Facets.{written_lengths, written_facets}
+use Rattle.rng_model.specs.xsd.Facets.{written_lengths}
+use Rattle.rng_model.specs.xsd.Integers.{written_facets}
 use Rattle.rng_model.specs.xsd.Types.{xsd_normalized, xsd_language, xsd_name, xsd_qname, xsd_nmtokens, xsd_ncnames, xsd_number}
 
--- ---- which parameters a type takes
+-- ---- the parameters of each type besides `pattern`
 
 abbrev pub with_lengths : (Lengths → Meaning) → List Parameter → Option Meaning
 with_lengths meaning ps = option_map meaning (written_lengths ps)
@@ -22,42 +25,56 @@ with_lengths meaning ps = option_map meaning (written_lengths ps)
 abbrev pub with_number_facets : Bounds → List Parameter → Option Meaning
 with_number_facets b ps = option_map (xsd_number b) (written_facets b ps)
 
+-- ---- white space and patterns: what is asked of a text is asked of the text with its white space treated (section 4.3.6)
+
+abbrev pub as_written : List ℕ → List ℕ
+as_written s = s
+
+abbrev pub preserving : Maker → Maker
+preserving = with_patterns as_written
+
+abbrev pub replacing : Maker → Maker
+replacing = with_patterns replaced
+
+abbrev pub collapsing : Maker → Maker
+collapsing = with_patterns collapse
+
 -- ---- the bounds of an integer type, as they are written
 
-abbrev pub from_to : List ℕ → List ℕ → List Parameter → Option Meaning
-from_to least greatest = with_number_facets (record { least = written_integer least; greatest = written_integer greatest })
+abbrev pub from_to : List ℕ → List ℕ → Maker
+from_to least greatest = collapsing (with_number_facets (record { least = written_integer least; greatest = written_integer greatest }))
 
-abbrev pub from : List ℕ → List Parameter → Option Meaning
-from least = with_number_facets (record { least = written_integer least; greatest = None })
+abbrev pub from : List ℕ → Maker
+from least = collapsing (with_number_facets (record { least = written_integer least; greatest = None }))
 
-abbrev pub up_to : List ℕ → List Parameter → Option Meaning
-up_to greatest = with_number_facets (record { least = None; greatest = written_integer greatest })
+abbrev pub up_to : List ℕ → Maker
+up_to greatest = collapsing (with_number_facets (record { least = None; greatest = written_integer greatest }))
 
-abbrev pub unbounded : List Parameter → Option Meaning
-unbounded = with_number_facets (record { least = None; greatest = None })
+abbrev pub unbounded : Maker
+unbounded = collapsing (with_number_facets (record { least = None; greatest = None }))
 
 -- ---- the table
 
 -- the types whose values are no numbers
 abbrev pub text_types : List (List ℕ × Maker)
 text_types =
-    (codes "string", with_lengths xsd_string) ∷  -- section 3.2.1
-    (codes "boolean", without xsd_boolean) ∷  -- 3.2.2
-    (codes "anyURI", with_lengths xsd_token) ∷  -- 3.2.17, by its white space alone
-    (codes "QName", without xsd_qname) ∷  -- 3.2.18, by its spelling
-    (codes "NOTATION", without xsd_qname) ∷  -- 3.2.19, by its spelling
-    (codes "normalizedString", with_lengths xsd_normalized) ∷  -- 3.3.1
-    (codes "token", with_lengths xsd_token) ∷  -- 3.3.2
-    (codes "language", with_lengths xsd_language) ∷  -- 3.3.3
-    (codes "NMTOKEN", with_lengths xsd_nmtoken) ∷  -- 3.3.4
-    (codes "NMTOKENS", with_lengths xsd_nmtokens) ∷  -- 3.3.5
-    (codes "Name", with_lengths xsd_name) ∷  -- 3.3.6
-    (codes "NCName", with_lengths xsd_ncname) ∷  -- 3.3.7
-    (codes "ID", with_lengths xsd_ncname) ∷  -- 3.3.8; a document's IDs are compared elsewhere
-    (codes "IDREF", with_lengths xsd_ncname) ∷  -- 3.3.9
-    (codes "IDREFS", with_lengths xsd_ncnames) ∷  -- 3.3.10
-    (codes "ENTITY", with_lengths xsd_ncname) ∷  -- 3.3.11, whether or not it is declared
-    (codes "ENTITIES", with_lengths xsd_ncnames) ∷ []  -- 3.3.12
+    (codes "string", preserving (with_lengths xsd_string)) ∷  -- section 3.2.1
+    (codes "boolean", collapsing (without xsd_boolean)) ∷  -- 3.2.2
+    (codes "anyURI", collapsing (with_lengths xsd_token)) ∷  -- 3.2.17, by its white space alone
+    (codes "QName", collapsing (without xsd_qname)) ∷  -- 3.2.18, by its spelling
+    (codes "NOTATION", collapsing (without xsd_qname)) ∷  -- 3.2.19, by its spelling
+    (codes "normalizedString", replacing (with_lengths xsd_normalized)) ∷  -- 3.3.1
+    (codes "token", collapsing (with_lengths xsd_token)) ∷  -- 3.3.2
+    (codes "language", collapsing (with_lengths xsd_language)) ∷  -- 3.3.3
+    (codes "NMTOKEN", collapsing (with_lengths xsd_nmtoken)) ∷  -- 3.3.4
+    (codes "NMTOKENS", collapsing (with_lengths xsd_nmtokens)) ∷  -- 3.3.5
+    (codes "Name", collapsing (with_lengths xsd_name)) ∷  -- 3.3.6
+    (codes "NCName", collapsing (with_lengths xsd_ncname)) ∷  -- 3.3.7
+    (codes "ID", collapsing (with_lengths xsd_ncname)) ∷  -- 3.3.8; a document's IDs are compared elsewhere
+    (codes "IDREF", collapsing (with_lengths xsd_ncname)) ∷  -- 3.3.9
+    (codes "IDREFS", collapsing (with_lengths xsd_ncnames)) ∷  -- 3.3.10
+    (codes "ENTITY", collapsing (with_lengths xsd_ncname)) ∷  -- 3.3.11, whether or not it is declared
+    (codes "ENTITIES", collapsing (with_lengths xsd_ncnames)) ∷ []  -- 3.3.12
 
 -- the types of integers
 abbrev pub number_types : List (List ℕ × Maker)

@@ -6,11 +6,11 @@ use Rattle.std.specs.Option.{option_and_then}
 use Rattle.std.specs.Str.{chars}
 use Rattle.rng_model.specs.names.Names.{is_ncname}
 use Rattle.rng_model.specs.datatypes.Texts.{collapse, pieces, Value, number, text_if}
-use Rattle.rng_model.specs.datatypes.Facets.{Lengths, Bounds, fits, is_within, is_inside}
+use Rattle.rng_model.specs.datatypes.Facets.{Lengths, Bounds, fits, is_within}
 use Rattle.rng_model.specs.datatypes.Datatypes.{is_nmtoken}
 use Rattle.rng_model.specs.xsd.Names.{replaced, is_name, is_language, is_qname}
 use Rattle.rng_model.specs.xsd.Numbers.{written_integer}
-use Rattle.rng_model.specs.xsd.Facets.{NumberFacets, is_within_facets}
+use Rattle.rng_model.specs.xsd.Integers.{IntegerFacets, is_within_facets}
 
 -- ---- texts
 
@@ -57,5 +57,5 @@ xsd_ncnames = xsd_list (λ p. is_ncname (chars p))
 abbrev pub number_if : (ℤ → Bool) → ℤ → Option Value
 number_if test n = if test n then Some (number n) else None
 
-abbrev pub xsd_number : Bounds → NumberFacets → List ℕ → Option Value
-xsd_number b f s = option_and_then (number_if (λ n. is_inside b n && is_within_facets f n)) (written_integer s)
+abbrev pub xsd_number : Bounds → IntegerFacets → List ℕ → Option Value
+xsd_number b f s = option_and_then (number_if (is_within_facets b f)) (written_integer s)

@@ -1,8 +1,8 @@
 -- The positions that a text goes through: those that are reached without a character, and those behind one.
 use Rattle.std.specs.Prelude.{◌↔◌, ℕ, ◌-◌, ◌≤◌, List, [], ◌∷◌, ◌++◌, length, Bool, false, ◌==◌, if◌then◌else◌}
 use Rattle.std.specs.List.{fold, list_any}
-use Rattle.xsd_regex.specs.Expressions.{holds}
-use Rattle.xsd_regex.specs.plain.LinearForms.{RegexState, AcceptsState, OneOf}
+use Rattle.rng_model.specs.regexes.Expressions.{holds}
+use Rattle.rng_model.specs.regexes.plain.LinearForms.{RegexState, AcceptsState, OneOf}
 use Rattle.xsd_regex.specs.plain.StateTable.{state_at, Has}
 use Rattle.xsd_regex.specs.plain.Positions.{Part, nothing_part, class_part, both_part, either_part, optional_part, repeated_part}
 use Rattle.xsd_regex.specs.plain.Positions.{Position, position_at, ArePositions}

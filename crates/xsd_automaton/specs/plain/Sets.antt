@@ -1,5 +1,5 @@
 -- A table of the sets of positions that texts lead to.
-use Rattle.std.specs.Prelude.{◌⊎◌, ◌≡◌, ℕ, ◌-◌, ◌<◌, ◌≤◌, List, [], ◌∷◌, ◌++◌, length, Bool, true, false, slice_index_or}
+use Rattle.std.specs.Prelude.{◌≡◌, ℕ, ◌-◌, ◌<◌, ◌≤◌, List, [], ◌∷◌, ◌++◌, length, Bool, true, false, Some, slice_get, slice_index_or}
 use Rattle.xsd_regex.specs.plain.Positions.{Position}
 use Rattle.xsd_automaton.specs.plain.Closures.{IsClosed, has_number, next_at, StepsTo}
 
@@ -7,12 +7,16 @@ use Rattle.xsd_automaton.specs.plain.Closures.{IsClosed, has_number, next_at, St
 abbrev pub no_set : ℕ
 no_set = 255
 
+-- the number of the set without positions, which is none of the list
+abbrev pub empty_set : ℕ
+empty_set = 254
+
 abbrev pub members_at : List (List ℕ) → ℕ → List ℕ
 members_at sets i = slice_index_or sets i []
 
 -- the positions of each set, by number
 pub record AreSets (ps : List Position) (sets : List (List ℕ)) : Type 0 where
-  pub few : length sets ≤ no_set
+  pub few : length sets ≤ empty_set
   pub closed : (i : ℕ) → i < length sets → IsClosed ps (members_at sets i)
   pub short : (i : ℕ) → i < length sets → length (members_at sets i) ≤ 12289
 
@@ -21,27 +25,34 @@ pub record IsLonger (sets more : List (List ℕ)) : Type 0 where
   pub many : length sets ≤ length more
   pub same : (i : ℕ) → i < length sets → members_at more i ≡ members_at sets i
 
--- the set behind the character, if it has a number
-abbrev pub HasTarget : List Position → List (List ℕ) → List ℕ → ℕ → ℕ → Type 0
-HasTarget ps sets is c t = (t ≡ no_set) ⊎ ((t < length sets) × StepsTo ps c is (members_at sets t))
+-- the number of the set behind the character, if it has one
+pub data HasTarget (ps : List Position) (sets : List (List ℕ)) (is : List ℕ) (c t : ℕ) : Type 0 where
+  no_target : t ≡ no_set → HasTarget ps sets is c t
+  to_empty : t ≡ empty_set → StepsTo ps c is [] → HasTarget ps sets is c t
+  to_set : t < length sets → StepsTo ps c is (members_at sets t) → HasTarget ps sets is c t
 
 -- the targets of the characters below this one
 abbrev pub AreTargets : List Position → List (List ℕ) → List ℕ → ℕ → List ℕ → Type 0
 AreTargets ps sets is n targets = (c : ℕ) → c < n → HasTarget ps sets is c (slice_index_or targets c no_set)
 
--- a row for a set: the set behind each character of ASCII, and whether the set accepts the empty text
-pub record IsRow (ps : List Position) (sets : List (List ℕ)) (is targets : List ℕ) (is_end : Bool) : Type 0 where
-  pub behind : AreTargets ps sets is 128 targets
-  pub end : is_end ≡ has_number is (length ps)
+-- a row for a set: the set behind each character of ASCII
+abbrev pub IsRow : List Position → List (List ℕ) → List ℕ → List ℕ → Type 0
+IsRow ps sets is targets = AreTargets ps sets is 128 targets
+
+-- whether the end is in each of the first sets
+abbrev pub AreEnds : List Position → List (List ℕ) → List Bool → Type 0
+AreEnds ps sets ends = (i : ℕ) (is_end : Bool) → slice_get ends i ≡ Some is_end → is_end ≡ has_number (members_at sets i) (length ps)
 
 -- each position leads behind the two characters to the same
 abbrev pub AreAlike : List Position → ℕ → ℕ → Type 0
 AreAlike ps c d = (i : ℕ) → next_at ps c i ≡ next_at ps d i
 
--- The positions have this number: they had it before, or they are the last set now. If there are too many sets they have none.
+-- The positions have this number: there are none, or they had it before, or they are the last set now. If there are too many sets
+-- they have none.
 pub data IsNumbered (is : List ℕ) (sets more : List (List ℕ)) (t : ℕ) : Type 0 where
+  is_empty : more ≡ sets → is ≡ [] → t ≡ empty_set → IsNumbered is sets more t
   is_there : more ≡ sets → t < length sets → members_at sets t ≡ is → IsNumbered is sets more t
-  is_added : more ≡ sets ++ is ∷ [] → t ≡ length sets → t < no_set → IsNumbered is sets more t
+  is_added : more ≡ sets ++ is ∷ [] → t ≡ length sets → t < empty_set → IsNumbered is sets more t
   has_none : more ≡ sets → t ≡ no_set → IsNumbered is sets more t
 
 -- whether each character is in the same classes as the one before it, for those that are marked

@@ -1,6 +1,6 @@
 -- The classes of an expression.
 use Rattle.std.specs.Prelude.{List, map}
-use Rattle.xsd_regex.specs.Expressions.{Class}
+use Rattle.rng_model.specs.regexes.Expressions.{Class}
 use Rattle.xsd_regex.specs.views.Classes.{class_of}
 use Rattle.xsd_positions.specs.declared.position.Positions.{Positions}
 

@@ -1,7 +1,7 @@
 -- Expressions whose counts are written out, as trees, and the rows of such a tree. A class has a number.
 use Rattle.std.specs.Prelude.{ℕ, zero, suc, ◌+◌, ◌-◌, List, [], ◌∷◌, ◌++◌, length, Bool, true, false, ◌&&◌, ◌||◌}
 use Rattle.std.specs.Prelude.{Option, Some, None, if◌then◌else◌, nat_le}
-use Rattle.xsd_regex.specs.Expressions.{Class, no_char, Regex, nothing_more, one_of, both, either, times}
+use Rattle.rng_model.specs.regexes.Expressions.{Class, no_char, Regex, nothing_more, one_of, both, either, times}
 use Rattle.xsd_positions.specs.declared.drafts.Kind.{Kind}
 use Rattle.xsd_positions.specs.declared.drafts.Kind.TheVariants as kind
 use Rattle.xsd_positions.specs.views.Positions.{class_at}

@@ -1,6 +1,6 @@
 -- Expressions with their counts written out: of the counts, only "any number of times" is left.
 use Rattle.std.specs.Prelude.{ℕ, zero, suc, ◌-◌, Option, Some, None, if◌then◌else◌, nat_le}
-use Rattle.xsd_regex.specs.Expressions.{no_char, Regex, nothing_more, one_of, both, either, times}
+use Rattle.rng_model.specs.regexes.Expressions.{no_char, Regex, nothing_more, one_of, both, either, times}
 
 -- so many copies, one after the other, and then the rest
 unfoldable pub copies_then : ℕ → Regex → Regex → Regex

@@ -1,6 +1,6 @@
 -- The positions that values of the code stand for.
 use Rattle.std.specs.Prelude.{ℕ, List, map, slice_index_or}
-use Rattle.xsd_regex.specs.Expressions.{Class, no_char}
+use Rattle.rng_model.specs.regexes.Expressions.{Class, no_char}
 use Rattle.xsd_regex.specs.plain.Positions as spec
 use Rattle.xsd_regex.specs.plain.Positions.{nothing_part, class_part, both_part, either_part, optional_part, repeated_part}
 use Rattle.xsd_regex.specs.views.Classes.{class_of}

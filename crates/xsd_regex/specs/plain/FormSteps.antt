@@ -1,7 +1,7 @@
 -- The forms of an expression in steps, with a list of what is left to do.
 use Rattle.std.specs.Prelude.{◌-◌, List, [], ◌∷◌, ◌++◌, if◌then◌else◌}
-use Rattle.xsd_regex.specs.Expressions.{Regex, nothing_more, one_of, both, either, times}
-use Rattle.xsd_regex.specs.plain.LinearForms.{RegexState, Form, is_nullable, one_less, is_none_left, forms_of}
+use Rattle.rng_model.specs.regexes.Expressions.{Regex, nothing_more, one_of, both, either, times}
+use Rattle.rng_model.specs.regexes.plain.LinearForms.{RegexState, Form, is_nullable, one_less, is_none_left, forms_of}
 
 -- an expression, and what has to match behind it
 abbrev pub Work : Type 0

@@ -1,7 +1,7 @@
 -- A class in brackets as a list: its members, and where its groups end.
 use Rattle.std.specs.Prelude.{ℕ, List, [], ◌∷◌, Bool, false, not, ◌||◌, true}
-use Rattle.xsd_regex.specs.Expressions.{Class, no_char, either_class, minus, holds}
-use Rattle.xsd_regex.specs.plain.Spelling.{negated_if}
+use Rattle.rng_model.specs.regexes.Expressions.{Class, no_char, either_class, minus, holds}
+use Rattle.rng_model.specs.regexes.plain.Spelling.{negated_if}
 
 pub data Mark : Type 0 where
   member : Class → Mark

@@ -4,17 +4,17 @@ use Rattle.std.specs.Prelude.{ℕ, zero, suc, ◌+◌, ◌*◌, List, [], ◌∷
 use Rattle.std.specs.Prelude.{nat_le, nat_lt}
 use Rattle.std.specs.Option.{option_and_then}
 use Rattle.std.specs.Char.{digit_value}
-use Rattle.xsd_regex.specs.declared.mode.Mode.{Mode}
-use Rattle.xsd_regex.specs.declared.mode.Mode.TheVariants as mode
-use Rattle.xsd_regex.specs.declared.mode.Place.{Place}
-use Rattle.xsd_regex.specs.declared.mode.Place.TheVariants as place
-use Rattle.xsd_regex.specs.Expressions.{Class, only_char, char_from_to}
-use Rattle.xsd_regex.specs.Symbols.{Symbol, char, escaped, class}
-use Rattle.xsd_regex.specs.ExpressionGrammar.{most_count, is_meta, wildcard}
+use Rattle.rng_model.specs.declared.regex_mode.RegexMode.{RegexMode}
+use Rattle.rng_model.specs.declared.regex_mode.RegexMode.TheVariants as mode
+use Rattle.rng_model.specs.declared.regex_mode.ClassPlace.{ClassPlace}
+use Rattle.rng_model.specs.declared.regex_mode.ClassPlace.TheVariants as place
+use Rattle.rng_model.specs.regexes.Expressions.{Class, only_char, char_from_to}
+use Rattle.rng_model.specs.regexes.Symbols.{Symbol, char, escaped, class}
+use Rattle.rng_model.specs.regexes.ExpressionGrammar.{most_count, is_meta, wildcard}
 use Rattle.xsd_regex.specs.plain.Groups.{Mark, member, ends, class_of_marks}
-use Rattle.xsd_regex.specs.plain.ClassSteps.{dash, is_end}
-use Rattle.xsd_regex.specs.plain.Machine.{opens_quantifier, value_or_zero}
-use Rattle.xsd_regex.specs.plain.Postfix.{Row, nothing_row, class_row, both_row, either_row, times_row}
+use Rattle.rng_model.specs.regexes.plain.ClassSteps.{dash, is_end}
+use Rattle.rng_model.specs.regexes.plain.Machine.{opens_quantifier, value_or_zero}
+use Rattle.rng_model.specs.regexes.plain.Postfix.{Row, nothing_row, class_row, both_row, either_row, times_row}
 
 pub record Kept : Type 0 where
   -- the class that is open
@@ -27,18 +27,18 @@ pub record Kept : Type 0 where
   pub alternative : Bool
   -- the number of classes that subtract the class that is open
   pub depth : ℕ
-  pub mode : Mode
+  pub mode : RegexMode
 
 abbrev pub Next : Type 0
 Next = Option Kept
 
-abbrev pub in_mode : Mode → Kept → Kept
+abbrev pub in_mode : RegexMode → Kept → Kept
 in_mode m w = record { members = w.members; rows = w.rows; groups = w.groups; alternative = w.alternative; depth = w.depth; mode = m }
 
-abbrev pub in_groups : List Bool → Bool → Mode → Kept → Kept
+abbrev pub in_groups : List Bool → Bool → RegexMode → Kept → Kept
 in_groups gs b m w = record { members = w.members; rows = w.rows; groups = gs; alternative = b; depth = w.depth; mode = m }
 
-abbrev pub at_depth : ℕ → Mode → Kept → Kept
+abbrev pub at_depth : ℕ → RegexMode → Kept → Kept
 at_depth d m w = record { members = w.members; rows = w.rows; groups = w.groups; alternative = w.alternative; depth = d; mode = m }
 
 -- one more row, and one more mark of the open class
@@ -198,7 +198,7 @@ behind_range neg a (class k) w = None
 behind_range neg a (char c) w =
     if is_end c then ended_range neg a c w else behind_dash neg (char c) (marked (member (only_char a)) w)
 
-abbrev pub in_group : Bool → Place → Symbol → Kept → Next
+abbrev pub in_group : Bool → ClassPlace → Symbol → Kept → Next
 in_group neg place.First = behind_first neg
 in_group neg place.Member = behind_member neg
 in_group neg (place.Char a) = behind_char neg a
@@ -218,7 +218,7 @@ behind_closed (char c) w = if c == 0x5D then Some (ended_at w.depth w) else None
 
 -- ---- all symbols
 
-abbrev pub step_in : Mode → Symbol → Kept → Next
+abbrev pub step_in : RegexMode → Symbol → Kept → Next
 step_in mode.Ready = piece
 step_in mode.Atom = behind_atom
 step_in (mode.Least n) = in_least n
@@ -232,7 +232,7 @@ abbrev pub whole_in : List Bool → Kept → Option (List Row)
 whole_in [] w = Some (with_alternative w).rows
 whole_in (b ∷ gs) w = None
 
-abbrev pub finished_in : Mode → Kept → Option (List Row)
+abbrev pub finished_in : RegexMode → Kept → Option (List Row)
 finished_in mode.Ready w = whole_in w.groups w
 finished_in mode.Atom w = whole_in w.groups (joined w)
 finished_in (mode.Least n) w = None

@@ -1,8 +1,8 @@
 -- A table of the parts of an expression with its counts written out, each behind its own parts. A part has a number, and
 -- the end has the number of all parts.
 use Rattle.std.specs.Prelude.{◌≡◌, ℕ, ◌<◌, ◌≤◌, ◌-◌, List, ◌∷◌, length, Bool, false, None, slice_index_or}
-use Rattle.xsd_regex.specs.Expressions.{Class, Regex, nothing_more, one_of, both, either, times, Matches}
-use Rattle.xsd_regex.specs.plain.LinearForms.{RegexState, AcceptsState, is_nullable}
+use Rattle.rng_model.specs.regexes.Expressions.{Class, Regex, nothing_more, one_of, both, either, times, Matches}
+use Rattle.rng_model.specs.regexes.plain.LinearForms.{RegexState, AcceptsState, is_nullable}
 use Rattle.xsd_regex.specs.plain.StateTable.{state_at}
 
 pub data Part : Type 0 where

@@ -1,7 +1,7 @@
 -- The names of properties in parts, each of which is looked through on its own.
 use Rattle.std.specs.Prelude.{ℕ, ◌*◌, List, take, drop}
-use Rattle.xsd_regex.specs.Expressions.{Class}
-use Rattle.xsd_regex.specs.Properties.{category_names, block_names}
+use Rattle.rng_model.specs.regexes.Expressions.{Class}
+use Rattle.rng_model.specs.regexes.Properties.{category_names, block_names}
 
 -- the general categories of letters and marks, of numbers and punctuation, and the rest
 abbrev pub letter_names : List (List ℕ × Class)

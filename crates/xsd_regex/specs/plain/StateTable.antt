@@ -1,8 +1,8 @@
 -- A table of the states of an expression, and its run over a text.
 use Rattle.std.specs.Prelude.{◌≡◌, ℕ, ◌<◌, List, [], ◌∷◌, ◌++◌, length, map, Bool, true, slice_index_or}
 use Rattle.std.specs.List.{fold, list_any, AllByRecursion}
-use Rattle.xsd_regex.specs.Expressions.{Class, Regex}
-use Rattle.xsd_regex.specs.plain.LinearForms.{RegexState, Form, OneOf, Takes, forms, ends, rests_at}
+use Rattle.rng_model.specs.regexes.Expressions.{Class, Regex}
+use Rattle.rng_model.specs.regexes.plain.LinearForms.{RegexState, Form, OneOf, Takes, forms, ends, rests_at}
 
 -- A row for each state: for each class of first characters the state of the rest, and whether the state accepts the
 -- empty text.

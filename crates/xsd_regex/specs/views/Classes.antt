@@ -7,10 +7,10 @@ use Rattle.xsd_regex.specs.declared.class.Member.{Member}
 use Rattle.xsd_regex.specs.declared.class.Member.TheVariants as members
 use Rattle.xsd_regex.specs.declared.class.Class.{Class}
 use Rattle.xsd_regex.specs.declared.class.Class.TheVariants as classes
-use Rattle.xsd_regex.specs.Expressions as spec
-use Rattle.xsd_regex.specs.Expressions.{ranges, name_start, name_char, category, categories, char_from_to}
-use Rattle.xsd_regex.specs.Symbols.{white_space, word_char}
-use Rattle.xsd_regex.specs.plain.Spelling.{negated_if}
+use Rattle.rng_model.specs.regexes.Expressions as spec
+use Rattle.rng_model.specs.regexes.Expressions.{ranges, name_start, name_char, category, categories, char_from_to}
+use Rattle.rng_model.specs.regexes.Symbols.{white_space, word_char}
+use Rattle.rng_model.specs.regexes.plain.Spelling.{negated_if}
 use Rattle.xsd_regex.specs.plain.Groups.{Mark, member, ends, class_of_marks}
 
 abbrev pub set_class : CharSet → spec.Class

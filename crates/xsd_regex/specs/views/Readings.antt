@@ -1,10 +1,10 @@
 -- What the reading of a text gives.
 use Rattle.std.specs.Prelude.{◌≡◌, ℕ, List, Option, Some, None}
 use Rattle.xsd_regex.specs.declared.expression.Expression.{Expression}
-use Rattle.xsd_regex.specs.Expressions.{Regex}
-use Rattle.xsd_regex.specs.ExpressionGrammar.{IsRegex}
-use Rattle.xsd_regex.specs.plain.Postfix as spec
-use Rattle.xsd_regex.specs.plain.Postfix.{postfix}
+use Rattle.rng_model.specs.regexes.Expressions.{Regex}
+use Rattle.rng_model.specs.regexes.ExpressionGrammar.{IsRegex}
+use Rattle.rng_model.specs.regexes.plain.Postfix as spec
+use Rattle.rng_model.specs.regexes.plain.Postfix.{postfix}
 use Rattle.xsd_regex.specs.views.Rows.{rows_of}
 
 -- the text is an expression, and these are its rows

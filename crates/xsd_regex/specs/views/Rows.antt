@@ -3,8 +3,8 @@ use Rattle.std.specs.Prelude.{List, map}
 use Rattle.xsd_regex.specs.declared.expression.Row.{Row}
 use Rattle.xsd_regex.specs.declared.expression.Row.TheVariants as rows
 use Rattle.xsd_regex.specs.declared.expression.Expression.{Expression}
-use Rattle.xsd_regex.specs.plain.Postfix as spec
-use Rattle.xsd_regex.specs.plain.Postfix.{nothing_row, class_row, both_row, either_row, times_row}
+use Rattle.rng_model.specs.regexes.plain.Postfix as spec
+use Rattle.rng_model.specs.regexes.plain.Postfix.{nothing_row, class_row, both_row, either_row, times_row}
 use Rattle.xsd_regex.specs.views.Classes.{class_of}
 
 abbrev pub row_of : Row → spec.Row

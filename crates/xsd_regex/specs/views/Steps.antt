@@ -4,7 +4,7 @@ use Rattle.xsd_regex.specs.declared.expression.Row.{Row}
 use Rattle.xsd_regex.specs.declared.fault.ReadFault.{ReadFault}
 use Rattle.xsd_regex.specs.declared.fault.ReadFault.TheVariants as faults
 use Rattle.xsd_regex.specs.declared.reader.Reader.{Reader}
-use Rattle.xsd_regex.specs.plain.Postfix as spec
+use Rattle.rng_model.specs.regexes.plain.Postfix as spec
 use Rattle.xsd_regex.specs.plain.KeptSteps.{Kept, Next}
 use Rattle.xsd_regex.specs.views.Classes.{mark_of}
 use Rattle.xsd_regex.specs.views.Rows.{row_of}

@@ -1,8 +1,8 @@
 -- The symbols that values of the code stand for.
 use Rattle.xsd_regex.specs.declared.symbol.Symbol.{Symbol}
 use Rattle.xsd_regex.specs.declared.symbol.Symbol.TheVariants as symbols
-use Rattle.xsd_regex.specs.Symbols as spec
-use Rattle.xsd_regex.specs.Symbols.{char, escaped, class}
+use Rattle.rng_model.specs.regexes.Symbols as spec
+use Rattle.rng_model.specs.regexes.Symbols.{char, escaped, class}
 use Rattle.xsd_regex.specs.views.Classes.{leaf_class}
 
 abbrev pub symbol_of : Symbol → spec.Symbol

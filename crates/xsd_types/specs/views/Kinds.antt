@@ -3,11 +3,16 @@ use Rattle.rng_model.specs.datatypes.Facets.{Lengths}
 use Rattle.rng_model.specs.datatypes.Datatypes.{Meaning, Maker, without, xsd_string, xsd_token, xsd_ncname, xsd_nmtoken, xsd_boolean}
 use Rattle.rng_model.specs.xsd.Types.{xsd_normalized, xsd_word, xsd_list, xsd_qname}
 use Rattle.rng_model.specs.xsd.Datatypes.{with_lengths, with_number_facets}
+use Rattle.rng_model.specs.regexes.Patterns.{with_patterns}
+use Rattle.xsd_automaton.specs.declared.white_space.WhiteSpace.{WhiteSpace}
+use Rattle.xsd_automaton.specs.declared.white_space.WhiteSpace.TheVariants as white_space
+use Rattle.xsd_automaton.specs.views.WhiteSpace.{treated}
 use Rattle.xsd_types.specs.declared.kind.Kind.{Kind}
 use Rattle.xsd_types.specs.declared.kind.Kind.TheVariants as kinds
 use Rattle.xsd_types.specs.declared.kind.TextKind.{TextKind}
 use Rattle.xsd_types.specs.declared.kind.TextKind.TheVariants as texts
-use Rattle.xsd_types.specs.views.View.{word_test, item_test, range_of}
+use Rattle.xsd_types.specs.views.Numbers.{written_range}
+use Rattle.xsd_types.specs.views.View.{word_test, item_test}
 
 abbrev pub text_meaning : TextKind → Lengths → Meaning
 text_meaning texts.String l = xsd_string l
@@ -18,8 +23,22 @@ text_meaning texts.NmToken l = xsd_nmtoken l
 text_meaning (texts.Word k) l = xsd_word (word_test k) l
 text_meaning (texts.List k) l = xsd_list (item_test k) l
 
+-- what the type makes of the parameters that are no patterns
+abbrev pub plain_maker : Kind → Maker
+plain_maker (kinds.Text k) = with_lengths (text_meaning k)
+plain_maker kinds.Boolean = without xsd_boolean
+plain_maker kinds.QName = without xsd_qname
+plain_maker (kinds.Integer r) = with_number_facets (written_range r)
+
+abbrev pub text_white_space : TextKind → WhiteSpace
+text_white_space texts.String = white_space.Preserve
+text_white_space texts.NormalizedString = white_space.Replace
+text_white_space _ = white_space.Collapse
+
+abbrev pub white_space_of : Kind → WhiteSpace
+white_space_of (kinds.Text k) = text_white_space k
+white_space_of _ = white_space.Collapse
+
+-- and of all parameters
 abbrev pub maker_of : Kind → Maker
-maker_of (kinds.Text k) = with_lengths (text_meaning k)
-maker_of kinds.Boolean = without xsd_boolean
-maker_of kinds.QName = without xsd_qname
-maker_of (kinds.Integer r) = with_number_facets (range_of r)
+maker_of k = with_patterns (treated (white_space_of k)) (plain_maker k)

@@ -3,8 +3,8 @@ use Rattle.std.proofs.Common.{codes, ◌≡◌, ℕ, List, [], ◌∷◌, refl, 
 use Rattle.rng_model.specs.datatypes.Texts.{collapse, pieces}
 use Rattle.rng_model.specs.datatypes.Facets as old
 use Rattle.rng_model.specs.xsd.Numbers.{integer_of}
-use Rattle.xsd_values.specs.Limits.{written_limits}
-use Rattle.xsd_values.specs.Integers.{written_integer_facets}
+use Rattle.rng_model.specs.xsd.Limits.{written_limits}
+use Rattle.rng_model.specs.xsd.Integers.{written_facets}
 use Rattle.xsd_values.specs.Decimals.{decimal_of, written_decimal_facets}
 use Rattle.xsd_values.proofs.Examples.Tables.{allows, equates}
 
@@ -134,10 +134,10 @@ wrong_order = refl
 abbrev any_integer : old.Bounds
 any_integer = record { least = None; greatest = None }
 
-no_fraction : is_some (written_integer_facets any_integer ((codes "fractionDigits", codes "0") ∷ [])) ≡ true
+no_fraction : is_some (written_facets any_integer ((codes "fractionDigits", codes "0") ∷ [])) ≡ true
 unfolding collapse pieces integer_of written_limits
 no_fraction = refl
 
-one_fraction : is_some (written_integer_facets any_integer ((codes "fractionDigits", codes "1") ∷ [])) ≡ false
+one_fraction : is_some (written_facets any_integer ((codes "fractionDigits", codes "1") ∷ [])) ≡ false
 unfolding collapse pieces integer_of written_limits
 one_fraction = refl

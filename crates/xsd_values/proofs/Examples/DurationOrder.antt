@@ -1,7 +1,7 @@
 -- Worked cases of durations that are equal, and of the order of durations, which the checker computes.
 use Rattle.std.proofs.Common.{codes, ◌≡◌, ℕ, List, [], ◌∷◌, refl, true, false, Bool, Option, Some, None, is_some}
 use Rattle.rng_model.specs.datatypes.Texts.{collapse, pieces}
-use Rattle.xsd_values.specs.Limits.{written_limits}
+use Rattle.rng_model.specs.xsd.Limits.{written_limits}
 use Rattle.xsd_values.specs.Durations.{Duration, duration_of, is_less, durations}
 use Rattle.xsd_values.proofs.Examples.Tables.{allows, equates}
 

@@ -5,7 +5,7 @@ use Rattle.std.specs.Float.Numeral.{scan_numeral}
 use Rattle.std.specs.Float.Parse.{read_float}
 use lib.Ieee.{round, lt}
 use Rattle.rng_model.specs.datatypes.Texts.{collapse, pieces}
-use Rattle.xsd_values.specs.Limits.{written_limits}
+use Rattle.rng_model.specs.xsd.Limits.{written_limits}
 use Rattle.xsd_values.specs.Floats.{float_of}
 use Rattle.xsd_values.proofs.Examples.Tables.{allows, equates}
 

@@ -2,7 +2,7 @@
 use Rattle.std.proofs.Common.{codes, ◌≡◌, ℕ, List, [], ◌∷◌, refl, true, false, Bool, Option, Some, None, ◌&&◌, not}
 use Rattle.std.specs.List.{list_all}
 use Rattle.rng_model.specs.datatypes.Texts.{collapse, pieces}
-use Rattle.xsd_values.specs.Limits.{written_limits}
+use Rattle.rng_model.specs.xsd.Limits.{written_limits}
 use Rattle.xsd_values.specs.Zones.{Moment, is_before}
 use Rattle.xsd_values.specs.Moments.{date_time_of, time_of, date_of, year_of}
 use Rattle.xsd_values.proofs.Examples.Tables.{allows, equates}

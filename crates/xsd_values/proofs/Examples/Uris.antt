@@ -1,7 +1,7 @@
 -- Worked cases of anyURI, which the checker computes. That the test is the definition is `is_uri-IsUri`.
 use Rattle.std.proofs.Common.{codes, ◌≡◌, [], ◌∷◌, refl, true, false}
 use Rattle.std.specs.Str.{chars}
-use Rattle.xsd_regex.specs.plain.LinearForms.{is_nullable, forms_of, forms}
+use Rattle.rng_model.specs.regexes.plain.LinearForms.{is_nullable, forms_of, forms}
 use Rattle.xsd_values.proofs.MatchedUris.{is_uri}
 
 -- ---- references

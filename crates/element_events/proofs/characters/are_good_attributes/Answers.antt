@@ -2,7 +2,7 @@ use Rattle.std.proofs.Common.{◌∙◌, ap, sym, arith}
 use Rattle.std.specs.List.{list_all}
 use Rattle.std.proofs.lemmas.List.{take_all}
 use Rattle.std.proofs.lemmas.List.Folds.{list_all-map, list_all_at}
-use Rattle.element_events.specs.Telling.{is_good_attribute}
+use Rattle.rng_model.specs.documents.Telling.{is_good_attribute}
 use Rattle.element_events.specs.views.Told.{attribute_told}
 use Rattle.element_events.proofs.characters.are_good_attributes.Goals as goal
 

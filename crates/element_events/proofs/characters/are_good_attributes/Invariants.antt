@@ -1,6 +1,6 @@
 use Rattle.std.proofs.Common.{◌≡◌, true, take}
 use Rattle.std.specs.List.{list_all}
-use Rattle.element_events.specs.Telling.{is_good_attribute}
+use Rattle.rng_model.specs.documents.Telling.{is_good_attribute}
 use Rattle.element_events.specs.views.Told.{attribute_told}
 use Rattle.element_events.proofs.characters.are_good_attributes.Given as goal
 

@@ -1,7 +1,7 @@
 use Rattle.std.proofs.Common.{◌≡◌, ◌∙◌, ◌≤◌, ◌-◌, length, map, sym, ap, subst, inl, inr, arith}
 use Rattle.std.proofs.lemmas.Bool.{cases_lt}
 use Rattle.std.proofs.lemmas.List.{get_or-map, length-map}
-use Rattle.xsd_regex.specs.Expressions.{no_char, holds}
+use Rattle.rng_model.specs.regexes.Expressions.{no_char, holds}
 use Rattle.xsd_regex.specs.views.Classes.{class_of}
 use Rattle.xsd_positions.specs.views.Positions.{class_at}
 use Rattle.xsd_automaton.specs.views.Classes.{classes_of}

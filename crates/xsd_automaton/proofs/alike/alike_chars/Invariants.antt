@@ -1,5 +1,5 @@
 use Rattle.std.proofs.Common.{◌≡◌, ◌-◌, ◌<◌, ℕ, true, false, get_or}
-use Rattle.xsd_regex.specs.Expressions.{holds}
+use Rattle.rng_model.specs.regexes.Expressions.{holds}
 use Rattle.xsd_positions.specs.views.Positions.{class_at}
 use Rattle.xsd_automaton.specs.views.Classes.{classes_of}
 use Rattle.xsd_automaton.proofs.alike.alike_chars.Given as goal

@@ -1,6 +1,6 @@
 use Rattle.std.proofs.Common.{◌≡◌, ◌∙◌, ◌-◌, ◌+◌, ℕ, Bool, not, true≢false, true, false, refl, sym, ap, subst, get_or, arith}
 use Rattle.std.specs.Bool.{beq}
-use Rattle.xsd_regex.specs.Expressions.{holds}
+use Rattle.rng_model.specs.regexes.Expressions.{holds}
 use Rattle.xsd_regex.specs.views.Classes.{class_of}
 use Rattle.xsd_automaton.proofs.AlikeChars.{left_mark, mark_taken, mark_kept, all_marks}
 use Rattle.xsd_automaton.proofs.alike.mark_changes.Goals as goal

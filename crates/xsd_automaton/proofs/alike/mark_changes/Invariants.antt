@@ -1,5 +1,5 @@
 use Rattle.std.proofs.Common.{◌≡◌, ◌-◌, ℕ, ◌<◌, length, true, false, get_or}
-use Rattle.xsd_regex.specs.Expressions.{holds}
+use Rattle.rng_model.specs.regexes.Expressions.{holds}
 use Rattle.xsd_regex.specs.views.Classes.{class_of}
 use Rattle.xsd_automaton.proofs.alike.mark_changes.Given as goal
 

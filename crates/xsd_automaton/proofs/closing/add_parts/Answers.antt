@@ -5,7 +5,7 @@ use Rattle.xsd_regex.proofs.OneOf.{under_in}
 use Rattle.xsd_automaton.specs.plain.Closures.{part_edges}
 use Rattle.xsd_positions.specs.declared.position.Part.{Part}
 use Rattle.xsd_positions.specs.declared.position.Part.TheVariants as part
-use Rattle.xsd_regex.specs.Expressions.{Class}
+use Rattle.rng_model.specs.regexes.Expressions.{Class}
 use Rattle.xsd_positions.specs.views.Positions.{part_of, positions_of}
 use Rattle.xsd_automaton.specs.views.Classes.{classes_of}
 use Rattle.xsd_automaton.proofs.closing.add_parts.Goals as goal

@@ -3,7 +3,7 @@ use Rattle.std.specs.Str.{IsUtf8, chars}
 use Rattle.xsd_automaton.specs.plain.Closures.{IsClosed, LeadsTo}
 use Rattle.xsd_automaton.specs.views.WhiteSpace.{left_by, treated}
 use Rattle.xsd_positions.specs.views.Positions.{positions_of}
-use Rattle.xsd_automaton.proofs.TreatedRuns.{IsRead}
+use Rattle.xsd_automaton.specs.plain.ReadParts.{IsRead}
 use Rattle.xsd_automaton.proofs.treated.accepts_treated_from_first.Given as goal
 
 abbrev pub invariant-parts : goal.invariant-parts

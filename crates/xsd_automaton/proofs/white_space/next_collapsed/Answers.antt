@@ -1,12 +1,13 @@
 use Rattle.std.proofs.Common.{◌≡◌, ◌∙◌, ◌<◌, ◌==◌, ◌∷◌, true, false, length, sym, ap, subst, rules}
 use Rattle.rng_types.specs.plain.Runs.{from_run}
-use Rattle.xsd_automaton.proofs.TreatedParts.{from_run_run, shorter, no_run, collapsed_none, collapsed_space, is_utf8_space}
+use Rattle.rng_types.proofs.CollapsedBytes.{run_then}
+use Rattle.xsd_automaton.proofs.TreatedParts.{shorter, no_run, collapsed_none, collapsed_space, is_utf8_space}
 use Rattle.xsd_automaton.proofs.white_space.next_collapsed.Goals as goal
 
 pub returns-then-not-is_empty : goal.returns-then-not-is_empty
 returns-then-not-is_empty c =
     let some : (length c.split_run.result.0.now == 0) ≡ false = search rules in (
-      ap from_run c.split_run.ensures.parts ∙ from_run_run c.split_run.result.0.now c.split_run.result.1.now c.split_run.ensures.run,
+      ap from_run c.split_run.ensures.parts ∙ run_then c.split_run.result.0.now c.split_run.result.1.now c.split_run.ensures.run,
       shorter c.args.rest.now c.split_run.result.0.now c.split_run.result.1.now c.split_run.ensures.parts some,
       c.split_run.ensures.texts.0,
       c.split_run.ensures.texts.1,

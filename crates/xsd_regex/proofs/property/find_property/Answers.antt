@@ -1,5 +1,5 @@
 use Rattle.std.proofs.Common.{sym, ◌∙◌, ◌++◌}
-use Rattle.xsd_regex.specs.Properties.{category_names, block_names}
+use Rattle.rng_model.specs.regexes.Properties.{category_names, block_names}
 use Rattle.xsd_regex.specs.views.Classes.{set_class}
 use Rattle.xsd_regex.proofs.Properties.{found_first, found_second, named_by_bytes, ascii_names}
 use Rattle.xsd_regex.proofs.property.find_property.Goals as goal

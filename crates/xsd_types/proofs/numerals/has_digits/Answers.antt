@@ -1,6 +1,6 @@
 use Rattle.std.proofs.Common.{◌^◌, nat_lt, ap, ◌∙◌, sym}
 use Rattle.rng_model.specs.datatypes.Facets.{passes}
-use Rattle.rng_model.specs.xsd.Facets.{has_digits}
+use Rattle.rng_model.specs.xsd.Integers.{has_digits}
 use Rattle.xsd_types.specs.plain.Digits.{value_of}
 use Rattle.xsd_types.proofs.Digits.{few_digits}
 use Rattle.xsd_types.proofs.Signs.{size-signed}

@@ -1,13 +1,11 @@
-use Rattle.std.proofs.Common.{None, ap, ◌∙◌, sym}
+use Rattle.std.proofs.Common.{ap, ◌∙◌, sym}
 use Rattle.rng_model.specs.xsd.Numbers.{integer_of}
-use Rattle.rng_types.proofs.OnePiece.{collapse-only, collapse-other}
-use Rattle.xsd_types.proofs.Signs.{integer-empty, integer-spaced}
+use Rattle.rng_types.specs.plain.Runs.{past_blanks, from_run}
+use Rattle.rng_types.proofs.CollapsedBytes.{collapse-past}
 use Rattle.xsd_types.proofs.numerals.read_numeral.Goals as goal
 
-pub returns-in-Some-clause-value : goal.returns-in-Some-clause-value
-returns-in-Some-clause-value c =
-    c.numeral_in.ensures.value ∙ ap integer_of (c.as_bytes.ensures.value ∙ sym (collapse-only c.args.text.now c.in-Some.piece.now c.in-Some.ensures))
-
-pub returns-in-None-clause-value : goal.returns-in-None-clause-value
-returns-in-None-clause-value c =
-    sym (collapse-other integer_of None c.args.text.now integer-empty (λ v w utf8. integer-spaced v w) c.utf8.text c.in-None.ensures)
+pub returns-clause-value : goal.returns-clause-value
+returns-clause-value c =
+    c.numeral_in.ensures.value
+    ∙ ap (λ s. integer_of (from_run s)) (c.past_blanks.ensures.past ∙ ap past_blanks c.as_bytes.ensures.value)
+    ∙ sym (ap integer_of (collapse-past c.args.text.now))

@@ -4,14 +4,15 @@ use Rattle.rng_model.specs.documents.PyxTrees.{events_of}
 use Rattle.rng_deriv_laws.specs.plain.Derivatives.{is_nullable}
 use Rattle.rng_deriv_events.specs.views.Basis.{reading_by}
 use Rattle.rng_deriv_events.specs.views.Numbers.{tree_of}
-use Rattle.rng_model.specs.matching.Outcomes.{IsValidByReading, FailsAt}
+use Rattle.rng_model.specs.matching.Outcomes.{IsValidByReading}
+use Rattle.rng_deriv_laws.specs.plain.Outcomes.{FailsAt}
 use Rattle.rng_deriv_events.specs.views.OpenPositions.{open_position}
 use Rattle.rng_deriv_events.specs.views.Positions.{IsKnown}
 use Rattle.rng_deriv_events.proofs.KnownDocuments.{failed, ends_valid, ends_invalid}
 use Rattle.rng_deriv_events.proofs.event_matcher.EventMatcher.outcome.Goals as goal
 
 pub returns-then-some_end-clause-outcome : goal.returns-then-some_end-clause-outcome
-returns-then-some_end-clause-outcome g c = λ bytes d is known.
+returns-then-some_end-clause-outcome g c = λ d is known.
     let trees = g.D.Derivatives.trees in
     let basis = g.D.Derivatives.basis in
     let derivatives = c.self.inside.derivatives in
@@ -20,10 +21,10 @@ returns-then-some_end-clause-outcome g c = λ bytes d is known.
     let some = subst (λ ns. list_any (λ n. is_nullable (tree_of (trees derivatives) n)) ns ≡ true) c.numbers.ensures
     (sym c.some_end.ensures ∙ c.if-some_end.true) in
     subst (λ m. IsValidByReading (reading_by (basis m.0)) d) c.self.view_is
-    (ends_valid (reading_by (basis derivatives)) (trees derivatives) (open_position c.in-Going.position) c.in-Going.line bytes d is come some)
+    (ends_valid (reading_by (basis derivatives)) (trees derivatives) (open_position c.in-Going.position) c.in-Going.line d is come some)
 
 pub returns-else-some_end-clause-outcome : goal.returns-else-some_end-clause-outcome
-returns-else-some_end-clause-outcome g c = λ bytes d is known.
+returns-else-some_end-clause-outcome g c = λ d is known.
     let trees = g.D.Derivatives.trees in
     let basis = g.D.Derivatives.basis in
     let derivatives = c.self.inside.derivatives in
@@ -32,14 +33,14 @@ returns-else-some_end-clause-outcome g c = λ bytes d is known.
     let none = subst (λ ns. list_any (λ n. is_nullable (tree_of (trees derivatives) n)) ns ≡ false) c.numbers.ensures
     (sym c.some_end.ensures ∙ c.if-some_end.false) in
     subst (λ m. ¬ (IsValidByReading (reading_by (basis m.0)) d) × FailsAt (reading_by (basis m.0)) (events_of d) c.in-Going.line) c.self.view_is
-    (ends_invalid (reading_by (basis derivatives)) (trees derivatives) (open_position c.in-Going.position) c.in-Going.line bytes d is come none)
+    (ends_invalid (reading_by (basis derivatives)) (trees derivatives) (open_position c.in-Going.position) c.in-Going.line d is come none)
 
 pub returns-in-Failed-clause-outcome : goal.returns-in-Failed-clause-outcome
-returns-in-Failed-clause-outcome g c = λ bytes d is known.
+returns-in-Failed-clause-outcome g c = λ d is known.
     let trees = g.D.Derivatives.trees in
     let basis = g.D.Derivatives.basis in
     let derivatives = c.self.inside.derivatives in
     let now = subst (λ m. IsKnown (reading_by (basis m.0)) (trees m.0) m.1 (events_of d)) (sym c.self.view_is) known in
     let fails = subst (λ p. IsKnown (reading_by (basis derivatives)) (trees derivatives) p (events_of d)) c.in-Failed.is now in
     subst (λ m. ¬ (IsValidByReading (reading_by (basis m.0)) d) × FailsAt (reading_by (basis m.0)) (events_of d) c.in-Failed.line) c.self.view_is
-    (failed (reading_by (basis derivatives)) d c.in-Failed.line bytes is fails)
+    (failed (reading_by (basis derivatives)) d c.in-Failed.line is fails)

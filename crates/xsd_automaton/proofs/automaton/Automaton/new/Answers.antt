@@ -5,8 +5,8 @@ use Rattle.xsd_automaton.specs.views.Classes.{classes_of}
 use Rattle.xsd_automaton.proofs.Within.{are_within}
 use Rattle.xsd_automaton.proofs.automaton.Automaton.new.Goals as goal
 
-pub set_rows-requires-clause-within : goal.set_rows-requires-clause-within
-set_rows-requires-clause-within c = are_within c.requires.are.1.states (positions_of c.args.positions) c.requires.are.1.are
+pub set_table-requires-clause-within : goal.set_table-requires-clause-within
+set_table-requires-clause-within c = are_within c.requires.are.1.states (positions_of c.args.positions) c.requires.are.1.are
 
 pub invariant_of-result : goal.invariant_of-result
 invariant_of-result c =
@@ -17,5 +17,5 @@ invariant_of-result c =
       within = are_within c.requires.are.1.states (positions_of c.args.positions) c.requires.are.1.are;
       few = omega (arith, few, long);
       begins = omega (arith, some);
-      table = c.in_ok-sets.ensures;
+      tables = c.in_ok-sets.ensures;
     }

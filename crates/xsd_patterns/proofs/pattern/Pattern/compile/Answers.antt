@@ -1,7 +1,7 @@
 use Rattle.std.proofs.Common.{◌∙◌, ap, sym, subst}
 use Rattle.std.specs.Str.{chars}
 use Rattle.xsd_regex.specs.plain.Positions.{ArePositionsOf}
-use Rattle.xsd_regex.specs.Patterns.{pattern_of}
+use Rattle.rng_model.specs.regexes.Patterns.{pattern_of}
 use Rattle.xsd_regex.specs.views.Readings.{IsReading}
 use Rattle.xsd_positions.specs.declared.position.Positions.{Positions}
 use Rattle.xsd_positions.specs.views.Positions.{positions_of}
