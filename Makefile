@@ -1,15 +1,17 @@
 # rncv: build, test, install. The repository's own scripts do the work; GNU make calls them.
 #
-#   make            prove and build the program, the library and the programs for XML; this wants the toolchain (README.md)
+#   make            prove and build the program, the library and the programs for XML; this wants the toolchain (README.md). KEEP=1 keeps the libraries
+#                   that the proofs built, some gigabytes in build/proved
 #   make try        build the same without proofs, in minutes, below build/unproved, and judge an example; OPT is the optimisation, else -O2
 #   make test       all proofs and tests (.ci/run)
 #   make install    install what `make` built, or else what `make try` built; this builds nothing. It uses PREFIX (else /usr/local) and DESTDIR
 #   make uninstall  remove what `make install` with the same PREFIX and DESTDIR installed
+#   make site       the pages as HTML with search, below build/site; this wants mkdocs
 #   make dist       build/package/rncv-VERSION.tar.gz, the sources of the last commit, without the network
 #   make deb        build/package/rncv_VERSION_ARCHITECTURE.deb, of what is built, without the network
 #   make wheel      build/package/rncv-VERSION-py3-none-PLATFORM.whl, the Python package with the built libraries, without the network
 #
-# docs/INSTALL.md says what is installed where.
+# docs/use/INSTALL.md says what is installed where.
 
 # Each of these is taken from the command line, else from the environment: packagers write `DESTDIR=/stage make install`.
 PREFIX ?= /usr/local
@@ -25,14 +27,16 @@ export DESTDIR PROGRAM LIBRARY XML_PROGRAMS
 install uninstall: export PREFIX := $(PREFIX)
 try: export OPT := $(OPT)
 
-.PHONY: all build try test install uninstall dist deb wheel clean
+.PHONY: all build try test install uninstall site dist deb wheel clean
 all: build
 
 build:
-	cd crates/rncv && rt run -- valid ../../examples/first/s.rnc < ../../examples/first/document.pyx
-	PREFIX= programs/library/build.sh "$$LIBRARY"
+	programs/prove.py rncv rncv_c
+	crates/rncv/out/rncv valid examples/first/s.rnc < examples/first/document.pyx
+	RNCV_PROVED=build/proved PREFIX= programs/library/build.sh "$$LIBRARY"
 	PREFIX= RNCV_LIBRARY= programs/xml/library.sh "$$LIBRARY"
 	RNCV_LIBRARY="$$LIBRARY" programs/xml/build.sh "$$XML_PROGRAMS"
+	[ -n "$(KEEP)" ] || rm -rf build/proved/crates build/proved/library-checked
 
 try:
 	dev/setup.sh
@@ -53,6 +57,9 @@ install:
 
 uninstall:
 	@programs/packaging/install.sh uninstall
+
+site:
+	@programs/site/build.sh
 
 dist:
 	@programs/packaging/dist.sh

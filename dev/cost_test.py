@@ -23,8 +23,8 @@ class Cost(unittest.TestCase):
         """What it prints in a checkout of four crates, one of which the table lacks."""
         with tempfile.TemporaryDirectory(prefix="cost-") as room:
             top = pathlib.Path(room)
-            for name, text in (("crates.txt", CRATES), ("docs/GATE.md", HEAD + ROWS), ("dev/cost", (HERE / "cost").read_text(encoding="utf-8"))):
-                (top / name).parent.mkdir(exist_ok=True)
+            for name, text in (("crates.txt", CRATES), ("docs/develop/GATE.md", HEAD + ROWS), ("dev/cost", (HERE / "cost").read_text(encoding="utf-8"))):
+                (top / name).parent.mkdir(parents=True, exist_ok=True)
                 (top / name).write_text(text, encoding="utf-8")
             return self.run_at(top, *words)
 
@@ -35,11 +35,11 @@ class Cost(unittest.TestCase):
     def test_what_two_have_above_counts_once(self):
         self.assertEqual(self.small("mid", "beside"), (
             "beside: 0.0\nmid: 0.2\nhigh: 2.0\n3 crates, 2.2 minutes of proofs, 3.2 with tests and edits\n"
-            "not in the table of docs/GATE.md: beside\n", 0))
+            "not in the table of docs/develop/GATE.md: beside\n", 0))
 
     def test_each_alone(self):
         lines = self.small()[0].splitlines()
-        self.assertEqual([line.split(":")[0] for line in lines], ["low", "mid", "beside", "high", "not in the table of docs/GATE.md"])
+        self.assertEqual([line.split(":")[0] for line in lines], ["low", "mid", "beside", "high", "not in the table of docs/develop/GATE.md"])
 
     def test_a_word_that_is_no_crate(self):
         self.assertEqual(self.small("low", "indexmap"), ("cost: no crate of crates.txt: indexmap\n", 2))

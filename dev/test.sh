@@ -45,6 +45,8 @@ tests edits python3 -B "$here/check/edits/test.py" &
 tests xml env RNCV_REQUIRED=$built "$programs/xml/test.sh" "$program" &
 tests packaging env RNCV_REQUIRED=$built "$programs/packaging/test.sh" "$program" &
 tests lsp env RNCV_REQUIRED=$built "$programs/lsp/test.sh" &
+tests site python3 -B "$programs/site/test.py" &
+tests prove python3 -B "$programs/prove_test.py" &
 tests refused_growths "$here/failures/refused_growths/test.sh" "$program" &
 tests streams "$here/failures/streams/test.sh" "$program" &
 tests fuzz python3 -B "$here/search/fuzz/test.py" "$program" &
@@ -53,7 +55,7 @@ tests datatypes env -u RNCV_REQUIRED ${built:+RNCV_REQUIRED=1} python3 -B "$here
 tests patterns env -u RNCV_REQUIRED ${built:+RNCV_REQUIRED=1} python3 -B "$here/check/patterns/run.py" --program "$RNCV_XML_PROGRAMS/rncv-xml" &
 tests shipped env -u RNCV_REQUIRED ${built:+RNCV_REQUIRED=1} python3 -B "$here/search/shipped/test.py" &
 wait
-for part in profile clauses cost bench transcripts believed restated pages edits xml packaging lsp refused_growths streams fuzz limits datatypes patterns shipped; do
+for part in profile clauses cost bench transcripts believed restated pages edits xml packaging lsp site prove refused_growths streams fuzz limits datatypes patterns shipped; do
   cat "$room/$part"
   [ "$(cat "$room/$part.status")" = 0 ] || failed="$failed $part"
 done

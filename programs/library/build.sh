@@ -34,7 +34,7 @@ fi
 # One object: the proved code, the kit's three functions over malloc, realloc and free, the titles of the clauses, and the version. It exports only the
 # names of the header.
 (cd "$folder/objects" && ar x "$archive" && ar x "$kit/c/liblibc_c.a" heap.pic.o)
-python3 -B "$here/clause_titles.py" "$top/docs/CLAUSES.md" > "$folder/clause_titles.c"
+python3 -B "$here/clause_titles.py" "$top/docs/use/CLAUSES.md" > "$folder/clause_titles.c"
 mark=
 ! nm "$archive" | grep -q ' unproved_rncv_c$' || mark=-DRNCV_NOT_PROVED
 flags="-std=c11 -Wall -Wextra -Wconversion -Werror -O2 -fPIC"

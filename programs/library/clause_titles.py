@@ -1,5 +1,5 @@
 #!/usr/bin/env python3
-"""Writes a C file with the titles of the clauses:   programs/library/clause_titles.py docs/CLAUSES.md > clause_titles.c"""
+"""Writes a C file with the titles of the clauses:   programs/library/clause_titles.py docs/use/CLAUSES.md > clause_titles.c"""
 import re
 import sys
 
@@ -30,7 +30,7 @@ def literal(text):
 def main():
     with open(sys.argv[1], encoding="utf-8") as page:
         titles = titles_of(page.read())
-    print("/* The titles of the clauses. programs/library/clause_titles.py writes this file from docs/CLAUSES.md. */")
+    print("/* The titles of the clauses. programs/library/clause_titles.py writes this file from docs/use/CLAUSES.md. */")
     print('#include "rncv.h"')
     for group, count in COUNTS.items():
         print(f"\nstatic const char *const {group.lower()}_titles[{count}] = {{")

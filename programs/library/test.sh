@@ -72,7 +72,7 @@ for backend in ${BACKENDS:-llvm rattle}; do
     run python3 -B "$here/tests/rows_test.py" "$build/lib/librncv.so"
     run "$top/programs/python/test.sh" "$build/lib/librncv.so"
 
-    # the programs of README and of docs/LIBRARY.md
+    # the programs of README and of docs/use/LIBRARY.md
     run python3 -B "$here/tests/readme_test.py" "$build"
 
     # a program that is linked as pkg-config says, with the shared object

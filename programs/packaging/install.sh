@@ -223,8 +223,7 @@ put 644 programs/packaging/editors/rncv.vim share/vim/vimfiles/compiler/rncv.vim
 put 644 programs/packaging/editors/rncv.el share/emacs/site-lisp/rncv.el
 
 # pages and examples
-for source in README.md CHANGELOG.md LICENSE docs/CLAUSES.md docs/EDITORS.md docs/GLOSSARY.md docs/INSTALL.md docs/LANGUAGE.md docs/LIBRARY.md docs/MIGRATING.md \
-    docs/PROVED.md docs/XML.md; do
+for source in README.md CHANGELOG.md LICENSE docs/use/*.md docs/proof/GLOSSARY.md docs/proof/PROVED.md; do
     if [ -f "$source" ]; then
         put 644 "$source" "$doc/$source"
     fi

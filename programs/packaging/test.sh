@@ -311,14 +311,14 @@ share/bash-completion/completions/rncv-xml
 share/bash-completion/completions/rng2rnc
 share/bash-completion/completions/xml2pyx
 share/doc/rncv/README.md
-share/doc/rncv/docs/CLAUSES.md
-share/doc/rncv/docs/EDITORS.md
-share/doc/rncv/docs/INSTALL.md
-share/doc/rncv/docs/LANGUAGE.md
-share/doc/rncv/docs/LIBRARY.md
-share/doc/rncv/docs/MIGRATING.md
-share/doc/rncv/docs/PROVED.md
-share/doc/rncv/docs/XML.md
+share/doc/rncv/docs/use/CLAUSES.md
+share/doc/rncv/docs/use/EDITORS.md
+share/doc/rncv/docs/use/INSTALL.md
+share/doc/rncv/docs/use/LANGUAGE.md
+share/doc/rncv/docs/use/LIBRARY.md
+share/doc/rncv/docs/use/MIGRATING.md
+share/doc/rncv/docs/proof/PROVED.md
+share/doc/rncv/docs/use/XML.md
 share/doc/rncv/examples/letter/letter.xml
 share/doc/rncv/examples/letter/s.rnc
 share/emacs/site-lisp/rncv.el
@@ -408,7 +408,7 @@ if [ "$status" = "$before" ]; then
     [ -x "$stage/usr/local/bin/rncv" ] || fail "make install with DESTDIR in the environment does not install to /usr/local there"
     same "what make install with DESTDIR in the environment writes outside" "" "$(find /usr/local -name '*rncv*' -newer "$room/mark" 2> "$room/log")"
     # what `make` builds for a checkout names the checkout, wherever it is installed later
-    same "PREFIX where the library is built" "PREFIX= programs/library/build.sh \"\$LIBRARY\"" \
+    same "PREFIX where the library is built" "RNCV_PROVED=build/proved PREFIX= programs/library/build.sh \"\$LIBRARY\"" \
         "$(PREFIX=$live env -u MAKEFLAGS -u MAKELEVEL make -n -C "$top" build | grep library/build.sh)"
 fi
 
@@ -662,7 +662,7 @@ done < "$room/named"
 for clause in 1 2 3 4 5 6 7 8 9 10 11 12 13; do
     grep -q "^\.B P$clause\$" "$pages/man5/rncv-pyx.5" || fail "rncv-pyx(5) does not have P$clause"
 done
-same "the number of clauses of documents" 13 "$(grep -c '^### P[0-9]*:' "$top/docs/CLAUSES.md")"
+same "the number of clauses of documents" 13 "$(grep -c '^### P[0-9]*:' "$top/docs/use/CLAUSES.md")"
 for name in $(grep -oE '\brncv_[a-z_]+\(' "$header" | tr -d '(' | sort -u); do
     grep -q "$name(" "$pages/man3/rncv.3" || fail "rncv(3) does not have $name"
     [ -f "$pages/man3/$name.3" ] || fail "there is no page $name(3)"

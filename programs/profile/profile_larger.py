@@ -1,4 +1,4 @@
-"""What the larger set of datatypes serves (docs/LANGUAGE.md, "The larger set"), and what a copy has in place of the rest. Nothing here is proved."""
+"""What the larger set of datatypes serves (docs/use/LANGUAGE.md, "The larger set"), and what a copy has in place of the rest. Nothing here is proved."""
 import re
 
 from profile_types import (ALLOWED, BOTH, BOUNDS, COMPATIBILITY, FACETS, INTEGERS, LISTS, MORE, NAME_CHARACTER, SAME, UNSIGNED, XSD, NotBroughtOver, Reported,
@@ -42,13 +42,16 @@ def allows(name, text):
 
 def takes(name, parameter):
     """Whether a type takes the parameter."""
-    return parameter in (*BOUNDS, "totalDigits") if name in BOUNDS_OF else parameter in LENGTHS and name in (*TEXTS, *LISTS)
+    if name in BOUNDS_OF:
+        return parameter in (*BOUNDS, "totalDigits", "fractionDigits", "pattern")
+    return parameter == "pattern" or parameter in LENGTHS and name in (*TEXTS, *LISTS)
 
 
 def check_number(param, name):
     """The number in a parameter that the type takes."""
     number = integer(param.value)
-    least, greatest = BOUNDS_OF[name] if param.name in BOUNDS else (1 if param.name == "totalDigits" else 0, MOST_COUNTED)
+    counted = (1 if param.name == "totalDigits" else 0, 0 if param.name == "fractionDigits" else MOST_COUNTED)
+    least, greatest = BOUNDS_OF[name] if param.name in BOUNDS else counted
     if number is None or not is_within(number, (least, greatest)):
         raise NotBroughtOver(Reported(param.at, f"xsd:{name} does not allow the {param.name} {param.value!r}"))
     return number
@@ -56,9 +59,9 @@ def check_number(param, name):
 
 def left_out(param, name):
     """What is reported about a parameter that the type does not take, and that a copy leaves out."""
-    if param.name not in FACETS or (name in BOUNDS_OF and param.name in LENGTHS) or (param.name != "pattern" and name not in (*CONTEXT, *BOUNDS_OF)):
+    if param.name not in FACETS or name not in CONTEXT:
         raise wrong(param, name)
-    return Reported(param.at, f"the parameter {param.name} is not served", f"no {param.name}", SAME if param.name == "fractionDigits" else MORE)
+    return Reported(param.at, f"the parameter {param.name} is not served", f"no {param.name}", MORE)
 
 
 def check_pairs(numbers):
@@ -71,17 +74,19 @@ def check_pairs(numbers):
 
 
 def data_use(use):
-    """The type with the parameters that it takes, and what is reported about the others."""
-    numbers, reported = {}, []
+    """The type with the parameters that it takes, and what is reported about the others. Nobody looks into a pattern here."""
+    numbers, patterns, reported = {}, [], []
     for param in use.params:
-        if takes(use.name, param.name):
-            if param.name in numbers:
-                raise NotBroughtOver(Reported(param.at, f"the parameter {param.name} appears twice"))
-            numbers[param.name] = param, check_number(param, use.name)
-        else:
+        if not takes(use.name, param.name):
             reported.append(left_out(param, use.name))
+        elif param.name == "pattern":
+            patterns.append(("pattern", param.value))
+        elif param.name in numbers:
+            raise NotBroughtOver(Reported(param.at, f"the parameter {param.name} appears twice"))
+        else:
+            numbers[param.name] = param, check_number(param, use.name)
     check_pairs(numbers)
-    return written(use.name, [(param.name, collapsed(param.value)) for param, _ in numbers.values()]), reported
+    return written(use.name, [(param.name, collapsed(param.value)) for param, _ in numbers.values()] + patterns), reported
 
 
 def served_use(use):

@@ -1,4 +1,4 @@
-"""The datatypes, parameters and values that the profile serves, and the nearest replacements for the others (docs/LANGUAGE.md). Nothing here is
+"""The datatypes, parameters and values that the profile serves, and the nearest replacements for the others (docs/use/LANGUAGE.md). Nothing here is
 proved."""
 import dataclasses
 import re
@@ -116,9 +116,16 @@ def number(param, signed_too):
     return int(text)
 
 
+def literal(text):
+    """A literal with the text. What would begin an escape is written by one, and so is the end of a line. Quotes are in other quotes, since escapes are
+    replaced before a literal ends."""
+    escaped = re.sub(r"[\n\r]|\\(?=x)", lambda found: f"\\x{{{ord(found[0]):X}}}", str(text))
+    return " ~ ".join(f"'{part}'" if '"' in part else f'"{part}"' for part in re.findall('"+|[^"]+', escaped) or [""])
+
+
 def written(name, facets):
     """A type of XML Schema with its parameters, in the compact syntax."""
-    inside = " ".join(f'{facet} = "{value}"' for facet, value in facets)
+    inside = " ".join(f"{facet} = {literal(value)}" for facet, value in facets)
     return f"xsd:{name} {{ {inside} }}" if inside else f"xsd:{name}"
 
 

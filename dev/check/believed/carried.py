@@ -13,15 +13,16 @@ import re
 
 from texts import blocks, imports, is_file, named_clauses, node_of_module, signature
 
+STRING = re.compile(r'"(?:[^"\\]|\\.)*"')
 TOKEN = re.compile(r"[()\[\]{},]|[^\s()\[\]{},]+")
 DEFINITION = re.compile(r"^ *(?P<words>(?:(?:abbrev|unfoldable|opaque|pub|record|data) )+)(?P<name>[^\s:(){}]+)(?P<takes>.*?) : (?P<kind>.*)$")
 Clause = collections.namedtuple("Clause", "call method changes keyword name file text")
 
 
 def nested(text):
-    """The words of a text as nested lists, one for each pair of brackets."""
+    """The words of a text as nested lists, one for each pair of brackets. A bracket in a string is none."""
     stack = [[]]
-    for token in TOKEN.findall(text):
+    for token in TOKEN.findall(STRING.sub('""', text)):
         if token in "([{":
             stack.append([])
         elif token in ")]}":

@@ -1,5 +1,5 @@
 #!/usr/bin/env python3
-"""Checks docs/NOTATION.md against the believed files.
+"""Checks docs/proof/NOTATION.md against the believed files.
 
     dev/check/believed/notation.py [TOP]      (TOP: a checkout, else the one of this file)
 
@@ -14,7 +14,7 @@ sys.dont_write_bytecode = True
 from run import HERE, judged  # noqa: E402
 from texts import imports, is_file  # noqa: E402
 
-PAGE = "docs/NOTATION.md"
+PAGE = "docs/proof/NOTATION.md"
 LANGUAGE = ("→", "×", "λ", "¬", "⊥", "Unit", "tt", "Type", "abbrev", "unfoldable", "opaque", "data", "record", "where", "mutual", "module", "pub", "use", "as",
             "let", "in", "elim", "open", "unfolding", "infix", "infixl", "infixr", "absurd", "refl")
 TOKEN = re.compile(r"[^\s(){}\[\],.\"`]+|\[\]")

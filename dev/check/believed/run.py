@@ -14,10 +14,12 @@ The closure starts from the names in these clauses, and follows the imports file
 one, else to the types of its fields.
 
 It fails if a file or a type of the closure is outside the crates rng_model, rnc_model and rncv_model, unless dev/check/believed/exceptions.txt has it with
-a reason. It also fails if the tour in docs/DEFINITIONS.md (the tables whose first column is `File`) does not list exactly the files of the closure, or
+a reason. It also fails if the tour in docs/proof/DEFINITIONS.md (the tables whose first column is `File`) does not list exactly the files of the closure, or
 lists one before a file that it uses. The kit's own crates are left out. An exception that `stays` is followed like the rest. An exception that is `carried` is a predicate or a view that
 contracts only pass from one call to the next. Nothing depends on what it says, so the closure stops there, and the tour does not list it. That it is so
-is checked too (carried.py): what one call takes as a premise another call concludes, and each call that changes the value concludes it again.
+is checked too (carried.py): what one call takes as a premise another call concludes, and each call that changes the value concludes it again. An exception
+that is `decided` is a file of functions that say what relations say, by theorems. The relations are believed, so the plain functions that it uses are not
+followed. Its reason begins with the file of the proofs, which has to prove each of its statements.
 """
 import collections
 import os
@@ -30,7 +32,7 @@ from texts import TYPE, Crates, blocks, clauses, clauses_in, declaration, import
 
 HERE = pathlib.Path(__file__).resolve().parent
 MODELS = ("rng_model", "rnc_model", "rncv_model")
-TOUR = "docs/DEFINITIONS.md"
+TOUR = "docs/proof/DEFINITIONS.md"
 RUN = "rncv_run run"
 README_LINE = r"\(([\d,]+) lines in (\d+) files; for `run` alone ([\d,]+) lines in (\d+) files\)"
 
@@ -38,9 +40,10 @@ README_LINE = r"\(([\d,]+) lines in (\d+) files; for `run` alone ([\d,]+) lines 
 class Closure:
     """The closure, as it grows: each node with the node or the call that led to it."""
 
-    def __init__(self, crates, carried=()):
+    def __init__(self, crates, carried=(), decided=()):
         self.crates = crates
         self.carried = set(carried)
+        self.decided = set(decided)
         self.met = set()
         self.parent = {}
         self.open = collections.deque()
@@ -89,7 +92,8 @@ class Closure:
             node = self.open.popleft()
             if node.endswith(".antt"):
                 for module, _ in imports(self.crates.text(node)):
-                    self.add(node_of_module(self.crates, module), node)
+                    if node not in self.decided or ".plain." not in module:
+                        self.add(node_of_module(self.crates, module), node)
             elif ": " in node:
                 self.follow_type(node)
 
@@ -157,8 +161,8 @@ class Closure:
         return way
 
 
-def closure_of(top, calls, carried=()):
-    closure = Closure(Crates(top), carried)
+def closure_of(top, calls, carried=(), decided=()):
+    closure = Closure(Crates(top), carried, decided)
     for line in calls:
         closure.add_call(*line.split())
     closure.follow()
@@ -192,7 +196,7 @@ def faults(top, closure, exceptions):
         if not stands_right(node) and node not in exceptions:
             yield f"{node} is in the closure and outside {', '.join(MODELS)}: by {closure.way_to(node)[-2]}"
     for node in sorted(exceptions):
-        if node not in nodes | closure.met or node in nodes and stands_right(node):
+        if node not in nodes | closure.met or node in nodes and stands_right(node) and node not in closure.decided:
             yield f"dev/check/believed/exceptions.txt: {node} is not an exception"
     files, listed = {node for node in nodes if is_file(node)}, toured(top)
     for name in sorted(files - set(listed)):
@@ -203,6 +207,16 @@ def faults(top, closure, exceptions):
         if listed.count(name) > 1:
             yield f"{TOUR}: the tour lists {name} twice"
     yield from order_faults(closure.crates, listed)
+
+
+def undecided(crates, reasons):
+    """The statements of files that are `decided` for which the file that the reason begins with has no theorem."""
+    for node, reason in reasons.items():
+        proofs = reason.split()[0]
+        proved = set(re.findall(r"^pub [^\s:]+ : (\w+)$", crates.text(proofs), re.M)) if (crates.top / proofs).is_file() else set()
+        for statement in re.findall(r"^abbrev pub ([A-Z]\w*) : Type 0$", crates.text(node), re.M):
+            if statement not in proved:
+                yield f"dev/check/believed/exceptions.txt: {proofs} does not prove {statement} of {node}"
 
 
 def order_faults(crates, listed):
@@ -242,10 +256,10 @@ class Size:
         return f"{self.files} files, {self.lines} lines, {self.types} Rust types"
 
 
-def print_by_call(top, calls, carried):
+def print_by_call(top, calls, carried, decided):
     """Prints the size of the closure of each call."""
     for call in calls:
-        print(f"{call}: {Size(closure_of(top, [call], carried))}")
+        print(f"{call}: {Size(closure_of(top, [call], carried, decided))}")
 
 
 def readme_faults(top, size, size_of_run):
@@ -259,18 +273,24 @@ def readme_faults(top, size, size_of_run):
 
 
 def exceptions_of(path):
-    """The exceptions, each with `stays` or `carried`: a line is `NODE stays because REASON` or `NODE carried because REASON`."""
+    """The exceptions, each with `stays`, `carried` or `decided`: a line is `NODE stays because REASON`, and likewise for the others."""
     return dict(line.split(" because ")[0].rsplit(" ", 1) for line in rows(path))
+
+
+def reasons_of(path, kind):
+    """The exceptions of a kind, each with its reason."""
+    return {words[0]: line.split(" because ", 1)[1] for line in rows(path) for words in [line.split(" ")] if f" {kind} because " in line}
 
 
 def judged(top, data):
     """The closure of a checkout by the calls and the exceptions of a folder, and its faults."""
     exceptions, calls = exceptions_of(data / "exceptions.txt"), rows(data / "calls.txt")
     carried = [node for node, kind in exceptions.items() if kind == "carried"]
-    closure = closure_of(top, calls, carried)
-    found = [*faults(top, closure, exceptions), *Reasons(closure.crates, closure, closure.met).faults(calls)]
+    decided = reasons_of(data / "exceptions.txt", "decided")
+    closure = closure_of(top, calls, carried, decided)
+    found = [*faults(top, closure, exceptions), *undecided(closure.crates, decided), *Reasons(closure.crates, closure, closure.met).faults(calls)]
     if RUN in calls:
-        found += readme_faults(top, Size(closure), Size(closure_of(top, [RUN], carried)))
+        found += readme_faults(top, Size(closure), Size(closure_of(top, [RUN], carried, decided)))
     return closure, found
 
 
@@ -293,7 +313,7 @@ def main(arguments):
         return 0
     print_by_folder(closure, "--list" in arguments)
     if "--calls" in arguments:
-        print_by_call(closure.crates.top, rows(HERE / "calls.txt"), closure.carried)
+        print_by_call(closure.crates.top, rows(HERE / "calls.txt"), closure.carried, closure.decided)
     print("".join(f"FAULT {fault}\n" for fault in found), end="")
     return 1 if found else 0
 

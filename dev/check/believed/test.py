@@ -212,7 +212,7 @@ class Planted(unittest.TestCase):
             for folder in ("src", "specs"):
                 if (crate / folder).is_dir():
                     shutil.copytree(crate / folder, cls.top / "crates" / crate.name / folder)
-        (cls.top / "docs").mkdir()
+        (cls.top / TOUR).parent.mkdir(parents=True)
         shutil.copy(TOP / TOUR, cls.top / TOUR)
         shutil.copy(TOP / "README.md", cls.top)
         cls.closure, cls.before = judged(cls.top, HERE)
@@ -255,10 +255,13 @@ class Planted(unittest.TestCase):
 
     def test_not_handed_on(self):
         planted = "crates/rng_model/specs/restrictions/Restrictions.antt"
-        judge = self.top / "crates/rng_rules/src/restrictions.rt"
-        text = judge.read_text()
-        judge.write_text(text.replace("BreaksNone", "IsLeastRestriction"))
-        self.addCleanup(judge.write_text, text)
+        for name, old, new in (("rng_rules/src/restrictions.rt", "BreaksNone", "IsLeastRestriction"),
+                               ("rncv_validator/src/validator.rt", "ensures restricted { BreaksNone ", "ensures restricted { IsLeastRestriction ")):
+            file = self.top / "crates" / name
+            text = file.read_text()
+            self.assertIn(old, text)
+            file.write_text(text.replace(old, new))
+            self.addCleanup(file.write_text, text)
         shutil.copy(HERE / "calls.txt", self.top)
         (self.top / "exceptions.txt").write_text((HERE / "exceptions.txt").read_text() + f"{planted} carried because `restrict` gives it\n")
         self.assertIn(f"{planted}: BreaksNone is a premise of the clause requires of rng_deriv::Matcher::new, and no other clause concludes it",

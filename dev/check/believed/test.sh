@@ -1,5 +1,5 @@
 #!/bin/sh
-# Checks that the believed definitions are in their places and that docs/NOTATION.md has their words, and that planted faults are reported:
+# Checks that the believed definitions are in their places and that docs/proof/NOTATION.md has their words, and that planted faults are reported:
 #
 #   dev/check/believed/test.sh
 here=$(cd "$(dirname "$0")" && pwd)

@@ -1,5 +1,5 @@
 #!/usr/bin/env python3
-"""Runs each example of docs/CLAUSES.md: a broken example breaks its clause, a repair breaks none.
+"""Runs each example of docs/use/CLAUSES.md: a broken example breaks its clause, a repair breaks none.
 
     dev/check/clauses/clauses_test.py [PROGRAM]      (PROGRAM: the built rncv, else crates/rncv/out/rncv)
 """
@@ -67,7 +67,7 @@ def main():
     if not program.exists():
         print(f"clauses: skipped, no program at {program}")
         return 1 if os.environ.get("RNCV_REQUIRED") else 0
-    found = list(faults(str(program), (TOP / "docs/CLAUSES.md").read_text(encoding="utf-8")))
+    found = list(faults(str(program), (TOP / "docs/use/CLAUSES.md").read_text(encoding="utf-8")))
     print("\n".join(found) or f"clauses: {2 * len(CLAUSES)} examples: ok")
     return 1 if found else 0
 

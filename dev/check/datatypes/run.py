@@ -4,7 +4,7 @@
     dev/check/datatypes/run.py [--program RNCV-XML] [TABLE.tsv]
 
 A row of the table is a line of the document that the verdict is from, a pattern of the compact syntax, a text as XML, the verdict (`valid` or `invalid`), and,
-if rncv-xml says otherwise, a word for the reason (docs/perf/datatypes.md). The table is `values.tsv` here, with the verdicts of jing, if none is named. The
+if rncv-xml says otherwise, a word for the reason (docs/use/LANGUAGE.md). The table is `values.tsv` here, with the verdicts of jing, if none is named. The
 status is 1 if a row has another verdict and no reason, or a reason and the same verdict, or if the schema of a pattern is refused: those patterns are listed.
 """
 import argparse
@@ -19,7 +19,7 @@ import sys
 import tempfile
 
 TOP = pathlib.Path(__file__).resolve().parents[3]
-PAGE = TOP / "docs/perf/datatypes.md"
+PAGE = TOP / "docs/use/LANGUAGE.md"
 PREFIXES = 'namespace x = "u"\nnamespace y = "u"\n'
 SECONDS = 100
 

@@ -3,7 +3,7 @@
 #
 #   dev/check/edits/run.sh [NAME..]         the edits of crates/NAME/edits/, which the gate does not try; with no NAME, of all crates that have such a folder
 #   dev/check/edits/run.sh --all [NAME..]   the edits of must-fail/ too, with no NAME of all crates that have some. That takes hours. Writes a row for each
-#                                           crate to the table of docs/GATE.md, with the date and the commit, as soon as its edits have been tried
+#                                           crate to the table of docs/develop/GATE.md, with the date and the commit, as soon as its edits have been tried
 #   dev/check/edits/run.sh --help           prints this
 #
 # It works on a scratch clone of what is committed, and removes the clone at the end. In the clone, a crate's edits/ replaces its must-fail/, or is added
@@ -92,7 +92,7 @@ for name; do
     echo "the last lines of the output of rt must-fail $name:"
     tail -n 5 "$room/log"
   fi
-  [ -z "$all" ] || python3 -B "$here/table.py" "$top/docs/GATE.md" "$name" "$(date +%Y-%m-%d)" "$commit" <"$room/lines" || status=1
+  [ -z "$all" ] || python3 -B "$here/table.py" "$top/docs/develop/GATE.md" "$name" "$(date +%Y-%m-%d)" "$commit" <"$room/lines" || status=1
 done
 [ "$status" = 0 ] && echo "dev/check/edits/run.sh: each edit was refused" || echo "dev/check/edits/run.sh: FAILED"
 exit "$status"

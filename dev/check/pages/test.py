@@ -8,12 +8,16 @@
 - A path between backticks that looks like a path of the repository exists. Such a path begins with a folder of the top or with a crate, or it has the
   ending of a source or a page. A name with such an ending may be in any folder. A file of lemmas may lack its ending. A pattern with `*` matches
   something. Products of a build (`out`, `build`) and names with a part in capitals, as in crates/NAME/src, are not checked.
-- Each crate of crates.txt is in one row of the maps of docs/ARCHITECTURE.md (the tables whose first column is `Crate`), and each row there is a crate. A
-  row `NAME_cases` or `NAME_tests` is for all crates with such a name.
+- Each crate of crates.txt is in one row of the maps of docs/develop/ARCHITECTURE.md (the tables whose first column is `Crate`), and each row there is a
+  crate. A row `NAME_cases` or `NAME_tests` is for all crates with such a name.
 - Each folder of `programs`, and each folder of a folder of `dev`, has one row in the README.md there, and each row there is a folder or a file.
 - Each crate with more than 30 files of lemmas has a proofs/README.md, and each word there that looks like the name of such a file is one.
 - No sentence of README.md has more than 45 words.
 - Each fenced block says what it is, and is closed.
+- All pages together have at most 36,000 words. A word has a letter or a digit, and no blanks.
+- Each page of docs but docs/index.md is on one of the shelves `use`, `proof` and `develop`, and docs/index.md has a link to it.
+- The first line below the title of each page but those of crates says who reads it and what for: it begins with "For ", and has a colon.
+- No sentence of ten words or more is on two pages.
 
 Each fault is printed as one line, and the exit status is then 1. The checks are also tried on copies with planted faults. Each planted fault must be
 reported, and no other new fault.
@@ -26,8 +30,12 @@ import tempfile
 
 HERE = pathlib.Path(__file__).resolve()
 MOST_WORDS = 45
+ALL_WORDS = 36_000
+SHELVES = ("use", "proof", "develop")
+INDEX = "docs/index.md"
+LEAST_WORDS = 10  # of a sentence that is on one page alone
 MOST_LEMMAS = 30  # files of lemmas without a page about them
-MAPS = "docs/ARCHITECTURE.md"
+MAPS = "docs/develop/ARCHITECTURE.md"
 ROOMS = ("programs", "dev")
 FENCE = re.compile(r"^[ >]*(```|~~~)(.*)$")
 LINK = re.compile(r"\[[^\]\n]*\]\(([^)\s]+)\)")
@@ -36,6 +44,8 @@ LEMMA = re.compile(r"`([A-Z][A-Za-z0-9]+(?:/[A-Z][A-Za-z0-9]+)?)`")
 NAMED_HEADING = re.compile(r"(?:\]\(([^)\s#]+\.md)\)|`([^`\s]+\.md)`),\s+\"([^\"]+)\"")
 ENDINGS = (".rt", ".antt", ".md", ".py", ".sh")
 MADE = ("out", "build")
+WORD = re.compile(r"[^\s]*\w[^\s]*")
+READER = re.compile(r"For [^:]+[:.]")
 SENTENCE_END = re.compile(r"(?<=[.!?])[)\"'*]*\s+")
 
 
@@ -153,8 +163,8 @@ def fence_faults(page, text):
         yield f"{page}:{opened}: the block is not closed"
 
 
-def sentences(text):
-    """The sentences of a page, each with the line on which its paragraph, list item or table cell begins."""
+def sentences(text, code="code"):
+    """The sentences of a page, each with the line on which its paragraph, list item or table cell begins. `code` stands for what is between backticks."""
     begin, parts = 0, []
     for number, line in [*prose(re.sub(r"<!--.*?-->", lambda comment: re.sub(r"[^\n]", "", comment[0]), text, flags=re.S)), (0, "")]:
         cells = line.strip().strip("|").split("|") if line.startswith("|") else []
@@ -165,15 +175,55 @@ def sentences(text):
             yield from ((number, sentence) for sentence in SENTENCE_END.split(cell))
         if line.strip() and not cells:
             begin = begin if parts else number
-            parts.append(CODE.sub("code", line.strip()))
+            parts.append(CODE.sub(code, line.strip()))
 
 
 def sentence_faults(page, text):
     """Sentences that are too long."""
     for number, sentence in sentences(text):
-        words = re.findall(r"[^\s]*\w[^\s]*", sentence)
+        words = WORD.findall(sentence)
         if len(words) > MOST_WORDS:
             yield f"{page}:{number}: a sentence of {len(words)} words: {' '.join(words[:6])} .."
+
+
+def word_faults(checkout):
+    """More words than all pages may have."""
+    count = sum(len(WORD.findall(checkout.text(page))) for page in checkout.pages())
+    if count > ALL_WORDS:
+        yield f"the pages have {count:,} words, and {ALL_WORDS:,} are allowed"
+
+
+def shelf_faults(checkout):
+    """Pages of docs that are on no shelf, or that the index does not lead to."""
+    index = {os.path.normpath(os.path.join("docs", target)) for target in LINK.findall(checkout.text(INDEX))}
+    for page in checkout.pages():
+        parts = page.split("/")
+        if parts[0] != "docs" or page == INDEX:
+            continue
+        if len(parts) != 3 or parts[1] not in SHELVES:
+            yield f"{page} is on no shelf: {', '.join(SHELVES)}"
+        elif page not in index:
+            yield f"{INDEX}: it has no link to {page}"
+
+
+def reader_faults(page, text):
+    """A page whose first line below the title does not say who reads it."""
+    lines = [line for line in text.splitlines() if line.strip()]
+    if not page.startswith("crates/") and (len(lines) < 2 or not lines[0].startswith("# ") or not READER.match(lines[1])):
+        yield f"{page}: the first line below its title does not say who reads it (\"For ..: ..\")"
+
+
+def repeated_faults(checkout):
+    """Sentences that are on two pages."""
+    places = {}
+    for page in checkout.pages():
+        for number, sentence in sentences(checkout.text(page), r"`\1`"):
+            said = " ".join(sentence.split())
+            if len(WORD.findall(said)) < LEAST_WORDS:
+                continue
+            first = places.setdefault(said, (page, number))
+            if first[0] != page:
+                yield f"{page}:{number}: a sentence that {first[0]}:{first[1]} has too: {said[:60]} .."
 
 
 def map_rows(text):
@@ -253,40 +303,57 @@ def faults(checkout):
         yield from heading_faults(checkout, page, text)
         yield from path_faults(checkout, page, text)
         yield from fence_faults(page, text)
+        yield from reader_faults(page, text)
         if page == "README.md":
             yield from sentence_faults(page, text)
+    yield from word_faults(checkout)
+    yield from shelf_faults(checkout)
+    yield from repeated_faults(checkout)
     yield from map_faults(checkout)
     for room in ROOMS:
         yield from room_faults(checkout, room)
     yield from lemma_faults(checkout)
 
 
+LICENCE = "No licence is granted yet: ask the owner of the repository before you pass copies on."  # a sentence of README.md
 PLANTS = (
-    ("docs/CLAUSES.md", "\nSee [a page](NOT_THERE.md).\n", "the link NOT_THERE.md leads to no file"),
-    ("docs/CLAUSES.md", "\nSee [a part](LANGUAGE.md#not-there).\n", "the link LANGUAGE.md#not-there leads to no heading"),
-    ("docs/CLAUSES.md", "\nSee `docs/LANGUAGE.md`, \"Not there\".\n", "docs/LANGUAGE.md has no heading \"Not there\""),
-    ("docs/CLAUSES.md", "\nSee `docs/not_there.md`.\n", "there is no docs/not_there.md"),
-    ("docs/CLAUSES.md", "\nSee `rng_model/src/not_there.rt`.\n", "there is no rng_model/src/not_there.rt"),
-    ("docs/CLAUSES.md", "\nSee `not_there_at_all.antt`.\n", "there is no not_there_at_all.antt"),
-    ("docs/CLAUSES.md", "\n```\nx\n```\n", "the block does not say what it is"),
-    ("docs/CLAUSES.md", "\n```text\nx\n", "the block is not closed"),
+    ("docs/use/CLAUSES.md", "\nSee [a page](NOT_THERE.md).\n", "the link NOT_THERE.md leads to no file"),
+    ("docs/use/CLAUSES.md", "\nSee [a part](LANGUAGE.md#not-there).\n", "the link LANGUAGE.md#not-there leads to no heading"),
+    ("docs/use/CLAUSES.md", "\nSee `docs/use/LANGUAGE.md`, \"Not there\".\n", "docs/use/LANGUAGE.md has no heading \"Not there\""),
+    ("docs/use/CLAUSES.md", "\nSee `docs/not_there.md`.\n", "there is no docs/not_there.md"),
+    ("docs/use/CLAUSES.md", "\nSee `rng_model/src/not_there.rt`.\n", "there is no rng_model/src/not_there.rt"),
+    ("docs/use/CLAUSES.md", "\nSee `not_there_at_all.antt`.\n", "there is no not_there_at_all.antt"),
+    ("docs/use/CLAUSES.md", "\n```\nx\n```\n", "the block does not say what it is"),
+    ("docs/use/CLAUSES.md", "\n```text\nx\n", "the block is not closed"),
     ("README.md", "\n" + "word " * MOST_WORDS + "end.\n", f"a sentence of {MOST_WORDS + 1} words"),
     (MAPS, "\n| Crate | What |\n|---|---|\n| `rng_model` | again |\n", "the maps have the crate rng_model 2 times"),
     (MAPS, "\n| Crate | What |\n|---|---|\n| `not_there` | |\n", "not_there is not a crate of crates.txt"),
     ("crates.txt", "\nnot_mapped: rng_model\n", "no map has the crate not_mapped"),
     ("dev/README.md", "\n## `check`\n\n| `not_there` | |\n", "there is no dev/check/not_there"),
     ("programs/README.md", "\n| `xml` | again |\n", "it has programs/xml 2 times"),
+    ("docs/use/CLAUSES.md", "\n" + "word " * ALL_WORDS + "\n", f"and {ALL_WORDS:,} are allowed"),
+    ("docs/STRAY.md", "# Stray\n\nFor nobody: a page.\n", "docs/STRAY.md is on no shelf"),
+    ("docs/use/STRAY.md", "# Stray\n\nFor nobody: a page.\n", "it has no link to docs/use/STRAY.md"),
+    ("docs/use/CLAUSES.md", ("\nFor ", "\nBy "), "the first line below its title does not say who reads it"),
+    ("docs/use/CLAUSES.md", f"\n{LICENCE}\n", "a sentence that README.md:"),
     ("crates/pyx/proofs/README.md", "\n`NotThere`\n", "there is no NotThere.antt"),
     ("crates/pyx/proofs/README.md", "\n`Tags/NotThere`\n", "there is no Tags/NotThere.antt"),
 )
 
 
+def planted(text, more):
+    """A text with more at its end; or, of two texts, the second in the place of the first."""
+    return text + more if isinstance(more, str) else text.replace(*more, 1)
+
+
 def copied(top, folder, page, more):
-    """A copy of a folder with links to its files, and with more text at the end of one file, which is named from there."""
+    """A copy of a folder with links to its files, and with a planted change of one file, which is named from there, and may be new."""
+    if "/" not in page and not (top / page).exists():
+        (folder / page).write_text(more, encoding="utf-8")
     for path in top.iterdir():
         copy = folder / path.name
         if path.name == page:
-            copy.write_text(path.read_text(encoding="utf-8") + more, encoding="utf-8")
+            copy.write_text(planted(path.read_text(encoding="utf-8"), more), encoding="utf-8")
         elif page.startswith(f"{path.name}/"):
             copy.mkdir()
             copied(path, copy, page[len(path.name) + 1:], more)

@@ -1,5 +1,5 @@
 #!/usr/bin/env python3
-"""Compares the table of blocks, `crates/xsd_regex/specs/Blocks.antt`, with other tables, as far as they are installed.
+"""Compares the table of blocks, `crates/rng_model/specs/regexes/Blocks.antt`, with other tables, as far as they are installed.
 
     dev/check/patterns/blocks.py
 

@@ -14,7 +14,7 @@ import re
 import sys
 import unicodedata
 
-BLOCKS = pathlib.Path(__file__).resolve().parents[3] / "crates/xsd_regex/specs/Blocks.antt"
+BLOCKS = pathlib.Path(__file__).resolve().parents[3] / "crates/rng_model/specs/regexes/Blocks.antt"
 LAST = 0x10FFFF
 SURROGATES = ((0xD800, 0xDFFF),)
 META = frozenset(".\\?*+{}()|[]")

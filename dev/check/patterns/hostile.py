@@ -8,7 +8,7 @@ expression and a text are written as words with blanks between them. A word that
 second character from one to another. So `(^3 a )*^3` is `(((a)*)*)*`.
 
 Each row has a Java machine of its own, with its usual stack, that is stopped after some seconds (20). It prints a table of Markdown; with `--write` it is put
-into docs/perf/patterns.md, behind the line that ends in `hostile.py --write -->`. It needs jing (libjing-java) and a JDK, and skips without them.
+into hostile_by_jing.md here, behind the line that ends in `hostile.py --write -->`. It needs jing (libjing-java) and a JDK, and skips without them.
 """
 import argparse
 import pathlib
@@ -22,7 +22,7 @@ from rows import rows_of, written
 
 HERE = pathlib.Path(__file__).resolve().parent
 TOP = HERE.parents[2]
-PAGE = TOP / "docs/perf/patterns.md"
+PAGE = HERE / "hostile_by_jing.md"
 MARK = re.compile(r"(hostile\.py --write -->\n\n).*\Z", re.S)
 sys.path.insert(0, str(TOP / "dev/bench"))
 from measuring import Jing  # noqa: E402  (the folder is known only here)

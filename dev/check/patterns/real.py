@@ -4,7 +4,7 @@
     dev/check/patterns/real.py [FOLDER|PACKAGE]..
 
 A word that is no folder is a package, which is fetched and unpacked as `dev/search/shipped/run.py` does it, and removed at the end. Without words these are the
-fourteen packages of docs/FIGURES.md, and three that have many expressions. Each `.rnc` and `.rng` file is read by itself. In the compact syntax an
+fourteen packages of docs/develop/FIGURES.md, and three that have many expressions. Each `.rnc` and `.rng` file is read by itself. In the compact syntax an
 expression is the parameter `pattern` behind the name of a datatype: literals with `~` between them are one, and escapes `\\x{..}` are read. In the XML syntax
 it is the text of an element `param`. A file that cannot be read is named.
 """

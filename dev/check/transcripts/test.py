@@ -1,5 +1,5 @@
 #!/usr/bin/env python3
-"""Runs the transcripts of README.md and of docs/*.md, and compares their output with the pages.
+"""Runs the transcripts of README.md and of the pages below docs, and compares their output with the pages.
 
     dev/check/transcripts/test.py [PROGRAM]      (PROGRAM: the built rncv, else crates/rncv/out/rncv)
 
@@ -156,7 +156,7 @@ def main():
     if not os.access(program, os.X_OK):
         print(f"transcripts: no program at {program}", file=sys.stderr)
         return 1
-    pages = ["README.md", *sorted(f"docs/{path.name}" for path in (TOP / "docs").glob("*.md"))]
+    pages = ["README.md", *sorted(str(path.relative_to(TOP)) for path in (TOP / "docs").rglob("*.md"))]
     found = [tested(page, program) for page in pages]
     print(f"transcripts: {sum(count for count, _ in found)} commands, {sum(faults for _, faults in found)} faults")
     return 1 if any(faults for _, faults in found) else 0

@@ -1,6 +1,6 @@
 /* The program `rncv` by the C library:   by_library valid|check|simple FILES..
  * It allocates nothing itself, so each growth is one of the library. With `check` it asks what the files mention too. It answers as `rncv` does for files
- * of at most 4,096 bytes (docs/LANGUAGE.md). */
+ * of at most 4,096 bytes (docs/use/LANGUAGE.md). */
 #include "rncv.h"
 
 #include <fcntl.h>

@@ -1,4 +1,4 @@
-"""Tests of `rncv` with standard streams, files and arguments that fail, by docs/LANGUAGE.md ("Answers"). test.sh calls this."""
+"""Tests of `rncv` with standard streams, files and arguments that fail, by docs/use/LANGUAGE.md ("Answers"). test.sh calls this."""
 import errno
 import os
 import resource

@@ -93,8 +93,8 @@ class XmlTest(unittest.TestCase):
             self.assertEqual(data, xml_documents.mutant(number))
 
     def test_that_each_explanation_is_in_the_table(self):
-        table = (HERE.parents[2] / "docs/XML.md").read_text(encoding="utf-8")
-        self.assertEqual([key for key in sorted(xml_differences.KEYS) if f"\n| `{key}` | " not in table], [])
+        table = (HERE.parents[2] / "programs/xml/tests/reasons.tsv").read_text(encoding="utf-8")
+        self.assertEqual([key for key in sorted(xml_differences.KEYS) if f"\n{key}\t" not in table], [])
 
     def test_that_a_difference_is_explained(self):
         said = xml_judges.Said

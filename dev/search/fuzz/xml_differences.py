@@ -1,4 +1,4 @@
-"""Why the answers of rncv-xml and of jing about a document may differ. The keys are those of the table in `docs/XML.md`, "Beside jing and xmllint".
+"""Why the answers of rncv-xml and of jing about a document may differ. The keys are those of `programs/xml/tests/reasons.tsv`.
 
 Two kinds of rows: the words of rncv-xml say why; or both judges agree once the document is changed at what the row is about.
 """

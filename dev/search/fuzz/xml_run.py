@@ -9,7 +9,7 @@ Where it would load one, its answer has to be the same too, unless rncv-xml note
 have what the parser of jing reports, and to be the same for small pieces of a document. `--xmllint` compares xmllint too. Without jing only the runs of
 the program are looked at: each has to answer each document, without a message of a sanitizer.
 
-A difference that a row of `xml_differences.py` explains is counted; the table in `docs/XML.md` has its key. Any other one is made smaller and written to
+A difference that a row of `xml_differences.py` explains is counted; `programs/xml/tests/reasons.tsv` has its key. Any other one is made smaller and written to
 a file of `dev/search/fuzz/found`. The status is 0 if there is none, else 1. FILEs are judged instead of random documents, with `--changed` mutants of them.
 The default program is `build/xml/rncv-xml`.
 """

@@ -1,6 +1,6 @@
 /* rncv.h: a RELAX NG validator. It compiles a schema once, and then judges documents, one after the other.
  *
- * A schema is a set of files in the RELAX NG Compact Syntax. A document is in PYX, one event a line (docs/XML.md says how to make it of XML).
+ * A schema is a set of files in the RELAX NG Compact Syntax. A document is in PYX, one event a line (docs/use/XML.md says how to make it of XML).
  *
  *     rncv_schema schema = RNCV_NOTHING;
  *     rncv_fault fault;
@@ -99,11 +99,11 @@ enum {
     RNCV_SPACE = 5      /* the buffer is too small */
 };
 
-/* The sets of datatypes that a schema may name (docs/LANGUAGE.md). The URI that is empty has `string` and `token` in both. In the library of XML Schema: */
+/* The sets of datatypes that a schema may name (docs/use/LANGUAGE.md). The URI that is empty has `string` and `token` in both. In the library of XML Schema: */
 enum rncv_datatypes {
     RNCV_DATATYPES_PROFILE = 0,   /* string, token, NCName, NMTOKEN, boolean, and integer of at most 38 digits */
     RNCV_DATATYPES_XML_SCHEMA = 1 /* these, with integers of any length; normalizedString, language, Name, NMTOKENS, ID, IDREF, IDREFS, ENTITY, ENTITIES,
-                                     anyURI, QName, NOTATION, and the twelve types of integers with bounds of their own; with more parameters */
+                                     anyURI, QName, NOTATION, and the twelve types of integers with bounds of their own; with more parameters, `pattern` too */
 };
 
 /* Compiles the schema of `count` files, and puts it into `schema`. The first file is the main one. What `schema` held is freed. The datatypes are those

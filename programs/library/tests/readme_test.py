@@ -32,7 +32,7 @@ def programs(text):
 
 def pages():
     """The pages, each with its programs."""
-    names = ["README.md", "docs/LIBRARY.md"]
+    names = ["README.md", "docs/use/LIBRARY.md"]
     if not list(programs((TOP / "README.md").read_text(encoding="utf-8"))) and (TOP / "README_section.md").exists():
         names[0] = "README_section.md"
     return [(name, list(programs((TOP / name).read_text(encoding="utf-8")))) for name in names]

@@ -1,7 +1,7 @@
 #!/usr/bin/env python3
 """The program `rncv`, by the C library, so that tests of the program can be run on the library:   rncv_by_library.py valid|check|simple FILES..
 
-The variable RNCV_LIBRARY names librncv.so; else it is build/library/lib/librncv.so. It answers as `rncv` does (docs/LANGUAGE.md).
+The variable RNCV_LIBRARY names librncv.so; else it is build/library/lib/librncv.so. It answers as `rncv` does (docs/use/LANGUAGE.md).
 """
 
 import os

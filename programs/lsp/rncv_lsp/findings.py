@@ -32,6 +32,11 @@ def slug(heading: str) -> str:
     return re.sub(r"[^\w\- ]", "", heading.lower()).replace(" ", "-")
 
 
+def address(clauses_url: str, finding: Finding) -> str:
+    """Where a clause is explained: its page in a folder, whose address ends in a slash, or its heading on the page of all clauses."""
+    return f"{clauses_url}{finding.code}.html" if clauses_url.endswith("/") else f"{clauses_url}#{slug(f'{finding.code}: {finding.title}')}"
+
+
 def diagnostic(lines: Text, finding: Finding, encoding: str, clauses_url: str) -> Dict[str, Any]:
     """A diagnostic of the protocol."""
     reported: Dict[str, Any] = {
@@ -43,5 +48,5 @@ def diagnostic(lines: Text, finding: Finding, encoding: str, clauses_url: str) -
     if finding.code:
         reported["code"] = finding.code
     if finding.title and clauses_url:
-        reported["codeDescription"] = {"href": f"{clauses_url}#{slug(f'{finding.code}: {finding.title}')}"}
+        reported["codeDescription"] = {"href": address(clauses_url, finding)}
     return reported

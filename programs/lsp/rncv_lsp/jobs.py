@@ -10,7 +10,7 @@ STACK_BYTES = 67_108_864
 
 
 def start_thread(action: Job, name: str) -> None:
-    """Starts a thread that does not keep the process alive, with a stack for schemas that nest deeply (docs/LIBRARY.md)."""
+    """Starts a thread that does not keep the process alive, with a stack for schemas that nest deeply (docs/use/LIBRARY.md)."""
     before = threading.stack_size(STACK_BYTES)
     try:
         threading.Thread(target=action, name=name, daemon=True).start()

@@ -12,7 +12,7 @@ from rncv_lsp.versions import shown_version
 # The threads that judge give way to the one that reads messages after this time.
 SWITCH_SECONDS = 0.001
 DESCRIPTION = """A language server for RELAX NG schemas in the compact syntax, and for XML documents that have such a schema. It uses the Language Server
-Protocol on its standard streams, and reads no files except schemas. The variable RNCV_LIBRARY names the library. docs/EDITORS.md says how to set up
+Protocol on its standard streams, and reads no files except schemas. The variable RNCV_LIBRARY names the library. docs/use/EDITORS.md says how to set up
 editors."""
 
 

@@ -24,7 +24,7 @@ TYPE = "<!DOCTYPE"
 EXTERNAL = re.compile(rf"{TYPE}\s+{NAME}\s+(?:SYSTEM|PUBLIC\s+{LITERAL})\s+{LITERAL}")
 NOTE = re.compile(r"(\d+):(\d+): note: (.*)", re.S)
 # A client has a link to the clause in place of these words.
-PAGE = ", see docs/CLAUSES.md"
+PAGE = ", see docs/use/CLAUSES.md"
 
 
 def judged(document: Document, validator: rncv.Validator, outcome: Outcome, is_cancelled: Cancelled) -> List[Finding]:

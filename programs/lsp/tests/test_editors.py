@@ -1,4 +1,4 @@
-"""Tests of the settings for editors in docs/EDITORS.md: they run in the editors that are installed."""
+"""Tests of the settings for editors in docs/use/EDITORS.md: they run in the editors that are installed."""
 import os
 import pathlib
 import re
@@ -61,7 +61,7 @@ EMACS_SCRIPT = """
 
 def settings(name):
     """A file of settings that the page shows."""
-    page = (TOP / "docs/EDITORS.md").read_text(encoding="utf-8")
+    page = (TOP / "docs/use/EDITORS.md").read_text(encoding="utf-8")
     return re.search(rf"^```\w+ {re.escape(name)}\n(.*?)^```$", page, re.M | re.S)[1]
 
 

@@ -15,7 +15,7 @@ sys.path[:0] = [str(TOP / "programs/lsp"), str(TOP / "programs/xml/converter")]
 from pyx_writer import convert  # noqa: E402
 from rncv_lsp.coordinator import Coordinator  # noqa: E402
 from rncv_lsp.documents import Document, Documents  # noqa: E402
-from rncv_lsp.findings import slug  # noqa: E402
+from rncv_lsp.findings import Finding, address, slug  # noqa: E402
 from rncv_lsp.framing import MessageReader  # noqa: E402
 from rncv_lsp.jobs import Jobs  # noqa: E402
 from rncv_lsp.outside import rncv  # noqa: E402
@@ -119,11 +119,14 @@ class Units(unittest.TestCase):
             self.assertEqual(matches(pattern, path, roots), wanted, (pattern, path))
 
     def test_addresses_of_clauses(self):
-        page = (TOP / "docs/CLAUSES.md").read_text(encoding="utf-8")
+        page = (TOP / "docs/use/CLAUSES.md").read_text(encoding="utf-8")
         headings = {found[1]: found[2] for found in re.finditer(r"^### ((?:S|P)\d+): (.*)$", page, re.M)}
         self.assertEqual(len(headings), 40)
         for clause, title in headings.items():
             self.assertEqual(slug(f"{clause}: {rncv.clause_title(clause[0], int(clause[1:]))}"), slug(f"{clause}: {title}"))
+        finding = Finding(0, 1, "no", "S14", "a grammar has a start (4.18)")
+        self.assertEqual(address("https://x.example/rncv/clause/", finding), "https://x.example/rncv/clause/S14.html")
+        self.assertEqual(address("https://x.example/CLAUSES.md", finding), "https://x.example/CLAUSES.md#s14-a-grammar-has-a-start-418")
         self.assertEqual(slug("P5: the escapes are `\\n`, `\\t` and `\\\\` (profile)"), "p5-the-escapes-are-n-t-and--profile")
 
     def test_version(self):

@@ -1,4 +1,4 @@
-"""Judges documents by RELAX NG schemas, with the C library of `rncv`. Nothing in this module is proved; docs/LIBRARY.md says what is.
+"""Judges documents by RELAX NG schemas, with the C library of `rncv`. Nothing in this module is proved; docs/use/LIBRARY.md says what is.
 
     import rncv
 
@@ -6,7 +6,7 @@
         print(validator.validate(document))
 
 A schema is a set of files in the RELAX NG Compact Syntax. A document is XML (`Validator.validate_xml`), or PYX, one event a line (`Validator.validate`;
-docs/XML.md says how to make it from XML). A schema is compiled once, and then judges documents, one after another.
+docs/use/XML.md says how to make it from XML). A schema is compiled once, and then judges documents, one after another.
 
 The variable RNCV_LIBRARY names the library, or a folder that has `lib/librncv.so`. Without it the module searches beside this package, in
 `build/library/lib` of the checkout that has this package, where `make install` put the library, and where the system keeps libraries. It loads the
@@ -430,16 +430,16 @@ def compile(*files: Any, annotations: bool = False, datatypes: str = "profile") 
     """Compiles the schema of these files. The first file is the main one.
 
     They are paths, or one mapping of names to bytes. With paths the main file is enough, whatever folder the process is in: a file that another one mentions
-    is found beside that one, as for `rncv-xml` (docs/XML.md). Nothing is fetched. Further paths are files too, and a mention of such a path, byte for byte,
+    is found beside that one, as for `rncv-xml` (docs/use/XML.md). Nothing is fetched. Further paths are files too, and a mention of such a path, byte for byte,
     means that file. (`pathlib` gives `./a.rnc` as `a.rnc`.) In a mapping a file is mentioned by its name, byte for byte, and nothing is read. At most
     1,048,577 bytes of a file are read, since a longer file is refused. Files that are nested very deeply may need more stack than the thread has, and that
-    ends the process: docs/LIBRARY.md has figures.
+    ends the process: docs/use/LIBRARY.md has figures.
 
-    Annotations of the compact syntax that the library does not have (docs/XML.md) become blanks in files that are read, as for `rncv-xml`. Places are those in
+    Annotations of the compact syntax that the library does not have (docs/use/XML.md) become blanks in files that are read, as for `rncv-xml`. Places are those in
     the file as it is written. With `annotations=True` that is done for the files of a mapping too; else they are handed in as they are. It needs the library
     for XML: without it all files are handed in as they are, and S6 refuses those annotations.
 
-    `datatypes` says which datatypes the schema may name (docs/LANGUAGE.md): "profile", the six that the program `rncv` has, or "xml-schema", the larger set
+    `datatypes` says which datatypes the schema may name (docs/use/LANGUAGE.md): "profile", the six that the program `rncv` has, or "xml-schema", the larger set
     that is the default of `rncv-xml`. With "xml-schema" texts of QName, NOTATION, ENTITY and ENTITIES are judged by their spelling: prefixes and entities are
     not looked up.
 

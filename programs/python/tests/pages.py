@@ -17,8 +17,8 @@ def page(name):
 
 
 def clauses(group):
-    """The clauses of a group in docs/CLAUSES.md: the number, the broken example and the repair."""
-    return [(int(clause[1:]), broken, repair) for clause, broken, repair in PARTS.findall(page("docs/CLAUSES.md")) if clause[0] == group]
+    """The clauses of a group in docs/use/CLAUSES.md: the number, the broken example and the repair."""
+    return [(int(clause[1:]), broken, repair) for clause, broken, repair in PARTS.findall(page("docs/use/CLAUSES.md")) if clause[0] == group]
 
 
 def schema_of(example):
@@ -32,5 +32,5 @@ def document_of(example):
 
 
 def served():
-    """The examples that are valid by docs/LANGUAGE.md: a folder, and the names of its files, the main one first."""
-    return [(TOP / "examples" / folder, names.split()) for folder, names in SERVED.findall(page("docs/LANGUAGE.md"))]
+    """The examples that are valid by docs/use/LANGUAGE.md: a folder, and the names of its files, the main one first."""
+    return [(TOP / "examples" / folder, names.split()) for folder, names in SERVED.findall(page("docs/use/LANGUAGE.md"))]

@@ -1,4 +1,4 @@
-"""Tests of the Python package. The expected answers are in docs/CLAUSES.md, docs/LANGUAGE.md, README.md and `examples`."""
+"""Tests of the Python package. The expected answers are in docs/use/CLAUSES.md, docs/use/LANGUAGE.md, README.md and `examples`."""
 import array
 import contextlib
 import copy
@@ -73,7 +73,7 @@ class Documents(unittest.TestCase):
                 self.assertEqual(self.judged(validator, (path / "document.pyx").read_bytes()), VALID)
 
     def test_letters(self):
-        reported = page("docs/LANGUAGE.md")
+        reported = page("docs/use/LANGUAGE.md")
         self.assertIn("\nvalid\n", reported)
         document = (LETTER / "document.pyx").read_bytes()
         with rncv.compile(LETTER / "s.rnc") as validator:
@@ -96,7 +96,7 @@ class Documents(unittest.TestCase):
                 with self.subTest(number):
                     verdict = self.judged(validator, document_of(broken))
                     self.assertEqual((verdict.kind, verdict.valid, verdict.clause), ("malformed", False, number))
-                    self.assertIn(f"### P{number}: {verdict.title}\n", page("docs/CLAUSES.md"))
+                    self.assertIn(f"### P{number}: {verdict.title}\n", page("docs/use/CLAUSES.md"))
                     self.assertIn(self.judged(validator, document_of(repair)).kind, ("valid", "invalid"))
 
     def test_empty(self):
@@ -209,7 +209,7 @@ class Schemas(unittest.TestCase):
         with self.assertRaises(rncv.SchemaError) as caught:
             rncv.compile(*files)
         error = caught.exception
-        self.assertIn(f"### S{error.clause}: {error.title}\n", page("docs/CLAUSES.md"))
+        self.assertIn(f"### S{error.clause}: {error.title}\n", page("docs/use/CLAUSES.md"))
         has_place = [it is not None for it in (error.offset, error.line, error.column)]
         self.assertEqual(has_place, [3 <= error.clause <= 8] * 3)
         return error
@@ -221,7 +221,7 @@ class Schemas(unittest.TestCase):
             with self.subTest(number):
                 error = self.refused(schema_of(broken))
                 self.assertEqual(error.clause, number)
-                # docs/LANGUAGE.md: S1 to S8 are reported with a file; the file of S1 was not given
+                # docs/use/LANGUAGE.md: S1 to S8 are reported with a file; the file of S1 was not given
                 self.assertEqual(error.index, 0 if 2 <= number <= 8 else None)
                 self.assertEqual(error.file, "b.rnc" if number == 1 else "s.rnc" if number <= 8 else None)
                 rncv.compile(schema_of(repair)).close()
@@ -323,7 +323,7 @@ class Schemas(unittest.TestCase):
         rncv.compile(files).close()
 
     def test_simple_text(self):
-        reported = page("docs/LANGUAGE.md")
+        reported = page("docs/use/LANGUAGE.md")
         with rncv.compile(LETTER / "s.rnc") as validator:
             text = validator.simple_text()
             self.assertIn(f"$ rncv simple s.rnc\n{text.decode()}```", reported)
@@ -680,7 +680,7 @@ print(validator.validate(b"(a\\n)a\\n"), rncv.compile({"s.rnc": text}).validate(
 
 
 class Xml(unittest.TestCase):
-    """PYX of `programs/xml`, passed on as docs/LIBRARY.md shows it."""
+    """PYX of `programs/xml`, passed on as docs/use/LIBRARY.md shows it."""
 
     def test_letters(self):
         from pyx_writer import convert

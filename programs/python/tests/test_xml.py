@@ -64,12 +64,12 @@ class Datatypes(unittest.TestCase):
         hints = {}
         for datatypes in ("profile", "xml-schema"):
             with self.assertRaises(rncv.SchemaError) as caught:
-                rncv.compile({"s.rnc": b'element a { xsd:Name { pattern = "a" } }'}, datatypes=datatypes)
+                rncv.compile({"s.rnc": b'element a { xsd:Name { pattern = "(" } }'}, datatypes=datatypes)
             hints[datatypes] = (caught.exception.hint_column, caught.exception.hint)
         self.assertEqual(hints["profile"][0], 13)
         self.assertTrue(hints["profile"][1].startswith("xsd:Name is of the datatypes xml-schema, and not of those of the profile: rncv-profile s.rnc -o DIR "))
         self.assertEqual(hints["xml-schema"][0], 24)
-        self.assertTrue(hints["xml-schema"][1].startswith("the parameter pattern of xsd:Name is not served: rncv-profile --datatypes xml-schema s.rnc -o DIR "))
+        self.assertTrue(hints["xml-schema"][1].startswith("the pattern '(' is no regular expression of XML Schema"))
 
 
 @unittest.skipUnless(has_library(), "no library for XML beside librncv (programs/xml/library.sh builds it)")

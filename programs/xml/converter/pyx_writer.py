@@ -1,6 +1,6 @@
 """Converts XML to PYX lines, as a stream. Tests compare it with what the programs in C make of a document. Nothing here is proved.
 
-The PYX is that of docs/LANGUAGE.md. The memory is bounded by one tag and one piece of text, not by the document.
+The PYX is that of docs/use/LANGUAGE.md. The memory is bounded by one tag and one piece of text, not by the document.
 """
 import xml.parsers.expat
 

@@ -140,7 +140,7 @@ typedef struct rncv_xml_piece {
 typedef void (*rncv_xml_read)(rncv_xml_piece *piece);
 
 /* Finds the files of a schema: the main one at the path, and those that the files mention. A mention is a path beside its file, as the program's page says
- * (docs/XML.md). A file that is not there is left out; rncv_compile then refuses the files (S1), if it needs that one. `mappings` may be NULL if `count` is
+ * (docs/use/XML.md). A file that is not there is left out; rncv_compile then refuses the files (S1), if it needs that one. `mappings` may be NULL if `count` is
  * 0. What `files` and `fault` held is freed. `fault` may be NULL.
  *
  * Of more than 64 files some are written into those that include them, and are not listed. If one of so many files breaks a clause from 1 to 8, all are

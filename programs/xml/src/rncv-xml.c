@@ -10,7 +10,7 @@
 #include <string.h>
 #include <unistd.h>
 
-static const char page[] = "see docs/CLAUSES.md";
+static const char page[] = "see docs/use/CLAUSES.md";
 static const char no_memory[] = "rncv-xml: out of memory";
 
 /* Prints a line that belongs to no file. */

@@ -1,5 +1,6 @@
 #include "schema_types.h"
 
+#include "schema_pattern.h"
 #include "xml_names.h"
 
 #include <string.h>
@@ -206,7 +207,10 @@ bool type_allows(const struct type *type, bool is_of_profile, struct span value)
 
 bool type_takes(const struct type *type, struct span parameter) {
     static const char *const lengths[] = {"length", "minLength", "maxLength"};
-    static const char *const bounds[] = {"minInclusive", "maxInclusive", "minExclusive", "maxExclusive", "totalDigits"};
+    static const char *const bounds[] = {"minInclusive", "maxInclusive", "minExclusive", "maxExclusive", "totalDigits", "fractionDigits"};
+    if (span_is(parameter, "pattern")) {
+        return true;
+    }
     if (type->kind == TYPE_INTEGER) {
         return is_one_of(parameter, bounds, sizeof bounds / sizeof *bounds);
     }
@@ -214,6 +218,12 @@ bool type_takes(const struct type *type, struct span parameter) {
 }
 
 bool type_takes_text(const struct type *type, struct span parameter, struct span text) {
+    if (span_is(parameter, "pattern")) {
+        return pattern_is_taken(text);
+    }
+    if (span_is(parameter, "fractionDigits")) {
+        return is_integer(text, "0", "0");
+    }
     bool is_bound = type->kind == TYPE_INTEGER && !span_is(parameter, "totalDigits");
     const char *least = is_bound ? type->least : type->kind == TYPE_INTEGER ? "1" : "0";
     return is_integer(text, least, is_bound ? type->greatest : most_counted);

@@ -194,7 +194,7 @@ static void hint_facet(struct hinting *hinting, struct span written, const struc
 
 /* Whether the datatype has the parameter in the set. `type` is NULL for one that takes none. */
 static bool takes(const struct hinting *hinting, const struct type *type, struct span name) {
-    static const char *const larger[] = {"length", "minExclusive", "maxExclusive", "totalDigits"};
+    static const char *const larger[] = {"length", "minExclusive", "maxExclusive", "totalDigits", "fractionDigits", "pattern"};
     bool is_taken = type != NULL && type_takes(type, name);
     for (size_t at = 0; at < sizeof larger / sizeof *larger; at++) {
         is_taken &= !hinting->is_of_profile || !span_is(name, larger[at]);
@@ -205,7 +205,11 @@ static bool takes(const struct hinting *hinting, const struct type *type, struct
 /* Says which texts the parameter has. */
 static void add_wanted(struct hinting *hinting, struct span written, const struct type *type, struct span name) {
     bool is_bound = type->kind == TYPE_INTEGER && !span_is(name, "totalDigits");
-    if (hinting->is_of_profile) {
+    if (span_is(name, "pattern")) {
+        bytes_add_text(&hinting->text, "' is no regular expression of XML Schema, or its size, with its counts written out, is above 4,096");
+    } else if (span_is(name, "fractionDigits")) {
+        bytes_add_text(&hinting->text, "' is not 0, which it is for integers");
+    } else if (hinting->is_of_profile) {
         bytes_add_text(&hinting->text, is_bound ? "' is no integer of at most 38 digits" : "' is not 1 to 9 digits");
     } else if (is_bound) {
         bytes_add_text(&hinting->text, "' is no value of ");
@@ -270,11 +274,14 @@ static void judge_pair(struct hinting *hinting, uint32_t before, uint32_t param)
     }
 }
 
-/* Looks at the parameters. Each may be there once; there are nine. */
+/* Looks at the parameters. Each but `pattern` may be there once; there are ten. */
 static void judge_params(struct hinting *hinting, struct span written, const struct type *type, uint32_t first) {
     for (uint32_t param = first; param != 0 && hinting->node == 0 && tree_step(&hinting->grammars.tree, 1); param = hint_node(hinting, param)->next) {
         struct span name = hint_node(hinting, param)->text;
         judge_param(hinting, written, type, param);
+        if (!hinting->is_of_profile && span_is(name, "pattern")) {
+            continue;
+        }
         for (uint32_t before = first; before != param && hinting->node == 0; before = hint_node(hinting, before)->next) {
             if (span_equal(hint_node(hinting, before)->text, name) && hint_begins(hinting, param)) {
                 bytes_add_text(&hinting->text, "the parameter ");

@@ -7,7 +7,7 @@ A line that begins with `#` is the title of a group. Each other line is a case. 
 - `encoding` is Python's name of the encoding in which the characters are written, without a byte order mark.
 - `schema` says what a valid document is, see `ROOTS`. What is behind the sign `=` has the escapes of a document.
 - `answers` are the right ones, usually one: valid, invalid, malformed, outside, or limit: outside, or malformed by P10.
-- `reason` has keys of the table of `docs/XML.md`, with commas. They are there exactly if jing or xmllint answers something else. `-`: there is none.
+- `reason` has keys of `reasons.tsv`, with commas. They are there exactly if jing or xmllint answers something else. `-`: there is none.
 - `document` has the escapes `\\n`, `\\r`, `\\t`, `\\\\`, `\\uXXXX` and `\\UXXXXXXXX` for characters, `\\xNN` for a byte, and `\\*N{text}` for N times the text.
 
 What the two other programs say is recorded by `dev/search/fuzz/xml_record.py`.
@@ -17,7 +17,6 @@ import pathlib
 import re
 
 HERE = pathlib.Path(__file__).resolve().parent
-TOP = HERE.parents[2]
 ESCAPE = re.compile(r"\\\*([0-9]+)\{([^}]*)\}|\\x([0-9a-f]{2})|\\u([0-9a-fA-F]{4})|\\U([0-9a-fA-F]{8})|\\([nrt\\])|(.)", re.S)
 PLAIN = {"n": "\n", "r": "\r", "t": "\t", "\\": "\\"}
 XML_NAMESPACE = "http://www.w3.org/XML/1998/namespace"
@@ -123,10 +122,9 @@ def read(path=HERE / "cases.tsv"):
     return cases
 
 
-def reasons(path=TOP / "docs/XML.md"):
-    """The keys of the table of `docs/XML.md` that says why answers differ."""
-    section = path.read_text(encoding="utf-8").split("\n## Beside jing and xmllint\n")[1].split("\n## ")[0]
-    return re.findall(r"^\| `([^`]+)` \| ", section, re.M)
+def reasons(path=HERE / "reasons.tsv"):
+    """The keys of `reasons.tsv`, which says why answers differ."""
+    return re.findall(r"^([^#\t\n][^\t\n]*)\t", path.read_text(encoding="utf-8"), re.M)
 
 
 def is_known(encoding):

@@ -2,6 +2,7 @@
 """Tests of `rncv-xml --datatypes`: which datatypes a schema may name, and what is noted of those that are judged by their spelling. See test.sh. What texts the
 datatypes take, `dev/check/datatypes` compares with jing."""
 import json
+import re
 import unittest
 
 from testing import HERE, RNCV_XML, InFolder
@@ -75,16 +76,20 @@ class Sets(InFolder):
         self.assertEqual(self.run_in(RNCV_XML, "--datatypes", "profile", "s.rnc")[2], 0)
         self.assertIn("leave no value between them", self.judge("s.rnc")[0])
 
-    def test_pattern_is_in_no_set(self):
-        self.write("s.rnc", 'element a { xsd:NCName { pattern = "a+" } }')
-        for words, profile in (((), "rncv-profile --datatypes xml-schema"), (("--datatypes", "profile"), "rncv-profile")):
-            out, status = self.judge(*words, "s.rnc")
-            self.assertEqual(status, 3)
-            self.assertIn(f": hint: the parameter pattern of xsd:NCName is not served: {profile} s.rnc -o DIR writes a copy without it, ", out)
+    def test_pattern(self):
+        """Each pattern restricts the type, in the larger set alone."""
+        self.write("s.rnc", 'element a { xsd:NCName { pattern = "[a-c]+" pattern = "..." } }')
+        for text, verdict, status in (("abc", "valid", 0), ("abd", 'invalid: at text "abd "', 1), ("ab", 'invalid: at text "ab "', 1)):
+            self.write("a.xml", f"<a> {text} </a>")
+            out, found = self.judge("--all", "s.rnc", "a.xml")
+            self.assertEqual((re.sub(":[0-9]+:[0-9]+:", ":", out), found), (f"a.xml: {verdict}\n", status))
+        out, status = self.judge("--datatypes", "profile", "s.rnc")
+        self.assertEqual(status, 3)
+        self.assertIn(": hint: the parameter pattern of xsd:NCName is of the datatypes xml-schema, and not of those of the profile: rncv-profile s.rnc -o DIR ", out)
 
     def test_the_command_of_a_hint(self):
         """What the hint says makes a copy that is served."""
-        self.write("s.rnc", 'element a { attribute b { xsd:NCName { pattern = "a+" length = "2" } }, attribute c { xsd:anyURI }, xsd:decimal }')
+        self.write("s.rnc", 'element a { attribute b { xsd:NCName { pattern = "[ab]+" length = "2" } }, attribute c { xsd:anyURI }, xsd:decimal }')
         self.write("good.xml", '<a b="ab" c="/">1.0</a>')
         command = self.judge("s.rnc")[0].split(" is not served: ")[1].split(" writes ")[0].replace("DIR", "copy").split(" ")
         self.assertEqual(command[0], "rncv-profile")

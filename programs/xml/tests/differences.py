@@ -1,4 +1,4 @@
-"""Where the converters in C, over libxml2, and in Python, over expat, may differ. `docs/XML.md` explains each reason."""
+"""Where the converters in C, over libxml2, and in Python, over expat, may differ."""
 import pathlib
 import subprocess
 import tempfile

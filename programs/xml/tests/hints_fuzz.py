@@ -24,7 +24,7 @@ HERE = pathlib.Path(__file__).resolve().parent
 TOP = HERE.parents[2]
 LIBRARY = pathlib.Path(os.environ.get("RNCV_LIBRARY", TOP / "build/library")) / "lib/librncv.so"
 SOURCES = [HERE.parent / "src" / f"{name}.c" for name in (
-    "schema_hints", "schema_restrictions", "schema_words", "schema_types", "schema_grammars", "schema_tree", "schema_annotations", "annotation_names",
+    "schema_hints", "schema_restrictions", "schema_words", "schema_types", "schema_pattern", "schema_grammars", "schema_tree", "schema_annotations", "annotation_names",
     "schema_tokens", "xml_names", "origins", "paths", "bytes")]
 # What finds out how a file is written needs the parser of XML. It is not called here.
 STUBS = """
@@ -38,7 +38,7 @@ PIECES = ("empty|text|notAllowed|string|token|xsd:integer|\"v\"|element q { text
           "mixed { empty }|xsd:date|x|y|parent x|grammar { start = text }|string - \"a\"|element * { text }|xsd:int \"1\"|text?|attribute y { text }*").split("|")
 TYPES = ("string normalizedString token language Name NCName NMTOKEN NMTOKENS ID IDREFS ENTITIES anyURI boolean QName integer nonPositiveInteger "
          "negativeInteger long byte nonNegativeInteger unsignedLong unsignedByte positiveInteger decimal dates").split(" ")
-FACETS = "length minLength maxLength minInclusive maxInclusive minExclusive maxExclusive totalDigits".split(" ")
+FACETS = "length minLength maxLength minInclusive maxInclusive minExclusive maxExclusive totalDigits fractionDigits pattern".split(" ")
 NUMBERS = ["0", "1", "-1", "+5", "05", " 6 ", "100", "127", "128", "-128", "-129", "255", "256", "18446744073709551616", "9223372036854775807",
            "9223372036854775808", "1" * 39, "", "x", "5 6", "1.0"]
 TEXTS = ["a", "a b", " a", "a:b", ":a", "a:b:c", "-a", "de-AT", "de-", "abcdefghi", "true", "\u00e9", "\\x{10000}", "0-a"]

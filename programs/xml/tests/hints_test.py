@@ -7,7 +7,7 @@ import unittest
 
 from testing import RNCV_XML, TOP, InFolder
 
-# For each example of docs/CLAUSES.md that breaks a clause: the place, and the hint. S17 has neither, and S1 to S8 have their place from the library.
+# For each example of docs/use/CLAUSES.md that breaks a clause: the place, and the hint. S17 has neither, and S1 to S8 have their place from the library.
 EXAMPLES = {
     "S9": ("1:10", "the file mentions itself: s.rnc -> s.rnc"),
     "S10": ("1:19", "x is overridden, and is not in b.rnc"),
@@ -104,8 +104,6 @@ SCHEMAS = [
      "xsd:boolean takes no parameter length"),
     ("a length of a qualified name", {"s.rnc": 'start = element n { xsd:QName { maxLength = "1" } }\n'}, "s.rnc:1:33", "S12",
      "xsd:QName takes no parameter maxLength"),
-    ("a parameter of integers", {"s.rnc": 'start = element n { xsd:int { fractionDigits = "0" } }\n'}, "s.rnc:1:31", "S12",
-     f"the parameter fractionDigits of xsd:int is not served: {COPY} writes a copy with others there, which accepts the same"),
     ("a bound that is no value", {"s.rnc": 'start = element n { xsd:byte { maxInclusive = "128" } }\n'}, "s.rnc:1:32", "S12",
      "the maxInclusive '128' is no value of xsd:byte"),
     ("a length that is no number", {"s.rnc": 'start = element n { xsd:NMTOKENS { length = "-1" } }\n'}, "s.rnc:1:36", "S12",
@@ -127,10 +125,14 @@ SCHEMAS = [
                  '  <data type="date"/>\n</element>\n'},
      "s.rnc:2:3", "S12", "xsd:date is not served: rng2rnc s.rnc -o RNC writes it in the compact syntax, of which rncv-profile --datatypes xml-schema -o DIR "
      "writes a copy with xsd:token there, which accepts any text"),
-    ("a parameter that is not served", {
-        "s.rnc": 'zip = xsd:token {\n  pattern = "[0-9]{5}"\n}\nstart = element zip { zip }\n'},
-     "s.rnc:2:3", "S12", f"the parameter pattern of xsd:token is not served: {COPY} writes a copy without it, which also accepts "
-     "what the pattern does not match"),
+    ("a pattern that is no expression", {
+        "s.rnc": 'zip = xsd:token {\n  pattern = "[0-9]+"\n  pattern = "[0-9]{5"\n}\nstart = element zip { zip }\n'},
+     "s.rnc:3:3", "S12", "the pattern '[0-9]{5' is no regular expression of XML Schema, or its size, with its counts written out, is above 4,096"),
+    ("a pattern that is too large, with characters that a literal escapes", {
+        "s.rnc": 'start = element n { xsd:boolean { pattern = \'("\\n\\x{5C}x\\{\\x{9}){1000}\' } }\n'},
+     "s.rnc:1:35", "S12", "the pattern '(\"\\n\\x\\{ ){1000}' is no regular expression of XML Schema, or its size, with its counts written out, is above 4,096"),
+    ("digits behind the point", {"s.rnc": 'start = element n { xsd:integer { fractionDigits = " 0 " } | xsd:byte { fractionDigits = "1" } }\n'}, "s.rnc:1:73", "S12",
+     "the fractionDigits '1' is not 0, which it is for integers"),
     ("a list of attributes in a repetition", {
         "s.rnc": 'include "common.rnc"\nstart = element row {\n  (attlist.common, cell)+\n}\ncell = element cell { text }\n', "common.rnc": COMMON},
      "s.rnc:3:4", "S19", "attribute id is in a group that + repeats, by the reference attlist.common"),
@@ -186,7 +188,7 @@ OF_THE_PROFILE = [
      "which accepts the same"),
     ('xsd:token { length = "1" }', 13, f"the parameter length of xsd:token {LARGER}: rncv-profile s.rnc -o DIR writes a copy with others there, which accepts "
      "the same"),
-    ('xsd:token { pattern = "a" }', 13, "the parameter pattern of xsd:token is not served: rncv-profile s.rnc -o DIR writes a copy without it, which also "
+    ('xsd:token { pattern = "a" }', 13, f"the parameter pattern of xsd:token {LARGER}: rncv-profile s.rnc -o DIR writes a copy without it, which also "
      "accepts what the pattern does not match"),
     ('xsd:token { minLength = "+1" }', 13, "the minLength '+1' is not 1 to 9 digits"),
     (f'xsd:integer "{"1" * 39}"', 1, f"xsd:integer does not allow the value '{'1' * 39}'"),
@@ -252,12 +254,12 @@ class Hints(InFolder):
 
     def hinted(self, files, *options):
         """The place, the clause and the hint, each empty if it is not there."""
-        found = re.fullmatch(r"([^:\n]+(?::\d+:\d+)?): (S\d+) [^\n]*?(?:: hint: ([^\n]+))?, see docs/CLAUSES\.md\n", self.answer(files, *options))
+        found = re.fullmatch(r"([^:\n]+(?::\d+:\d+)?): (S\d+) [^\n]*?(?:: hint: ([^\n]+))?, see docs/use/CLAUSES\.md\n", self.answer(files, *options))
         self.assertIsNotNone(found)
         return found[1], found[2], found[3] or ""
 
     def test_each_clause_has_a_hint(self):
-        page = pathlib.Path(TOP, "docs/CLAUSES.md").read_text(encoding="utf-8")
+        page = pathlib.Path(TOP, "docs/use/CLAUSES.md").read_text(encoding="utf-8")
         for clause, example in re.findall(r"^### (S\d+):.*?^```broken\n(.*?)^```$", page, re.M | re.S):
             if clause in EXAMPLES:
                 with self.subTest(clause):
@@ -338,7 +340,7 @@ class Hints(InFolder):
 
     def test_formats(self):
         files = {"s.rnc": "element a {\n  b\n}"}
-        hint = "S15 what is referred to is defined (4.18): hint: b is not defined, see docs/CLAUSES.md"
+        hint = "S15 what is referred to is defined (4.18): hint: b is not defined, see docs/use/CLAUSES.md"
         reported = json.loads(self.answer(files, "--format", "json"))
         self.assertEqual(reported, {"file": "s.rnc", "verdict": "refused", "line": 2, "column": 3, "clause": "S15", "message": hint})
         region = json.loads(self.answer(files, "--format", "sarif"))["runs"][0]["results"][0]

@@ -103,7 +103,7 @@ class Lines(InFolder):
     def test_malformed(self):
         self.assertEqual(self.judge("s.rnc", "cut.xml"), ("cut.xml:3:1: malformed XML: mismatched tag: </a> where <b> is open\n", 2))
         self.assertEqual(self.line(SCHEMA, '<a x="1">\n<p:b/></a>'), (
-            "d.xml:2:1: malformed P11: the prefix 'p' is not declared (NS 5), see docs/CLAUSES.md\n", 2))
+            "d.xml:2:1: malformed P11: the prefix 'p' is not declared (NS 5), see docs/use/CLAUSES.md\n", 2))
         self.assertEqual(self.line(SCHEMA, '<a x="1">\n<c/></b>'), ("d.xml:2:5: malformed XML: mismatched tag: </b> where <a> is open\n", 2))
 
     def test_clauses_in_the_words_of_xml(self):
@@ -114,13 +114,13 @@ class Lines(InFolder):
                 ("<a xmlns:p='u' p:x='' q:y=''/>", "P11: the prefix 'q' is not declared (NS 5)"),
                 (f"<a q='{'u' * 100_000}'/>", "attribute of more than 65,536 bytes: outside the profile"),
                 ("<a y='' xmlns:p='u' p:x='' xmlns:q='u' q:x=''/>", "P12: the attributes 'p:x' and 'q:x' have one name (NS 6.3)")):
-            wanted = f"malformed {reported}, see docs/CLAUSES.md" if reported[0] == "P" else reported
+            wanted = f"malformed {reported}, see docs/use/CLAUSES.md" if reported[0] == "P" else reported
             self.assertEqual(self.line("element a { empty }", document), (f"d.xml:1:1: {wanted}\n", 2))
 
     def test_the_first_fault_counts(self):
         """What the reader of PYX refuses comes before what is malformed behind it."""
         self.assertEqual(self.line("element a { empty }", "<a><p:b/></b>"), (
-            "d.xml:1:4: malformed P11: the prefix 'p' is not declared (NS 5), see docs/CLAUSES.md\n", 2))
+            "d.xml:1:4: malformed P11: the prefix 'p' is not declared (NS 5), see docs/use/CLAUSES.md\n", 2))
 
     def test_forbidden_declarations(self):
         xml, xmlns = "http://www.w3.org/XML/1998/namespace", "http://www.w3.org/2000/xmlns/"
@@ -133,23 +133,23 @@ class Lines(InFolder):
         page = "<a xmlns:s='s'>{}<b xmlns:t='t'><t:c/></b>\n<s:b xml:lang='' s:x='' {}=''/></a>"
         for filling in ("", "<!-- -->" * 3_000, "<b y='1'>text</b>" * 3_000):
             self.assertEqual(self.line("element a { empty }", page.format(filling, "t:x")), (
-                "d.xml:2:1: malformed P11: the prefix 't' is not declared (NS 5), see docs/CLAUSES.md\n", 2))
+                "d.xml:2:1: malformed P11: the prefix 't' is not declared (NS 5), see docs/use/CLAUSES.md\n", 2))
         twice = "<a xmlns:s='s' xmlns:t='s' xmlns:v='v'>{}\n<s:b v:x='' t:x='' v:y='' s:x=''/></a>"
         for filling in ("", "<b y='1'>text</b>" * 3_000):
             self.assertEqual(self.line("element a { empty }", twice.format(filling)), (
-                "d.xml:2:1: malformed P12: the attributes 't:x' and 's:x' have one name (NS 6.3), see docs/CLAUSES.md\n", 2))
+                "d.xml:2:1: malformed P12: the attributes 't:x' and 's:x' have one name (NS 6.3), see docs/use/CLAUSES.md\n", 2))
         many = "<b y='1'>text and more text</b>" * 60_000
         self.assertEqual(self.line("element a { empty }", page.format(many, "t:x")), (
-            "d.xml:2:1: malformed P11: prefixes are declared, and no declaration is a forbidden one (NS 3, 5), see docs/CLAUSES.md\n", 2))
+            "d.xml:2:1: malformed P11: prefixes are declared, and no declaration is a forbidden one (NS 3, 5), see docs/use/CLAUSES.md\n", 2))
         self.assertEqual(self.line("element a { empty }", f"<a>{many}\n<t:b/></a>"), (
-            "d.xml:2:1: malformed P11: the prefix 't' is not declared (NS 5), see docs/CLAUSES.md\n", 2))
+            "d.xml:2:1: malformed P11: the prefix 't' is not declared (NS 5), see docs/use/CLAUSES.md\n", 2))
 
     def test_a_tag_in_several_pieces(self):
         """The names are known also if the tag's lines come in several pieces, or its last line ends a piece."""
         for size in (*range(21_830, 21_845), 60_000):
             values = " ".join(f"x{number}='{'y' * size}'" for number in range(3))
             self.assertEqual(self.line("element a { empty }", f"<a>\n<b {values} p:z=''/></a>"), (
-                "d.xml:2:1: malformed P11: the prefix 'p' is not declared (NS 5), see docs/CLAUSES.md\n", 2), size)
+                "d.xml:2:1: malformed P11: the prefix 'p' is not declared (NS 5), see docs/use/CLAUSES.md\n", 2), size)
 
     def test_limits_say_which(self):
         over = "over a limit of this program:"

@@ -270,7 +270,8 @@ static void hints(rncv_xml_judge *judge) {
     write_file("hinted.rnc", "start = element a { xsd:string { pattern = '(' } }");
     CHECK(rncv_xml_judge_open("hinted.rnc", NULL, 0, judge, &fault) == RNCV_REFUSED && fault.clause == 12 && fault.line == 1);
     CHECK(strcmp(fault.path, "hinted.rnc") == 0 && fault.missing == NULL);
-    CHECK(strstr(fault.message, ": hint: the parameter pattern of xsd:string is not served: rncv-profile hinted.rnc -o DIR") != NULL);
+    CHECK(strstr(fault.message, ": hint: the parameter pattern of xsd:string is of the datatypes xml-schema, and not of those of the profile: "
+                                 "rncv-profile hinted.rnc -o DIR") != NULL);
     judge_row(judge, &rows[0]);
     rncv_xml_fault_free(&fault);
 }

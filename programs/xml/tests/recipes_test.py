@@ -1,4 +1,4 @@
-"""Tests of the recipes of docs/XML.md, as they are written there, in a folder that git keeps."""
+"""Tests of the recipes of docs/use/XML.md, as they are written there, in a folder that git keeps."""
 import json
 import os
 import re
@@ -9,7 +9,7 @@ from testing import PROGRAMS, RNCV, TOP, InFolder
 
 
 class Recipes(InFolder):
-    PAGE = (TOP / "docs/XML.md").read_text(encoding="utf-8")
+    PAGE = (TOP / "docs/use/XML.md").read_text(encoding="utf-8")
 
     def setUp(self):
         super().setUp()

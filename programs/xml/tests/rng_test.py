@@ -298,7 +298,7 @@ class Files(InRng):
     def test_missing(self):
         self.write("main.rng", grammar("\n<include href='none.rng'/>"))
         self.assertEqual(self.convert("main.rng"), ("", "main.rng:2:1: there is no none.rng\n", 3))
-        self.assertRegex(self.judge("main.rng")[0], r"^main\.rng:2:1: S1 .*: there is no none\.rng, see docs/CLAUSES\.md\n$")
+        self.assertRegex(self.judge("main.rng")[0], r"^main\.rng:2:1: S1 .*: there is no none\.rng, see docs/use/CLAUSES\.md\n$")
         self.write("main.rng", grammar("\n<include href='http://x/b.rng'/>"))
         self.assertEqual(self.convert("main.rng"), ("", "main.rng:2:1: there is no http://x/b.rng, and nothing is fetched (--map HREF=FILE)\n", 3))
         self.write("b.rng", grammar(""))

@@ -239,7 +239,7 @@ class Names(InFolder):
     def test_control_characters_are_shown(self):
         name, written, shown = "a\n\t\r\x7f\x85.rnc", r"a\x{A}\x{9}\x{D}\x{7F}\x{85}.rnc", r"a\n\t\r\x7f\x85.rnc"
         self.write("main.rnc", f'include "{written}"\n')
-        message = f"S1 a file that is mentioned is handed in once (profile): there is no {shown}, see docs/CLAUSES.md"
+        message = f"S1 a file that is mentioned is handed in once (profile): there is no {shown}, see docs/use/CLAUSES.md"
         self.assertEqual(self.judge("main.rnc", "good.xml"), (f"main.rnc:1:9: {message}\n", 3))
         self.assertEqual(json.loads(self.judge("--format", "json", "main.rnc")[0])["message"], message)
         self.assertIn(f"col=9,title=refused::{message}", self.judge("--format", "github", "main.rnc")[0])

@@ -32,7 +32,7 @@ class SchemaFiles(InFolder):
 
     def refused(self, clause, main, file):
         out, status = self.answer(main)
-        self.assertRegex(out, rf"^{file}:(\d+:\d+:)? {clause} .*, see docs/CLAUSES.md\n$")
+        self.assertRegex(out, rf"^{file}:(\d+:\d+:)? {clause} .*, see docs/use/CLAUSES.md\n$")
         self.assertEqual(status, 3)
 
     def test_from_any_folder(self):
@@ -111,15 +111,15 @@ class SchemaFiles(InFolder):
         beside = ("none.rnc", "sch/none.rnc"), ("../none.rnc", "none.rnc"), ("folder", "sch/folder"), ("b.rnc/c", "sch/b.rnc/c")
         for mention, shown in beside:
             self.schema("sch/top.rnc", f'\ninclude "{mention}" start = element a {{ empty }}')
-            self.assertEqual(self.answer("sch/top.rnc"), (f"sch/top.rnc:2:9: {MENTIONED}: there is no {shown}, see docs/CLAUSES.md\n", 3))
+            self.assertEqual(self.answer("sch/top.rnc"), (f"sch/top.rnc:2:9: {MENTIONED}: there is no {shown}, see docs/use/CLAUSES.md\n", 3))
         for uri in ("http://example.org/b.rnc", "urn:b.rnc", "file://example.org/b.rnc"):
             self.schema("sch/top.rnc", f'include "{uri}" start = a')
             self.assertEqual(self.answer("sch/top.rnc"), (
-                f"sch/top.rnc:1:9: {MENTIONED}: there is no {uri}, and nothing is fetched (--map HREF=FILE), see docs/CLAUSES.md\n", 3))
+                f"sch/top.rnc:1:9: {MENTIONED}: there is no {uri}, and nothing is fetched (--map HREF=FILE), see docs/use/CLAUSES.md\n", 3))
             self.assertEqual(self.answer("--map", f"{uri}=sch/b.rnc", "sch/top.rnc"), VALID)
         self.schema("sch/low/x.rnc", 'include "none.rnc"')
         self.schema("sch/top.rnc", 'include "low/x.rnc" start = a')
-        self.assertEqual(self.answer("sch/top.rnc"), (f"sch/low/x.rnc:1:9: {MENTIONED}: there is no sch/low/none.rnc, see docs/CLAUSES.md\n", 3))
+        self.assertEqual(self.answer("sch/top.rnc"), (f"sch/low/x.rnc:1:9: {MENTIONED}: there is no sch/low/none.rnc, see docs/use/CLAUSES.md\n", 3))
         self.assertEqual(self.failure("sch/none.rnc"), ("rncv-xml: cannot read file sch/none.rnc: No such file or directory\n", 4))
         self.assertEqual(self.failure("sch"), ("rncv-xml: cannot read file sch: Is a directory\n", 4))
 
@@ -171,7 +171,7 @@ class SchemaFiles(InFolder):
     def test_a_refused_schema_leaves_the_documents_unread(self):
         self.write("t.rnc", "element a {")
         out, status = self.judge("--all", "t.rnc", "none.xml", "good.xml", "bad.xml")
-        self.assertRegex(out, r"^t\.rnc:(\d+:\d+:)? S6 the tokens are a sentence of the grammar \(CS 2\), see docs/CLAUSES\.md\n$")
+        self.assertRegex(out, r"^t\.rnc:(\d+:\d+:)? S6 the tokens are a sentence of the grammar \(CS 2\), see docs/use/CLAUSES\.md\n$")
         self.assertEqual(status, 3)
         self.assertEqual(self.run_in(RNCV_XML, "--quiet", "t.rnc", "good.xml"), ("", out, 3))
 
